@@ -1,6 +1,6 @@
 #!/usr/bin/env python3
-"""The gate: the names of definitions, `rt ci`, and then the outside vectors, the rows, the hostile runs and the streams over
-the programs that it has just proved and built.
+"""The gate: the names of definitions, what pages quote of the sources, what the header for C says, `rt ci`, and then the
+outside vectors, the rows, the hostile runs and the streams over the programs that it has just proved and built.
 
     gate.py [--anew]
 
@@ -89,6 +89,8 @@ def main():
         remove(program)
     parts = [
         counted('names', [sys.executable, str(TOP / 'tests/names.py')]),
+        counted('pages', [sys.executable, str(TOP / 'tests/theorem.py'), '--check']),
+        counted('header', [sys.executable, str(TOP / 'tests/library/header.py')]),
         counted('rt ci', proving(sys.argv[1:])),
         *(over_programs(*it) for it in OVER_PROGRAMS),
     ]

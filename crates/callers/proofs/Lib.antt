@@ -1,3 +1,6 @@
+pub mod Copied
 pub mod Extending
 pub mod Fields
+pub mod Fitting
+pub mod InRoom
 pub mod ReadBack

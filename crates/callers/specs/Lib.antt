@@ -1,2 +1,3 @@
+pub mod Copied
 pub mod Meaning
 pub mod Room

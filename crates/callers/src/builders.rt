@@ -193,7 +193,7 @@ pub fn text_and_number<A: BuilderArena>(
 }
 
 /// Takes the word of the root in an empty segment, which has room for it.
-fn root_word<A: BuilderArena>(arena: &mut A)
+pub(crate) fn root_word<A: BuilderArena>(arena: &mut A)
     requires empty { (A.view arena.old).words ≡ [] ∷ [] }
     requires room { 1 ≤ (A.view arena.old).room 0 }
     ensures words { (A.view arena.new).words ≡ (0 ∷ []) ∷ [] }

@@ -3,3 +3,5 @@
 
 pub mod arena;
 pub mod builders;
+pub mod edits;
+pub mod theorem;

@@ -1,7 +1,7 @@
 //! What the program says of itself.
 
 /// Its name and version.
-pub const VERSION: &str = "capnp_canon 0.1.0";
+pub const VERSION: &str = "capnp_canon 1.0.0";
 
 /// How it is called.
 pub const USAGE: &str =

@@ -1,0 +1,223 @@
+//! What the calls answer.
+use crate::ffi::{self, RawFault};
+use std::ffi::c_char;
+use std::fmt;
+
+const DONE: u32 = 0;
+const NO_ROOM: u32 = 1;
+const TEXT_ROOM: usize = 96;
+
+/// Why a call is refused. `{}` writes its name.
+#[derive(Clone, Copy, PartialEq, Eq, Hash)]
+pub struct Error(u32);
+
+#[rustfmt::skip]
+impl Error {
+    /// There are no bytes where a frame was to be.
+    pub const NO_MESSAGE: Error = Error(2);
+    /// The length of a segment isn't a multiple of 8 bytes.
+    pub const SEGMENT_IS_NOT_WHOLE_WORDS: Error = Error(3);
+    /// A frame has more than 512 segments.
+    pub const TOO_MANY_SEGMENTS: Error = Error(17);
+    /// A frame has more words than the limit.
+    pub const MESSAGE_TOO_LONG: Error = Error(18);
+    /// The bytes end within a frame.
+    pub const TRUNCATED: Error = Error(19);
+    /// There is no memory.
+    pub const ALLOCATION_FAILED: Error = Error(32);
+    /// The value to be copied holds a capability.
+    pub const CANNOT_CREATE_A_CANONICAL_MESSAGE_WITH_A_CAPABILITY: Error = Error(33);
+    /// The tag word of a list of structs isn't that of a struct; of a message that is measured.
+    pub const CANT_HANDLE_NON_STRUCT_INLINE_COMPOSITE: Error = Error(34);
+    /// The elements of a list of structs take more words than its pointer claims.
+    pub const INLINE_COMPOSITE_LISTS_ELEMENTS_OVERRUN_ITS_WORD_COUNT: Error = Error(42);
+    /// The tag word of a list of structs isn't that of a struct.
+    pub const INLINE_COMPOSITE_LISTS_OF_NON_STRUCT_TYPE_ARE_NOT_SUPPORTED: Error = Error(43);
+    /// A segment is named that the message doesn't have.
+    pub const INVALID_SEGMENT_ID: Error = Error(44);
+    /// A far pointer leads to a landing pad that is itself a far pointer.
+    pub const MALFORMED_DOUBLE_FAR_POINTER: Error = Error(45);
+    /// A pointer leads out of its segment.
+    pub const MESSAGE_CONTAINS_OUT_OF_BOUNDS_POINTER: Error = Error(55);
+    /// The nesting limit is met; of a message that is measured.
+    pub const MESSAGE_IS_TOO_DEEPLY_NESTED: Error = Error(57);
+    /// The nesting limit is met; of a message that is copied, or a struct of one that is tested.
+    pub const MESSAGE_IS_TOO_DEEPLY_NESTED_OR_CONTAINS_CYCLES: Error = Error(58);
+    /// The canonical message or its segments are larger than the format allows.
+    pub const MESSAGE_TOO_LARGE: Error = Error(59);
+    /// The nesting limit is met by a list of a message that is tested.
+    pub const NESTING_LIMIT_EXCEEDED: Error = Error(60);
+    /// The traversal limit doesn't cover what is to be read.
+    pub const READ_LIMIT_EXCEEDED: Error = Error(62);
+    /// A pointer word that the format doesn't know.
+    pub const UNKNOWN_POINTER_TYPE: Error = Error(66);
+
+    /// The number of `enum capnp_canonical_answer`.
+    pub fn number(self) -> u32 {
+        self.0
+    }
+
+    /// As `Truncated`.
+    pub fn name(self) -> String {
+        self.to_string()
+    }
+}
+
+impl fmt::Display for Error {
+    fn fmt(&self, f: &mut fmt::Formatter<'_>) -> fmt::Result {
+        // SAFETY: the buffer has this room.
+        f.pad(&text(|to, room| unsafe {
+            ffi::capnp_canonical_name(self.0, to, room)
+        }))
+    }
+}
+
+impl fmt::Debug for Error {
+    fn fmt(&self, f: &mut fmt::Formatter<'_>) -> fmt::Result {
+        write!(f, "Error({} {self})", self.0)
+    }
+}
+
+impl std::error::Error for Error {}
+
+/// Why a message isn't canonical. `{}` writes it in words, as `padding that isn't zero`.
+#[derive(Clone, Copy, PartialEq, Eq, Hash)]
+pub struct Reason(u32);
+
+#[rustfmt::skip]
+impl Reason {
+    /// There isn't exactly one segment: the first word of segment 1, or of segment 0 where there is none.
+    pub const SEGMENT_COUNT: Reason = Reason(1);
+    /// There is no word for a pointer: where it would stand.
+    pub const NO_POINTER: Reason = Reason(2);
+    /// A far pointer: the word itself.
+    pub const FAR_POINTER: Reason = Reason(3);
+    /// A capability: the word itself.
+    pub const CAPABILITY: Reason = Reason(4);
+    /// A pointer of no known kind: the word itself.
+    pub const UNKNOWN_POINTER: Reason = Reason(5);
+    /// A struct without words starts elsewhere than at its pointer: the pointer.
+    pub const EMPTY_STRUCT_PLACE: Reason = Reason(6);
+    /// An object starts elsewhere than behind the last one: the pointer to it.
+    pub const OBJECT_PLACE: Reason = Reason(7);
+    /// The bits behind the last number of a list aren't zero: the word with these bits.
+    pub const PADDING: Reason = Reason(8);
+    /// The last word of a data section is zero: the word itself.
+    pub const DATA_SECTION: Reason = Reason(9);
+    /// The last pointer of a pointer section is null: the word itself.
+    pub const POINTER_SECTION: Reason = Reason(10);
+    /// The elements of a list of structs take other words than its pointer claims: the tag.
+    pub const ELEMENT_WORDS: Reason = Reason(11);
+    /// The elements of a list of structs have more data words than any of them uses: the tag.
+    pub const ELEMENT_DATA: Reason = Reason(12);
+    /// The elements of a list of structs have more pointers than any of them uses: the tag.
+    pub const ELEMENT_POINTERS: Reason = Reason(13);
+    /// There are words behind the value: the first of these.
+    pub const WORDS_BEHIND: Reason = Reason(14);
+
+    /// The number of `enum capnp_canonical_reason`.
+    pub fn number(self) -> u32 {
+        self.0
+    }
+}
+
+impl fmt::Display for Reason {
+    fn fmt(&self, f: &mut fmt::Formatter<'_>) -> fmt::Result {
+        // SAFETY: the buffer has this room.
+        f.pad(&text(|to, room| unsafe {
+            ffi::capnp_canonical_reason_text(self.0, to, room)
+        }))
+    }
+}
+
+impl fmt::Debug for Reason {
+    fn fmt(&self, f: &mut fmt::Formatter<'_>) -> fmt::Result {
+        write!(f, "Reason({} {self})", self.0)
+    }
+}
+
+/// Why and where a message isn't canonical. `{}` writes `REASON at segment SEGMENT, word WORD`.
+#[derive(Clone, Copy, Debug, PartialEq, Eq, Hash)]
+pub struct Fault {
+    /// Why. Which word is named, each reason says.
+    pub reason: Reason,
+    /// The number of the segment.
+    pub segment: u64,
+    /// The position in the segment, in words.
+    pub word: u32,
+}
+
+impl fmt::Display for Fault {
+    fn fmt(&self, f: &mut fmt::Formatter<'_>) -> fmt::Result {
+        write!(
+            f,
+            "{} at segment {}, word {}",
+            self.reason, self.segment, self.word
+        )
+    }
+}
+
+/// What the root of a message leads to, without the root pointer and landing pads. Its canonical words take at most 8 bytes
+/// more than these words.
+#[derive(Clone, Copy, Debug, PartialEq, Eq, Hash)]
+pub struct Size {
+    /// In words of 8 bytes.
+    pub words: u64,
+    /// How many capabilities there are.
+    pub capabilities: u32,
+}
+
+pub(crate) fn done(answer: u32) -> Result<(), Error> {
+    match answer {
+        DONE => Ok(()),
+        number => Err(Error(number)),
+    }
+}
+
+/// What a call writes, which has so much room at first, and again where that is too little.
+pub(crate) fn written_by(
+    room: usize,
+    call: impl Fn(*mut u8, usize, &mut usize) -> u32,
+) -> Result<Vec<u8>, Error> {
+    let (mut to, mut written) = (Vec::<u8>::new(), 0);
+    to.try_reserve_exact(room)
+        .map_err(|_| Error::ALLOCATION_FAILED)?;
+    let mut answer = call(to.as_mut_ptr(), to.capacity(), &mut written);
+    if answer == NO_ROOM {
+        to.try_reserve_exact(written)
+            .map_err(|_| Error::ALLOCATION_FAILED)?;
+        answer = call(to.as_mut_ptr(), to.capacity(), &mut written);
+    }
+    done(answer)?;
+    // SAFETY: where the call is done it has written so many bytes, within the room that it had.
+    unsafe { to.set_len(written) };
+    Ok(to)
+}
+
+pub(crate) fn fault_of(
+    call: impl FnOnce(&mut bool, &mut RawFault) -> u32,
+) -> Result<Option<Fault>, Error> {
+    let (mut is_canonical, mut fault) = (false, RawFault::default());
+    done(call(&mut is_canonical, &mut fault))?;
+    Ok((!is_canonical).then_some(Fault {
+        reason: Reason(fault.reason),
+        segment: fault.segment,
+        word: fault.word,
+    }))
+}
+
+pub(crate) fn size_of(call: impl FnOnce(&mut u64, &mut u32) -> u32) -> Result<Size, Error> {
+    let (mut words, mut capabilities) = (0, 0);
+    done(call(&mut words, &mut capabilities))?;
+    Ok(Size {
+        words,
+        capabilities,
+    })
+}
+
+/// The text that a call writes to a buffer.
+fn text(call: impl FnOnce(*mut c_char, usize) -> usize) -> String {
+    let mut to = [0u8; TEXT_ROOM];
+    let length = call(to.as_mut_ptr().cast(), to.len());
+    String::from_utf8_lossy(&to[..length.min(TEXT_ROOM - 1)]).into_owned()
+}

@@ -1,0 +1,362 @@
+//! The messages of tests/library/messages.txt, and what that file can't say.
+use capnp_canonical::{
+    canonical_copy, canonical_words, check, frame_size, frames, segments, size, version, Error,
+    Fault, Limits, Reason, Size,
+};
+use std::fs;
+
+const MESSAGES: &str = concat!(
+    env!("CARGO_MANIFEST_DIR"),
+    "/../../tests/library/messages.txt"
+);
+/// A struct of three words, of which the last is zero.
+const ZERO_WORD: &str =
+    "000000000400000000000000030000001111111111111111ffffffffffffffff0000000000000000";
+const ZERO_WORD_FLAT: &str = "00000000020000001111111111111111ffffffffffffffff";
+/// Two pointers to one text of 16 bytes: its canonical form has two texts, and is longer.
+const SHARED: &str = "000000000500000000000000000002000500000082000000010000008200000061626364656667686162636465666700";
+const SHARED_FLAT: &str =
+    "00000000000002000500000082000000090000008200000061626364656667686162636465666700616263646566676861626364656667\
+     00";
+
+/// Why a test fails: an error, or a line of the file that isn't as its head says.
+type Tested = Result<(), Box<dyn std::error::Error>>;
+
+fn bytes_of(digits: &str) -> Vec<u8> {
+    let digits = digits.trim_matches('-');
+    (0..digits.len())
+        .step_by(2)
+        .map(|at| u8::from_str_radix(&digits[at..at + 2], 16).unwrap())
+        .collect()
+}
+
+fn framed(words: &[u8]) -> Vec<u8> {
+    let count = u32::try_from(words.len() / 8).unwrap();
+    [&[0; 4], &count.to_le_bytes(), words].concat()
+}
+
+/// The segments of a whole frame.
+fn segments_in(frame: &[u8]) -> Vec<&[u8]> {
+    let number = |at: usize| u32::from_le_bytes(frame[at..at + 4].try_into().unwrap()) as usize;
+    let count = number(0) + 1;
+    let mut rest = &frame[(4 + 4 * count).next_multiple_of(8)..];
+    let mut segments = Vec::new();
+    for id in 0..count {
+        let (segment, behind) = rest.split_at(8 * number(4 + 4 * id));
+        segments.push(segment);
+        rest = behind;
+    }
+    segments
+}
+
+/// What a call gives as text, or the name of its refusal.
+fn answer<T>(result: Result<T, Error>, text: impl FnOnce(T) -> String) -> String {
+    result.map_or_else(|error| error.to_string(), text)
+}
+
+fn fault_text(fault: Option<Fault>) -> String {
+    fault.map_or("yes".into(), |fault| {
+        format!("{},{},{}", fault.reason.number(), fault.segment, fault.word)
+    })
+}
+
+fn size_text(size: Size) -> String {
+    format!("{},{}", size.words, size.capabilities)
+}
+
+#[test]
+fn messages() -> Tested {
+    let limits = Limits::default();
+    let text = fs::read_to_string(MESSAGES)?;
+    let lines = text.lines().filter(|line| !line.starts_with('#'));
+    let mut count = 0;
+    for line in lines {
+        let [name, frame, copy, flat, checked, measured] = line
+            .split(' ')
+            .collect::<Vec<_>>()
+            .try_into()
+            .map_err(|_| format!("not six words: {line}"))?;
+        let frame = bytes_of(frame);
+        let wanted = |bytes: Vec<u8>| {
+            if copy == "Done" {
+                Ok(bytes)
+            } else {
+                Err(copy.to_string())
+            }
+        };
+        let named = |result: Result<Vec<u8>, Error>| result.map_err(|error| error.name());
+        assert_eq!(
+            named(canonical_copy(&frame, limits)),
+            wanted(framed(&bytes_of(flat))),
+            "{name}"
+        );
+        assert_eq!(
+            named(canonical_words(&frame, limits)),
+            wanted(bytes_of(flat)),
+            "{name}"
+        );
+        assert_eq!(answer(check(&frame, limits), fault_text), checked, "{name}");
+        assert_eq!(answer(size(&frame, limits), size_text), measured, "{name}");
+        count += 1;
+        if ["Truncated", "NoMessage"].contains(&copy) {
+            continue;
+        }
+        let parts = segments_in(&frame);
+        assert_eq!(
+            named(segments::canonical_copy(&parts, limits)),
+            wanted(framed(&bytes_of(flat))),
+            "{name}"
+        );
+        assert_eq!(
+            named(segments::canonical_words(&parts, limits)),
+            wanted(bytes_of(flat)),
+            "{name}"
+        );
+        assert_eq!(
+            answer(segments::check(&parts, limits), fault_text),
+            checked,
+            "{name}"
+        );
+        assert_eq!(
+            answer(segments::size(&parts, limits), size_text),
+            measured,
+            "{name}"
+        );
+    }
+    assert_eq!(count, 10);
+    Ok(())
+}
+
+#[test]
+fn given_segments() {
+    let limits = Limits::default();
+    let frame = bytes_of(ZERO_WORD);
+    let words = &frame[8..];
+    assert_eq!(
+        segments::canonical_words(&[words], limits),
+        Ok(bytes_of(ZERO_WORD_FLAT))
+    );
+    assert_eq!(
+        segments::canonical_words(&[words, &[]], limits),
+        Ok(bytes_of(ZERO_WORD_FLAT))
+    );
+    assert_eq!(
+        segments::canonical_words(&[], limits),
+        Err(Error::INVALID_SEGMENT_ID)
+    );
+    assert_eq!(
+        segments::canonical_words(&[&words[..28]], limits),
+        Err(Error::SEGMENT_IS_NOT_WHOLE_WORDS)
+    );
+}
+
+#[test]
+fn copies_that_are_longer_than_their_message() {
+    let limits = Limits::default();
+    let frame = bytes_of(SHARED);
+    assert_eq!(canonical_words(&frame, limits), Ok(bytes_of(SHARED_FLAT)));
+    assert_eq!(
+        canonical_copy(&frame, limits),
+        Ok(framed(&bytes_of(SHARED_FLAT)))
+    );
+    assert_eq!(
+        segments::canonical_words(&[&frame[8..]], limits),
+        Ok(bytes_of(SHARED_FLAT))
+    );
+    assert_eq!(
+        segments::canonical_copy(&[&frame[8..]], limits),
+        Ok(framed(&bytes_of(SHARED_FLAT)))
+    );
+}
+
+#[test]
+fn limits() {
+    let frame = bytes_of(ZERO_WORD);
+    assert!(canonical_copy(
+        &frame,
+        Limits {
+            nesting: 2,
+            words: 4
+        }
+    )
+    .is_ok());
+    assert_eq!(
+        canonical_copy(
+            &frame,
+            Limits {
+                nesting: 2,
+                words: 3
+            }
+        ),
+        Err(Error::MESSAGE_TOO_LONG)
+    );
+    assert_eq!(
+        canonical_copy(
+            &frame,
+            Limits {
+                nesting: 0,
+                words: 4
+            }
+        ),
+        Err(Error::MESSAGE_IS_TOO_DEEPLY_NESTED_OR_CONTAINS_CYCLES)
+    );
+    assert_eq!(
+        canonical_copy(
+            &bytes_of(SHARED),
+            Limits {
+                nesting: 64,
+                words: 6
+            }
+        ),
+        Err(Error::READ_LIMIT_EXCEEDED)
+    );
+}
+
+#[test]
+fn faults() -> Tested {
+    let frame = bytes_of(ZERO_WORD);
+    let fault = check(&frame, Limits::default())?.ok_or("no fault")?;
+    assert_eq!(
+        fault,
+        Fault {
+            reason: Reason::DATA_SECTION,
+            segment: 0,
+            word: 3
+        }
+    );
+    assert_eq!(
+        fault.to_string(),
+        "a data section whose last word is zero at segment 0, word 3"
+    );
+    assert_eq!(
+        check(
+            &canonical_copy(&frame, Limits::default())?,
+            Limits::default()
+        ),
+        Ok(None)
+    );
+    Ok(())
+}
+
+#[test]
+fn frames_of_a_stream() {
+    let mut stream = [bytes_of(ZERO_WORD), bytes_of(SHARED)].concat();
+    let words = Limits::default().words;
+    let sizes: Result<Vec<_>, _> = frames(&stream, words)
+        .map(|frame| frame.map(<[u8]>::len))
+        .collect();
+    assert_eq!(sizes, Ok(vec![40, 48]));
+    assert_eq!(frame_size(&stream, words), Ok(40));
+    assert_eq!(frames(&[], words).count(), 0);
+    stream.pop();
+    let found: Vec<_> = frames(&stream, words)
+        .map(|frame| frame.map(<[u8]>::len))
+        .collect();
+    assert_eq!(found, [Ok(40), Err(Error::TRUNCATED)]);
+}
+
+#[test]
+fn errors_have_their_names() {
+    let error: Box<dyn std::error::Error + Send + Sync> = Error::TRUNCATED.into();
+    assert_eq!(error.to_string(), "Truncated");
+    assert_eq!(format!("{:?}", Error::TRUNCATED), "Error(19 Truncated)");
+    for (error, name) in [
+        (Error::NO_MESSAGE, "NoMessage"),
+        (Error::SEGMENT_IS_NOT_WHOLE_WORDS, "SegmentIsNotWholeWords"),
+        (Error::TOO_MANY_SEGMENTS, "TooManySegments"),
+        (Error::MESSAGE_TOO_LONG, "MessageTooLong"),
+        (Error::ALLOCATION_FAILED, "AllocationFailed"),
+        (
+            Error::CANNOT_CREATE_A_CANONICAL_MESSAGE_WITH_A_CAPABILITY,
+            "CannotCreateACanonicalMessageWithACapability",
+        ),
+        (
+            Error::CANT_HANDLE_NON_STRUCT_INLINE_COMPOSITE,
+            "CantHandleNonStructInlineComposite",
+        ),
+        (
+            Error::INLINE_COMPOSITE_LISTS_ELEMENTS_OVERRUN_ITS_WORD_COUNT,
+            "InlineCompositeListsElementsOverrunItsWordCount",
+        ),
+        (
+            Error::INLINE_COMPOSITE_LISTS_OF_NON_STRUCT_TYPE_ARE_NOT_SUPPORTED,
+            "InlineCompositeListsOfNonStructTypeAreNotSupported",
+        ),
+        (Error::INVALID_SEGMENT_ID, "InvalidSegmentId"),
+        (
+            Error::MALFORMED_DOUBLE_FAR_POINTER,
+            "MalformedDoubleFarPointer",
+        ),
+        (
+            Error::MESSAGE_CONTAINS_OUT_OF_BOUNDS_POINTER,
+            "MessageContainsOutOfBoundsPointer",
+        ),
+        (
+            Error::MESSAGE_IS_TOO_DEEPLY_NESTED,
+            "MessageIsTooDeeplyNested",
+        ),
+        (
+            Error::MESSAGE_IS_TOO_DEEPLY_NESTED_OR_CONTAINS_CYCLES,
+            "MessageIsTooDeeplyNestedOrContainsCycles",
+        ),
+        (Error::MESSAGE_TOO_LARGE, "MessageTooLarge"),
+        (Error::NESTING_LIMIT_EXCEEDED, "NestingLimitExceeded"),
+        (Error::READ_LIMIT_EXCEEDED, "ReadLimitExceeded"),
+        (Error::UNKNOWN_POINTER_TYPE, "UnknownPointerType"),
+    ] {
+        assert_eq!(error.name(), name);
+    }
+}
+
+#[test]
+fn reasons_have_their_texts() {
+    for (reason, text) in [
+        (Reason::SEGMENT_COUNT, "not exactly one segment"),
+        (Reason::NO_POINTER, "no word for a pointer"),
+        (Reason::FAR_POINTER, "a far pointer"),
+        (Reason::CAPABILITY, "a capability"),
+        (Reason::UNKNOWN_POINTER, "a pointer of no known kind"),
+        (
+            Reason::EMPTY_STRUCT_PLACE,
+            "an empty struct that isn't at its pointer",
+        ),
+        (
+            Reason::OBJECT_PLACE,
+            "an object that isn't where the last one ended",
+        ),
+        (Reason::PADDING, "padding that isn't zero"),
+        (
+            Reason::DATA_SECTION,
+            "a data section whose last word is zero",
+        ),
+        (
+            Reason::POINTER_SECTION,
+            "a pointer section whose last pointer is null",
+        ),
+        (
+            Reason::ELEMENT_WORDS,
+            "a struct list that claims other words than it has",
+        ),
+        (
+            Reason::ELEMENT_DATA,
+            "a struct list that could do with less data",
+        ),
+        (
+            Reason::ELEMENT_POINTERS,
+            "a struct list that could do with fewer pointers",
+        ),
+        (Reason::WORDS_BEHIND, "words behind the value"),
+    ] {
+        assert_eq!(reason.to_string(), text);
+    }
+}
+
+#[test]
+fn version_is_of_this_crate() {
+    let numbers: Vec<u32> = env!("CARGO_PKG_VERSION")
+        .split('.')
+        .map(|number| number.parse().unwrap())
+        .collect();
+    assert_eq!(version() / 10000, numbers[0]);
+    assert!(version() >= numbers[0] * 10000 + numbers[1] * 100);
+}

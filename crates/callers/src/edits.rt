@@ -1,0 +1,99 @@
+//! Callers of edits that know their contracts alone.
+ghost use Rattle.std.specs.Prelude.{◌≡◌, ◌≤◌, ◌+◌, ◌∷◌, [], length, true, IsOk};
+ghost use Rattle.capnp_format.specs.Forest.{IsForest};
+ghost use Rattle.capnp_format.specs.Segments.{segment};
+ghost use Rattle.capnp_format.specs.Tree.{Tree};
+ghost use Rattle.capnp_edits.specs.Edits.{is_of_path};
+ghost use Rattle.capnp_edits.specs.Fitting.{AllAskNoMore, AreInFirst, IsNoneOfMemory, NoneOfMemory, all_asked};
+
+use crate::builders::root_word;
+use capnp_arena::arena::{BuilderArena, BuilderArenaImpl, ScratchSpaceHeapAllocator};
+use capnp_edits::edit::{Edit, Op, Step, apply_all};
+use capnp_words::error::ErrorKind;
+use capnp_words::wire_pointer::{ElementSize, StructSize};
+use std::alloc::Global;
+
+/// Does edits that make objects, or write pointers, fields, elements and bytes, in a message that stands in
+/// its first segment. That one has room for the words of all, so none is refused for memory.
+pub fn edits_in_room<A: BuilderArena>(
+    arena: &mut A,
+    edits: &[Edit<'_>],
+    outcomes: &mut [Option<ErrorKind>],
+)
+    requires many { length outcomes.old ≡ length edits.now }
+    requires forest { (t : Tree) × IsForest (A.view arena.old).words t }
+    requires first { AreInFirst (A.view arena.old).words }
+    requires asks { AllAskNoMore edits.now }
+    requires room { length (segment (A.view arena.old).words 0) + all_asked edits.now
+        ≤ (A.view arena.old).room 0 }
+    ensures { NoneOfMemory outcomes.new }
+{
+    apply_all(arena, edits, outcomes);
+}
+
+/// Passes a refusal for memory on, and no other one.
+fn refused_memory(kind: ErrorKind) -> Result<(), ErrorKind>
+    ensures { is_of_path kind ≡ true → IsOk result }
+{
+    match kind {
+        ErrorKind::AllocationFailed | ErrorKind::MessageTooLarge(_) => Err(kind),
+        _ => Ok(()),
+    }
+}
+
+/// The same of an outcome of an edit.
+fn pass_memory(outcome: Option<ErrorKind>) -> Result<(), ErrorKind>
+    ensures { IsNoneOfMemory outcome → IsOk result }
+{
+    match outcome {
+        Some(kind) => refused_memory(kind),
+        None => Ok(()),
+    }
+}
+
+/// Makes the root a struct of a number and a text, by three edits in a message of an empty root. An error
+/// is a refusal for memory; the words of all fit the segment, so there is none.
+#[tactic(auto, using(crate::proofs::Fitting::root_forest, crate::proofs::Fitting::root_first, crate::proofs::Fitting::none_at))]
+pub fn three_edits<A: BuilderArena>(arena: &mut A) -> Result<(), ErrorKind>
+    requires root { (A.view arena.old).words ≡ (0 ∷ []) ∷ [] }
+    requires room { 4 ≤ (A.view arena.old).room 0 }
+    ensures { IsOk result }
+{
+    let size = StructSize {
+        data_words: 1,
+        pointers: 1,
+    };
+    let field = [Step::Child(0)];
+    let edits = [
+        Edit {
+            path: &[],
+            op: Op::InitStruct(size),
+        },
+        Edit {
+            path: &[],
+            op: Op::SetField(ElementSize::EightBytes, 0, 7),
+        },
+        Edit {
+            path: &field,
+            op: Op::SetText(b"Hello"),
+        },
+    ];
+    let mut outcomes = [None; 3];
+    edits_in_room(arena, &edits, &mut outcomes);
+    pass_memory(outcomes[0])?;
+    pass_memory(outcomes[1])?;
+    pass_memory(outcomes[2])
+}
+
+/// The same in an array of four words on the stack, which is lent as scratch space. It takes no
+/// memory, so it is never refused for want of it.
+pub fn edited_on_the_stack(alloc: Global) -> Result<(), ErrorKind>
+    ensures { IsOk result }
+{
+    let mut scratch = [0u8; 32];
+    let allocator = ScratchSpaceHeapAllocator::new(alloc, &mut scratch, 0);
+    let mut arena = BuilderArenaImpl::new(alloc, allocator);
+    arena.allocate_segment(4)?;
+    root_word(&mut arena);
+    three_edits(&mut arena)
+}

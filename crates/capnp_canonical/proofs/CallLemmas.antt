@@ -1,0 +1,133 @@
+-- A call isn't refused where there is an answer, nor for want of room where the size says that there is enough.
+use Rattle.std.proofs.Common.{◌≡◌, ◌≢◌, ◌⊎◌, inl, inr, ℕ, zero, suc, ◌+◌, ◌*◌, ◌<◌, ◌≤◌, ◌^◌, List, [], ◌∷◌, All, length, get_or}
+use Rattle.std.proofs.Common.{◌↔◌, Bool, true, false, Option, None, Some, IfSome, IsNone, is_some, not}
+use Rattle.std.proofs.Common.{refl, sym, ap, ◌∙◌, subst, arith}
+use Rattle.std.specs.Borrow.{Bor}
+use Rattle.capnp_format.specs.Canonical.{encoding, trim, word_count}
+use Rattle.capnp_format.specs.Segments.{Segments, AreWords}
+use Rattle.capnp_format.specs.Value.{IsValue}
+use Rattle.capnp_format.proofs.Bounds.{means_value}
+use Rattle.capnp_format.proofs.Lengths.{length-body}
+use Rattle.capnp_format.proofs.Trimmed.{trim-value}
+use Rattle.capnp_format.proofs.Trimming.{trim-words}
+use Rattle.capnp_arena.specs.Limits.{AreSmall}
+use Rattle.capnp_arena.specs.declared.arena.reader_arena_impl.ReaderOptions.{ReaderOptions}
+use Rattle.capnp_framing.specs.Flat.{BeginsWithFrame}
+use Rattle.capnp_framing.specs.Frames.{AreSegmentWords, bytes_of_words}
+use Rattle.capnp_framing.specs.Reading.{NoFrame}
+use Rattle.capnp_framing.proofs.FrameLemmas.{one_frame_begins}
+use Rattle.capnp_framing.proofs.ReadingLemmas.{frame_is_read}
+use Rattle.capnp_layout.specs.CanonicalMessages.{IsCanonicalMessage}
+use Rattle.capnp_readers.specs.declared.readers.canonical_fault.CanonicalFault.{CanonicalFault}
+use Rattle.capnp_streams.specs.Messages.{HasSizeOf, IsFaultOf}
+use Rattle.capnp_streams.specs.Streams.{HasAnswerWithin, form_bytes}
+use Rattle.capnp_streams.specs.declared.streams.task.Command.TheVariants.{Canon, Check, Size}
+use Rattle.capnp_streams.specs.declared.streams.task.Form.{Form}
+use Rattle.capnp_streams.specs.declared.streams.task.Form.TheVariants.{Framed, Flat}
+use Rattle.capnp_streams.proofs.AnsweredLemmas.{answer_refused, check_refused, size_refused}
+use Rattle.capnp_streams.proofs.FramesLemmas.{no_bytes_begin}
+use Rattle.capnp_canonical.specs.Calls.{AreWholeWords, InFrame, IsCopyOf, IsGranted, RefusesBytes, RefusesMeaning, RefusesRoom, RefusesSegments, TestFinds, TestIs, no_fault, table_bytes, told_fault}
+use Rattle.capnp_canonical.specs.Numbers.{answer_number}
+use Rattle.capnp_canonical.specs.declared.fault.Fault.{Fault}
+use Rattle.capnp_canonical.specs.declared.refusal.Refusal.{Refusal}
+use Rattle.capnp_canonical.specs.declared.refusal.Refusal.TheVariants.{Layout}
+use Rattle.capnp_canonical.proofs.FrameLemmas.{length-bytes, length_frame}
+use Rattle.capnp_canonical.proofs.NumberLemmas.{error_number_above}
+
+-- the words of a message that has a frame are of 64 bits
+word_small : (ws : List ℕ) (p : ℕ) → AreSegmentWords ws → get_or ws p 0 < 2 ^ 64
+word_small [] p all = omega arith
+word_small (w ∷ ws) zero all = all 0 0 (omega arith)
+word_small (w ∷ ws) (suc p) all = word_small ws p (λ k d less. all (suc k) d (omega arith))
+
+are_words : (S : Segments) → All AreSegmentWords S → AreWords S
+are_words [] all s p = omega arith
+are_words (ws ∷ S) all zero p = word_small ws p (all 0 [] (omega arith))
+are_words (ws ∷ S) all (suc s) p = are_words S (λ k d less. all (suc k) d (omega arith)) s p
+
+-- bytes begin with the frame of one message at most, and are not refused then
+same_message : {bytes : List ℕ} {words : ℕ} {S T : Segments} →
+    BeginsWithFrame bytes words S → BeginsWithFrame bytes words T → S ≡ T
+same_message {S = S} {T = T} s t =
+    (one_frame_begins S T s.front t.front s.behind t.behind s.framed t.framed (sym s.is ∙ t.is)).0
+
+frame_begins : {bytes : List ℕ} {words : ℕ} {r : Refusal} {S : Segments} →
+    RefusesBytes bytes words r → BeginsWithFrame bytes words S → ⊥
+frame_begins {words = words} {S = S} (inl (named, none)) begins =
+    no_bytes_begin words S (subst (λ (bs : List ℕ). BeginsWithFrame bs words S) none begins)
+frame_begins {words = words} {S = S} (inr (e, named, none)) begins =
+    frame_is_read S begins.front begins.behind words e begins.framed begins.short
+    (subst (λ (bs : List ℕ). NoFrame bs words e) begins.is none)
+
+-- A refusal and an answer speak of one message.
+pub where_framed : {bytes : List ℕ} {words : ℕ} {r : Refusal} {P Q : Segments → Type 0} {X : Type 0} →
+    ((S : Segments) → AreWords S → P S → Q S → X) →
+    RefusesBytes bytes words r ⊎ InFrame bytes words P → InFrame bytes words Q → X
+where_framed both (inl none) (T, t, q) = absurd (frame_begins none t)
+where_framed {P = P} both (inr (S, s, p)) (T, t, q) =
+    both T (are_words T t.framed.message.words) (subst P (same_message s t) p) q
+
+pub where_lent : (segments : List (Bor (List ℕ))) {r : Refusal} {P Q X : Type 0} → (P → Q → X) →
+    RefusesSegments segments r ⊎ (AreWholeWords segments × AreSmall segments × P) →
+    AreWholeWords segments × AreSmall segments × Q → X
+where_lent segments both (inl (inl (named, uneven))) (whole, small, q) = absurd (uneven whole)
+where_lent segments both (inl (inr (named, large))) (whole, small, q) = absurd (large small)
+where_lent segments both (inr (even, fits, p)) (whole, small, q) = both p q
+
+-- what the test of a message finds, and what is told of it
+pub test_finds : (limits : ReaderOptions) (S : Segments) (o : Option CanonicalFault) →
+    (IsNone o ↔ IsCanonicalMessage S) → IfSome o (IsFaultOf S limits) → TestFinds limits o S
+test_finds limits S None exactly fault = exactly.0 refl
+test_finds limits S (Some f) exactly fault = (λ is. (let wrong : true ≡ false = exactly.1 is in cc), fault)
+
+pub test_told : (limits : ReaderOptions) (S : Segments) (told : Fault) (o : Option CanonicalFault) (b : Bool) →
+    is_some o ≡ not b → IfSome o (λ f. told ≡ told_fault f) → (IsNone o → told ≡ no_fault) →
+    TestFinds limits o S → TestIs limits b told S
+test_told limits S told None true e m n h = (h, n refl)
+test_told limits S told None false e m n h = absurd (let wrong : false ≡ true = e in cc)
+test_told limits S told (Some f) true e m n h = absurd (let wrong : true ≡ false = e in cc)
+test_told limits S told (Some f) false e m n h = (h.0, (f, h.1, m))
+
+-- a copy of a value that fits is refused for want of memory or of room alone
+pub room_granted : (form : Form) (limits : ReaderOptions) (room : ℕ) {r : Refusal} (S : Segments) →
+    RefusesRoom form limits room S r → HasAnswerWithin (Canon form) limits S → IsGranted (answer_number r)
+room_granted form limits room S (inl (k, named, refused)) can =
+    inr (inr (ap answer_number (named ∙ ap Layout (answer_refused (Canon form) limits S can refused))))
+room_granted form limits room S (inr (bytes, copy, named, less)) can = inr (inl (ap answer_number named))
+
+-- and not for want of room where the size says that there is enough
+pub copy_bytes : (form : Form) (words : List ℕ) → length (form_bytes form words) ≡ table_bytes form + 8 * length words
+copy_bytes Framed words = omega (arith, length_frame words (bytes_of_words words) refl, length-bytes words)
+copy_bytes Flat words = omega (arith, length-bytes words)
+
+copy_within : (form : Form) (limits : ReaderOptions) (n caps : ℕ) {bytes : List ℕ} (S : Segments) → AreWords S →
+    IsCopyOf form limits S bytes → HasSizeOf S limits n caps → length bytes ≤ table_bytes form + 8 + 8 * n
+copy_within form limits n caps S words (t, value, is) size =
+    let v : IsValue t = means_value S _ 0 0 t value.cost words value.means in
+    let counted : n ≡ word_count t = (size.of_value t _ value.cost value.means).0 in
+    let shorter : word_count (trim t) ≤ word_count t = trim-words t v in
+    let whole : length (encoding (trim t)) ≡ 1 + word_count (trim t) =
+    omega (arith, length-body (trim t) (trim-value t v)) in
+    omega (arith, ap length is, copy_bytes form (encoding (trim t)), counted, shorter, whole)
+
+pub room_enough : (form : Form) (limits : ReaderOptions) (room n caps : ℕ) {r : Refusal} →
+    table_bytes form + 8 + 8 * n ≤ room → (S : Segments) → AreWords S →
+    RefusesRoom form limits room S r → HasSizeOf S limits n caps → answer_number r ≢ 1
+room_enough form limits room n caps wide S words (inl (k, named, refused)) size =
+    λ is. omega (arith, is, ap answer_number named, error_number_above k)
+room_enough form limits room n caps wide S words (inr (bytes, copy, named, less)) size =
+    λ is. omega (arith, copy_within form limits n caps S words copy size)
+
+-- a test of a message that can be read is not refused, nor is a size that there is
+pub check_granted : (limits : ReaderOptions) {r : Refusal} (S : Segments) →
+    RefusesMeaning Check limits S r → HasAnswerWithin Check limits S → ⊥
+check_granted limits S (k, named, refused) can = check_refused S limits (can refused.0) refused
+
+pub size_granted : (limits : ReaderOptions) {r : Refusal} (S : Segments) →
+    RefusesMeaning Size limits S r → HasAnswerWithin Size limits S → ⊥
+size_granted limits S (k, named, refused) (covers, has) = size_refused S limits covers has refused
+
+-- where all that is asked is that there is a frame
+pub frame_granted : {bytes : List ℕ} {words : ℕ} {r : Refusal} {P : Segments → Type 0} →
+    RefusesBytes bytes words r → InFrame bytes words P → ⊥
+frame_granted none (S, begins, p) = frame_begins none begins

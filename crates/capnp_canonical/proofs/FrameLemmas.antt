@@ -1,0 +1,27 @@
+-- A frame of one segment is its table and its bytes.
+use Rattle.std.proofs.Common.{◌≡◌, ◌+◌, ◌-◌, ◌*◌, ◌/◌, ℕ, List, [], ◌∷◌, ◌++◌, length, take, drop, refl, sym, ap, ◌∙◌, append_assoc, append-nil, arith, length-append, take_at}
+use Rattle.std.specs.Int.{to_le_bytes, w32, w64}
+use borrow.Rule.Slice.PartMut.{put_mid}
+use Rattle.capnp_framing.specs.Frames.{bytes_of_words, frame}
+
+-- words have eight bytes each
+pub length-bytes : (ws : List ℕ) → length (bytes_of_words ws) ≡ 8 * length ws
+length-bytes [] = refl
+length-bytes (w ∷ ws) = omega (arith, length-append (to_le_bytes w64 w) (bytes_of_words ws), length-bytes ws)
+
+pub frame_put : (words seg to h : List ℕ) → seg ≡ bytes_of_words words → h ≡ 0 ∷ 0 ∷ 0 ∷ 0 ∷ to_le_bytes w32 (length seg / 8)
+    → take (8 + length seg) (put_mid 8 (8 + length seg - 8) (h ++ drop 8 to) seg) ≡ frame (words ∷ [])
+frame_put words seg to h same table =
+    let eight : length h ≡ 8 = ap length table in
+    let size : length seg ≡ 8 * length words = ap length same ∙ length-bytes words in
+    let count : length seg / 8 ≡ length words = omega arith in
+    let rest : List ℕ = drop (8 + length seg - 8) (drop 8 (h ++ drop 8 to)) in
+    let front : take 8 (h ++ drop 8 to) ≡ h = take_at h (drop 8 to) 8 eight in
+    ap (λ (xs : List ℕ). take (8 + length seg) (xs ++ (seg ++ rest))) front
+    ∙ ap (take (8 + length seg)) (sym (append_assoc h seg rest))
+    ∙ take_at (h ++ seg) rest (8 + length seg) (omega (arith, length-append h seg, eight))
+    ∙ ap (λ (xs : List ℕ). xs ++ seg) (table ∙ ap (λ n. 0 ∷ 0 ∷ 0 ∷ 0 ∷ to_le_bytes w32 n) count)
+    ∙ ap (λ (xs : List ℕ). 0 ∷ 0 ∷ 0 ∷ 0 ∷ (to_le_bytes w32 (length words) ++ xs)) (same ∙ sym (append-nil (bytes_of_words words)))
+
+pub length_frame : (words seg : List ℕ) → seg ≡ bytes_of_words words → length (frame (words ∷ [])) ≡ 8 + length seg
+length_frame words seg same = omega (arith, length-append (bytes_of_words words) [], ap length same)

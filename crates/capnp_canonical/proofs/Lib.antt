@@ -1,0 +1,3 @@
+pub mod FrameLemmas
+pub mod NumberLemmas
+pub mod CallLemmas

@@ -1,0 +1,24 @@
+use Rattle.std.proofs.Common.{◌∙◌, sym, subst, arith}
+use Rattle.std.proofs.lemmas.Int.{to_z-of_z}
+use mir.Syntax.{w32}
+use Rattle.capnp_streams.specs.declared.streams.task.Form.TheVariants.{Framed}
+use Rattle.capnp_canonical.specs.Calls.{IsGranted, limits_of}
+use Rattle.capnp_canonical.proofs.CallLemmas.{room_enough, room_granted, where_framed}
+use Rattle.capnp_canonical.proofs.capnp_canonical_copy.Goals as goal
+
+pub returns-in-Err-clause-refused : goal.returns-in-Err-clause-refused
+returns-in-Err-clause-refused c = λ some.
+    let refused = rw (to_z-of_z w32 c.args.nesting c.ranges.nesting) at c.in-Err.ensures.refused in
+    (c.in-Err.refusal, c.number.ensures.number, (c.wanted_room.ensures, refused))
+
+pub returns-in-Err-clause-granted : goal.returns-in-Err-clause-granted
+returns-in-Err-clause-granted c = λ can.
+    let limits = limits_of c.args.nesting c.args.words in
+    let refused = rw (to_z-of_z w32 c.args.nesting c.ranges.nesting) at c.in-Err.ensures.refused in
+    subst IsGranted (sym c.number.ensures.number) (where_framed (λ S words. room_granted Framed limits _ S) refused can)
+
+pub returns-in-Err-clause-enough : goal.returns-in-Err-clause-enough
+returns-in-Err-clause-enough c = λ n caps size wide is.
+    let limits = limits_of c.args.nesting c.args.words in
+    let refused = rw (to_z-of_z w32 c.args.nesting c.ranges.nesting) at c.in-Err.ensures.refused in
+    where_framed (room_enough Framed limits _ n caps (omega (arith, wide))) refused size (sym c.number.ensures.number ∙ is)

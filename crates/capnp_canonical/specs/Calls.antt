@@ -1,0 +1,102 @@
+-- What a call gives, and why it is refused.
+use Rattle.std.specs.Prelude.{◌≡◌, ◌⊎◌, ℕ, ℤ, ◌-◌, ◌%◌, ◌^◌, ◌<◌, List, [], All, Bool, true, false, length, map, Option, Some, None}
+use Rattle.std.specs.Borrow.{Bor}
+use Rattle.capnp_words.specs.declared.error.ErrorKind.{ErrorKind}
+use Rattle.capnp_words.specs.declared.error.ErrorKind.TheVariants.{MessageTooLarge}
+use Rattle.capnp_format.specs.Bytes.{message}
+use Rattle.capnp_format.specs.Canonical.{encoding, trim}
+use Rattle.capnp_format.specs.Segments.{Segments}
+use Rattle.capnp_format.specs.Tree.{Tree}
+use Rattle.capnp_arena.specs.Limits.{AreSmall}
+use Rattle.capnp_arena.specs.declared.arena.reader_arena_impl.ReaderOptions.{ReaderOptions}
+use Rattle.capnp_framing.specs.Flat.{BeginsWithFrame}
+use Rattle.capnp_framing.specs.Reading.{NoFrame}
+use Rattle.capnp_framing.specs.declared.framing.frame_error.FrameError.{FrameError}
+use Rattle.capnp_layout.specs.CanonicalMessages.{IsCanonicalMessage}
+use Rattle.capnp_readers.specs.declared.readers.canonical_fault.CanonicalFault.{CanonicalFault}
+use Rattle.capnp_streams.specs.Messages.{IsFaultOf, IsValueOf}
+use Rattle.capnp_streams.specs.Streams.{RefusesAnswer, form_bytes}
+use Rattle.capnp_streams.specs.declared.streams.task.Command.{Command}
+use Rattle.capnp_streams.specs.declared.streams.task.Command.TheVariants.{Canon}
+use Rattle.capnp_streams.specs.declared.streams.task.Form.{Form}
+use Rattle.capnp_streams.specs.declared.streams.task.Form.TheVariants.{Framed, Flat}
+use Rattle.capnp_canonical.specs.Numbers.{reason_number, answer_number}
+use Rattle.capnp_canonical.specs.declared.fault.Fault.{Fault}
+use Rattle.capnp_canonical.specs.declared.refusal.Refusal.{Refusal}
+use Rattle.capnp_canonical.specs.declared.refusal.Refusal.TheVariants.{NoRoom, NoMessage, SegmentIsNotWholeWords, Frame, Layout}
+
+-- The limits of a reader's options.
+abbrev pub limits_of : ℤ → ℕ → ReaderOptions
+limits_of nesting words = record { nesting_limit = nesting; traversal_limit_in_words = Some words }
+
+-- Bytes begin with the frame of a message of which P holds.
+abbrev pub InFrame : List ℕ → ℕ → (Segments → Type 0) → Type 0
+InFrame bytes words P = (S : Segments) × BeginsWithFrame bytes words S × P S
+
+-- The message of segments that were given, each of whole words, if P holds of it.
+abbrev pub lent_bytes : List (Bor (List ℕ)) → List (List ℕ)
+lent_bytes segments = map (λ s. s.now) segments
+
+abbrev pub AreWholeWords : List (Bor (List ℕ)) → Type 0
+AreWholeWords segments = All (λ s. length s.now % 8 ≡ 0) segments
+
+abbrev pub InSegments : List (Bor (List ℕ)) → (Segments → Type 0) → Type 0
+InSegments segments P = AreWholeWords segments × AreSmall segments × P (message (lent_bytes segments))
+
+-- Bytes begin with no frame: there are none, or for the first reason that stands.
+abbrev pub RefusesBytes : List ℕ → ℕ → Refusal → Type 0
+RefusesBytes bytes words r = ((r ≡ NoMessage) × (bytes ≡ [])) ⊎ ((e : FrameError) × (r ≡ Frame e) × NoFrame bytes words e)
+
+-- Segments aren't those of a message: one isn't of whole words, or they are beyond the limits of a reader.
+abbrev pub RefusesSegments : List (Bor (List ℕ)) → Refusal → Type 0
+RefusesSegments segments r =
+    ((r ≡ SegmentIsNotWholeWords) × (AreWholeWords segments → ⊥))
+    ⊎ ((r ≡ Layout (MessageTooLarge (2 ^ 64 - 1))) × (AreSmall segments → ⊥))
+
+-- The canonical bytes of a message, in a form.
+abbrev pub IsCopyOf : Form → ReaderOptions → Segments → List ℕ → Type 0
+IsCopyOf form limits S bytes = (t : Tree) × IsValueOf S limits t × (bytes ≡ form_bytes form (encoding (trim t)))
+
+-- There is a copy, of so many bytes, which is more than there is room for.
+abbrev pub HasTooLittleRoom : Form → ReaderOptions → Segments → ℕ → Refusal → Type 0
+HasTooLittleRoom form limits S room r =
+    (bytes : List ℕ) × IsCopyOf form limits S bytes × (r ≡ NoRoom (length bytes)) × (room < length bytes)
+
+-- A command is refused, by what the message means.
+abbrev pub RefusesMeaning : Command → ReaderOptions → Segments → Refusal → Type 0
+RefusesMeaning command limits S r = (k : ErrorKind) × (r ≡ Layout k) × RefusesAnswer command limits S k
+
+-- A copy is refused: so, or for want of room.
+abbrev pub RefusesRoom : Form → ReaderOptions → ℕ → Segments → Refusal → Type 0
+RefusesRoom form limits room S r = RefusesMeaning (Canon form) limits S r ⊎ HasTooLittleRoom form limits S room r
+
+-- A number is that of a refusal of which P holds.
+abbrev pub IsNumberWhere : ℕ → (Refusal → Type 0) → Type 0
+IsNumberWhere number P = (r : Refusal) × (number ≡ answer_number r) × P r
+
+-- A copy that can be made is done, or there is no room, or no memory.
+abbrev pub IsGranted : ℕ → Type 0
+IsGranted number = (number ≡ 0) ⊎ (number ≡ 1) ⊎ (number ≡ 32)
+
+-- So many bytes are a table of a frame of one segment, in a form.
+abbrev pub table_bytes : Form → ℕ
+table_bytes Framed = 8
+table_bytes Flat = 0
+
+-- A fault as C sees it, and none.
+abbrev pub no_fault : Fault
+no_fault = record { reason = 0; word = 0; segment = 0 }
+
+abbrev pub told_fault : CanonicalFault → Fault
+told_fault f = record { reason = reason_number f.reason; word = f.word; segment = f.segment }
+
+-- The test of a message finds a fault, or none where the message is canonical.
+abbrev pub TestFinds : ReaderOptions → Option CanonicalFault → Segments → Type 0
+TestFinds limits None S = IsCanonicalMessage S
+TestFinds limits (Some f) S = (IsCanonicalMessage S → ⊥) × IsFaultOf S limits f
+
+-- Whether a message is canonical, and if not why and where.
+abbrev pub TestIs : ReaderOptions → Bool → Fault → Segments → Type 0
+TestIs limits true fault S = IsCanonicalMessage S × (fault ≡ no_fault)
+TestIs limits false fault S =
+    (IsCanonicalMessage S → ⊥) × ((f : CanonicalFault) × IsFaultOf S limits f × (fault ≡ told_fault f))

@@ -1,0 +1,98 @@
+-- What C sees of a refusal and of a fault: numbers and texts. A number is never given another meaning.
+use Rattle.std.specs.Prelude.{ℕ, List, codes}
+use Rattle.capnp_words.specs.Names.{name_of}
+use Rattle.capnp_words.specs.declared.error.ErrorKind.{ErrorKind}
+use Rattle.capnp_words.specs.declared.error.ErrorKind.TheVariants.{AllocationFailed, CannotCreateACanonicalMessageWithACapability, CantHandleNonStructInlineComposite, ExistingListPointerIsNotByteSized, ExistingListValueIsIncompatibleWithExpectedType, ExistingPointerIsNotAList, ExpectedAPointerListButGotAListOfDataOnlyStructs, ExpectedAPrimitiveListButGotAListOfPointerOnlyStructs, FoundBitListWhereStructListWasExpected, FoundStructListWhereBitListWasExpected, InlineCompositeListsElementsOverrunItsWordCount, InlineCompositeListsOfNonStructTypeAreNotSupported, InvalidSegmentId, MalformedDoubleFarPointer, MessageContainsListPointerOfNonBytesWhereDataWasExpected, MessageContainsListPointerOfNonBytesWhereTextWasExpected, MessageContainsListWithIncompatibleElementType, MessageContainsNonCapabilityPointerWhereCapabilityPointerWasExpected, MessageContainsNonListPointerWhereDataWasExpected, MessageContainsNonListPointerWhereListPointerWasExpected, MessageContainsNonListPointerWhereTextWasExpected, MessageContainsNonStructPointerWhereStructPointerWasExpected, MessageContainsNullCapabilityPointer, MessageContainsOutOfBoundsPointer, MessageContainsTextThatIsNotNULTerminated, MessageIsTooDeeplyNested, MessageIsTooDeeplyNestedOrContainsCycles, MessageTooLarge, NestingLimitExceeded, NoSuchPlace, ReadLimitExceeded, TextBlobMissingNULTerminator, TriedToReadFromNullArena, UnexpectedFarPointer, UnknownPointerType}
+use Rattle.capnp_framing.specs.Names.{frame_error_name}
+use Rattle.capnp_framing.specs.declared.framing.frame_error.FrameError.{FrameError}
+use Rattle.capnp_framing.specs.declared.framing.frame_error.FrameError.TheVariants.{NoSegments, TooManySegments, MessageTooLong, Truncated, ReadFailed, WriteFailed, AllocationFailed as NoMemory}
+use Rattle.capnp_readers.specs.declared.readers.canonical_fault.CanonicalFaultReason.{CanonicalFaultReason}
+use Rattle.capnp_readers.specs.declared.readers.canonical_fault.CanonicalFaultReason.TheVariants.{SegmentCount, NoPointer, FarPointer, Capability, UnknownPointer, EmptyStructPlace, ObjectPlace, Padding, DataSection, PointerSection, ElementWords, ElementData, ElementPointers, WordsBehind}
+use Rattle.capnp_canonical.specs.declared.refusal.Refusal.{Refusal}
+use Rattle.capnp_canonical.specs.declared.refusal.Refusal.TheVariants.{NoRoom, NoMessage, SegmentIsNotWholeWords, Frame, Layout}
+
+-- the number of a frame's refusal
+abbrev pub frame_error_number : FrameError → ℕ
+frame_error_number NoSegments = 16
+frame_error_number (TooManySegments _) = 17
+frame_error_number (MessageTooLong _) = 18
+frame_error_number Truncated = 19
+frame_error_number ReadFailed = 20
+frame_error_number WriteFailed = 21
+frame_error_number NoMemory = 22
+
+-- the number of a refusal of what a message means
+abbrev pub error_number : ErrorKind → ℕ
+error_number AllocationFailed = 32
+error_number CannotCreateACanonicalMessageWithACapability = 33
+error_number CantHandleNonStructInlineComposite = 34
+error_number ExistingListPointerIsNotByteSized = 35
+error_number ExistingListValueIsIncompatibleWithExpectedType = 36
+error_number ExistingPointerIsNotAList = 37
+error_number ExpectedAPointerListButGotAListOfDataOnlyStructs = 38
+error_number ExpectedAPrimitiveListButGotAListOfPointerOnlyStructs = 39
+error_number FoundBitListWhereStructListWasExpected = 40
+error_number FoundStructListWhereBitListWasExpected = 41
+error_number InlineCompositeListsElementsOverrunItsWordCount = 42
+error_number InlineCompositeListsOfNonStructTypeAreNotSupported = 43
+error_number (InvalidSegmentId _) = 44
+error_number MalformedDoubleFarPointer = 45
+error_number MessageContainsListPointerOfNonBytesWhereDataWasExpected = 46
+error_number MessageContainsListPointerOfNonBytesWhereTextWasExpected = 47
+error_number MessageContainsListWithIncompatibleElementType = 48
+error_number MessageContainsNonCapabilityPointerWhereCapabilityPointerWasExpected = 49
+error_number MessageContainsNonListPointerWhereDataWasExpected = 50
+error_number MessageContainsNonListPointerWhereListPointerWasExpected = 51
+error_number MessageContainsNonListPointerWhereTextWasExpected = 52
+error_number MessageContainsNonStructPointerWhereStructPointerWasExpected = 53
+error_number MessageContainsNullCapabilityPointer = 54
+error_number MessageContainsOutOfBoundsPointer = 55
+error_number MessageContainsTextThatIsNotNULTerminated = 56
+error_number MessageIsTooDeeplyNested = 57
+error_number MessageIsTooDeeplyNestedOrContainsCycles = 58
+error_number (MessageTooLarge _) = 59
+error_number NestingLimitExceeded = 60
+error_number NoSuchPlace = 61
+error_number ReadLimitExceeded = 62
+error_number TextBlobMissingNULTerminator = 63
+error_number TriedToReadFromNullArena = 64
+error_number UnexpectedFarPointer = 65
+error_number UnknownPointerType = 66
+
+-- the number of a refusal; 0 is none
+abbrev pub answer_number : Refusal → ℕ
+answer_number (NoRoom _) = 1
+answer_number NoMessage = 2
+answer_number SegmentIsNotWholeWords = 3
+answer_number (Frame e) = frame_error_number e
+answer_number (Layout k) = error_number k
+
+-- its name
+abbrev pub answer_name : Refusal → List ℕ
+answer_name (NoRoom _) = codes "NoRoom"
+answer_name NoMessage = codes "NoMessage"
+answer_name SegmentIsNotWholeWords = codes "SegmentIsNotWholeWords"
+answer_name (Frame e) = frame_error_name e
+answer_name (Layout k) = name_of k
+
+-- how many bytes are wanted, where there is too little room
+abbrev pub wanted_room : Refusal → ℕ
+wanted_room (NoRoom size) = size
+wanted_room _ = 0
+
+-- the number of a reason; 0 is none
+abbrev pub reason_number : CanonicalFaultReason → ℕ
+reason_number SegmentCount = 1
+reason_number NoPointer = 2
+reason_number FarPointer = 3
+reason_number Capability = 4
+reason_number UnknownPointer = 5
+reason_number EmptyStructPlace = 6
+reason_number ObjectPlace = 7
+reason_number Padding = 8
+reason_number DataSection = 9
+reason_number PointerSection = 10
+reason_number ElementWords = 11
+reason_number ElementData = 12
+reason_number ElementPointers = 13
+reason_number WordsBehind = 14

@@ -1,0 +1,111 @@
+//! What is done with a message, whatever holds its segments.
+ghost use Rattle.std.specs.Prelude.{◌≡◌, ◌≢◌, ◌⊎◌, ◌≤◌, ◌<◌, ◌+◌, ◌*◌, ◌/◌, ◌^◌, ◌∷◌, [], ℕ, List, length, take, Some, IfOk, IfErr, OnErr};
+ghost use Rattle.std.specs.Int.{to_le_bytes, w32};
+ghost use Rattle.capnp_format.specs.Bytes.{message};
+ghost use Rattle.capnp_format.specs.Canonical.{encoding, trim};
+ghost use Rattle.capnp_format.specs.Tree.{Tree};
+ghost use Rattle.capnp_arena.specs.Limits.{IsSmall};
+ghost use Rattle.capnp_framing.specs.Frames.{bytes_of_words, frame};
+ghost use Rattle.capnp_streams.specs.Messages.{HasSizeOf, IsFaultOf};
+ghost use Rattle.capnp_streams.specs.Streams.{RefusesAnswer, form_bytes};
+ghost use Rattle.capnp_streams.specs.declared.streams.task.Command.{Command};
+ghost use Rattle.capnp_canonical.specs.Calls.{IsCopyOf, RefusesRoom, limits_of, table_bytes};
+ghost use Rattle.capnp_canonical.specs.declared.refusal.Refusal.{Refusal};
+
+use crate::refusal::Refusal;
+use capnp_arena::arena::{ReaderOptions, ReaderSegments};
+use capnp_layout::framing::canonical_bytes;
+use capnp_streams::messages::canonical_of;
+use capnp_streams::streams::Form;
+use std::alloc::Global;
+
+/// The limits within which a message is read.
+pub fn limits(nesting: i32, words: u64) -> ReaderOptions
+    ensures { result ≡ limits_of nesting words }
+{
+    ReaderOptions {
+        nesting_limit: nesting,
+        traversal_limit_in_words: Some(words as usize),
+    }
+}
+
+/// The table of a frame of one segment of so many words.
+fn table(words: u32) -> [u8; 8]
+    ensures table { result ≡ 0 ∷ 0 ∷ 0 ∷ 0 ∷ to_le_bytes w32 words }
+{
+    let [a, b, c, d] = words.to_le_bytes();
+    [0, 0, 0, 0, a, b, c, d]
+}
+
+/// Puts a frame of one segment of these bytes to the front of a buffer, and gives its size.
+fn put_frame(segment: &[u8], to: &mut [u8]) -> Result<usize, Refusal>
+    requires short { length segment.now < 2 ^ 35 }
+    ensures put { IfOk result (λ n. (words : List ℕ) → segment.now ≡ bytes_of_words words
+        → take n to.new ≡ frame (words ∷ [])) }
+    ensures within { IfOk result (λ n. n ≤ length to.new) }
+    ensures refused { IfErr result (λ r. (r ≡ Refusal.NoRoom (8 + length segment.now))
+        × (to.new ≡ to.old) × (length to.old < 8 + length segment.now)) }
+{
+    let size = 8 + segment.len();
+    if to.len() < size {
+        return Err(Refusal::NoRoom(size));
+    }
+    to[..8].copy_from_slice(&table((segment.len() / 8) as u32));
+    to[8..size].copy_from_slice(segment);
+    Ok(size)
+}
+
+/// Puts bytes to the front of a buffer, and gives how many they are.
+fn put_flat(segment: &[u8], to: &mut [u8]) -> Result<usize, Refusal>
+    ensures put { IfOk result (λ n. take n to.new ≡ segment.now) }
+    ensures within { IfOk result (λ n. n ≤ length to.new) }
+    ensures refused { IfErr result (λ r. (r ≡ Refusal.NoRoom (length segment.now))
+        × (to.new ≡ to.old) × (length to.old < length segment.now)) }
+{
+    let size = segment.len();
+    if to.len() < size {
+        return Err(Refusal::NoRoom(size));
+    }
+    to[..size].copy_from_slice(segment);
+    Ok(size)
+}
+
+/// Puts the bytes of a segment to the front of a buffer in a form, and gives how many they are.
+fn put(form: Form, segment: &[u8], to: &mut [u8]) -> Result<usize, Refusal>
+    requires short { length segment.now < 2 ^ 35 }
+    ensures put { IfOk result (λ n. (words : List ℕ) → segment.now ≡ bytes_of_words words
+        → take n to.new ≡ form_bytes form words) }
+    ensures within { IfOk result (λ n. n ≤ length to.new) }
+    ensures refused { IfErr result (λ r.
+        (r ≡ Refusal.NoRoom (table_bytes form + length segment.now))
+        × (length to.old < table_bytes form + length segment.now)) }
+    ensures kept { OnErr result (to.new ≡ to.old) }
+{
+    match form {
+        Form::Framed => put_frame(segment, to),
+        Form::Flat => put_flat(segment, to),
+    }
+}
+
+/// Puts the canonical message of what the segments mean to the front of a buffer in a form, and gives
+/// its size in bytes.
+pub fn copy<S: ReaderSegments + Drop>(
+    alloc: Global,
+    form: Form,
+    segments: S,
+    limits: ReaderOptions,
+    to: &mut [u8],
+) -> Result<usize, Refusal>
+    requires { IsSmall (S.segments segments) }
+    ensures copied { IfOk result (λ n.
+        IsCopyOf form limits (message (S.segments segments)) (take n to.new)) }
+    ensures within { IfOk result (λ n. n ≤ length to.new) }
+    ensures refused { IfErr result
+        (RefusesRoom form limits (length to.old) (message (S.segments segments))) }
+    ensures kept { OnErr result (to.new ≡ to.old) }
+{
+    match canonical_of(alloc, segments, limits) {
+        Ok(made) => put(form, canonical_bytes(&made), to),
+        Err(kind) => Err(Refusal::Layout(kind)),
+    }
+}

@@ -1,0 +1,64 @@
+//! The fault of a message that isn't canonical, as C sees it.
+ghost use Rattle.std.specs.Prelude.{◌≡◌, IfSome, IsNone};
+ghost use Rattle.capnp_canonical.specs.Calls.{no_fault, told_fault};
+ghost use Rattle.capnp_canonical.specs.Numbers.{reason_number};
+
+use capnp_layout::framing::{CanonicalFault, CanonicalFaultReason};
+
+/// Why and where a message isn't canonical.
+#[repr(C)]
+#[derive(Clone, Copy)]
+pub struct Fault {
+    /// The number of a reason; 0 is none.
+    pub reason: u32,
+    /// The position in the segment, in words.
+    pub word: u32,
+    /// The number of the segment.
+    pub segment: u64,
+}
+
+/// No fault.
+pub const NO_FAULT: Fault = Fault {
+    reason: 0,
+    word: 0,
+    segment: 0,
+};
+
+/// The number of a reason.
+fn number_of(reason: CanonicalFaultReason) -> u32
+    ensures { result ≡ reason_number reason }
+{
+    match reason {
+        CanonicalFaultReason::SegmentCount => 1,
+        CanonicalFaultReason::NoPointer => 2,
+        CanonicalFaultReason::FarPointer => 3,
+        CanonicalFaultReason::Capability => 4,
+        CanonicalFaultReason::UnknownPointer => 5,
+        CanonicalFaultReason::EmptyStructPlace => 6,
+        CanonicalFaultReason::ObjectPlace => 7,
+        CanonicalFaultReason::Padding => 8,
+        CanonicalFaultReason::DataSection => 9,
+        CanonicalFaultReason::PointerSection => 10,
+        CanonicalFaultReason::ElementWords => 11,
+        CanonicalFaultReason::ElementData => 12,
+        CanonicalFaultReason::ElementPointers => 13,
+        CanonicalFaultReason::WordsBehind => 14,
+    }
+}
+
+impl Fault {
+    /// A fault, by numbers.
+    pub fn of(found: Option<CanonicalFault>) -> Self
+        ensures fault { IfSome found (λ f. result ≡ told_fault f) }
+        ensures none { IsNone found → result ≡ no_fault }
+    {
+        match found {
+            Some(fault) => Fault {
+                reason: number_of(fault.reason),
+                word: fault.word,
+                segment: fault.segment,
+            },
+            None => NO_FAULT,
+        }
+    }
+}

@@ -1,0 +1,94 @@
+//! What is done with the message whose frame stands at the front of a buffer ("Serialization Over a
+//! Stream").
+ghost use Rattle.std.specs.Prelude.{◌≡◌, ◌⊎◌, ◌≤◌, length, take, IfOk, IfErr, OnErr};
+ghost use Rattle.capnp_format.specs.Bytes.{message};
+ghost use Rattle.capnp_arena.specs.Limits.{IsSmall};
+ghost use Rattle.capnp_framing.specs.Flat.{BeginsWithFrame};
+ghost use Rattle.capnp_framing.specs.Frames.{frame};
+ghost use Rattle.capnp_layout.specs.CanonicalMessages.{IsCanonicalMessage};
+ghost use Rattle.capnp_streams.specs.Messages.{HasSizeOf};
+ghost use Rattle.capnp_streams.specs.declared.streams.task.Command.{Command};
+ghost use Rattle.capnp_canonical.specs.Calls.{InFrame, IsCopyOf, RefusesBytes, RefusesMeaning, RefusesRoom, TestFinds, limits_of};
+
+use crate::calls::{copy, limits};
+use crate::refusal::Refusal;
+use capnp_arena::arena::ReaderSegments;
+use capnp_framing::framing::{FrameSegments, read_from_flat_slice};
+use capnp_layout::framing::CanonicalFault;
+use capnp_readers::readers::MessageSize;
+use capnp_streams::messages::{canonical_fault_of, size_of};
+use capnp_streams::streams::Form;
+use std::alloc::Global;
+
+/// The message whose frame, of at most so many words, the bytes begin with.
+fn message_in(bytes: &[u8], words: u64) -> Result<FrameSegments<'_>, Refusal>
+    ensures begins { IfOk result (λ f. BeginsWithFrame bytes.now words
+        (message (⟦<FrameSegments<'static> as ReaderSegments>⟧.segments f))) }
+    ensures small { IfOk result (λ f.
+        IsSmall (⟦<FrameSegments<'static> as ReaderSegments>⟧.segments f)) }
+    ensures refused { IfErr result (RefusesBytes bytes.now words) }
+{
+    match read_from_flat_slice(bytes, words) {
+        Ok(Some(segments)) => Ok(segments),
+        Ok(None) => Err(Refusal::NoMessage),
+        Err(error) => Err(Refusal::Frame(error)),
+    }
+}
+
+/// Puts the canonical message of what the frame means to the front of a buffer, and gives its size in
+/// bytes.
+pub fn copy_frame(
+    alloc: Global,
+    form: Form,
+    frame: &[u8],
+    nesting: i32,
+    words: u64,
+    to: &mut [u8],
+) -> Result<usize, Refusal>
+    ensures copied { IfOk result (λ n. InFrame frame.now words
+        (λ S. IsCopyOf form (limits_of nesting words) S (take n to.new))) }
+    ensures within { IfOk result (λ n. n ≤ length to.new) }
+    ensures refused { IfErr result (λ r. RefusesBytes frame.now words r
+        ⊎ InFrame frame.now words
+        (λ S. RefusesRoom form (limits_of nesting words) (length to.old) S r)) }
+    ensures kept { OnErr result (to.new ≡ to.old) }
+{
+    let segments = message_in(frame, words)?;
+    copy(alloc, form, segments, limits(nesting, words), to)
+}
+
+/// Where and why the message of the frame isn't canonical, if it isn't.
+pub fn check_frame(
+    frame: &[u8],
+    nesting: i32,
+    words: u64,
+) -> Result<Option<CanonicalFault>, Refusal>
+    ensures found { IfOk result (λ o. InFrame frame.now words
+        (TestFinds (limits_of nesting words) o)) }
+    ensures refused { IfErr result (λ r. RefusesBytes frame.now words r
+        ⊎ InFrame frame.now words
+        (λ S. RefusesMeaning Command.Check (limits_of nesting words) S r)) }
+{
+    let segments = message_in(frame, words)?;
+    Ok(canonical_fault_of(segments, limits(nesting, words))?)
+}
+
+/// How large the message of the frame is.
+pub fn size_frame(frame: &[u8], nesting: i32, words: u64) -> Result<MessageSize, Refusal>
+    ensures size { IfOk result (λ z. InFrame frame.now words
+        (λ S. HasSizeOf S (limits_of nesting words) z.word_count z.cap_count)) }
+    ensures refused { IfErr result (λ r. RefusesBytes frame.now words r
+        ⊎ InFrame frame.now words
+        (λ S. RefusesMeaning Command.Size (limits_of nesting words) S r)) }
+{
+    let segments = message_in(frame, words)?;
+    Ok(size_of(segments, limits(nesting, words))?)
+}
+
+/// How many bytes the frame takes.
+pub fn frame_size(bytes: &[u8], words: u64) -> Result<usize, Refusal>
+    ensures size { IfOk result (λ n. InFrame bytes.now words (λ S. n ≡ length (frame S))) }
+    ensures refused { IfErr result (RefusesBytes bytes.now words) }
+{
+    Ok(message_in(bytes, words)?.size_in_bytes())
+}

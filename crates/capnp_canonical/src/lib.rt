@@ -1,0 +1,352 @@
+//! Canonical form for programs in C, and for what calls C ("Canonicalization"): a message, given as a
+//! frame in a buffer or by its segments, is copied, tested or measured. Nothing is kept between calls.
+//!
+//! `c/capnp_canonical.h` says how each is called. The answer is 0, or the number of a refusal.
+#![tactic(auto)]
+
+ghost use Rattle.std.specs.Prelude.{◌≡◌, ◌≢◌, ◌⊎◌, ◌≤◌, ⊤, ◌+◌, ◌*◌, ◌++◌, ℕ, List, codes, false, length, take};
+ghost use Rattle.capnp_format.specs.Segments.{Segments};
+ghost use Rattle.capnp_framing.specs.Frames.{IsFrameOf};
+ghost use Rattle.capnp_framing.specs.Reading.{total};
+ghost use Rattle.capnp_streams.specs.Messages.{HasSizeOf};
+ghost use Rattle.capnp_streams.specs.Streams.{HasAnswerWithin};
+ghost use Rattle.capnp_streams.specs.declared.streams.task.Command.{Command};
+ghost use Rattle.capnp_streams.specs.declared.streams.task.Form.{Form};
+ghost use Rattle.capnp_canonical.specs.Calls.{InFrame, InSegments, IsCopyOf, IsGranted, IsNumberWhere, RefusesBytes, RefusesMeaning, RefusesRoom, RefusesSegments, TestIs, limits_of, no_fault};
+ghost use Rattle.capnp_canonical.specs.Numbers.{wanted_room};
+ghost use Rattle.capnp_canonical.specs.Texts.{HoldsText, IsNameOf, IsReasonText};
+
+mod calls;
+mod fault;
+mod frames;
+mod names;
+mod refusal;
+mod segments;
+
+use capnp_streams::streams::Form;
+use fault::{Fault, NO_FAULT};
+use frames::{check_frame, copy_frame, frame_size, size_frame};
+use names::{name_of_number, put_text, text_of_reason};
+use segments::{check_segments, copy_segments, size_segments};
+use std::alloc::Global;
+
+/// Writes the canonical message of what a frame means, as a frame of one segment, to the front of a
+/// buffer, and gives its size in bytes. Where there is too little room the size that is wanted is given.
+/// Where it is refused nothing is written to the buffer.
+#[unsafe(no_mangle)]
+pub extern "C" fn capnp_canonical_copy(
+    alloc: Global,
+    frame: &[u8],
+    nesting: i32,
+    words: u64,
+    to: &mut [u8],
+    written: &mut usize,
+) -> u32
+    ensures done { result ≡ 0 → InFrame frame.now words
+        (λ S. IsCopyOf Form.Framed (limits_of nesting words) S (take written.new to.new)) }
+    ensures within { result ≡ 0 → written.new ≤ length to.new }
+    ensures refused { result ≢ 0 → IsNumberWhere result (λ r. (written.new ≡ wanted_room r)
+        × (RefusesBytes frame.now words r ⊎ InFrame frame.now words
+        (λ S. RefusesRoom Form.Framed (limits_of nesting words) (length to.old) S r))) }
+    ensures kept { result ≢ 0 → to.new ≡ to.old }
+    ensures granted { InFrame frame.now words
+        (HasAnswerWithin (Command.Canon Form.Framed) (limits_of nesting words))
+        → IsGranted result }
+    ensures enough { (n caps : ℕ) → InFrame frame.now words
+        (λ S. HasSizeOf S (limits_of nesting words) n caps)
+        → 16 + 8 * n ≤ length to.old → result ≢ 1 }
+{
+    match copy_frame(alloc, Form::Framed, frame, nesting, words, to) {
+        Ok(size) => {
+            *written = size;
+            0
+        }
+        Err(refusal) => {
+            *written = refusal.wanted_room();
+            refusal.number()
+        }
+    }
+}
+
+/// Does the same with the bare words of the canonical message.
+#[unsafe(no_mangle)]
+pub extern "C" fn capnp_canonical_copy_flat(
+    alloc: Global,
+    frame: &[u8],
+    nesting: i32,
+    words: u64,
+    to: &mut [u8],
+    written: &mut usize,
+) -> u32
+    ensures done { result ≡ 0 → InFrame frame.now words
+        (λ S. IsCopyOf Form.Flat (limits_of nesting words) S (take written.new to.new)) }
+    ensures within { result ≡ 0 → written.new ≤ length to.new }
+    ensures refused { result ≢ 0 → IsNumberWhere result (λ r. (written.new ≡ wanted_room r)
+        × (RefusesBytes frame.now words r ⊎ InFrame frame.now words
+        (λ S. RefusesRoom Form.Flat (limits_of nesting words) (length to.old) S r))) }
+    ensures kept { result ≢ 0 → to.new ≡ to.old }
+    ensures granted { InFrame frame.now words
+        (HasAnswerWithin (Command.Canon Form.Flat) (limits_of nesting words))
+        → IsGranted result }
+    ensures enough { (n caps : ℕ) → InFrame frame.now words
+        (λ S. HasSizeOf S (limits_of nesting words) n caps)
+        → 8 + 8 * n ≤ length to.old → result ≢ 1 }
+{
+    match copy_frame(alloc, Form::Flat, frame, nesting, words, to) {
+        Ok(size) => {
+            *written = size;
+            0
+        }
+        Err(refusal) => {
+            *written = refusal.wanted_room();
+            refusal.number()
+        }
+    }
+}
+
+/// Says whether the message of a frame is canonical: one segment, which holds the canonical words of a
+/// value and nothing else; and if not why and where.
+#[unsafe(no_mangle)]
+pub extern "C" fn capnp_canonical_check(
+    frame: &[u8],
+    nesting: i32,
+    words: u64,
+    is_canonical: &mut bool,
+    fault: &mut Fault,
+) -> u32
+    ensures done { result ≡ 0 → InFrame frame.now words
+        (TestIs (limits_of nesting words) is_canonical.new fault.new) }
+    ensures refused { result ≢ 0 → IsNumberWhere result (λ r. RefusesBytes frame.now words r
+        ⊎ InFrame frame.now words (λ S. RefusesMeaning Command.Check (limits_of nesting words) S r)) }
+    ensures none { result ≢ 0 → (is_canonical.new ≡ false) × (fault.new ≡ no_fault) }
+    ensures granted { InFrame frame.now words (HasAnswerWithin Command.Check (limits_of nesting words))
+        → result ≡ 0 }
+{
+    match check_frame(frame, nesting, words) {
+        Ok(found) => {
+            *is_canonical = found.is_none();
+            *fault = Fault::of(found);
+            0
+        }
+        Err(refusal) => {
+            *is_canonical = false;
+            *fault = NO_FAULT;
+            refusal.number()
+        }
+    }
+}
+
+/// Gives how many words and capabilities the message of a frame has, without its root and landing pads.
+#[unsafe(no_mangle)]
+pub extern "C" fn capnp_canonical_size(
+    frame: &[u8],
+    nesting: i32,
+    words: u64,
+    word_count: &mut u64,
+    cap_count: &mut u32,
+) -> u32
+    ensures done { result ≡ 0 → InFrame frame.now words
+        (λ S. HasSizeOf S (limits_of nesting words) word_count.new cap_count.new) }
+    ensures refused { result ≢ 0 → IsNumberWhere result (λ r. RefusesBytes frame.now words r
+        ⊎ InFrame frame.now words (λ S. RefusesMeaning Command.Size (limits_of nesting words) S r)) }
+    ensures none { result ≢ 0 → (word_count.new ≡ 0) × (cap_count.new ≡ 0) }
+    ensures granted { InFrame frame.now words (HasAnswerWithin Command.Size (limits_of nesting words))
+        → result ≡ 0 }
+{
+    match size_frame(frame, nesting, words) {
+        Ok(size) => {
+            *word_count = size.word_count;
+            *cap_count = size.cap_count;
+            0
+        }
+        Err(refusal) => {
+            *word_count = 0;
+            *cap_count = 0;
+            refusal.number()
+        }
+    }
+}
+
+/// Gives how many bytes the frame at the front of a buffer takes.
+#[unsafe(no_mangle)]
+pub extern "C" fn capnp_canonical_frame_size(frame: &[u8], words: u64, bytes: &mut usize) -> u32
+    ensures done { result ≡ 0 → (S : Segments) × (front behind : List ℕ) × (frame.now ≡ front ++ behind)
+        × IsFrameOf S front × (total S ≤ words) × (bytes.new ≡ length front) }
+    ensures refused { result ≢ 0 → (bytes.new ≡ 0)
+        × IsNumberWhere result (RefusesBytes frame.now words) }
+    ensures granted { InFrame frame.now words (λ _. ⊤) → result ≡ 0 }
+{
+    match frame_size(frame, words) {
+        Ok(size) => {
+            *bytes = size;
+            0
+        }
+        Err(refusal) => {
+            *bytes = 0;
+            refusal.number()
+        }
+    }
+}
+
+/// As `capnp_canonical_copy`, of a message whose segments the caller has.
+#[unsafe(no_mangle)]
+pub extern "C" fn capnp_canonical_segments_copy(
+    alloc: Global,
+    segments: &[&[u8]],
+    nesting: i32,
+    words: u64,
+    to: &mut [u8],
+    written: &mut usize,
+) -> u32
+    ensures done { result ≡ 0 → InSegments segments.now
+        (λ S. IsCopyOf Form.Framed (limits_of nesting words) S (take written.new to.new)) }
+    ensures within { result ≡ 0 → written.new ≤ length to.new }
+    ensures refused { result ≢ 0 → IsNumberWhere result (λ r. (written.new ≡ wanted_room r)
+        × (RefusesSegments segments.now r ⊎ InSegments segments.now
+        (λ S. RefusesRoom Form.Framed (limits_of nesting words) (length to.old) S r))) }
+    ensures kept { result ≢ 0 → to.new ≡ to.old }
+    ensures granted { InSegments segments.now
+        (HasAnswerWithin (Command.Canon Form.Framed) (limits_of nesting words))
+        → IsGranted result }
+{
+    match copy_segments(alloc, Form::Framed, segments, nesting, words, to) {
+        Ok(size) => {
+            *written = size;
+            0
+        }
+        Err(refusal) => {
+            *written = refusal.wanted_room();
+            refusal.number()
+        }
+    }
+}
+
+/// As `capnp_canonical_copy_flat`, of a message whose segments the caller has.
+#[unsafe(no_mangle)]
+pub extern "C" fn capnp_canonical_segments_copy_flat(
+    alloc: Global,
+    segments: &[&[u8]],
+    nesting: i32,
+    words: u64,
+    to: &mut [u8],
+    written: &mut usize,
+) -> u32
+    ensures done { result ≡ 0 → InSegments segments.now
+        (λ S. IsCopyOf Form.Flat (limits_of nesting words) S (take written.new to.new)) }
+    ensures within { result ≡ 0 → written.new ≤ length to.new }
+    ensures refused { result ≢ 0 → IsNumberWhere result (λ r. (written.new ≡ wanted_room r)
+        × (RefusesSegments segments.now r ⊎ InSegments segments.now
+        (λ S. RefusesRoom Form.Flat (limits_of nesting words) (length to.old) S r))) }
+    ensures kept { result ≢ 0 → to.new ≡ to.old }
+    ensures granted { InSegments segments.now
+        (HasAnswerWithin (Command.Canon Form.Flat) (limits_of nesting words))
+        → IsGranted result }
+{
+    match copy_segments(alloc, Form::Flat, segments, nesting, words, to) {
+        Ok(size) => {
+            *written = size;
+            0
+        }
+        Err(refusal) => {
+            *written = refusal.wanted_room();
+            refusal.number()
+        }
+    }
+}
+
+/// As `capnp_canonical_check`, of a message whose segments the caller has.
+#[unsafe(no_mangle)]
+pub extern "C" fn capnp_canonical_segments_check(
+    segments: &[&[u8]],
+    nesting: i32,
+    words: u64,
+    is_canonical: &mut bool,
+    fault: &mut Fault,
+) -> u32
+    ensures done { result ≡ 0 → InSegments segments.now
+        (TestIs (limits_of nesting words) is_canonical.new fault.new) }
+    ensures refused { result ≢ 0 → IsNumberWhere result (λ r. RefusesSegments segments.now r
+        ⊎ InSegments segments.now (λ S. RefusesMeaning Command.Check (limits_of nesting words) S r)) }
+    ensures none { result ≢ 0 → (is_canonical.new ≡ false) × (fault.new ≡ no_fault) }
+    ensures granted { InSegments segments.now (HasAnswerWithin Command.Check (limits_of nesting words))
+        → result ≡ 0 }
+{
+    match check_segments(segments, nesting, words) {
+        Ok(found) => {
+            *is_canonical = found.is_none();
+            *fault = Fault::of(found);
+            0
+        }
+        Err(refusal) => {
+            *is_canonical = false;
+            *fault = NO_FAULT;
+            refusal.number()
+        }
+    }
+}
+
+/// As `capnp_canonical_size`, of a message whose segments the caller has.
+#[unsafe(no_mangle)]
+pub extern "C" fn capnp_canonical_segments_size(
+    segments: &[&[u8]],
+    nesting: i32,
+    words: u64,
+    word_count: &mut u64,
+    cap_count: &mut u32,
+) -> u32
+    ensures done { result ≡ 0 → InSegments segments.now
+        (λ S. HasSizeOf S (limits_of nesting words) word_count.new cap_count.new) }
+    ensures refused { result ≢ 0 → IsNumberWhere result (λ r. RefusesSegments segments.now r
+        ⊎ InSegments segments.now (λ S. RefusesMeaning Command.Size (limits_of nesting words) S r)) }
+    ensures none { result ≢ 0 → (word_count.new ≡ 0) × (cap_count.new ≡ 0) }
+    ensures granted { InSegments segments.now (HasAnswerWithin Command.Size (limits_of nesting words))
+        → result ≡ 0 }
+{
+    match size_segments(segments, nesting, words) {
+        Ok(size) => {
+            *word_count = size.word_count;
+            *cap_count = size.cap_count;
+            0
+        }
+        Err(refusal) => {
+            *word_count = 0;
+            *cap_count = 0;
+            refusal.number()
+        }
+    }
+}
+
+/// Writes the name of a refusal, and a byte of zero behind it, as far as there is room, and gives its
+/// length in bytes: 0 where the number has none.
+#[unsafe(no_mangle)]
+pub extern "C" fn capnp_canonical_name(answer: u32, to: &mut [u8]) -> usize
+    ensures { (text : List ℕ) × IsNameOf answer text × (result ≡ length text) × HoldsText text to.new }
+{
+    put_text(name_of_number(answer), to)
+}
+
+/// Writes what a reason says, in words, as `capnp_canonical_name` writes.
+#[unsafe(no_mangle)]
+pub extern "C" fn capnp_canonical_reason_text(reason: u32, to: &mut [u8]) -> usize
+    ensures { (text : List ℕ) × IsReasonText reason text × (result ≡ length text)
+        × HoldsText text to.new }
+{
+    put_text(text_of_reason(reason), to)
+}
+
+/// The version of the library: major * 10000 + minor * 100 + patch.
+#[unsafe(no_mangle)]
+pub extern "C" fn capnp_canonical_version() -> u32
+    ensures { result ≡ 10000 }
+{
+    10000
+}
+
+/// Writes the version as text, as `capnp_canonical_name` writes.
+#[unsafe(no_mangle)]
+pub extern "C" fn capnp_canonical_version_text(to: &mut [u8]) -> usize
+    ensures length { result ≡ length (codes "1.0.0") }
+    ensures text { HoldsText (codes "1.0.0") to.new }
+{
+    put_text("1.0.0", to)
+}

@@ -1,0 +1,129 @@
+//! The texts of numbers.
+ghost use Rattle.std.specs.Prelude.{◌≡◌, IfSome, IsNone, length};
+ghost use Rattle.capnp_canonical.specs.Numbers.{answer_name, answer_number};
+ghost use Rattle.capnp_canonical.specs.Texts.{HoldsText, IsNameOf, IsReasonText};
+ghost use Rattle.capnp_canonical.specs.declared.refusal.Refusal.{Refusal};
+
+use crate::refusal::Refusal;
+use capnp_framing::framing::FrameError;
+use capnp_layout::framing::CanonicalFaultReason;
+use capnp_words::error::ErrorKind;
+
+/// The refusals of a frame, from the number 16 on.
+const FRAME_ERRORS: [FrameError; 7] = [
+    FrameError::NoSegments,
+    FrameError::TooManySegments(0),
+    FrameError::MessageTooLong(0),
+    FrameError::Truncated,
+    FrameError::ReadFailed,
+    FrameError::WriteFailed,
+    FrameError::AllocationFailed,
+];
+
+/// Those of what a message means, from the number 32 on.
+const KINDS: [ErrorKind; 35] = [
+    ErrorKind::AllocationFailed,
+    ErrorKind::CannotCreateACanonicalMessageWithACapability,
+    ErrorKind::CantHandleNonStructInlineComposite,
+    ErrorKind::ExistingListPointerIsNotByteSized,
+    ErrorKind::ExistingListValueIsIncompatibleWithExpectedType,
+    ErrorKind::ExistingPointerIsNotAList,
+    ErrorKind::ExpectedAPointerListButGotAListOfDataOnlyStructs,
+    ErrorKind::ExpectedAPrimitiveListButGotAListOfPointerOnlyStructs,
+    ErrorKind::FoundBitListWhereStructListWasExpected,
+    ErrorKind::FoundStructListWhereBitListWasExpected,
+    ErrorKind::InlineCompositeListsElementsOverrunItsWordCount,
+    ErrorKind::InlineCompositeListsOfNonStructTypeAreNotSupported,
+    ErrorKind::InvalidSegmentId(0),
+    ErrorKind::MalformedDoubleFarPointer,
+    ErrorKind::MessageContainsListPointerOfNonBytesWhereDataWasExpected,
+    ErrorKind::MessageContainsListPointerOfNonBytesWhereTextWasExpected,
+    ErrorKind::MessageContainsListWithIncompatibleElementType,
+    ErrorKind::MessageContainsNonCapabilityPointerWhereCapabilityPointerWasExpected,
+    ErrorKind::MessageContainsNonListPointerWhereDataWasExpected,
+    ErrorKind::MessageContainsNonListPointerWhereListPointerWasExpected,
+    ErrorKind::MessageContainsNonListPointerWhereTextWasExpected,
+    ErrorKind::MessageContainsNonStructPointerWhereStructPointerWasExpected,
+    ErrorKind::MessageContainsNullCapabilityPointer,
+    ErrorKind::MessageContainsOutOfBoundsPointer,
+    ErrorKind::MessageContainsTextThatIsNotNULTerminated,
+    ErrorKind::MessageIsTooDeeplyNested,
+    ErrorKind::MessageIsTooDeeplyNestedOrContainsCycles,
+    ErrorKind::MessageTooLarge(0),
+    ErrorKind::NestingLimitExceeded,
+    ErrorKind::NoSuchPlace,
+    ErrorKind::ReadLimitExceeded,
+    ErrorKind::TextBlobMissingNULTerminator,
+    ErrorKind::TriedToReadFromNullArena,
+    ErrorKind::UnexpectedFarPointer,
+    ErrorKind::UnknownPointerType,
+];
+
+/// The reasons of faults, from the number 1 on.
+const REASONS: [CanonicalFaultReason; 14] = [
+    CanonicalFaultReason::SegmentCount,
+    CanonicalFaultReason::NoPointer,
+    CanonicalFaultReason::FarPointer,
+    CanonicalFaultReason::Capability,
+    CanonicalFaultReason::UnknownPointer,
+    CanonicalFaultReason::EmptyStructPlace,
+    CanonicalFaultReason::ObjectPlace,
+    CanonicalFaultReason::Padding,
+    CanonicalFaultReason::DataSection,
+    CanonicalFaultReason::PointerSection,
+    CanonicalFaultReason::ElementWords,
+    CanonicalFaultReason::ElementData,
+    CanonicalFaultReason::ElementPointers,
+    CanonicalFaultReason::WordsBehind,
+];
+
+/// A refusal with this number, if there is one.
+fn refusal_of(number: u32) -> Option<Refusal>
+    ensures same { IfSome result (λ r. (answer_number r ≡ number)
+        × ((other : Refusal) → answer_number other ≡ number → answer_name r ≡ answer_name other)) }
+    ensures none { IsNone result → (r : Refusal) → answer_number r ≡ number → ⊥ }
+{
+    match number {
+        1 => Some(Refusal::NoRoom(0)),
+        2 => Some(Refusal::NoMessage),
+        3 => Some(Refusal::SegmentIsNotWholeWords),
+        16..=22 => Some(Refusal::Frame(FRAME_ERRORS[number as usize - 16])),
+        32..=66 => Some(Refusal::Layout(KINDS[number as usize - 32])),
+        _ => None,
+    }
+}
+
+/// The name of the refusals with this number, empty where there is none.
+pub fn name_of_number(number: u32) -> &'static str
+    ensures { IsNameOf number result.now }
+{
+    match refusal_of(number) {
+        Some(refusal) => refusal.name(),
+        None => "",
+    }
+}
+
+/// What the reason with this number says, empty where there is none.
+pub fn text_of_reason(number: u32) -> &'static str
+    ensures { IsReasonText number result.now }
+{
+    match number {
+        1..=14 => REASONS[number as usize - 1].text(),
+        _ => "",
+    }
+}
+
+/// Puts a text to the front of a buffer, and a byte of zero behind it, as far as there is room. Gives
+/// the length of the text in bytes.
+pub fn put_text(text: &str, to: &mut [u8]) -> usize
+    ensures length { result ≡ length text.now }
+    ensures text { HoldsText text.now to.new }
+{
+    let bytes = text.as_bytes();
+    if !to.is_empty() {
+        let n = bytes.len().min(to.len() - 1);
+        to[..n].copy_from_slice(&bytes[..n]);
+        to[n] = 0;
+    }
+    bytes.len()
+}

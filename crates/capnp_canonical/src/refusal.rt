@@ -1,0 +1,130 @@
+//! Why a call is refused, by number and by name.
+ghost use Rattle.std.specs.Prelude.{◌≡◌, ◌<◌};
+ghost use Rattle.capnp_canonical.specs.Numbers.{frame_error_number, error_number, answer_name, answer_number, wanted_room};
+
+use capnp_framing::framing::FrameError;
+use capnp_words::error::ErrorKind;
+
+/// Why a call is refused.
+#[derive(Clone, Copy, Debug, PartialEq, Eq)]
+pub enum Refusal {
+    /// There is too little room; with how many bytes are wanted.
+    NoRoom(usize),
+    /// There are no bytes where a frame was to be.
+    NoMessage,
+    /// A segment that was given isn't of whole words.
+    SegmentIsNotWholeWords,
+    /// The bytes begin with no frame.
+    Frame(FrameError),
+    /// What the message means isn't copied, tested or measured.
+    Layout(ErrorKind),
+}
+
+impl Refusal {
+    /// Its number, which isn't 0.
+    pub fn number(self) -> u32
+        ensures number { result ≡ answer_number self }
+        ensures some { 0 < result }
+    {
+        match self {
+            Refusal::NoRoom(_) => 1,
+            Refusal::NoMessage => 2,
+            Refusal::SegmentIsNotWholeWords => 3,
+            Refusal::Frame(error) => frame_number(error),
+            Refusal::Layout(kind) => layout_number(kind),
+        }
+    }
+
+    /// Its name, without a number behind it.
+    pub fn name(&self) -> &'static str
+        ensures { result.now ≡ answer_name self.now }
+    {
+        match self {
+            Refusal::NoRoom(_) => "NoRoom",
+            Refusal::NoMessage => "NoMessage",
+            Refusal::SegmentIsNotWholeWords => "SegmentIsNotWholeWords",
+            Refusal::Frame(error) => error.name(),
+            Refusal::Layout(kind) => kind.name(),
+        }
+    }
+
+    /// How many bytes are wanted, where there is too little room; else 0.
+    pub fn wanted_room(self) -> usize
+        ensures { result ≡ wanted_room self }
+    {
+        match self {
+            Refusal::NoRoom(size) => size,
+            _ => 0,
+        }
+    }
+}
+
+impl From<ErrorKind> for Refusal {
+    ghost use Rattle.capnp_canonical.specs.declared.refusal.Refusal.TheVariants.{Layout};
+
+    ghost from_gives = { λ kind refusal. refusal ≡ Layout kind };
+
+    fn from(kind: ErrorKind) -> Self {
+        Refusal::Layout(kind)
+    }
+}
+
+/// The number of a frame's refusal.
+fn frame_number(error: FrameError) -> u32
+    ensures number { result ≡ frame_error_number error }
+    ensures some { 0 < result }
+{
+    match error {
+        FrameError::NoSegments => 16,
+        FrameError::TooManySegments(_) => 17,
+        FrameError::MessageTooLong(_) => 18,
+        FrameError::Truncated => 19,
+        FrameError::ReadFailed => 20,
+        FrameError::WriteFailed => 21,
+        FrameError::AllocationFailed => 22,
+    }
+}
+
+/// The number of a refusal of what a message means.
+fn layout_number(kind: ErrorKind) -> u32
+    ensures number { result ≡ error_number kind }
+    ensures some { 0 < result }
+{
+    match kind {
+        ErrorKind::AllocationFailed => 32,
+        ErrorKind::CannotCreateACanonicalMessageWithACapability => 33,
+        ErrorKind::CantHandleNonStructInlineComposite => 34,
+        ErrorKind::ExistingListPointerIsNotByteSized => 35,
+        ErrorKind::ExistingListValueIsIncompatibleWithExpectedType => 36,
+        ErrorKind::ExistingPointerIsNotAList => 37,
+        ErrorKind::ExpectedAPointerListButGotAListOfDataOnlyStructs => 38,
+        ErrorKind::ExpectedAPrimitiveListButGotAListOfPointerOnlyStructs => 39,
+        ErrorKind::FoundBitListWhereStructListWasExpected => 40,
+        ErrorKind::FoundStructListWhereBitListWasExpected => 41,
+        ErrorKind::InlineCompositeListsElementsOverrunItsWordCount => 42,
+        ErrorKind::InlineCompositeListsOfNonStructTypeAreNotSupported => 43,
+        ErrorKind::InvalidSegmentId(_) => 44,
+        ErrorKind::MalformedDoubleFarPointer => 45,
+        ErrorKind::MessageContainsListPointerOfNonBytesWhereDataWasExpected => 46,
+        ErrorKind::MessageContainsListPointerOfNonBytesWhereTextWasExpected => 47,
+        ErrorKind::MessageContainsListWithIncompatibleElementType => 48,
+        ErrorKind::MessageContainsNonCapabilityPointerWhereCapabilityPointerWasExpected => 49,
+        ErrorKind::MessageContainsNonListPointerWhereDataWasExpected => 50,
+        ErrorKind::MessageContainsNonListPointerWhereListPointerWasExpected => 51,
+        ErrorKind::MessageContainsNonListPointerWhereTextWasExpected => 52,
+        ErrorKind::MessageContainsNonStructPointerWhereStructPointerWasExpected => 53,
+        ErrorKind::MessageContainsNullCapabilityPointer => 54,
+        ErrorKind::MessageContainsOutOfBoundsPointer => 55,
+        ErrorKind::MessageContainsTextThatIsNotNULTerminated => 56,
+        ErrorKind::MessageIsTooDeeplyNested => 57,
+        ErrorKind::MessageIsTooDeeplyNestedOrContainsCycles => 58,
+        ErrorKind::MessageTooLarge(_) => 59,
+        ErrorKind::NestingLimitExceeded => 60,
+        ErrorKind::NoSuchPlace => 61,
+        ErrorKind::ReadLimitExceeded => 62,
+        ErrorKind::TextBlobMissingNULTerminator => 63,
+        ErrorKind::TriedToReadFromNullArena => 64,
+        ErrorKind::UnexpectedFarPointer => 65,
+        ErrorKind::UnknownPointerType => 66,
+    }
+}

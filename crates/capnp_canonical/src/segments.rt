@@ -1,0 +1,119 @@
+//! A message whose segments the caller has.
+ghost use Rattle.std.specs.Prelude.{◌≡◌, ◌⊎◌, ◌≤◌, map, length, take, IfOk, IfErr, OnErr};
+ghost use Rattle.capnp_arena.specs.Limits.{AreSmall, IsSmall};
+ghost use Rattle.capnp_layout.specs.CanonicalMessages.{IsCanonicalMessage};
+ghost use Rattle.capnp_streams.specs.Messages.{HasSizeOf};
+ghost use Rattle.capnp_streams.specs.declared.streams.task.Command.{Command};
+ghost use Rattle.capnp_canonical.specs.Calls.{AreWholeWords, InSegments, IsCopyOf, RefusesMeaning, RefusesRoom, RefusesSegments, TestFinds, lent_bytes, limits_of};
+
+use crate::calls::{copy, limits};
+use crate::refusal::Refusal;
+use capnp_arena::arena::{ReaderSegments, SegmentArray};
+use capnp_layout::framing::CanonicalFault;
+use capnp_readers::readers::MessageSize;
+use capnp_streams::messages::{canonical_fault_of, size_of};
+use capnp_streams::streams::Form;
+use capnp_words::error::ErrorKind;
+use std::alloc::Global;
+
+/// Segments of whole words, within the limits of a reader, where the caller has them.
+#[derive(Clone, Copy)]
+struct LentSegments<'a> {
+    segments: &'a [&'a [u8]],
+    ghost small: { IsSmall (map (λ s. s.now) segments.now) },
+}
+
+impl<'a> LentSegments<'a> {
+    /// The segments in this order.
+    fn new(segments: &'a [&'a [u8]]) -> Result<Self, Refusal>
+        ensures segments { IfOk result (λ lent.
+            ⟦<LentSegments<'static> as ReaderSegments>⟧.segments lent ≡ lent_bytes segments.now) }
+        ensures whole { IfOk result (λ lent. AreWholeWords segments.now × AreSmall segments.now) }
+        ensures refused { IfErr result (RefusesSegments segments.now) }
+    {
+        if !segments.iter().all(|s| s.len() % 8 == 0) {
+            return Err(Refusal::SegmentIsNotWholeWords);
+        }
+        if SegmentArray::new(segments).is_none() {
+            return Err(Refusal::Layout(ErrorKind::MessageTooLarge(usize::MAX)));
+        }
+        Ok(LentSegments { segments })
+    }
+}
+
+/// The same bytes. Where there are none the pointer may be null, as C has it, and that of the result
+/// isn't.
+fn without_null(bytes: &[u8]) -> &[u8]
+    ensures { result.now ≡ bytes.now }
+{
+    if bytes.is_empty() { &[] } else { bytes }
+}
+
+impl ReaderSegments for LentSegments<'_> {
+    ghost segments = { λ lent. map (λ s. s.now) lent.segments.now };
+
+    fn get_segment(&self, id: u32) -> Option<&[u8]> {
+        match self.segments.get(id as usize) {
+            Some(s) => Some(without_null(*s)),
+            None => None,
+        }
+    }
+
+    fn len(&self) -> usize {
+        self.segments.len()
+    }
+
+    fn is_empty(&self) -> bool {
+        self.segments.is_empty()
+    }
+}
+
+/// Puts the canonical message of what the segments mean to the front of a buffer, and gives its size
+/// in bytes.
+pub fn copy_segments(
+    alloc: Global,
+    form: Form,
+    segments: &[&[u8]],
+    nesting: i32,
+    words: u64,
+    to: &mut [u8],
+) -> Result<usize, Refusal>
+    ensures copied { IfOk result (λ n. InSegments segments.now
+        (λ S. IsCopyOf form (limits_of nesting words) S (take n to.new))) }
+    ensures within { IfOk result (λ n. n ≤ length to.new) }
+    ensures refused { IfErr result (λ r. RefusesSegments segments.now r
+        ⊎ InSegments segments.now
+        (λ S. RefusesRoom form (limits_of nesting words) (length to.old) S r)) }
+    ensures kept { OnErr result (to.new ≡ to.old) }
+{
+    let lent = LentSegments::new(segments)?;
+    copy(alloc, form, lent, limits(nesting, words), to)
+}
+
+/// Where and why the message of the segments isn't canonical, if it isn't.
+pub fn check_segments(
+    segments: &[&[u8]],
+    nesting: i32,
+    words: u64,
+) -> Result<Option<CanonicalFault>, Refusal>
+    ensures found { IfOk result (λ o. InSegments segments.now
+        (TestFinds (limits_of nesting words) o)) }
+    ensures refused { IfErr result (λ r. RefusesSegments segments.now r
+        ⊎ InSegments segments.now
+        (λ S. RefusesMeaning Command.Check (limits_of nesting words) S r)) }
+{
+    let lent = LentSegments::new(segments)?;
+    Ok(canonical_fault_of(lent, limits(nesting, words))?)
+}
+
+/// How large the message of the segments is.
+pub fn size_segments(segments: &[&[u8]], nesting: i32, words: u64) -> Result<MessageSize, Refusal>
+    ensures size { IfOk result (λ z. InSegments segments.now
+        (λ S. HasSizeOf S (limits_of nesting words) z.word_count z.cap_count)) }
+    ensures refused { IfErr result (λ r. RefusesSegments segments.now r
+        ⊎ InSegments segments.now
+        (λ S. RefusesMeaning Command.Size (limits_of nesting words) S r)) }
+{
+    let lent = LentSegments::new(segments)?;
+    Ok(size_of(lent, limits(nesting, words))?)
+}

@@ -1,0 +1,87 @@
+#!/bin/sh
+# c.sh PREFIX: the C example and the C test over the library that ./install put below PREFIX. A part whose tools aren't there
+# is skipped, which a line says. The last line is `N passed, M failed`.
+set -u
+here=$(cd "$(dirname "$0")" && pwd) || exit 2
+top=$here/../..
+prefix=${1:?usage: c.sh PREFIX}
+CC=${CC:-cc}
+PKG_CONFIG_PATH=$prefix/lib/pkgconfig
+export PKG_CONFIG_PATH
+folder=$(mktemp -d) || exit 2
+trap 'rm -rf "$folder"' EXIT
+passed=0 failed=0
+flags='-std=c99 -Wall -Wextra -Werror -O1 -g'
+
+# Counts a part by its exit status, and shows what it says where it failed.
+#
+#     part NAME COMMAND..
+part() {
+    name=$1
+    shift
+    if "$@" >"$folder/said" 2>&1; then
+        passed=$((passed + 1))
+        echo "$name: $(grep ' passed, ' "$folder/said" || echo passed)"
+    else
+        failed=$((failed + 1))
+        tail -n 20 "$folder/said"
+        echo "$name: failed"
+    fi
+}
+
+has() {
+    command -v "$1" >/dev/null || { echo "skipped, since $1 isn't there: $2"; return 1; }
+}
+
+# Builds a source against the library.
+#
+#     build OUTPUT SOURCE WHICH FLAG..    WHICH is static or shared
+build() {
+    output=$folder/$1 source=$top/$2 which=$3
+    shift 3
+    case $which in
+    static) library=$(pkg-config --variable=libdir capnp_canonical)/libcapnp_canonical.a ;;
+    shared) library="$(pkg-config --libs capnp_canonical) -Wl,-rpath,$prefix/lib" ;;
+    esac
+    "$CC" $flags "$@" $(pkg-config --cflags capnp_canonical) -o "$output" "$source" $library
+}
+
+# Each message of the data file that is copied, through the example and through C++ Cap'n Proto.
+example() {
+    grep -v '^#' "$here/messages.txt" | while read -r name frame copy flat rest; do
+        [ "$copy" = Done ] || continue
+        printf %s "$frame" | xxd -r -p >"$folder/frame"
+        printf %s "$flat" | xxd -r -p >"$folder/flat"
+        "$folder/$1" <"$folder/frame" | cmp - "$folder/flat" || exit 1
+        if command -v capnp >/dev/null; then
+            capnp convert --quiet binary:canonical <"$folder/frame" | cmp - "$folder/flat" || exit 1
+        fi
+    done
+}
+
+# No name of the shared library is visible but those of the header.
+names() {
+    sed -n 's/^[a-z].* \(capnp_canonical_[a-z_]*\)(.*/\1/p' "$top/c/capnp_canonical.h" | sort >"$folder/declared"
+    nm -D --defined-only "$prefix/lib/libcapnp_canonical.so" | awk '$2 == "T" { sub("@.*", "", $3); print $3 }' | sort | cmp - "$folder/declared" \
+        && nm -g --defined-only "$prefix/lib/libcapnp_canonical.a" | awk '$2 == "T" { print $3 }' | sort | cmp - "$folder/declared"
+}
+
+has "$CC" "all of it" && has pkg-config "all of it" || { echo "0 passed, 0 failed"; exit 0; }
+part "names" names
+for which in static shared; do
+    part "example, $which, built" build "example_$which" c/example.c "$which"
+    has xxd "the examples' answers" && part "example, $which" example "example_$which"
+    part "test, $which, built" build "test_$which" tests/library/test.c "$which"
+    part "test, $which" "$folder/test_$which" "$here/messages.txt"
+done
+part "test with the address sanitizer, built" build sanitized tests/library/test.c static -fsanitize=address,undefined -fno-sanitize-recover
+part "test with the address sanitizer" "$folder/sanitized" "$here/messages.txt"
+part "test where malloc refuses, built" build refusing tests/library/test.c static -DWRAP -Wl,--wrap=malloc -Wl,--wrap=realloc
+part "test where malloc refuses" "$folder/refusing" "$here/messages.txt"
+if has valgrind "the example and the test under it"; then
+    grep -v '^#' "$here/messages.txt" | awk '$3 == "Done" { printf "%s", $2 }' | xxd -r -p >"$folder/stream"
+    part "example under valgrind" sh -c "valgrind -q --error-exitcode=9 --leak-check=full --show-leak-kinds=all '$folder/example_shared' <'$folder/stream' >/dev/null"
+    part "test under valgrind" valgrind -q --error-exitcode=9 --leak-check=full --show-leak-kinds=all "$folder/test_shared" "$here/messages.txt"
+fi
+echo "$passed passed, $failed failed"
+[ $failed = 0 ]

@@ -1,0 +1,240 @@
+// Tests of capnp_canonical.hpp, without Cap'n Proto's own headers.
+//
+//     messages FILE    the messages of messages.txt; a line `ok: NAME` or `FAILED: NAME: WHAT` for each test
+#include "capnp_canonical.hpp"
+
+#include <array>
+#include <cstdio>
+#include <cstdlib>
+#include <fstream>
+#include <functional>
+#include <sstream>
+#include <stdexcept>
+#include <string>
+#include <string_view>
+#include <vector>
+#if __cplusplus >= 202002L
+#include <ranges>
+#include <span>
+static_assert(std::ranges::input_range<capnp_canonical::Frames>);
+#endif
+
+using capnp_canonical::Bytes;
+using capnp_canonical::Error;
+using capnp_canonical::Segments;
+using Vector = std::vector<std::uint8_t>;
+
+bool failed = false;
+
+void test(const std::string& name, const std::function<void()>& body) {
+    try {
+        body();
+        printf("ok: %s\n", name.c_str());
+    } catch (const std::exception& error) {
+        printf("FAILED: %s: %s\n", name.c_str(), error.what());
+        failed = true;
+    }
+}
+
+void require(bool holds, const std::string& what) {
+    if (!holds) throw std::logic_error(what);
+}
+
+void require_same(const std::string& what, const std::string& got, const std::string& wanted) {
+    require(got == wanted, what + " gives " + got + ", and " + wanted + " is wanted");
+}
+
+Vector bytes_of(const std::string& digits) {
+    Vector bytes;
+    if (digits == "-") return bytes;
+    for (std::size_t at = 0; at < digits.size(); at += 2) {
+        bytes.push_back(std::uint8_t(std::stoi(digits.substr(at, 2), nullptr, 16)));
+    }
+    return bytes;
+}
+
+std::string digits_of(const Vector& bytes) {
+    std::string digits;
+    for (std::uint8_t byte : bytes) {
+        char two[3];
+        snprintf(two, sizeof two, "%02x", byte);
+        digits += two;
+    }
+    return digits.empty() ? "-" : digits;
+}
+
+std::uint32_t number_at(const Vector& bytes, std::size_t at) {
+    std::uint32_t number = 0;
+    for (std::size_t i = 4; i-- > 0;) number = number << 8 | bytes[at + i];
+    return number;
+}
+
+// A frame of one segment.
+Vector framed(const Vector& words) {
+    Vector frame(8);
+    for (std::size_t i = 0; i < 4; i++) frame[4 + i] = std::uint8_t(words.size() / 8 >> 8 * i);
+    frame.insert(frame.end(), words.begin(), words.end());
+    return frame;
+}
+
+// The segments of a whole frame.
+Segments segments_in(const Vector& frame) {
+    std::size_t count = number_at(frame, 0) + std::size_t(1), at = (4 + 4 * count + 7) / 8 * 8;
+    Segments segments;
+    for (std::size_t id = 0; id < count; id++) {
+        std::size_t size = number_at(frame, 4 + 4 * id) * std::size_t(8);
+        segments.add({frame.data() + at, size});
+        at += size;
+    }
+    return segments;
+}
+
+// What a call gives as text, or the name of its refusal.
+std::string answer(const std::function<std::string()>& call) {
+    try {
+        return call();
+    } catch (const Error& error) {
+        return error.name();
+    }
+}
+
+template <typename Message>
+void require_answers(const Message& message, const std::string& copy, const std::string& flat, const std::string& check,
+                     const std::string& size) {
+    std::string words = copy == "Done" ? flat : copy;
+    std::string frame = copy == "Done" ? digits_of(framed(bytes_of(flat))) : copy;
+    require_same("copy", answer([&] { return digits_of(capnp_canonical::copy(message)); }), frame);
+    require_same("copy_flat", answer([&] { return digits_of(capnp_canonical::copy_flat(message)); }), words);
+    require_same("check", answer([&] {
+                     auto fault = capnp_canonical::check(message);
+                     if (!fault) return std::string("yes");
+                     return std::to_string(fault->reason) + "," + std::to_string(fault->segment) + "," +
+                            std::to_string(fault->word);
+                 }), check);
+    require_same("size", answer([&] {
+                     auto measured = capnp_canonical::size(message);
+                     return std::to_string(measured.words) + "," + std::to_string(measured.capabilities);
+                 }), size);
+}
+
+void test_messages(const char* path) {
+    std::ifstream file(path);
+    int count = 0;
+    for (std::string line; std::getline(file, line);) {
+        if (line.empty() || line[0] == '#') continue;
+        std::string name, digits, copy, flat, check, size;
+        std::istringstream(line) >> name >> digits >> copy >> flat >> check >> size;
+        Vector frame = bytes_of(digits);
+        count++;
+        test(name, [&] { require_answers(Bytes(frame), copy, flat, check, size); });
+        if (copy == "Truncated" || copy == "NoMessage") continue;
+        test(name + " by its segments", [&] { require_answers(segments_in(frame), copy, flat, check, size); });
+    }
+    test("ten messages", [&] { require(count == 10, std::to_string(count) + " messages"); });
+}
+
+// A struct of three words, of which the last is zero.
+const Vector ZERO_WORD = bytes_of("000000000400000000000000030000001111111111111111ffffffffffffffff0000000000000000");
+const Vector ZERO_WORD_FLAT = bytes_of("00000000020000001111111111111111ffffffffffffffff");
+// Two pointers to one text of 16 bytes: its canonical form has two texts, and is longer.
+const Vector SHARED =
+    bytes_of("0000000005000000000000000000020005000000820000000100000082000000"
+             "61626364656667686162636465666700");
+const Vector SHARED_FLAT =
+    bytes_of("00000000000002000500000082000000090000008200000061626364656667686162636465666700"
+             "61626364656667686162636465666700");
+
+void test_ranges() {
+    const auto& whole = ZERO_WORD;
+    require(capnp_canonical::copy_flat(whole) == ZERO_WORD_FLAT, "a vector");
+    require(capnp_canonical::copy_flat({whole.data(), whole.size()}) == ZERO_WORD_FLAT, "a pointer and a size");
+    std::string text(whole.begin(), whole.end());
+    require(capnp_canonical::copy_flat(text) == ZERO_WORD_FLAT, "a string");
+    require(capnp_canonical::copy_flat(std::string_view(text)) == ZERO_WORD_FLAT, "a string_view");
+    std::array<std::byte, 41> odd = {};
+    for (std::size_t i = 0; i < whole.size(); i++) odd[i + 1] = std::byte(whole[i]);
+    require(capnp_canonical::copy_flat({odd.data() + 1, 40}) == ZERO_WORD_FLAT, "an odd address");
+#ifdef __cpp_lib_span
+    std::span<const std::byte> behind = std::span<const std::byte>(odd).subspan(1);
+    require(capnp_canonical::copy_flat(behind) == ZERO_WORD_FLAT, "a span of std::byte");
+    require(capnp_canonical::copy_flat(std::span<const std::uint8_t>(whole)) == ZERO_WORD_FLAT, "a span of uint8_t");
+    require(capnp_canonical::copy_flat(std::span<std::byte>(odd).subspan<1>()) == ZERO_WORD_FLAT, "a span of fixed size");
+#endif
+}
+
+void test_segments() {
+    Bytes words(ZERO_WORD.data() + 8, 32);
+    require(capnp_canonical::copy_flat(Segments{words}) == ZERO_WORD_FLAT, "one segment");
+    require(capnp_canonical::copy_flat(Segments{words, {}}) == ZERO_WORD_FLAT, "an empty segment behind it");
+    require_same("no segment", answer([] { return digits_of(capnp_canonical::copy(Segments())); }), "InvalidSegmentId");
+    require_same("half a word", answer([&] { return digits_of(capnp_canonical::copy(Segments{{words.data(), 28}})); }),
+                 "SegmentIsNotWholeWords");
+}
+
+void test_longer_copies() {
+    require(capnp_canonical::copy_flat(SHARED) == SHARED_FLAT, "flat");
+    require(capnp_canonical::copy(SHARED) == framed(SHARED_FLAT), "framed");
+    require(capnp_canonical::copy_flat(segments_in(SHARED)) == SHARED_FLAT, "flat, by segments");
+    require(capnp_canonical::copy(segments_in(SHARED)) == framed(SHARED_FLAT), "framed, by segments");
+}
+
+void test_limits() {
+    require(capnp_canonical::copy_flat(ZERO_WORD, {2, 4}) == ZERO_WORD_FLAT, "limits that are met");
+    require_same("a frame beyond the limit", answer([] { return digits_of(capnp_canonical::copy(ZERO_WORD, {2, 3})); }),
+                 "MessageTooLong");
+    require_same("no level", answer([] { return digits_of(capnp_canonical::copy(ZERO_WORD, {0, 4})); }),
+                 "MessageIsTooDeeplyNestedOrContainsCycles");
+    require_same("words read twice", answer([] { return digits_of(capnp_canonical::copy(SHARED, {64, 6})); }),
+                 "ReadLimitExceeded");
+}
+
+void test_faults() {
+    auto fault = capnp_canonical::check(ZERO_WORD);
+    require(fault.has_value(), "no fault");
+    require(fault->reason == CAPNP_CANONICAL_REASON_DATA_SECTION, "another reason");
+    require_same("text", fault->text(), "a data section whose last word is zero at segment 0, word 3");
+    require(!capnp_canonical::check(capnp_canonical::copy(ZERO_WORD)), "a fault of a canonical message");
+}
+
+void test_frames() {
+    Vector stream = ZERO_WORD;
+    stream.insert(stream.end(), SHARED.begin(), SHARED.end());
+    std::vector<std::size_t> sizes;
+    for (Bytes frame : capnp_canonical::Frames(stream)) sizes.push_back(frame.size());
+    require(sizes == std::vector<std::size_t>{ZERO_WORD.size(), SHARED.size()}, "two frames");
+    require(capnp_canonical::frame_size(stream) == ZERO_WORD.size(), "the first");
+    for (Bytes frame : capnp_canonical::Frames(Bytes())) require(frame.empty(), "a frame of no bytes");
+    stream.pop_back();
+    std::size_t count = 0;
+    require_same("a stream that is cut", answer([&] {
+                     for (Bytes frame : capnp_canonical::Frames(stream)) count += !frame.empty();
+                     return std::string("no refusal");
+                 }), "Truncated");
+    require(count == 1, "the frame before the cut");
+}
+
+void test_errors() {
+    try {
+        capnp_canonical::copy(Bytes());
+        require(false, "no refusal");
+    } catch (const Error& error) {
+        require(error.number() == CAPNP_CANONICAL_NO_MESSAGE, "another number");
+        require_same("what", error.what(), "NoMessage");
+        require_same("name", error.name(), "NoMessage");
+    }
+    require_same("a number without a name", Error(1000000).name(), "");
+}
+
+int main(int count, char** words) {
+    if (count != 2) return 2;
+    test_messages(words[1]);
+    test("ranges of bytes", test_ranges);
+    test("segments", test_segments);
+    test("copies that are longer than their message", test_longer_copies);
+    test("limits", test_limits);
+    test("faults", test_faults);
+    test("frames of a stream", test_frames);
+    test("errors", test_errors);
+    test("version", [] { require(capnp_canonical::version() == CAPNP_CANONICAL_VERSION, "another than the header's"); });
+    return failed ? 1 : 0;
+}

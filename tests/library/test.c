@@ -1,0 +1,452 @@
+/* Calls each function of the library with the messages of a file (see its top), whole, cut short everywhere and with each
+ * bit turned, and with buffers of each length; and with malloc refusing each time in turn where it is linked so.
+ *
+ *     test FILE
+ *
+ * Each buffer is a block of the heap of its very size, so that valgrind and the address sanitizer see any byte too many. The
+ * last line is `N passed, M failed`: a count is one comparison. */
+#include "capnp_canonical.h"
+#include <stdio.h>
+#include <stdlib.h>
+#include <string.h>
+
+enum { MOST_SEGMENTS = 512, FILL = 0xa5 };
+static const int32_t NESTING = CAPNP_CANONICAL_NESTING;
+static const uint64_t WORDS = CAPNP_CANONICAL_WORDS;
+static unsigned long passed, failed;
+static const char *place = "";
+
+struct bytes {
+    uint8_t *at;
+    size_t size;
+};
+
+/* A message of the file. */
+struct message {
+    char name[64], copy[96], check[96], size[96];
+    struct bytes frame, flat;
+};
+
+/* A message's segments, each a block of the heap, and their number. */
+struct parts {
+    struct capnp_canonical_segment at[MOST_SEGMENTS];
+    size_t count;
+};
+
+/* One of the two copies, of a frame or of segments. */
+struct copier {
+    const char *name;
+    int flat;
+    struct bytes frame;
+    const struct parts *parts;
+};
+
+static void expect(int holds, const char *what) {
+    if (holds) {
+        passed++;
+    } else {
+        failed++;
+        printf("%s: %s\n", place, what);
+    }
+}
+
+#ifdef WRAP
+/* How many blocks are given before one is refused; none is where it is negative. */
+static long blocks = -1;
+void *__real_malloc(size_t size);
+void *__real_realloc(void *block, size_t size);
+
+static int is_refused(void) { return blocks >= 0 && blocks-- == 0; }
+void *__wrap_malloc(size_t size) { return is_refused() ? NULL : __real_malloc(size); }
+void *__wrap_realloc(void *block, size_t size) { return is_refused() ? NULL : __real_realloc(block, size); }
+#endif
+
+/* A block of its very size; null where that is 0. */
+static struct bytes block(size_t size) {
+    struct bytes made = {size ? malloc(size) : NULL, size};
+    if (size && !made.at) abort();
+    if (size) memset(made.at, FILL, size);
+    return made;
+}
+
+static struct bytes copy_of(const uint8_t *from, size_t size) {
+    struct bytes made = block(size);
+    if (size) memcpy(made.at, from, size);
+    return made;
+}
+
+static int is_filled(struct bytes of) {
+    for (size_t i = 0; i < of.size; i++) {
+        if (of.at[i] != FILL) return 0;
+    }
+    return 1;
+}
+
+static int are_same(const uint8_t *one, size_t size, struct bytes other) {
+    return size == other.size && (size == 0 || memcmp(one, other.at, size) == 0);
+}
+
+static int is_named(uint32_t answer, const char *name) {
+    char text[CAPNP_CANONICAL_TEXT_ROOM];
+    capnp_canonical_name(answer, text, sizeof text);
+    return answer == CAPNP_CANONICAL_DONE ? strcmp(name, "Done") == 0 : strcmp(text, name) == 0;
+}
+
+static uint32_t number_at(const uint8_t *from) { return from[0] | from[1] << 8 | from[2] << 16 | (uint32_t)from[3] << 24; }
+
+/* The segments of a whole frame, each at an odd address of a block of its own where `odd` is 1. */
+static void take_apart(struct bytes frame, struct parts *parts, int odd) {
+    parts->count = number_at(frame.at) + 1;
+    const uint8_t *from = frame.at + 8 * ((parts->count + 2) / 2);
+    for (size_t i = 0; i < parts->count; i++) {
+        size_t size = 8 * (size_t)number_at(frame.at + 4 + 4 * i);
+        struct bytes made = block(size ? size + odd : 0);
+        if (size) memcpy(made.at + odd, from, size);
+        parts->at[i].bytes = size ? made.at + odd : NULL;
+        parts->at[i].size = size;
+        from += size;
+    }
+}
+
+static void let_go(struct parts *parts, int odd) {
+    for (size_t i = 0; i < parts->count; i++) {
+        if (parts->at[i].bytes) free((uint8_t *)parts->at[i].bytes - odd);
+    }
+}
+
+static uint32_t copied(const struct copier *by, struct bytes to, size_t *written) {
+    *written = SIZE_MAX;
+    if (by->parts) {
+        return by->flat ? capnp_canonical_segments_copy_flat(by->parts->at, by->parts->count, NESTING, WORDS, to.at, to.size, written)
+                        : capnp_canonical_segments_copy(by->parts->at, by->parts->count, NESTING, WORDS, to.at, to.size, written);
+    }
+    return by->flat ? capnp_canonical_copy_flat(by->frame.at, by->frame.size, NESTING, WORDS, to.at, to.size, written)
+                    : capnp_canonical_copy(by->frame.at, by->frame.size, NESTING, WORDS, to.at, to.size, written);
+}
+
+/* A buffer of each length up to the answer's, and one beyond it. Gives the answer. */
+static uint32_t copy_in_each_room(const struct copier *by, struct bytes wanted) {
+    size_t written;
+    uint32_t answer = CAPNP_CANONICAL_NO_ROOM;
+    for (size_t room = 0; room <= wanted.size + 1; room++) {
+        struct bytes to = block(room);
+        answer = copied(by, to, &written);
+        if (answer == CAPNP_CANONICAL_DONE) {
+            expect(room >= wanted.size && are_same(to.at, written, wanted), by->name);
+            expect(room == written || to.at[written] == FILL, "what stands behind a copy is written");
+        } else {
+            expect(is_filled(to), "a refused copy is written");
+            expect(written == (answer == CAPNP_CANONICAL_NO_ROOM ? wanted.size : 0), "the room that is wanted");
+        }
+        free(to.at);
+    }
+    return answer;
+}
+
+/* The frame of one segment of these words. */
+static struct bytes framed(struct bytes flat) {
+    struct bytes made = block(8 + flat.size);
+    memset(made.at, 0, 8);
+    for (int i = 0; i < 4; i++) made.at[4 + i] = (uint8_t)(flat.size / 8 >> 8 * i);
+    if (flat.size) memcpy(made.at + 8, flat.at, flat.size);
+    return made;
+}
+
+static void test_copies(const struct message *of, const struct parts *parts) {
+    struct bytes none = {NULL, 0}, frame = of->flat.size ? framed(of->flat) : none;
+    struct copier plain = {"the copy", 0, of->frame, parts}, flat = {"the flat copy", 1, of->frame, parts};
+    expect(is_named(copy_in_each_room(&plain, frame), of->copy), "the answer of the copy");
+    expect(is_named(copy_in_each_room(&flat, of->flat), of->copy), "the answer of the flat copy");
+    free(frame.at);
+}
+
+static uint32_t checked(struct bytes frame, const struct parts *parts, bool *holds, struct capnp_canonical_fault *fault) {
+    *holds = true;
+    memset(fault, FILL, sizeof *fault);
+    return parts ? capnp_canonical_segments_check(parts->at, parts->count, NESTING, WORDS, holds, fault)
+                 : capnp_canonical_check(frame.at, frame.size, NESTING, WORDS, holds, fault);
+}
+
+static void test_check(const struct message *of, const struct parts *parts) {
+    bool holds;
+    struct capnp_canonical_fault fault;
+    uint32_t answer = checked(of->frame, parts, &holds, &fault);
+    char told[96];
+    snprintf(told, sizeof told, "%u,%llu,%u", (unsigned)fault.reason, (unsigned long long)fault.segment, (unsigned)fault.word);
+    int yes = strcmp(of->check, "yes") == 0, no = strchr(of->check, ',') != NULL;
+    expect(yes || no ? answer == CAPNP_CANONICAL_DONE : is_named(answer, of->check), "the answer of the check");
+    expect(holds == yes, "whether it is canonical");
+    expect(strcmp(told, no ? of->check : "0,0,0") == 0, "the fault");
+}
+
+static uint32_t sized(struct bytes frame, const struct parts *parts, uint64_t *words, uint32_t *caps) {
+    *words = UINT64_MAX, *caps = UINT32_MAX;
+    return parts ? capnp_canonical_segments_size(parts->at, parts->count, NESTING, WORDS, words, caps)
+                 : capnp_canonical_size(frame.at, frame.size, NESTING, WORDS, words, caps);
+}
+
+static void test_size(const struct message *of, const struct parts *parts) {
+    uint64_t words;
+    uint32_t caps;
+    uint32_t answer = sized(of->frame, parts, &words, &caps);
+    char told[96];
+    snprintf(told, sizeof told, "%llu,%u", (unsigned long long)words, (unsigned)caps);
+    int done = strchr(of->size, ',') != NULL;
+    expect(done ? answer == CAPNP_CANONICAL_DONE : is_named(answer, of->size), "the answer of the size");
+    expect(strcmp(told, done ? of->size : "0,0") == 0, "the size");
+    if (done && of->flat.size) expect(of->flat.size <= 8 + 8 * words, "the room that the size says is enough");
+}
+
+/* The size of the frame, with bytes behind it. */
+static void test_frame_size(const struct message *of) {
+    struct bytes more = block(of->frame.size + 5);
+    size_t size = 0;
+    memcpy(more.at, of->frame.at, of->frame.size);
+    expect(capnp_canonical_frame_size(more.at, more.size, WORDS, &size) == CAPNP_CANONICAL_DONE && size == of->frame.size, "the size of the frame");
+    uint64_t words = of->frame.size / 8;
+    expect(capnp_canonical_frame_size(more.at, more.size, words, &size) == CAPNP_CANONICAL_DONE, "a frame within the limit");
+    free(more.at);
+}
+
+/* Each of the calls on a frame that is cut short anywhere. */
+static void test_cuts(struct bytes frame) {
+    for (size_t size = 0; size < frame.size; size++) {
+        uint32_t wanted = size ? CAPNP_CANONICAL_TRUNCATED : CAPNP_CANONICAL_NO_MESSAGE;
+        struct bytes cut = copy_of(frame.at, size), to = block(64), none = {NULL, 0};
+        struct copier plain = {"", 0, cut, NULL}, flat = {"", 1, cut, NULL};
+        size_t written, taken = SIZE_MAX;
+        bool holds;
+        struct capnp_canonical_fault fault;
+        uint64_t words;
+        uint32_t caps;
+        expect(copied(&plain, to, &written) == wanted && written == 0, "a frame cut short is copied");
+        expect(copied(&flat, none, &written) == wanted && written == 0, "a frame cut short is copied flat");
+        expect(checked(cut, NULL, &holds, &fault) == wanted && !holds && !fault.reason, "a frame cut short is tested");
+        expect(sized(cut, NULL, &words, &caps) == wanted && !words && !caps, "a frame cut short is measured");
+        expect(capnp_canonical_frame_size(cut.at, size, WORDS, &taken) == wanted && !taken, "a frame cut short has a size");
+        expect(is_filled(to), "a refused copy is written");
+        free(cut.at);
+        free(to.at);
+    }
+}
+
+/* What stands after a copy of any bytes: it is canonical, its own copy, and within the room that the size says. */
+static void test_copied(const struct copier *by, struct bytes to, size_t written) {
+    struct bytes made = by->flat ? framed((struct bytes){to.at, written}) : copy_of(to.at, written), again = block(made.size);
+    bool holds, was;
+    struct capnp_canonical_fault fault;
+    uint64_t words;
+    uint32_t caps;
+    size_t size;
+    struct copier second = {"", 0, made, NULL};
+    expect(checked(made, NULL, &holds, &fault) == CAPNP_CANONICAL_DONE && holds && !fault.reason, "a copy isn't canonical");
+    expect(copied(&second, again, &size) == CAPNP_CANONICAL_DONE && are_same(again.at, size, made), "a copy isn't its own");
+    if (sized(by->frame, by->parts, &words, &caps) == CAPNP_CANONICAL_DONE) expect(made.size <= 16 + 8 * words, "the size is too small");
+    if (!by->parts && checked(by->frame, NULL, &was, &fault) == CAPNP_CANONICAL_DONE) {
+        size_t taken = 0;
+        capnp_canonical_frame_size(by->frame.at, by->frame.size, WORDS, &taken);
+        int same = taken == made.size && memcmp(by->frame.at + 8, made.at + 8, taken - 8) == 0;
+        expect(was == (same && number_at(by->frame.at) == 0), "the check isn't whether the copy is the same");
+        expect(was == (fault.reason == CAPNP_CANONICAL_REASON_NONE), "there is no fault, or one too many");
+    }
+    free(made.at);
+    free(again.at);
+}
+
+/* Each of the calls on any bytes. */
+static void test_any(struct bytes frame, const struct parts *parts) {
+    for (int flat = 0; flat < 2; flat++) {
+        struct copier by = {"", flat, frame, parts};
+        struct bytes to = block(frame.size + 64);
+        size_t written;
+        uint32_t answer = copied(&by, to, &written);
+        if (answer == CAPNP_CANONICAL_DONE) {
+            test_copied(&by, to, written);
+        } else {
+            expect(is_filled(to), "a refused copy is written");
+            expect((answer == CAPNP_CANONICAL_NO_ROOM) == (written != 0), "the room that is wanted");
+        }
+        free(to.at);
+    }
+    bool holds;
+    struct capnp_canonical_fault fault;
+    uint64_t words;
+    uint32_t caps;
+    uint32_t check = checked(frame, parts, &holds, &fault), size = sized(frame, parts, &words, &caps);
+    expect(check == CAPNP_CANONICAL_DONE ? holds == !fault.reason : !holds && !fault.reason, "what the check says");
+    expect(size == CAPNP_CANONICAL_DONE || (!words && !caps), "what the size says");
+}
+
+/* Each bit turned, of the frame and of its segments. */
+static void test_bits(struct bytes frame) {
+    struct bytes turned = copy_of(frame.at, frame.size);
+    struct parts parts;
+    take_apart(frame, &parts, 1);
+    for (size_t bit = 0; bit < 8 * frame.size; bit++) {
+        turned.at[bit / 8] ^= 1 << bit % 8;
+        test_any(turned, NULL);
+        turned.at[bit / 8] ^= 1 << bit % 8;
+    }
+    for (size_t i = 0; i < parts.count; i++) {
+        for (size_t bit = 0; bit < 8 * parts.at[i].size; bit++) {
+            uint8_t *at = (uint8_t *)parts.at[i].bytes + bit / 8;
+            *at ^= 1 << bit % 8;
+            test_any(frame, &parts);
+            *at ^= 1 << bit % 8;
+        }
+    }
+    let_go(&parts, 1);
+    free(turned.at);
+}
+
+/* A segment that isn't of whole words is refused by each call. */
+static void test_parts_of_words(struct parts *parts) {
+    struct bytes none = {NULL, 0}, to = block(64);
+    struct copier plain = {"", 0, none, parts}, flat = {"", 1, none, parts};
+    uint32_t wanted = CAPNP_CANONICAL_SEGMENT_IS_NOT_WHOLE_WORDS;
+    for (size_t i = 0; i < parts->count; i++) {
+        size_t whole = parts->at[i].size, written;
+        for (size_t less = 1; whole && less < 8; less++) {
+            bool holds;
+            struct capnp_canonical_fault fault;
+            uint64_t words;
+            uint32_t caps;
+            parts->at[i].size = whole - less;
+            expect(copied(&plain, to, &written) == wanted && !written, "a part of a word is copied");
+            expect(copied(&flat, to, &written) == wanted && !written, "a part of a word is copied flat");
+            expect(checked(none, parts, &holds, &fault) == wanted && !holds, "a part of a word is tested");
+            expect(sized(none, parts, &words, &caps) == wanted && !words, "a part of a word is measured");
+        }
+        parts->at[i].size = whole;
+    }
+    expect(is_filled(to), "a refused copy is written");
+    free(to.at);
+}
+
+#ifdef WRAP
+/* Each block refused in turn: the copy is refused, and nothing is written, until no more are asked for. */
+static void test_memory(const struct message *of) {
+    struct bytes to = block(of->flat.size);
+    struct copier flat = {"", 1, of->frame, NULL};
+    size_t written;
+    uint32_t answer = CAPNP_CANONICAL_ALLOCATION_FAILED;
+    for (long n = 0; n < 64 && answer == CAPNP_CANONICAL_ALLOCATION_FAILED; n++) {
+        blocks = n;
+        answer = copied(&flat, to, &written);
+        blocks = -1;
+        if (n == 0) expect(answer == CAPNP_CANONICAL_ALLOCATION_FAILED, "a copy takes no memory");
+        if (answer) expect(is_filled(to) && !written, "a copy without memory is written");
+    }
+    expect(answer == CAPNP_CANONICAL_DONE && are_same(to.at, written, of->flat), "a copy with memory");
+    free(to.at);
+}
+#endif
+
+static void test_message(const struct message *of) {
+    static struct parts parts;
+    place = of->name;
+    test_copies(of, NULL);
+    test_check(of, NULL);
+    test_size(of, NULL);
+    if (strcmp(of->copy, "Truncated") == 0 || of->frame.size == 0) return;
+    test_frame_size(of);
+    for (int odd = 0; odd < 2; odd++) {
+        take_apart(of->frame, &parts, odd);
+        test_copies(of, &parts);
+        test_check(of, &parts);
+        test_size(of, &parts);
+        test_parts_of_words(&parts);
+        let_go(&parts, odd);
+    }
+    test_cuts(of->frame);
+    test_bits(of->frame);
+#ifdef WRAP
+    if (of->flat.size) test_memory(of);
+#endif
+}
+
+/* A text is written as snprintf writes it, in a buffer of each length. */
+static void test_text(size_t (*text)(uint32_t, char *, size_t), uint32_t number, const char *wanted) {
+    size_t length = strlen(wanted);
+    for (size_t room = 0; room <= length + 3; room++) {
+        struct bytes to = block(room);
+        size_t fits = length < room ? length : room - 1;
+        expect(text(number, (char *)to.at, room) == length, "the length of a text");
+        if (room) expect(memcmp(to.at, wanted, fits) == 0 && to.at[fits] == 0, "a text");
+        if (room > fits + 1) expect(to.at[fits + 1] == FILL, "what stands behind a text is written");
+        free(to.at);
+    }
+}
+
+static size_t version_text(uint32_t number, char *to, size_t room) {
+    (void)number;
+    return capnp_canonical_version_text(to, room);
+}
+
+static void test_texts(void) {
+    place = "texts";
+    test_text(capnp_canonical_name, CAPNP_CANONICAL_NO_ROOM, "NoRoom");
+    test_text(capnp_canonical_name, CAPNP_CANONICAL_TRUNCATED, "Truncated");
+    test_text(capnp_canonical_name, CAPNP_CANONICAL_UNKNOWN_POINTER_TYPE, "UnknownPointerType");
+    test_text(capnp_canonical_name, CAPNP_CANONICAL_DONE, "");
+    test_text(capnp_canonical_name, 15, "");
+    test_text(capnp_canonical_name, UINT32_MAX, "");
+    test_text(capnp_canonical_reason_text, CAPNP_CANONICAL_REASON_PADDING, "padding that isn't zero");
+    test_text(capnp_canonical_reason_text, CAPNP_CANONICAL_REASON_WORDS_BEHIND, "words behind the value");
+    test_text(capnp_canonical_reason_text, CAPNP_CANONICAL_REASON_NONE, "");
+    test_text(capnp_canonical_reason_text, 15, "");
+    test_text(version_text, 0, CAPNP_CANONICAL_VERSION_TEXT);
+    expect(capnp_canonical_version() == CAPNP_CANONICAL_VERSION, "the version");
+    for (uint32_t number = 0; number < 100; number++) expect(capnp_canonical_name(number, NULL, 0) < CAPNP_CANONICAL_TEXT_ROOM, "the room for texts");
+}
+
+/* No segments; and limits that are met. */
+static void test_limits(void) {
+    place = "limits";
+    static const uint8_t message[] = {0, 0, 0, 0, 2, 0, 0, 0, 0, 0, 0, 0, 1, 0, 0, 0, 5, 0, 0, 0, 0, 0, 0, 0};
+    struct parts none = {.count = 0};
+    struct bytes no_bytes = {NULL, 0}, frame = copy_of(message, sizeof message);
+    size_t size;
+    struct copier empty = {"", 0, no_bytes, &none};
+    expect(copied(&empty, no_bytes, &size) == CAPNP_CANONICAL_INVALID_SEGMENT_ID, "no segments");
+    expect(capnp_canonical_segments_copy(NULL, 0, NESTING, WORDS, NULL, 0, &size) == CAPNP_CANONICAL_INVALID_SEGMENT_ID, "no array");
+    expect(capnp_canonical_frame_size(frame.at, frame.size, 1, &size) == CAPNP_CANONICAL_MESSAGE_TOO_LONG && !size, "a frame beyond the limit");
+    expect(capnp_canonical_copy(frame.at, frame.size, 0, WORDS, NULL, 0, &size) == CAPNP_CANONICAL_MESSAGE_IS_TOO_DEEPLY_NESTED_OR_CONTAINS_CYCLES, "no level");
+    expect(capnp_canonical_copy(frame.at, frame.size, -1, WORDS, NULL, 0, &size) == CAPNP_CANONICAL_MESSAGE_IS_TOO_DEEPLY_NESTED_OR_CONTAINS_CYCLES, "less than no level");
+    expect(capnp_canonical_copy(frame.at, frame.size, 1, 2, NULL, 0, &size) == CAPNP_CANONICAL_NO_ROOM && size == 24, "limits that are enough");
+    struct capnp_canonical_segment segment = {frame.at + 8, 16};
+    expect(capnp_canonical_segments_copy(&segment, 1, 1, 1, NULL, 0, &size) == CAPNP_CANONICAL_READ_LIMIT_EXCEEDED && !size, "a traversal limit");
+    free(frame.at);
+}
+
+static struct bytes from_hex(const char *digits) {
+    size_t size = strcmp(digits, "-") ? strlen(digits) / 2 : 0;
+    struct bytes made = block(size);
+    for (size_t i = 0; i < size; i++) {
+        unsigned byte = 0;
+        sscanf(digits + 2 * i, "%2x", &byte);
+        made.at[i] = (uint8_t)byte;
+    }
+    return made;
+}
+
+int main(int count, char **words) {
+    static char line[1 << 16], frame[1 << 15], flat[1 << 15];
+    struct message of;
+    FILE *file = count == 2 ? fopen(words[1], "r") : NULL;
+    if (!file) return 2;
+    while (fgets(line, sizeof line, file)) {
+        if (*line == '#') continue;
+        if (sscanf(line, "%63s %32767s %95s %32767s %95s %95s", of.name, frame, of.copy, flat, of.check, of.size) != 6) return 2;
+        of.frame = from_hex(frame);
+        of.flat = from_hex(flat);
+        test_message(&of);
+        free(of.frame.at);
+        free(of.flat.at);
+    }
+    fclose(file);
+    test_texts();
+    test_limits();
+    printf("%lu passed, %lu failed\n", passed, failed);
+    return failed ? 1 : 0;
+}

@@ -1,0 +1,252 @@
+"""What pages quote of the sources: definitions of `crates/*/specs/`, and items of `crates/*/src/`."""
+import dataclasses
+import functools
+import pathlib
+import re
+
+TOP = pathlib.Path(__file__).resolve().parents[1]
+IMPORT = re.compile(r'^(?:ghost )?use Rattle\.(\w+)\.specs\.([\w.]+)\.\{([^}]*)\}', re.M)
+DECLARED = re.compile(r'^ *(?:(?:abbrev|unfoldable) )?(?:pub )?(?:(record|data) )?([^\s(){}]+)')
+PARTS = re.compile(r"[A-Za-z_][\w']*")
+NOT_NAMES = {'abbrev', 'unfoldable', 'pub', 'mutual', 'where', 'record', 'data', 'module', 'infixl', 'infixr', 'infix'}
+
+
+@dataclasses.dataclass(frozen=True)
+class Definition:
+    """One definition, or several that name one another: the comment and the text, as they stand."""
+
+    crate: str
+    module: str
+    names: tuple
+    text: str
+    line: int
+
+    @property
+    def comments(self):
+        return '\n'.join(line for line in self.text.split('\n') if line.strip().startswith('--'))
+
+    @property
+    def code(self):
+        return '\n'.join(line for line in self.text.split('\n') if not line.strip().startswith('--'))
+
+
+def imported(text):
+    """Where each name comes from that a file imports of specs/: the crate, the module, and its name there."""
+    found = {}
+    for crate, module, names in IMPORT.findall(text):
+        for name in filter(None, (part.strip() for part in names.split(','))):
+            there, _, here = name.partition(' as ')
+            found[(here or there).strip()] = (crate, module, there.strip())
+    return found
+
+
+def names_of(lines):
+    """The names that a definition gives: its own, those that are defined with it, and the cases of a `data`."""
+    cases = None
+    for line in lines:
+        indent = len(line) - len(line.lstrip(' '))
+        if cases is not None and indent <= cases:
+            cases = None
+        if cases is not None:
+            if found := re.match(r' *(\w+) :', line):
+                yield found[1]
+            continue
+        found = re.match(r' *(?:(?:abbrev|unfoldable) )?pub (record|data) (\S+)', line)
+        if found:
+            yield found[2]
+            cases = indent if found[1] == 'data' else 10 ** 9
+        elif found := re.match(r' *(?:(?:abbrev|unfoldable) )?(?:pub )?(\S+) :', line):
+            if found[1] not in NOT_NAMES:
+                yield found[1]
+
+
+@dataclasses.dataclass(frozen=True)
+class Specs:
+    """A file of specs/: its first comment, its definitions in order, and what it imports."""
+
+    crate: str
+    module: str
+    heading: str
+    definitions: tuple
+    imports: dict
+
+
+@functools.cache
+def specs(crate, module):
+    text = (TOP / f'crates/{crate}/specs/{module}.antt').read_text(encoding='utf-8')
+    lines = text.split('\n')
+    start = max((i for i, line in enumerate(lines) if line.startswith('use ')), default=-1) + 1
+    heading = [line for line in lines[:start] if line.startswith('--')]
+    blocks, block, begun = [], [], start
+    for number, line in enumerate(lines[start:], start):
+        if line.strip() and not line.startswith(' ') and block and not block[-1].strip():
+            blocks.append((begun, block))
+            block = []
+        if not block:
+            begun = number
+        if block or line.strip():
+            block.append(line)
+    blocks.append((begun, block))
+    found = []
+    for begun, block in blocks:
+        while block and not block[-1].strip():
+            block = block[:-1]
+        code = [line for line in block if not line.strip().startswith('--')]
+        names = tuple(dict.fromkeys(names_of(code)))
+        if names:
+            found.append(Definition(crate, module, names, '\n'.join(block), begun + 1))
+    return Specs(crate, module, '\n'.join(heading), tuple(found), imported(text))
+
+
+@functools.cache
+def defining(crate, module, name):
+    """The definition of a name, where the sources of this repository have it."""
+    module = module.split('.')[0]
+    if not (TOP / f'crates/{crate}/specs/{module}.antt').is_file():
+        return None
+    for definition in specs(crate, module).definitions:
+        if name in definition.names:
+            return definition
+    return None
+
+
+def words_in(code):
+    """Each name that a text has, operators with a sign for each operand."""
+    names = set(PARTS.findall(code))
+    signs = {word for word in re.split(r'[\s(){},;]+', code) if word and not PARTS.search(word) and not word[0].isdigit()}
+    return names | {f'◌{sign}◌' for sign in signs} | signs
+
+
+def cited(code, imports, own=None):
+    """What a text cites: definitions, types of the program, and words of the standard library."""
+    found, types, words = set(), set(), set()
+    for name in words_in(code):
+        if own and (here := defining(own.crate, own.module, name)):
+            found.add(here)
+        elif name in imports:
+            crate, module, there = imports[name]
+            if module.startswith('declared.'):
+                types.add((crate, module.removeprefix('declared.').removesuffix('.TheVariants')))
+            elif definition := defining(crate, module, there):
+                found.add(definition)
+            elif not (TOP / 'crates' / crate).is_dir():
+                words.add(there)
+    return found, types, words
+
+
+def closure(begin, without=frozenset()):
+    """These definitions and all that they rest on, but for those of another closure."""
+    found, types, words = set(), set(), set()
+    waiting = list(begin)
+    while waiting:
+        definition = waiting.pop()
+        if definition in found or definition in without:
+            continue
+        found.add(definition)
+        own = specs(definition.crate, definition.module)
+        more, named, used = cited(definition.code, own.imports, own)
+        waiting += more
+        types |= named
+        words |= used
+    return found, types, words
+
+
+@dataclasses.dataclass(frozen=True)
+class Function:
+    """A function of the program: what stands above it, its signature, its clauses, its body, and the file's imports."""
+
+    name: str
+    comment: tuple
+    signature: tuple
+    clauses: tuple
+    body: tuple
+    imports: dict
+
+    @property
+    def head(self):
+        """The signature in one line, with the type that a method is of."""
+        text = re.sub(r'\( ', '(', re.sub(r',? \)', ')', ' '.join(line.strip() for line in self.signature)))
+        return re.sub(r'(?:pub(?:\([^)]*\))? )?(?:extern "C" )?fn \w+', f'fn {self.name}', text, count=1)
+
+    def chosen(self, labels):
+        if not labels:
+            return [line for _, lines in self.clauses for line in lines], False
+        missing = set(labels) - {label for label, _ in self.clauses}
+        if missing:
+            raise SystemExit(f'{self.name}: no clause {", ".join(sorted(missing))}')
+        return [line for label, lines in self.clauses if label in labels for line in lines], len(labels) < len(self.clauses)
+
+
+def without_indent(lines, indent):
+    return [line[indent:] for line in lines]
+
+
+def owner(lines, number):
+    """What an `impl` or a `trait` is of that a line stands in: `A for B` is B."""
+    if not lines[number].startswith(' '):
+        return ''
+    for line in reversed(lines[:number]):
+        if found := re.match(r'(?:pub )?(impl|trait)\b(?:<[^{]*?>)? ?(.*)', line):
+            text = re.sub(r'<[^<>]*>', '', re.sub(r'<[^<>]*>', '', found[2]))
+            return re.split(r' for ', text)[-1].split('<')[0].split(' ')[0].split(':')[0].split('{')[0].strip()
+        if line.startswith('}'):
+            return ''
+    return ''
+
+
+def function(path, name):
+    """A function of a file, or a method of a type or trait of it, as `Type::name`."""
+    text = (TOP / path).read_text(encoding='utf-8')
+    lines = text.split('\n')
+    of, _, last_name = name.rpartition('::')
+    heads = (i for i, line in enumerate(lines) if re.match(rf' *(?:pub(?:\([^)]*\))? )?(?:const )?(?:extern "C" )?fn {last_name}\b', line))
+    start = next((i for i in heads if not of or owner(lines, i) == of), None)
+    if start is None:
+        raise SystemExit(f'{path}: no function {name}')
+    indent = len(lines[start]) - len(lines[start].lstrip(' '))
+    above = start
+    while above and re.match(r' *(///|#\[)', lines[above - 1]):
+        above -= 1
+    end = start
+    while not ends(lines, start, end, indent):
+        end += 1
+    last = end
+    if lines[end].endswith('{'):
+        last = next(i for i in range(end + 1, len(lines)) if lines[i] == ' ' * indent + '}')
+    head = lines[start:end] + ([] if lines[end].strip() in ('{', '{}') else [re.sub(r' ?\{$|;$', '', lines[end])])
+    split = next((i for i, line in enumerate(head) if re.match(r' *(ensures|requires)\b', line)), len(head))
+    clauses = []
+    for line in without_indent(head[split:], indent):
+        if found := re.match(r' *(?:ensures|requires)\*? (\w*)', line):
+            clauses.append((found[1], [line]))
+        else:
+            clauses[-1][1].append(line)
+    return Function(
+        name, tuple(without_indent([line for line in lines[above:start] if line.strip().startswith('///')], indent)),
+        tuple(without_indent(head[:split], indent)), tuple((label, tuple(found)) for label, found in clauses),
+        tuple(without_indent(lines[end:last + 1], indent)), imported(text))
+
+
+def ends(lines, start, number, indent):
+    """Whether a function's signature and clauses end at a line: in its body's first brace, or in a semicolon."""
+    line = lines[number]
+    if line in (' ' * indent + '{', ' ' * indent + '{}') or line.endswith('};') or line.endswith(';'):
+        return True
+    clause = any(re.match(r' *(ensures|requires)\b', before) for before in lines[start:number + 1])
+    return line.endswith('{') and not clause
+
+
+def item(path, name):
+    """A struct, enum or trait of a file, with what stands above it, up to the brace that ends it."""
+    lines = (TOP / path).read_text(encoding='utf-8').split('\n')
+    start = next((i for i, line in enumerate(lines) if re.match(rf' *(?:pub )?(?:struct|enum|trait|const|type) {name}\b', line)), None)
+    if start is None:
+        raise SystemExit(f'{path}: no item {name}')
+    above = start
+    while above and re.match(r' *(///|//|#\[)', lines[above - 1]):
+        above -= 1
+    indent = len(lines[start]) - len(lines[start].lstrip(' '))
+    end = start
+    if not lines[start].endswith(';'):
+        end = next(i for i in range(start, len(lines)) if lines[i] == ' ' * indent + '}' or lines[i].endswith('{}'))
+    return without_indent(lines[above:end + 1], indent)
