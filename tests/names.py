@@ -1,10 +1,12 @@
 #!/usr/bin/env python3
-"""Whether each name that a definition of `crates/*/specs/` has is that of one definition alone, in all crates.
+"""Whether each name that a definition of `crates/*/specs/` has is that of one definition alone, in all crates; and whether
+what a proof or a definition imports of this repository stands where it imports it from. The checker says the second too,
+but only when it comes to that file, which in the gate is after many minutes.
 
     names.py
 
-Prints each name that stands twice, with the files, and at last `N passed, M failed`: a file is one count, and fails
-where a name of it stands twice."""
+Prints each name that stands twice, with the files, and each import of what isn't there, and at last `N passed, M failed`: a
+file is one count, and fails where a name of it stands twice or an import leads nowhere."""
 import collections
 import pathlib
 import re
@@ -13,6 +15,7 @@ import sys
 TOP = pathlib.Path(__file__).resolve().parents[1]
 TYPE = re.compile(r'( *)(?:abbrev |unfoldable )?pub (record|data) (\S+)')
 FUNCTION = re.compile(r'( *)(?:abbrev |unfoldable )?pub (\S+) :')
+IMPORT = re.compile(r'^ *use Rattle\.(\w+)\.(specs|proofs)\.([\w.]+)\.\{([^}]*)\}', re.MULTILINE)
 
 
 def names_of(path):
@@ -29,17 +32,45 @@ def names_of(path):
             yield found[2]
 
 
-def main():
-    files = [path for path in sorted(TOP.glob('crates/*/specs/*.antt')) if path.name != 'Lib.antt']
+def imported_file(crate, folder, module):
+    """The file of a module of this repository; none where the module is another's, or is made from a source."""
+    path = TOP / 'crates' / crate / folder / (module.replace('.', '/') + '.antt')
+    return path if path.is_file() else None
+
+
+def nowhere(path):
+    """What a file imports of a file of this repository that hasn't the name."""
+    for crate, folder, module, names in IMPORT.findall(path.read_text(encoding='utf-8')):
+        if (source := imported_file(crate, folder, module)) is None:
+            continue
+        text = source.read_text(encoding='utf-8')
+        for name in (it.strip().split(' as ')[0] for it in names.split(',')):
+            if not re.search(rf'(?<![\w-]){re.escape(name)}(?![\w-])', text):
+                yield f'{crate}.{folder}.{module}.{name}'
+
+
+def twice(files):
+    """The files of `specs/` with a name that another one has too."""
     places = collections.defaultdict(list)
     for path in files:
         for name in names_of(path):
-            places[name].append(str(path.relative_to(TOP)))
-    twice = {name: found for name, found in places.items() if len(found) > 1}
-    for name, found in sorted(twice.items()):
-        print(f'{name} is defined more than once: {", ".join(found)}')
-    failed = len({path for found in twice.values() for path in found})
-    print(f'{len(files) - failed} passed, {failed} failed')
+            places[name].append(path)
+    for name, found in sorted(places.items()):
+        if len(found) > 1:
+            print(f'{name} is defined more than once: {", ".join(str(it.relative_to(TOP)) for it in found)}')
+            yield from found
+
+
+def main():
+    specs = [path for path in sorted(TOP.glob('crates/*/specs/*.antt')) if path.name != 'Lib.antt']
+    proofs = sorted(TOP.glob('crates/*/proofs/**/*.antt'))
+    failed = set(twice(specs))
+    for path in specs + proofs:
+        for name in nowhere(path):
+            print(f'{path.relative_to(TOP)} imports {name}, which is not there')
+            failed.add(path)
+    files = {*specs, *proofs}
+    print(f'{len(files) - len(failed)} passed, {len(failed)} failed')
     return 1 if failed or not files else 0
 
 

@@ -9,52 +9,53 @@ use Rattle.capnp_format.specs.Value.{IsValue}
 use Rattle.capnp_format.specs.Means.{count_cost}
 use Rattle.capnp_format.specs.Tree.{Tree, Null, Capability, Struct, Flat, Pointers, Structs, Trees, no_trees, tree, Elements, no_elements, element, count, element_count, capabilities}
 
--- How much of a list is used, by whether its first cell is empty, and how much of the rest is.
+-- How much of a list is used, by whether its first cell is empty, and how much of the rest is ("Canonicalization").
 abbrev pub used_from : Bool → ℕ → ℕ
 used_from true zero = 0
 used_from empty n = suc n
 
--- How many words are left without the zeros at the end.
+-- How many words are left without the zeros at the end ("Canonicalization").
 abbrev pub used_words : List ℕ → ℕ
 used_words [] = 0
 used_words (x ∷ xs) = used_from (nat_eq x 0) (used_words xs)
 
--- Whether a child is Null.
+-- Whether a child is Null ("Structs").
 abbrev pub is_null : Tree → Bool
 is_null Null = true
 is_null _ = false
 
--- How many children are left without the Nulls at the end.
+-- How many children are left without the Nulls at the end ("Canonicalization").
 abbrev pub used_trees : Trees → ℕ
 used_trees no_trees = 0
 used_trees (tree t ts) = used_from (is_null t) (used_trees ts)
 
--- The first n children.
+-- The first n children ("Canonicalization").
 abbrev pub take_trees : ℕ → Trees → Trees
 take_trees zero ts = no_trees
 take_trees (suc n) no_trees = no_trees
 take_trees (suc n) (tree t ts) = tree t (take_trees n ts)
 
--- The least number of data words that loses no word but zero, in any element; 0 without elements.
+-- The least number of data words that loses no word but zero, in any element; 0 without elements
+-- ("Canonicalization").
 abbrev pub data_width : Elements → ℕ
 data_width no_elements = 0
 data_width (element ws ts es) = max (used_words ws) (data_width es)
 
--- The least number of pointers that loses no child but Null, in any element; 0 without elements.
+-- The least number of pointers that loses no child but Null, in any element; 0 without elements ("Canonicalization").
 abbrev pub pointer_width : Elements → ℕ
 pointer_width no_elements = 0
 pointer_width (element ws ts es) = max (used_trees ts) (pointer_width es)
 
--- The elements cut to d data words and q pointers.
+-- The elements cut to d data words and q pointers ("Canonicalization").
 abbrev pub cut_to : ℕ → ℕ → Elements → Elements
 cut_to d q no_elements = no_elements
 cut_to d q (element ws ts es) = element (take d ws) (take_trees q ts) (cut_to d q es)
 
--- A struct without the zeros and Nulls at the ends of its sections.
+-- A struct without the zeros and Nulls at the ends of its sections ("Canonicalization").
 abbrev pub cut_struct : List ℕ → Trees → Tree
 cut_struct ws ts = Struct (take (used_words ws) ws) (take_trees (used_trees ts) ts)
 
--- A list of structs at the least widths.
+-- A list of structs at the least widths ("Canonicalization").
 abbrev pub cut_structs : Elements → Tree
 cut_structs es = Structs (data_width es) (pointer_width es) (cut_to (data_width es) (pointer_width es) es)
 
@@ -79,7 +80,8 @@ abbrev mutual
   trim_elements no_elements = no_elements
   trim_elements (element ws ts es) = element ws (trim_each ts) (trim_elements es)
 
--- How many words the objects of a value take, itself and all below, without its pointer and without pads.
+-- How many words the objects of a value take, itself and all below, without its pointer and without pads
+-- ("Structs", "Lists").
 abbrev mutual
   pub word_count : Tree → ℕ
   word_count Null = 0
@@ -110,12 +112,14 @@ pointer (Flat size ns) k = list_word k size (length ns)
 pointer (Pointers ts) k = list_word k 6 (count ts)
 pointer (Structs d q es) k = list_word k 7 (element_count es * (d + q))
 
--- The pointers of children one behind the other, where k words lie between the last pointer and the first body.
+-- The pointers of children one behind the other, where k words lie between the last pointer and the first body
+-- ("Canonicalization").
 abbrev pub pointers : ℕ → Trees → List ℕ
 pointers k no_trees = []
 pointers k (tree t ts) = pointer t (count ts + k) ∷ pointers (k + word_count t) ts
 
--- Elements one behind the other, where k words of bodies lie between the last element and the first body of these.
+-- Elements one behind the other, where k words of bodies lie between the last element and the first body of these
+-- ("Lists", "Canonicalization").
 abbrev pub rows : ℕ → ℕ → ℕ → Elements → List ℕ
 rows d q k no_elements = []
 rows d q k (element ws ts es) = ws ++ pointers (element_count es * (d + q) + k) ts ++ rows d q (k + word_count_all ts) es
@@ -141,28 +145,30 @@ abbrev mutual
   element_bodies no_elements = []
   element_bodies (element ws ts es) = bodies ts ++ element_bodies es
 
--- The canonical words of a value that is trimmed: its pointer, then its body.
+-- The canonical words of a value that is trimmed: its pointer, then its body ("Canonicalization").
 abbrev pub encoding : Tree → List ℕ
 encoding t = pointer t 0 ∷ body t
 
--- P, where the pointer of the value has an offset that counts words: not of Null, a capability or an empty struct.
+-- P, where the pointer of the value has an offset that counts words: not of Null, a capability or an empty struct
+-- ("Structs").
 abbrev pub ForOffset : Tree → Type 0 → Type 0
 ForOffset Null P = Unit {0}
 ForOffset (Capability i) P = Unit {0}
 ForOffset (Struct [] no_trees) P = Unit {0}
 ForOffset t P = P
 
--- The offsets of children, as `pointers` makes them, fit the 29 bits of a number that is not negative.
+-- The offsets of children, as `pointers` makes them, fit the 29 bits of a number that is not negative
+-- ("Structs", "Lists").
 abbrev pub OffsetsFit : ℕ → Trees → Type 0
 OffsetsFit k no_trees = Unit {0}
 OffsetsFit k (tree t ts) = ForOffset t (count ts + k < 2 ^ 29) × OffsetsFit (k + word_count t) ts
 
--- The offsets of the children of elements, as `rows` makes them, fit.
+-- The offsets of the children of elements, as `rows` makes them, fit ("Lists").
 abbrev pub RowsFit : ℕ → ℕ → ℕ → Elements → Type 0
 RowsFit d q k no_elements = Unit {0}
 RowsFit d q k (element ws ts es) = OffsetsFit (element_count es * (d + q) + k) ts × RowsFit d q (k + word_count_all ts) es
 
--- Each offset inside a value's body fits. A value of fewer than 2^29 words always has this.
+-- Each offset inside a value's body fits. A value of fewer than 2^29 words always has this ("Structs", "Lists").
 abbrev mutual
   pub IsEncodable : Tree → Type 0
   IsEncodable Null = Unit {0}
@@ -182,11 +188,11 @@ abbrev mutual
   AreEncodableElements no_elements = Unit {0}
   AreEncodableElements (element ws ts es) = AreEncodable ts × AreEncodableElements es
 
--- Trimming changes nothing.
+-- Trimming changes nothing ("Canonicalization").
 abbrev pub IsTrimmed : Tree → Type 0
 IsTrimmed t = trim t ≡ t
 
--- No capability is inside.
+-- No capability is inside ("Canonicalization").
 abbrev pub IsFree : Tree → Type 0
 IsFree t = capabilities t ≡ 0
 

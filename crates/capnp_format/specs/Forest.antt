@@ -83,7 +83,7 @@ object_cover S a (Flat size ns) = object_of a (words_for size (length ns)) ∷ [
 object_cover S a (Pointers ts) = object_of a (count ts) ∷ cover_all S a.segment a.start ts
 object_cover S a (Structs d q es) = object_of a (1 + element_count es * (d + q)) ∷ cover_elements S a.segment (a.start + 1) d q es
 
--- Below a place all padding of lists is zero, and lists of structs claim exactly their elements.
+-- Below a place all padding of lists is zero, and lists of structs claim exactly their elements ("Lists").
 abbrev mutual
   pub IsTidy : Segments → ℕ → ℕ → Tree → Type 0
   IsTidy S s p Null = Unit {0}
@@ -108,7 +108,7 @@ abbrev pub root : Interval
 root = record { segment = 0; start = 0; words = 1 }
 
 -- The root means t; no word is covered twice; what is covered lies in the message; every other word is zero; lists
--- are tidy.
+-- are tidy ("Messages").
 pub record IsForest (S : Segments) (t : Tree) : Type 0 where
   pub means : (n : ℕ) × (c : ℕ) × Means S n 0 0 t c
   pub apart : (u q : ℕ) → times (root ∷ cover S 0 0 t) u q ≤ 1

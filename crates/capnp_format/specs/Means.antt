@@ -9,11 +9,11 @@ use Rattle.capnp_format.specs.Numbers.{words_for, unpacked}
 use Rattle.capnp_format.specs.Segments.{Segments, segment, word_at, words_at, HasWords, Target, leads}
 use Rattle.capnp_format.specs.Tree.{Tree, Null, Capability, Struct, Flat, Pointers, Structs, Trees, no_trees, tree, Elements, no_elements, element, count, element_count}
 
--- The word at a place is not zero, and leads to a.
+-- The word at a place is not zero, and leads to a ("Structs", "Inter-Segment Pointers").
 abbrev pub Leads : Segments → ℕ → ℕ → Target → Type 0
 Leads S s p a = (word_at S s p ≢ 0) × (leads S s p ≡ Some a)
 
--- The n words from where a pointer leads lie in their segment.
+-- The n words from where a pointer leads lie in their segment ("Structs", "Lists").
 abbrev pub Claims : Segments → Target → ℕ → Type 0
 Claims S a n = a.start + n ≤ length (segment S a.segment)
 
@@ -38,7 +38,8 @@ pub record IsTag (g n d q : ℕ) : Type 0 where
   pub data_of : data_words g ≡ d
   pub pointers : pointer_count g ≡ q
 
--- Elements of no width are charged one word each, so that a short message cannot make a reader work long.
+-- Elements of no width are charged one word each, so that a short message cannot make a reader work long
+-- ("Security Considerations").
 abbrev pub count_cost : ℕ → ℕ → ℕ
 count_cost width n = cond (nat_eq width 0) n 0
 
@@ -52,7 +53,8 @@ count_cost width n = cond (nat_eq width 0) n 0
 -- A list of pointers: its children, within one level less; the cost is as for a struct.
 -- A list of structs: m words are claimed behind a tag; the elements take no more than these. It costs the pads, the tag
 -- and the m words, one for each element where elements have no width, and what the children cost.
--- Every case but the first two wants a level, and that the claimed words lie in their segment.
+-- Every case but the first two wants a level, and that the claimed words lie in their segment
+-- ("Structs", "Lists", "Capabilities (Interfaces)").
 abbrev mutual
   pub Means : Segments → ℕ → ℕ → ℕ → Tree → ℕ → Type 0
   Means S n s p Null c = (word_at S s p ≡ 0) × (c ≡ 0)

@@ -4,31 +4,31 @@
 use Rattle.std.specs.Prelude.{◌≡◌, ℕ, ◌+◌, ◌-◌, ◌<◌, ◌≤◌, ◌^◌, zero, suc, Bool, cond, ◌&&◌, List, [], length, get_or, take, drop, nat_lt, nat_le, nat_eq, Option, Some, None}
 use Rattle.capnp_format.specs.Word.{kind, offset_bits, is_double, far_position, upper_half}
 
--- A message: its segments in order, each as its words.
+-- A message: its segments in order, each as its words ("Messages").
 abbrev pub Segments : Type 0
 Segments = List (List ℕ)
 
--- The words of a segment, none where there is no such segment.
+-- The words of a segment, none where there is no such segment ("Messages").
 abbrev pub segment : Segments → ℕ → List ℕ
 segment S s = get_or S s []
 
--- The word at a place, 0 where there is none.
+-- The word at a place, 0 where there is none ("Messages").
 abbrev pub word_at : Segments → ℕ → ℕ → ℕ
 word_at S s p = get_or (segment S s) p 0
 
--- The n words from a place on, fewer where the segment ends before.
+-- The n words from a place on, fewer where the segment ends before ("Messages").
 abbrev pub words_at : Segments → ℕ → ℕ → ℕ → List ℕ
 words_at S s p n = take n (drop p (segment S s))
 
--- These words stand one behind the other from a place on.
+-- These words stand one behind the other from a place on ("Messages").
 abbrev pub HasWords : Segments → ℕ → ℕ → List ℕ → Type 0
 HasWords S s p ws = words_at S s p (length ws) ≡ ws
 
--- There is a word at this segment and position.
+-- There is a word at this segment and position ("Messages").
 abbrev pub IsPlace : Segments → ℕ → ℕ → Type 0
 IsPlace S s p = p < length (segment S s)
 
--- Each word of the message is one of 64 bits.
+-- Each word of the message is one of 64 bits ("Messages").
 abbrev pub AreWords : Segments → Type 0
 AreWords S = (s p : ℕ) → word_at S s p < 2 ^ 64
 
@@ -42,7 +42,8 @@ pub record Grows (S R : Segments) : Type 0 where
   pub words : (u : ℕ) → length (segment S u) ≤ length (segment R u)
 
 -- What a pointer leads to: the word that describes the object (the pointer itself, or the pad or tag of a far
--- pointer), the segment and position where the object starts, and how many words of landing pads were read.
+-- pointer), the segment and position where the object starts, and how many words of landing pads were read
+-- ("Structs", "Lists", "Inter-Segment Pointers").
 pub record Target : Type 0 where
   pub word : ℕ
   pub segment : ℕ
@@ -66,11 +67,13 @@ offset_leads n p bits =
     let there = p + 1 + bits in
     cond (nat_lt bits (2 ^ 29)) (given (nat_le there n) there) (given (nat_le (2 ^ 30) there && nat_le there (n + 2 ^ 30)) (there - 2 ^ 30))
 
--- Where a word x leads that is not a far pointer, and is read at a place after so many words of pads.
+-- Where a word x leads that is not a far pointer, and is read at a place after so many words of pads
+-- ("Structs", "Lists").
 abbrev pub near : Segments → ℕ → ℕ → ℕ → ℕ → Option Target
 near S s p x pads = offset_leads (length (segment S s)) p (offset_bits x) >>= λ b. Some (record { word = x; segment = s; start = b; pads = pads })
 
--- The first word of the landing pad of the far pointer x, where it and n words behind it lie in their segment.
+-- The first word of the landing pad of the far pointer x, where it and n words behind it lie in their segment
+-- ("Inter-Segment Pointers").
 abbrev pub pad : Segments → ℕ → ℕ → Option ℕ
 pad S x n = given (nat_lt (far_position x + n) (length (segment S (upper_half x)))) (word_at S (upper_half x) (far_position x))
 
@@ -87,6 +90,6 @@ far S x (suc _) =
     let w = word_at S (upper_half x) (far_position x + 1) in
     cond (nat_eq (kind w) 2) None (given (nat_lt (upper_half f) (length S)) (record { word = w; segment = upper_half f; start = far_position f; pads = 2 }))
 
--- Where the word at a place leads, which is not zero.
+-- Where the word at a place leads, which is not zero ("Structs", "Lists", "Inter-Segment Pointers").
 abbrev pub leads : Segments → ℕ → ℕ → Option Target
 leads S s p = let x = word_at S s p in cond (nat_eq (kind x) 2) (far S x (is_double x)) (near S s p x 0)

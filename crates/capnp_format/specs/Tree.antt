@@ -25,12 +25,12 @@ mutual
     no_elements : Elements
     element : List ℕ → Trees → Elements → Elements
 
--- How many children.
+-- How many children ("Structs", "Lists").
 abbrev pub count : Trees → ℕ
 count no_trees = 0
 count (tree t ts) = suc (count ts)
 
--- How many elements.
+-- How many elements ("Lists").
 abbrev pub element_count : Elements → ℕ
 element_count no_elements = 0
 element_count (element ws ts es) = suc (element_count es)

@@ -4,12 +4,13 @@ use Rattle.std.specs.List.{AllByRecursion}
 use Rattle.capnp_format.specs.Numbers.{element_bits}
 use Rattle.capnp_format.specs.Tree.{Tree, Null, Capability, Struct, Flat, Pointers, Structs, Trees, no_trees, tree, Elements, no_elements, element, count, element_count}
 
--- Each number is below a limit.
+-- Each number is below a limit ("Lists").
 abbrev pub AreBelow : ℕ → List ℕ → Type 0
 AreBelow limit xs = AllByRecursion (λ x. x < limit) xs
 
 -- A capability index of 32 bits; data words and pointers of 16 bits each; a list of fewer than 2^29 elements that
--- each fit their bits; a list of structs of fewer than 2^30 elements that take fewer than 2^29 words together.
+-- each fit their bits; a list of structs of fewer than 2^30 elements that take fewer than 2^29 words together
+-- ("Structs", "Lists", "Capabilities (Interfaces)").
 abbrev mutual
   pub IsValue : Tree → Type 0
   IsValue Null = Unit {0}

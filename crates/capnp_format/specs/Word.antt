@@ -4,7 +4,8 @@
 -- are the fields behind it. Each field is a division and a remainder, so `x / 2 ^ 32 % 2 ^ 16` are bits 32 to 47.
 use Rattle.std.specs.Prelude.{ℕ, ℤ, pos, negsuc, suc, cond, nat_lt, ◌+◌, ◌-◌, ◌*◌, ◌/◌, ◌%◌, ◌^◌, ◌<◌}
 
--- Bits 0 and 1: 0 a struct, 1 a list, 2 a far pointer, 3 a capability or an unknown pointer.
+-- Bits 0 and 1: 0 a struct, 1 a list, 2 a far pointer, 3 a capability or an unknown pointer
+-- ("Structs", "Lists", "Inter-Segment Pointers", "Capabilities (Interfaces)").
 abbrev pub kind : ℕ → ℕ
 kind x = x % 4
 

@@ -15,9 +15,11 @@ use Rattle.capnp_objects.specs.Wanted.{Form, FollowsTo, AllowsCapabilities}
 abbrev pub MeansThere : Reading → Tree → ℕ → Type 0
 MeansThere r t c = Means r.segments r.levels r.segment r.at t c
 
+-- Pointers one behind the other, from the place on, mean ts within the levels, at a cost.
 abbrev pub MeanThere : Reading → Trees → ℕ → Type 0
 MeanThere r ts c = MeansAll r.segments r.levels r.segment r.at ts c
 
+-- Elements of this size, from the place on, mean es within the levels, at a cost.
 abbrev pub ElementsMean : Reading → StructSize → Elements → ℕ → Type 0
 ElementsMean r size es c = MeansElements r.segments r.levels r.segment r.at size.data_words size.pointers es c
 

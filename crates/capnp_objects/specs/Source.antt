@@ -3,7 +3,7 @@ use Rattle.std.specs.Prelude.{ℕ, ℤ, pos, negsuc, List, [], ◌∷◌, ◌++�
 use Rattle.capnp_format.specs.Segments.{Segments}
 use Rattle.capnp_format.specs.Bytes.{words_of}
 
--- How many levels a nesting limit leaves: none where it is below zero.
+-- How many levels a nesting limit leaves: none where it is below zero ("Security Considerations").
 abbrev pub levels : ℤ → ℕ
 levels (pos n) = n
 levels (negsuc n) = 0

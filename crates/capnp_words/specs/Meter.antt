@@ -1,18 +1,21 @@
 -- What a read limiter holds, and what it grants.
 use Rattle.std.specs.Prelude.{ℕ, Bool, true, false, Option, Some, None, ◌+◌, ◌-◌, ◌^◌, ◌≤◌, min, max}
 
--- a budget of words, and the number of pointers followed so far
+-- a budget of words, and the number of pointers followed so far ("Security Considerations")
 pub record Meter : Type 0 where
   pub left : Option ℕ
   pub followed : ℕ
 
+-- a limiter with this limit that has granted nothing
 abbrev pub unused : Option ℕ → Meter
 unused limit = record { left = limit; followed = 0 }
 
+-- a limit covers n words; where there is none, every number is covered ("Security Considerations")
 abbrev pub FitsIn : Option ℕ → ℕ → Type 0
 FitsIn None n = Unit {0}
 FitsIn (Some left) n = n ≤ left
 
+-- what is left of a limit once n words are granted
 abbrev pub less : Option ℕ → ℕ → Option ℕ
 less None n = None
 less (Some left) n = Some (left - n)
@@ -21,6 +24,7 @@ less (Some left) n = Some (left - n)
 abbrev pub Allows : Meter → ℕ → Type 0
 Allows m n = FitsIn m.left n
 
+-- a limiter once n words are granted
 abbrev pub spent : Meter → ℕ → Meter
 spent m n = record m { left = less m.left n }
 

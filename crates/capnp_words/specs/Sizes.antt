@@ -5,6 +5,7 @@ use Rattle.capnp_words.specs.declared.wire_pointer.ElementSize.TheVariants.{Void
 use Rattle.capnp_words.specs.declared.wire_pointer.WirePointerKind.{WirePointerKind}
 use Rattle.capnp_words.specs.declared.wire_pointer.WirePointerKind.TheVariants.{Struct, List, Far, Other}
 
+-- the number by which an element size is encoded ("Lists")
 abbrev pub size_number : ElementSize → ℕ
 size_number Void = 0
 size_number Bit = 1
