@@ -13,6 +13,9 @@ use Rattle.capnp_edits.specs.Edits.{TakesAll}
 abbrev pub MeansTheSame : Segments → Segments → Type 0
 MeansTheSame S R = (n s p c : ℕ) (t : Tree) → Means S n s p t c → Means R n s p t c
 
--- The root of these segments means the value to which edits lead, with their outcomes, from the value of the forest S.
+-- The root of these segments means the value to which edits lead, with their outcomes, from the
+-- value of the forest S.
 abbrev pub AreReadBack : Segments → List (List ℕ) → List Edit → List (Option ErrorKind) → Type 0
-AreReadBack S bytes edits outcomes = (t : Tree) → IsForest S t → (u : Tree) × TakesAll edits outcomes t u × ((n : ℕ) × (c : ℕ) × Means (message bytes) n 0 0 u c)
+AreReadBack S bytes edits outcomes =
+    (t : Tree) → IsForest S t → (u : Tree) × TakesAll edits outcomes t u ×
+    ((n : ℕ) × (c : ℕ) × Means (message bytes) n 0 0 u c)

@@ -15,7 +15,8 @@ zeros words = replicate (8 * words) 0
 
 -- a fresh segment: whole words, all zero, at least those asked for, within the greatest number
 abbrev pub IsFresh : ℕ → List ℕ → Type 0
-IsFresh asked bytes = (bytes ≡ zeros (length bytes / 8)) × (asked ≤ length bytes / 8) × (length bytes / 8 ≤ max_segment_words)
+IsFresh asked bytes = (bytes ≡ zeros (length bytes / 8)) × (asked ≤ length bytes / 8) ×
+    (length bytes / 8 ≤ max_segment_words)
 
 -- the words from used on are zero
 abbrev pub IsClearFrom : ℕ → List ℕ → Type 0
@@ -27,4 +28,5 @@ one_more n = min (n + 1) (2 ^ 64 - 1)
 
 -- used words of a segment of so many bytes, of which these are ready; its other words are zero
 abbrev pub IsRow : ℕ → List ℕ → ℕ → Type 0
-IsRow used ready long = (8 * used ≤ length ready) × (length ready ≤ long) × (long ≤ 8 * max_segment_words) × IsClearFrom used ready
+IsRow used ready long = (8 * used ≤ length ready) × (length ready ≤ long) ×
+    (long ≤ 8 * max_segment_words) × IsClearFrom used ready

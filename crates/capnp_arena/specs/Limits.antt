@@ -13,4 +13,5 @@ AreSmall segments = (length segments < 2 ^ 32) × All (λ s. length s.now / 8 < 
 -- the same, segment by segment ("Messages")
 abbrev pub IsSmall : List (List ℕ) → Type 0
 IsSmall segments =
-    (length segments < 2 ^ 32) × ((k : ℕ) (s : List ℕ) → slice_get segments k ≡ Some s → length s / 8 < 2 ^ 32)
+    (length segments < 2 ^ 32) × ((k : ℕ) (s : List ℕ) → slice_get segments k ≡ Some s →
+    length s / 8 < 2 ^ 32)

@@ -9,4 +9,9 @@ use Rattle.capnp_arena.specs.declared.arena.allocator.Segment.{Ghosts}
 module _ {S : Type 0} (g : Ghosts S) where
   -- the rows where that at id, if there is one, has ws over its allocated words, as bytes
   abbrev pub with_bytes_listed : Listed S g → ℕ → List ℕ → Listed S g
-  with_bytes_listed v id ws = record v { rows = with_row g v.rows id ws; few = few_with_row g v.rows id ws max_segments v.few; bounded = bounded_with_row g v.rows id ws v.bounded }
+  with_bytes_listed v id ws =
+      record v {
+        rows = with_row g v.rows id ws;
+        few = few_with_row g v.rows id ws max_segments v.few;
+        bounded = bounded_with_row g v.rows id ws v.bounded;
+      }

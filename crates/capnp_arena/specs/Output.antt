@@ -1,7 +1,8 @@
 -- The segments that go out of a builder arena.
 use Rattle.std.specs.Prelude.{ℕ, List, [], ◌∷◌, Bool, true, false, map}
 use Rattle.capnp_arena.specs.declared.arena.output_segments.OutputSegments.{OutputSegments}
-use Rattle.capnp_arena.specs.declared.arena.output_segments.OutputSegments.TheVariants.{SingleSegment, MultiSegment}
+use Rattle.capnp_arena.specs.declared.arena.output_segments.OutputSegments.TheVariants.{SingleSegment}
+use Rattle.capnp_arena.specs.declared.arena.output_segments.OutputSegments.TheVariants.{MultiSegment}
 
 abbrev pub output_bytes : OutputSegments → List (List ℕ)
 output_bytes (SingleSegment segment) = segment.now ∷ []

@@ -1,6 +1,7 @@
--- A segment in borrowed memory or on the heap, and an allocator that has one in borrowed memory. The lemma stands here since a law of a trait may cite
--- nothing else.
-use Rattle.std.specs.Prelude.{ℕ, Bool, List, ◌≡◌, ◌/◌, ◌-◌, ◌++◌, ◌&&◌, ◌||◌, ◌==◌, length, replicate, min, Option, Some, None, nat_le, nat_lt}
+-- A segment in borrowed memory or on the heap, and an allocator that has one in borrowed memory.
+-- The lemma stands here since a law of a trait may cite nothing else.
+use Rattle.std.specs.Prelude.{ℕ, Bool, List, ◌≡◌, ◌/◌, ◌-◌, ◌++◌, ◌&&◌, ◌||◌, ◌==◌, length}
+use Rattle.std.specs.Prelude.{replicate, min, Option, Some, None, nat_le, nat_lt, ⊤}
 use Rattle.std.specs.Borrow.{MutBor}
 use Rattle.capnp_arena.specs.Allocations.{max_segment_words}
 use Rattle.capnp_arena.specs.Heap.{all_ready, with_bytes, with_bytes-as_long, with_bytes-holds}
@@ -11,12 +12,12 @@ use Rattle.capnp_arena.specs.declared.arena.scratch_allocator.ScratchSegment.The
 
 module _ {B : Type 0} where
   abbrev pub IsBorrowed : ScratchSegment B → Type 0
-  IsBorrowed (Borrowed segment) = Unit {0}
+  IsBorrowed (Borrowed segment) = ⊤
   IsBorrowed (Owned segment) = ⊥
 
   abbrev pub IsOwned : ScratchSegment B → Type 0
   IsOwned (Borrowed segment) = ⊥
-  IsOwned (Owned segment) = Unit {0}
+  IsOwned (Owned segment) = ⊤
 
 module _ {B : Type 0} (g : Ghosts B) where
   abbrev pub content_of : ScratchSegment B → List ℕ
@@ -33,15 +34,18 @@ module _ {B : Type 0} (g : Ghosts B) where
   with_ready_of (Borrowed segment) w = Borrowed (g.with_ready segment w)
   with_ready_of (Owned segment) w = Owned (with_bytes segment w)
 
-  pub with_ready_of-holds : (s : ScratchSegment B) (w : List ℕ) → length w ≡ length (ready_of s) → ready_of (with_ready_of s w) ≡ w
+  pub with_ready_of-holds : (s : ScratchSegment B) (w : List ℕ) → length w ≡ length (ready_of s) →
+      ready_of (with_ready_of s w) ≡ w
   with_ready_of-holds (Borrowed segment) w same = g.holds segment w same
   with_ready_of-holds (Owned segment) w same = with_bytes-holds segment w same
 
-  pub with_ready_of-as_long : (s : ScratchSegment B) (w : List ℕ) → length w ≡ length (ready_of s) → length (content_of (with_ready_of s w)) ≡ length (content_of s)
+  pub with_ready_of-as_long : (s : ScratchSegment B) (w : List ℕ) → length w ≡ length (ready_of s) →
+      length (content_of (with_ready_of s w)) ≡ length (content_of s)
   with_ready_of-as_long (Borrowed segment) w same = g.as_long segment w same
   with_ready_of-as_long (Owned segment) w same = with_bytes-as_long segment w same
 
-  pub zeros_behind_of : (s : ScratchSegment B) → content_of s ≡ ready_of s ++ replicate (length (content_of s) - length (ready_of s)) 0
+  pub zeros_behind_of : (s : ScratchSegment B) →
+      content_of s ≡ ready_of s ++ replicate (length (content_of s) - length (ready_of s)) 0
   zeros_behind_of (Borrowed segment) = g.zeros_behind segment
   zeros_behind_of (Owned segment) = all_ready segment.bytes.items
 
@@ -59,8 +63,8 @@ abbrev pub bytes_at_hand : Option ℕ → ℕ
 bytes_at_hand (Some bytes) = bytes
 bytes_at_hand None = 0
 
--- An allocator with a scratch space: whether that is here, and not out; how many bytes of it are at hand, all of them zero; how many words it has; and
--- what makes the other segments.
+-- An allocator with a scratch space: whether that is here, and not out; how many bytes of it are at
+-- hand, all of them zero; how many words it has; and what makes the other segments.
 pub record Scratch : Type 0 where
   pub here : Bool
   pub zeros : ℕ

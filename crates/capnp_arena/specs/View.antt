@@ -1,10 +1,12 @@
--- What an arena that is built holds, and can still give. The lemmas stand here since a law of a trait may cite nothing else.
+-- What an arena that is built holds, and can still give. The lemmas stand here since a law of a
+-- trait may cite nothing else.
 use Rattle.std.specs.Prelude.{◌≡◌, ℕ, Bool}
 use Rattle.std.proofs.Common.{ap}
 use Rattle.capnp_format.specs.Segments.{Segments}
 
--- The words of each segment; how many words each can hold, those allocated included; how often memory was refused; and whether a request
--- for so many words may be met by a segment of so many words.
+-- The words of each segment; how many words each can hold, those allocated included; how often
+-- memory was refused; and whether a request for so many words may be met by a segment of so many
+-- words.
 pub record View : Type 0 where
   pub words : Segments
   pub room : ℕ → ℕ
@@ -12,12 +14,14 @@ pub record View : Type 0 where
   pub offers : ℕ → ℕ → Bool
 
 abbrev pub view_of : Segments → (ℕ → ℕ) → ℕ → (ℕ → ℕ → Bool) → View
-view_of words room refusals offers = record { words = words; room = room; refusals = refusals; offers = offers }
+view_of words room refusals offers =
+    record { words = words; room = room; refusals = refusals; offers = offers }
 
 -- Nothing but words is changed.
 abbrev pub KeepsLimits : View → View → Type 0
 KeepsLimits old new = new ≡ record old { words = new.words }
 
 -- the same, where no segment has more room
-pub same_room : (words : Segments) (new old : ℕ → ℕ) (refusals : ℕ) (offers : ℕ → ℕ → Bool) → new ≡ old → view_of words new refusals offers ≡ view_of words old refusals offers
+pub same_room : (words : Segments) (new old : ℕ → ℕ) (refusals : ℕ) (offers : ℕ → ℕ → Bool) →
+    new ≡ old → view_of words new refusals offers ≡ view_of words old refusals offers
 same_room words new old refusals offers e = ap (λ (room : ℕ → ℕ). view_of words room refusals offers) e

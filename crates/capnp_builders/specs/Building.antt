@@ -20,7 +20,13 @@ pub record Building : Type 0 where
 
 -- what a builder writes
 abbrev pub built : {A : Type 0} → (A → View) → PointerBuilder A → Building
-built view b = record { segments = (view b.arena.now).words; segment = b.segment; at = b.at; room = (view b.arena.now).room b.segment }
+built view b =
+    record {
+      segments = (view b.arena.now).words;
+      segment = b.segment;
+      at = b.at;
+      room = (view b.arena.now).room b.segment;
+    }
 
 -- Whatever value the place had, it has t in its stead.
 abbrev pub Becomes : Building → Building → Tree → Type 0
@@ -49,7 +55,8 @@ pub record KeepsListBuilder {A : Type 0} (old new : ListBuilder A) : Type 0 wher
   pub same : new.arena.ghost_name ≡ old.arena.ghost_name
   pub place : new.place ≡ old.place
 
--- A call changes nothing but words, and the room of segments that are new; where it is refused, also how often memory was refused.
+-- A call changes nothing but words, and the room of segments that are new; where it is refused,
+-- also how often memory was refused.
 pub record ChangesWords {A : Type 0} (result : Result A ErrorKind) (old new : View) : Type 0 where
   pub granted : OnOk result (KeepsMemory old new)
   pub refused : IfErr result (SpendsMemory old new)
@@ -65,7 +72,9 @@ calling_last view b new = call_at b.segment b.at (view b.arena.now) new
 abbrev pub OfStored : Building → (Tree → Type 0) → Type 0
 OfStored b P = (t : Tree) → IsStored b.segments b.segment b.at t → P t
 
--- A call that is done with its builder gives a value by which Q holds of the message that is left; or it is refused, and so it is with some message.
-abbrev pub LeavesMessage : {B C : Type 0} → (B → View) → (B → C) → (View → Result C ErrorKind → Type 0) → Result B ErrorKind → Type 0
+-- A call that is done with its builder gives a value by which Q holds of the message that is left;
+-- or it is refused, and so it is with some message.
+abbrev pub LeavesMessage : {B C : Type 0} → (B → View) → (B → C) →
+    (View → Result C ErrorKind → Type 0) → Result B ErrorKind → Type 0
 LeavesMessage view_in value_in Q (Ok b) = Q (view_in b) (Ok (value_in b))
 LeavesMessage view_in value_in Q (Err k) = (new : View) × Q new (Err k)

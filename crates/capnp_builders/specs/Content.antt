@@ -1,5 +1,6 @@
 -- What a struct of a message that is built has of another struct's content ("Structs").
-use Rattle.std.specs.Prelude.{◌≡◌, ℕ, zero, suc, ◌+◌, ◌-◌, ◌*◌, ◌/◌, ◌%◌, ◌^◌, ◌<◌, List, Result, slice_index, min}
+use Rattle.std.specs.Prelude.{◌≡◌, ℕ, zero, suc, ◌+◌, ◌-◌, ◌*◌, ◌/◌, ◌%◌, ◌^◌, ◌<◌, List, Result}
+use Rattle.std.specs.Prelude.{slice_index, min}
 use Rattle.capnp_words.specs.Meter.{Meter}
 use Rattle.capnp_format.specs.Segments.{Segments, word_at}
 use Rattle.capnp_format.specs.Tree.{Null}
@@ -21,18 +22,21 @@ use Rattle.capnp_copies.specs.Originals.{children_original}
 abbrev pub content_byte : ℕ → List ℕ → ℕ → ℕ
 content_byte bits bytes i = slice_index bytes i % 2 ^ min 8 (bits - 8 * i)
 
--- A message with the numbers of f in n fields of w bits each, one behind the other from bit b of segment s on.
+-- A message with the numbers of f in n fields of w bits each, one behind the other from bit b of
+-- segment s on.
 abbrev pub with_fields : Segments → ℕ → ℕ → ℕ → (ℕ → ℕ) → ℕ → Segments
 with_fields S s b w f zero = S
 with_fields S s b w f (suc n) = with_field (with_fields S s b w f n) s (b + n * w) w (f n)
 
--- A message with content in the data section of a struct: in its whole bytes, and then in the bits behind these.
+-- A message with content in the data section of a struct: in its whole bytes, and then in the bits
+-- behind these.
 abbrev pub with_content : Segments → StructPlace → ℕ → List ℕ → Segments
 with_content S place bits bytes =
     let start = 8 * place.byte in
     let whole = place.bits / 8 in
     let written = with_fields S place.segment start 8 (content_byte bits bytes) whole in
-    with_fields written place.segment (start + whole * 8) 1 (λ j. content_byte bits bytes whole / 2 ^ j % 2) (place.bits % 8)
+    with_fields written place.segment (start + whole * 8) 1
+    (λ j. content_byte bits bytes whole / 2 ^ j % 2) (place.bits % 8)
 
 -- From S to R n pointers become null, one after the other from position p of segment s on.
 abbrev pub AreCleared : Segments → Segments → ℕ → ℕ → ℕ → Type 0
@@ -44,10 +48,11 @@ abbrev pub pointers_copied : StructPlace → View → View → Meter → Meter �
 pointers_copied place old new before after = change plain place.segment place.pointers_at old new before after
 
 module _ {A : Type 0} (g : Ghosts A) where
-  -- The data of a struct that is read stands in the data section of a struct, as much as both have, and zeros behind it; and
-  -- then the pointers of that became null.
+  -- The data of a struct that is read stands in the data section of a struct, as much as both have,
+  -- and zeros behind it; and then the pointers of that became null.
   pub record TakesData (value : StructReader A g) (place : StructPlace) (old new : View) : Type 0 where
-    pub cleared : AreCleared (with_content old.words place value.bits value.content.now) new.words place.segment place.pointers_at place.pointers
+    pub cleared : AreCleared (with_content old.words place value.bits value.content.now) new.words
+        place.segment place.pointers_at place.pointers
     pub null : (i : ℕ) → i < place.pointers → word_at new.words place.segment (place.pointers_at + i) ≡ 0
     pub limits : KeepsLimits old new
 
@@ -55,17 +60,25 @@ module _ {A : Type 0} (g : Ghosts A) where
   abbrev pub both_have : StructReader A g → StructPlace → ℕ
   both_have value place = min place.pointers value.pointer_count
 
-  -- The data is taken, and then as many pointers are copied as both have; or copying these is refused by the name k.
+  -- The data is taken, and then as many pointers are copied as both have; or copying these is
+  -- refused by the name k.
   abbrev pub TakesContent : StructReader A g → StructPlace → Change → Type 0
-  TakesContent value place c = (mid : View) × TakesData value place c.old mid × CopiesChildren (pointers_read g value) (both_have value place) (record c { old = mid })
+  TakesContent value place c = (mid : View) × TakesData value place c.old mid ×
+      CopiesChildren (pointers_read g value) (both_have value place) (record c { old = mid })
 
   abbrev pub StopsAtContent : StructReader A g → StructPlace → Change → ErrorKind → Type 0
-  StopsAtContent value place c k = (mid : View) × TakesData value place c.old mid × CopiesFirst (pointers_read g value) (both_have value place) (record c { old = mid }) k
+  StopsAtContent value place c k =
+      (mid : View) × TakesData value place c.old mid ×
+      CopiesFirst (pointers_read g value) (both_have value place) (record c { old = mid }) k
 
-  -- The pointers that both have can be read, and the words of what they mean fit behind those of the struct's segment.
+  -- The pointers that both have can be read, and the words of what they mean fit behind those of
+  -- the struct's segment.
   abbrev pub ContentFits : StructReader A g → StructPlace → Change → Type 0
-  ContentFits value place c = CanBeCopied (children_original (pointers_read g value) (both_have value place)) c.form c.before c.old c.segment
+  ContentFits value place c =
+      CanBeCopied (children_original (pointers_read g value)
+      (both_have value place)) c.form c.before c.old c.segment
 
   -- Words are taken for the copies of these pointers alone.
   abbrev pub TakesForContent : {B E : Type 0} → Result B E → StructReader A g → StructPlace → Change → Type 0
-  TakesForContent result value place c = TakesAtMost result (children_original (pointers_read g value) (both_have value place)) c
+  TakesForContent result value place c =
+      TakesAtMost result (children_original (pointers_read g value) (both_have value place)) c

@@ -1,8 +1,11 @@
 -- Defaults: what stands for a null pointer ("Default Values").
-use Rattle.std.specs.Prelude.{◌≡◌, ◌⊎◌, ℕ, ◌-◌, ◌/◌, ◌^◌, ◌<◌, ◌≤◌, List, [], ◌∷◌, cond, nat_eq, length, true, false, Option, Some, None, IfSome, Result, Err, IsOk, IsErrAnd}
+use Rattle.std.specs.Prelude.{◌≡◌, ◌⊎◌, ℕ, ◌-◌, ◌/◌, ◌^◌, ◌<◌, ◌≤◌, List, [], ◌∷◌, if◌then◌else◌}
+use Rattle.std.specs.Prelude.{nat_eq, length, true, false, Option, Some, None, IfSome, Result, Err}
+use Rattle.std.specs.Prelude.{IsOk, IsErrAnd, ⊤}
 use Rattle.std.specs.Borrow.{Bor}
 use Rattle.capnp_words.specs.declared.error.ErrorKind.{ErrorKind}
-use Rattle.capnp_words.specs.declared.error.ErrorKind.TheVariants.{ExistingPointerIsNotAList, MessageContainsOutOfBoundsPointer}
+use Rattle.capnp_words.specs.declared.error.ErrorKind.TheVariants.{ExistingPointerIsNotAList}
+use Rattle.capnp_words.specs.declared.error.ErrorKind.TheVariants.{MessageContainsOutOfBoundsPointer}
 use Rattle.capnp_words.specs.Meter.{unused}
 use Rattle.capnp_format.specs.Bytes.{words_of}
 use Rattle.capnp_format.specs.Tree.{Tree, Null, capabilities}
@@ -21,35 +24,48 @@ use Rattle.capnp_copies.specs.Originals.{value_original}
 use Rattle.capnp_copies.specs.Rooms.{IsTooLarge, CanBeCopied}
 use Rattle.capnp_making.specs.Makes.{CallAt, call_at}
 
--- The first word of a default, whose bytes are one segment. Nothing is charged there, and as many levels may be entered as a nesting limit can say.
+-- The first word of a default, whose bytes are one segment. Nothing is charged there, and as many
+-- levels may be entered as a nesting limit can say.
 abbrev pub default_root : List ℕ → Reading
-default_root bytes = record { segments = default_segments bytes; charging = false; of_default = true; levels = 2 ^ 31 - 1; segment = default_segment; at = 0 }
+default_root bytes =
+    record {
+      segments = default_segments bytes;
+      charging = false;
+      of_default = true;
+      levels = 2 ^ 31 - 1;
+      segment = default_segment;
+      at = 0;
+    }
 
 -- The copy of a default to position at of segment id.
 abbrev pub default_copy : ℕ → ℕ → View → View → Change
 default_copy id at old new = change of_default id at old new (unused None) (unused None)
 
--- Why a default isn't copied, by the name k: what its first word leads to has this fault, of which a capability is one; or there is no room for an object
--- of it.
+-- Why a default isn't copied, by the name k: what its first word leads to has this fault, of which
+-- a capability is one; or there is no room for an object of it.
 abbrev pub RefusesDefault : List ℕ → Change → ErrorKind → Type 0
 RefusesDefault bytes c k =
     HasFault of_default (default_root bytes) k
-    ⊎ LacksRoom c k (λ n. StopsWithin c.form (WantsWords c.form n) (default_root bytes) c.before c.after) (IsTooLarge c.form (value_original (default_root bytes)))
+    ⊎ LacksRoom c k (λ n. StopsWithin c.form (WantsWords c.form n)
+    (default_root bytes) c.before c.after) (IsTooLarge c.form
+    (value_original (default_root bytes)))
 
 -- A default is of fewer than 2^32 words.
 abbrev pub IsShortDefault : Option (Bor (List ℕ)) → Type 0
 IsShortDefault default = IfSome default (λ d. length d.now / 8 < 2 ^ 32)
 
--- What a call does with its default: nothing; or it is refused by a name; or the value of these bytes is copied in place of null.
+-- What a call does with its default: nothing; or it is refused by a name; or the value of these
+-- bytes is copied in place of null.
 pub data DefaultUse : Type 0 where
   ignored : DefaultUse
   denied : ErrorKind → DefaultUse
   copied : List ℕ → DefaultUse
 
--- What a call that finds null does with a default of these words; `of_null` is for one whose first word is null.
+-- What a call that finds null does with a default of these words; `of_null` is for one whose first
+-- word is null.
 abbrev pub use_of_words : DefaultUse → List ℕ → List ℕ → DefaultUse
 use_of_words of_null bytes [] = denied MessageContainsOutOfBoundsPointer
-use_of_words of_null bytes (x ∷ xs) = cond (nat_eq x 0) of_null (copied bytes)
+use_of_words of_null bytes (x ∷ xs) = if nat_eq x 0 then of_null else copied bytes
 
 -- A default is for null alone.
 abbrev pub default_use : DefaultUse → Option (Bor (List ℕ)) → Tree → DefaultUse
@@ -68,32 +84,37 @@ blob_default default t = default_use (denied ExistingPointerIsNotAList) default 
 abbrev pub IsIgnoredDefault : Option (Bor (List ℕ)) → Type 0
 IsIgnoredDefault default = object_default default Null ≡ ignored
 
--- The value u of a default, which has no capabilities, is stored in place of null, and no more words are taken than reading it costs.
+-- The value u of a default, which has no capabilities, is stored in place of null, and no more
+-- words are taken than reading it costs.
 pub record PutsDefault (bytes : List ℕ) (c : CallAt) (u : Tree) : Type 0 where
   pub meant : (n : ℕ) × MeansThere (default_root bytes) u n
   pub plain : capabilities u ≡ 0
   pub replaced : IsReplaced c.old.words c.new.words c.segment c.at Null u
   pub stands : IsCopiedInRoom c.old c.new c.segment c.at u
   pub memory : KeepsMemory c.old c.new
-  pub taken : (value_original (default_root bytes)).takes of_default (unused None) (unused None) (MakesAtMost c.segment c.old c.new)
+  pub taken : (value_original (default_root bytes)).takes of_default (unused None) (unused None)
+      (MakesAtMost c.segment c.old c.new)
 
 -- The copy of a default is refused by the name k: null stands, and new words are zero.
 pub record DropsDefault (bytes : List ℕ) (c : CallAt) (k : ErrorKind) : Type 0 where
   pub named : RefusesDefault bytes (default_copy c.segment c.at c.old c.new) k
   pub replaced : IsReplaced c.old.words c.new.words c.segment c.at Null Null
   pub memory : SpendsMemory c.old c.new k
-  pub taken : (value_original (default_root bytes)).takes_until of_default (unused None) (unused None) (MakesAtMost c.segment c.old c.new)
+  pub taken : (value_original (default_root bytes)).takes_until of_default (unused None)
+      (unused None) (MakesAtMost c.segment c.old c.new)
 
--- A default's value is put in place of null, and from there on the call does what P says of a value that stands.
+-- A default's value is put in place of null, and from there on the call does what P says of a value
+-- that stands.
 pub record OnDefault (bytes : List ℕ) (c : CallAt) (P : CallAt → Tree → Type 0) : Type 0 where
   pub mid : View
   pub value : Tree
   pub put : PutsDefault bytes (record c { new = mid }) value
   pub does : P (record c { old = mid }) value
 
--- What a call does where t stands, by its use of a default: as P says of t; or it is refused, and nothing is changed; or as P says of the default's value,
--- or its copy is refused.
-abbrev pub WithDefault : {B : Type 0} → DefaultUse → CallAt → Tree → (CallAt → Tree → Type 0) → Result B ErrorKind → Type 0
+-- What a call does where t stands, by its use of a default: as P says of t; or it is refused, and
+-- nothing is changed; or as P says of the default's value, or its copy is refused.
+abbrev pub WithDefault : {B : Type 0} → DefaultUse → CallAt → Tree → (CallAt → Tree → Type 0) →
+    Result B ErrorKind → Type 0
 WithDefault ignored c t P result = P c t
 WithDefault (denied k) c t P result = (result ≡ Err k) × (c.new ≡ c.old)
 WithDefault (copied bytes) c t P result = OnDefault bytes c P ⊎ IsErrAnd result (DropsDefault bytes c)
@@ -106,15 +127,18 @@ DefaultCopyFits bytes v id = CanBeCopied (value_original (default_root bytes)) o
 abbrev pub DefaultFits : Option (Bor (List ℕ)) → View → ℕ → Type 0
 DefaultFits default v id = IfSome default (λ d. (8 ≤ length d.now) × DefaultCopyFits d.now v id)
 
--- A call at a place has room, by its use of a default: where Fits says so of the message v; or where the default's copy fits, and Fits says so of whatever
--- message that can leave. A default that is refused fits nowhere.
+-- A call at a place has room, by its use of a default: where Fits says so of the message v; or
+-- where the default's copy fits, and Fits says so of whatever message that can leave. A default
+-- that is refused fits nowhere.
 abbrev pub FitsWithDefault : DefaultUse → View → ℕ → ℕ → (View → Type 0) → Type 0
 FitsWithDefault ignored v s p Fits = Fits v
 FitsWithDefault (denied k) v s p Fits = ⊥
-FitsWithDefault (copied bytes) v s p Fits = DefaultCopyFits bytes v s × ((m : View) (u : Tree) → PutsDefault bytes (call_at s p v m) u → Fits m)
+FitsWithDefault (copied bytes) v s p Fits =
+    DefaultCopyFits bytes v s × ((m : View) (u : Tree) → PutsDefault bytes (call_at s p v m) u →
+    Fits m)
 
 -- A default is put where the call uses one, and nothing else is done.
-abbrev pub PutsDefaultOver : DefaultUse → CallAt → Tree → Result (Unit {0}) ErrorKind → Type 0
+abbrev pub PutsDefaultOver : DefaultUse → CallAt → Tree → Result ⊤ ErrorKind → Type 0
 PutsDefaultOver w c t result = WithDefault w c t (λ d u. IsOk result × (d.new ≡ d.old)) result
 
 -- There is a default with a first word, which is null.

@@ -18,13 +18,21 @@ use Rattle.capnp_builders.specs.Places.{list_place}
 
 -- A void list of none, in segment id.
 abbrev pub void_list : ℕ → ListPlace
-void_list id = record { segment = id; byte = 0; size = Void; struct_size = record { data_words = 0; pointers = 0 }; count = 0 }
+void_list id =
+    record {
+      segment = id;
+      byte = 0;
+      size = Void;
+      struct_size = record { data_words = 0; pointers = 0 };
+      count = 0;
+    }
 
 -- No bytes, in segment id.
 abbrev pub no_bytes : ℕ → ExistingBytes
 no_bytes id = record { segment = id; start = 0; length = 0 }
 
--- What a call gives at a pointer of segment id, by what is found: a list of none, or no bytes, where that is null.
+-- What a call gives at a pointer of segment id, by what is found: a list of none, or no bytes,
+-- where that is null.
 abbrev pub list_given : ℕ → Result (Option ExistingList) ErrorKind → Result ListPlace ErrorKind
 list_given id (Ok (Some l)) = Ok (list_place l)
 list_given id (Ok None) = Ok (void_list id)
@@ -37,21 +45,32 @@ bytes_given id (Err k) = Err k
 
 -- A call gives what is found where t stands, a list or bytes, and nothing is changed.
 abbrev pub GivesFoundList : ElementSize → Result ListPlace ErrorKind → CallAt → Tree → Type 0
-GivesFoundList size result c t = (result ≡ list_given c.segment (list_in (target c.old.words c.segment c.at) size t)) × (c.new ≡ c.old)
+GivesFoundList size result c t =
+    (result ≡ list_given c.segment (list_in (target c.old.words c.segment c.at) size t)) ×
+    (c.new ≡ c.old)
 
-abbrev pub GivesFoundBytes : (Target → Tree → Result (Option ExistingBytes) ErrorKind) → Result ExistingBytes ErrorKind → CallAt → Tree → Type 0
-GivesFoundBytes found_in result c t = (result ≡ bytes_given c.segment (found_in (target c.old.words c.segment c.at) t)) × (c.new ≡ c.old)
+abbrev pub GivesFoundBytes : (Target → Tree → Result (Option ExistingBytes) ErrorKind) →
+    Result ExistingBytes ErrorKind → CallAt → Tree → Type 0
+GivesFoundBytes found_in result c t =
+    (result ≡ bytes_given c.segment (found_in (target c.old.words c.segment c.at) t)) ×
+    (c.new ≡ c.old)
 
--- A call puts its default in place of null, and then gives the list that stands; or the bytes, which are data or a text.
-abbrev pub FindsList : ElementSize → Option (Bor (List ℕ)) → Result ListPlace ErrorKind → CallAt → Tree → Type 0
-FindsList size default result c t = WithDefault (object_default default t) c t (GivesFoundList size result) result
+-- A call puts its default in place of null, and then gives the list that stands; or the bytes,
+-- which are data or a text.
+abbrev pub FindsList : ElementSize → Option (Bor (List ℕ)) → Result ListPlace ErrorKind → CallAt →
+    Tree → Type 0
+FindsList size default result c t =
+    WithDefault (object_default default t) c t (GivesFoundList size result) result
 
 abbrev pub FindsBytes :
-    (Target → Tree → Result (Option ExistingBytes) ErrorKind) → Option (Bor (List ℕ)) → Result ExistingBytes ErrorKind → CallAt → Tree → Type 0
-FindsBytes found_in default result c t = WithDefault (blob_default default t) c t (GivesFoundBytes found_in result) result
+    (Target → Tree → Result (Option ExistingBytes) ErrorKind) → Option (Bor (List ℕ)) →
+    Result ExistingBytes ErrorKind → CallAt → Tree → Type 0
+FindsBytes found_in default result c t =
+    WithDefault (blob_default default t) c t (GivesFoundBytes found_in result) result
 
 -- What is found is lent for writing; or the call is refused by the same name.
-abbrev pub IsLent : {B : Type 0} → (B → List ℕ) → List (List ℕ) → Result ExistingBytes ErrorKind → Result B ErrorKind → Type 0
+abbrev pub IsLent : {B : Type 0} → (B → List ℕ) → List (List ℕ) → Result ExistingBytes ErrorKind →
+    Result B ErrorKind → Type 0
 IsLent now segments (Ok b) (Ok s) = now s ≡ bytes_there segments b
 IsLent now segments (Err k) (Err l) = l ≡ k
 IsLent now segments found result = ⊥

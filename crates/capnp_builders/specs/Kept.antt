@@ -17,10 +17,13 @@ use Rattle.capnp_copies.specs.Originals.{Original}
 use Rattle.capnp_builders.specs.declared.builders.PointerBuilder.{PointerBuilder}
 
 -- A copy to the place of a builder: the builder and the read limiter, before it and after it.
-abbrev pub copying : {A : Type 0} → (A → View) → Bool → PointerBuilder A → PointerBuilder A → Meter → Meter → Change
-copying view canonicalize b b' m m' = change (form_of canonicalize) b.segment b.at (view b.arena.now) (view b'.arena.now) m m'
+abbrev pub copying : {A : Type 0} → (A → View) → Bool → PointerBuilder A → PointerBuilder A →
+    Meter → Meter → Change
+copying view canonicalize b b' m m' =
+    change (form_of canonicalize) b.segment b.at (view b.arena.now) (view b'.arena.now) m m'
 
--- What the place held becomes zero first, and its words stay allocated. Then P says where the words of what is kept stand.
+-- What the place held becomes zero first, and its words stay allocated. Then P says where the words
+-- of what is kept stand.
 pub record OnceCleared (P : Change → Type 0) (c : Change) : Type 0 where
   pub cleared : View
   pub zeroed : IsPruned c.old.words cleared.words
@@ -28,7 +31,8 @@ pub record OnceCleared (P : Change → Type 0) (c : Change) : Type 0 where
   pub null : Puts c.old.words cleared.words c.segment c.at Null
   pub stands : P (record c { old = cleared })
 
--- What is copied is read, and whatever value the place had, what is kept of the value that was read stands in its stead.
+-- What is copied is read, and whatever value the place had, what is kept of the value that was read
+-- stands in its stead.
 pub record PutsCopy (o : Original Tree) (c : Change) : Type 0 where
   pub value : Tree
   pub is_read : o.reads c.form c.before c.after value
@@ -46,9 +50,11 @@ pub record LeavesCleared (o : Original Tree) (c : Change) (k : ErrorKind) : Type
 abbrev pub FillsSegment : Reading → Change → Type 0
 FillsSegment r c =
     (t : Tree) × Reads c.form r c.before c.after t
-    × (StayInSegment c.old c.new c.segment (word_count (kept c.form t)) → segment c.new.words c.segment ≡ encoding (kept c.form t))
+    × (StayInSegment c.old c.new c.segment (word_count (kept c.form t)) →
+    segment c.new.words c.segment ≡ encoding (kept c.form t))
 
 -- It is read, and its copy is all of the message, where that has one segment.
 abbrev pub FillsMessage : Reading → Change → Type 0
 FillsMessage r c =
-    (t : Tree) × Reads c.form r c.before c.after t × (length c.new.words ≡ 1 → c.new.words ≡ encoding (kept c.form t) ∷ [])
+    (t : Tree) × Reads c.form r c.before c.after t ×
+    (length c.new.words ≡ 1 → c.new.words ≡ encoding (kept c.form t) ∷ [])

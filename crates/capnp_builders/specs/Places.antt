@@ -30,32 +30,56 @@ struct_place e = record {
 
 -- Where a list of a message is, as a builder has it.
 abbrev pub list_place : ExistingList → ListPlace
-list_place l = record { segment = l.segment; byte = 8 * l.start; size = l.size; struct_size = l.struct_size; count = l.count }
+list_place l =
+    record {
+      segment = l.segment;
+      byte = 8 * l.start;
+      size = l.size;
+      struct_size = l.struct_size;
+      count = l.count;
+    }
 
 -- The pointer of a call leads to a struct of this size, whose sections lie in the message.
 pub record IsStructOf (c : CallAt) (size : StructSize) (place : StructPlace) : Type 0 where
   pub is : place ≡ struct_place (existing_struct (start_of (target c.new.words c.segment c.at)) size)
   pub inside : IsStructPlace c.new.words place
 
--- The pointer of a call leads to a list, which `list` says of where that leads, and whose elements lie in the message.
+-- The pointer of a call leads to a list, which `list` says of where that leads, and whose elements
+-- lie in the message.
 pub record IsListOf (c : CallAt) (list : Target → ExistingList) (place : ListPlace) : Type 0 where
   pub is : place ≡ list_place (list (target c.new.words c.segment c.at))
   pub inside : IsListPlace c.new.words place
 
--- Where element number i of a list of this element size is, as a struct: its two sections, one pointer, or the bits of a number.
+-- Where element number i of a list of this element size is, as a struct: its two sections, one
+-- pointer, or the bits of a number.
 abbrev pub element_place : ElementSize → ListPlace → ℕ → StructPlace
 element_place InlineComposite list i =
     let step = list.struct_size.data_words + list.struct_size.pointers in
-    struct_place (record { segment = list.segment; start = list.byte / 8 + i * step; size = list.struct_size })
+    struct_place (record {
+      segment = list.segment;
+      start = list.byte / 8 + i * step;
+      size = list.struct_size;
+    })
 element_place Pointer list i =
-    struct_place (record { segment = list.segment; start = list.byte / 8 + i; size = record { data_words = 0; pointers = 1 } })
+    struct_place (record {
+      segment = list.segment;
+      start = list.byte / 8 + i;
+      size = record { data_words = 0; pointers = 1 };
+    })
 element_place size list i =
     let bits = element_bits (size_number size) in
-    record { segment = list.segment; byte = list.byte + i * (bits / 8); bits = bits; pointers_at = list.byte / 8; pointers = 0 }
+    record {
+      segment = list.segment;
+      byte = list.byte + i * (bits / 8);
+      bits = bits;
+      pointers_at = list.byte / 8;
+      pointers = 0;
+    }
 
 -- A data section starts at a multiple of the widest numbers that it holds, which take 1, 2, 4 or 8 bytes.
 abbrev pub IsAligned : StructPlace → Type 0
-IsAligned place = let widest = min 8 (place.bits / 8) in 0 < widest → (8 % widest ≡ 0) × (place.byte % widest ≡ 0)
+IsAligned place =
+    let widest = min 8 (place.bits / 8) in 0 < widest → (8 % widest ≡ 0) × (place.byte % widest ≡ 0)
 
 -- Bits that are written: how many bits behind the start they begin, how many they are, and their number.
 pub record Field : Type 0 where
@@ -73,7 +97,8 @@ number_field bytes i value = field (8 * (i * bytes)) (8 * bytes) value
 
 -- A field is written behind a byte of a segment, and nothing else is changed.
 abbrev pub WritesField : View → View → ℕ → ℕ → Field → Type 0
-WritesField old new segment byte f = new ≡ record old { words = with_field old.words segment (8 * byte + f.start) f.bits f.value }
+WritesField old new segment byte f =
+    new ≡ record old { words = with_field old.words segment (8 * byte + f.start) f.bits f.value }
 
 -- A field behind a byte of a segment has its number.
 abbrev pub HasField : View → ℕ → ℕ → Field → Type 0

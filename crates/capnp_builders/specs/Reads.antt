@@ -19,10 +19,12 @@ module _ {A : Type 0} (g : Ghosts A) where
   -- A struct is read at a place.
   abbrev pub IsReadAt : StructPlace → StructReader A g → Type 0
   IsReadAt place r =
-      (r.byte ≡ place.byte) × (r.bits ≡ place.bits) × (r.pointers.segment ≡ place.segment) × (r.pointers.at ≡ place.pointers_at) × (r.pointer_count ≡ place.pointers)
+      (r.byte ≡ place.byte) × (r.bits ≡ place.bits) × (r.pointers.segment ≡ place.segment) ×
+      (r.pointers.at ≡ place.pointers_at) × (r.pointer_count ≡ place.pointers)
 
   -- A list is read at a place.
   abbrev pub IsListReadAt : ListPlace → ListReader A g → Type 0
   IsListReadAt place r =
-      (r.element_size ≡ place.size) × (r.count ≡ place.count) × (place.size ≡ InlineComposite → r.struct_size ≡ place.struct_size)
+      (r.element_size ≡ place.size) × (r.count ≡ place.count) ×
+      (place.size ≡ InlineComposite → r.struct_size ≡ place.struct_size)
       × (r.start.segment ≡ place.segment) × (8 * r.start.at ≡ place.byte)

@@ -1,5 +1,6 @@
 -- What a call gives, and why it is refused.
-use Rattle.std.specs.Prelude.{◌≡◌, ◌⊎◌, ℕ, ℤ, ◌-◌, ◌%◌, ◌^◌, ◌<◌, List, [], All, Bool, true, false, length, map, Option, Some, None}
+use Rattle.std.specs.Prelude.{◌≡◌, ◌⊎◌, ℕ, ℤ, ◌-◌, ◌%◌, ◌^◌, ◌<◌, List, [], All, Bool, true, false}
+use Rattle.std.specs.Prelude.{length, map, Option, Some, None}
 use Rattle.std.specs.Borrow.{Bor}
 use Rattle.capnp_words.specs.declared.error.ErrorKind.{ErrorKind}
 use Rattle.capnp_words.specs.declared.error.ErrorKind.TheVariants.{MessageTooLarge}
@@ -23,7 +24,9 @@ use Rattle.capnp_streams.specs.declared.streams.task.Form.TheVariants.{Framed, F
 use Rattle.capnp_canonical.specs.Numbers.{reason_number, answer_number}
 use Rattle.capnp_canonical.specs.declared.fault.Fault.{Fault}
 use Rattle.capnp_canonical.specs.declared.refusal.Refusal.{Refusal}
-use Rattle.capnp_canonical.specs.declared.refusal.Refusal.TheVariants.{NoRoom, NoMessage, SegmentIsNotWholeWords, Frame, Layout}
+use Rattle.capnp_canonical.specs.declared.refusal.Refusal.TheVariants.{NoRoom, NoMessage}
+use Rattle.capnp_canonical.specs.declared.refusal.Refusal.TheVariants.{SegmentIsNotWholeWords}
+use Rattle.capnp_canonical.specs.declared.refusal.Refusal.TheVariants.{Frame, Layout}
 
 -- The limits of a reader's options.
 abbrev pub limits_of : ℤ → ℕ → ReaderOptions
@@ -45,7 +48,8 @@ InSegments segments P = AreWholeWords segments × AreSmall segments × P (messag
 
 -- Bytes begin with no frame: there are none, or for the first reason that stands.
 abbrev pub RefusesBytes : List ℕ → ℕ → Refusal → Type 0
-RefusesBytes bytes words r = ((r ≡ NoMessage) × (bytes ≡ [])) ⊎ ((e : FrameError) × (r ≡ Frame e) × NoFrame bytes words e)
+RefusesBytes bytes words r =
+    ((r ≡ NoMessage) × (bytes ≡ [])) ⊎ ((e : FrameError) × (r ≡ Frame e) × NoFrame bytes words e)
 
 -- Segments aren't those of a message: one isn't of whole words, or they are beyond the limits of a reader.
 abbrev pub RefusesSegments : List (Bor (List ℕ)) → Refusal → Type 0
@@ -55,7 +59,8 @@ RefusesSegments segments r =
 
 -- The canonical bytes of a message, in a form.
 abbrev pub IsCopyOf : Form → ReaderOptions → Segments → List ℕ → Type 0
-IsCopyOf form limits S bytes = (t : Tree) × IsValueOf S limits t × (bytes ≡ form_bytes form (encoding (trim t)))
+IsCopyOf form limits S bytes =
+    (t : Tree) × IsValueOf S limits t × (bytes ≡ form_bytes form (encoding (trim t)))
 
 -- There is a copy, of so many bytes, which is more than there is room for.
 abbrev pub HasTooLittleRoom : Form → ReaderOptions → Segments → ℕ → Refusal → Type 0
@@ -68,7 +73,8 @@ RefusesMeaning command limits S r = (k : ErrorKind) × (r ≡ Layout k) × Refus
 
 -- A copy is refused: so, or for want of room.
 abbrev pub RefusesRoom : Form → ReaderOptions → ℕ → Segments → Refusal → Type 0
-RefusesRoom form limits room S r = RefusesMeaning (Canon form) limits S r ⊎ HasTooLittleRoom form limits S room r
+RefusesRoom form limits room S r =
+    RefusesMeaning (Canon form) limits S r ⊎ HasTooLittleRoom form limits S room r
 
 -- A number is that of a refusal of which P holds.
 abbrev pub IsNumberWhere : ℕ → (Refusal → Type 0) → Type 0

@@ -24,4 +24,5 @@ fitting text room = min (length text) (room - 1)
 -- A text stands at the front of bytes, as far as there is room, with a zero behind it.
 abbrev pub HoldsText : List ℕ → List ℕ → Type 0
 HoldsText text bytes =
-    0 < length bytes → take (1 + fitting text (length bytes)) bytes ≡ take (fitting text (length bytes)) text ++ 0 ∷ []
+    0 < length bytes → take (1 + fitting text (length bytes)) bytes
+    ≡ take (fitting text (length bytes)) text ++ 0 ∷ []

@@ -28,7 +28,8 @@ use Rattle.capnp_copies.specs.Rooms.{IsTooLarge}
 use Rattle.capnp_copies.specs.Widths.{widths_kept}
 use Rattle.capnp_copies.specs.declared.widths.ElementSizes.{ElementSizes}
 
--- A call that copies to a place, or from a place of a segment on: the arena and the read limiter, before it and after it.
+-- A call that copies to a place, or from a place of a segment on: the arena and the read limiter,
+-- before it and after it.
 pub record Change : Type 0 where
   pub form : Form
   pub segment : ℕ
@@ -39,46 +40,65 @@ pub record Change : Type 0 where
   pub after : Meter
 
 abbrev pub change : Form → ℕ → ℕ → View → View → Meter → Meter → Change
-change form s p old new before after = record { form = form; segment = s; at = p; old = old; new = new; before = before; after = after }
+change form s p old new before after =
+    record {
+      form = form;
+      segment = s;
+      at = p;
+      old = old;
+      new = new;
+      before = before;
+      after = after;
+    }
 
--- n words fit behind those of segment id, or the message has but one segment once they are written: they stay in the segment.
+-- n words fit behind those of segment id, or the message has but one segment once they are written:
+-- they stay in the segment.
 abbrev pub StayInSegment : View → View → ℕ → ℕ → Type 0
 StayInSegment old new id n = HasOwnRoom old id n ⊎ (length new.words ≡ 1)
 
--- The words of t, where they stay in segment id, stand behind those that were there, and their pointer at position at of it.
+-- The words of t, where they stay in segment id, stand behind those that were there, and their
+-- pointer at position at of it.
 abbrev pub IsCopiedInRoom : View → View → ℕ → ℕ → Tree → Type 0
-IsCopiedInRoom old new id at t = StayInSegment old new id (word_count t) → new.words ≡ with_segment old.words id (copied (segment old.words id) at t)
+IsCopiedInRoom old new id at t =
+    StayInSegment old new id (word_count t) →
+    new.words ≡ with_segment old.words id (copied (segment old.words id) at t)
 
--- So many words are made of the object a, to which the pointer at a place leads: of a struct its sections that are kept, of a
--- list its elements, and of a list of structs its tag and theirs, cut to the sections that are kept.
+-- So many words are made of the object a, to which the pointer at a place leads: of a struct its
+-- sections that are kept, of a list its elements, and of a list of structs its tag and theirs, cut
+-- to the sections that are kept.
 pub data IsMadeOf (form : Form) (r : Reading) (a : Target) (n : ℕ) : Type 0 where
   as_struct :
       kind a.word ≡ 0 →
       n ≡ kept_count form (words_at r.segments a.segment a.start (data_words a.word))
       + kept_count form (words_at r.segments a.segment (a.start + data_words a.word) (pointer_count a.word)) →
       IsMadeOf form r a n
-  as_numbers : kind a.word ≡ 1 → element_size a.word ≤ 5 → n ≡ words_for (element_size a.word) (list_count a.word) → IsMadeOf form r a n
+  as_numbers : kind a.word ≡ 1 → element_size a.word ≤ 5 →
+      n ≡ words_for (element_size a.word) (list_count a.word) → IsMadeOf form r a n
   as_pointers : kind a.word ≡ 1 → element_size a.word ≡ 6 → n ≡ list_count a.word → IsMadeOf form r a n
   as_structs :
       IsStructList a.word →
       n ≡ structs_words (offset_bits (tag r.segments a))
-      (widths_kept form (child_at r a (pred r.levels) (a.start + 1)) (tag_size r.segments a) (offset_bits (tag r.segments a))) →
+      (widths_kept form (child_at r a (pred r.levels) (a.start + 1)) (tag_size r.segments a)
+      (offset_bits (tag r.segments a))) →
       IsMadeOf form r a n
 
 -- An object was read, and n words are to be made of it.
 abbrev pub WantsWords : Form → ℕ → Reading → Meter → Meter → Type 0
 WantsWords form n r m m' = (a : Target) × Entered Value r m m' a × IsMadeOf form r a n
 
--- The arena has no room, by the name k, for words of which Q says where they are wanted. What is copied is then too large for its
--- segment, as P says of the words in use and the room.
+-- The arena has no room, by the name k, for words of which Q says where they are wanted. What is
+-- copied is then too large for its segment, as P says of the words in use and the room.
 abbrev pub LacksRoom : Change → ErrorKind → (ℕ → Type 0) → (ℕ → ℕ → Type 0) → Type 0
-LacksRoom c k Q P = (n : ℕ) × RefusesWords c.old c.new n k × Q n × P (length (segment c.old.words c.segment)) (c.old.room c.segment)
+LacksRoom c k Q P = (n : ℕ) × RefusesWords c.old c.new n k × Q n ×
+    P (length (segment c.old.words c.segment)) (c.old.room c.segment)
 
--- Why a copy is refused by the name k: the arena has no room for an object of words that are at hand, before anything is read, or
--- for one that reading leads to; reading is refused; or what is copied is larger than an object can be.
+-- Why a copy is refused by the name k: the arena has no room for an object of words that are at
+-- hand, before anything is read, or for one that reading leads to; reading is refused; or what is
+-- copied is larger than an object can be.
 abbrev pub RefusesToCopy : {V : Type 0} → Original V → Change → ErrorKind → Type 0
 RefusesToCopy o c k =
-    LacksRoom c k (λ n. ((c.after ≡ c.before) × o.makes c.form n) ⊎ o.stops c.form (WantsWords c.form n) c.before c.after) (IsTooLarge c.form o)
+    LacksRoom c k (λ n. ((c.after ≡ c.before) × o.makes c.form n) ⊎
+    o.stops c.form (WantsWords c.form n) c.before c.after) (IsTooLarge c.form o)
     ⊎ o.stops c.form (λ r m m'. Stopped Value c.form r m m' k) c.before c.after ⊎ o.exceeds c.form k
 
 -- The last n words of the segment stand from the place on, and are zero.
@@ -86,7 +106,8 @@ pub record EndsInZeros (c : Change) (n : ℕ) : Type 0 where
   pub ends : c.at + n ≡ length (segment c.old.words c.segment)
   pub zero : (j : ℕ) → c.at ≤ j → word_at c.old.words c.segment j ≡ 0
 
--- What is copied is read, and what is kept of its value stands at the place that was null; nothing but words is changed.
+-- What is copied is read, and what is kept of its value stands at the place that was null; nothing
+-- but words is changed.
 pub record MakesCopy (o : Original Tree) (c : Change) : Type 0 where
   pub value : Tree
   pub is_read : o.reads c.form c.before c.after value
@@ -111,7 +132,9 @@ pub record CopiesChildren (r : Reading) (i : ℕ) (c : Change) : Type 0 where
   pub are_read : ReadsAll c.form r c.before c.after children
   pub made : AreFilled c.old.words c.new.words c.segment c.at (kept_each c.form children)
   pub memory : KeepsMemory c.old c.new
-  pub stands : StayInSegment c.old c.new c.segment (word_count_all (kept_each c.form children)) → c.new.words ≡ with_segment c.old.words c.segment (with_children (segment c.old.words c.segment) c.at (kept_each c.form children))
+  pub stands : StayInSegment c.old c.new c.segment (word_count_all (kept_each c.form children)) →
+      c.new.words ≡ with_segment c.old.words c.segment
+      (with_children (segment c.old.words c.segment) c.at (kept_each c.form children))
 
 pub record StopsAtChildren (r : Reading) (i : ℕ) (c : Change) (k : ErrorKind) : Type 0 where
   pub why : RefusesToCopy (children_original r i) c k
@@ -120,8 +143,8 @@ pub record StopsAtChildren (r : Reading) (i : ℕ) (c : Change) (k : ErrorKind) 
   pub made : AreFilled c.old.words c.new.words c.segment c.at left
   pub memory : SpendsMemory c.old c.new k
 
--- Of i pointers from a place on the first are read and copied as they stand; the next one is refused by the name k, and stays
--- null.
+-- Of i pointers from a place on the first are read and copied as they stand; the next one is
+-- refused by the name k, and stays null.
 pub record CopiesFirst (r : Reading) (i : ℕ) (c : Change) (k : ErrorKind) : Type 0 where
   pub first : Trees
   pub fewer : count first < i
@@ -131,12 +154,13 @@ pub record CopiesFirst (r : Reading) (i : ℕ) (c : Change) (k : ErrorKind) : Ty
   pub made : AreFilled c.old.words filled c.segment c.at first
   pub cleared : IsReplaced filled c.new.words c.segment (c.at + count first) Null Null
   pub why :
-      LacksRoom c k (λ n. StopsWithin plain (WantsWords plain n) (behind r (count first)) between c.after) (IsTooLarge plain (children_original r i))
+      LacksRoom c k (λ n. StopsWithin plain (WantsWords plain n)
+      (behind r (count first)) between c.after) (IsTooLarge plain (children_original r i))
       ⊎ Refused plain (behind r (count first)) between c.after k
   pub memory : SpendsMemory c.old c.new k
 
--- A call copies i elements of a list of structs, cut to the sections that are kept, where the rows of so many others are still to
--- come.
+-- A call copies i elements of a list of structs, cut to the sections that are kept, where the rows
+-- of so many others are still to come.
 pub record CopiesRows (r : Reading) (sizes : ElementSizes) (i left : ℕ) (c : Change) : Type 0 where
   pub elements : Elements
   pub counts : element_count elements ≡ i
@@ -147,17 +171,24 @@ pub record CopiesRows (r : Reading) (sizes : ElementSizes) (i left : ℕ) (c : C
   pub memory : KeepsMemory c.old c.new
   pub stands :
       EndsInZeros c ((i + left) * (sizes.kept.data_words + sizes.kept.pointers))
-      → StayInSegment c.old c.new c.segment (word_count_elements (cut_to sizes.kept.data_words sizes.kept.pointers (kept_elements c.form elements)))
+      → StayInSegment c.old c.new c.segment
+      (word_count_elements (cut_to sizes.kept.data_words sizes.kept.pointers
+      (kept_elements c.form elements)))
       → c.new.words
       ≡ with_segment c.old.words c.segment
-      (rows_laid (take c.at (segment c.old.words c.segment)) sizes.kept.data_words sizes.kept.pointers (cut_to sizes.kept.data_words sizes.kept.pointers (kept_elements c.form elements)) left)
+      (rows_laid (take c.at (segment c.old.words c.segment)) sizes.kept.data_words
+      sizes.kept.pointers (cut_to sizes.kept.data_words sizes.kept.pointers
+      (kept_elements c.form elements)) left)
 
-pub record StopsAtElements (r : Reading) (sizes : ElementSizes) (i : ℕ) (c : Change) (k : ErrorKind) : Type 0 where
+pub record StopsAtElements (r : Reading) (sizes : ElementSizes) (i : ℕ) (c : Change) (k : ErrorKind)
+    : Type 0 where
   pub why :
       LacksRoom c k (λ n. StopsAmongElements c.form (WantsWords c.form n) r sizes.source i c.before c.after)
-      (λ used room. EndsInZeros c (i * (sizes.kept.data_words + sizes.kept.pointers)) → IsTooLarge c.form (elements_original r sizes i) used room)
+      (λ used room. EndsInZeros c (i * (sizes.kept.data_words + sizes.kept.pointers)) →
+      IsTooLarge c.form (elements_original r sizes i) used room)
       ⊎ RefusedElements c.form r sizes.source i c.before c.after k
-  pub left : ArePartlyFilled c.old.words c.new.words c.segment c.at sizes.kept.data_words sizes.kept.pointers i
+  pub left : ArePartlyFilled c.old.words c.new.words c.segment c.at sizes.kept.data_words
+      sizes.kept.pointers i
   pub memory : SpendsMemory c.old c.new k
 
 -- A call copies the kept sections of one element of a list of structs.
@@ -165,13 +196,17 @@ pub record CopiesElement (r : Reading) (sizes : ElementSizes) (c : Change) : Typ
   pub children : Trees
   pub counts : count children ≡ sizes.kept.pointers
   pub are_read : ReadsAll c.form (behind r sizes.source.data_words) c.before c.after children
-  pub made : IsElementFilled c.old.words c.new.words c.segment c.at (words_from r sizes.kept.data_words) (kept_each c.form children)
+  pub made : IsElementFilled c.old.words c.new.words c.segment c.at
+      (words_from r sizes.kept.data_words) (kept_each c.form children)
   pub memory : KeepsMemory c.old c.new
   pub stands :
-      IsPlace c.old.words c.segment c.at → StayInSegment c.old c.new c.segment (word_count_all (kept_each c.form children))
+      IsPlace c.old.words c.segment c.at →
+      StayInSegment c.old c.new c.segment (word_count_all (kept_each c.form children))
       → c.new.words
       ≡ with_segment c.old.words c.segment
-      (with_children (overwritten (segment c.old.words c.segment) c.at (words_from r sizes.kept.data_words)) (c.at + sizes.kept.data_words) (kept_each c.form children))
+      (with_children (overwritten (segment c.old.words c.segment) c.at
+      (words_from r sizes.kept.data_words)) (c.at
+      + sizes.kept.data_words) (kept_each c.form children))
 
 pub record StopsAtElement (r : Reading) (sizes : ElementSizes) (c : Change) (k : ErrorKind) : Type 0 where
   pub why : RefusesToCopy (children_original (behind r sizes.source.data_words) sizes.kept.pointers) c k

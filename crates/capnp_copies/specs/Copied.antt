@@ -10,11 +10,13 @@ copied ws p t = set (ws ++ body t) p (pointer t (offset_to p (length ws)))
 
 -- once children are copied: their bodies behind the words, and their pointers from position p of them on
 abbrev pub with_children : List ℕ → ℕ → Trees → List ℕ
-with_children ws p ts = take p ws ++ pointers (length ws - (p + count ts)) ts ++ drop (p + count ts) ws ++ bodies ts
+with_children ws p ts =
+    take p ws ++ pointers (length ws - (p + count ts)) ts ++ drop (p + count ts) ws ++ bodies ts
 
 -- while elements are copied, some of them being there and n still to come
 abbrev pub rows_laid : List ℕ → ℕ → ℕ → Elements → ℕ → List ℕ
-rows_laid front d q es n = front ++ rows d q (n * (d + q)) es ++ replicate (n * (d + q)) 0 ++ element_bodies es
+rows_laid front d q es n =
+    front ++ rows d q (n * (d + q)) es ++ replicate (n * (d + q)) 0 ++ element_bodies es
 
 -- the words, with zeros behind so many bits
 abbrev pub low_bits : List ℕ → ℕ → List ℕ

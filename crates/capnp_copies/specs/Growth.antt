@@ -1,5 +1,6 @@
--- How many words a copy takes of a message, whether it ends or is refused: those of its objects, and its landing pads.
-use Rattle.std.specs.Prelude.{◌≡◌, ◌≢◌, ℕ, ◌+◌, ◌<◌, ◌≤◌, true, length, sum_by, Some, Result, MatchResult}
+-- How many words a copy takes of a message, whether it ends or is refused: those of its objects,
+-- and its landing pads.
+use Rattle.std.specs.Prelude.{◌≡◌, ◌≢◌, ℕ, ◌+◌, ◌<◌, ◌≤◌, true, length, sum_by, Some, Result, MatchResult, ⊤}
 use Rattle.capnp_words.specs.declared.error.ErrorKind.{ErrorKind}
 use Rattle.capnp_format.specs.Segments.{Segments, segment}
 use Rattle.capnp_arena.specs.Taking.{SameRoomBelow}
@@ -20,10 +21,11 @@ pub record TakesNone (old new : View) : Type 0 where
   pub words : (v : ℕ) → length (segment new.words v) ≡ length (segment old.words v)
   pub room : SameRoomBelow (length old.words) old.room new.room
 
--- From old to new objects are made for pointers of segment id, of so many words in all, with so many landing pads. An object of n words stands in
--- the segment of its pointer where that has room for it, and has no pad. Else it gets one, and stands in another segment k, the next with room for
--- both. No other words are taken, and each segment keeps its room. The objects below it are made for pointers of its own segment
--- ("Inter-Segment Pointers").
+-- From old to new objects are made for pointers of segment id, of so many words in all, with so
+-- many landing pads. An object of n words stands in the segment of its pointer where that has room
+-- for it, and has no pad. Else it gets one, and stands in another segment k, the next with room for
+-- both. No other words are taken, and each segment keeps its room. The objects below it are made
+-- for pointers of its own segment ("Inter-Segment Pointers").
 pub data Makes : ℕ → View → View → ℕ → ℕ → Type 0 where
   no_object : {id : ℕ} {old new : View} → TakesNone old new → Makes id old new 0 0
   near :
@@ -46,7 +48,8 @@ pub data Makes : ℕ → View → View → ℕ → ℕ → Type 0 where
       Makes id mid new more_words more_pads →
       Makes id old new (words + more_words) (pads + more_pads)
 
--- From old to new objects of at most n words in all are made for pointers of segment id, with at most p landing pads.
+-- From old to new objects of at most n words in all are made for pointers of segment id, with at
+-- most p landing pads.
 pub record MakesAtMost (id : ℕ) (old new : View) (n p : ℕ) : Type 0 where
   pub words : ℕ
   pub pads : ℕ
@@ -54,22 +57,24 @@ pub record MakesAtMost (id : ℕ) (old new : View) (n p : ℕ) : Type 0 where
   pub less : words ≤ n
   pub few : pads ≤ p
 
--- What a copy takes: where all is read, by what that costs; and where it is refused, by what was read before the object where it
--- breaks off.
+-- What a copy takes: where all is read, by what that costs; and where it is refused, by what was
+-- read before the object where it breaks off.
 abbrev pub TakesAtMost : {A E V : Type 0} → Result A E → Original V → Change → Type 0
 TakesAtMost result o c =
     MatchResult result (λ _. o.takes c.form c.before c.after (MakesAtMost c.segment c.old c.new))
     (λ _. o.takes_until c.form c.before c.after (MakesAtMost c.segment c.old c.new))
 
--- What is made takes just its words and its landing pads. There is no pad where all the words have room in the segment of the pointers, and
--- none where the message has but one segment afterwards.
+-- What is made takes just its words and its landing pads. There is no pad where all the words have
+-- room in the segment of the pointers, and none where the message has but one segment afterwards.
 abbrev pub PadsApart : Type 0
 PadsApart =
     (id words pads : ℕ) (old new : View) → Makes id old new words pads →
-    (message_words new.words ≡ message_words old.words + (words + pads)) × (id < length old.words → StayInSegment old new id words → pads ≡ 0)
+    (message_words new.words ≡ message_words old.words + (words + pads)) ×
+    (id < length old.words → StayInSegment old new id words → pads ≡ 0)
 
--- Under a budget of x words a copy makes objects of at most x words in all, with at most x + 1 landing pads, and follows at most x + 1 pointers.
--- It takes at most x words, its pads apart, and has no pad where x words have room in the place's segment, nor in a message of one segment.
+-- Under a budget of x words a copy makes objects of at most x words in all, with at most x + 1
+-- landing pads, and follows at most x + 1 pointers. It takes at most x words, its pads apart, and
+-- has no pad where x words have room in the place's segment, nor in a message of one segment.
 pub record TakesFew (c : Change) (x : ℕ) : Type 0 where
   pub made : MakesAtMost c.segment c.old c.new x (x + 1)
   pub words : message_words c.new.words ≤ message_words c.old.words + x + made.pads
@@ -78,5 +83,6 @@ pub record TakesFew (c : Change) (x : ℕ) : Type 0 where
 
 abbrev pub FewTaken : Type 0
 FewTaken =
-    (r : Reading) (c : Change) (x : ℕ) (result : Result (Unit {0}) ErrorKind) → r.charging ≡ true → c.before.left ≡ Some x →
+    (r : Reading) (c : Change) (x : ℕ) (result : Result ⊤ ErrorKind) → r.charging ≡ true →
+    c.before.left ≡ Some x →
     TakesAtMost result (value_original r) c → TakesFew c x

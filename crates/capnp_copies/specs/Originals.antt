@@ -1,5 +1,5 @@
--- What is copied: what a place means, children, elements, a struct, or a list; how each is read, and what a copy makes of its own
--- words.
+-- What is copied: what a place means, children, elements, a struct, or a list; how each is read,
+-- and what a copy makes of its own words.
 use Rattle.std.specs.Prelude.{◌≡◌, ◌⊎◌, ℕ, ◌-◌, ◌*◌, ◌+◌, ◌^◌, ◌<◌, List, length}
 use Rattle.capnp_words.specs.declared.error.ErrorKind.{ErrorKind}
 use Rattle.capnp_words.specs.declared.error.ErrorKind.TheVariants.{MessageTooLarge}
@@ -10,11 +10,13 @@ use Rattle.capnp_words.specs.Meter.{Meter}
 use Rattle.capnp_words.specs.Sizes.{size_number}
 use Rattle.capnp_format.specs.Canonical.{cut_to, used_words, word_count, word_count_all, word_count_elements}
 use Rattle.capnp_format.specs.Numbers.{words_for, unpacked}
-use Rattle.capnp_format.specs.Tree.{Tree, Struct, Flat, Pointers, Structs, Trees, Elements, count, element_count}
+use Rattle.capnp_format.specs.Tree.{Tree, Struct, Flat, Pointers, Structs, Trees, Elements, count}
+use Rattle.capnp_format.specs.Tree.{element_count}
 use Rattle.capnp_making.specs.Made.{structs_words}
 use Rattle.capnp_objects.specs.Outcomes.{Reads, ReadsAll, ReadsElements}
 use Rattle.capnp_objects.specs.Reading.{Reading, words_from}
-use Rattle.capnp_objects.specs.Refusals.{StopsWithin, StopsAmong, StopsAmongElements, BreaksOff, BreaksOffAmong, BreaksOffAmongElements}
+use Rattle.capnp_objects.specs.Refusals.{StopsWithin, StopsAmong, StopsAmongElements, BreaksOff}
+use Rattle.capnp_objects.specs.Refusals.{BreaksOffAmong, BreaksOffAmongElements}
 use Rattle.capnp_objects.specs.Spending.{pointers_in, pointers_in_all, pointers_in_elements}
 use Rattle.capnp_objects.specs.Wanted.{Form, canonical}
 use Rattle.capnp_copies.specs.Costs.{spent_until, spent_among, spent_among_elements}
@@ -22,8 +24,9 @@ use Rattle.capnp_copies.specs.Forms.{kept, kept_each, kept_elements}
 use Rattle.capnp_copies.specs.Widths.{widths_kept}
 use Rattle.capnp_copies.specs.declared.widths.ElementSizes.{ElementSizes}
 
--- What is copied, whose value is a tree, or children, or elements. It is told by how it is read, by what a copy makes of it when
--- nothing of it has been read yet, and by how many words a copy has, and takes at most, with its landing pads.
+-- What is copied, whose value is a tree, or children, or elements. It is told by how it is read, by
+-- what a copy makes of it when nothing of it has been read yet, and by how many words a copy has,
+-- and takes at most, with its landing pads.
 pub record Original (V : Type 0) : Type 1 where
   -- From one meter to another it is read in a form, and this is its value.
   pub reads : Form → Meter → Meter → V → Type 0
@@ -35,13 +38,15 @@ pub record Original (V : Type 0) : Type 1 where
   pub exceeds : Form → ErrorKind → Type 0
   -- So many words of it a copy in a form has, besides those that stand at the place already.
   pub words : Form → V → ℕ
-  -- From one meter to another it is read in a form, and a predicate says of how many words and pads its copy takes for that.
+  -- From one meter to another it is read in a form, and a predicate says of how many words and pads
+  -- its copy takes for that.
   pub takes : Form → Meter → Meter → (ℕ → ℕ → Type 0) → Type 0
-  -- From one meter to another reading it in a form is broken off at one object, or nothing is read of what is at hand; and a predicate
-  -- says of how many words and pads its copy takes until then.
+  -- From one meter to another reading it in a form is broken off at one object, or nothing is read
+  -- of what is at hand; and a predicate says of how many words and pads its copy takes until then.
   pub takes_until : Form → Meter → Meter → (ℕ → ℕ → Type 0) → Type 0
 
--- What a place means: no words of it are at hand. Its copy takes what reading it costs, and a pad for each pointer that is followed.
+-- What a place means: no words of it are at hand. Its copy takes what reading it costs, and a pad
+-- for each pointer that is followed.
 abbrev pub value_original : Reading → Original Tree
 value_original r = record {
   reads = λ form m m' t. Reads form r m m' t;
@@ -61,20 +66,26 @@ children_original r n = record {
   makes = λ form i. ⊥;
   exceeds = λ form k. ⊥;
   words = λ form ts. word_count_all (kept_each form ts);
-  takes = λ form m m' P. (ts : Trees) × (count ts ≡ n) × (x : ReadsAll form r m m' ts) × P x.cost (pointers_in_all ts);
-  takes_until = λ form m m' P. (x : BreaksOffAmong form r n m m') × P (spent_among x).words (spent_among x).pointers;
+  takes = λ form m m' P. (ts : Trees) × (count ts ≡ n) × (x : ReadsAll form r m m' ts) ×
+      P x.cost (pointers_in_all ts);
+  takes_until = λ form m m' P. (x : BreaksOffAmong form r n m m') ×
+      P (spent_among x).words (spent_among x).pointers;
 }
 
--- What the pointers of so many elements mean, which are of a size where they are read, and of another where they are copied.
+-- What the pointers of so many elements mean, which are of a size where they are read, and of
+-- another where they are copied.
 abbrev pub elements_original : Reading → ElementSizes → ℕ → Original Elements
 elements_original r sizes n = record {
   reads = λ form m m' es. (element_count es ≡ n) × ReadsElements form r sizes.source m m' es;
   stops = λ form P m m'. StopsAmongElements form P r sizes.source n m m';
   makes = λ form i. ⊥;
   exceeds = λ form k. ⊥;
-  words = λ form es. word_count_elements (cut_to sizes.kept.data_words sizes.kept.pointers (kept_elements form es));
-  takes = λ form m m' P. (es : Elements) × (element_count es ≡ n) × (x : ReadsElements form r sizes.source m m' es) × P x.cost (pointers_in_elements es);
-  takes_until = λ form m m' P. (x : BreaksOffAmongElements form r sizes.source n m m') × P (spent_among_elements x).words (spent_among_elements x).pointers;
+  words = λ form es. word_count_elements
+      (cut_to sizes.kept.data_words sizes.kept.pointers (kept_elements form es));
+  takes = λ form m m' P. (es : Elements) × (element_count es ≡ n) ×
+      (x : ReadsElements form r sizes.source m m' es) × P x.cost (pointers_in_elements es);
+  takes_until = λ form m m' P. (x : BreaksOffAmongElements form r sizes.source n m m') ×
+      P (spent_among_elements x).words (spent_among_elements x).pointers;
 }
 
 -- How many words of a section a copy keeps: in canonical form those up to the last that isn't zero.
@@ -86,8 +97,8 @@ kept_count _ ws = length ws
 abbrev pub IsTooWide : ℕ → ErrorKind → Type 0
 IsTooWide n k = (2 ^ 16 - 1 < n) × (k ≡ MessageTooLarge n)
 
--- The struct of these data words, whose pointers are so many from a place on. Its own words cost nothing: they come on top, and its
--- pad.
+-- The struct of these data words, whose pointers are so many from a place on. Its own words cost
+-- nothing: they come on top, and its pad.
 abbrev pub sections_original : List ℕ → Reading → ℕ → Original Tree
 sections_original ws r q = record {
   reads = λ form m m' t. (ts : Trees) × (t ≡ Struct ws ts) × (count ts ≡ q) × ReadsAll form r m m' ts;
@@ -95,11 +106,15 @@ sections_original ws r q = record {
   makes = λ form n. n ≡ kept_count form ws + kept_count form (words_from r q);
   exceeds = λ form k. IsTooWide (kept_count form ws) k;
   words = λ form t. word_count (kept form t);
-  takes = λ form m m' P. (ts : Trees) × (count ts ≡ q) × (x : ReadsAll form r m m' ts) × P (length ws + q + x.cost) (1 + pointers_in_all ts);
-  takes_until = λ form m m' P. ((m' ≡ m) × P 0 0) ⊎ ((x : BreaksOffAmong form r q m m') × P (length ws + q + (spent_among x).words) (1 + (spent_among x).pointers));
+  takes = λ form m m' P. (ts : Trees) × (count ts ≡ q) × (x : ReadsAll form r m m' ts) ×
+      P (length ws + q + x.cost) (1 + pointers_in_all ts);
+  takes_until = λ form m m' P. ((m' ≡ m) × P 0 0) ⊎
+      ((x : BreaksOffAmong form r q m m') ×
+      P (length ws + q + (spent_among x).words) (1 + (spent_among x).pointers));
 }
 
--- So many elements, of so many words each where they are structs, are as many as a list pointer and its tag can say.
+-- So many elements, of so many words each where they are structs, are as many as a list pointer and
+-- its tag can say.
 abbrev pub FitsListPointer : ElementSize → ℕ → ℕ → Type 0
 FitsListPointer InlineComposite n width = (n < 2 ^ 30) × (n * width < 2 ^ 29)
 FitsListPointer size n width = n < 2 ^ 29
@@ -108,10 +123,12 @@ FitsListPointer size n width = n < 2 ^ 29
 abbrev pub IsTooLong : ElementSize → ℕ → ℕ → ErrorKind → Type 0
 IsTooLong size n width k = (FitsListPointer size n width → ⊥) × (k ≡ MessageTooLarge (2 ^ 64 - 1))
 
--- The list of n elements from a place on: of numbers, which reading costs nothing; of pointers; and of structs of a size.
+-- The list of n elements from a place on: of numbers, which reading costs nothing; of pointers; and
+-- of structs of a size.
 abbrev pub numbers_original : ElementSize → ℕ → Reading → Original Tree
 numbers_original size n r = record {
-  reads = λ form m m' t. (t ≡ Flat (size_number size) (unpacked (size_number size) n (words_from r (words_for (size_number size) n)))) × (m' ≡ m);
+  reads = λ form m m' t. (t ≡ Flat (size_number size)
+      (unpacked (size_number size) n (words_from r (words_for (size_number size) n)))) × (m' ≡ m);
   stops = λ form P m m'. ⊥;
   makes = λ form i. i ≡ words_for (size_number size) n;
   exceeds = λ form k. IsTooLong size n 0 k;
@@ -127,22 +144,32 @@ pointers_original n r = record {
   makes = λ form i. i ≡ n;
   exceeds = λ form k. IsTooLong Pointer n 0 k;
   words = λ form t. word_count (kept form t);
-  takes = λ form m m' P. (ts : Trees) × (count ts ≡ n) × (x : ReadsAll form r m m' ts) × P (n + x.cost) (1 + pointers_in_all ts);
-  takes_until = λ form m m' P. ((m' ≡ m) × P 0 0) ⊎ ((x : BreaksOffAmong form r n m m') × P (n + (spent_among x).words) (1 + (spent_among x).pointers));
+  takes = λ form m m' P. (ts : Trees) × (count ts ≡ n) × (x : ReadsAll form r m m' ts) ×
+      P (n + x.cost) (1 + pointers_in_all ts);
+  takes_until = λ form m m' P. ((m' ≡ m) × P 0 0) ⊎
+      ((x : BreaksOffAmong form r n m m') ×
+      P (n + (spent_among x).words) (1 + (spent_among x).pointers));
 }
 
 abbrev pub structs_original : StructSize → ℕ → Reading → Original Tree
 structs_original size n r = record {
-  reads = λ form m m' t. (es : Elements) × (t ≡ Structs size.data_words size.pointers es) × (element_count es ≡ n) × ReadsElements form r size m m' es;
+  reads = λ form m m' t. (es : Elements) × (t ≡ Structs size.data_words size.pointers es) ×
+      (element_count es ≡ n) × ReadsElements form r size m m' es;
   stops = λ form P m m'. StopsAmongElements form P r size n m m';
   makes = λ form i. i ≡ structs_words n (widths_kept form r size n);
   exceeds = λ form k. IsTooLong InlineComposite n (size.data_words + size.pointers) k;
   words = λ form t. word_count (kept form t);
-  takes = λ form m m' P. (es : Elements) × (element_count es ≡ n) × (x : ReadsElements form r size m m' es) × P (structs_words n size + x.cost) (1 + pointers_in_elements es);
-  takes_until = λ form m m' P. ((m' ≡ m) × P 0 0) ⊎ ((x : BreaksOffAmongElements form r size n m m') × P (structs_words n size + (spent_among_elements x).words) (1 + (spent_among_elements x).pointers));
+  takes = λ form m m' P. (es : Elements) × (element_count es ≡ n) ×
+      (x : ReadsElements form r size m m' es) ×
+      P (structs_words n size + x.cost) (1 + pointers_in_elements es);
+  takes_until = λ form m m' P. ((m' ≡ m) × P 0 0) ⊎
+      ((x : BreaksOffAmongElements form r size n m m') ×
+      P (structs_words n size + (spent_among_elements x).words)
+      (1 + (spent_among_elements x).pointers));
 }
 
--- The list of n elements of a size, which are structs of these sections where they are structs, from a place on.
+-- The list of n elements of a size, which are structs of these sections where they are structs,
+-- from a place on.
 abbrev pub list_original : ElementSize → StructSize → ℕ → Reading → Original Tree
 list_original Pointer sections n r = pointers_original n r
 list_original InlineComposite sections n r = structs_original sections n r

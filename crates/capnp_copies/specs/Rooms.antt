@@ -7,13 +7,17 @@ use Rattle.capnp_making.specs.Near.{HasOwnRoom}
 use Rattle.capnp_objects.specs.Wanted.{Form}
 use Rattle.capnp_copies.specs.Originals.{Original}
 
--- Whatever can be read of it, by any meter, has more words to be kept than fit behind so many words of a segment with this room.
+-- Whatever can be read of it, by any meter, has more words to be kept than fit behind so many words
+-- of a segment with this room.
 abbrev pub IsTooLarge : {V : Type 0} → Form → Original V → ℕ → ℕ → Type 0
-IsTooLarge {V} form o used room = (any : Form) (m m' : Meter) (value : V) → o.reads any m m' value → room < used + o.words form value
+IsTooLarge {V} form o used room =
+    (any : Form) (m m' : Meter) (value : V) → o.reads any m m' value →
+    room < used + o.words form value
 
--- It is no larger than an object can be, a limiter lets it be read in the form, and the words to be kept of it fit behind those of
--- segment id.
-pub record CanBeCopied {V : Type 0} (o : Original V) (form : Form) (m : Meter) (v : View) (id : ℕ) : Type 0 where
+-- It is no larger than an object can be, a limiter lets it be read in the form, and the words to be
+-- kept of it fit behind those of segment id.
+pub record CanBeCopied {V : Type 0} (o : Original V) (form : Form) (m : Meter) (v : View) (id : ℕ)
+    : Type 0 where
   pub small : (k : ErrorKind) → o.exceeds form k → ⊥
   pub value : V
   pub after : Meter

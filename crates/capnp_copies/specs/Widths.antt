@@ -6,13 +6,15 @@ use Rattle.capnp_objects.specs.Reading.{Reading, segment_read, sized}
 use Rattle.capnp_objects.specs.Wanted.{Form, canonical}
 use Rattle.capnp_copies.specs.declared.widths.ElementSizes.{ElementSizes}
 
--- The most words that are used, up to the last that isn't zero, of n sections of so many words: the first stands at position p, and
--- each so many words behind the one before it.
+-- The most words that are used, up to the last that isn't zero, of n sections of so many words: the
+-- first stands at position p, and each so many words behind the one before it.
 abbrev pub most_used : List ℕ → ℕ → ℕ → ℕ → ℕ → ℕ
 most_used ws p words stride zero = 0
-most_used ws p words stride (suc n) = max (used_words (take words (drop p ws))) (most_used ws (p + stride) words stride n)
+most_used ws p words stride (suc n) =
+    max (used_words (take words (drop p ws))) (most_used ws (p + stride) words stride n)
 
--- The sections that a copy in a form keeps of each of i elements from a place on: in canonical form the least that lose nothing.
+-- The sections that a copy in a form keeps of each of i elements from a place on: in canonical form
+-- the least that lose nothing.
 abbrev pub widths_kept : Form → Reading → StructSize → ℕ → StructSize
 widths_kept canonical r size i =
     sized (most_used (segment_read r) r.at size.data_words (size.data_words + size.pointers) i)
@@ -22,5 +24,6 @@ widths_kept _ r size i = size
 -- No pointer that is used of i elements is cut.
 abbrev pub KeepsPointers : Form → Reading → ElementSizes → ℕ → Type 0
 KeepsPointers canonical r sizes i =
-    most_used (segment_read r) (r.at + sizes.source.data_words) sizes.source.pointers (sizes.source.data_words + sizes.source.pointers) i ≤ sizes.kept.pointers
+    most_used (segment_read r) (r.at + sizes.source.data_words) sizes.source.pointers
+    (sizes.source.data_words + sizes.source.pointers) i ≤ sizes.kept.pointers
 KeepsPointers _ r sizes i = sizes.kept ≡ sizes.source

@@ -1,8 +1,14 @@
 -- What edits make of the value of a message.
 use Rattle.std.specs.Option.{option_map_or}
-use Rattle.std.specs.Prelude.{MatchOption, ◌≡◌, ◌⊎◌, ℕ, min, ◌+◌, ◌*◌, ◌<◌, ◌≤◌, Bool, true, false, cond, nat_le, nat_lt, List, ◌++◌, [], ◌∷◌, length, get_or, slice_set, Option, Some, None, unwrap_or, Result, Ok, Err}
+use Rattle.std.specs.Prelude.{MatchOption, ◌≡◌, ◌⊎◌, ℕ, min, ◌+◌, ◌*◌, ◌<◌, ◌≤◌, Bool, true, false}
+use Rattle.std.specs.Prelude.{if◌then◌else◌, nat_le, nat_lt, List, ◌++◌, [], ◌∷◌, length, get_or}
+use Rattle.std.specs.Prelude.{slice_set, Option, Some, None, unwrap_or, Result, Ok, Err}
 use Rattle.capnp_words.specs.declared.error.ErrorKind.{ErrorKind}
-use Rattle.capnp_words.specs.declared.error.ErrorKind.TheVariants.{AllocationFailed, FoundBitListWhereStructListWasExpected, MessageContainsNonStructPointerWhereStructPointerWasExpected, MessageTooLarge, NoSuchPlace, UnknownPointerType}
+use Rattle.capnp_words.specs.declared.error.ErrorKind.TheVariants.{AllocationFailed}
+use Rattle.capnp_words.specs.declared.error.ErrorKind.TheVariants.{FoundBitListWhereStructListWasExpected}
+use Rattle.capnp_words.specs.declared.error.ErrorKind.TheVariants.{MessageContainsNonStructPointerWhereStructPointerWasExpected}
+use Rattle.capnp_words.specs.declared.error.ErrorKind.TheVariants.{MessageTooLarge, NoSuchPlace}
+use Rattle.capnp_words.specs.declared.error.ErrorKind.TheVariants.{UnknownPointerType}
 use Rattle.capnp_words.specs.declared.wire_pointer.ElementSize.{ElementSize}
 use Rattle.capnp_words.specs.Sizes.{size_number}
 use Rattle.capnp_format.specs.Numbers.{element_bits, words_for}
@@ -25,7 +31,9 @@ use Rattle.capnp_objects.specs.Wanted.{of_default}
 use Rattle.capnp_readers.specs.Readers.{IsListPlace}
 use Rattle.capnp_readers.specs.declared.readers.struct_reader.StructPlace.{StructPlace}
 use Rattle.capnp_widening.specs.Widened.{list_widened}
-use Rattle.capnp_builders.specs.Defaults.{DefaultUse, ignored, denied as is_denied_by, copied as is_copied_from, object_default, blob_default, default_root}
+use Rattle.capnp_builders.specs.Defaults.{DefaultUse, ignored, denied as is_denied_by}
+use Rattle.capnp_builders.specs.Defaults.{copied as is_copied_from, object_default, blob_default}
+use Rattle.capnp_builders.specs.Defaults.{default_root}
 use Rattle.capnp_widening.specs.Opening.{struct_opened}
 use Rattle.capnp_builders.specs.Laws.{TakesBytes}
 use Rattle.capnp_edits.specs.declared.edit.Source.{Source}
@@ -37,18 +45,26 @@ use Rattle.capnp_edits.specs.declared.edit.Edit.{Edit}
 use Rattle.capnp_edits.specs.declared.edit.copying.Copying.{Copying}
 use Rattle.capnp_edits.specs.declared.edit.copying.Wanted.TheVariants.{Struct as AStruct}
 use Rattle.capnp_edits.specs.declared.edit.tasks.Task.{Task}
-use Rattle.capnp_edits.specs.declared.edit.tasks.Task.TheVariants.{Make, Point, InStruct, Write, Search, CopyRoot}
+use Rattle.capnp_edits.specs.declared.edit.tasks.Task.TheVariants.{Make, Point, InStruct, Write}
+use Rattle.capnp_edits.specs.declared.edit.tasks.Task.TheVariants.{Search, CopyRoot}
 use Rattle.capnp_edits.specs.declared.edit.tasks.Object.{Object}
-use Rattle.capnp_edits.specs.declared.edit.tasks.Object.TheVariants.{ZeroStruct, ZeroList, ZeroStructs, ZeroText, Text, Data}
+use Rattle.capnp_edits.specs.declared.edit.tasks.Object.TheVariants.{ZeroStruct, ZeroList}
+use Rattle.capnp_edits.specs.declared.edit.tasks.Object.TheVariants.{ZeroStructs, ZeroText, Text}
+use Rattle.capnp_edits.specs.declared.edit.tasks.Object.TheVariants.{Data}
 use Rattle.capnp_edits.specs.declared.edit.tasks.Number.{Number}
 use Rattle.capnp_edits.specs.declared.edit.tasks.StructChange.{StructChange}
 use Rattle.capnp_edits.specs.declared.edit.tasks.StructChange.TheVariants.{Bits, Content}
 use Rattle.capnp_edits.specs.declared.edit.tasks.Part.{Part}
 use Rattle.capnp_edits.specs.declared.edit.tasks.Part.TheVariants.{ListElement, TextByte, DataByte}
 use Rattle.capnp_edits.specs.declared.edit.tasks.Sought.{Sought}
-use Rattle.capnp_edits.specs.declared.edit.tasks.Sought.TheVariants.{Struct as ForStruct, List as ForList, StructList as ForStructs, Text as ForText, Data as ForData}
+use Rattle.capnp_edits.specs.declared.edit.tasks.Sought.TheVariants.{Struct as ForStruct}
+use Rattle.capnp_edits.specs.declared.edit.tasks.Sought.TheVariants.{List as ForList}
+use Rattle.capnp_edits.specs.declared.edit.tasks.Sought.TheVariants.{StructList as ForStructs}
+use Rattle.capnp_edits.specs.declared.edit.tasks.Sought.TheVariants.{Text as ForText}
+use Rattle.capnp_edits.specs.declared.edit.tasks.Sought.TheVariants.{Data as ForData}
 use Rattle.capnp_edits.specs.Tasks.{task_of}
-use Rattle.capnp_edits.specs.Sources.{copying_from, Copies, ContentRead, Fills, IsNextUnreadable, HasNothingToCopy, IsUnreadable}
+use Rattle.capnp_edits.specs.Sources.{copying_from, Copies, ContentRead, Fills, IsNextUnreadable}
+use Rattle.capnp_edits.specs.Sources.{HasNothingToCopy, IsUnreadable}
 use Rattle.capnp_edits.specs.Paths.{EndValue, PointerTo, ElementOf, path_of, found}
 
 -- The name by which a call is refused, if it is.
@@ -60,9 +76,11 @@ refusal_of (Err k) = Some k
 abbrev pub bits_of : Number → Field
 bits_of n = field (n.index * element_bits (size_number n.size)) (element_bits (size_number n.size)) n.value
 
--- What an operation makes where a path leads: a value; or it is refused by a name, and nothing is changed; or a value whose words are taken first, and another
--- one where memory for them is refused; or what is made of a default's value, which is put in place of null first; or what is copied from another message; or
--- a struct of so many data words and pointers gets the content of that message's.
+-- What an operation makes where a path leads: a value; or it is refused by a name, and nothing is
+-- changed; or a value whose words are taken first, and another one where memory for them is
+-- refused; or what is made of a default's value, which is put in place of null first; or what is
+-- copied from another message; or a struct of so many data words and pointers gets the content of
+-- that message's.
 pub data Making : Type 0 where
   becomes : Tree → Making
   denied : ErrorKind → Making
@@ -78,13 +96,16 @@ struct_with f t = t
 
 -- The same, where the struct has them.
 abbrev pub with_written : Field → Tree → Making
-with_written f (Struct ws ts) = cond (nat_le (f.start + f.bits) (64 * length ws)) (becomes (struct_with f (Struct ws ts))) (denied NoSuchPlace)
+with_written f (Struct ws ts) =
+    if nat_le (f.start + f.bits) (64 * length ws) then becomes (struct_with f (Struct ws ts))
+    else denied NoSuchPlace
 with_written f t = denied NoSuchPlace
 
 -- A list with the lowest w bits of an element written.
 abbrev pub with_lowest : ℕ → ℕ → ℕ → Tree → Tree
 with_lowest i w v (Flat size ns) = Flat size (slice_set ns i (with_bits (get_or ns i 0) 0 w v))
-with_lowest i w v (Structs d q es) = Structs d q (put_struct es i (struct_with (field 0 w v) (struct_at es i)))
+with_lowest i w v (Structs d q es) =
+    Structs d q (put_struct es i (struct_with (field 0 w v) (struct_at es i)))
 with_lowest i w v t = t
 
 -- Where the list of a value is doesn't count here.
@@ -96,13 +117,15 @@ abbrev pub made_of_found : {A : Type 0} → (A → Making) → Result A ErrorKin
 made_of_found made_of (Ok x) = made_of x
 made_of_found made_of (Err k) = denied k
 
--- What is made where element or byte number i of what is found is written: u, if there are so many, of which null has none.
+-- What is made where element or byte number i of what is found is written: u, if there are so many,
+-- of which null has none.
 abbrev pub if_reached : {A : Type 0} → (A → ℕ) → ℕ → Tree → Result (Option A) ErrorKind → Making
-if_reached number i u (Ok (Some x)) = cond (nat_lt i (number x)) (becomes u) (denied NoSuchPlace)
+if_reached number i u (Ok (Some x)) = if nat_lt i (number x) then becomes u else denied NoSuchPlace
 if_reached number i u (Ok None) = denied NoSuchPlace
 if_reached number i u (Err k) = denied k
 
--- What is looked for: a struct, or a list of structs, at least as large as asked for, and no list in null; or a list, a text or data, which leaves t.
+-- What is looked for: a struct, or a list of structs, at least as large as asked for, and no list
+-- in null; or a list, a text or data, which leaves t.
 abbrev pub looked_for : Sought → Tree → Making
 looked_for (ForStruct size) t = made_of_found (allocates t) (struct_opened size t)
 looked_for (ForStructs size) Null = becomes Null
@@ -117,7 +140,8 @@ with_default ignored made_of t = made_of t
 with_default (is_denied_by k) made_of t = denied k
 with_default (is_copied_from bytes) made_of t = defaults bytes made_of
 
--- What is made of a struct that is changed: bits of its data section are written, or content is copied over it.
+-- What is made of a struct that is changed: bits of its data section are written, or content is
+-- copied over it.
 abbrev pub struct_changed : StructChange → Tree → Making
 struct_changed (Bits n) t = with_written (bits_of n) t
 struct_changed (Content source) (Struct ws ts) = fills source (length ws) (count ts)
@@ -126,7 +150,8 @@ struct_changed (Content source) t = denied NoSuchPlace
 -- What is made where a part of a list, a text or data is written.
 abbrev pub part_written : Part → Tree → Making
 part_written (ListElement n) t =
-    if_reached (λ l. l.count) n.index (with_lowest n.index (element_bits (size_number n.size)) n.value t) (list_in nowhere n.size t)
+    if_reached (λ l. l.count) n.index
+    (with_lowest n.index (element_bits (size_number n.size)) n.value t) (list_in nowhere n.size t)
 part_written (TextByte i b) t = if_reached (λ x. x.length) i (with_lowest i 8 b t) (text_in nowhere t)
 part_written (DataByte i b) t = if_reached (λ x. x.length) i (with_lowest i 8 b t) (data_in nowhere t)
 
@@ -183,17 +208,23 @@ refusals_after None n = n
 abbrev pub place_of : {A : Type 0} → PointerBuilder A → PointerPlace
 place_of b = record { segment = b.segment; word = b.at }
 
--- What an operation leaves where it makes this, with its outcome: o in the value's stead, if anything is changed. It is what is made; or all as it was; or, for
--- want of memory, what stands then; or it is what is copied; or null, where that is refused; or all as it was, where there is nothing to be copied. Of content it is
--- all that is copied, as many pointers as both have; or what is before one that is refused, for memory or for what it reads; or all as it was.
+-- What an operation leaves where it makes this, with its outcome: o in the value's stead, if
+-- anything is changed. It is what is made; or all as it was; or, for want of memory, what stands
+-- then; or it is what is copied; or null, where that is refused; or all as it was, where there is
+-- nothing to be copied. Of content it is all that is copied, as many pointers as both have; or what
+-- is before one that is refused, for memory or for what it reads; or all as it was.
 pub data Yields (making : Making) (r : Option ErrorKind) (o : Option Tree) : Type 0 where
   is_done : (u : Tree) → making ≡ becomes u → r ≡ None → o ≡ Some u → Yields making r o
   is_denied : (k : ErrorKind) → making ≡ denied k → r ≡ Some k → o ≡ None → Yields making r o
   is_allocated : (t u : Tree) → making ≡ allocates t u → r ≡ None → o ≡ Some u → Yields making r o
-  is_not_allocated : (t u : Tree) (k : ErrorKind) → making ≡ allocates t u → IsOfMemory k → r ≡ Some k → o ≡ Some t → Yields making r o
-  is_copied : (c : Copying) (u : Tree) → making ≡ copies c → Copies c u → r ≡ None → o ≡ Some u → Yields making r o
-  is_not_copied : (c : Copying) (k : ErrorKind) → making ≡ copies c → IsOfMemory k ⊎ IsUnreadable c k → r ≡ Some k → o ≡ Some Null → Yields making r o
-  is_unread : (c : Copying) (k : ErrorKind) → making ≡ copies c → HasNothingToCopy c k → r ≡ Some k → o ≡ None → Yields making r o
+  is_not_allocated : (t u : Tree) (k : ErrorKind) → making ≡ allocates t u → IsOfMemory k →
+      r ≡ Some k → o ≡ Some t → Yields making r o
+  is_copied : (c : Copying) (u : Tree) → making ≡ copies c → Copies c u → r ≡ None → o ≡ Some u →
+      Yields making r o
+  is_not_copied : (c : Copying) (k : ErrorKind) → making ≡ copies c → IsOfMemory k ⊎
+      IsUnreadable c k → r ≡ Some k → o ≡ Some Null → Yields making r o
+  is_unread : (c : Copying) (k : ErrorKind) → making ≡ copies c → HasNothingToCopy c k →
+      r ≡ Some k → o ≡ None → Yields making r o
   is_filled :
       (source : Source) (d q : ℕ) (u : Tree) →
       making ≡ fills source d q →
@@ -204,14 +235,17 @@ pub data Yields (making : Making) (r : Option ErrorKind) (o : Option Tree) : Typ
   is_half_filled :
       (source : Source) (d q : ℕ) (k : ErrorKind) (u : Tree) →
       making ≡ fills source d q →
-      (c : ContentRead source) × Fills source c d q u × (count c.children < min q c.from.pointers) × (IsOfMemory k ⊎ IsNextUnreadable source c k) →
+      (c : ContentRead source) × Fills source c d q u × (count c.children < min q c.from.pointers) ×
+      (IsOfMemory k ⊎ IsNextUnreadable source c k) →
       r ≡ Some k →
       o ≡ Some u →
       Yields making r o
-  is_not_filled : (source : Source) (d q : ℕ) (k : ErrorKind) → making ≡ fills source d q → HasNothingToCopy (copying_from source AStruct false) k → r ≡ Some k → o ≡ None → Yields making r o
+  is_not_filled : (source : Source) (d q : ℕ) (k : ErrorKind) → making ≡ fills source d q →
+      HasNothingToCopy (copying_from source AStruct false) k → r ≡ Some k → o ≡ None →
+      Yields making r o
 
--- What is left where a default's value may come first: as of what stands; or a default's value, and what is left of that; or null, where its copy is refused,
--- for memory or for what it reads.
+-- What is left where a default's value may come first: as of what stands; or a default's value, and
+-- what is left of that; or null, where its copy is refused, for memory or for what it reads.
 pub data Leaves (making : Making) (r : Option ErrorKind) (o : Option Tree) : Type 0 where
   as_it_stands : Yields making r o → Leaves making r o
   default_put :
@@ -229,24 +263,34 @@ pub data Leaves (making : Making) (r : Option ErrorKind) (o : Option Tree) : Typ
       o ≡ Some Null →
       Leaves making r o
 
--- What is done at a pointer that means t, where this is made of it: what is left comes in t's stead, if anything is changed.
-pub record DoesAt (S R : Segments) (place : PointerPlace) (making : Making) (t : Tree) (r : Option ErrorKind) : Type 0 where
+-- What is done at a pointer that means t, where this is made of it: what is left comes in t's
+-- stead, if anything is changed.
+pub record DoesAt (S R : Segments) (place : PointerPlace) (making : Making) (t : Tree)
+    (r : Option ErrorKind) : Type 0 where
   pub left : Option Tree
   pub leaves : Leaves making r left
   pub stands : MatchOption left (R ≡ S) (IsReplaced S R place.segment place.word t)
 
--- What writing bits leaves of the data section of a struct, with its outcome: they are written, or they aren't there.
+-- What writing bits leaves of the data section of a struct, with its outcome: they are written, or
+-- they aren't there.
 pub data PutsBits (S R : Segments) (e : ExistingStruct) (f : Field) (r : Option ErrorKind) : Type 0 where
-  are_written : f.start < 64 * e.size.data_words → f.start + f.bits ≤ 64 * e.size.data_words → r ≡ None → R ≡ with_field S e.segment (64 * e.start + f.start) f.bits f.value → PutsBits S R e f r
+  are_written : f.start < 64 * e.size.data_words → f.start + f.bits ≤ 64 * e.size.data_words →
+      r ≡ None → R ≡ with_field S e.segment (64 * e.start + f.start) f.bits f.value →
+      PutsBits S R e f r
   are_outside : 64 * e.size.data_words < f.start + f.bits → r ≡ Some NoSuchPlace → R ≡ S → PutsBits S R e f r
 
--- What a copy from another message leaves at a place, with its outcome: it is there; or null, the copy being refused; or there is nothing to be copied.
-pub data CopiesRoot (S R : Segments) (place : PointerPlace) (c : Copying) (r : Option ErrorKind) : Type 0 where
-  root_copied : (u : Tree) → Copies c u → r ≡ None → Puts S R place.segment place.word u → CopiesRoot S R place c r
-  root_not_copied : (k : ErrorKind) → IsOfMemory k ⊎ IsUnreadable c k → r ≡ Some k → Puts S R place.segment place.word Null → CopiesRoot S R place c r
+-- What a copy from another message leaves at a place, with its outcome: it is there; or null, the
+-- copy being refused; or there is nothing to be copied.
+pub data CopiesRoot (S R : Segments) (place : PointerPlace) (c : Copying) (r : Option ErrorKind)
+    : Type 0 where
+  root_copied : (u : Tree) → Copies c u → r ≡ None → Puts S R place.segment place.word u →
+      CopiesRoot S R place c r
+  root_not_copied : (k : ErrorKind) → IsOfMemory k ⊎ IsUnreadable c k → r ≡ Some k →
+      Puts S R place.segment place.word Null → CopiesRoot S R place c r
   root_unread : (k : ErrorKind) → HasNothingToCopy c k → r ≡ Some k → R ≡ S → CopiesRoot S R place c r
 
--- From S on a struct takes the data of a source's struct, and then the pointers that are read of it are copied to its first ones.
+-- From S on a struct takes the data of a source's struct, and then the pointers that are read of it
+-- are copied to its first ones.
 pub record Filling (S : Segments) (place : StructPlace) (source : Source) : Type 0 where
   pub content : ContentRead source
   pub taken : Segments
@@ -254,10 +298,13 @@ pub record Filling (S : Segments) (place : StructPlace) (source : Source) : Type
   pub filled : Segments
   pub fills_first : AreFilled taken filled place.segment place.pointers_at content.children
 
--- What copying content leaves, with its outcome: as many pointers are copied as both have; or those before one, which is refused and null; or there is no struct
--- to be copied.
-pub data FillsAt (S R : Segments) (place : StructPlace) (source : Source) (r : Option ErrorKind) : Type 0 where
-  all_filled : (f : Filling S place source) → count f.content.children ≡ min place.pointers f.content.from.pointers → R ≡ f.filled → r ≡ None → FillsAt S R place source r
+-- What copying content leaves, with its outcome: as many pointers are copied as both have; or those
+-- before one, which is refused and null; or there is no struct to be copied.
+pub data FillsAt (S R : Segments) (place : StructPlace) (source : Source) (r : Option ErrorKind)
+    : Type 0 where
+  all_filled : (f : Filling S place source) →
+      count f.content.children ≡ min place.pointers f.content.from.pointers → R ≡ f.filled →
+      r ≡ None → FillsAt S R place source r
   first_filled :
       (f : Filling S place source) (k : ErrorKind) →
       count f.content.children < min place.pointers f.content.from.pointers →
@@ -265,36 +312,50 @@ pub data FillsAt (S R : Segments) (place : StructPlace) (source : Source) (r : O
       IsOfMemory k ⊎ IsNextUnreadable source f.content k →
       r ≡ Some k →
       FillsAt S R place source r
-  none_filled : (k : ErrorKind) → HasNothingToCopy (copying_from source AStruct false) k → R ≡ S → r ≡ Some k → FillsAt S R place source r
+  none_filled : (k : ErrorKind) → HasNothingToCopy (copying_from source AStruct false) k → R ≡ S →
+      r ≡ Some k → FillsAt S R place source r
 
 -- What a change leaves of a struct of a message: its bits are written; or content is copied over it.
 abbrev pub Changes : Segments → Segments → ExistingStruct → StructChange → Option ErrorKind → Type 0
 Changes S R e (Bits n) r = PutsBits S R e (bits_of n) r
 Changes S R e (Content source) r = FillsAt S R (struct_place e) source r
 
--- What writing an element leaves, with its outcome, where a list was looked for: its lowest bits are written; or it isn't there, in no list that lies in
--- the message and is as wide; or there is no list, or the search was refused.
-pub data PutsElement (S R : Segments) (looked : Result (Option ExistingList) ErrorKind) (size : ElementSize) (i v : ℕ) (r : Option ErrorKind) : Type 0 where
+-- What writing an element leaves, with its outcome, where a list was looked for: its lowest bits
+-- are written; or it isn't there, in no list that lies in the message and is as wide; or there is
+-- no list, or the search was refused.
+pub data PutsElement (S R : Segments) (looked : Result (Option ExistingList) ErrorKind)
+    (size : ElementSize) (i v : ℕ) (r : Option ErrorKind) : Type 0 where
   element_put : (l : ExistingList) → looked ≡ Ok (Some l) → i < l.count → r ≡ None →
-      R ≡ with_field S l.segment (8 * (8 * l.start) + i * step_bits l.size l.struct_size) (element_bits (size_number size)) v → PutsElement S R looked size i v r
-  element_past : (l : ExistingList) → looked ≡ Ok (Some l) → (IsListPlace S (list_place l) → element_bits (size_number size) ≤ data_bits l.size l.struct_size → l.count ≤ i) → r ≡ Some NoSuchPlace → R ≡ S →
+      R ≡ with_field S l.segment (8 * (8 * l.start) + i * step_bits l.size l.struct_size)
+      (element_bits (size_number size)) v → PutsElement S R looked size i v r
+  element_past : (l : ExistingList) → looked ≡ Ok (Some l) →
+      (IsListPlace S (list_place l) → element_bits (size_number size)
+      ≤ data_bits l.size l.struct_size → l.count ≤ i) → r ≡ Some NoSuchPlace → R ≡ S →
       PutsElement S R looked size i v r
   no_list : looked ≡ Ok None → r ≡ Some NoSuchPlace → R ≡ S → PutsElement S R looked size i v r
   list_denied : (k : ErrorKind) → looked ≡ Err k → r ≡ Some k → R ≡ S → PutsElement S R looked size i v r
 
 -- The same of a byte of a text or data.
-pub data PutsByte (S R : Segments) (looked : Result (Option ExistingBytes) ErrorKind) (i v : ℕ) (r : Option ErrorKind) : Type 0 where
-  byte_put : (b : ExistingBytes) → looked ≡ Ok (Some b) → i < b.length → r ≡ None → R ≡ with_field S b.segment (8 * (8 * b.start + i)) 8 v → PutsByte S R looked i v r
-  byte_past : (b : ExistingBytes) → looked ≡ Ok (Some b) → (BytesLieIn S b → b.length ≤ i) → r ≡ Some NoSuchPlace → R ≡ S → PutsByte S R looked i v r
+pub data PutsByte (S R : Segments) (looked : Result (Option ExistingBytes) ErrorKind) (i v : ℕ)
+    (r : Option ErrorKind) : Type 0 where
+  byte_put : (b : ExistingBytes) → looked ≡ Ok (Some b) → i < b.length → r ≡ None →
+      R ≡ with_field S b.segment (8 * (8 * b.start + i)) 8 v → PutsByte S R looked i v r
+  byte_past : (b : ExistingBytes) → looked ≡ Ok (Some b) → (BytesLieIn S b → b.length ≤ i) →
+      r ≡ Some NoSuchPlace → R ≡ S → PutsByte S R looked i v r
   no_bytes_there : looked ≡ Ok None → r ≡ Some NoSuchPlace → R ≡ S → PutsByte S R looked i v r
   bytes_denied : (k : ErrorKind) → looked ≡ Err k → r ≡ Some k → R ≡ S → PutsByte S R looked i v r
 
 -- An edit with its outcome takes the value t of a message to u.
 pub data Takes (e : Edit) (r : Option ErrorKind) (t u : Tree) : Type 0 where
-  leads_to : (end_value : EndValue) (o : Option Tree) → found t (path_of e.path.now) ≡ Some end_value → Leaves (option_map_or (λ task. made_at task end_value) (task_of e.op) (denied NoSuchPlace)) r o → u ≡ option_map_or (update t (path_of e.path.now)) o t → Takes e r t u
+  leads_to : (end_value : EndValue) (o : Option Tree) →
+      found t (path_of e.path.now) ≡ Some end_value →
+      Leaves (option_map_or (λ task. made_at task end_value) (task_of e.op)
+      (denied NoSuchPlace)) r o → u ≡ option_map_or (update t
+      (path_of e.path.now)) o t → Takes e r t u
   leads_nowhere : found t (path_of e.path.now) ≡ None → r ≡ Some NoSuchPlace → u ≡ t → Takes e r t u
 
--- From S to R a forest becomes a forest, and P holds of their values: as an edit takes one to the other, or several do.
+-- From S to R a forest becomes a forest, and P holds of their values: as an edit takes one to the
+-- other, or several do.
 abbrev pub IsApplied : (Tree → Tree → Type 0) → Segments → Segments → Type 0
 IsApplied P S R = (t : Tree) → IsForest S t → (u : Tree) × IsForest R u × P t u
 

@@ -22,7 +22,8 @@ abbrev pub all_asked : List Edit → ℕ
 all_asked [] = 0
 all_asked (e ∷ es) = words_asked (task_of e.op) + all_asked es
 
--- An edit asks for these words and no others: it makes an object, or writes a pointer, a field, an element or a byte.
+-- An edit asks for these words and no others: it makes an object, or writes a pointer, a field, an
+-- element or a byte.
 abbrev pub AsksNoMore : Option Task → Type 0
 AsksNoMore None = ⊤
 AsksNoMore (Some (Make object)) = ⊤
@@ -47,16 +48,19 @@ abbrev pub NoneOfMemory : List (Option ErrorKind) → Type 0
 NoneOfMemory [] = ⊤
 NoneOfMemory (r ∷ rs) = IsNoneOfMemory r × NoneOfMemory rs
 
--- What edits leave in the first segment that ask for n words together: no more are taken, all stand there, it has as much room as before, and
--- the allocator has refused nothing.
+-- What edits leave in the first segment that ask for n words together: no more are taken, all stand
+-- there, it has as much room as before, and the allocator has refused nothing.
 pub record StaysInFirst (old new : View) (n : ℕ) : Type 0 where
   pub words : length (segment new.words 0) ≤ length (segment old.words 0) + n
   pub first : AreInFirst new.words
   pub room : new.room 0 ≡ old.room 0
   pub refusals : new.refusals ≡ old.refusals
 
--- Edits whose words together fit the first segment of a message that stands in it aren't refused for memory, and stay in it.
+-- Edits whose words together fit the first segment of a message that stands in it aren't refused
+-- for memory, and stay in it.
 abbrev pub FittingEdits : Type 0
 FittingEdits =
-    (old new : View) (edits : List Edit) (rs : List (Option ErrorKind)) (t : Tree) → IsForest old.words t → AreInFirst old.words → AllAskNoMore edits → length (segment old.words 0) + all_asked edits ≤ old.room 0 → AreSteps old new edits rs
+    (old new : View) (edits : List Edit) (rs : List (Option ErrorKind)) (t : Tree) →
+    IsForest old.words t → AreInFirst old.words → AllAskNoMore edits →
+    length (segment old.words 0) + all_asked edits ≤ old.room 0 → AreSteps old new edits rs
     → NoneOfMemory rs × StaysInFirst old new (all_asked edits)

@@ -1,5 +1,6 @@
 -- Where the paths of edits lead, in a value and in a message that holds it.
-use Rattle.std.specs.Prelude.{◌≡◌, ℕ, ◌+◌, ◌*◌, ◌<◌, cond, nat_eq, nat_lt, ◌&&◌, List, [], ◌∷◌, ◌++◌, Option, Some, None, IfSome}
+use Rattle.std.specs.Prelude.{◌≡◌, ℕ, ◌+◌, ◌*◌, ◌<◌, if◌then◌else◌, nat_eq, nat_lt, ◌&&◌, List, []}
+use Rattle.std.specs.Prelude.{◌∷◌, ◌++◌, Option, Some, None, IfSome}
 use Rattle.capnp_format.specs.Segments.{Segments, IsPlace}
 use Rattle.capnp_words.specs.Sizes.{size_number}
 use Rattle.capnp_format.specs.Tree.{Tree, Struct, Pointers, Structs, Elements, count, element_count}
@@ -12,7 +13,8 @@ use Rattle.capnp_making.specs.declared.existing.ExistingStruct.{ExistingStruct}
 use Rattle.capnp_edits.specs.declared.edit.Step.{Step as EditStep}
 use Rattle.capnp_edits.specs.declared.edit.Step.TheVariants.{Child as ToChild, Element as ToElement}
 use Rattle.capnp_edits.specs.declared.edit.path.PathEnd.{PathEnd}
-use Rattle.capnp_edits.specs.declared.edit.path.PathEnd.TheVariants.{Pointer as AtPointer, Element as AtElement}
+use Rattle.capnp_edits.specs.declared.edit.path.PathEnd.TheVariants.{Pointer as AtPointer}
+use Rattle.capnp_edits.specs.declared.edit.path.PathEnd.TheVariants.{Element as AtElement}
 
 -- The steps of an edit's path.
 abbrev pub step_of : EditStep → Step
@@ -32,11 +34,12 @@ pub data EndValue : Type 0 where
 -- What a path leads to from a pointer that means t, if anything.
 abbrev pub found : Tree → List Step → Option EndValue
 found t [] = Some (PointerTo t)
-found (Struct ws ts) (Child i ∷ path) = cond (nat_lt i (count ts)) (found (tree_at ts i) path) None
-found (Pointers ts) (Element i ∷ path) = cond (nat_lt i (count ts)) (found (tree_at ts i) path) None
-found (Structs d q es) (Element i ∷ []) = cond (nat_lt i (element_count es)) (Some (ElementOf (struct_at es i))) None
+found (Struct ws ts) (Child i ∷ path) = if nat_lt i (count ts) then found (tree_at ts i) path else None
+found (Pointers ts) (Element i ∷ path) = if nat_lt i (count ts) then found (tree_at ts i) path else None
+found (Structs d q es) (Element i ∷ []) =
+    if nat_lt i (element_count es) then Some (ElementOf (struct_at es i)) else None
 found (Structs d q es) (Element i ∷ Child j ∷ path) =
-    cond (nat_lt i (element_count es) && nat_lt j q) (found (next (struct_at es i) (Child j)) path) None
+    if nat_lt i (element_count es) && nat_lt j q then found (next (struct_at es i) (Child j)) path else None
 found t path = None
 
 -- From a place that means t a path leads to the pointer at (u, q).
@@ -45,19 +48,23 @@ pub record IsPointerFound (S : Segments) (s p : ℕ) (t : Tree) (path : List Ste
   pub leads : PathLeads S s p t path u q value
   pub end_value : found t path ≡ Some (PointerTo value)
 
--- It leads to an element e of the list of structs that the pointer at the end of a path one step shorter means.
-pub record IsElementFound (S : Segments) (s p : ℕ) (t : Tree) (path : List Step) (e : ExistingStruct) : Type 0 where
+-- It leads to an element e of the list of structs that the pointer at the end of a path one step
+-- shorter means.
+pub record IsElementFound (S : Segments) (s p : ℕ) (t : Tree) (path : List Step)
+    (e : ExistingStruct) : Type 0 where
   pub front : List Step
   pub index : ℕ
   pub path_is : path ≡ front ++ Element index ∷ []
   pub list_segment : ℕ
   pub list_at : ℕ
   pub elements : Elements
-  pub leads : PathLeads S s p t front list_segment list_at (Structs e.size.data_words e.size.pointers elements)
+  pub leads : PathLeads S s p t front list_segment list_at
+      (Structs e.size.data_words e.size.pointers elements)
   pub end_value : found t front ≡ Some (PointerTo (Structs e.size.data_words e.size.pointers elements))
   pub counts : index < element_count elements
   pub segment_is : e.segment ≡ (target S list_segment list_at).segment
-  pub start_is : e.start ≡ (target S list_segment list_at).start + 1 + index * (e.size.data_words + e.size.pointers)
+  pub start_is : e.start ≡ (target S list_segment list_at).start + 1 + index
+      * (e.size.data_words + e.size.pointers)
 
 -- Where a path leads; if nowhere, then no longer path leads anywhere.
 abbrev pub IsPathFound : Segments → ℕ → ℕ → Tree → List Step → Option PathEnd → Type 0
@@ -72,18 +79,27 @@ EndLiesIn S (AtElement e) = StructLiesIn S e
 
 -- The pointer of a struct by its index, if there is one.
 abbrev pub child_in : ExistingStruct → ℕ → Option PathEnd
-child_in e i = cond (nat_lt i e.size.pointers) (Some (AtPointer (record { segment = e.segment; word = e.start + e.size.data_words + i }))) None
+child_in e i = if nat_lt i e.size.pointers then
+    Some (AtPointer (record { segment = e.segment; word = e.start + e.size.data_words + i }))
+    else None
 
 -- The element of a list by its index, if it is a pointer or a struct.
 abbrev pub element_in : ExistingList → ℕ → Option PathEnd
 element_in l i =
-    cond (nat_eq (size_number l.size) 6) (Some (AtPointer (record { segment = l.segment; word = l.start + i })))
-    (cond (nat_eq (size_number l.size) 7)
-    (Some (AtElement (record { segment = l.segment; start = l.start + i * (l.struct_size.data_words + l.struct_size.pointers); size = l.struct_size })))
-    None)
+    if nat_eq (size_number l.size) 6 then
+    Some (AtPointer (record { segment = l.segment; word = l.start + i }))
+    else if nat_eq (size_number l.size) 7 then
+    Some (AtElement (record {
+      segment = l.segment;
+      start = l.start + i * (l.struct_size.data_words + l.struct_size.pointers);
+      size = l.struct_size;
+    }))
+    else None
 
 -- What a step from the end of a path gives: r.
 abbrev pub Steps : Segments → PathEnd → Step → Option PathEnd → Type 0
-Steps S (AtPointer place) step r = (t : Tree) → IsStored S place.segment place.word t → IsPathFound S place.segment place.word t (step ∷ []) r
+Steps S (AtPointer place) step r =
+    (t : Tree) → IsStored S place.segment place.word t →
+    IsPathFound S place.segment place.word t (step ∷ []) r
 Steps S (AtElement e) (Child i) r = IfSome (child_in e i) (EndLiesIn S) → r ≡ child_in e i
 Steps S (AtElement e) (Element i) r = r ≡ None

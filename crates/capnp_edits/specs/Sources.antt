@@ -1,5 +1,6 @@
 -- What is copied from another message.
-use Rattle.std.specs.Prelude.{ℕ, pred, min, ◌+◌, ◌*◌, ◌<◌, ◌≤◌, ◌≡◌, ◌⊎◌, Bool, true, false, cond, nat_eq, List, [], map, length, Option, Some, None}
+use Rattle.std.specs.Prelude.{ℕ, pred, min, ◌+◌, ◌*◌, ◌<◌, ◌≤◌, ◌≡◌, ◌⊎◌, Bool, true, false}
+use Rattle.std.specs.Prelude.{if◌then◌else◌, nat_eq, List, [], map, length, Option, Some, None}
 use Rattle.capnp_words.specs.Meter.{Meter, Affords, charged, unused}
 use Rattle.capnp_words.specs.declared.error.ErrorKind.{ErrorKind}
 use Rattle.capnp_words.specs.declared.error.ErrorKind.TheVariants.{InvalidSegmentId, ReadLimitExceeded}
@@ -10,7 +11,8 @@ use Rattle.capnp_words.specs.Sizes.{size_number}
 use Rattle.capnp_format.specs.Bytes.{message, words_of}
 use Rattle.capnp_format.specs.Canonical.{word_count, word_count_all}
 use Rattle.capnp_format.specs.Segments.{Segments, Target, segment, words_at, AreWords}
-use Rattle.capnp_format.specs.Tree.{Tree, Null, Struct, Flat, Pointers, Structs, Trees, no_trees, count, capabilities}
+use Rattle.capnp_format.specs.Tree.{Tree, Null, Struct, Flat, Pointers, Structs, Trees, no_trees}
+use Rattle.capnp_format.specs.Tree.{count, capabilities}
 use Rattle.capnp_format.specs.Word.{kind, offset_bits, data_words, pointer_count, element_size, list_count}
 use Rattle.capnp_arena.specs.Checks.{Holds, misplaced}
 use Rattle.capnp_arena.specs.Limits.{whole}
@@ -35,12 +37,14 @@ use Rattle.capnp_builders.specs.Laws.{HoldContent, up_to}
 use Rattle.capnp_edits.specs.declared.edit.Source.{Source}
 use Rattle.capnp_edits.specs.declared.edit.copying.Copying.{Copying}
 use Rattle.capnp_edits.specs.declared.edit.copying.Wanted.{Wanted}
-use Rattle.capnp_edits.specs.declared.edit.copying.Wanted.TheVariants.{Value, Struct as AStruct, List as AList}
+use Rattle.capnp_edits.specs.declared.edit.copying.Wanted.TheVariants.{Value, Struct as AStruct}
+use Rattle.capnp_edits.specs.declared.edit.copying.Wanted.TheVariants.{List as AList}
 use Rattle.capnp_objects.specs.declared.object.Purpose.TheVariants.{Value as ForValue}
 
 -- A copy from a source, of what is wanted there, in canonical form or as it stands.
 abbrev pub copying_from : Source → Wanted → Bool → Copying
-copying_from source wanted canonicalize = record { source = source; wanted = wanted; canonicalize = canonicalize }
+copying_from source wanted canonicalize =
+    record { source = source; wanted = wanted; canonicalize = canonicalize }
 
 -- The segments of a source, and its root, read within the nesting limit.
 abbrev pub words_in : Source → Segments
@@ -48,7 +52,15 @@ words_in source = message (map whole (map (λ s. s.now) source.arena.now.segment
 
 -- The root of a source, read within its nesting limit.
 abbrev pub root_of : Source → Reading
-root_of source = record { segments = words_in source; charging = true; of_default = false; levels = levels source.arena.now.nesting_limit; segment = 0; at = 0 }
+root_of source =
+    record {
+      segments = words_in source;
+      charging = true;
+      of_default = false;
+      levels = levels source.arena.now.nesting_limit;
+      segment = 0;
+      at = 0;
+    }
 
 -- Its limiter once the root's word is charged.
 abbrev pub once_at_root : Source → Meter
@@ -58,14 +70,14 @@ once_at_root source = charged true (unused source.budget) 1
 abbrev pub HasRoot : Source → Type 0
 HasRoot source = Holds (words_in source) 0 0 1 × Affords true (unused source.budget) 1
 
--- The value that is copied where a root means t: t itself; but where a struct or a list is wanted, of null one of nothing, and none where t is of another
--- kind, or a list of bits.
+-- The value that is copied where a root means t: t itself; but where a struct or a list is wanted,
+-- of null one of nothing, and none where t is of another kind, or a list of bits.
 abbrev pub as_wanted : Wanted → Tree → Option Tree
 as_wanted Value t = Some t
 as_wanted AStruct Null = Some (Struct [] no_trees)
 as_wanted AStruct (Struct ws ts) = Some (Struct ws ts)
 as_wanted AList Null = Some (Flat 0 [])
-as_wanted AList (Flat size ns) = cond (nat_eq size 1) None (Some (Flat size ns))
+as_wanted AList (Flat size ns) = if nat_eq size 1 then None else Some (Flat size ns)
 as_wanted AList (Pointers ts) = Some (Pointers ts)
 as_wanted AList (Structs d q es) = Some (Structs d q es)
 as_wanted wanted t = None
@@ -73,11 +85,13 @@ as_wanted wanted t = None
 -- The root isn't reached, by the name k.
 abbrev pub IsRootless : Source → ErrorKind → Type 0
 IsRootless source k =
-    (HasRoot source → ⊥) × ((Holds (words_in source) 0 0 1 → ⊥) → k ≡ misplaced (words_in source) 0 (InvalidSegmentId 0))
+    (HasRoot source → ⊥) × ((Holds (words_in source) 0 0 1 → ⊥) →
+    k ≡ misplaced (words_in source) 0 (InvalidSegmentId 0))
     × (Holds (words_in source) 0 0 1 → k ≡ ReadLimitExceeded)
 
 -- A reader is at the root, whose word is charged.
-pub record IsRootReader {A : Type 0} (g : Ghosts A) (source : Source) (from : PointerReader A g) (m : Meter) : Type 0 where
+pub record IsRootReader {A : Type 0} (g : Ghosts A) (source : Source) (from : PointerReader A g)
+    (m : Meter) : Type 0 where
   pub root : HasRoot source
   pub reads : reading g from ≡ root_of source
   pub once : m ≡ once_at_root source
@@ -90,7 +104,9 @@ IsWithheld AList r m m' k = Withheld (list_expected Void) r m m' k
 
 -- There is nothing to be copied, by the name k: the root isn't reached, or what is wanted isn't found there.
 abbrev pub HasNothingToCopy : Copying → ErrorKind → Type 0
-HasNothingToCopy c k = IsRootless c.source k ⊎ (HasRoot c.source × ((m : Meter) × IsWithheld c.wanted (root_of c.source) (once_at_root c.source) m k))
+HasNothingToCopy c k = IsRootless c.source k ⊎
+    (HasRoot c.source × ((m : Meter) ×
+    IsWithheld c.wanted (root_of c.source) (once_at_root c.source) m k))
 
 -- The root means a value within the limits that is as wanted, and a copy keeps u of it.
 pub record Copies (c : Copying) (u : Tree) : Type 0 where
@@ -102,8 +118,9 @@ pub record Copies (c : Copying) (u : Tree) : Type 0 where
   pub is_wanted : as_wanted c.wanted value ≡ Some copied
   pub is_kept : u ≡ kept (form_of c.canonicalize) copied
 
--- A place means a value that is as wanted, in canonical form one without capabilities, at a cost that the limiter covers, and the words to be kept of it fit
--- behind so many words of a segment with this room.
+-- A place means a value that is as wanted, in canonical form one without capabilities, at a cost
+-- that the limiter covers, and the words to be kept of it fit behind so many words of a segment
+-- with this room.
 pub record CanBeCopiedAs (c : Copying) (r : Reading) (m : Meter) (used room : ℕ) : Type 0 where
   pub value : Tree
   pub cost : ℕ
@@ -114,18 +131,21 @@ pub record CanBeCopiedAs (c : Copying) (r : Reading) (m : Meter) (used room : �
   pub is_wanted : as_wanted c.wanted value ≡ Some copied
   pub fits : used + word_count (kept (form_of c.canonicalize) copied) ≤ room
 
--- The root means such a value, and the words that a copy keeps of it fit behind those of segment id. Of a list, the words of the source are below 2^64, as
--- the words of bytes are.
+-- The root means such a value, and the words that a copy keeps of it fit behind those of segment
+-- id. Of a list, the words of the source are below 2^64, as the words of bytes are.
 pub record FitsBehind (v : View) (id : ℕ) (c : Copying) : Type 0 where
   pub root : HasRoot c.source
   pub words : c.wanted ≡ AList → AreWords (words_in c.source)
-  pub fits : CanBeCopiedAs c (root_of c.source) (once_at_root c.source) (length (segment v.words id)) (v.room id)
+  pub fits : CanBeCopiedAs c (root_of c.source) (once_at_root c.source)
+      (length (segment v.words id)) (v.room id)
 
 -- The root is reached, and reading what it means is refused by the name k.
 abbrev pub IsUnreadable : Copying → ErrorKind → Type 0
-IsUnreadable c k = HasRoot c.source × ((m : Meter) × Refused (form_of c.canonicalize) (root_of c.source) (once_at_root c.source) m k)
+IsUnreadable c k = HasRoot c.source ×
+    ((m : Meter) × Refused (form_of c.canonicalize) (root_of c.source) (once_at_root c.source) m k)
 
--- The struct that a place leads to: its data words, so many pointers from the first on, and the limiter once its own words are charged.
+-- The struct that a place leads to: its data words, so many pointers from the first on, and the
+-- limiter once its own words are charged.
 pub record Sections : Type 0 where
   pub words : List ℕ
   pub first : Reading
@@ -144,7 +164,8 @@ pub data LeadsToStruct (r : Reading) (m : Meter) (s : Sections) : Type 0 where
       s.pointers ≡ pointer_count a.word →
       LeadsToStruct r m s
 
--- So many elements of a size, with these sections where they are structs, of which the first is read at a place.
+-- So many elements of a size, with these sections where they are structs, of which the first is
+-- read at a place.
 pub record ListElements : Type 0 where
   pub size : ElementSize
   pub sections : StructSize
@@ -174,7 +195,8 @@ pub data LeadsToList (r : Reading) (m m' : Meter) (l : ListElements) : Type 0 wh
       l.count ≡ offset_bits (tag r.segments a) →
       LeadsToList r m m' l
 
--- What is read of a source's struct to copy its content: its sections, the values of its first pointers, and its data section as bytes.
+-- What is read of a source's struct to copy its content: its sections, the values of its first
+-- pointers, and its data section as bytes.
 pub record ContentRead (source : Source) : Type 0 where
   pub root : HasRoot source
   pub from : Sections
@@ -185,39 +207,50 @@ pub record ContentRead (source : Source) : Type 0 where
   pub bytes : List ℕ
   pub are_words : words_of bytes ≡ from.words
 
--- It stands in the stead of the content of a struct of d data words and q pointers, which is u then: the data that both have is copied, with zeros behind it,
--- and the pointers that are read are, with nulls behind them.
+-- It stands in the stead of the content of a struct of d data words and q pointers, which is u
+-- then: the data that both have is copied, with zeros behind it, and the pointers that are read
+-- are, with nulls behind them.
 pub record Fills (source : Source) (c : ContentRead source) (d q : ℕ) (u : Tree) : Type 0 where
   pub section : List ℕ
   pub holds : HoldContent section d (64 * length c.from.words) c.bytes
   pub is_filled : u ≡ Struct section (up_to q c.children)
 
--- The pointers can be read that a source's struct and one of q pointers in segment id both have, and the words of what they mean fit behind those of that
--- segment.
+-- The pointers can be read that a source's struct and one of q pointers in segment id both have,
+-- and the words of what they mean fit behind those of that segment.
 abbrev pub ContentFitsBehind : View → ℕ → Source → ℕ → Type 0
 ContentFitsBehind v id source q =
-    (all : ContentRead source) × (count all.children ≡ min q all.from.pointers) × HasOwnRoom v id (word_count_all all.children)
+    (all : ContentRead source) × (count all.children ≡ min q all.from.pointers) ×
+    HasOwnRoom v id (word_count_all all.children)
 
 -- The pointer behind those that are read can't be read, by the name k.
 abbrev pub IsNextUnreadable : (source : Source) → ContentRead source → ErrorKind → Type 0
 IsNextUnreadable source c k = (m : Meter) × Refused plain (behind c.from.first (count c.children)) c.after m k
 
--- What the copy of a whole value is made of that is wanted at a place, and the copy, are as Says has it: of a struct or a list, once what leads to it is charged.
+-- What the copy of a whole value is made of that is wanted at a place, and the copy, are as Says
+-- has it: of a struct or a list, once what leads to it is charged.
 abbrev pub OfWanted : Wanted → Reading → Change → (Original Tree → Change → Type 0) → Type 0
 OfWanted Value r c Says = Says (value_original r) c
-OfWanted AStruct r c Says = (s : Sections) × LeadsToStruct r c.before s × Says (sections_original s.words s.first s.pointers) (record c { before = s.limiter })
-OfWanted AList r c Says = (l : ListElements) × (m : Meter) × LeadsToList r c.before m l × Says (list_original l.size l.sections l.count l.first) (record c { before = m })
+OfWanted AStruct r c Says = (s : Sections) × LeadsToStruct r c.before s ×
+    Says (sections_original s.words s.first s.pointers) (record c { before = s.limiter })
+OfWanted AList r c Says = (l : ListElements) × (m : Meter) × LeadsToList r c.before m l ×
+    Says (list_original l.size l.sections l.count l.first) (record c { before = m })
 
 -- A copy that a call makes at a place; what is left of its limiter then is m.
 abbrev pub copy_at : CallAt → Copying → Meter → Change
-copy_at call c m = change (form_of c.canonicalize) call.segment call.at call.old call.new (once_at_root c.source) m
+copy_at call c m =
+    change (form_of c.canonicalize) call.segment call.at call.old call.new (once_at_root c.source) m
 
 -- Where there is a value to be copied, reading isn't refused.
 abbrev pub CopiedOrRefused : Type 0
-CopiedOrRefused = (c : Copying) (u : Tree) (k : ErrorKind) → Copies c u → HasNothingToCopy c k ⊎ IsUnreadable c k → ⊥
+CopiedOrRefused = (c : Copying) (u : Tree) (k : ErrorKind) → Copies c u → HasNothingToCopy c k ⊎
+    IsUnreadable c k → ⊥
 
--- Where the pointers can be read that a source's struct and one of q pointers both have, reading isn't refused.
+-- Where the pointers can be read that a source's struct and one of q pointers both have, reading
+-- isn't refused.
 abbrev pub FilledOrRefused : Type 0
 FilledOrRefused =
-    (source : Source) (q : ℕ) (k : ErrorKind) (all : ContentRead source) → count all.children ≡ min q all.from.pointers
-    → HasNothingToCopy (copying_from source AStruct false) k ⊎ ((some : ContentRead source) × (count some.children < min q some.from.pointers) × IsNextUnreadable source some k) → ⊥
+    (source : Source) (q : ℕ) (k : ErrorKind) (all : ContentRead source) →
+    count all.children ≡ min q all.from.pointers
+    → HasNothingToCopy (copying_from source AStruct false) k ⊎
+    ((some : ContentRead source) × (count some.children < min q some.from.pointers) ×
+    IsNextUnreadable source some k) → ⊥

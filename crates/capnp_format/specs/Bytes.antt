@@ -5,7 +5,8 @@ use Rattle.capnp_format.specs.Segments.{Segments}
 
 -- The whole words of bytes. Up to seven bytes after the last word are not looked at ("Messages").
 abbrev pub words_of : List ℕ → List ℕ
-words_of (a ∷ b ∷ c ∷ d ∷ e ∷ f ∷ g ∷ h ∷ rest) = from_le_bytes w64 (a ∷ b ∷ c ∷ d ∷ e ∷ f ∷ g ∷ h ∷ []) ∷ words_of rest
+words_of (a ∷ b ∷ c ∷ d ∷ e ∷ f ∷ g ∷ h ∷ rest) =
+    from_le_bytes w64 (a ∷ b ∷ c ∷ d ∷ e ∷ f ∷ g ∷ h ∷ []) ∷ words_of rest
 words_of _ = []
 
 -- The message whose segments have these bytes ("Messages").

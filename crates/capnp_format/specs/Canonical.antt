@@ -1,15 +1,19 @@
--- The canonical words of a value ("Canonicalization"): one segment, the root pointer, then each object behind its
--- predecessors in preorder, all pointers near; zeros cut off the ends of structs; all elements of a list of structs cut
--- to the least width that loses nothing.
-use Rattle.std.specs.Prelude.{◌≡◌, ℕ, zero, suc, ◌+◌, ◌-◌, ◌*◌, ◌<◌, ◌≤◌, ◌^◌, ◌%◌, max, Bool, true, false, nat_eq, List, [], ◌∷◌, ◌++◌, length, take}
+-- The canonical words of a value ("Canonicalization"): one segment, the root pointer, then each
+-- object behind its predecessors in preorder, all pointers near; zeros cut off the ends of structs;
+-- all elements of a list of structs cut to the least width that loses nothing.
+use Rattle.std.specs.Prelude.{◌≡◌, ℕ, zero, suc, ◌+◌, ◌-◌, ◌*◌, ◌<◌, ◌≤◌, ◌^◌, ◌%◌, max, Bool, true}
+use Rattle.std.specs.Prelude.{false, nat_eq, List, [], ◌∷◌, ◌++◌, length, take, ⊤}
 use Rattle.capnp_format.specs.Word.{struct_word, list_word, capability_word}
 use Rattle.capnp_format.specs.Numbers.{words_for, packed}
 use Rattle.capnp_format.specs.Segments.{Segments, word_at, HasWords, IsPlace}
 use Rattle.capnp_format.specs.Value.{IsValue}
 use Rattle.capnp_format.specs.Means.{count_cost}
-use Rattle.capnp_format.specs.Tree.{Tree, Null, Capability, Struct, Flat, Pointers, Structs, Trees, no_trees, tree, Elements, no_elements, element, count, element_count, capabilities}
+use Rattle.capnp_format.specs.Tree.{Tree, Null, Capability, Struct, Flat, Pointers, Structs, Trees}
+use Rattle.capnp_format.specs.Tree.{no_trees, tree, Elements, no_elements, element, count}
+use Rattle.capnp_format.specs.Tree.{element_count, capabilities}
 
--- How much of a list is used, by whether its first cell is empty, and how much of the rest is ("Canonicalization").
+-- How much of a list is used, by whether its first cell is empty, and how much of the rest is
+-- ("Canonicalization").
 abbrev pub used_from : Bool → ℕ → ℕ
 used_from true zero = 0
 used_from empty n = suc n
@@ -41,7 +45,8 @@ abbrev pub data_width : Elements → ℕ
 data_width no_elements = 0
 data_width (element ws ts es) = max (used_words ws) (data_width es)
 
--- The least number of pointers that loses no child but Null, in any element; 0 without elements ("Canonicalization").
+-- The least number of pointers that loses no child but Null, in any element; 0 without elements
+-- ("Canonicalization").
 abbrev pub pointer_width : Elements → ℕ
 pointer_width no_elements = 0
 pointer_width (element ws ts es) = max (used_trees ts) (pointer_width es)
@@ -59,8 +64,9 @@ cut_struct ws ts = Struct (take (used_words ws) ws) (take_trees (used_trees ts) 
 abbrev pub cut_structs : Elements → Tree
 cut_structs es = Structs (data_width es) (pointer_width es) (cut_to (data_width es) (pointer_width es) es)
 
--- A value as canonical form has it: children first, then structs lose zeros and Nulls at their ends and lists of
--- structs get the least widths. All else stays; a list of pointers keeps its Nulls ("Canonicalization").
+-- A value as canonical form has it: children first, then structs lose zeros and Nulls at their ends
+-- and lists of structs get the least widths. All else stays; a list of pointers keeps its Nulls
+-- ("Canonicalization").
 abbrev mutual
   pub trim : Tree → Tree
   trim Null = Null
@@ -101,8 +107,9 @@ abbrev mutual
   word_count_elements no_elements = 0
   word_count_elements (element ws ts es) = word_count_all ts + word_count_elements es
 
--- The pointer word of a value, k being the 30 bits of the offset: of how many words lie between it and the object.
--- A struct of no words has offset -1 always, so that it is not the null pointer ("Structs", "Canonicalization").
+-- The pointer word of a value, k being the 30 bits of the offset: of how many words lie between it
+-- and the object. A struct of no words has offset -1 always, so that it is not the null pointer
+-- ("Structs", "Canonicalization").
 abbrev pub pointer : Tree → ℕ → ℕ
 pointer Null k = 0
 pointer (Capability i) k = capability_word i
@@ -112,17 +119,18 @@ pointer (Flat size ns) k = list_word k size (length ns)
 pointer (Pointers ts) k = list_word k 6 (count ts)
 pointer (Structs d q es) k = list_word k 7 (element_count es * (d + q))
 
--- The pointers of children one behind the other, where k words lie between the last pointer and the first body
--- ("Canonicalization").
+-- The pointers of children one behind the other, where k words lie between the last pointer and the
+-- first body ("Canonicalization").
 abbrev pub pointers : ℕ → Trees → List ℕ
 pointers k no_trees = []
 pointers k (tree t ts) = pointer t (count ts + k) ∷ pointers (k + word_count t) ts
 
--- Elements one behind the other, where k words of bodies lie between the last element and the first body of these
--- ("Lists", "Canonicalization").
+-- Elements one behind the other, where k words of bodies lie between the last element and the first
+-- body of these ("Lists", "Canonicalization").
 abbrev pub rows : ℕ → ℕ → ℕ → Elements → List ℕ
 rows d q k no_elements = []
-rows d q k (element ws ts es) = ws ++ pointers (element_count es * (d + q) + k) ts ++ rows d q (k + word_count_all ts) es
+rows d q k (element ws ts es) =
+    ws ++ pointers (element_count es * (d + q) + k) ts ++ rows d q (k + word_count_all ts) es
 
 -- The words behind a value's pointer: its object, then the bodies of its children in order, which is preorder
 -- ("Canonicalization").
@@ -149,43 +157,45 @@ abbrev mutual
 abbrev pub encoding : Tree → List ℕ
 encoding t = pointer t 0 ∷ body t
 
--- P, where the pointer of the value has an offset that counts words: not of Null, a capability or an empty struct
--- ("Structs").
+-- P, where the pointer of the value has an offset that counts words: not of Null, a capability or
+-- an empty struct ("Structs").
 abbrev pub ForOffset : Tree → Type 0 → Type 0
-ForOffset Null P = Unit {0}
-ForOffset (Capability i) P = Unit {0}
-ForOffset (Struct [] no_trees) P = Unit {0}
+ForOffset Null P = ⊤
+ForOffset (Capability i) P = ⊤
+ForOffset (Struct [] no_trees) P = ⊤
 ForOffset t P = P
 
 -- The offsets of children, as `pointers` makes them, fit the 29 bits of a number that is not negative
 -- ("Structs", "Lists").
 abbrev pub OffsetsFit : ℕ → Trees → Type 0
-OffsetsFit k no_trees = Unit {0}
+OffsetsFit k no_trees = ⊤
 OffsetsFit k (tree t ts) = ForOffset t (count ts + k < 2 ^ 29) × OffsetsFit (k + word_count t) ts
 
 -- The offsets of the children of elements, as `rows` makes them, fit ("Lists").
 abbrev pub RowsFit : ℕ → ℕ → ℕ → Elements → Type 0
-RowsFit d q k no_elements = Unit {0}
-RowsFit d q k (element ws ts es) = OffsetsFit (element_count es * (d + q) + k) ts × RowsFit d q (k + word_count_all ts) es
+RowsFit d q k no_elements = ⊤
+RowsFit d q k (element ws ts es) =
+    OffsetsFit (element_count es * (d + q) + k) ts × RowsFit d q (k + word_count_all ts) es
 
--- Each offset inside a value's body fits. A value of fewer than 2^29 words always has this ("Structs", "Lists").
+-- Each offset inside a value's body fits. A value of fewer than 2^29 words always has this
+-- ("Structs", "Lists").
 abbrev mutual
   pub IsEncodable : Tree → Type 0
-  IsEncodable Null = Unit {0}
-  IsEncodable (Capability i) = Unit {0}
+  IsEncodable Null = ⊤
+  IsEncodable (Capability i) = ⊤
   IsEncodable (Struct ws ts) = OffsetsFit 0 ts × AreEncodable ts
-  IsEncodable (Flat size ns) = Unit {0}
+  IsEncodable (Flat size ns) = ⊤
   IsEncodable (Pointers ts) = OffsetsFit 0 ts × AreEncodable ts
   IsEncodable (Structs d q es) = RowsFit d q 0 es × AreEncodableElements es
 
   -- Of children.
   pub AreEncodable : Trees → Type 0
-  AreEncodable no_trees = Unit {0}
+  AreEncodable no_trees = ⊤
   AreEncodable (tree t ts) = IsEncodable t × AreEncodable ts
 
   -- Of the children of elements.
   pub AreEncodableElements : Elements → Type 0
-  AreEncodableElements no_elements = Unit {0}
+  AreEncodableElements no_elements = ⊤
   AreEncodableElements (element ws ts es) = AreEncodable ts × AreEncodableElements es
 
 -- Trimming changes nothing ("Canonicalization").
@@ -206,10 +216,12 @@ Reaches p h = (h < p + 1 + 2 ^ 29) × (p + 1 ≤ h + 2 ^ 29)
 
 -- The pointer of a value stands at a place, and its body at the head h of the same segment.
 abbrev pub Lies : Segments → ℕ → ℕ → ℕ → Tree → Type 0
-Lies S s p h t = ForOffset t (Reaches p h) × (word_at S s p ≡ pointer t (offset_to p h)) × HasWords S s h (body t)
+Lies S s p h t = ForOffset t (Reaches p h) × (word_at S s p ≡ pointer t (offset_to p h)) ×
+    HasWords S s h (body t)
 
--- Canonical words stand at a place with the body at the head h: of a value that is trimmed, without capabilities
--- and encodable. A canonical message is one where some value stands at its root with the head right behind it.
+-- Canonical words stand at a place with the body at the head h: of a value that is trimmed, without
+-- capabilities and encodable. A canonical message is one where some value stands at its root with
+-- the head right behind it.
 abbrev pub Stands : Segments → ℕ → ℕ → ℕ → Tree → Type 0
 Stands S s p h t = IsPlace S s p × IsValue t × IsTrimmed t × IsFree t × IsEncodable t × Lies S s p h t
 
@@ -221,7 +233,8 @@ abbrev mutual
   charge (Struct ws ts) = length ws + count ts + charge_all ts
   charge (Flat size ns) = words_for size (length ns) + count_cost size (length ns)
   charge (Pointers ts) = count ts + charge_all ts
-  charge (Structs d q es) = (element_count es * (d + q) + 1) + count_cost (d + q) (element_count es) + charge_elements es
+  charge (Structs d q es) =
+      (element_count es * (d + q) + 1) + count_cost (d + q) (element_count es) + charge_elements es
 
   -- Of children together.
   pub charge_all : Trees → ℕ

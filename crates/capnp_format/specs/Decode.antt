@@ -1,10 +1,13 @@
 -- The same as a function: reads what a place means, level by level. `Means` is the definition; the law
 -- `decode_agrees` says that both give the same, so that worked messages can be computed.
-use Rattle.std.specs.Prelude.{ℕ, zero, suc, ◌+◌, ◌*◌, ◌%◌, ◌^◌, Bool, cond, nat_eq, nat_le, length, Option, Some, None}
-use Rattle.capnp_format.specs.Word.{kind, offset_bits, data_words, pointer_count, element_size, list_count, upper_half}
+use Rattle.std.specs.Prelude.{ℕ, zero, suc, ◌+◌, ◌*◌, ◌%◌, ◌^◌, Bool, if◌then◌else◌, nat_eq, nat_le}
+use Rattle.std.specs.Prelude.{length, Option, Some, None}
+use Rattle.capnp_format.specs.Word.{kind, offset_bits, data_words, pointer_count, element_size}
+use Rattle.capnp_format.specs.Word.{list_count, upper_half}
 use Rattle.capnp_format.specs.Numbers.{words_for, unpacked}
 use Rattle.capnp_format.specs.Segments.{Segments, segment, word_at, words_at, Target, leads, given, ◌>>=◌}
-use Rattle.capnp_format.specs.Tree.{Tree, Null, Capability, Struct, Flat, Pointers, Structs, Trees, no_trees, tree, Elements, no_elements, element}
+use Rattle.capnp_format.specs.Tree.{Tree, Null, Capability, Struct, Flat, Pointers, Structs, Trees}
+use Rattle.capnp_format.specs.Tree.{no_trees, tree, Elements, no_elements, element}
 use Rattle.capnp_format.specs.Means.{count_cost}
 
 -- A value and its cost, or None.
@@ -20,7 +23,8 @@ read_all f (suc n) p = f p >>= λ x. read_all f n (p + 1) >>= λ y. Some (tree x
 abbrev pub read_elements : Segments → (ℕ → Read Tree) → ℕ → ℕ → ℕ → ℕ → ℕ → Read Elements
 read_elements S f s d q zero p = Some (no_elements, 0)
 read_elements S f s d q (suc n) p =
-    read_all f q (p + d) >>= λ x. read_elements S f s d q n (p + d + q) >>= λ y. Some (element (words_at S s p d) x.0 y.0, x.1 + y.1)
+    read_all f q (p + d) >>= λ x. read_elements S f s d q n (p + d + q) >>= λ y.
+    Some (element (words_at S s p d) x.0 y.0, x.1 + y.1)
 
 -- The n words from where a pointer leads lie in their segment.
 abbrev pub within : Segments → Target → ℕ → Bool
@@ -39,7 +43,10 @@ read_struct S f a = struct_of S f a (data_words a.word) (pointer_count a.word)
 -- A list of n numbers ("Lists").
 abbrev pub read_flat : Segments → ℕ → ℕ → Target → Read Tree
 read_flat S size n a =
-    given (within S a (words_for size n)) (Flat size (unpacked size n (words_at S a.segment a.start (words_for size n))), a.pads + words_for size n + count_cost size n)
+    given (within S a (words_for size n)) (
+      Flat size (unpacked size n (words_at S a.segment a.start (words_for size n))),
+      a.pads + words_for size n + count_cost size n,
+    )
 
 -- A list of n pointers ("Lists").
 abbrev pub read_pointers : Segments → (ℕ → ℕ → Read Tree) → ℕ → Target → Read Tree
@@ -56,7 +63,8 @@ read_structs S f n a =
     let q = pointer_count g in
     given (nat_eq (kind g) 0) m >>= λ _.
     given (nat_le (m * (d + q)) n) m >>= λ k.
-    read_elements S (f a.segment) a.segment d q k (a.start + 1) >>= λ x. Some (Structs d q x.0, a.pads + (n + 1) + count_cost (d + q) m + x.1)
+    read_elements S (f a.segment) a.segment d q k (a.start + 1) >>= λ x.
+    Some (Structs d q x.0, a.pads + (n + 1) + count_cost (d + q) m + x.1)
 
 -- A list, by its element size ("Lists").
 abbrev pub read_list : Segments → (ℕ → ℕ → Read Tree) → ℕ → ℕ → Target → Read Tree
@@ -73,8 +81,8 @@ read_object S f (suc (suc _)) a = None
 -- Null, a capability, or what f makes of where the word leads.
 abbrev pub read_place : Segments → (Target → Read Tree) → ℕ → ℕ → Read Tree
 read_place S f s p =
-    cond (nat_eq (word_at S s p) 0) (Some (Null, 0)) (leads S s p >>= λ a.
-    cond (nat_eq (a.word % 2 ^ 32) 3) (Some (Capability (upper_half a.word), a.pads)) (f a))
+    if nat_eq (word_at S s p) 0 then Some (Null, 0) else leads S s p >>= λ a.
+    if nat_eq (a.word % 2 ^ 32) 3 then Some (Capability (upper_half a.word), a.pads) else f a
 
 -- What the word at a place means within n levels, and its cost.
 unfoldable pub decode : Segments → ℕ → ℕ → ℕ → Read Tree

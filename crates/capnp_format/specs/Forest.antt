@@ -1,10 +1,13 @@
--- Which words of a message its value covers, and the messages that a builder makes: no word is covered twice, and
--- what is not covered is zero ("Messages", "Inter-Segment Pointers").
-use Rattle.std.specs.Prelude.{◌≡◌, ◌⊎◌, ℕ, ◌+◌, ◌*◌, ◌<◌, ◌≤◌, Bool, cond, ◌&&◌, nat_eq, nat_le, nat_lt, List, [], ◌∷◌, ◌++◌, length, Option, Some, None}
+-- Which words of a message its value covers, and the messages that a builder makes: no word is
+-- covered twice, and what is not covered is zero ("Messages", "Inter-Segment Pointers").
+use Rattle.std.specs.Prelude.{◌≡◌, ◌⊎◌, ℕ, ◌+◌, ◌*◌, ◌<◌, ◌≤◌, Bool, if◌then◌else◌, ◌&&◌, nat_eq}
+use Rattle.std.specs.Prelude.{nat_le, nat_lt, List, [], ◌∷◌, ◌++◌, length, Option, Some, None, ⊤}
 use Rattle.capnp_format.specs.Word.{kind, is_double, far_position, upper_half, list_count}
 use Rattle.capnp_format.specs.Numbers.{words_for, packed}
 use Rattle.capnp_format.specs.Segments.{Segments, segment, word_at, words_at, Target, leads}
-use Rattle.capnp_format.specs.Tree.{Tree, Null, Capability, Struct, Flat, Pointers, Structs, Trees, no_trees, tree, Elements, no_elements, element, count, element_count}
+use Rattle.capnp_format.specs.Tree.{Tree, Null, Capability, Struct, Flat, Pointers, Structs, Trees}
+use Rattle.capnp_format.specs.Tree.{no_trees, tree, Elements, no_elements, element, count}
+use Rattle.capnp_format.specs.Tree.{element_count}
 use Rattle.capnp_format.specs.Means.{Means}
 
 -- So many words of a segment, one behind the other.
@@ -24,7 +27,7 @@ holds i u q = nat_eq u i.segment && nat_le i.start q && nat_lt q (i.start + i.wo
 -- How many of the intervals hold the word at a place.
 abbrev pub times : List Interval → ℕ → ℕ → ℕ
 times [] u q = 0
-times (i ∷ is) u q = cond (holds i u q) 1 0 + times is u q
+times (i ∷ is) u q = (if holds i u q then 1 else 0) + times is u q
 
 -- The message R has the words of S in these intervals.
 abbrev pub Agree : Segments → Segments → List Interval → Type 0
@@ -32,7 +35,8 @@ Agree S R is = (u q : ℕ) → 0 < times is u q → word_at R u q ≡ word_at S 
 
 -- The landing pad of a word, if it is a far pointer ("Inter-Segment Pointers").
 abbrev pub pads_of : ℕ → List Interval
-pads_of x = cond (nat_eq (kind x) 2) (record { segment = upper_half x; start = far_position x; words = 1 + is_double x } ∷ []) []
+pads_of x = if nat_eq (kind x) 2 then
+    record { segment = upper_half x; start = far_position x; words = 1 + is_double x } ∷ [] else []
 
 -- The landing pads of a word, if it is a far pointer, lie in the message.
 abbrev pub PadsInside : Segments → ℕ → Type 0
@@ -51,18 +55,23 @@ target_in None = record { word = 0; segment = 0; start = 0; pads = 0 }
 abbrev pub target : Segments → ℕ → ℕ → Target
 target S s p = target_in (leads S s p)
 
--- What is reached from a place that means a value: landing pads and object once for each pointer, the place itself
--- apart. Of a list of structs it is the tag and the elements.
+-- What is reached from a place that means a value: landing pads and object once for each pointer,
+-- the place itself apart. Of a list of structs it is the tag and the elements.
 abbrev mutual
   pub cover : Segments → ℕ → ℕ → Tree → List Interval
   cover S s p Null = []
   cover S s p (Capability i) = pads_of (word_at S s p)
   cover S s p (Struct ws ts) =
-      pads_of (word_at S s p) ++ object_of (target S s p) (length ws + count ts) ∷ cover_all S (target S s p).segment ((target S s p).start + length ws) ts
-  cover S s p (Flat size ns) = pads_of (word_at S s p) ++ object_of (target S s p) (words_for size (length ns)) ∷ []
-  cover S s p (Pointers ts) = pads_of (word_at S s p) ++ object_of (target S s p) (count ts) ∷ cover_all S (target S s p).segment (target S s p).start ts
+      pads_of (word_at S s p) ++ object_of (target S s p) (length ws + count ts)
+      ∷ cover_all S (target S s p).segment ((target S s p).start + length ws) ts
+  cover S s p (Flat size ns) =
+      pads_of (word_at S s p) ++ object_of (target S s p) (words_for size (length ns)) ∷ []
+  cover S s p (Pointers ts) =
+      pads_of (word_at S s p) ++ object_of (target S s p) (count ts)
+      ∷ cover_all S (target S s p).segment (target S s p).start ts
   cover S s p (Structs d q es) =
-      pads_of (word_at S s p) ++ object_of (target S s p) (1 + element_count es * (d + q)) ∷ cover_elements S (target S s p).segment ((target S s p).start + 1) d q es
+      pads_of (word_at S s p) ++ object_of (target S s p) (1 + element_count es * (d + q))
+      ∷ cover_elements S (target S s p).segment ((target S s p).start + 1) d q es
 
   -- Of children one behind the other.
   pub cover_all : Segments → ℕ → ℕ → Trees → List Interval
@@ -72,43 +81,51 @@ abbrev mutual
   -- Of the children of elements one behind the other.
   pub cover_elements : Segments → ℕ → ℕ → ℕ → ℕ → Elements → List Interval
   cover_elements S s p d q no_elements = []
-  cover_elements S s p d q (element ws ts es) = cover_all S s (p + d) ts ++ cover_elements S s (p + d + q) d q es
+  cover_elements S s p d q (element ws ts es) =
+      cover_all S s (p + d) ts ++ cover_elements S s (p + d + q) d q es
 
 -- What is reached from a target, its pads apart.
 abbrev pub object_cover : Segments → Target → Tree → List Interval
 object_cover S a Null = []
 object_cover S a (Capability i) = []
-object_cover S a (Struct ws ts) = object_of a (length ws + count ts) ∷ cover_all S a.segment (a.start + length ws) ts
+object_cover S a (Struct ws ts) =
+    object_of a (length ws + count ts) ∷ cover_all S a.segment (a.start + length ws) ts
 object_cover S a (Flat size ns) = object_of a (words_for size (length ns)) ∷ []
 object_cover S a (Pointers ts) = object_of a (count ts) ∷ cover_all S a.segment a.start ts
-object_cover S a (Structs d q es) = object_of a (1 + element_count es * (d + q)) ∷ cover_elements S a.segment (a.start + 1) d q es
+object_cover S a (Structs d q es) =
+    object_of a (1 + element_count es * (d + q)) ∷ cover_elements S a.segment (a.start + 1) d q es
 
 -- Below a place all padding of lists is zero, and lists of structs claim exactly their elements ("Lists").
 abbrev mutual
   pub IsTidy : Segments → ℕ → ℕ → Tree → Type 0
-  IsTidy S s p Null = Unit {0}
-  IsTidy S s p (Capability i) = Unit {0}
+  IsTidy S s p Null = ⊤
+  IsTidy S s p (Capability i) = ⊤
   IsTidy S s p (Struct ws ts) = AreTidy S (target S s p).segment ((target S s p).start + length ws) ts
-  IsTidy S s p (Flat size ns) = words_at S (target S s p).segment (target S s p).start (words_for size (length ns)) ≡ packed size ns
+  IsTidy S s p (Flat size ns) =
+      words_at S (target S s p).segment (target S s p).start (words_for size (length ns))
+      ≡ packed size ns
   IsTidy S s p (Pointers ts) = AreTidy S (target S s p).segment (target S s p).start ts
-  IsTidy S s p (Structs d q es) = (list_count (target S s p).word ≡ element_count es * (d + q)) × AreTidyElements S (target S s p).segment ((target S s p).start + 1) d q es
+  IsTidy S s p (Structs d q es) =
+      (list_count (target S s p).word ≡ element_count es * (d + q)) ×
+      AreTidyElements S (target S s p).segment ((target S s p).start + 1) d q es
 
   -- Of children one behind the other.
   pub AreTidy : Segments → ℕ → ℕ → Trees → Type 0
-  AreTidy S s p no_trees = Unit {0}
+  AreTidy S s p no_trees = ⊤
   AreTidy S s p (tree t ts) = IsTidy S s p t × AreTidy S s (p + 1) ts
 
   -- Of the children of elements one behind the other.
   pub AreTidyElements : Segments → ℕ → ℕ → ℕ → ℕ → Elements → Type 0
-  AreTidyElements S s p d q no_elements = Unit {0}
-  AreTidyElements S s p d q (element ws ts es) = AreTidy S s (p + d) ts × AreTidyElements S s (p + d + q) d q es
+  AreTidyElements S s p d q no_elements = ⊤
+  AreTidyElements S s p d q (element ws ts es) =
+      AreTidy S s (p + d) ts × AreTidyElements S s (p + d + q) d q es
 
 -- The root pointer: word 0 of segment 0 ("Messages").
 abbrev pub root : Interval
 root = record { segment = 0; start = 0; words = 1 }
 
--- The root means t; no word is covered twice; what is covered lies in the message; every other word is zero; lists
--- are tidy ("Messages").
+-- The root means t; no word is covered twice; what is covered lies in the message; every other word
+-- is zero; lists are tidy ("Messages").
 pub record IsForest (S : Segments) (t : Tree) : Type 0 where
   pub means : (n : ℕ) × (c : ℕ) × Means S n 0 0 t c
   pub apart : (u q : ℕ) → times (root ∷ cover S 0 0 t) u q ≤ 1
@@ -116,7 +133,7 @@ pub record IsForest (S : Segments) (t : Tree) : Type 0 where
   pub zero_elsewhere : (u q : ℕ) → times (root ∷ cover S 0 0 t) u q ≡ 0 → word_at S u q ≡ 0
   pub tidy : IsTidy S 0 0 t
 
--- The allocated words of a builder's segments hold the value t: they are a forest; or segment 0 has no word yet, there
--- is nothing but zeros, and the value is Null.
+-- The allocated words of a builder's segments hold the value t: they are a forest; or segment 0 has
+-- no word yet, there is nothing but zeros, and the value is Null.
 abbrev pub ArenaHolds : Segments → Tree → Type 0
 ArenaHolds S t = IsForest S t ⊎ ((length (segment S 0) ≡ 0) × (t ≡ Null) × ((u q : ℕ) → word_at S u q ≡ 0))

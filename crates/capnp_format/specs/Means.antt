@@ -1,13 +1,17 @@
--- What a message says: which value the word at a place means, within how many levels of nesting, and what reading it
--- costs in words of the traversal limit. `Means S n s p t c`: in the message S, the word at position p of segment s
--- means the value t, within n levels, at cost c. A word that is wrong in any way means nothing: no t and c stand.
--- The cases are the kinds of pointers, in the encoding specification's sections "Structs", "Lists", "Inter-Segment
--- Pointers" and "Capabilities (Interfaces)". A nesting limit below zero counts as 0 levels.
-use Rattle.std.specs.Prelude.{◌≡◌, ◌≢◌, ℕ, pred, ◌+◌, ◌*◌, ◌<◌, ◌≤◌, cond, nat_eq, length, Some}
-use Rattle.capnp_format.specs.Word.{kind, offset_bits, data_words, pointer_count, element_size, list_count, capability_word}
+-- What a message says: which value the word at a place means, within how many levels of nesting,
+-- and what reading it costs in words of the traversal limit. `Means S n s p t c`: in the message S,
+-- the word at position p of segment s means the value t, within n levels, at cost c. A word that is
+-- wrong in any way means nothing: no t and c stand. The cases are the kinds of pointers, in the
+-- encoding specification's sections "Structs", "Lists", "Inter-Segment Pointers" and "Capabilities
+-- (Interfaces)". A nesting limit below zero counts as 0 levels.
+use Rattle.std.specs.Prelude.{◌≡◌, ◌≢◌, ℕ, pred, ◌+◌, ◌*◌, ◌<◌, ◌≤◌, if◌then◌else◌, nat_eq, length, Some}
+use Rattle.capnp_format.specs.Word.{kind, offset_bits, data_words, pointer_count, element_size}
+use Rattle.capnp_format.specs.Word.{list_count, capability_word}
 use Rattle.capnp_format.specs.Numbers.{words_for, unpacked}
 use Rattle.capnp_format.specs.Segments.{Segments, segment, word_at, words_at, HasWords, Target, leads}
-use Rattle.capnp_format.specs.Tree.{Tree, Null, Capability, Struct, Flat, Pointers, Structs, Trees, no_trees, tree, Elements, no_elements, element, count, element_count}
+use Rattle.capnp_format.specs.Tree.{Tree, Null, Capability, Struct, Flat, Pointers, Structs, Trees}
+use Rattle.capnp_format.specs.Tree.{no_trees, tree, Elements, no_elements, element, count}
+use Rattle.capnp_format.specs.Tree.{element_count}
 
 -- The word at a place is not zero, and leads to a ("Structs", "Inter-Segment Pointers").
 abbrev pub Leads : Segments → ℕ → ℕ → Target → Type 0
@@ -41,31 +45,32 @@ pub record IsTag (g n d q : ℕ) : Type 0 where
 -- Elements of no width are charged one word each, so that a short message cannot make a reader work long
 -- ("Security Considerations").
 abbrev pub count_cost : ℕ → ℕ → ℕ
-count_cost width n = cond (nat_eq width 0) n 0
+count_cost width n = if nat_eq width 0 then n else 0
 
--- The six cases, for each kind of value:
--- Null is the zero word, free of charge.
--- A capability is a word whose lower half is exactly 3, and costs the pads alone.
--- A struct: its data section, then its children from the pointer section on, within one level less. It costs the pads,
--- its own words, and what the children cost.
--- A list of numbers: its elements stand packed in the least number of words. It costs the pads and these words, and
--- for a list of void the number of elements.
--- A list of pointers: its children, within one level less; the cost is as for a struct.
--- A list of structs: m words are claimed behind a tag; the elements take no more than these. It costs the pads, the tag
--- and the m words, one for each element where elements have no width, and what the children cost.
--- Every case but the first two wants a level, and that the claimed words lie in their segment
--- ("Structs", "Lists", "Capabilities (Interfaces)").
+-- The six cases, for each kind of value: Null is the zero word, free of charge. A capability is a
+-- word whose lower half is exactly 3, and costs the pads alone. A struct: its data section, then
+-- its children from the pointer section on, within one level less. It costs the pads, its own
+-- words, and what the children cost. A list of numbers: its elements stand packed in the least
+-- number of words. It costs the pads and these words, and for a list of void the number of
+-- elements. A list of pointers: its children, within one level less; the cost is as for a struct. A
+-- list of structs: m words are claimed behind a tag; the elements take no more than these. It costs
+-- the pads, the tag and the m words, one for each element where elements have no width, and what
+-- the children cost. Every case but the first two wants a level, and that the claimed words lie in
+-- their segment ("Structs", "Lists", "Capabilities (Interfaces)").
 abbrev mutual
   pub Means : Segments → ℕ → ℕ → ℕ → Tree → ℕ → Type 0
   Means S n s p Null c = (word_at S s p ≡ 0) × (c ≡ 0)
   Means S n s p (Capability i) c = (a : Target) × Leads S s p a × (a.word ≡ capability_word i) × (c ≡ a.pads)
   Means S n s p (Struct words children) c =
-      (a : Target) × (k : ℕ) × (0 < n) × StructAt S s p a (length words) (count children) × Claims S a (length words + count children)
+      (a : Target) × (k : ℕ) × (0 < n) × StructAt S s p a (length words) (count children) ×
+      Claims S a (length words + count children)
       × HasWords S a.segment a.start words × MeansAll S (pred n) a.segment (a.start + length words) children k
       × (c ≡ a.pads + (length words + count children) + k)
   Means S n s p (Flat size numbers) c =
-      (a : Target) × (0 < n) × (size ≤ 5) × ListAt S s p a size (length numbers) × Claims S a (words_for size (length numbers))
-      × (numbers ≡ unpacked size (length numbers) (words_at S a.segment a.start (words_for size (length numbers))))
+      (a : Target) × (0 < n) × (size ≤ 5) × ListAt S s p a size (length numbers) ×
+      Claims S a (words_for size (length numbers))
+      × (numbers ≡ unpacked size (length numbers)
+      (words_at S a.segment a.start (words_for size (length numbers))))
       × (c ≡ a.pads + words_for size (length numbers) + count_cost size (length numbers))
   Means S n s p (Pointers children) c =
       (a : Target) × (k : ℕ) × (0 < n) × ListAt S s p a 6 (count children) × Claims S a (count children)
@@ -73,16 +78,19 @@ abbrev mutual
       × (c ≡ a.pads + count children + k)
   Means S n s p (Structs d q elements) c =
       (a : Target) × (m : ℕ) × (k : ℕ) × (0 < n) × ListAt S s p a 7 m × Claims S a (m + 1)
-      × IsTag (word_at S a.segment a.start) (element_count elements) d q × (element_count elements * (d + q) ≤ m)
+      × IsTag (word_at S a.segment a.start) (element_count elements) d q ×
+      (element_count elements * (d + q) ≤ m)
       × MeansElements S (pred n) a.segment (a.start + 1) d q elements k
       × (c ≡ a.pads + (m + 1) + count_cost (d + q) (element_count elements) + k)
 
   -- Pointers one behind the other from a place on mean these children; the cost is the sum.
   pub MeansAll : Segments → ℕ → ℕ → ℕ → Trees → ℕ → Type 0
   MeansAll S n s p no_trees c = c ≡ 0
-  MeansAll S n s p (tree t ts) c = (k : ℕ) × (l : ℕ) × Means S n s p t k × MeansAll S n s (p + 1) ts l × (c ≡ k + l)
+  MeansAll S n s p (tree t ts) c =
+      (k : ℕ) × (l : ℕ) × Means S n s p t k × MeansAll S n s (p + 1) ts l × (c ≡ k + l)
 
-  -- Elements of d data words and q pointers stand one behind the other from a place on; the cost is their children's.
+  -- Elements of d data words and q pointers stand one behind the other from a place on; the cost is
+  -- their children's.
   pub MeansElements : Segments → ℕ → ℕ → ℕ → ℕ → ℕ → Elements → ℕ → Type 0
   MeansElements S n s p d q no_elements c = c ≡ 0
   MeansElements S n s p d q (element words children es) c =

@@ -1,6 +1,7 @@
--- How the elements of a list are packed into words ("Lists"): a list's words, read as one number whose lowest digits
--- come first, hold its elements as the digits of that number, 1, 8, 16, 32 or 64 bits each. So the first element is in
--- the lowest bits of the first word, and what is left of the last word is padding.
+-- How the elements of a list are packed into words ("Lists"): a list's words, read as one number
+-- whose lowest digits come first, hold its elements as the digits of that number, 1, 8, 16, 32 or
+-- 64 bits each. So the first element is in the lowest bits of the first word, and what is left of
+-- the last word is padding.
 use Rattle.std.specs.Prelude.{ℕ, zero, suc, ◌+◌, ◌*◌, ◌/◌, ◌%◌, ◌^◌, List, [], ◌∷◌, get_or, length}
 
 -- The number with these digits, the lowest first ("Lists").
@@ -13,7 +14,8 @@ abbrev pub digits : ℕ → ℕ → ℕ → List ℕ
 digits base zero x = []
 digits base (suc n) x = x % base ∷ digits base n (x / base)
 
--- How many bits an element takes, by the element size's number; 0 for void and for sizes that are not flat ("Lists").
+-- How many bits an element takes, by the element size's number; 0 for void and for sizes that are
+-- not flat ("Lists").
 abbrev pub element_bits : ℕ → ℕ
 element_bits size = get_or (0 ∷ 1 ∷ 8 ∷ 16 ∷ 32 ∷ 64 ∷ []) size 0
 

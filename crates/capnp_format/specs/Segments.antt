@@ -1,7 +1,10 @@
--- Messages, and where a pointer word leads ("Messages", "Inter-Segment Pointers"). A message is a list of segments, and
--- a segment a list of words. A place is a segment's number and a word position in it. All functions here are total:
--- what is not there has no words, and a pointer that leads nowhere gives None.
-use Rattle.std.specs.Prelude.{◌≡◌, ℕ, ◌+◌, ◌-◌, ◌<◌, ◌≤◌, ◌^◌, zero, suc, Bool, cond, ◌&&◌, List, [], length, get_or, take, drop, nat_lt, nat_le, nat_eq, Option, Some, None}
+-- Messages, and where a pointer word leads ("Messages", "Inter-Segment Pointers"). A message is a
+-- list of segments, and a segment a list of words. A place is a segment's number and a word
+-- position in it. All functions here are total: what is not there has no words, and a pointer that
+-- leads nowhere gives None.
+use Rattle.std.specs.Prelude.{◌≡◌, ℕ, ◌+◌, ◌-◌, ◌<◌, ◌≤◌, ◌^◌, zero, suc, Bool, if◌then◌else◌, ◌&&◌}
+use Rattle.std.specs.Prelude.{List, [], length, get_or, take, drop, nat_lt, nat_le, nat_eq, Option}
+use Rattle.std.specs.Prelude.{Some, None}
 use Rattle.capnp_format.specs.Word.{kind, offset_bits, is_double, far_position, upper_half}
 
 -- A message: its segments in order, each as its words ("Messages").
@@ -58,38 +61,45 @@ None >>= f = None
 
 -- x where the test passes, else None.
 abbrev pub given : {A : Type 0} → Bool → A → Option A
-given b x = cond b (Some x) None
+given b x = if b then Some x else None
 
--- Where an offset, by its 30 bits, leads from position p of a segment of n words: it is signed and counts from the
--- word after the pointer, and the object may start anywhere from word 0 to the segment's end, inclusive ("Structs").
+-- Where an offset, by its 30 bits, leads from position p of a segment of n words: it is signed and
+-- counts from the word after the pointer, and the object may start anywhere from word 0 to the
+-- segment's end, inclusive ("Structs").
 abbrev pub offset_leads : ℕ → ℕ → ℕ → Option ℕ
 offset_leads n p bits =
     let there = p + 1 + bits in
-    cond (nat_lt bits (2 ^ 29)) (given (nat_le there n) there) (given (nat_le (2 ^ 30) there && nat_le there (n + 2 ^ 30)) (there - 2 ^ 30))
+    if nat_lt bits (2 ^ 29) then given (nat_le there n) there
+    else given (nat_le (2 ^ 30) there && nat_le there (n + 2 ^ 30)) (there - 2 ^ 30)
 
 -- Where a word x leads that is not a far pointer, and is read at a place after so many words of pads
 -- ("Structs", "Lists").
 abbrev pub near : Segments → ℕ → ℕ → ℕ → ℕ → Option Target
-near S s p x pads = offset_leads (length (segment S s)) p (offset_bits x) >>= λ b. Some (record { word = x; segment = s; start = b; pads = pads })
+near S s p x pads = offset_leads (length (segment S s)) p (offset_bits x) >>= λ b.
+    Some (record { word = x; segment = s; start = b; pads = pads })
 
 -- The first word of the landing pad of the far pointer x, where it and n words behind it lie in their segment
 -- ("Inter-Segment Pointers").
 abbrev pub pad : Segments → ℕ → ℕ → Option ℕ
-pad S x n = given (nat_lt (far_position x + n) (length (segment S (upper_half x)))) (word_at S (upper_half x) (far_position x))
+pad S x n =
+    given (nat_lt (far_position x + n) (length (segment S (upper_half x))))
+    (word_at S (upper_half x) (far_position x))
 
--- Where the far pointer x leads ("Inter-Segment Pointers"). By one pad word: it is an ordinary pointer, read at the
--- pad's own place. By two: the first names segment and position of the object in a far pointer's form, its kind and
--- flag not being looked at; the second is a tag that describes the object, its offset not being used. The segment
--- that the first names has to exist. Neither the pad of one word nor the tag may itself be a far pointer.
+-- Where the far pointer x leads ("Inter-Segment Pointers"). By one pad word: it is an ordinary
+-- pointer, read at the pad's own place. By two: the first names segment and position of the object
+-- in a far pointer's form, its kind and flag not being looked at; the second is a tag that
+-- describes the object, its offset not being used. The segment that the first names has to exist.
+-- Neither the pad of one word nor the tag may itself be a far pointer.
 abbrev pub far : Segments → ℕ → ℕ → Option Target
 far S x zero =
     pad S x 0 >>= λ w.
-    cond (nat_eq (kind w) 2) None (near S (upper_half x) (far_position x) w 1)
+    if nat_eq (kind w) 2 then None else near S (upper_half x) (far_position x) w 1
 far S x (suc _) =
     pad S x 1 >>= λ f.
     let w = word_at S (upper_half x) (far_position x + 1) in
-    cond (nat_eq (kind w) 2) None (given (nat_lt (upper_half f) (length S)) (record { word = w; segment = upper_half f; start = far_position f; pads = 2 }))
+    if nat_eq (kind w) 2 then None else given (nat_lt (upper_half f) (length S))
+    (record { word = w; segment = upper_half f; start = far_position f; pads = 2 })
 
 -- Where the word at a place leads, which is not zero ("Structs", "Lists", "Inter-Segment Pointers").
 abbrev pub leads : Segments → ℕ → ℕ → Option Target
-leads S s p = let x = word_at S s p in cond (nat_eq (kind x) 2) (far S x (is_double x)) (near S s p x 0)
+leads S s p = let x = word_at S s p in if nat_eq (kind x) 2 then far S x (is_double x) else near S s p x 0

@@ -1,11 +1,12 @@
--- The values that a message can hold, as trees. Where objects lie, in how many segments and by which kind of pointer
--- they are reached is no part of a value; the lengths of its data and pointer sections are, until it is trimmed
--- ("Canonicalization").
+-- The values that a message can hold, as trees. Where objects lie, in how many segments and by
+-- which kind of pointer they are reached is no part of a value; the lengths of its data and pointer
+-- sections are, until it is trimmed ("Canonicalization").
 use Rattle.std.specs.Prelude.{ℕ, zero, suc, ◌+◌, max, List, []}
 
--- A value: the null pointer; a capability by its index; a struct by the words of its data section and its children;
--- a list of numbers by an element size from 0 to 5 and the elements; a list of pointers; a list of structs by the data
--- words and pointers of each element, and the elements ("Structs", "Lists", "Capabilities (Interfaces)").
+-- A value: the null pointer; a capability by its index; a struct by the words of its data section
+-- and its children; a list of numbers by an element size from 0 to 5 and the elements; a list of
+-- pointers; a list of structs by the data words and pointers of each element, and the elements
+-- ("Structs", "Lists", "Capabilities (Interfaces)").
 mutual
   pub data Tree : Type 0 where
     Null : Tree

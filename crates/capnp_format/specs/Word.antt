@@ -1,22 +1,24 @@
--- The fields of a pointer word, and the words of pointers. A word is 64 bits, here a number below 2^64; its bits are
--- those of the eight bytes in little-endian order. The forms are those of the encoding specification's sections
--- "Structs", "Lists", "Inter-Segment Pointers" and "Capabilities (Interfaces)": A is bits 0 and 1, the kind; B, C and D
--- are the fields behind it. Each field is a division and a remainder, so `x / 2 ^ 32 % 2 ^ 16` are bits 32 to 47.
-use Rattle.std.specs.Prelude.{ℕ, ℤ, pos, negsuc, suc, cond, nat_lt, ◌+◌, ◌-◌, ◌*◌, ◌/◌, ◌%◌, ◌^◌, ◌<◌}
+-- The fields of a pointer word, and the words of pointers. A word is 64 bits, here a number below
+-- 2^64; its bits are those of the eight bytes in little-endian order. The forms are those of the
+-- encoding specification's sections "Structs", "Lists", "Inter-Segment Pointers" and "Capabilities
+-- (Interfaces)": A is bits 0 and 1, the kind; B, C and D are the fields behind it. Each field is a
+-- division and a remainder, so `x / 2 ^ 32 % 2 ^ 16` are bits 32 to 47.
+use Rattle.std.specs.Prelude.{ℕ, ℤ, pos, negsuc, suc, if◌then◌else◌, nat_lt, ◌+◌, ◌-◌, ◌*◌, ◌/◌}
+use Rattle.std.specs.Prelude.{◌%◌, ◌^◌, ◌<◌}
 
 -- Bits 0 and 1: 0 a struct, 1 a list, 2 a far pointer, 3 a capability or an unknown pointer
 -- ("Structs", "Lists", "Inter-Segment Pointers", "Capabilities (Interfaces)").
 abbrev pub kind : ℕ → ℕ
 kind x = x % 4
 
--- Bits 2 to 31, unsigned as they stand: of a struct or list pointer the signed offset B in two's complement, of a
--- list's tag the element count ("Structs", "Lists").
+-- Bits 2 to 31, unsigned as they stand: of a struct or list pointer the signed offset B in two's
+-- complement, of a list's tag the element count ("Structs", "Lists").
 abbrev pub offset_bits : ℕ → ℕ
 offset_bits x = x / 4 % 2 ^ 30
 
 -- The number with a sign that 30 bits stand for, in two's complement ("Structs", "Lists").
 abbrev pub signed : ℕ → ℤ
-signed bits = cond (nat_lt bits (2 ^ 29)) (pos bits) (negsuc (2 ^ 30 - suc bits))
+signed bits = if nat_lt bits (2 ^ 29) then pos bits else negsuc (2 ^ 30 - suc bits)
 
 -- The 30 bits that stand for a number with a sign.
 abbrev pub offset_field : ℤ → ℕ
@@ -45,8 +47,8 @@ data_words x = x / 2 ^ 32 % 2 ^ 16
 abbrev pub pointer_count : ℕ → ℕ
 pointer_count x = x / 2 ^ 48
 
--- Of a list pointer: the number of the element size ("Lists"). 0 void, 1 one bit, 2 one byte, 3 two bytes, 4 four
--- bytes, 5 eight bytes, 6 pointer, 7 structs behind a tag ("composite").
+-- Of a list pointer: the number of the element size ("Lists"). 0 void, 1 one bit, 2 one byte, 3 two
+-- bytes, 4 four bytes, 5 eight bytes, 6 pointer, 7 structs behind a tag ("composite").
 abbrev pub element_size : ℕ → ℕ
 element_size x = x / 2 ^ 32 % 8
 
@@ -62,8 +64,8 @@ is_double x = x / 4 % 2
 abbrev pub far_position : ℕ → ℕ
 far_position x = x / 8 % 2 ^ 29
 
--- A struct pointer, by the 30 bits of its offset, its data words and its pointers ("Structs"). With a count in place
--- of the offset it is the tag of a list of structs ("Lists").
+-- A struct pointer, by the 30 bits of its offset, its data words and its pointers ("Structs"). With
+-- a count in place of the offset it is the tag of a list of structs ("Lists").
 abbrev pub struct_word : ℕ → ℕ → ℕ → ℕ
 struct_word offset d q = 4 * offset + 2 ^ 32 * d + 2 ^ 48 * q
 

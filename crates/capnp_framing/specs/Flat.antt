@@ -1,5 +1,6 @@
 -- Frames that stand in memory as a whole.
-use Rattle.std.specs.Prelude.{◌≡◌, ℕ, ◌+◌, ◌*◌, ◌<◌, ◌≤◌, List, [], ◌∷◌, ◌++◌, length, take, drop, slice_index, zero, suc}
+use Rattle.std.specs.Prelude.{◌≡◌, ℕ, ◌+◌, ◌*◌, ◌<◌, ◌≤◌, List, [], ◌∷◌, ◌++◌, length, take, drop}
+use Rattle.std.specs.Prelude.{slice_index, zero, suc}
 use Rattle.std.specs.Int.{from_le_bytes, w32}
 use Rattle.capnp_format.specs.Segments.{Segments}
 use Rattle.capnp_framing.specs.Frames.{IsFrameOf}
@@ -12,7 +13,8 @@ first_told table = from_le_bytes w32 (take 4 table)
 -- The bytes of n segments that stand one behind the other, of as many words as a table tells.
 abbrev pub parts : ℕ → List ℕ → List ℕ → List (List ℕ)
 parts zero table bytes = []
-parts (suc n) table bytes = take (8 * first_told table) bytes ∷ parts n (drop 4 table) (drop (8 * first_told table) bytes)
+parts (suc n) table bytes =
+    take (8 * first_told table) bytes ∷ parts n (drop 4 table) (drop (8 * first_told table) bytes)
 
 -- That of these with the number id.
 abbrev pub part_at : ℕ → List ℕ → List ℕ → List ℕ

@@ -1,7 +1,9 @@
--- A message as a stream of bytes ("Serialization Over a Stream"): the number of segments less one, the length of each
--- segment in words, four bytes each, the lowest first; four bytes of padding behind an even number of lengths, so that the
--- words start at a multiple of eight bytes; and then the words of the segments in order, eight bytes each.
-use Rattle.std.specs.Prelude.{◌≡◌, ℕ, ◌+◌, ◌-◌, ◌*◌, ◌%◌, ◌^◌, ◌<◌, ◌≤◌, List, [], ◌∷◌, ◌++◌, All, length, replicate}
+-- A message as a stream of bytes ("Serialization Over a Stream"): the number of segments less one,
+-- the length of each segment in words, four bytes each, the lowest first; four bytes of padding
+-- behind an even number of lengths, so that the words start at a multiple of eight bytes; and then
+-- the words of the segments in order, eight bytes each.
+use Rattle.std.specs.Prelude.{◌≡◌, ℕ, ◌+◌, ◌-◌, ◌*◌, ◌%◌, ◌^◌, ◌<◌, ◌≤◌, List, [], ◌∷◌, ◌++◌, All}
+use Rattle.std.specs.Prelude.{length, replicate}
 use Rattle.std.specs.Int.{to_le_bytes, w32, w64}
 use Rattle.capnp_format.specs.Segments.{Segments}
 

@@ -8,7 +8,8 @@ use Rattle.capnp_framing.specs.declared.framing.frame_error.FrameError.{FrameErr
 -- Where two frames begin the same bytes they are one, of one message.
 abbrev pub OneFrameBegins : Type 0
 OneFrameBegins =
-    (S R : Segments) (a b rest more : List ℕ) → IsFrameOf S a → IsFrameOf R b → a ++ rest ≡ b ++ more → (S ≡ R) × (a ≡ b) × (rest ≡ more)
+    (S R : Segments) (a b rest more : List ℕ) → IsFrameOf S a → IsFrameOf R b →
+    a ++ rest ≡ b ++ more → (S ≡ R) × (a ≡ b) × (rest ≡ more)
 
 -- Bytes are a frame of one message at most.
 abbrev pub OneMessage : Type 0
@@ -28,4 +29,5 @@ FramesAreAsLong = (S : Segments) (bytes : List ℕ) → IsFrameOf S bytes → le
 
 -- Bytes that begin with a frame of at most so many words are refused for nothing that they hold.
 abbrev pub FrameIsRead : Type 0
-FrameIsRead = (S : Segments) (bytes rest : List ℕ) (most : ℕ) (e : FrameError) → IsFrameOf S bytes → total S ≤ most → NoFrame (bytes ++ rest) most e → ⊥
+FrameIsRead = (S : Segments) (bytes rest : List ℕ) (most : ℕ) (e : FrameError) → IsFrameOf S bytes →
+    total S ≤ most → NoFrame (bytes ++ rest) most e → ⊥

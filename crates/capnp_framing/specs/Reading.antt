@@ -1,12 +1,17 @@
 -- Why bytes, or segments, make no frame.
-use Rattle.std.specs.Prelude.{◌≡◌, ◌⊎◌, ℕ, ◌+◌, ◌*◌, ◌<◌, ◌≤◌, List, [], ◌∷◌, length, take, drop, zero, suc, true, IfSome}
+use Rattle.std.specs.Prelude.{◌≡◌, ◌⊎◌, ℕ, ◌+◌, ◌*◌, ◌<◌, ◌≤◌, List, [], ◌∷◌, length, take, drop}
+use Rattle.std.specs.Prelude.{zero, suc, true, IfSome, ⊤}
 use Rattle.std.specs.Int.{from_le_bytes, w32}
 use Rattle.std.specs.Io.KnownBytes.{Consumes, IsAtEnd}
 use Rattle.capnp_format.specs.Segments.{Segments}
 use Rattle.capnp_framing.specs.Frames.{IsFrameOf, max_frame_segments, padding_size}
 use Rattle.capnp_framing.specs.declared.devices.Input.{Ghosts}
 use Rattle.capnp_framing.specs.declared.framing.frame_error.FrameError.{FrameError}
-use Rattle.capnp_framing.specs.declared.framing.frame_error.FrameError.TheVariants.{NoSegments, TooManySegments, MessageTooLong, Truncated, ReadFailed}
+use Rattle.capnp_framing.specs.declared.framing.frame_error.FrameError.TheVariants.{NoSegments}
+use Rattle.capnp_framing.specs.declared.framing.frame_error.FrameError.TheVariants.{TooManySegments}
+use Rattle.capnp_framing.specs.declared.framing.frame_error.FrameError.TheVariants.{MessageTooLong}
+use Rattle.capnp_framing.specs.declared.framing.frame_error.FrameError.TheVariants.{Truncated}
+use Rattle.capnp_framing.specs.declared.framing.frame_error.FrameError.TheVariants.{ReadFailed}
 
 -- The refusal e of n segments, which make no frame: there are none, or too many.
 abbrev pub IsRefusedNumber : ℕ → FrameError → Type 0
@@ -44,18 +49,26 @@ pub record HasTable (bytes : List ℕ) : Type 0 where
 abbrev pub words_in_table : List ℕ → ℕ
 words_in_table bytes = words_told (segments_told bytes) (drop 4 bytes)
 
--- Bytes that are not none begin with no frame of at most so many words, for the reason e: the first that stands, in this order.
+-- Bytes that are not none begin with no frame of at most so many words, for the reason e: the first
+-- that stands, in this order.
 pub data NoFrame (bytes : List ℕ) (most : ℕ) (e : FrameError) : Type 0 where
   count_cut : 0 < length bytes → length bytes < 4 → e ≡ Truncated → NoFrame bytes most e
-  too_many : 4 ≤ length bytes → max_frame_segments < segments_told bytes → e ≡ TooManySegments (segments_told bytes) → NoFrame bytes most e
-  table_cut : 4 ≤ length bytes → segments_told bytes ≤ max_frame_segments → length bytes < table_size (segments_told bytes) → e ≡ Truncated → NoFrame bytes most e
-  too_long : HasTable bytes → most < words_in_table bytes → e ≡ MessageTooLong (words_in_table bytes) → NoFrame bytes most e
-  words_cut : HasTable bytes → words_in_table bytes ≤ most → length bytes < table_size (segments_told bytes) + 8 * words_in_table bytes → e ≡ Truncated → NoFrame bytes most e
+  too_many : 4 ≤ length bytes → max_frame_segments < segments_told bytes →
+      e ≡ TooManySegments (segments_told bytes) → NoFrame bytes most e
+  table_cut : 4 ≤ length bytes → segments_told bytes ≤ max_frame_segments →
+      length bytes < table_size (segments_told bytes) → e ≡ Truncated → NoFrame bytes most e
+  too_long : HasTable bytes → most < words_in_table bytes →
+      e ≡ MessageTooLong (words_in_table bytes) → NoFrame bytes most e
+  words_cut : HasTable bytes → words_in_table bytes ≤ most →
+      length bytes < table_size (segments_told bytes) + 8 * words_in_table bytes → e ≡ Truncated →
+      NoFrame bytes most e
 
 module _ {R : Type 0} (g : Ghosts R) where
   -- Of n bytes that were to be read not all came, for the reason e: the input ended before, or it failed.
   abbrev pub WhyUnread : R → R → ℕ → FrameError → Type 0
-  WhyUnread from to n e = ((e ≡ Truncated) × IfSome (g.remaining from) (λ bytes. length bytes < n)) ⊎ ((e ≡ ReadFailed) × (g.has_failed to ≡ true))
+  WhyUnread from to n e =
+      ((e ≡ Truncated) × IfSome (g.remaining from) (λ bytes. length bytes < n)) ⊎
+      ((e ≡ ReadFailed) × (g.has_failed to ≡ true))
 
   -- A frame of a message was read from the front of an input, and what stands behind it is left.
   pub record IsFrameRead (from to : R) (S : Segments) : Type 0 where
@@ -63,10 +76,14 @@ module _ {R : Type 0} (g : Ghosts R) where
     pub consumed : Consumes (g.remaining from) (g.remaining to) bytes
     pub framed : IsFrameOf S bytes
 
-  -- What a refusal has taken from the front of an input: the number of segments where there are too many, the whole table where
-  -- it tells too many words, and all that was there where it was cut short.
+  -- What a refusal has taken from the front of an input: the number of segments where there are too
+  -- many, the whole table where it tells too many words, and all that was there where it was cut
+  -- short.
   abbrev pub HasTaken : R → R → FrameError → Type 0
-  HasTaken from to (TooManySegments n) = (bytes : List ℕ) × (length bytes ≡ 4) × Consumes (g.remaining from) (g.remaining to) bytes
-  HasTaken from to (MessageTooLong n) = (bytes : List ℕ) × (length bytes ≡ table_size (segments_told bytes)) × Consumes (g.remaining from) (g.remaining to) bytes
+  HasTaken from to (TooManySegments n) =
+      (bytes : List ℕ) × (length bytes ≡ 4) × Consumes (g.remaining from) (g.remaining to) bytes
+  HasTaken from to (MessageTooLong n) =
+      (bytes : List ℕ) × (length bytes ≡ table_size (segments_told bytes)) ×
+      Consumes (g.remaining from) (g.remaining to) bytes
   HasTaken from to Truncated = IsAtEnd (g.remaining to)
-  HasTaken from to _ = Unit {0}
+  HasTaken from to _ = ⊤

@@ -1,10 +1,14 @@
 -- What the program says of a message, and the line that it then prints.
-use Rattle.std.specs.Prelude.{◌≡◌, ◌⊎◌, ℕ, ◌+◌, ◌-◌, ◌^◌, ◌≤◌, List, [], ◌∷◌, ◌++◌, Bool, true, false, codes, length, Option, Some, None}
+use Rattle.std.specs.Prelude.{◌≡◌, ◌⊎◌, ℕ, ◌+◌, ◌-◌, ◌^◌, ◌≤◌, List, [], ◌∷◌, ◌++◌, Bool, true}
+use Rattle.std.specs.Prelude.{false, codes, length, Option, Some, None}
 use Rattle.std.specs.Fmt.{decimal}
 use Rattle.std.specs.Int.{to_le_bytes, w64}
 use Rattle.hex.specs.Hex.{encode_lower}
 use Rattle.capnp_words.specs.declared.error.ErrorKind.{ErrorKind}
-use Rattle.capnp_words.specs.declared.error.ErrorKind.TheVariants.{AllocationFailed, InvalidSegmentId, MessageTooLarge, ReadLimitExceeded}
+use Rattle.capnp_words.specs.declared.error.ErrorKind.TheVariants.{AllocationFailed}
+use Rattle.capnp_words.specs.declared.error.ErrorKind.TheVariants.{InvalidSegmentId}
+use Rattle.capnp_words.specs.declared.error.ErrorKind.TheVariants.{MessageTooLarge}
+use Rattle.capnp_words.specs.declared.error.ErrorKind.TheVariants.{ReadLimitExceeded}
 use Rattle.capnp_format.specs.Segments.{Segments, IsPlace}
 use Rattle.capnp_format.specs.Bytes.{message}
 use Rattle.capnp_format.specs.Tree.{Tree, capabilities, depth}
@@ -19,7 +23,9 @@ use Rattle.capnp_arena.specs.declared.arena.reader_arena_impl.ReaderOptions.{Rea
 use Rattle.capnp_layout.specs.declared.tool.args.Args.{Args}
 use Rattle.capnp_layout.specs.declared.tool.args.Args.TheVariants.{Canon, Check, Size}
 use Rattle.capnp_layout.specs.declared.tool.engine.Outcome.{Outcome}
-use Rattle.capnp_layout.specs.declared.tool.engine.Outcome.TheVariants.{Done, Refused as RefusedOutcome, WriteFailed}
+use Rattle.capnp_layout.specs.declared.tool.engine.Outcome.TheVariants.{Done}
+use Rattle.capnp_layout.specs.declared.tool.engine.Outcome.TheVariants.{Refused as RefusedOutcome}
+use Rattle.capnp_layout.specs.declared.tool.engine.Outcome.TheVariants.{WriteFailed}
 use Rattle.capnp_objects.specs.Source.{levels}
 use Rattle.capnp_objects.specs.Outcomes.{Reads}
 use Rattle.capnp_objects.specs.Refusals.{BreaksOff, Refused, StopsWithin}
@@ -73,8 +79,9 @@ abbrev pub wants_room : ErrorKind → Bool
 wants_room AllocationFailed = true
 wants_room k = is_message_too_large k
 
--- An object is reached for which there is no room: its words, that of the root, those that reading cost until the copy broke off,
--- and one for each pointer that was followed are as many as this room, or more.
+-- An object is reached for which there is no room: its words, that of the root, those that reading
+-- cost until the copy broke off, and one for each pointer that was followed are as many as this
+-- room, or more.
 pub record OutgrowsRoom (r : Reading) (left : Option ℕ) (room : ℕ) : Type 0 where
   pub after : Meter
   pub words : ℕ
@@ -82,22 +89,26 @@ pub record OutgrowsRoom (r : Reading) (left : Option ℕ) (room : ℕ) : Type 0 
   pub broken : BreaksOff canonical r (unused left) after
   pub many : room ≤ 1 + (spent_until broken).words + (spent_until broken).pointers + words
 
--- A place means a value that the budget lets be read, whose canonical words are more than the room; or an object is reached for which
--- there is no room.
+-- A place means a value that the budget lets be read, whose canonical words are more than the room;
+-- or an object is reached for which there is no room.
 abbrev pub IsReadOrOutgrows : Reading → Option ℕ → ℕ → Type 0
-IsReadOrOutgrows r left room = ((t : Tree) × (m : Meter) × Reads canonical r (unused left) m t) ⊎ OutgrowsRoom r left room
+IsReadOrOutgrows r left room =
+    ((t : Tree) × (m : Meter) × Reads canonical r (unused left) m t) ⊎ OutgrowsRoom r left room
 
--- A copy of what a place means, into a fresh segment of so many words, is refused by the name k: it needs more words, or
--- reading it is refused.
+-- A copy of what a place means, into a fresh segment of so many words, is refused by the name k: it
+-- needs more words, or reading it is refused.
 abbrev pub RefusesCopy : Reading → Option ℕ → ℕ → ErrorKind → Type 0
 RefusesCopy r left room k =
-    ((k ≡ MessageTooLarge room) × NeedsMoreRoom r room × IsReadOrOutgrows r left room) ⊎ ((m : Meter) × Refused canonical r (unused left) m k)
+    ((k ≡ MessageTooLarge room) × NeedsMoreRoom r room × IsReadOrOutgrows r left room) ⊎
+    ((m : Meter) × Refused canonical r (unused left) m k)
 
--- A copy of what a place means, into a fresh segment with this room and into further ones where they are to be had, is refused by
--- the name k: there is none, and it needs more words than that room; or reading it is refused.
+-- A copy of what a place means, into a fresh segment with this room and into further ones where
+-- they are to be had, is refused by the name k: there is none, and it needs more words than that
+-- room; or reading it is refused.
 abbrev pub RefusesCopyAnywhere : Reading → Option ℕ → ℕ → ErrorKind → Type 0
 RefusesCopyAnywhere r left room k =
-    ((wants_room k ≡ true) × NeedsMoreRoom r room × OutgrowsRoom r left room) ⊎ ((m : Meter) × Refused canonical r (unused left) m k)
+    ((wants_room k ≡ true) × NeedsMoreRoom r room × OutgrowsRoom r left room) ⊎
+    ((m : Meter) × Refused canonical r (unused left) m k)
 
 -- Memory was refused once more, from a count to another; or that is not so, and P holds.
 abbrev pub LacksMemoryOr : ℕ → ℕ → ErrorKind → Type 0 → Type 0
@@ -105,15 +116,17 @@ LacksMemoryOr old new k P = ((k ≡ AllocationFailed) × (new ≡ one_more old))
 
 -- The root of a message, where reading is charged and n levels may be entered.
 abbrev pub message_root : Segments → ℕ → Reading
-message_root S n = record { segments = S; charging = true; of_default = false; levels = n; segment = 0; at = 0 }
+message_root S n =
+    record { segments = S; charging = true; of_default = false; levels = n; segment = 0; at = 0 }
 
 -- A message has a root pointer, and the budget covers its word ("Messages").
 pub record CoversRoot (S : Segments) (budget : Option ℕ) : Type 0 where
   pub root : IsPlace S 0 0
   pub covered : FitsIn budget 1
 
--- The canonical words of t stand at the root of a message, the first object right behind the root pointer. t is no deeper than n
--- levels, and the budget covers what reading them costs, and one word for the root pointer.
+-- The canonical words of t stand at the root of a message, the first object right behind the root
+-- pointer. t is no deeper than n levels, and the budget covers what reading them costs, and one
+-- word for the root pointer.
 pub record IsCanonicalWithin (S : Segments) (n : ℕ) (budget : Option ℕ) (t : Tree) : Type 0 where
   pub stands : Stands S 0 0 1 t
   pub levels : depth t ≤ n
@@ -124,13 +137,15 @@ pub record IsNotCanonical (S : Segments) (budget : Option ℕ) : Type 0 where
   pub at_root : CoversRoot S budget
   pub none : (t : Tree) → Stands S 0 0 1 t → ⊥
 
--- The walk that takes a size gives so many words and capabilities at the root of a message, within n levels, and with what
--- the budget leaves behind the root pointer. Where the root means a value within the levels, they are the value's.
+-- The walk that takes a size gives so many words and capabilities at the root of a message, within
+-- n levels, and with what the budget leaves behind the root pointer. Where the root means a value
+-- within the levels, they are the value's.
 pub record HasTotals (S : Segments) (n : ℕ) (budget : Option ℕ) (words caps : ℕ) : Type 0 where
   pub at_root : CoversRoot S budget
   pub after : Meter
   pub totals : Totals (message_root S n) (unused (less budget 1)) after words caps
-  pub of_value : (t : Tree) (m cost : ℕ) → Means S m 0 0 t cost → (words ≡ word_count t) × (caps ≡ capabilities t)
+  pub of_value : (t : Tree) (m cost : ℕ) → Means S m 0 0 t cost → (words ≡ word_count t) ×
+      (caps ≡ capabilities t)
 
 -- The root pointer of a message is refused by the name k.
 pub data RefusesRoot (S : Segments) (budget : Option ℕ) (k : ErrorKind) : Type 0 where
@@ -151,14 +166,17 @@ IsMadeWhereAlone made t = length made.words ≡ 1 → HoldsCanonicalWords made t
 abbrev pub IsAloneOr : View → Type 0 → Type 0
 IsAloneOr made P = (length made.words ≡ 1) ⊎ P
 
--- The test of the message of these segments says that canonical words stand at its root, within the limits of a reader's options,
--- or that none do.
+-- The test of the message of these segments says that canonical words stand at its root, within the
+-- limits of a reader's options, or that none do.
 abbrev pub CheckOf : List (List ℕ) → ReaderOptions → Bool → Type 0
-CheckOf segments options true = (t : Tree) × IsCanonicalWithin (message segments) (levels options.nesting_limit) options.traversal_limit_in_words t
+CheckOf segments options true =
+    (t : Tree) × IsCanonicalWithin (message segments)
+    (levels options.nesting_limit) options.traversal_limit_in_words t
 CheckOf segments options false = IsNotCanonical (message segments) options.traversal_limit_in_words
 
--- The root of the message of these segments means t without capabilities, within the nesting limit of a reader's options, and the budget covers what
--- reading it costs, and one word for the root pointer.
+-- The root of the message of these segments means t without capabilities, within the nesting limit
+-- of a reader's options, and the budget covers what reading it costs, and one word for the root
+-- pointer.
 pub record ValueOf (segments : List (List ℕ)) (options : ReaderOptions) (t : Tree) : Type 0 where
   pub root : IsPlace (message segments) 0 0
   pub cost : ℕ
@@ -168,15 +186,19 @@ pub record ValueOf (segments : List (List ℕ)) (options : ReaderOptions) (t : T
 
 -- The walk that takes a size gives so many words and capabilities there; or it goes to its end, and they fit.
 abbrev pub SizeOf : List (List ℕ) → ReaderOptions → ℕ → ℕ → Type 0
-SizeOf segments options words caps = HasTotals (message segments) (levels options.nesting_limit) options.traversal_limit_in_words words caps
+SizeOf segments options words caps =
+    HasTotals (message segments) (levels options.nesting_limit) options.traversal_limit_in_words
+    words caps
 
 abbrev pub HasSizeWithin : List (List ℕ) → ReaderOptions → Type 0
 HasSizeWithin segments options =
     CoversRoot (message segments) options.traversal_limit_in_words
-    × HasSize (message_root (message segments) (levels options.nesting_limit)) (unused (less options.traversal_limit_in_words 1))
+    × HasSize (message_root (message segments) (levels options.nesting_limit))
+    (unused (less options.traversal_limit_in_words 1))
 
--- A command refuses what a root leads to by the name k: the copy is refused, or needs more words than a segment holds; the
--- test for canonical form stops, or the walk that takes a size is refused.
+-- A command refuses what a root leads to by the name k: the copy is refused, or needs more words
+-- than a segment holds; the test for canonical form stops, or the walk that takes a size is
+-- refused.
 abbrev pub RefusesCommand : Args → Reading → Option ℕ → ErrorKind → Type 0
 RefusesCommand (Canon options) r left k = RefusesCopy r left max_segment_words k
 RefusesCommand (Check options) r left k = (m : Meter) × TestStops k r (progress 1 (unused left)) m

@@ -10,7 +10,8 @@ use Rattle.capnp_format.specs.Canonical.{IsEncodable, IsFree, IsTrimmed, charge,
 use Rattle.capnp_framing.specs.Frames.{CanBeFramed, frame}
 use Rattle.capnp_objects.specs.Spending.{Paid, pointers_in}
 use Rattle.capnp_readers.specs.declared.readers.canonical_fault.CanonicalFault.{CanonicalFault}
-use Rattle.capnp_readers.specs.declared.readers.canonical_fault.CanonicalFaultReason.TheVariants.{SegmentCount, WordsBehind}
+use Rattle.capnp_readers.specs.declared.readers.canonical_fault.CanonicalFaultReason.TheVariants.{SegmentCount}
+use Rattle.capnp_readers.specs.declared.readers.canonical_fault.CanonicalFaultReason.TheVariants.{WordsBehind}
 use Rattle.capnp_readers.specs.Faults.{FaultIs}
 use Rattle.capnp_readers.specs.Checking.{Finds, TestEnds, IsFault, IsUnfit, TestStops, progress}
 use Rattle.capnp_layout.specs.Answers.{CoversRoot, RefusesRoot, message_root}
@@ -28,7 +29,8 @@ pub record IsCanonicalOf (S : Segments) (t : Tree) : Type 0 where
 abbrev pub IsCanonicalMessage : Segments → Type 0
 IsCanonicalMessage S = (t : Tree) × IsCanonicalOf S t
 
--- The test of a canonical message charges what reading its value costs and a word for the root pointer, and counts each pointer.
+-- The test of a canonical message charges what reading its value costs and a word for the root
+-- pointer, and counts each pointer.
 abbrev pub IsPaid : Segments → Meter → Meter → Type 0
 IsPaid S m m' = (t : Tree) × IsCanonicalOf S t × Paid true m m' (1 + charge t) (pointers_in t)
 
@@ -36,32 +38,40 @@ IsPaid S m m' = (t : Tree) × IsCanonicalOf S t × Paid true m m' (1 + charge t)
 abbrev pub CanBeTested : Segments → ℕ → Meter → Type 0
 CanBeTested S n m = (t : Tree) × IsCanonicalOf S t × (depth t ≤ n) × FitsIn m.left (1 + charge t)
 
--- The test of a message is refused by the name k, and leaves the limiter as m': its root pointer is refused, and nothing is
--- charged; or a word is charged for that, and the test of what the root leads to stops.
+-- The test of a message is refused by the name k, and leaves the limiter as m': its root pointer is
+-- refused, and nothing is charged; or a word is charged for that, and the test of what the root
+-- leads to stops.
 abbrev pub RefusesTest : Segments → ℕ → Meter → Meter → ErrorKind → Type 0
 RefusesTest S n m m' k =
-    (RefusesRoot S m.left k × (m' ≡ m)) ⊎ (CoversRoot S m.left × TestStops k (message_root S n) (progress 1 (spent m 1)) m')
+    (RefusesRoot S m.left k × (m' ≡ m)) ⊎
+    (CoversRoot S m.left × TestStops k (message_root S n) (progress 1 (spent m 1)) m')
 
--- The test of a message of one segment finds the fault f, and leaves the limiter as m': a word is charged for the root pointer, and
--- the test of what it leads to ends at f, or it finds the canonical words of some value, and f names the word behind them.
+-- The test of a message of one segment finds the fault f, and leaves the limiter as m': a word is
+-- charged for the root pointer, and the test of what it leads to ends at f, or it finds the
+-- canonical words of some value, and f names the word behind them.
 abbrev pub IsRootFault : CanonicalFault → Segments → ℕ → Meter → Meter → Type 0
 IsRootFault f S n m m' =
     CoversRoot S m.left
     × (TestEnds (IsFault f) (message_root S n) (progress 1 (spent m 1)) m'
-    ⊎ ((t : Tree) × (h : ℕ) × Finds (message_root S n) (progress 1 (spent m 1)) (progress h m') t × (1 + word_count t < length (segment S 0)) × FaultIs f WordsBehind 0 h))
+    ⊎ ((t : Tree) × (h : ℕ) × Finds (message_root S n) (progress 1 (spent m 1)) (progress h m') t ×
+    (1 + word_count t < length (segment S 0)) × FaultIs f WordsBehind 0 h))
 
--- The test of a message finds the fault f: there isn't exactly one segment, and nothing is charged; or that of its only segment.
+-- The test of a message finds the fault f: there isn't exactly one segment, and nothing is charged;
+-- or that of its only segment.
 abbrev pub IsMessageFault : CanonicalFault → Segments → ℕ → Meter → Meter → Type 0
 IsMessageFault f S n m m' =
-    ((length S ≢ 1) × FaultIs f SegmentCount (min 1 (length S)) 0 × (m' ≡ m)) ⊎ ((length S ≡ 1) × IsRootFault f S n m m')
+    ((length S ≢ 1) × FaultIs f SegmentCount (min 1 (length S)) 0 × (m' ≡ m)) ⊎
+    ((length S ≡ 1) × IsRootFault f S n m m')
 
--- The test of a message of one segment says no, and leaves the limiter as m': a word is charged for the root pointer, and the test
--- of what it leads to fails, or it finds the canonical words of some value, with more words behind them.
+-- The test of a message of one segment says no, and leaves the limiter as m': a word is charged for
+-- the root pointer, and the test of what it leads to fails, or it finds the canonical words of some
+-- value, with more words behind them.
 abbrev pub MessageTestFails : Segments → ℕ → Meter → Meter → Type 0
 MessageTestFails S n m m' =
     CoversRoot S m.left
     × (TestEnds IsUnfit (message_root S n) (progress 1 (spent m 1)) m'
-    ⊎ ((t : Tree) × (h : ℕ) × Finds (message_root S n) (progress 1 (spent m 1)) (progress h m') t × (1 + word_count t < length (segment S 0))))
+    ⊎ ((t : Tree) × (h : ℕ) × Finds (message_root S n) (progress 1 (spent m 1)) (progress h m') t ×
+    (1 + word_count t < length (segment S 0))))
 
 -- A message is the canonical one of one value at most.
 abbrev pub OneCanonicalValue : Type 0
@@ -69,9 +79,11 @@ OneCanonicalValue = (S : Segments) (t u : Tree) → IsCanonicalOf S t → IsCano
 
 -- Its root means that value, within as many levels as the value is deep, at the value's least cost.
 abbrev pub MeansItsValue : Type 0
-MeansItsValue = (S : Segments) (t : Tree) (n : ℕ) → IsCanonicalOf S t → depth t ≤ n → Means S n 0 0 t (charge t)
+MeansItsValue =
+    (S : Segments) (t : Tree) (n : ℕ) → IsCanonicalOf S t → depth t ≤ n → Means S n 0 0 t (charge t)
 
 -- The frames of two canonical messages are equal exactly if their values are.
 abbrev pub SameCanonicalFrames : Type 0
 SameCanonicalFrames =
-    (S R : Segments) (t u : Tree) → CanBeFramed S → CanBeFramed R → IsCanonicalOf S t → IsCanonicalOf R u → (frame S ≡ frame R) ↔ (t ≡ u)
+    (S R : Segments) (t u : Tree) → CanBeFramed S → CanBeFramed R → IsCanonicalOf S t →
+    IsCanonicalOf R u → (frame S ≡ frame R) ↔ (t ≡ u)

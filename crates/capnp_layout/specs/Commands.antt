@@ -1,5 +1,7 @@
--- What each command answers to the lines of its input, as bytes, and why it refuses them. A line is a segment, or holds a frame.
-use Rattle.std.specs.Prelude.{◌≡◌, ◌⊎◌, ◌↔◌, ℕ, ◌+◌, ◌-◌, ◌^◌, ◌≤◌, List, [], ◌∷◌, ◌++◌, Bool, true, false, IsTrue, codes, length}
+-- What each command answers to the lines of its input, as bytes, and why it refuses them. A line is
+-- a segment, or holds a frame.
+use Rattle.std.specs.Prelude.{◌≡◌, ◌⊎◌, ◌↔◌, ℕ, ◌+◌, ◌-◌, ◌^◌, ◌≤◌, List, [], ◌∷◌, ◌++◌, Bool, true}
+use Rattle.std.specs.Prelude.{false, IsTrue, codes, length, ⊤}
 use Rattle.hex.specs.Hex.{encode_lower}
 use Rattle.capnp_words.specs.declared.error.ErrorKind.{ErrorKind}
 use Rattle.capnp_words.specs.declared.error.ErrorKind.TheVariants.{AllocationFailed, MessageTooLarge}
@@ -18,10 +20,15 @@ use Rattle.capnp_framing.specs.Frames.{frame, max_frame_segments}
 use Rattle.capnp_framing.specs.Reading.{IsRefusedNumber, NoFrame}
 use Rattle.capnp_framing.specs.declared.framing.frame_error.FrameError.{FrameError}
 use Rattle.capnp_layout.specs.declared.tool.args.Args.{Args}
-use Rattle.capnp_layout.specs.declared.tool.args.Args.TheVariants.{Canon, Check, Size, Frame, Unframe, FramedCanon, FramedCheck}
+use Rattle.capnp_layout.specs.declared.tool.args.Args.TheVariants.{Canon, Check, Size, Frame}
+use Rattle.capnp_layout.specs.declared.tool.args.Args.TheVariants.{Unframe, FramedCanon}
+use Rattle.capnp_layout.specs.declared.tool.args.Args.TheVariants.{FramedCheck}
 use Rattle.capnp_layout.specs.declared.tool.refusal.Refusal.{Refusal}
-use Rattle.capnp_layout.specs.declared.tool.refusal.Refusal.TheVariants.{Layout, Frame as NoFrameFor, NoMessage}
-use Rattle.capnp_layout.specs.Answers.{CheckOf, HasSizeWithin, RefusesMessage, SizeOf, ValueOf, check_line, digits_of, size_line}
+use Rattle.capnp_layout.specs.declared.tool.refusal.Refusal.TheVariants.{Layout}
+use Rattle.capnp_layout.specs.declared.tool.refusal.Refusal.TheVariants.{Frame as NoFrameFor}
+use Rattle.capnp_layout.specs.declared.tool.refusal.Refusal.TheVariants.{NoMessage}
+use Rattle.capnp_layout.specs.Answers.{CheckOf, HasSizeWithin, RefusesMessage, SizeOf, ValueOf}
+use Rattle.capnp_layout.specs.Answers.{check_line, digits_of, size_line}
 use Rattle.capnp_layout.specs.CanonicalMessages.{CanBeTested, IsCanonicalMessage, RefusesTest}
 use Rattle.capnp_layout.specs.Refusals.{refusal_line}
 
@@ -55,56 +62,69 @@ TellsCanonical lines b = (S : Segments) × HoldsFrame lines S × (IsTrue b ↔ I
 
 -- A command takes one line at most, which holds a frame.
 abbrev pub TakesOneLine : Args → Type 0
-TakesOneLine Unframe = Unit {0}
-TakesOneLine (FramedCheck options) = Unit {0}
+TakesOneLine Unframe = ⊤
+TakesOneLine (FramedCheck options) = ⊤
 TakesOneLine _ = ⊥
 
 -- Where a command takes lines as segments, these are within the limits of a reader.
 abbrev pub IsWithin : Args → List (List ℕ) → Type 0
-IsWithin Unframe lines = Unit {0}
-IsWithin (FramedCheck options) lines = Unit {0}
+IsWithin Unframe lines = ⊤
+IsWithin (FramedCheck options) lines = ⊤
 IsWithin _ lines = IsSmall lines
 
 -- P holds of the lines that a command answers with.
 abbrev pub Answers : List (List ℕ) → Args → (List ℕ → Type 0) → Type 0
-Answers lines (Canon options) P = (t : Tree) × ValueOf lines options t × P (digits_of (encoding (trim t)) ++ 10 ∷ [])
+Answers lines (Canon options) P =
+    (t : Tree) × ValueOf lines options t × P (digits_of (encoding (trim t)) ++ 10 ∷ [])
 Answers lines (Check options) P = (yes : Bool) × CheckOf lines options yes × P (check_line yes)
-Answers lines (Size options) P = (words : ℕ) × (caps : ℕ) × SizeOf lines options words caps × P (size_line words caps)
-Answers lines Frame P = (1 ≤ length lines) × (length lines ≤ max_frame_segments) × P (frame_line (message lines))
+Answers lines (Size options) P =
+    (words : ℕ) × (caps : ℕ) × SizeOf lines options words caps × P (size_line words caps)
+Answers lines Frame P =
+    (1 ≤ length lines) × (length lines ≤ max_frame_segments) × P (frame_line (message lines))
 Answers lines Unframe P = (S : Segments) × HoldsFrame lines S × P (segment_lines S)
-Answers lines (FramedCanon options) P = (t : Tree) × ValueOf lines options t × P (frame_line (encoding (trim t) ∷ []))
+Answers lines (FramedCanon options) P =
+    (t : Tree) × ValueOf lines options t × P (frame_line (encoding (trim t) ∷ []))
 Answers lines (FramedCheck options) P = (yes : Bool) × TellsCanonical lines yes × P (message_line yes)
 
 -- The frame of a message that was made is written as a line, of which P holds.
 abbrev pub AnswersFrame : View → (List ℕ → Type 0) → Type 0
 AnswersFrame made P = (S : Segments) → made.words ≡ S → P (frame_line S)
 
--- Wherever this holds there is an answer: there is a value whose canonical words fit a segment; canonical words; a size; as many
--- segments as a frame holds; a frame; and, where that is of one segment, a canonical message in it whose test the limits cover.
+-- Wherever this holds there is an answer: there is a value whose canonical words fit a segment;
+-- canonical words; a size; as many segments as a frame holds; a frame; and, where that is of one
+-- segment, a canonical message in it whose test the limits cover.
 abbrev pub HasAnswer : List (List ℕ) → Args → Type 0
-HasAnswer lines (Canon options) = (t : Tree) × ValueOf lines options t × (1 + word_count (trim t) ≤ max_segment_words)
+HasAnswer lines (Canon options) =
+    (t : Tree) × ValueOf lines options t × (1 + word_count (trim t) ≤ max_segment_words)
 HasAnswer lines (Check options) = CheckOf lines options true
 HasAnswer lines (Size options) = HasSizeWithin lines options
 HasAnswer lines Frame = (1 ≤ length lines) × (length lines ≤ max_frame_segments)
 HasAnswer lines Unframe = (S : Segments) × HoldsFrame lines S
-HasAnswer lines (FramedCanon options) = (t : Tree) × ValueOf lines options t × (1 + word_count (trim t) ≤ max_segment_words)
+HasAnswer lines (FramedCanon options) =
+    (t : Tree) × ValueOf lines options t × (1 + word_count (trim t) ≤ max_segment_words)
 HasAnswer lines (FramedCheck options) =
-    (S : Segments) × HoldsFrame lines S × (length S ≡ 1 → CanBeTested S (levels options.nesting_limit) (unused options.traversal_limit_in_words))
+    (S : Segments) × HoldsFrame lines S ×
+    (length S ≡ 1 → CanBeTested S (levels options.nesting_limit)
+    (unused options.traversal_limit_in_words))
 
 -- P holds wherever the lines are within the limits, and have an answer.
 abbrev pub WhereAnswered : List (List ℕ) → Args → Type 0 → Type 0
 WhereAnswered lines args P = IsWithin args lines → HasAnswer lines args → P
 
--- Segments have no frame: one is too large or there are too many for a reader, or there is none or too many for a frame.
+-- Segments have no frame: one is too large or there are too many for a reader, or there is none or
+-- too many for a frame.
 pub data RefusesToFrame (lines : List (List ℕ)) (r : Refusal) : Type 0 where
   beyond_limits : r ≡ Layout (MessageTooLarge (2 ^ 64 - 1)) → (IsSmall lines → ⊥) → RefusesToFrame lines r
-  wrong_number : (e : FrameError) → r ≡ NoFrameFor e → IsRefusedNumber (length lines) e → RefusesToFrame lines r
+  wrong_number : (e : FrameError) → r ≡ NoFrameFor e → IsRefusedNumber (length lines) e →
+      RefusesToFrame lines r
 
--- No frame is read: there is no line; it is empty; or it begins with no frame, for the first reason that stands.
+-- No frame is read: there is no line; it is empty; or it begins with no frame, for the first reason
+-- that stands.
 pub data RefusesFrame (lines : List (List ℕ)) (r : Refusal) : Type 0 where
   no_line : r ≡ NoMessage → lines ≡ [] → RefusesFrame lines r
   empty_line : r ≡ NoMessage → lines ≡ [] ∷ [] → RefusesFrame lines r
-  no_frame : (line : List ℕ) (e : FrameError) → r ≡ NoFrameFor e → lines ≡ line ∷ [] → NoFrame line max_frame_words e → RefusesFrame lines r
+  no_frame : (line : List ℕ) (e : FrameError) → r ≡ NoFrameFor e → lines ≡ line ∷ [] →
+      NoFrame line max_frame_words e → RefusesFrame lines r
 
 -- The message whose frame the only line holds has one segment, and its test is refused.
 pub record RefusesFramedTest (lines : List (List ℕ)) (options : ReaderOptions) (r : Refusal) : Type 0 where
@@ -113,7 +133,8 @@ pub record RefusesFramedTest (lines : List (List ℕ)) (options : ReaderOptions)
   pub after : Meter
   pub holds : HoldsFrame lines message
   pub named : r ≡ Layout kind
-  pub refused : RefusesTest message (levels options.nesting_limit) (unused options.traversal_limit_in_words) after kind
+  pub refused : RefusesTest message (levels options.nesting_limit)
+      (unused options.traversal_limit_in_words) after kind
 
 -- The message is refused as a command refuses it that reads a value.
 abbrev pub RefusesLines : List (List ℕ) → Args → Refusal → Type 0
@@ -137,6 +158,7 @@ NamesRefusal lines args P = (r : Refusal) × WhyRefused lines args r × P (refus
 abbrev pub WantsMemory : ℕ → ℕ → (List ℕ → Type 0) → Type 0
 WantsMemory old new P = (new ≡ one_more old) × P (refusal_line (Layout AllocationFailed))
 
--- Memory was refused once more, or that is not so, and lines are refused; and P holds of the line that names the refusal.
+-- Memory was refused once more, or that is not so, and lines are refused; and P holds of the line
+-- that names the refusal.
 abbrev pub AnswersRefusal : List (List ℕ) → Args → ℕ → ℕ → (List ℕ → Type 0) → Type 0
 AnswersRefusal lines args old new P = WantsMemory old new P ⊎ (NamesRefusal lines args P × (new ≡ old))

@@ -8,7 +8,8 @@ abbrev pub onto_line : ℕ → List (List ℕ) → List (List ℕ)
 onto_line c [] = (c ∷ []) ∷ []
 onto_line c (line ∷ lines) = (c ∷ line) ∷ lines
 
--- The lines of a text, which is split at line feeds; bytes behind the last line feed, if any, are one more line.
+-- The lines of a text, which is split at line feeds; bytes behind the last line feed, if any, are
+-- one more line.
 unfoldable pub lines_of : List ℕ → List (List ℕ)
 lines_of [] = []
 lines_of (c ∷ text) = if c == 10 then [] ∷ lines_of text else onto_line c (lines_of text)

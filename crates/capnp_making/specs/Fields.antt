@@ -1,4 +1,5 @@
--- Numbers and bits written and read in place. The bits of words are counted from the first word's lowest bit on.
+-- Numbers and bits written and read in place. The bits of words are counted from the first word's
+-- lowest bit on.
 use Rattle.std.specs.Prelude.{ℕ, ◌+◌, ◌*◌, ◌/◌, ◌%◌, ◌^◌, List, get_or, slice_set}
 use Rattle.capnp_format.specs.Segments.{Segments, segment}
 use Rattle.capnp_arena.specs.Written.{with_segment}

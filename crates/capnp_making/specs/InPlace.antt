@@ -1,5 +1,6 @@
 -- Bytes of a segment that are written in place ("Lists").
-use Rattle.std.specs.Prelude.{◌≡◌, ℕ, ◌*◌, ◌≤◌, ◌++◌, List, [], length, take, drop, slice_index_or, slice_set, replicate}
+use Rattle.std.specs.Prelude.{◌≡◌, ℕ, ◌*◌, ◌≤◌, ◌++◌, List, [], length, take, drop, slice_index_or}
+use Rattle.std.specs.Prelude.{slice_set, replicate}
 use Rattle.capnp_format.specs.Forest.{target}
 use Rattle.capnp_format.specs.Segments.{Segments}
 use Rattle.capnp_format.specs.Tree.{Tree, Flat}
@@ -16,13 +17,17 @@ abbrev pub segments_with : List (List ℕ) → ExistingBytes → List ℕ → Li
 segments_with B b ws = slice_set B b.segment (overwritten (slice_index_or B b.segment []) (8 * b.start) ws)
 
 -- An arena, where these bytes are others.
-abbrev pub rewritten : {A : Type 0} → (A → ℕ → List ℕ → A) → (A → List (List ℕ)) → A → ExistingBytes → List ℕ → A
-rewritten with_bytes segments a b ws = with_bytes a b.segment (overwritten (slice_index_or (segments a) b.segment []) (8 * b.start) ws)
+abbrev pub rewritten : {A : Type 0} → (A → ℕ → List ℕ → A) → (A → List (List ℕ)) → A →
+    ExistingBytes → List ℕ → A
+rewritten with_bytes segments a b ws =
+    with_bytes a b.segment (overwritten (slice_index_or (segments a) b.segment []) (8 * b.start) ws)
 
--- From S to R the bytes ws are written at b: where b is the start of a list of bytes, ws stand in it, and the others are as they were.
+-- From S to R the bytes ws are written at b: where b is the start of a list of bytes, ws stand in
+-- it, and the others are as they were.
 abbrev pub Overwrites : Segments → Segments → ExistingBytes → List ℕ → Type 0
 Overwrites S R b ws =
-    (s p : ℕ) (ns : List ℕ) → IsStored S s p (Flat 2 ns) → b.segment ≡ (target S s p).segment → b.start ≡ (target S s p).start → b.length ≤ length ns
+    (s p : ℕ) (ns : List ℕ) → IsStored S s p (Flat 2 ns) → b.segment ≡ (target S s p).segment →
+    b.start ≡ (target S s p).start → b.length ≤ length ns
     → IsReplaced S R s p (Flat 2 ns) (Flat 2 (ws ++ drop b.length ns))
 
 -- Where a place of the message holds a value, these bytes are zero.

@@ -1,11 +1,13 @@
 -- Objects made anew, all zero.
-use Rattle.std.specs.Prelude.{◌≡◌, ℕ, zero, suc, ◌+◌, ◌*◌, ◌<◌, ◌≤◌, ◌^◌, List, [], ◌∷◌, ◌++◌, length, replicate, cond, nat_eq}
+use Rattle.std.specs.Prelude.{◌≡◌, ℕ, zero, suc, ◌+◌, ◌*◌, ◌<◌, ◌≤◌, ◌^◌, List, [], ◌∷◌, ◌++◌}
+use Rattle.std.specs.Prelude.{length, replicate, if◌then◌else◌, nat_eq, ⊤}
 use Rattle.capnp_format.specs.Word.{kind, data_words, pointer_count, element_size, list_count}
 use Rattle.capnp_words.specs.Sizes.{size_number}
 use Rattle.capnp_words.specs.declared.wire_pointer.StructSize.{StructSize}
 use Rattle.capnp_format.specs.Segments.{Segments, segment, word_at, Target, Grows}
 use Rattle.capnp_format.specs.Numbers.{words_for}
-use Rattle.capnp_format.specs.Tree.{Tree, Null, Struct, Flat, Pointers, Structs, Trees, no_trees, tree, Elements, no_elements, element}
+use Rattle.capnp_format.specs.Tree.{Tree, Null, Struct, Flat, Pointers, Structs, Trees, no_trees}
+use Rattle.capnp_format.specs.Tree.{tree, Elements, no_elements, element}
 use Rattle.capnp_format.specs.Means.{Leads}
 use Rattle.capnp_format.specs.Forest.{times, pads_of, object_of, target}
 use Rattle.capnp_making.specs.Path.{word_interval}
@@ -15,18 +17,19 @@ use Rattle.capnp_making.specs.declared.making.Shape.TheVariants.{Struct as Struc
 
 -- The word's kind and upper half are those of a shape.
 abbrev pub IsShape : Shape → ℕ → Type 0
-IsShape (StructShape size) x = (kind x ≡ 0) × (data_words x ≡ size.data_words) × (pointer_count x ≡ size.pointers)
+IsShape (StructShape size) x =
+    (kind x ≡ 0) × (data_words x ≡ size.data_words) × (pointer_count x ≡ size.pointers)
 IsShape (ListShape size n) x = (kind x ≡ 1) × (element_size x ≡ size_number size) × (list_count x ≡ n)
 
 -- A list's count fits its bits.
 abbrev pub CountFits : Shape → Type 0
-CountFits (StructShape size) = Unit {0}
+CountFits (StructShape size) = ⊤
 CountFits (ListShape size n) = n < 2 ^ 29
 
 -- A struct has a word.
 abbrev pub AsksWords : Shape → Type 0
 AsksWords (StructShape size) = 0 < size.data_words + size.pointers
-AsksWords (ListShape size n) = Unit {0}
+AsksWords (ListShape size n) = ⊤
 
 -- Words of zero, null pointers, and structs of these.
 abbrev pub words_of_zero : ℕ → List ℕ
@@ -52,17 +55,18 @@ zero_structs n size = Structs size.data_words size.pointers (zero_elements size.
 
 -- A list of n elements that are no structs, all zero or null, by the number of its element size ("Lists").
 abbrev pub zero_list : ℕ → ℕ → Tree
-zero_list size n = cond (nat_eq size 6) (Pointers (nulls n)) (Flat size (words_of_zero n))
+zero_list size n = if nat_eq size 6 then Pointers (nulls n) else Flat size (words_of_zero n)
 
 -- How many words n elements of a size take that are no structs.
 abbrev pub list_words : ℕ → ℕ → ℕ
-list_words size n = cond (nat_eq size 6) n (words_for size n)
+list_words size n = if nat_eq size 6 then n else words_for size n
 
 -- The words of a list of n structs of a size, its tag included.
 abbrev pub structs_words : ℕ → StructSize → ℕ
 structs_words n size = 1 + n * (size.data_words + size.pointers)
 
--- From S to R there are n words more from position p of segment s on, behind what was there, and all new words are zero.
+-- From S to R there are n words more from position p of segment s on, behind what was there, and
+-- all new words are zero.
 pub record IsGrown (S R : Segments) (s p n : ℕ) : Type 0 where
   pub grows : Grows S R
   pub behind : length (segment S s) ≤ p
@@ -71,20 +75,26 @@ pub record IsGrown (S R : Segments) (s p n : ℕ) : Type 0 where
   pub kept : (v r : ℕ) → r < length (segment S v) → word_at R v r ≡ word_at S v r
   pub zero : (v r : ℕ) → length (segment S v) ≤ r → word_at R v r ≡ 0
 
--- From S to R the pointer at a place is written, and leads to n new words, all zero; its pads are new as well, and nothing else is written.
+-- From S to R the pointer at a place is written, and leads to n new words, all zero; its pads are
+-- new as well, and nothing else is written.
 pub record IsMade (S R : Segments) (s p : ℕ) (a : Target) (n : ℕ) : Type 0 where
   pub grows : Grows S R
   pub leads_there : Leads R s p a
   pub exists : a.segment < length R
   pub claims : a.start + n ≤ length (segment R a.segment)
   pub once : (v r : ℕ) → times (pads_of (word_at R s p) ++ object_of a n ∷ []) v r ≤ 1
-  pub fresh : (v r : ℕ) → 0 < times (pads_of (word_at R s p) ++ object_of a n ∷ []) v r → (length (segment S v) ≤ r) × (r < length (segment R v))
-  pub kept : (v r : ℕ) → times (word_interval s p ∷ []) v r ≡ 0 → r < length (segment S v) → word_at R v r ≡ word_at S v r
-  pub zero : (v r : ℕ) → times (pads_of (word_at R s p)) v r ≡ 0 → length (segment S v) ≤ r → word_at R v r ≡ 0
+  pub fresh : (v r : ℕ) → 0 < times (pads_of (word_at R s p) ++ object_of a n ∷ []) v r →
+      (length (segment S v) ≤ r) × (r < length (segment R v))
+  pub kept : (v r : ℕ) → times (word_interval s p ∷ []) v r ≡ 0 → r < length (segment S v) →
+      word_at R v r ≡ word_at S v r
+  pub zero : (v r : ℕ) → times (pads_of (word_at R s p)) v r ≡ 0 → length (segment S v) ≤ r →
+      word_at R v r ≡ 0
 
--- From S to R the pointer at a place is written, and leads to a new object of n words of a shape, which starts at h.
+-- From S to R the pointer at a place is written, and leads to a new object of n words of a shape,
+-- which starts at h.
 abbrev pub IsMadeAt : Segments → Segments → ℕ → ℕ → Shape → ℕ → Start → Type 0
-IsMadeAt S R s p shape n h = (a : Target) × IsMade S R s p a n × IsShape shape a.word × (h.segment ≡ a.segment) × (h.at ≡ a.start)
+IsMadeAt S R s p shape n h = (a : Target) × IsMade S R s p a n × IsShape shape a.word ×
+    (h.segment ≡ a.segment) × (h.at ≡ a.start)
 
 -- The pointer at a place leads to what starts at h.
 abbrev pub LeadsToStart : Segments → ℕ → ℕ → Start → Type 0

@@ -1,4 +1,5 @@
--- The words that an object takes, in the segment of its pointer or, behind a landing pad, in another one ("Inter-Segment Pointers").
+-- The words that an object takes, in the segment of its pointer or, behind a landing pad, in
+-- another one ("Inter-Segment Pointers").
 use Rattle.std.specs.Prelude.{ℕ, ◌≡◌, ◌≢◌, ◌⊎◌, ◌+◌, ◌<◌, ◌≤◌, max, length}
 use Rattle.capnp_format.specs.Segments.{Segments, segment, Target}
 use Rattle.capnp_words.specs.declared.error.ErrorKind.{ErrorKind}
@@ -12,7 +13,8 @@ use Rattle.capnp_making.specs.declared.making.Start.{Start}
 abbrev pub HasRoom : View → ℕ → ℕ → Type 0
 HasRoom v id n = (length (segment v.words id) + n ≤ v.room id) ⊎ ((k : ℕ) × IsFirstFit v (n + 1) k)
 
--- From S to R segment k has n words more, and may be a new one behind the others; these are as long as before.
+-- From S to R segment k has n words more, and may be a new one behind the others; these are as long
+-- as before.
 pub record Lengthens (S R : Segments) (k n : ℕ) : Type 0 where
   pub segments : length R ≡ max (length S) (k + 1)
   pub gained : length (segment R k) ≡ length (segment S k) + n
@@ -22,15 +24,20 @@ pub record Lengthens (S R : Segments) (k n : ℕ) : Type 0 where
 abbrev pub IsNextRoom : View → ℕ → ℕ → Type 0
 IsNextRoom v n k = IsFirstFit v n k ⊎ (IsFull v n × (k ≡ length v.words))
 
--- n words are taken in segment id where it has room for them, and else n words and one for a landing pad where the arena has room next.
+-- n words are taken in segment id where it has room for them, and else n words and one for a
+-- landing pad where the arena has room next.
 pub record TakesWords (old new : View) (id n : ℕ) : Type 0 where
   pub near : length (segment old.words id) + n ≤ old.room id → Lengthens old.words new.words id n
-  pub far : old.room id < length (segment old.words id) + n → (k : ℕ) × IsNextRoom old (n + 1) k × Lengthens old.words new.words k (n + 1)
+  pub far : old.room id < length (segment old.words id) + n → (k : ℕ) × IsNextRoom old (n + 1) k ×
+      Lengthens old.words new.words k (n + 1)
 
--- n words from h on stand behind all that were there: in segment id where it has room for them, and else behind a landing pad where the arena has room next.
+-- n words from h on stand behind all that were there: in segment id where it has room for them, and
+-- else behind a landing pad where the arena has room next.
 pub record StandsBehind (old : View) (id n : ℕ) (h : Start) : Type 0 where
-  pub near : 0 < n → length (segment old.words id) + n ≤ old.room id → (h.segment ≡ id) × (h.at ≡ length (segment old.words id))
-  pub far : old.room id < length (segment old.words id) + n → IsNextRoom old (n + 1) h.segment × (h.at ≡ length (segment old.words h.segment) + 1)
+  pub near : 0 < n → length (segment old.words id) + n ≤ old.room id → (h.segment ≡ id) ×
+      (h.at ≡ length (segment old.words id))
+  pub far : old.room id < length (segment old.words id) + n → IsNextRoom old (n + 1) h.segment ×
+      (h.at ≡ length (segment old.words h.segment) + 1)
 
 -- Where a pointer leads, as a start.
 abbrev pub start_of : Target → Start
@@ -38,29 +45,34 @@ start_of a = record { segment = a.segment; at = a.start }
 
 -- Nothing but words is changed, and the room of segments that are new.
 abbrev pub KeepsMemory : View → View → Type 0
-KeepsMemory old new = (new ≡ record old { words = new.words; room = new.room }) × SameRoomBelow (length old.words) old.room new.room
+KeepsMemory old new = (new ≡ record old { words = new.words; room = new.room }) ×
+    SameRoomBelow (length old.words) old.room new.room
 
--- n words and a pad are refused by this name, and nothing but words is changed, and how often memory was refused.
+-- n words and a pad are refused by this name, and nothing but words is changed, and how often
+-- memory was refused.
 abbrev pub IsRefusedFor : View → View → ℕ → ErrorKind → Type 0
-IsRefusedFor old new n k = IsAllocationRefusal old new (length old.words) (n + 1) k × (new ≡ record old { words = new.words; refusals = new.refusals })
+IsRefusedFor old new n k = IsAllocationRefusal old new (length old.words) (n + 1) k ×
+    (new ≡ record old { words = new.words; refusals = new.refusals })
 
 -- How often memory was refused, after a refusal by the name k.
 abbrev pub refusals_for : ErrorKind → ℕ → ℕ
 refusals_for AllocationFailed n = one_more n
 refusals_for k n = n
 
--- A call is refused by the name k: nothing but words is changed, the room of segments that are new, and how often memory was
--- refused, which is once more where that is the name, and else as before.
+-- A call is refused by the name k: nothing but words is changed, the room of segments that are new,
+-- and how often memory was refused, which is once more where that is the name, and else as before.
 abbrev pub SpendsMemory : View → View → ErrorKind → Type 0
 SpendsMemory old new k =
-    (new ≡ record old { words = new.words; room = new.room; refusals = new.refusals }) × SameRoomBelow (length old.words) old.room new.room
+    (new ≡ record old { words = new.words; room = new.room; refusals = new.refusals }) ×
+    SameRoomBelow (length old.words) old.room new.room
     × (new.refusals ≡ refusals_for k old.refusals)
 
 -- n words and a pad are refused by this name, and no segment that is there now has room for them.
 abbrev pub RefusesWords : View → View → ℕ → ErrorKind → Type 0
-RefusesWords old new n k = IsAllocationRefusal old new (length new.words) (n + 1) k × ((j : ℕ) → IsFirstFit new (n + 1) j → ⊥)
+RefusesWords old new n k = IsAllocationRefusal old new (length new.words) (n + 1) k ×
+    ((j : ℕ) → IsFirstFit new (n + 1) j → ⊥)
 
--- An object of n words to which so many pointers are moved is refused by this name: for its words and a pad, or for the two words of a landing pad of one
--- of these pointers.
+-- An object of n words to which so many pointers are moved is refused by this name: for its words
+-- and a pad, or for the two words of a landing pad of one of these pointers.
 abbrev pub RefusesGrowth : View → View → ℕ → ℕ → ErrorKind → Type 0
 RefusesGrowth old new n pointers k = RefusesWords old new n k ⊎ ((0 < pointers) × RefusesWords old new 1 k)

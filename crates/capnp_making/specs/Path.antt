@@ -1,7 +1,9 @@
--- Paths into a value: the value with another one at the end of a path, and the place in a message where a path leads.
+-- Paths into a value: the value with another one at the end of a path, and the place in a message
+-- where a path leads.
 use Rattle.std.specs.Prelude.{◌≡◌, ℕ, zero, suc, ◌+◌, ◌*◌, ◌<◌, List, [], ◌∷◌, length}
 use Rattle.capnp_format.specs.Segments.{Segments}
-use Rattle.capnp_format.specs.Tree.{Tree, Null, Struct, Pointers, Structs, Trees, no_trees, tree, Elements, no_elements, element, count, element_count}
+use Rattle.capnp_format.specs.Tree.{Tree, Null, Struct, Pointers, Structs, Trees, no_trees, tree}
+use Rattle.capnp_format.specs.Tree.{Elements, no_elements, element, count, element_count}
 use Rattle.capnp_format.specs.Forest.{Interval, target, cover}
 
 -- A step from a struct to a child, or from a list to an element, by its number.
@@ -56,11 +58,14 @@ update t (step ∷ path) u = put t step (update (next t step) path u)
 abbrev pub PathLeads : Segments → ℕ → ℕ → Tree → List Step → ℕ → ℕ → Tree → Type 0
 PathLeads S s p t [] u q x = (s ≡ u) × (p ≡ q) × (t ≡ x)
 PathLeads S s p (Struct ws ts) (Child i ∷ path) u q x =
-    (i < count ts) × PathLeads S (target S s p).segment ((target S s p).start + length ws + i) (tree_at ts i) path u q x
+    (i < count ts) × PathLeads S (target S s p).segment ((target S s p).start + length ws + i)
+    (tree_at ts i) path u q x
 PathLeads S s p (Pointers ts) (Element i ∷ path) u q x =
     (i < count ts) × PathLeads S (target S s p).segment ((target S s p).start + i) (tree_at ts i) path u q x
 PathLeads S s p (Structs d k es) (Element i ∷ Child j ∷ path) u q x =
-    (i < element_count es) × (j < k) × PathLeads S (target S s p).segment ((target S s p).start + 1 + i * (d + k) + d + j) (next (struct_at es i) (Child j)) path u q x
+    (i < element_count es) × (j < k) ×
+    PathLeads S (target S s p).segment ((target S s p).start + 1 + i * (d + k) + d + j)
+    (next (struct_at es i) (Child j)) path u q x
 PathLeads S s p t path u q x = ⊥
 
 -- the word at a place

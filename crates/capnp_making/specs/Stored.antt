@@ -14,14 +14,18 @@ pub record IsStored (S : Segments) (s p : ℕ) (t : Tree) : Type 0 where
   pub inside : (v r : ℕ) → 0 < times (extent S s p t) v r → r < length (segment S v)
   pub tidy : IsTidy S s p t
 
--- from S to R the place (s, p) gets u in place of t: u uses words of t and new ones, the rest of these is zero, and all other words stay
+-- from S to R the place (s, p) gets u in place of t: u uses words of t and new ones, the rest of
+-- these is zero, and all other words stay
 pub record IsReplaced (S R : Segments) (s p : ℕ) (t u : Tree) : Type 0 where
   pub segments : length S ≤ length R
   pub words : (v : ℕ) → length (segment S v) ≤ length (segment R v)
   pub stored : IsStored R s p u
-  pub uses : (v r : ℕ) → 0 < times (extent R s p u) v r → (0 < times (extent S s p t) v r) ⊎ (length (segment S v) ≤ r)
-  pub zero_elsewhere : (v r : ℕ) → times (extent R s p u) v r ≡ 0 → (0 < times (extent S s p t) v r) ⊎ (length (segment S v) ≤ r) → word_at R v r ≡ 0
-  pub kept : (v r : ℕ) → times (extent S s p t) v r ≡ 0 → r < length (segment S v) → word_at R v r ≡ word_at S v r
+  pub uses : (v r : ℕ) → 0 < times (extent R s p u) v r → (0 < times (extent S s p t) v r) ⊎
+      (length (segment S v) ≤ r)
+  pub zero_elsewhere : (v r : ℕ) → times (extent R s p u) v r ≡ 0 →
+      (0 < times (extent S s p t) v r) ⊎ (length (segment S v) ≤ r) → word_at R v r ≡ 0
+  pub kept : (v r : ℕ) → times (extent S s p t) v r ≡ 0 → r < length (segment S v) →
+      word_at R v r ≡ word_at S v r
 
 -- Whatever value the place has in S, in R it has u in its stead.
 abbrev pub Puts : Segments → Segments → ℕ → ℕ → Tree → Type 0

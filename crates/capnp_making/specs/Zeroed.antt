@@ -3,7 +3,8 @@ use Rattle.std.specs.Prelude.{◌≡◌, ◌⊎◌, ℕ, ◌+◌, ◌*◌, ◌<�
 use Rattle.capnp_format.specs.Word.{kind, data_words, pointer_count, element_size, list_count}
 use Rattle.capnp_format.specs.Numbers.{words_for}
 use Rattle.capnp_format.specs.Segments.{Segments, segment, word_at, Target}
-use Rattle.capnp_format.specs.Tree.{Tree, Null, Capability, Struct, Flat, Pointers, Structs, Trees, Elements, no_elements, element, count, element_count}
+use Rattle.capnp_format.specs.Tree.{Tree, Null, Capability, Struct, Flat, Pointers, Structs, Trees}
+use Rattle.capnp_format.specs.Tree.{Elements, no_elements, element, count, element_count}
 use Rattle.capnp_format.specs.Means.{Means, MeansAll, MeansElements, Claims, IsTag}
 pub use Rattle.capnp_format.specs.Forest.{row, PadsInside, object_cover}
 use Rattle.capnp_format.specs.Forest.{Interval, times, cover_all, cover_elements}
@@ -29,7 +30,8 @@ pub record IsPrunedBut (S R : Segments) (s p x : ℕ) : Type 0 where
   pub segments : length R ≡ length S
   pub words : (v : ℕ) → length (segment R v) ≡ length (segment S v)
   pub here : word_at R s p ≡ x
-  pub only : (v r : ℕ) → times (word_interval s p ∷ []) v r ≡ 0 → (word_at R v r ≡ word_at S v r) ⊎ (word_at R v r ≡ 0)
+  pub only : (v r : ℕ) → times (word_interval s p ∷ []) v r ≡ 0 → (word_at R v r ≡ word_at S v r) ⊎
+      (word_at R v r ≡ 0)
 
 -- A place means a value, which holds no word twice.
 pub record IsApart (S : Segments) (s p : ℕ) (t : Tree) : Type 0 where
@@ -46,36 +48,46 @@ pub record AreApartElements (S : Segments) (s p d q : ℕ) (es : Elements) : Typ
   pub mean : (n : ℕ) × (c : ℕ) × MeansElements S n s p d q es c
   pub apart : (v r : ℕ) → times (row s p (element_count es * (d + q)) ∷ cover_elements S s p d q es) v r ≤ 1
 
--- From S to R a struct of this size from a place on becomes zero, with all below it, if its pointers mean values.
+-- From S to R a struct of this size from a place on becomes zero, with all below it, if its
+-- pointers mean values.
 abbrev pub IsStructZeroed : Segments → Segments → ℕ → ℕ → StructSize → Type 0
 IsStructZeroed S R s p size =
-    (ts : Trees) → count ts ≡ size.pointers → p + (size.data_words + size.pointers) ≤ length (segment S s) → AreApart S s (p + size.data_words) ts
+    (ts : Trees) → count ts ≡ size.pointers →
+    p + (size.data_words + size.pointers) ≤ length (segment S s) →
+    AreApart S s (p + size.data_words) ts
     → IsZeroed S R (row s p (size.data_words + size.pointers) ∷ cover_all S s (p + size.data_words) ts)
 
 -- From S to R n pointers from a place on become zero, with all below them, if they mean values.
 abbrev pub ArePointersZeroed : Segments → Segments → ℕ → ℕ → ℕ → Type 0
 ArePointersZeroed S R s p n =
-    (ts : Trees) → count ts ≡ n → p + n ≤ length (segment S s) → AreApart S s p ts → IsZeroed S R (row s p n ∷ cover_all S s p ts)
+    (ts : Trees) → count ts ≡ n → p + n ≤ length (segment S s) → AreApart S s p ts →
+    IsZeroed S R (row s p n ∷ cover_all S s p ts)
 
 -- From S to R a list of structs becomes zero from its tag on, with all below it, if its pointers mean values.
 abbrev pub IsStructListZeroed : Segments → Segments → ℕ → ℕ → Type 0
 IsStructListZeroed S R s p =
-    (d q : ℕ) (es : Elements) → IsTag (word_at S s p) (element_count es) d q → p + (1 + element_count es * (d + q)) ≤ length (segment S s)
-    → AreApartElements S s (p + 1) d q es → IsZeroed S R (row s p (1 + element_count es * (d + q)) ∷ cover_elements S s (p + 1) d q es)
+    (d q : ℕ) (es : Elements) → IsTag (word_at S s p) (element_count es) d q →
+    p + (1 + element_count es * (d + q)) ≤ length (segment S s)
+    → AreApartElements S s (p + 1) d q es →
+    IsZeroed S R (row s p (1 + element_count es * (d + q)) ∷ cover_elements S s (p + 1) d q es)
 
 -- Where the target a leads, a value stands.
 abbrev pub IsObjectAt : Segments → ℕ → Target → Tree → Type 0
 IsObjectAt S n a Null = ⊥
 IsObjectAt S n a (Capability i) = kind a.word ≡ 3
 IsObjectAt S n a (Struct ws ts) =
-    (k : ℕ) × (kind a.word ≡ 0) × (data_words a.word ≡ length ws) × (pointer_count a.word ≡ count ts) × Claims S a (length ws + count ts)
+    (k : ℕ) × (kind a.word ≡ 0) × (data_words a.word ≡ length ws) ×
+    (pointer_count a.word ≡ count ts) × Claims S a (length ws + count ts)
     × MeansAll S n a.segment (a.start + length ws) ts k
 IsObjectAt S n a (Flat size ns) =
-    (kind a.word ≡ 1) × (size ≤ 5) × (element_size a.word ≡ size) × (list_count a.word ≡ length ns) × Claims S a (words_for size (length ns))
+    (kind a.word ≡ 1) × (size ≤ 5) × (element_size a.word ≡ size) ×
+    (list_count a.word ≡ length ns) × Claims S a (words_for size (length ns))
 IsObjectAt S n a (Pointers ts) =
-    (k : ℕ) × (kind a.word ≡ 1) × (element_size a.word ≡ 6) × (list_count a.word ≡ count ts) × Claims S a (count ts) × MeansAll S n a.segment a.start ts k
+    (k : ℕ) × (kind a.word ≡ 1) × (element_size a.word ≡ 6) × (list_count a.word ≡ count ts) ×
+    Claims S a (count ts) × MeansAll S n a.segment a.start ts k
 IsObjectAt S n a (Structs d q es) =
-    (k : ℕ) × (kind a.word ≡ 1) × (element_size a.word ≡ 7) × IsTag (word_at S a.segment a.start) (element_count es) d q
+    (k : ℕ) × (kind a.word ≡ 1) × (element_size a.word ≡ 7) ×
+    IsTag (word_at S a.segment a.start) (element_count es) d q
     × Claims S a (1 + element_count es * (d + q)) × MeansElements S n a.segment (a.start + 1) d q es k
 
 -- A value stands where the target leads, and holds no word twice.
@@ -83,17 +95,21 @@ pub record IsObjectApart (S : Segments) (a : Target) (t : Tree) : Type 0 where
   pub stands : (n : ℕ) × IsObjectAt S n a t
   pub apart : (v r : ℕ) → times (object_cover S a t) v r ≤ 1
 
--- From S to R the object that a target leads to becomes zero, with all below it, if it is a value that holds no word twice.
+-- From S to R the object that a target leads to becomes zero, with all below it, if it is a value
+-- that holds no word twice.
 abbrev pub IsObjectZeroed : Segments → Segments → Target → Type 0
 IsObjectZeroed S R a = (t : Tree) → IsObjectApart S a t → IsZeroed S R (object_cover S a t)
 
 -- The pointers of elements one behind the other, with what is reached from them.
 abbrev pub element_extents : Segments → ℕ → ℕ → ℕ → ℕ → Elements → List Interval
 element_extents S s p d q no_elements = []
-element_extents S s p d q (element ws ts es) = (row s (p + d) q ∷ cover_all S s (p + d) ts) ++ element_extents S s (p + d + q) d q es
+element_extents S s p d q (element ws ts es) =
+    (row s (p + d) q ∷ cover_all S s (p + d) ts) ++ element_extents S s (p + d + q) d q es
 
--- From S to R the pointers of n elements of a size, one behind the other from h on, become zero, with all below them, if they mean values.
+-- From S to R the pointers of n elements of a size, one behind the other from h on, become zero,
+-- with all below them, if they mean values.
 abbrev pub AreElementsZeroed : Segments → Segments → Start → StructSize → ℕ → Type 0
 AreElementsZeroed S R h size n =
-    (es : Elements) → element_count es ≡ n → AreApartElements S h.segment h.at size.data_words size.pointers es
+    (es : Elements) → element_count es ≡ n →
+    AreApartElements S h.segment h.at size.data_words size.pointers es
     → IsZeroed S R (element_extents S h.segment h.at size.data_words size.pointers es)

@@ -1,6 +1,6 @@
--- What an object claims and charges, and the demands that every object meets, by the word that describes it and by what the
--- object is read for: its value, or its size alone.
-use Rattle.std.specs.Prelude.{◌≡◌, ℕ, ◌+◌, ◌*◌, ◌<◌, ◌≤◌, cond, nat_eq}
+-- What an object claims and charges, and the demands that every object meets, by the word that
+-- describes it and by what the object is read for: its value, or its size alone.
+use Rattle.std.specs.Prelude.{◌≡◌, ℕ, ◌+◌, ◌*◌, ◌<◌, ◌≤◌, if◌then◌else◌, nat_eq}
 use Rattle.capnp_format.specs.Word.{kind, offset_bits, data_words, pointer_count, element_size, list_count}
 use Rattle.capnp_format.specs.Numbers.{words_for}
 use Rattle.capnp_format.specs.Segments.{Segments, word_at, Target}
@@ -8,12 +8,13 @@ use Rattle.capnp_format.specs.Means.{Claims, count_cost}
 use Rattle.capnp_objects.specs.declared.object.Purpose.{Purpose}
 use Rattle.capnp_objects.specs.declared.object.Purpose.TheVariants.{Value, Size}
 
--- The words that an object claims, by the word that describes it: those of a struct's two sections; of a list of structs with
--- its tag, of pointers, of numbers.
+-- The words that an object claims, by the word that describes it: those of a struct's two sections;
+-- of a list of structs with its tag, of pointers, of numbers.
 abbrev pub claim : ℕ → ℕ
 claim w =
-    cond (nat_eq (kind w) 0) (data_words w + pointer_count w)
-    (cond (nat_eq (element_size w) 7) (list_count w + 1) (cond (nat_eq (element_size w) 6) (list_count w) (words_for (element_size w) (list_count w))))
+    if nat_eq (kind w) 0 then data_words w + pointer_count w
+    else if nat_eq (element_size w) 7 then list_count w + 1 else if nat_eq (element_size w) 6 then
+    list_count w else words_for (element_size w) (list_count w)
 
 -- The word describes a list of structs.
 abbrev pub IsStructList : ℕ → Type 0
@@ -36,10 +37,13 @@ count_charge Size width n = 0
 abbrev pub amplified : Purpose → Segments → Target → ℕ
 amplified Size S a = 0
 amplified Value S a =
-    cond (nat_eq (kind a.word) 0) 0
-    (cond (nat_eq (element_size a.word) 7) (count_cost (data_words (tag S a) + pointer_count (tag S a)) (offset_bits (tag S a))) (count_cost (element_size a.word) (list_count a.word)))
+    if nat_eq (kind a.word) 0 then 0
+    else if nat_eq (element_size a.word) 7 then
+    count_cost (data_words (tag S a) + pointer_count (tag S a)) (offset_bits (tag S a))
+    else count_cost (element_size a.word) (list_count a.word)
 
--- What reading an object charges, without its children: its landing pads, what it claims, and its elements of no bits.
+-- What reading an object charges, without its children: its landing pads, what it claims, and its
+-- elements of no bits.
 abbrev pub own : Purpose → Segments → Target → ℕ
 own purpose S a = a.pads + claim a.word + amplified purpose S a
 

@@ -1,5 +1,6 @@
 -- An object that a call expects to be of a kind, once its landing is known: the steps of entering it.
-use Rattle.std.specs.Prelude.{◌≡◌, ℕ, ◌+◌, ◌-◌, ◌*◌, ◌/◌, ◌%◌, ◌^◌, ◌≤◌, cond, not, ◌||◌, nat_eq, Option, Some, None, get_or, length}
+use Rattle.std.specs.Prelude.{◌≡◌, ℕ, ◌+◌, ◌-◌, ◌*◌, ◌/◌, ◌%◌, ◌^◌, ◌≤◌, if◌then◌else◌, not, ◌||◌}
+use Rattle.std.specs.Prelude.{nat_eq, Option, Some, None, get_or, length, ⊤}
 use Rattle.capnp_words.specs.declared.error.ErrorKind.{ErrorKind}
 use Rattle.capnp_words.specs.declared.error.ErrorKind.TheVariants.{MessageContainsTextThatIsNotNULTerminated}
 use Rattle.capnp_words.specs.Meter.{Meter}
@@ -10,7 +11,9 @@ use Rattle.capnp_words.specs.Sizes.{size_number}
 use Rattle.capnp_objects.specs.declared.object.Expected.{Expected}
 use Rattle.capnp_objects.specs.declared.object.Expected.TheVariants.{List, Text}
 use Rattle.capnp_objects.specs.declared.object.Object.{Object}
-use Rattle.capnp_objects.specs.declared.object.Object.TheVariants.{Flat as ObjectFlat, Pointers as ObjectPointers, Structs as ObjectStructs}
+use Rattle.capnp_objects.specs.declared.object.Object.TheVariants.{Flat as ObjectFlat}
+use Rattle.capnp_objects.specs.declared.object.Object.TheVariants.{Pointers as ObjectPointers}
+use Rattle.capnp_objects.specs.declared.object.Object.TheVariants.{Structs as ObjectStructs}
 use Rattle.capnp_objects.specs.declared.object.Place.{Place}
 use Rattle.capnp_objects.specs.declared.object.Purpose.TheVariants.{Value}
 use Rattle.capnp_objects.specs.Expected.{Expectation, narrow_elements, narrow_structs}
@@ -26,16 +29,21 @@ object_misfit (List size) (ObjectFlat start found count) = narrow_elements size 
 object_misfit (List size) (ObjectPointers start count) = narrow_elements size 6
 object_misfit (List size) (ObjectStructs start sections count) = narrow_structs size sections
 object_misfit Text (ObjectFlat start Byte count) =
-    cond (nat_eq count 0 || not (nat_eq (place_byte start (count - 1)) 0)) (Some MessageContainsTextThatIsNotNULTerminated) None
+    if nat_eq count 0 || not (nat_eq (place_byte start (count - 1)) 0) then
+    Some MessageContainsTextThatIsNotNULTerminated else None
 object_misfit expected object = None
 
 -- The words of the elements of a list without pointers are at hand.
 abbrev pub IsAtHand : Object → Type 0
-IsAtHand (ObjectFlat start size count) = (size_number size ≤ 5) × (8 * (start.at + words_for (size_number size) count) ≤ length start.bytes.now)
-IsAtHand object = Unit {0}
+IsAtHand (ObjectFlat start size count) =
+    (size_number size ≤ 5) × (8 * (start.at + words_for (size_number size) count)
+    ≤ length start.bytes.now)
+IsAtHand object = ⊤
 
 -- An object is refused by the name k, from m to m'.
 pub data IsUnsuited (expected : Expectation) (o : Arrival) (m m' : Meter) (k : ErrorKind) : Type 0 where
   another : expected.another_kind o.target.word ≡ Some k → m' ≡ m → IsUnsuited expected o m m' k
-  not_entered : expected.another_kind o.target.word ≡ None → NotEntered Value o m m' k → IsUnsuited expected o m m' k
-  misfits : expected.another_kind o.target.word ≡ None → IsEntered Value o m m' → expected.misfit o.segments o.target ≡ Some k → IsUnsuited expected o m m' k
+  not_entered : expected.another_kind o.target.word ≡ None → NotEntered Value o m m' k →
+      IsUnsuited expected o m m' k
+  misfits : expected.another_kind o.target.word ≡ None → IsEntered Value o m m' →
+      expected.misfit o.segments o.target ≡ Some k → IsUnsuited expected o m m' k

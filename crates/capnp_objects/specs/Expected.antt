@@ -1,12 +1,29 @@
--- What a reading call expects of the object at a place: which demands that makes besides those of every object, in which
--- order they are looked at, by what names they are refused, and what was granted before ("Structs", "Lists"; docs/FORMAT.md,
--- "Charges and refusals").
-use Rattle.std.specs.Prelude.{◌≡◌, ◌≢◌, ℕ, ◌+◌, ◌-◌, ◌*◌, ◌/◌, ◌%◌, ◌^◌, ◌<◌, cond, not, ◌&&◌, ◌||◌, nat_eq, nat_lt, Option, Some, None, Ok}
+-- What a reading call expects of the object at a place: which demands that makes besides those of
+-- every object, in which order they are looked at, by what names they are refused, and what was
+-- granted before ("Structs", "Lists"; docs/FORMAT.md, "Charges and refusals").
+use Rattle.std.specs.Prelude.{◌≡◌, ◌≢◌, ℕ, ◌+◌, ◌-◌, ◌*◌, ◌/◌, ◌%◌, ◌^◌, ◌<◌, if◌then◌else◌, not}
+use Rattle.std.specs.Prelude.{◌&&◌, ◌||◌, nat_eq, nat_lt, Option, Some, None, Ok, ⊤}
 use Rattle.capnp_words.specs.declared.error.ErrorKind.{ErrorKind}
-use Rattle.capnp_words.specs.declared.error.ErrorKind.TheVariants.{ExpectedAPointerListButGotAListOfDataOnlyStructs, ExpectedAPrimitiveListButGotAListOfPointerOnlyStructs, FoundBitListWhereStructListWasExpected, FoundStructListWhereBitListWasExpected, MessageContainsListPointerOfNonBytesWhereDataWasExpected, MessageContainsListPointerOfNonBytesWhereTextWasExpected, MessageContainsListWithIncompatibleElementType, MessageContainsNonListPointerWhereDataWasExpected, MessageContainsNonListPointerWhereListPointerWasExpected, MessageContainsNonListPointerWhereTextWasExpected, MessageContainsNonStructPointerWhereStructPointerWasExpected, MessageContainsTextThatIsNotNULTerminated, MessageIsTooDeeplyNestedOrContainsCycles, NestingLimitExceeded}
+use Rattle.capnp_words.specs.declared.error.ErrorKind.TheVariants.{ExpectedAPointerListButGotAListOfDataOnlyStructs}
+use Rattle.capnp_words.specs.declared.error.ErrorKind.TheVariants.{ExpectedAPrimitiveListButGotAListOfPointerOnlyStructs}
+use Rattle.capnp_words.specs.declared.error.ErrorKind.TheVariants.{FoundBitListWhereStructListWasExpected}
+use Rattle.capnp_words.specs.declared.error.ErrorKind.TheVariants.{FoundStructListWhereBitListWasExpected}
+use Rattle.capnp_words.specs.declared.error.ErrorKind.TheVariants.{MessageContainsListPointerOfNonBytesWhereDataWasExpected}
+use Rattle.capnp_words.specs.declared.error.ErrorKind.TheVariants.{MessageContainsListPointerOfNonBytesWhereTextWasExpected}
+use Rattle.capnp_words.specs.declared.error.ErrorKind.TheVariants.{MessageContainsListWithIncompatibleElementType}
+use Rattle.capnp_words.specs.declared.error.ErrorKind.TheVariants.{MessageContainsNonListPointerWhereDataWasExpected}
+use Rattle.capnp_words.specs.declared.error.ErrorKind.TheVariants.{MessageContainsNonListPointerWhereListPointerWasExpected}
+use Rattle.capnp_words.specs.declared.error.ErrorKind.TheVariants.{MessageContainsNonListPointerWhereTextWasExpected}
+use Rattle.capnp_words.specs.declared.error.ErrorKind.TheVariants.{MessageContainsNonStructPointerWhereStructPointerWasExpected}
+use Rattle.capnp_words.specs.declared.error.ErrorKind.TheVariants.{MessageContainsTextThatIsNotNULTerminated}
+use Rattle.capnp_words.specs.declared.error.ErrorKind.TheVariants.{MessageIsTooDeeplyNestedOrContainsCycles}
+use Rattle.capnp_words.specs.declared.error.ErrorKind.TheVariants.{NestingLimitExceeded}
 use Rattle.capnp_words.specs.Meter.{Meter}
 use Rattle.capnp_words.specs.declared.wire_pointer.ElementSize.{ElementSize}
-use Rattle.capnp_words.specs.declared.wire_pointer.ElementSize.TheVariants.{Void, Bit, Byte, TwoBytes, FourBytes, EightBytes, Pointer, InlineComposite}
+use Rattle.capnp_words.specs.declared.wire_pointer.ElementSize.TheVariants.{Void, Bit, Byte}
+use Rattle.capnp_words.specs.declared.wire_pointer.ElementSize.TheVariants.{TwoBytes, FourBytes}
+use Rattle.capnp_words.specs.declared.wire_pointer.ElementSize.TheVariants.{EightBytes, Pointer}
+use Rattle.capnp_words.specs.declared.wire_pointer.ElementSize.TheVariants.{InlineComposite}
 use Rattle.capnp_words.specs.declared.wire_pointer.StructSize.{StructSize}
 use Rattle.capnp_words.specs.Sizes.{size_number}
 use Rattle.capnp_format.specs.Word.{kind, element_size, list_count}
@@ -15,7 +32,11 @@ use Rattle.capnp_format.specs.Segments.{Segments, word_at, Target}
 use Rattle.capnp_objects.specs.declared.object.Expected.{Expected}
 use Rattle.capnp_objects.specs.declared.object.Expected.TheVariants.{Struct, List, Text, Data}
 use Rattle.capnp_objects.specs.declared.object.Object.{Object}
-use Rattle.capnp_objects.specs.declared.object.Object.TheVariants.{Null as ObjectNull, Struct as ObjectStruct, Flat as ObjectFlat, Pointers as ObjectPointers, Structs as ObjectStructs}
+use Rattle.capnp_objects.specs.declared.object.Object.TheVariants.{Null as ObjectNull}
+use Rattle.capnp_objects.specs.declared.object.Object.TheVariants.{Struct as ObjectStruct}
+use Rattle.capnp_objects.specs.declared.object.Object.TheVariants.{Flat as ObjectFlat}
+use Rattle.capnp_objects.specs.declared.object.Object.TheVariants.{Pointers as ObjectPointers}
+use Rattle.capnp_objects.specs.declared.object.Object.TheVariants.{Structs as ObjectStructs}
 use Rattle.capnp_objects.specs.declared.object.Purpose.TheVariants.{Value}
 use Rattle.capnp_objects.specs.Outcomes.{Entered}
 use Rattle.capnp_objects.specs.Reading.{Reading, word_of, tag_size}
@@ -23,49 +44,67 @@ use Rattle.capnp_objects.specs.Refusals.{Unfollowed, Stopped}
 use Rattle.capnp_objects.specs.Spending.{Paid}
 use Rattle.capnp_objects.specs.Wanted.{plain, follow_at, FollowsTo}
 
--- What a call expects besides what every object meets, and by which name each is refused: that there is a level, which is asked
--- for before the pointer is followed; that the pointer of a default is not null; of which kind the object is, by the word that
--- describes it, before its own words are read; and what these words are.
+-- What a call expects besides what every object meets, and by which name each is refused: that
+-- there is a level, which is asked for before the pointer is followed; that the pointer of a
+-- default is not null; of which kind the object is, by the word that describes it, before its own
+-- words are read; and what these words are.
 pub record Expectation : Type 0 where
   pub too_deep : ℕ → Option ErrorKind
   pub null_default : Option ErrorKind
   pub another_kind : ℕ → Option ErrorKind
   pub misfit : Segments → Target → Option ErrorKind
 
--- Elements of this size number where those of another are expected, 6 being pointers and 7 structs: bits are no elements of any
--- other size, and an element has at least the expected bits and pointers.
+-- Elements of this size number where those of another are expected, 6 being pointers and 7 structs:
+-- bits are no elements of any other size, and an element has at least the expected bits and
+-- pointers.
 abbrev pub narrow_elements : ElementSize → ℕ → Option ErrorKind
 narrow_elements expected found =
-    cond (nat_eq found 1 && not (nat_eq (size_number expected) 1)) (Some FoundBitListWhereStructListWasExpected)
-    (cond (nat_lt (element_bits found) (element_bits (size_number expected)) || nat_eq (size_number expected) 6 && not (nat_eq found 6)) (Some MessageContainsListWithIncompatibleElementType) None)
+    if nat_eq found 1 && not (nat_eq (size_number expected) 1) then
+    Some FoundBitListWhereStructListWasExpected
+    else if nat_lt (element_bits found) (element_bits (size_number expected))
+    || nat_eq (size_number expected) 6 && not (nat_eq found 6) then
+    Some MessageContainsListWithIncompatibleElementType else None
 
 -- Structs of these sections, where elements of a size are expected.
 abbrev pub narrow_structs : ElementSize → StructSize → Option ErrorKind
 narrow_structs Void sections = None
 narrow_structs Bit sections = Some FoundStructListWhereBitListWasExpected
-narrow_structs Byte sections = cond (nat_eq sections.data_words 0) (Some ExpectedAPrimitiveListButGotAListOfPointerOnlyStructs) None
-narrow_structs TwoBytes sections = cond (nat_eq sections.data_words 0) (Some ExpectedAPrimitiveListButGotAListOfPointerOnlyStructs) None
-narrow_structs FourBytes sections = cond (nat_eq sections.data_words 0) (Some ExpectedAPrimitiveListButGotAListOfPointerOnlyStructs) None
-narrow_structs EightBytes sections = cond (nat_eq sections.data_words 0) (Some ExpectedAPrimitiveListButGotAListOfPointerOnlyStructs) None
-narrow_structs Pointer sections = cond (nat_eq sections.pointers 0) (Some ExpectedAPointerListButGotAListOfDataOnlyStructs) None
+narrow_structs Byte sections =
+    if nat_eq sections.data_words 0 then Some ExpectedAPrimitiveListButGotAListOfPointerOnlyStructs
+    else None
+narrow_structs TwoBytes sections =
+    if nat_eq sections.data_words 0 then Some ExpectedAPrimitiveListButGotAListOfPointerOnlyStructs
+    else None
+narrow_structs FourBytes sections =
+    if nat_eq sections.data_words 0 then Some ExpectedAPrimitiveListButGotAListOfPointerOnlyStructs
+    else None
+narrow_structs EightBytes sections =
+    if nat_eq sections.data_words 0 then Some ExpectedAPrimitiveListButGotAListOfPointerOnlyStructs
+    else None
+narrow_structs Pointer sections =
+    if nat_eq sections.pointers 0 then Some ExpectedAPointerListButGotAListOfDataOnlyStructs
+    else None
 narrow_structs InlineComposite sections = None
 
 -- A struct.
 abbrev pub struct_expected : Expectation
 struct_expected = record {
-  too_deep = λ n. cond (nat_eq n 0) (Some MessageIsTooDeeplyNestedOrContainsCycles) None;
+  too_deep = λ n. if nat_eq n 0 then Some MessageIsTooDeeplyNestedOrContainsCycles else None;
   null_default = None;
-  another_kind = λ w. cond (nat_eq (kind w) 0) None (Some MessageContainsNonStructPointerWhereStructPointerWasExpected);
+  another_kind = λ w. if nat_eq (kind w) 0 then None
+      else Some MessageContainsNonStructPointerWhereStructPointerWasExpected;
   misfit = λ S a. None;
 }
 
 -- A list, whose elements are wide enough.
 abbrev pub list_expected : ElementSize → Expectation
 list_expected size = record {
-  too_deep = λ n. cond (nat_eq n 0) (Some NestingLimitExceeded) None;
+  too_deep = λ n. if nat_eq n 0 then Some NestingLimitExceeded else None;
   null_default = None;
-  another_kind = λ w. cond (nat_eq (kind w) 1) None (Some MessageContainsNonListPointerWhereListPointerWasExpected);
-  misfit = λ S a. cond (nat_eq (element_size a.word) 7) (narrow_structs size (tag_size S a)) (narrow_elements size (element_size a.word));
+  another_kind = λ w. if nat_eq (kind w) 1 then None
+      else Some MessageContainsNonListPointerWhereListPointerWasExpected;
+  misfit = λ S a. if nat_eq (element_size a.word) 7 then narrow_structs size (tag_size S a)
+      else narrow_elements size (element_size a.word);
 }
 
 -- A list of bytes that takes no level, the last of which is 0.
@@ -73,11 +112,15 @@ abbrev pub text_expected : Expectation
 text_expected = record {
   too_deep = λ n. None;
   null_default = Some MessageContainsNonListPointerWhereTextWasExpected;
-  another_kind = λ w. cond (nat_eq (kind w) 1) (cond (nat_eq (element_size w) 2) None (Some MessageContainsListPointerOfNonBytesWhereTextWasExpected)) (Some MessageContainsNonListPointerWhereTextWasExpected);
+  another_kind = λ w. if nat_eq (kind w) 1 then
+      (if nat_eq (element_size w) 2 then None
+      else Some MessageContainsListPointerOfNonBytesWhereTextWasExpected) else Some
+      MessageContainsNonListPointerWhereTextWasExpected;
   misfit = λ S a.
       let last = list_count a.word - 1 in
       let byte = word_at S a.segment (a.start + last / 8) / 2 ^ (8 * (last % 8)) % 256 in
-      cond (nat_eq (list_count a.word) 0 || not (nat_eq byte 0)) (Some MessageContainsTextThatIsNotNULTerminated) None;
+      if nat_eq (list_count a.word) 0 || not (nat_eq byte 0) then
+      Some MessageContainsTextThatIsNotNULTerminated else None;
 }
 
 -- A list of bytes that takes no level.
@@ -85,7 +128,10 @@ abbrev pub data_expected : Expectation
 data_expected = record {
   too_deep = λ n. None;
   null_default = Some MessageContainsNonListPointerWhereDataWasExpected;
-  another_kind = λ w. cond (nat_eq (kind w) 1) (cond (nat_eq (element_size w) 2) None (Some MessageContainsListPointerOfNonBytesWhereDataWasExpected)) (Some MessageContainsNonListPointerWhereDataWasExpected);
+  another_kind = λ w. if nat_eq (kind w) 1 then
+      (if nat_eq (element_size w) 2 then None
+      else Some MessageContainsListPointerOfNonBytesWhereDataWasExpected) else Some
+      MessageContainsNonListPointerWhereDataWasExpected;
   misfit = λ S a. None;
 }
 
@@ -96,8 +142,9 @@ expectation (List size) = list_expected size
 expectation Text = text_expected
 expectation Data = data_expected
 
--- The call is answered: the pointer is null; or it leads to an object of the kind that is entered, with one level, which is asked
--- for apart, and is as expected. What the object charges is covered by m.
+-- The call is answered: the pointer is null; or it leads to an object of the kind that is entered,
+-- with one level, which is asked for apart, and is as expected. What the object charges is covered
+-- by m.
 pub data CanBeGiven (expected : Expectation) (r : Reading) (m : Meter) : Type 0 where
   null_pointer : word_of r ≡ 0 → CanBeGiven expected r m
   fitting :
@@ -108,25 +155,31 @@ pub data CanBeGiven (expected : Expectation) (r : Reading) (m : Meter) : Type 0 
       expected.misfit r.segments a ≡ None →
       CanBeGiven expected r m
 
--- The call is refused, from m to m', by the name k: no level is left, and nothing is counted or charged; the pointer is not
--- followed; the object is of another kind, and the landing pads are granted; what it leads to, if it can be followed, is of the
--- kind, and reading it stops, with one level, which is asked for apart; or the object is read, and is none that was expected.
+-- The call is refused, from m to m', by the name k: no level is left, and nothing is counted or
+-- charged; the pointer is not followed; the object is of another kind, and the landing pads are
+-- granted; what it leads to, if it can be followed, is of the kind, and reading it stops, with one
+-- level, which is asked for apart; or the object is read, and is none that was expected.
 pub data Withheld (expected : Expectation) (r : Reading) (m m' : Meter) (k : ErrorKind) : Type 0 where
   no_level : word_of r ≢ 0 → expected.too_deep r.levels ≡ Some k → m' ≡ m → Withheld expected r m m' k
   unfollowed : expected.too_deep r.levels ≡ None → Unfollowed r m m' k → Withheld expected r m m' k
-  of_another_kind : (a : Target) → expected.too_deep r.levels ≡ None → FollowsTo r a → expected.another_kind a.word ≡ Some k → Paid r.charging m m' a.pads 1 → Withheld expected r m m' k
+  of_another_kind : (a : Target) → expected.too_deep r.levels ≡ None → FollowsTo r a →
+      expected.another_kind a.word ≡ Some k → Paid r.charging m m' a.pads 1 →
+      Withheld expected r m m' k
   stopped :
       expected.too_deep r.levels ≡ None →
       ((a : Target) → follow_at r ≡ Ok a → expected.another_kind a.word ≡ None) →
       Stopped Value plain (record r { levels = 1 }) m m' k →
       Withheld expected r m m' k
-  misfits : (a : Target) → expected.too_deep r.levels ≡ None → expected.another_kind a.word ≡ None → Entered Value (record r { levels = 1 }) m m' a → expected.misfit r.segments a ≡ Some k → Withheld expected r m m' k
+  misfits : (a : Target) → expected.too_deep r.levels ≡ None → expected.another_kind a.word ≡ None →
+      Entered Value (record r { levels = 1 }) m m' a → expected.misfit r.segments a ≡ Some k →
+      Withheld expected r m m' k
 
 -- An object is as expected, where n levels are left; or the pointer is null.
 abbrev pub IsGiven : Expected → ℕ → Object → Type 0
-IsGiven expected n ObjectNull = Unit {0}
+IsGiven expected n ObjectNull = ⊤
 IsGiven Struct n (ObjectStruct start size) = 0 < n
-IsGiven (List size) n (ObjectFlat start found count) = (0 < n) × (narrow_elements size (size_number found) ≡ None)
+IsGiven (List size) n (ObjectFlat start found count) =
+    (0 < n) × (narrow_elements size (size_number found) ≡ None)
 IsGiven (List size) n (ObjectPointers start count) = (0 < n) × (narrow_elements size 6 ≡ None)
 IsGiven (List size) n (ObjectStructs start sections count) = (0 < n) × (narrow_structs size sections ≡ None)
 IsGiven Text n (ObjectFlat start size count) = (size ≡ Byte) × (0 < count)

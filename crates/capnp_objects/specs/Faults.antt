@@ -2,7 +2,8 @@
 use Rattle.std.specs.Prelude.{◌≡◌, ℕ, pred, ◌+◌, ◌*◌, ◌<◌, ◌≤◌, Some}
 use Rattle.capnp_words.specs.declared.error.ErrorKind.{ErrorKind}
 use Rattle.capnp_words.specs.Meter.{Meter, Affords}
-use Rattle.capnp_format.specs.Word.{kind, offset_bits, data_words, pointer_count, element_size, list_count, is_double}
+use Rattle.capnp_format.specs.Word.{kind, offset_bits, data_words, pointer_count, element_size}
+use Rattle.capnp_format.specs.Word.{list_count, is_double}
 use Rattle.capnp_format.specs.Segments.{Segments, Target, pad}
 use Rattle.capnp_format.specs.Means.{Leads, Claims}
 use Rattle.capnp_objects.specs.declared.object.Purpose.TheVariants.{Value}
@@ -12,14 +13,17 @@ use Rattle.capnp_objects.specs.Wanted.{Form, BreaksAt}
 
 -- The word at position q of the object's segment is one of the object's pointers.
 pub data IsPointer (S : Segments) (a : Target) (q : ℕ) : Type 0 where
-  of_struct : kind a.word ≡ 0 → a.start + data_words a.word ≤ q → q < a.start + data_words a.word + pointer_count a.word → IsPointer S a q
-  of_list : kind a.word ≡ 1 → element_size a.word ≡ 6 → a.start ≤ q → q < a.start + list_count a.word → IsPointer S a q
+  of_struct : kind a.word ≡ 0 → a.start + data_words a.word ≤ q →
+      q < a.start + data_words a.word + pointer_count a.word → IsPointer S a q
+  of_list : kind a.word ≡ 1 → element_size a.word ≡ 6 → a.start ≤ q →
+      q < a.start + list_count a.word → IsPointer S a q
   of_element :
       (j : ℕ) →
       IsStructList a.word →
       j < offset_bits (tag S a) →
       a.start + 1 + j * (data_words (tag S a) + pointer_count (tag S a)) + data_words (tag S a) ≤ q →
-      q < a.start + 1 + j * (data_words (tag S a) + pointer_count (tag S a)) + data_words (tag S a) + pointer_count (tag S a) →
+      q < a.start + 1 + j * (data_words (tag S a) + pointer_count (tag S a)) + data_words (tag S a)
+      + pointer_count (tag S a) →
       IsPointer S a q
 
 -- The pointer at a place leads to a, as its meaning has it.
@@ -30,17 +34,22 @@ LeadsTo r a = Leads r.segments r.segment r.at a
 abbrev pub child_at : Reading → Target → ℕ → ℕ → Reading
 child_at r a levels q = record r { levels = levels; segment = a.segment; at = q }
 
--- P holds of some place that is reached: the place itself, or one reached from a child of an object that meets its
--- demands, with one level less.
+-- P holds of some place that is reached: the place itself, or one reached from a child of an object
+-- that meets its demands, with one level less.
 pub data Somewhere (P : Reading → Type 0) : Reading → Type 0 where
   here : {r : Reading} → P r → Somewhere P r
-  below : {r : Reading} (a : Target) (q : ℕ) → LeadsTo r a → Meets Value r.segments r.levels a → IsPointer r.segments a q → Somewhere P (child_at r a (pred r.levels) q) → Somewhere P r
+  below : {r : Reading} (a : Target) (q : ℕ) → LeadsTo r a → Meets Value r.segments r.levels a →
+      IsPointer r.segments a q → Somewhere P (child_at r a (pred r.levels) q) → Somewhere P r
 
 -- A place charges x words at once.
 pub data Charges (r : Reading) (x : ℕ) : Type 0 where
-  of_pads : (f : ℕ) → kind (word_of r) ≡ 2 → pad r.segments (word_of r) (is_double (word_of r)) ≡ Some f → x ≡ 1 + is_double (word_of r) → Charges r x
-  of_object : (a : Target) → LeadsTo r a → 0 < r.levels → kind a.word < 2 → Claims r.segments a (claim a.word) → x ≡ claim a.word → Charges r x
-  of_elements : (a : Target) → LeadsTo r a → Meets Value r.segments r.levels a → x ≡ amplified Value r.segments a → Charges r x
+  of_pads : (f : ℕ) → kind (word_of r) ≡ 2 →
+      pad r.segments (word_of r) (is_double (word_of r)) ≡ Some f → x ≡ 1 + is_double (word_of r) →
+      Charges r x
+  of_object : (a : Target) → LeadsTo r a → 0 < r.levels → kind a.word < 2 →
+      Claims r.segments a (claim a.word) → x ≡ claim a.word → Charges r x
+  of_elements : (a : Target) → LeadsTo r a → Meets Value r.segments r.levels a →
+      x ≡ amplified Value r.segments a → Charges r x
 
 -- A place charges more than the limiter has left.
 abbrev pub Exceeds : Meter → Reading → Type 0

@@ -1,8 +1,10 @@
--- Following a pointer to what it leads to, and entering the object there: each step with its checks and charges.
+-- Following a pointer to what it leads to, and entering the object there: each step with its checks
+-- and charges.
 use Rattle.std.specs.Prelude.{◌≡◌, ℕ, ◌+◌, ◌%◌, ◌^◌, ◌<◌, ◌≤◌, Bool, Ok, Err, Result, length}
 use Rattle.capnp_words.specs.declared.error.ErrorKind.{ErrorKind}
 use Rattle.capnp_words.specs.declared.error.ErrorKind.TheVariants.{ReadLimitExceeded}
-use Rattle.capnp_format.specs.Word.{kind, upper_half, far_position, is_double, offset_bits, data_words, pointer_count, element_size, list_count}
+use Rattle.capnp_format.specs.Word.{kind, upper_half, far_position, is_double, offset_bits}
+use Rattle.capnp_format.specs.Word.{data_words, pointer_count, element_size, list_count}
 use Rattle.capnp_format.specs.Segments.{Segments, segment, Target}
 use Rattle.capnp_format.specs.Means.{Claims}
 use Rattle.capnp_words.specs.Meter.{Meter, Affords, charged}
@@ -12,7 +14,12 @@ use Rattle.capnp_objects.specs.Follow.{follow_far}
 use Rattle.capnp_objects.specs.Reading.{Reading, source_start, word_of}
 use Rattle.capnp_objects.specs.Refusals.{landing_words, granted_before}
 use Rattle.capnp_objects.specs.declared.object.Object.{Object}
-use Rattle.capnp_objects.specs.declared.object.Object.TheVariants.{Null as ObjectNull, Capability as ObjectCapability, Struct as ObjectStruct, Flat as ObjectFlat, Pointers as ObjectPointers, Structs as ObjectStructs}
+use Rattle.capnp_objects.specs.declared.object.Object.TheVariants.{Null as ObjectNull}
+use Rattle.capnp_objects.specs.declared.object.Object.TheVariants.{Capability as ObjectCapability}
+use Rattle.capnp_objects.specs.declared.object.Object.TheVariants.{Struct as ObjectStruct}
+use Rattle.capnp_objects.specs.declared.object.Object.TheVariants.{Flat as ObjectFlat}
+use Rattle.capnp_objects.specs.declared.object.Object.TheVariants.{Pointers as ObjectPointers}
+use Rattle.capnp_objects.specs.declared.object.Object.TheVariants.{Structs as ObjectStructs}
 use Rattle.capnp_objects.specs.declared.source.Found.{Found}
 use Rattle.capnp_objects.specs.declared.source.landing.Landing.{Landing}
 use Rattle.capnp_arena.specs.declared.arena.reader_arena.ReaderArena.{Ghosts}
@@ -26,7 +33,8 @@ use Rattle.capnp_objects.specs.Wanted.{plain}
 abbrev pub found_target : Found → Target
 found_target l = record { word = l.word.0; segment = l.start.segment; start = l.start.at; pads = l.pads }
 
--- A pointer word that is followed: its message, whether reading there is charged, and what following it gives.
+-- A pointer word that is followed: its message, whether reading there is charged, and what
+-- following it gives.
 pub record Following : Type 0 where
   pub segments : Segments
   pub charging : Bool
@@ -39,7 +47,8 @@ following r = record { segments = r.segments; charging = r.charging; word = word
 
 -- The far pointer x of a message.
 abbrev pub following_far : Segments → Bool → ℕ → Following
-following_far S charging x = record { segments = S; charging = charging; word = x; gives = follow_far S x (is_double x) }
+following_far S charging x =
+    record { segments = S; charging = charging; word = x; gives = follow_far S x (is_double x) }
 
 -- The landing pad of a far pointer, whose words are checked and charged, from m to m'.
 pub record IsPad (f : Following) (m m' : Meter) (here : Place) : Type 0 where
@@ -59,12 +68,16 @@ pub record IsFollowed (f : Following) (m m' : Meter) (l : Found) : Type 0 where
   pub covers : Affords f.charging m l.pads
   pub paid : m' ≡ charged f.charging m l.pads
 
--- A pointer is not followed, for the reason k: it leads nowhere, its pads granted if they are there; or these are not covered.
+-- A pointer is not followed, for the reason k: it leads nowhere, its pads granted if they are
+-- there; or these are not covered.
 pub data NotFollowed (f : Following) (m m' : Meter) (k : ErrorKind) : Type 0 where
-  nowhere : f.gives ≡ Err k → Affords f.charging m (landing_words f.segments f.word) → m' ≡ charged f.charging m (landing_words f.segments f.word) → NotFollowed f m m' k
-  pads_exceed : (Affords f.charging m (landing_words f.segments f.word) → ⊥) → m' ≡ m → k ≡ ReadLimitExceeded → NotFollowed f m m' k
+  nowhere : f.gives ≡ Err k → Affords f.charging m (landing_words f.segments f.word) →
+      m' ≡ charged f.charging m (landing_words f.segments f.word) → NotFollowed f m m' k
+  pads_exceed : (Affords f.charging m (landing_words f.segments f.word) → ⊥) → m' ≡ m →
+      k ≡ ReadLimitExceeded → NotFollowed f m m' k
 
--- What is to be entered: its message, whether reading there is charged, how many levels are left, and where it is.
+-- What is to be entered: its message, whether reading there is charged, how many levels are left,
+-- and where it is.
 pub record Arrival : Type 0 where
   pub segments : Segments
   pub charging : Bool
@@ -73,7 +86,13 @@ pub record Arrival : Type 0 where
 
 -- What a landing is at.
 abbrev pub arrival : {A : Type 0} (g : Ghosts A) → Landing A g → Arrival
-arrival g l = record { segments = (source_start g l.source).segments; charging = (source_start g l.source).charging; levels = l.depth; target = found_target l.found }
+arrival g l =
+    record {
+      segments = (source_start g l.source).segments;
+      charging = (source_start g l.source).charging;
+      levels = l.depth;
+      target = found_target l.found;
+    }
 
 -- The words that an object claims lie in their segment and are charged, from m to m'.
 pub record IsClaimed (o : Arrival) (m m' : Meter) : Type 0 where
@@ -88,7 +107,8 @@ pub record IsEntered (purpose : Purpose) (o : Arrival) (m m' : Meter) : Type 0 w
   pub covers : Affords o.charging m (claim o.target.word + amplified purpose o.segments o.target)
   pub paid : m' ≡ charged o.charging m (claim o.target.word + amplified purpose o.segments o.target)
 
--- An object is not entered, for the reason k: it breaks a demand, or what it claims or what its elements charge is not covered.
+-- An object is not entered, for the reason k: it breaks a demand, or what it claims or what its
+-- elements charge is not covered.
 pub data NotEntered (purpose : Purpose) (o : Arrival) (m m' : Meter) (k : ErrorKind) : Type 0 where
   broken :
       BreaksObject purpose plain o.segments o.levels o.target k →
@@ -114,18 +134,24 @@ pub data NotEntered (purpose : Purpose) (o : Arrival) (m m' : Meter) (k : ErrorK
 -- The object that is described where a pointer leads, which is entered, from m to m'.
 abbrev pub IsOpened : Purpose → Arrival → Meter → Meter → Object → Type 0
 IsOpened purpose o m m' ObjectNull = ⊥
-IsOpened purpose o m m' (ObjectCapability i) = (o.target.word % 2 ^ 32 ≡ 3) × (i ≡ upper_half o.target.word) × (m' ≡ m)
+IsOpened purpose o m m' (ObjectCapability i) =
+    (o.target.word % 2 ^ 32 ≡ 3) × (i ≡ upper_half o.target.word) × (m' ≡ m)
 IsOpened purpose o m m' (ObjectStruct start size) =
     let a : Target = o.target in
-    IsEntered purpose o m m' × (kind a.word ≡ 0) × StartsAt o.segments a 0 start × (size.data_words ≡ data_words a.word) × (size.pointers ≡ pointer_count a.word)
+    IsEntered purpose o m m' × (kind a.word ≡ 0) × StartsAt o.segments a 0 start ×
+    (size.data_words ≡ data_words a.word) × (size.pointers ≡ pointer_count a.word)
 IsOpened purpose o m m' (ObjectFlat start size count) =
     let a : Target = o.target in
-    IsEntered purpose o m m' × (kind a.word ≡ 1) × (element_size a.word ≤ 5) × StartsAt o.segments a 0 start × (size_number size ≡ element_size a.word) × (count ≡ list_count a.word)
+    IsEntered purpose o m m' × (kind a.word ≡ 1) × (element_size a.word ≤ 5) ×
+    StartsAt o.segments a 0 start × (size_number size ≡ element_size a.word) ×
+    (count ≡ list_count a.word)
 IsOpened purpose o m m' (ObjectPointers start count) =
     let a : Target = o.target in
-    IsEntered purpose o m m' × (kind a.word ≡ 1) × (element_size a.word ≡ 6) × StartsAt o.segments a 0 start × (count ≡ list_count a.word)
+    IsEntered purpose o m m' × (kind a.word ≡ 1) × (element_size a.word ≡ 6) ×
+    StartsAt o.segments a 0 start × (count ≡ list_count a.word)
 IsOpened purpose o m m' (ObjectStructs start size count) =
     let a : Target = o.target in
     let t : ℕ = tag o.segments a in
-    IsEntered purpose o m m' × (kind a.word ≡ 1) × (element_size a.word ≡ 7) × StartsAt o.segments a 1 start × (count ≡ offset_bits t)
+    IsEntered purpose o m m' × (kind a.word ≡ 1) × (element_size a.word ≡ 7) ×
+    StartsAt o.segments a 1 start × (count ≡ offset_bits t)
     × (size.data_words ≡ data_words t) × (size.pointers ≡ pointer_count t)

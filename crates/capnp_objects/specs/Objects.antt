@@ -1,13 +1,19 @@
 -- What a reading of one object gives.
-use Rattle.std.specs.Prelude.{◌≡◌, ◌≢◌, ℕ, ◌+◌, ◌*◌, ◌%◌, ◌^◌, ◌<◌, ◌≤◌, length}
-use Rattle.capnp_format.specs.Word.{kind, offset_bits, data_words, pointer_count, element_size, list_count, upper_half}
+use Rattle.std.specs.Prelude.{◌≡◌, ◌≢◌, ℕ, ◌+◌, ◌*◌, ◌%◌, ◌^◌, ◌<◌, ◌≤◌, length, ⊤}
+use Rattle.capnp_format.specs.Word.{kind, offset_bits, data_words, pointer_count, element_size}
+use Rattle.capnp_format.specs.Word.{list_count, upper_half}
 use Rattle.capnp_format.specs.Segments.{Segments, segment, Target}
 use Rattle.capnp_words.specs.Meter.{Meter, Affords}
 use Rattle.capnp_format.specs.Bytes.{words_of}
 use Rattle.capnp_words.specs.Sizes.{size_number}
 use Rattle.capnp_objects.specs.declared.object.Place.{Place}
 use Rattle.capnp_objects.specs.declared.object.Object.{Object}
-use Rattle.capnp_objects.specs.declared.object.Object.TheVariants.{Null as ObjectNull, Capability as ObjectCapability, Struct as ObjectStruct, Flat as ObjectFlat, Pointers as ObjectPointers, Structs as ObjectStructs}
+use Rattle.capnp_objects.specs.declared.object.Object.TheVariants.{Null as ObjectNull}
+use Rattle.capnp_objects.specs.declared.object.Object.TheVariants.{Capability as ObjectCapability}
+use Rattle.capnp_objects.specs.declared.object.Object.TheVariants.{Struct as ObjectStruct}
+use Rattle.capnp_objects.specs.declared.object.Object.TheVariants.{Flat as ObjectFlat}
+use Rattle.capnp_objects.specs.declared.object.Object.TheVariants.{Pointers as ObjectPointers}
+use Rattle.capnp_objects.specs.declared.object.Object.TheVariants.{Structs as ObjectStructs}
 use Rattle.capnp_objects.specs.declared.object.Purpose.{Purpose}
 use Rattle.capnp_objects.specs.Spending.{after}
 use Rattle.capnp_objects.specs.Demands.{tag}
@@ -18,7 +24,9 @@ use Rattle.capnp_objects.specs.Wanted.{FollowsFor}
 -- The bytes of a place are those of its segment.
 abbrev pub IsHeld : Segments → Place → Type 0
 IsHeld S here =
-    (words_of here.bytes.now ≡ segment S here.segment) × (length here.bytes.now ≡ 8 * length (segment S here.segment)) × (length here.bytes.now < 8 * 2 ^ 32)
+    (words_of here.bytes.now ≡ segment S here.segment) ×
+    (length here.bytes.now ≡ 8 * length (segment S here.segment)) ×
+    (length here.bytes.now < 8 * 2 ^ 32)
 
 -- The word at a place that is read isn't null, and its segment's bytes are at hand.
 pub record IsWordRead (r : Reading) (here : Place) (word : ℕ) : Type 0 where
@@ -35,25 +43,33 @@ StartsAt S a n here = IsHeld S here × (here.segment ≡ a.segment) × (here.at 
 abbrev pub IsObject : Purpose → Reading → Meter → Meter → Object → Type 0
 IsObject purpose r m m' ObjectNull = (word_of r ≡ 0) × (m' ≡ m)
 IsObject purpose r m m' (ObjectCapability i) =
-    (a : Target) × FollowsFor purpose r a × (a.word % 2 ^ 32 ≡ 3) × (i ≡ upper_half a.word) × Affords r.charging m a.pads × (m' ≡ after r.charging m a.pads 1)
+    (a : Target) × FollowsFor purpose r a × (a.word % 2 ^ 32 ≡ 3) × (i ≡ upper_half a.word) ×
+    Affords r.charging m a.pads × (m' ≡ after r.charging m a.pads 1)
 IsObject purpose r m m' (ObjectStruct start size) =
-    (a : Target) × Entered purpose r m m' a × (kind a.word ≡ 0) × StartsAt r.segments a 0 start × (size.data_words ≡ data_words a.word) × (size.pointers ≡ pointer_count a.word)
+    (a : Target) × Entered purpose r m m' a × (kind a.word ≡ 0) × StartsAt r.segments a 0 start ×
+    (size.data_words ≡ data_words a.word) × (size.pointers ≡ pointer_count a.word)
 IsObject purpose r m m' (ObjectFlat start size count) =
-    (a : Target) × Entered purpose r m m' a × (kind a.word ≡ 1) × (element_size a.word ≤ 5) × StartsAt r.segments a 0 start
+    (a : Target) × Entered purpose r m m' a × (kind a.word ≡ 1) × (element_size a.word ≤ 5) ×
+    StartsAt r.segments a 0 start
     × (size_number size ≡ element_size a.word) × (count ≡ list_count a.word)
 IsObject purpose r m m' (ObjectPointers start count) =
-    (a : Target) × Entered purpose r m m' a × (kind a.word ≡ 1) × (element_size a.word ≡ 6) × StartsAt r.segments a 0 start × (count ≡ list_count a.word)
+    (a : Target) × Entered purpose r m m' a × (kind a.word ≡ 1) × (element_size a.word ≡ 6) ×
+    StartsAt r.segments a 0 start × (count ≡ list_count a.word)
 IsObject purpose r m m' (ObjectStructs start size count) =
-    (a : Target) × Entered purpose r m m' a × (kind a.word ≡ 1) × (element_size a.word ≡ 7) × StartsAt r.segments a 1 start
-    × (count ≡ offset_bits (tag r.segments a)) × (size.data_words ≡ data_words (tag r.segments a)) × (size.pointers ≡ pointer_count (tag r.segments a))
+    (a : Target) × Entered purpose r m m' a × (kind a.word ≡ 1) × (element_size a.word ≡ 7) ×
+    StartsAt r.segments a 1 start
+    × (count ≡ offset_bits (tag r.segments a)) × (size.data_words ≡ data_words (tag r.segments a)) ×
+    (size.pointers ≡ pointer_count (tag r.segments a))
 
 -- What the pointer at a place leads to where it is near: an object at a position of the place's own segment.
 abbrev pub near_at : Reading → ℕ → Target
 near_at r at = record { word = word_of r; segment = r.segment; start = at; pads = 0 }
 
--- A list has so few elements that their number fits its bits of a pointer word, and so do the words of structs.
+-- A list has so few elements that their number fits its bits of a pointer word, and so do the words
+-- of structs.
 abbrev pub IsFew : Object → Type 0
 IsFew (ObjectFlat start size count) = count < 2 ^ 29
 IsFew (ObjectPointers start count) = count < 2 ^ 29
-IsFew (ObjectStructs start size count) = (count < 2 ^ 30) × (count * (size.data_words + size.pointers) < 2 ^ 29)
-IsFew x = Unit {0}
+IsFew (ObjectStructs start size count) =
+    (count < 2 ^ 30) × (count * (size.data_words + size.pointers) < 2 ^ 29)
+IsFew x = ⊤

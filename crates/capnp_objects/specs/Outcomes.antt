@@ -3,7 +3,8 @@ use Rattle.std.specs.Prelude.{◌≡◌, ℕ}
 use Rattle.capnp_words.specs.declared.wire_pointer.StructSize.{StructSize}
 use Rattle.capnp_words.specs.Meter.{Meter, Affords}
 use Rattle.capnp_format.specs.Segments.{Target}
-use Rattle.capnp_format.specs.Tree.{Tree, Trees, Elements, capabilities, capabilities_all, capabilities_elements}
+use Rattle.capnp_format.specs.Tree.{Tree, Trees, Elements, capabilities, capabilities_all}
+use Rattle.capnp_format.specs.Tree.{capabilities_elements}
 use Rattle.capnp_format.specs.Means.{Means, MeansAll, MeansElements}
 use Rattle.capnp_objects.specs.declared.object.Purpose.{Purpose}
 use Rattle.capnp_objects.specs.Demands.{own, Meets}
@@ -11,7 +12,8 @@ use Rattle.capnp_objects.specs.Reading.{Reading}
 use Rattle.capnp_objects.specs.Spending.{after, pointers_in, pointers_in_all, pointers_in_elements}
 use Rattle.capnp_objects.specs.Wanted.{Form, FollowsTo, AllowsCapabilities}
 
--- The place means t within the levels, at a cost; pointers one behind the other mean ts; elements of this size mean es.
+-- The place means t within the levels, at a cost; pointers one behind the other mean ts; elements
+-- of this size mean es.
 abbrev pub MeansThere : Reading → Tree → ℕ → Type 0
 MeansThere r t c = Means r.segments r.levels r.segment r.at t c
 
@@ -40,7 +42,8 @@ pub record ReadsAll (form : Form) (r : Reading) (m m' : Meter) (ts : Trees) : Ty
   pub spent : m' ≡ after r.charging m cost (pointers_in_all ts)
 
 -- Elements of a list of structs mean es, at a cost that m covers and m' is less by.
-pub record ReadsElements (form : Form) (r : Reading) (size : StructSize) (m m' : Meter) (es : Elements) : Type 0 where
+pub record ReadsElements (form : Form) (r : Reading) (size : StructSize) (m m' : Meter)
+    (es : Elements) : Type 0 where
   pub cost : ℕ
   pub means : ElementsMean r size es cost
   pub takes : AllowsCapabilities form (capabilities_elements es)

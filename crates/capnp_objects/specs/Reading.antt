@@ -10,8 +10,8 @@ use Rattle.capnp_objects.specs.declared.source.Source.{Source}
 use Rattle.capnp_objects.specs.declared.source.Source.TheVariants.{Arena, Default, Nothing}
 use Rattle.capnp_objects.specs.Source.{default_segment, default_segments, levels}
 
--- A place that is read: its message, whether reading there is charged, whether it is a default's, how many levels of
--- structs and lists may be entered from it, and its segment and word position.
+-- A place that is read: its message, whether reading there is charged, whether it is a default's,
+-- how many levels of structs and lists may be entered from it, and its segment and word position.
 pub record Reading : Type 0 where
   pub segments : Segments
   pub charging : Bool
@@ -20,15 +20,38 @@ pub record Reading : Type 0 where
   pub segment : ℕ
   pub at : ℕ
 
--- The first word of a source, and no level: of a message, of a default, which is free of charge, or of nothing.
+-- The first word of a source, and no level: of a message, of a default, which is free of charge, or
+-- of nothing.
 abbrev pub source_start : {A : Type 0} (g : Ghosts A) → Source A → Reading
-source_start g (Arena a) = record { segments = message (g.segments a.now); charging = g.charging a.now; of_default = false; levels = 0; segment = 0; at = 0 }
-source_start g (Default d) = record { segments = default_segments d.now; charging = false; of_default = true; levels = 0; segment = default_segment; at = 0 }
-source_start g Nothing = record { segments = []; charging = false; of_default = false; levels = 0; segment = 0; at = 0 }
+source_start g (Arena a) =
+    record {
+      segments = message (g.segments a.now);
+      charging = g.charging a.now;
+      of_default = false;
+      levels = 0;
+      segment = 0;
+      at = 0;
+    }
+source_start g (Default d) =
+    record {
+      segments = default_segments d.now;
+      charging = false;
+      of_default = true;
+      levels = 0;
+      segment = default_segment;
+      at = 0;
+    }
+source_start g Nothing =
+    record { segments = []; charging = false; of_default = false; levels = 0; segment = 0; at = 0 }
 
 -- The place of a source that is read within a nesting limit.
 abbrev pub reading_at : {A : Type 0} (g : Ghosts A) → Source A → Place → ℤ → Reading
-reading_at g source place nesting = record (source_start g source) { levels = levels nesting; segment = place.segment; at = place.at }
+reading_at g source place nesting =
+    record (source_start g source) {
+      levels = levels nesting;
+      segment = place.segment;
+      at = place.at;
+    }
 
 -- The word there.
 abbrev pub word_of : Reading → ℕ
@@ -55,4 +78,8 @@ sized d q = record { data_words = d; pointers = q }
 
 -- The size of the elements of the list of structs that a describes, by its tag.
 abbrev pub tag_size : Segments → Target → StructSize
-tag_size S a = record { data_words = data_words (word_at S a.segment a.start); pointers = pointer_count (word_at S a.segment a.start) }
+tag_size S a =
+    record {
+      data_words = data_words (word_at S a.segment a.start);
+      pointers = pointer_count (word_at S a.segment a.start);
+    }

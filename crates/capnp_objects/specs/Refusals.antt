@@ -1,11 +1,17 @@
--- Where a reading stops, by what name, and what it was granted before: the order of checks and charges of one object, and
--- of a whole value in the order of its pointers (docs/FORMAT.md, "Charges and refusals").
-use Rattle.std.specs.Prelude.{◌≡◌, ◌≢◌, ◌⊎◌, ℕ, pred, ◌+◌, ◌%◌, ◌^◌, ◌<◌, cond, ◌&&◌, nat_eq, is_some, Err}
+-- Where a reading stops, by what name, and what it was granted before: the order of checks and
+-- charges of one object, and of a whole value in the order of its pointers (docs/FORMAT.md,
+-- "Charges and refusals").
+use Rattle.std.specs.Prelude.{◌≡◌, ◌≢◌, ◌⊎◌, ℕ, pred, ◌+◌, ◌%◌, ◌^◌, ◌<◌, if◌then◌else◌, ◌&&◌}
+use Rattle.std.specs.Prelude.{nat_eq, is_some, Err}
 use Rattle.capnp_words.specs.declared.error.ErrorKind.{ErrorKind}
-use Rattle.capnp_words.specs.declared.error.ErrorKind.TheVariants.{CantHandleNonStructInlineComposite, InlineCompositeListsElementsOverrunItsWordCount, InlineCompositeListsOfNonStructTypeAreNotSupported, ReadLimitExceeded}
+use Rattle.capnp_words.specs.declared.error.ErrorKind.TheVariants.{CantHandleNonStructInlineComposite}
+use Rattle.capnp_words.specs.declared.error.ErrorKind.TheVariants.{InlineCompositeListsElementsOverrunItsWordCount}
+use Rattle.capnp_words.specs.declared.error.ErrorKind.TheVariants.{InlineCompositeListsOfNonStructTypeAreNotSupported}
+use Rattle.capnp_words.specs.declared.error.ErrorKind.TheVariants.{ReadLimitExceeded}
 use Rattle.capnp_words.specs.declared.wire_pointer.StructSize.{StructSize}
 use Rattle.capnp_words.specs.Meter.{Meter, Affords}
-use Rattle.capnp_format.specs.Word.{kind, offset_bits, data_words, pointer_count, element_size, list_count, is_double}
+use Rattle.capnp_format.specs.Word.{kind, offset_bits, data_words, pointer_count, element_size}
+use Rattle.capnp_format.specs.Word.{list_count, is_double}
 use Rattle.capnp_format.specs.Segments.{Segments, Target, pad}
 use Rattle.capnp_format.specs.Tree.{Trees, Elements, count, element_count}
 use Rattle.capnp_format.specs.Means.{Claims}
@@ -18,30 +24,36 @@ use Rattle.capnp_objects.specs.Reading.{Reading, word_of, behind, pointers_of, t
 use Rattle.capnp_objects.specs.Spending.{Paid}
 use Rattle.capnp_objects.specs.Wanted.{Form, BreaksObject, follow_at, FollowsTo, FollowsFor}
 
--- The words of the landing pads of a pointer word, where they lie in their segment; else, and of a near pointer, none.
+-- The words of the landing pads of a pointer word, where they lie in their segment; else, and of a
+-- near pointer, none.
 abbrev pub landing_words : Segments → ℕ → ℕ
-landing_words S x = cond (nat_eq (kind x) 2 && is_some (pad S x (is_double x))) (1 + is_double x) 0
+landing_words S x = if nat_eq (kind x) 2 && is_some (pad S x (is_double x)) then 1 + is_double x else 0
 
--- The words that an object was granted before the demand of this name is looked at: what it claims, for a demand on the
--- tag of a list of structs; else none.
+-- The words that an object was granted before the demand of this name is looked at: what it claims,
+-- for a demand on the tag of a list of structs; else none.
 abbrev pub granted_before : Target → ErrorKind → ℕ
 granted_before a InlineCompositeListsOfNonStructTypeAreNotSupported = claim a.word
 granted_before a CantHandleNonStructInlineComposite = claim a.word
 granted_before a InlineCompositeListsElementsOverrunItsWordCount = claim a.word
 granted_before a k = 0
 
--- The pointer at a place is not followed, from m to m', for the reason k: it is counted, and nothing is granted where its
--- landing pads are not covered; else it leads nowhere, and these are granted, if they are there.
+-- The pointer at a place is not followed, from m to m', for the reason k: it is counted, and
+-- nothing is granted where its landing pads are not covered; else it leads nowhere, and these are
+-- granted, if they are there.
 pub data Unfollowed (r : Reading) (m m' : Meter) (k : ErrorKind) : Type 0 where
-  exceeding : word_of r ≢ 0 → (Affords r.charging m (landing_words r.segments (word_of r)) → ⊥) → Paid r.charging m m' 0 1 → k ≡ ReadLimitExceeded → Unfollowed r m m' k
-  leading_nowhere : word_of r ≢ 0 → follow_at r ≡ Err k → Paid r.charging m m' (landing_words r.segments (word_of r)) 1 → Unfollowed r m m' k
+  exceeding : word_of r ≢ 0 → (Affords r.charging m (landing_words r.segments (word_of r)) → ⊥) →
+      Paid r.charging m m' 0 1 → k ≡ ReadLimitExceeded → Unfollowed r m m' k
+  leading_nowhere : word_of r ≢ 0 → follow_at r ≡ Err k →
+      Paid r.charging m m' (landing_words r.segments (word_of r)) 1 → Unfollowed r m m' k
 
--- The reading of one object stops, from m to m', by the name k: its pointer is not followed; or that is counted, and what was
--- granted is its landing pads and what the object claims, where its tag is wrong, and else these alone, where it breaks a
--- demand; these, where its claim is not covered; both, where the number of elements of no width is not.
+-- The reading of one object stops, from m to m', by the name k: its pointer is not followed; or
+-- that is counted, and what was granted is its landing pads and what the object claims, where its
+-- tag is wrong, and else these alone, where it breaks a demand; these, where its claim is not
+-- covered; both, where the number of elements of no width is not.
 pub data Stopped (purpose : Purpose) (form : Form) (r : Reading) (m m' : Meter) (k : ErrorKind) : Type 0 where
   no_target : Unfollowed r m m' k → Stopped purpose form r m m' k
-  broken : (a : Target) → FollowsTo r a → BreaksObject purpose form r.segments r.levels a k → Paid r.charging m m' (a.pads + granted_before a k) 1 → Stopped purpose form r m m' k
+  broken : (a : Target) → FollowsTo r a → BreaksObject purpose form r.segments r.levels a k →
+      Paid r.charging m m' (a.pads + granted_before a k) 1 → Stopped purpose form r m m' k
   claim_exceeds :
       (a : Target) →
       FollowsTo r a →
@@ -66,11 +78,15 @@ unfoldable pub CanBeRead : Purpose → Reading → Meter → Type 0
 CanBeRead purpose r m =
     (word_of r ≡ 0)
     ⊎ ((a : Target) × FollowsFor purpose r a × (a.word % 2 ^ 32 ≡ 3) × Affords r.charging m a.pads)
-    ⊎ ((a : Target) × FollowsTo r a × Meets purpose r.segments r.levels a × Affords r.charging m (own purpose r.segments a))
+    ⊎ ((a : Target) × FollowsTo r a × Meets purpose r.segments r.levels a ×
+    Affords r.charging m (own purpose r.segments a))
 
--- The pointers of an object a before its pointer at position q are gone over, from one state to another. Run says that of
--- pointers one behind the other, from a place on, and Rows of the pointers of elements of a size.
-pub data GoesBefore {X : Type 0} (Run : Reading → X → X → Trees → Type 0) (Rows : Reading → StructSize → X → X → Elements → Type 0) (r : Reading) (a : Target) (q : ℕ) (from to : X) : Type 0 where
+-- The pointers of an object a before its pointer at position q are gone over, from one state to
+-- another. Run says that of pointers one behind the other, from a place on, and Rows of the
+-- pointers of elements of a size.
+pub data GoesBefore {X : Type 0} (Run : Reading → X → X → Trees → Type 0)
+    (Rows : Reading → StructSize → X → X → Elements → Type 0) (r : Reading) (a : Target) (q : ℕ)
+    (from to : X) : Type 0 where
   in_struct :
       (ts : Trees) →
       kind a.word ≡ 0 →
@@ -91,18 +107,22 @@ pub data GoesBefore {X : Type 0} (Run : Reading → X → X → Trees → Type 0
       IsStructList a.word →
       element_count es < offset_bits (tag r.segments a) →
       count ts < pointer_count (tag r.segments a) →
-      q ≡ (pointers_of (child_at r a (pred r.levels) (a.start + 1)) (tag_size r.segments a) (element_count es)).at + count ts →
+      q ≡ (pointers_of (child_at r a (pred r.levels) (a.start + 1)) (tag_size r.segments a)
+      (element_count es)).at + count ts →
       Rows (child_at r a (pred r.levels) (a.start + 1)) (tag_size r.segments a) from mid es →
-      Run (pointers_of (child_at r a (pred r.levels) (a.start + 1)) (tag_size r.segments a) (element_count es)) mid to ts →
+      Run (pointers_of (child_at r a (pred r.levels) (a.start + 1)) (tag_size r.segments a)
+      (element_count es)) mid to ts →
       GoesBefore Run Rows r a q from to
 
 -- They are read, from m to m'.
 abbrev pub ReadsBefore : Form → Reading → Target → ℕ → Meter → Meter → Type 0
 ReadsBefore form r a q m m' = GoesBefore (ReadsAll form) (ReadsElements form) r a q m m'
 
--- The reading of a whole value stops, from m to m', where P says so of one object: at its own object, or at that of one of
--- its pointers, when the object and the pointers before that one were read.
-pub data StopsWithin (form : Form) (P : Reading → Meter → Meter → Type 0) : Reading → Meter → Meter → Type 0 where
+-- The reading of a whole value stops, from m to m', where P says so of one object: at its own
+-- object, or at that of one of its pointers, when the object and the pointers before that one were
+-- read.
+pub data StopsWithin (form : Form) (P : Reading → Meter → Meter → Type 0) : Reading → Meter →
+    Meter → Type 0 where
   here : {r : Reading} {m m' : Meter} → P r m m' → StopsWithin form P r m m'
   below :
       {r : Reading} {m first mid m' : Meter} (a : Target) (q : ℕ) →
@@ -112,7 +132,8 @@ pub data StopsWithin (form : Form) (P : Reading → Meter → Meter → Type 0) 
       StopsWithin form P r m m'
 
 -- The reading of i pointers from a place on stops at one of them, when those before it were read.
-pub record StopsAmong (form : Form) (P : Reading → Meter → Meter → Type 0) (r : Reading) (i : ℕ) (m m' : Meter) : Type 0 where
+pub record StopsAmong (form : Form) (P : Reading → Meter → Meter → Type 0) (r : Reading) (i : ℕ)
+    (m m' : Meter) : Type 0 where
   pub first : Trees
   pub fewer : count first < i
   pub mid : Meter
@@ -120,7 +141,8 @@ pub record StopsAmong (form : Form) (P : Reading → Meter → Meter → Type 0)
   pub stops : StopsWithin form P (behind r (count first)) mid m'
 
 -- The reading of i elements stops at a pointer of one of them, when the elements before it were read.
-pub record StopsAmongElements (form : Form) (P : Reading → Meter → Meter → Type 0) (r : Reading) (size : StructSize) (i : ℕ) (m m' : Meter) : Type 0 where
+pub record StopsAmongElements (form : Form) (P : Reading → Meter → Meter → Type 0) (r : Reading)
+    (size : StructSize) (i : ℕ) (m m' : Meter) : Type 0 where
   pub first : Elements
   pub fewer : element_count first < i
   pub mid : Meter
@@ -135,14 +157,16 @@ abbrev pub RefusedAll : Form → Reading → ℕ → Meter → Meter → ErrorKi
 RefusedAll form r n m m' k = StopsAmong form (λ s i j. Stopped Value form s i j k) r n m m'
 
 abbrev pub RefusedElements : Form → Reading → StructSize → ℕ → Meter → Meter → ErrorKind → Type 0
-RefusedElements form r size n m m' k = StopsAmongElements form (λ s i j. Stopped Value form s i j k) r size n m m'
+RefusedElements form r size n m m' k =
+    StopsAmongElements form (λ s i j. Stopped Value form s i j k) r size n m m'
 
 -- The reading of one object stops; or the object was read, and what is made of it finds no room.
 abbrev pub IsTried : Form → Reading → Meter → Meter → Type 0
-IsTried form r m m' = ((k : ErrorKind) × Stopped Value form r m m' k) ⊎ ((a : Target) × Entered Value r m m' a)
+IsTried form r m m' =
+    ((k : ErrorKind) × Stopped Value form r m m' k) ⊎ ((a : Target) × Entered Value r m m' a)
 
--- The reading of a whole value is broken off at one object: all before it was read, and it was granted no more than its own
--- charges. So of i pointers, and of i elements.
+-- The reading of a whole value is broken off at one object: all before it was read, and it was
+-- granted no more than its own charges. So of i pointers, and of i elements.
 abbrev pub BreaksOff : Form → Reading → Meter → Meter → Type 0
 BreaksOff form r m m' = StopsWithin form (IsTried form) r m m'
 

@@ -1,5 +1,6 @@
--- What the size of a value is taken of: the walk that counts words and capabilities, which reads less than a copy does. It
--- neither looks where a list of void lies nor charges for elements without width; and a capability takes a level.
+-- What the size of a value is taken of: the walk that counts words and capabilities, which reads
+-- less than a copy does. It neither looks where a list of void lies nor charges for elements
+-- without width; and a capability takes a level.
 use Rattle.std.specs.Prelude.{◌≡◌, ℕ, pred, ◌+◌, ◌*◌, ◌-◌, ◌%◌, ◌^◌, ◌<◌, ◌≤◌, length}
 use Rattle.capnp_words.specs.declared.error.ErrorKind.{ErrorKind}
 use Rattle.capnp_words.specs.declared.error.ErrorKind.TheVariants.{MessageTooLarge}
@@ -8,7 +9,10 @@ use Rattle.capnp_words.specs.Meter.{Meter, Affords}
 use Rattle.capnp_format.specs.Word.{capability_word}
 use Rattle.capnp_format.specs.Numbers.{words_for, unpacked}
 use Rattle.capnp_format.specs.Segments.{Segments, word_at, words_at, HasWords, Target}
-use Rattle.capnp_format.specs.Tree.{Tree, Null, Capability, Struct, Flat, Pointers, Structs, Trees, no_trees, tree, Elements, no_elements, element, count, element_count, capabilities, capabilities_all, capabilities_elements}
+use Rattle.capnp_format.specs.Tree.{Tree, Null, Capability, Struct, Flat, Pointers, Structs, Trees}
+use Rattle.capnp_format.specs.Tree.{no_trees, tree, Elements, no_elements, element, count}
+use Rattle.capnp_format.specs.Tree.{element_count, capabilities, capabilities_all}
+use Rattle.capnp_format.specs.Tree.{capabilities_elements}
 use Rattle.capnp_format.specs.Means.{Leads, Claims, StructAt, ListAt, IsTag}
 use Rattle.capnp_format.specs.Canonical.{word_count, word_count_all, word_count_elements}
 use Rattle.capnp_objects.specs.declared.object.Purpose.TheVariants.{Size}
@@ -19,19 +23,24 @@ use Rattle.capnp_objects.specs.Reading.{Reading, pointers_of}
 use Rattle.capnp_objects.specs.Refusals.{GoesBefore}
 use Rattle.capnp_objects.specs.Spending.{Paid, pointers_in, pointers_in_all, pointers_in_elements}
 
--- The walk from a place goes over the value t within n levels, and charges c words. It is `Means` but for three things:
--- a capability takes a level; a list of void may lie anywhere; elements without width are free.
+-- The walk from a place goes over the value t within n levels, and charges c words. It is `Means`
+-- but for three things: a capability takes a level; a list of void may lie anywhere; elements
+-- without width are free.
 abbrev mutual
   pub Sized : Segments → ℕ → ℕ → ℕ → Tree → ℕ → Type 0
   Sized S n s p Null c = (word_at S s p ≡ 0) × (c ≡ 0)
-  Sized S n s p (Capability i) c = (a : Target) × (0 < n) × Leads S s p a × (a.word ≡ capability_word i) × (c ≡ a.pads)
+  Sized S n s p (Capability i) c =
+      (a : Target) × (0 < n) × Leads S s p a × (a.word ≡ capability_word i) × (c ≡ a.pads)
   Sized S n s p (Struct words children) c =
-      (a : Target) × (k : ℕ) × (0 < n) × StructAt S s p a (length words) (count children) × Claims S a (length words + count children)
+      (a : Target) × (k : ℕ) × (0 < n) × StructAt S s p a (length words) (count children) ×
+      Claims S a (length words + count children)
       × HasWords S a.segment a.start words × SizedAll S (pred n) a.segment (a.start + length words) children k
       × (c ≡ a.pads + (length words + count children) + k)
   Sized S n s p (Flat size numbers) c =
-      (a : Target) × (0 < n) × (size ≤ 5) × ListAt S s p a size (length numbers) × (0 < size → Claims S a (words_for size (length numbers)))
-      × (numbers ≡ unpacked size (length numbers) (words_at S a.segment a.start (words_for size (length numbers))))
+      (a : Target) × (0 < n) × (size ≤ 5) × ListAt S s p a size (length numbers) ×
+      (0 < size → Claims S a (words_for size (length numbers)))
+      × (numbers ≡ unpacked size (length numbers)
+      (words_at S a.segment a.start (words_for size (length numbers))))
       × (c ≡ a.pads + words_for size (length numbers))
   Sized S n s p (Pointers children) c =
       (a : Target) × (k : ℕ) × (0 < n) × ListAt S s p a 6 (count children) × Claims S a (count children)
@@ -39,14 +48,16 @@ abbrev mutual
       × (c ≡ a.pads + count children + k)
   Sized S n s p (Structs d q elements) c =
       (a : Target) × (m : ℕ) × (k : ℕ) × (0 < n) × ListAt S s p a 7 m × Claims S a (m + 1)
-      × IsTag (word_at S a.segment a.start) (element_count elements) d q × (element_count elements * (d + q) ≤ m)
+      × IsTag (word_at S a.segment a.start) (element_count elements) d q ×
+      (element_count elements * (d + q) ≤ m)
       × SizedElements S (pred n) a.segment (a.start + 1) d q elements k
       × (c ≡ a.pads + (m + 1) + k)
 
   -- Over pointers one behind the other from a place on.
   pub SizedAll : Segments → ℕ → ℕ → ℕ → Trees → ℕ → Type 0
   SizedAll S n s p no_trees c = c ≡ 0
-  SizedAll S n s p (tree t ts) c = (k : ℕ) × (l : ℕ) × Sized S n s p t k × SizedAll S n s (p + 1) ts l × (c ≡ k + l)
+  SizedAll S n s p (tree t ts) c =
+      (k : ℕ) × (l : ℕ) × Sized S n s p t k × SizedAll S n s (p + 1) ts l × (c ≡ k + l)
 
   -- Over elements one behind the other from a place on.
   pub SizedElements : Segments → ℕ → ℕ → ℕ → ℕ → ℕ → Elements → ℕ → Type 0
@@ -68,11 +79,13 @@ FitSize words caps = (words < 2 ^ 64) × (caps < 2 ^ 32)
 
 -- The walk from a place gives so many words and capabilities, and takes the limiter from m to m'.
 abbrev pub Totals : Reading → Meter → Meter → ℕ → ℕ → Type 0
-Totals r m m' words caps = (t : Tree) × (c : ℕ) × SizedThere r t c × (words ≡ word_count t) × (caps ≡ capabilities t) × Paid r.charging m m' c (pointers_in t)
+Totals r m m' words caps = (t : Tree) × (c : ℕ) × SizedThere r t c × (words ≡ word_count t) ×
+    (caps ≡ capabilities t) × Paid r.charging m m' c (pointers_in t)
 
 -- There is a walk from a place that m covers, whose words and capabilities fit.
 abbrev pub HasSize : Reading → Meter → Type 0
-HasSize r m = (t : Tree) × (c : ℕ) × SizedThere r t c × FitSize (word_count t) (capabilities t) × Affords r.charging m c
+HasSize r m = (t : Tree) × (c : ℕ) × SizedThere r t c × FitSize (word_count t) (capabilities t) ×
+    Affords r.charging m c
 
 -- How far a walk has come: the words and capabilities that it has counted, and its limiter.
 pub record Tally : Type 0 where
@@ -117,17 +130,22 @@ WalksPointers r i from to = (ts : Trees) × (count ts ≡ i) × WalksAll r from 
 abbrev pub WalksRows : Reading → StructSize → ℕ → Tally → Tally → Type 0
 WalksRows r size i from to = (es : Elements) × (element_count es ≡ i) × WalksElements r size from to es
 
--- There is a walk over i pointers from a place on that the limiter of a tally covers, and that the sums of the tally have
--- room for.
+-- There is a walk over i pointers from a place on that the limiter of a tally covers, and that the
+-- sums of the tally have room for.
 abbrev pub HaveSizes : Reading → ℕ → Tally → Type 0
 HaveSizes r i from =
-    (ts : Trees) × (c : ℕ) × (count ts ≡ i) × SizedAllThere r ts c × FitSize (from.words + word_count_all ts) (from.caps + capabilities_all ts) × Affords r.charging from.meter c
+    (ts : Trees) × (c : ℕ) × (count ts ≡ i) × SizedAllThere r ts c ×
+    FitSize (from.words + word_count_all ts) (from.caps + capabilities_all ts) ×
+    Affords r.charging from.meter c
 
--- The walk stops at one object, with the limiter m', by the name k. The sums before it fit. The object can't be measured; or
--- it is measured, and with its own words, or with it as a capability, the sums are too much.
+-- The walk stops at one object, with the limiter m', by the name k. The sums before it fit. The
+-- object can't be measured; or it is measured, and with its own words, or with it as a capability,
+-- the sums are too much.
 pub data SizeStopped (r : Reading) (from : Tally) (m' : Meter) (k : ErrorKind) : Type 0 where
   unmeasured : NotMeasured r from.meter m' k → SizeStopped r from m' k
-  too_large : (a : Target) → Entered Size r from.meter m' a → 2 ^ 64 ≤ from.words + counted_words r.segments a → k ≡ MessageTooLarge (2 ^ 64 - 1) → SizeStopped r from m' k
+  too_large : (a : Target) → Entered Size r from.meter m' a →
+      2 ^ 64 ≤ from.words + counted_words r.segments a → k ≡ MessageTooLarge (2 ^ 64 - 1) →
+      SizeStopped r from m' k
   too_many :
       (a : Target) →
       LeadsTo r a →
@@ -138,14 +156,17 @@ pub data SizeStopped (r : Reading) (from : Tally) (m' : Meter) (k : ErrorKind) :
       k ≡ MessageTooLarge (2 ^ 64 - 1) →
       SizeStopped r from m' k
 
--- The walk from a place stops: at its own object, or at that of one of its pointers, when the object and the pointers before
--- that one were walked over. The sums before the object that stops it fit.
+-- The walk from a place stops: at its own object, or at that of one of its pointers, when the
+-- object and the pointers before that one were walked over. The sums before the object that stops
+-- it fit.
 pub data SizeStops (k : ErrorKind) : Reading → Tally → Meter → Type 0 where
-  here : {r : Reading} {from : Tally} {m' : Meter} → FitSize from.words from.caps → SizeStopped r from m' k → SizeStops k r from m'
+  here : {r : Reading} {from : Tally} {m' : Meter} → FitSize from.words from.caps →
+      SizeStopped r from m' k → SizeStops k r from m'
   below :
       {r : Reading} {from mid : Tally} {first m' : Meter} (a : Target) (q : ℕ) →
       Entered Size r from.meter first a →
-      GoesBefore WalksAll WalksElements r a q (tally (from.words + counted_words r.segments a) from.caps first) mid →
+      GoesBefore WalksAll WalksElements r a q
+      (tally (from.words + counted_words r.segments a) from.caps first) mid →
       SizeStops k (child_at r a (pred r.levels) q) mid m' →
       SizeStops k r from m'
 
@@ -158,7 +179,8 @@ pub record SizesStop (r : Reading) (i : ℕ) (from : Tally) (m' : Meter) (k : Er
   pub stops : SizeStops k (record r { at = r.at + count first }) mid m'
 
 -- The walk from i elements stops at a pointer of one of them, when the elements before it were walked over.
-pub record RowsStop (r : Reading) (size : StructSize) (i : ℕ) (from : Tally) (m' : Meter) (k : ErrorKind) : Type 0 where
+pub record RowsStop (r : Reading) (size : StructSize) (i : ℕ) (from : Tally) (m' : Meter)
+    (k : ErrorKind) : Type 0 where
   pub first : Elements
   pub fewer : element_count first < i
   pub mid : Tally

@@ -1,9 +1,11 @@
 -- What reading takes of a limiter: words of its budget, and pointers that it counts as followed.
 use Rattle.std.specs.Prelude.{◌≡◌, ℕ, Bool, true, false, ◌+◌}
 use Rattle.capnp_words.specs.Meter.{Meter, less, raised, Affords}
-use Rattle.capnp_format.specs.Tree.{Tree, Null, Capability, Struct, Flat, Pointers, Structs, Trees, no_trees, tree, Elements, no_elements, element}
+use Rattle.capnp_format.specs.Tree.{Tree, Null, Capability, Struct, Flat, Pointers, Structs, Trees}
+use Rattle.capnp_format.specs.Tree.{no_trees, tree, Elements, no_elements, element}
 
--- A limiter after g words were granted and r pointers followed; where nothing is charged, nothing is counted either.
+-- A limiter after g words were granted and r pointers followed; where nothing is charged, nothing
+-- is counted either.
 abbrev pub after : Bool → Meter → ℕ → ℕ → Meter
 after true m g r = record { left = less m.left g; followed = raised m.followed r }
 after false m g r = m

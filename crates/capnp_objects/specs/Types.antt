@@ -1,7 +1,10 @@
 -- Of which kind the object is that a pointer leads to, by the word that describes it alone.
-use Rattle.std.specs.Prelude.{◌≡◌, ◌≢◌, ◌⊎◌, ℕ, cond, nat_eq, Result, Ok, Err}
+use Rattle.std.specs.Prelude.{◌≡◌, ◌≢◌, ◌⊎◌, ℕ, if◌then◌else◌, nat_eq, Result, Ok, Err}
 use Rattle.capnp_words.specs.declared.error.ErrorKind.{ErrorKind}
-use Rattle.capnp_words.specs.declared.error.ErrorKind.TheVariants.{MessageContainsNonCapabilityPointerWhereCapabilityPointerWasExpected, MessageContainsNullCapabilityPointer, UnexpectedFarPointer, UnknownPointerType}
+use Rattle.capnp_words.specs.declared.error.ErrorKind.TheVariants.{MessageContainsNonCapabilityPointerWhereCapabilityPointerWasExpected}
+use Rattle.capnp_words.specs.declared.error.ErrorKind.TheVariants.{MessageContainsNullCapabilityPointer}
+use Rattle.capnp_words.specs.declared.error.ErrorKind.TheVariants.{UnexpectedFarPointer}
+use Rattle.capnp_words.specs.declared.error.ErrorKind.TheVariants.{UnknownPointerType}
 use Rattle.capnp_words.specs.Meter.{Meter, Affords}
 use Rattle.capnp_format.specs.Word.{kind, lower_half}
 use Rattle.capnp_format.specs.Segments.{Target}
@@ -15,24 +18,32 @@ use Rattle.capnp_objects.specs.Wanted.{FollowsTo}
 -- What a word describes, or how it is refused that it describes nothing.
 abbrev pub type_of : ℕ → Result PointerType ErrorKind
 type_of w =
-    cond (nat_eq (kind w) 0) (Ok Struct)
-    (cond (nat_eq (kind w) 1) (Ok List) (cond (nat_eq (kind w) 2) (Err UnexpectedFarPointer) (cond (nat_eq (lower_half w) 3) (Ok Capability) (Err UnknownPointerType))))
+    if nat_eq (kind w) 0 then Ok Struct
+    else if nat_eq (kind w) 1 then Ok List else if nat_eq (kind w) 2 then Err UnexpectedFarPointer
+    else if nat_eq (lower_half w) 3 then Ok Capability else Err UnknownPointerType
 
--- What the pointer is: null, at no cost; or it leads to a word that describes this, and its landing pads are granted, from m
--- to m'.
+-- What the pointer is: null, at no cost; or it leads to a word that describes this, and its landing
+-- pads are granted, from m to m'.
 abbrev pub IsOfType : Reading → Meter → Meter → PointerType → Type 0
-IsOfType r m m' t = ((word_of r ≡ 0) × (t ≡ Null) × (m' ≡ m)) ⊎ ((a : Target) × FollowsTo r a × (type_of a.word ≡ Ok t) × Paid r.charging m m' a.pads 1)
+IsOfType r m m' t = ((word_of r ≡ 0) × (t ≡ Null) × (m' ≡ m)) ⊎
+    ((a : Target) × FollowsTo r a × (type_of a.word ≡ Ok t) × Paid r.charging m m' a.pads 1)
 
--- The call is answered: the pointer is null, or leads to a word that describes something, and m covers its landing pads.
+-- The call is answered: the pointer is null, or leads to a word that describes something, and m
+-- covers its landing pads.
 unfoldable pub HasType : Reading → Meter → Type 0
-HasType r m = (word_of r ≡ 0) ⊎ ((a : Target) × (t : PointerType) × FollowsTo r a × (type_of a.word ≡ Ok t) × Affords r.charging m a.pads)
+HasType r m =
+    (word_of r ≡ 0) ⊎ ((a : Target) × (t : PointerType) × FollowsTo r a × (type_of a.word ≡ Ok t) ×
+    Affords r.charging m a.pads)
 
--- The call is refused, from m to m', by the name k: the pointer is not followed, or leads to a word that describes nothing.
+-- The call is refused, from m to m', by the name k: the pointer is not followed, or leads to a word
+-- that describes nothing.
 pub data HasNoType (r : Reading) (m m' : Meter) (k : ErrorKind) : Type 0 where
   not_followed : Unfollowed r m m' k → HasNoType r m m' k
-  of_no_type : (a : Target) → FollowsTo r a → type_of a.word ≡ Err k → Paid r.charging m m' a.pads 1 → HasNoType r m m' k
+  of_no_type : (a : Target) → FollowsTo r a → type_of a.word ≡ Err k →
+      Paid r.charging m m' a.pads 1 → HasNoType r m m' k
 
 -- A capability is read from the pointer's own word, which is not followed.
 pub data IsNoCapability (w : ℕ) : ErrorKind → Type 0 where
   of_null : w ≡ 0 → IsNoCapability w MessageContainsNullCapabilityPointer
-  of_another : w ≢ 0 → lower_half w ≢ 3 → IsNoCapability w MessageContainsNonCapabilityPointerWhereCapabilityPointerWasExpected
+  of_another : w ≢ 0 → lower_half w ≢ 3 →
+      IsNoCapability w MessageContainsNonCapabilityPointerWhereCapabilityPointerWasExpected

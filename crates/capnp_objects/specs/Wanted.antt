@@ -1,10 +1,19 @@
--- What a reading of whatever object stands at a place wants of it: which demands it makes there, and by what name each is
--- refused where it is broken ("Structs", "Lists", "Capabilities (Interfaces)"). `Expected.antt` has the calls that want an object
--- of a kind.
-use Rattle.std.specs.Prelude.{◌≡◌, ◌≢◌, ◌⊎◌, ℕ, ◌%◌, ◌^◌, ◌<◌, cond, nat_eq, ok_or, Result, Ok, Err}
+-- What a reading of whatever object stands at a place wants of it: which demands it makes there,
+-- and by what name each is refused where it is broken ("Structs", "Lists", "Capabilities
+-- (Interfaces)"). `Expected.antt` has the calls that want an object of a kind.
+use Rattle.std.specs.Prelude.{◌≡◌, ◌≢◌, ◌⊎◌, ℕ, ◌%◌, ◌^◌, ◌<◌, if◌then◌else◌, nat_eq, ok_or, Result}
+use Rattle.std.specs.Prelude.{Ok, Err, ⊤}
 use Rattle.std.specs.Result.{result_ok}
 use Rattle.capnp_words.specs.declared.error.ErrorKind.{ErrorKind}
-use Rattle.capnp_words.specs.declared.error.ErrorKind.TheVariants.{CannotCreateACanonicalMessageWithACapability, CantHandleNonStructInlineComposite, InlineCompositeListsElementsOverrunItsWordCount, InlineCompositeListsOfNonStructTypeAreNotSupported, MalformedDoubleFarPointer, MessageContainsOutOfBoundsPointer, MessageIsTooDeeplyNestedOrContainsCycles, TriedToReadFromNullArena, UnknownPointerType}
+use Rattle.capnp_words.specs.declared.error.ErrorKind.TheVariants.{CannotCreateACanonicalMessageWithACapability}
+use Rattle.capnp_words.specs.declared.error.ErrorKind.TheVariants.{CantHandleNonStructInlineComposite}
+use Rattle.capnp_words.specs.declared.error.ErrorKind.TheVariants.{InlineCompositeListsElementsOverrunItsWordCount}
+use Rattle.capnp_words.specs.declared.error.ErrorKind.TheVariants.{InlineCompositeListsOfNonStructTypeAreNotSupported}
+use Rattle.capnp_words.specs.declared.error.ErrorKind.TheVariants.{MalformedDoubleFarPointer}
+use Rattle.capnp_words.specs.declared.error.ErrorKind.TheVariants.{MessageContainsOutOfBoundsPointer}
+use Rattle.capnp_words.specs.declared.error.ErrorKind.TheVariants.{MessageIsTooDeeplyNestedOrContainsCycles}
+use Rattle.capnp_words.specs.declared.error.ErrorKind.TheVariants.{TriedToReadFromNullArena}
+use Rattle.capnp_words.specs.declared.error.ErrorKind.TheVariants.{UnknownPointerType}
 use Rattle.capnp_format.specs.Word.{kind, list_count, is_double}
 use Rattle.capnp_format.specs.Segments.{Segments, Target, near}
 use Rattle.capnp_format.specs.Means.{Claims}
@@ -14,7 +23,8 @@ use Rattle.capnp_objects.specs.declared.object.Purpose.TheVariants.{Value, Size}
 use Rattle.capnp_objects.specs.Demands.{claim, tag, element_words, IsStructList, LiesThere}
 use Rattle.capnp_objects.specs.Reading.{Reading, word_of}
 
--- A value as it stands; one for canonical form; or one of a default, as it stands. The last two have no capability.
+-- A value as it stands; one for canonical form; or one of a default, as it stands. The last two
+-- have no capability.
 pub data Form : Type 0 where
   plain : Form
   canonical : Form
@@ -23,51 +33,60 @@ pub data Form : Type 0 where
 -- The forms of values without capabilities.
 abbrev pub RefusesCapabilities : Form → Type 0
 RefusesCapabilities plain = ⊥
-RefusesCapabilities _ = Unit {0}
+RefusesCapabilities _ = ⊤
 
 -- By what name it is refused that a list of structs has no tag.
 abbrev pub non_struct_tag : Purpose → ErrorKind
 non_struct_tag Value = InlineCompositeListsOfNonStructTypeAreNotSupported
 non_struct_tag Size = CantHandleNonStructInlineComposite
 
--- Any object: a demand that is refused by the name k is broken, with n levels, by what a pointer leads to. A demand is
--- looked at where those before it hold, so that an object breaks one at most.
+-- Any object: a demand that is refused by the name k is broken, with n levels, by what a pointer
+-- leads to. A demand is looked at where those before it hold, so that an object breaks one at most.
 abbrev pub BreaksObject : Purpose → Form → Segments → ℕ → Target → ErrorKind → Type 0
 BreaksObject purpose form S n a MalformedDoubleFarPointer = kind a.word ≡ 2
-BreaksObject purpose form S n a UnknownPointerType = (kind a.word ≡ 3) × ((a.word % 2 ^ 32 ≢ 3) ⊎ (form ≡ of_default))
-BreaksObject purpose form S n a CannotCreateACanonicalMessageWithACapability = (form ≡ canonical) × (a.word % 2 ^ 32 ≡ 3)
+BreaksObject purpose form S n a UnknownPointerType =
+    (kind a.word ≡ 3) × ((a.word % 2 ^ 32 ≢ 3) ⊎ (form ≡ of_default))
+BreaksObject purpose form S n a CannotCreateACanonicalMessageWithACapability =
+    (form ≡ canonical) × (a.word % 2 ^ 32 ≡ 3)
 BreaksObject purpose form S n a MessageIsTooDeeplyNestedOrContainsCycles = (kind a.word < 2) × (n ≡ 0)
-BreaksObject purpose form S n a MessageContainsOutOfBoundsPointer = (kind a.word < 2) × (0 < n) × (LiesThere purpose S a → ⊥)
-BreaksObject Value form S n a InlineCompositeListsOfNonStructTypeAreNotSupported = (0 < n) × IsStructList a.word × Claims S a (claim a.word) × (kind (tag S a) ≢ 0)
-BreaksObject Size form S n a CantHandleNonStructInlineComposite = (0 < n) × IsStructList a.word × Claims S a (claim a.word) × (kind (tag S a) ≢ 0)
+BreaksObject purpose form S n a MessageContainsOutOfBoundsPointer =
+    (kind a.word < 2) × (0 < n) × (LiesThere purpose S a → ⊥)
+BreaksObject Value form S n a InlineCompositeListsOfNonStructTypeAreNotSupported =
+    (0 < n) × IsStructList a.word × Claims S a (claim a.word) × (kind (tag S a) ≢ 0)
+BreaksObject Size form S n a CantHandleNonStructInlineComposite =
+    (0 < n) × IsStructList a.word × Claims S a (claim a.word) × (kind (tag S a) ≢ 0)
 BreaksObject purpose form S n a InlineCompositeListsElementsOverrunItsWordCount =
-    (0 < n) × IsStructList a.word × Claims S a (claim a.word) × (kind (tag S a) ≡ 0) × (list_count a.word < element_words (tag S a))
+    (0 < n) × IsStructList a.word × Claims S a (claim a.word) × (kind (tag S a) ≡ 0) ×
+    (list_count a.word < element_words (tag S a))
 BreaksObject purpose form S n a _ = ⊥
 
--- What following the pointer at a place gives: the object that it leads to, whose describing word may be of any kind; or the name
--- of the first thing that is wrong. A far pointer of a default, which leads nowhere, is refused by a name of its own.
+-- What following the pointer at a place gives: the object that it leads to, whose describing word
+-- may be of any kind; or the name of the first thing that is wrong. A far pointer of a default,
+-- which leads nowhere, is refused by a name of its own.
 abbrev pub follow_at : Reading → Result Target ErrorKind
 follow_at r =
     let x = word_of r in
     let far = follow_far r.segments x (is_double x) in
-    cond (nat_eq (kind x) 2)
-    (cond r.of_default (ok_or (result_ok far) TriedToReadFromNullArena) far)
-    (ok_or (near r.segments r.segment r.at x 0) MessageContainsOutOfBoundsPointer)
+    if nat_eq (kind x) 2 then
+    if r.of_default then ok_or (result_ok far) TriedToReadFromNullArena else far
+    else ok_or (near r.segments r.segment r.at x 0) MessageContainsOutOfBoundsPointer
 
 -- The pointer at a place, which is not null, is followed to a.
 abbrev pub FollowsTo : Reading → Target → Type 0
 FollowsTo r a = (word_of r ≢ 0) × (follow_at r ≡ Ok a)
 
--- The pointer at a place is followed to a by a reading of this purpose; one for the size takes a level for whatever the pointer
--- leads to, also for a capability.
+-- The pointer at a place is followed to a by a reading of this purpose; one for the size takes a
+-- level for whatever the pointer leads to, also for a capability.
 abbrev pub FollowsFor : Purpose → Reading → Target → Type 0
 FollowsFor Value r a = FollowsTo r a
 FollowsFor Size r a = FollowsTo r a × (0 < r.levels)
 
--- A place breaks a demand that is refused by the name k: its pointer can't be followed, or what that leads to breaks the
--- demand. A null pointer breaks none.
+-- A place breaks a demand that is refused by the name k: its pointer can't be followed, or what
+-- that leads to breaks the demand. A null pointer breaks none.
 abbrev pub BreaksAt : Form → ErrorKind → Reading → Type 0
-BreaksAt form k r = (word_of r ≢ 0) × ((follow_at r ≡ Err k) ⊎ ((a : Target) × (follow_at r ≡ Ok a) × BreaksObject Value form r.segments r.levels a k))
+BreaksAt form k r = (word_of r ≢ 0) ×
+    ((follow_at r ≡ Err k) ⊎ ((a : Target) × (follow_at r ≡ Ok a) ×
+    BreaksObject Value form r.segments r.levels a k))
 
 -- What a reading of a whole value takes: every value, or one without capabilities.
 abbrev pub AllowsCapabilities : Form → ℕ → Type 0

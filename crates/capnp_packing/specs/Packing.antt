@@ -1,8 +1,9 @@
--- Packed bytes (the encoding specification's "Packing"). A tag has a bit for each byte of a word, the lowest for
--- the first: where it is 1 the byte is packed behind the tag, and else it is zero. Behind a tag of 0 stands how many
--- words of zero follow that one; behind a tag of 255 and the word's eight bytes stands how many words follow as
--- they are.
-use Rattle.std.specs.Prelude.{◌≡◌, ℕ, zero, suc, ◌+◌, ◌-◌, ◌*◌, ◌/◌, ◌%◌, Bool, true, false, cond, nat_eq, nat_lt}
+-- Packed bytes (the encoding specification's "Packing"). A tag has a bit for each byte of a word,
+-- the lowest for the first: where it is 1 the byte is packed behind the tag, and else it is zero.
+-- Behind a tag of 0 stands how many words of zero follow that one; behind a tag of 255 and the
+-- word's eight bytes stands how many words follow as they are.
+use Rattle.std.specs.Prelude.{◌≡◌, ℕ, zero, suc, ◌+◌, ◌-◌, ◌*◌, ◌/◌, ◌%◌, Bool, true, false}
+use Rattle.std.specs.Prelude.{if◌then◌else◌, nat_eq, nat_lt}
 use Rattle.std.specs.Prelude.{List, [], ◌∷◌, ◌++◌, drop, slice_index, replicate, Option, Some, None, ⊤}
 use Rattle.capnp_packing.specs.declared.packing.place.Place.{Place}
 use Rattle.capnp_packing.specs.declared.packing.place.Place.TheVariants.{Tag, Kept, Zeros, Whole, Count, Raw}
@@ -10,12 +11,12 @@ use Rattle.capnp_packing.specs.declared.packing.place.Place.TheVariants.{Tag, Ke
 -- Of so many bytes of a word, how many aren't packed before the first that is.
 abbrev pub lead : ℕ → ℕ → ℕ
 lead zero bits = 0
-lead (suc n) bits = cond (nat_eq (bits % 2) 1) 0 (lead n (bits / 2) + 1)
+lead (suc n) bits = if nat_eq (bits % 2) 1 then 0 else lead n (bits / 2) + 1
 
 -- The place behind those: before that first one, or before a tag where there is none.
 abbrev pub place_within : ℕ → ℕ → Place
 place_within zero bits = Tag
-place_within (suc n) bits = cond (nat_eq (bits % 2) 1) (Kept (bits / 2) n) (place_within n (bits / 2))
+place_within (suc n) bits = if nat_eq (bits % 2) 1 then Kept (bits / 2) n else place_within n (bits / 2)
 
 -- The byte that a packed byte gives itself.
 abbrev pub byte_given : Place → ℕ → Option ℕ
@@ -26,23 +27,23 @@ byte_given _ b = None
 
 -- How many bytes of zero it gives behind that.
 abbrev pub zeros_given : Place → ℕ → ℕ
-zeros_given Tag b = cond (nat_eq b 0) 8 (cond (nat_eq b 255) 0 (lead 8 b))
+zeros_given Tag b = if nat_eq b 0 then 8 else if nat_eq b 255 then 0 else lead 8 b
 zeros_given (Kept bits left) b = lead left bits
 zeros_given Zeros b = 8 * b
 zeros_given _ b = 0
 
 -- The place behind it.
 abbrev pub place_after : Place → ℕ → Place
-place_after Tag b = cond (nat_eq b 0) Zeros (cond (nat_eq b 255) (Whole 7) (place_within 8 b))
+place_after Tag b = if nat_eq b 0 then Zeros else if nat_eq b 255 then Whole 7 else place_within 8 b
 place_after (Kept bits left) b = place_within left bits
 place_after Zeros b = Tag
-place_after (Whole left) b = cond (nat_eq left 0) Count (Whole (left - 1))
-place_after Count b = cond (nat_eq b 0) Tag (Raw (8 * b - 1))
-place_after (Raw left) b = cond (nat_eq left 0) Tag (Raw (left - 1))
+place_after (Whole left) b = if nat_eq left 0 then Count else Whole (left - 1)
+place_after Count b = if nat_eq b 0 then Tag else Raw (8 * b - 1)
+place_after (Raw left) b = if nat_eq left 0 then Tag else Raw (left - 1)
 
 -- The place behind so many bytes of words that are given as they stand, where so many were behind the first.
 abbrev pub place_behind : ℕ → ℕ → Place
-place_behind left taken = cond (nat_lt left taken) Tag (Raw (left - taken))
+place_behind left taken = if nat_lt left taken then Tag else Raw (left - taken)
 
 -- All that it gives.
 abbrev pub byte_of_option : Option ℕ → List ℕ
@@ -71,7 +72,8 @@ abbrev pub GivesAndLeads : Place → List ℕ → List ℕ → ℕ → Place →
 GivesAndLeads place packed bytes zeros next =
     (unpacked_bytes place packed ≡ bytes ++ replicate zeros 0) × (place_at_end place packed ≡ next)
 
--- The bytes to come where so many bytes of zero are due, and packed bytes stand behind a place, if they are known.
+-- The bytes to come where so many bytes of zero are due, and packed bytes stand behind a place, if
+-- they are known.
 abbrev pub bytes_behind : ℕ → Place → Option (List ℕ) → Option (List ℕ)
 bytes_behind due place None = None
 bytes_behind due place (Some packed) = Some (replicate due 0 ++ unpacked_bytes place packed)
@@ -114,11 +116,11 @@ unpacked_known (Some packed) = known_at (place_at_end Tag packed) (unpacked_byte
 -- The tag of some bytes of a word, and those of them that are packed behind it.
 abbrev pub tag_of_word : List ℕ → ℕ
 tag_of_word [] = 0
-tag_of_word (b ∷ bs) = cond (nat_eq b 0) 0 1 + 2 * tag_of_word bs
+tag_of_word (b ∷ bs) = (if nat_eq b 0 then 0 else 1) + 2 * tag_of_word bs
 
 abbrev pub nonzero_bytes : List ℕ → List ℕ
 nonzero_bytes [] = []
-nonzero_bytes (b ∷ bs) = cond (nat_eq b 0) (nonzero_bytes bs) (b ∷ nonzero_bytes bs)
+nonzero_bytes (b ∷ bs) = if nat_eq b 0 then nonzero_bytes bs else b ∷ nonzero_bytes bs
 
 -- Packed bytes are whole and stand for these.
 abbrev pub Packs : List ℕ → List ℕ → Type 0

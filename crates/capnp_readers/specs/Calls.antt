@@ -1,6 +1,7 @@
--- What the calls of a pointer reader answer that expect an object of a kind, and where they read: the pointer's own place, or
--- a default's.
-use Rattle.std.specs.Prelude.{◌≡◌, ◌≢◌, ◌⊎◌, ℕ, pos, ◌-◌, ◌<◌, ◌≤◌, ◌^◌, List, [], take, length, Option, Some, None, Result, Ok, Err}
+-- What the calls of a pointer reader answer that expect an object of a kind, and where they read:
+-- the pointer's own place, or a default's.
+use Rattle.std.specs.Prelude.{◌≡◌, ◌≢◌, ◌⊎◌, ℕ, pos, ◌-◌, ◌<◌, ◌≤◌, ◌^◌, List, [], take, length}
+use Rattle.std.specs.Prelude.{Option, Some, None, Result, Ok, Err}
 use Rattle.std.specs.Borrow.{Bor}
 use Rattle.capnp_words.specs.declared.error.ErrorKind.{ErrorKind}
 use Rattle.capnp_words.specs.declared.error.ErrorKind.TheVariants.{MessageContainsOutOfBoundsPointer}
@@ -27,7 +28,8 @@ use Rattle.capnp_readers.specs.declared.readers.list_reader.ListReader.{ListRead
 -- The first n bytes of an object of bytes.
 abbrev pub ShowsBytes : Reading → Target → ℕ → List ℕ → Type 0
 ShowsBytes r a n bytes =
-    (all : List ℕ) × (words_of all ≡ words_at r.segments a.segment a.start (words_for 2 (list_count a.word))) × (bytes ≡ take n all) × (length bytes ≡ n)
+    (all : List ℕ) × (words_of all ≡ words_at r.segments a.segment a.start
+    (words_for 2 (list_count a.word))) × (bytes ≡ take n all) × (length bytes ≡ n)
 
 module _ {A : Type 0} (g : Ghosts A) where
   -- A call on a pointer: what it expects there, and the default that it is given.
@@ -36,9 +38,10 @@ module _ {A : Type 0} (g : Ghosts A) where
     pub expected : Expectation
     pub default : Option (Bor (List ℕ))
 
-  -- The pointer x that a call reads: its own, where that isn't null or there is no default; else the one in the default's first
-  -- word, within the same levels. Or the name x by which it is refused that there is none: a default has no whole word, or its
-  -- pointer is null where it must not be.
+  -- The pointer x that a call reads: its own, where that isn't null or there is no default; else
+  -- the one in the default's first word, within the same levels. Or the name x by which it is
+  -- refused that there is none: a default has no whole word, or its pointer is null where it must
+  -- not be.
   pub data IsRead (c : Call) (x : Result (PointerReader A g) ErrorKind) : Type 0 where
     of_pointer : (c.default ≡ None) ⊎ (word_of (reading g c.from) ≢ 0) → x ≡ Ok c.from → IsRead c x
     of_default :
@@ -54,7 +57,8 @@ module _ {A : Type 0} (g : Ghosts A) where
         x ≡ Ok p →
         IsRead c x
     short_default :
-        {bytes : Bor (List ℕ)} → word_of (reading g c.from) ≡ 0 → c.default ≡ Some bytes → length bytes.now < 8 → x ≡ Err MessageContainsOutOfBoundsPointer → IsRead c x
+        {bytes : Bor (List ℕ)} → word_of (reading g c.from) ≡ 0 → c.default ≡ Some bytes →
+        length bytes.now < 8 → x ≡ Err MessageContainsOutOfBoundsPointer → IsRead c x
     of_null_default :
         {bytes : Bor (List ℕ)} {k : ErrorKind} →
         word_of (reading g c.from) ≡ 0 →
@@ -69,25 +73,31 @@ module _ {A : Type 0} (g : Ghosts A) where
   abbrev pub WhereRead : Call → (PointerReader A g → Type 0) → Type 0
   WhereRead c P = (p : PointerReader A g) × IsRead c (Ok p) × P p
 
-  -- A call is refused, from m to m', by the name k: there is no pointer to read, and nothing is counted or charged; or what it
-  -- expects is withheld there.
+  -- A call is refused, from m to m', by the name k: there is no pointer to read, and nothing is
+  -- counted or charged; or what it expects is withheld there.
   abbrev pub IsRefused : Call → Meter → Meter → ErrorKind → Type 0
-  IsRefused c m m' k = (IsRead c (Err k) × (m' ≡ m)) ⊎ WhereRead c (λ p. Withheld c.expected (reading g p) m m' k)
+  IsRefused c m m' k =
+      (IsRead c (Err k) × (m' ≡ m)) ⊎ WhereRead c (λ p. Withheld c.expected (reading g p) m m' k)
 
-  -- The struct that a pointer leads to, its words checked and charged, from m to m'; of a null pointer the struct from nothing.
+  -- The struct that a pointer leads to, its words checked and charged, from m to m'; of a null
+  -- pointer the struct from nothing.
   abbrev pub IsStructRead : PointerReader A g → Meter → Meter → StructReader A g → Type 0
   IsStructRead p m m' r =
-      ((word_of (reading g p) ≡ 0) × (m' ≡ m) × (r.source ≡ Nothing) × (r.bits ≡ 0) × (r.pointer_count ≡ 0) × (r.nesting_limit ≡ pos (2 ^ 31 - 1)))
+      ((word_of (reading g p) ≡ 0) × (m' ≡ m) × (r.source ≡ Nothing) × (r.bits ≡ 0) ×
+      (r.pointer_count ≡ 0) × (r.nesting_limit ≡ pos (2 ^ 31 - 1)))
       ⊎ IsStructThere g p m m' r
 
-  -- The list that a pointer leads to, of elements that are wide enough; of a null pointer the list from nothing.
+  -- The list that a pointer leads to, of elements that are wide enough; of a null pointer the list
+  -- from nothing.
   abbrev pub IsListRead : ElementSize → PointerReader A g → Meter → Meter → ListReader A g → Type 0
   IsListRead expected p m m' r =
-      ((word_of (reading g p) ≡ 0) × (m' ≡ m) × (r.source ≡ Nothing) × (r.element_size ≡ Void) × (r.count ≡ 0) × (r.nesting_limit ≡ pos (2 ^ 31 - 1)))
+      ((word_of (reading g p) ≡ 0) × (m' ≡ m) × (r.source ≡ Nothing) × (r.element_size ≡ Void) ×
+      (r.count ≡ 0) × (r.nesting_limit ≡ pos (2 ^ 31 - 1)))
       ⊎ (IsListThere g p m m' r × IsWide expected r.element_size r.struct_size)
 
   -- The bytes that a pointer leads to, in place, but so many at the end; of a null pointer none.
   abbrev pub AreBytesRead : ℕ → PointerReader A g → Meter → Meter → List ℕ → Type 0
   AreBytesRead but p m m' bytes =
       ((word_of (reading g p) ≡ 0) × (m' ≡ m) × (bytes ≡ []))
-      ⊎ ((a : Target) × Entered Value (record (reading g p) { levels = 1 }) m m' a × ShowsBytes (reading g p) a (list_count a.word - but) bytes)
+      ⊎ ((a : Target) × Entered Value (record (reading g p) { levels = 1 }) m m' a ×
+      ShowsBytes (reading g p) a (list_count a.word - but) bytes)

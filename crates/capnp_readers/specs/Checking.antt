@@ -1,8 +1,11 @@
--- What the test for canonical form finds, how far it has come, and where it stops ("Canonicalization"). It goes over the pointers
--- in order with a head, the word at which the next object has to start, and takes a level for each struct and list.
-use Rattle.std.specs.Prelude.{◌≡◌, ◌≢◌, ◌⊎◌, ℕ, pred, ◌+◌, ◌*◌, ◌-◌, ◌/◌, ◌%◌, ◌^◌, min, ◌<◌, ◌≤◌, List, [], ◌∷◌, Option, Some, None, cond, nat_eq, length}
+-- What the test for canonical form finds, how far it has come, and where it stops
+-- ("Canonicalization"). It goes over the pointers in order with a head, the word at which the next
+-- object has to start, and takes a level for each struct and list.
+use Rattle.std.specs.Prelude.{◌≡◌, ◌≢◌, ◌⊎◌, ℕ, pred, ◌+◌, ◌*◌, ◌-◌, ◌/◌, ◌%◌, ◌^◌, min, ◌<◌, ◌≤◌}
+use Rattle.std.specs.Prelude.{List, [], ◌∷◌, Option, Some, None, if◌then◌else◌, nat_eq, length, ⊤}
 use Rattle.capnp_words.specs.declared.error.ErrorKind.{ErrorKind}
-use Rattle.capnp_words.specs.declared.error.ErrorKind.TheVariants.{MessageIsTooDeeplyNestedOrContainsCycles, NestingLimitExceeded}
+use Rattle.capnp_words.specs.declared.error.ErrorKind.TheVariants.{MessageIsTooDeeplyNestedOrContainsCycles}
+use Rattle.capnp_words.specs.declared.error.ErrorKind.TheVariants.{NestingLimitExceeded}
 use Rattle.capnp_words.specs.Meter.{Meter, Affords}
 use Rattle.capnp_words.specs.declared.wire_pointer.StructSize.{StructSize}
 use Rattle.capnp_words.specs.declared.wire_pointer.ElementSize.{ElementSize}
@@ -10,14 +13,23 @@ use Rattle.capnp_words.specs.Sizes.{size_number}
 use Rattle.capnp_format.specs.Numbers.{words_for}
 use Rattle.capnp_format.specs.Word.{kind, offset_bits, data_words, pointer_count, element_size, list_count}
 use Rattle.capnp_format.specs.Segments.{Segments, Target, word_at, IsPlace}
-use Rattle.capnp_format.specs.Tree.{Tree, Trees, Elements, count, element_count, depth, depth_all, depth_elements}
-use Rattle.capnp_format.specs.Canonical.{Stands, ForOffset, word_count, word_count_all, word_count_elements, charge, charge_all, charge_elements, data_width, pointer_width}
+use Rattle.capnp_format.specs.Tree.{Tree, Trees, Elements, count, element_count, depth, depth_all}
+use Rattle.capnp_format.specs.Tree.{depth_elements}
+use Rattle.capnp_format.specs.Canonical.{Stands, ForOffset, word_count, word_count_all}
+use Rattle.capnp_format.specs.Canonical.{word_count_elements, charge, charge_all, charge_elements}
+use Rattle.capnp_format.specs.Canonical.{data_width, pointer_width}
 use Rattle.capnp_objects.specs.declared.object.Object.{Object}
-use Rattle.capnp_objects.specs.declared.object.Object.TheVariants.{Null as ObjectNull, Capability as ObjectCapability, Struct as ObjectStruct, Flat as ObjectFlat, Pointers as ObjectPointers, Structs as ObjectStructs}
+use Rattle.capnp_objects.specs.declared.object.Object.TheVariants.{Null as ObjectNull}
+use Rattle.capnp_objects.specs.declared.object.Object.TheVariants.{Capability as ObjectCapability}
+use Rattle.capnp_objects.specs.declared.object.Object.TheVariants.{Struct as ObjectStruct}
+use Rattle.capnp_objects.specs.declared.object.Object.TheVariants.{Flat as ObjectFlat}
+use Rattle.capnp_objects.specs.declared.object.Object.TheVariants.{Pointers as ObjectPointers}
+use Rattle.capnp_objects.specs.declared.object.Object.TheVariants.{Structs as ObjectStructs}
 use Rattle.capnp_objects.specs.Demands.{claim, tag, element_words, IsStructList}
 use Rattle.capnp_objects.specs.Faults.{child_at}
 use Rattle.capnp_objects.specs.Outcomes.{Entered}
-use Rattle.capnp_objects.specs.Reading.{Reading, source_start, word_of, segment_read, behind, pointers_of, sized, tag_size}
+use Rattle.capnp_objects.specs.Reading.{Reading, source_start, word_of, segment_read, behind}
+use Rattle.capnp_objects.specs.Reading.{pointers_of, sized, tag_size}
 use Rattle.capnp_objects.specs.Refusals.{Stopped, GoesBefore}
 use Rattle.capnp_objects.specs.Spending.{Paid, pointers_in, pointers_in_all, pointers_in_elements}
 use Rattle.capnp_objects.specs.Wanted.{plain}
@@ -28,7 +40,15 @@ use Rattle.capnp_readers.specs.Sizes.{own_words, pointers_read}
 use Rattle.capnp_readers.specs.declared.readers.struct_reader.StructReader.{StructReader}
 use Rattle.capnp_readers.specs.Faults.{FaultIs, other_reason}
 use Rattle.capnp_readers.specs.declared.readers.canonical_fault.CanonicalFault.{CanonicalFault}
-use Rattle.capnp_readers.specs.declared.readers.canonical_fault.CanonicalFaultReason.TheVariants.{NoPointer, EmptyStructPlace, ObjectPlace, Padding, DataSection, PointerSection, ElementWords, ElementData, ElementPointers}
+use Rattle.capnp_readers.specs.declared.readers.canonical_fault.CanonicalFaultReason.TheVariants.{NoPointer}
+use Rattle.capnp_readers.specs.declared.readers.canonical_fault.CanonicalFaultReason.TheVariants.{EmptyStructPlace}
+use Rattle.capnp_readers.specs.declared.readers.canonical_fault.CanonicalFaultReason.TheVariants.{ObjectPlace}
+use Rattle.capnp_readers.specs.declared.readers.canonical_fault.CanonicalFaultReason.TheVariants.{Padding}
+use Rattle.capnp_readers.specs.declared.readers.canonical_fault.CanonicalFaultReason.TheVariants.{DataSection}
+use Rattle.capnp_readers.specs.declared.readers.canonical_fault.CanonicalFaultReason.TheVariants.{PointerSection}
+use Rattle.capnp_readers.specs.declared.readers.canonical_fault.CanonicalFaultReason.TheVariants.{ElementWords}
+use Rattle.capnp_readers.specs.declared.readers.canonical_fault.CanonicalFaultReason.TheVariants.{ElementData}
+use Rattle.capnp_readers.specs.declared.readers.canonical_fault.CanonicalFaultReason.TheVariants.{ElementPointers}
 use Rattle.capnp_readers.specs.Standing.{AllStand, ElementsStand, ElementsAccept, EndsUsed, IsPadded}
 
 -- How far a test has come: the word at which the next object has to start, and its limiter.
@@ -39,7 +59,8 @@ pub record Progress : Type 0 where
 abbrev pub progress : ℕ → Meter → Progress
 progress h m = record { head = h; meter = m }
 
--- The canonical words of t stand at a place and a head: the levels are enough, its cost is paid, and the head moves behind them.
+-- The canonical words of t stand at a place and a head: the levels are enough, its cost is paid,
+-- and the head moves behind them.
 pub record Finds (r : Reading) (from to : Progress) (t : Tree) : Type 0 where
   pub stands : Stands r.segments r.segment r.at from.head t
   pub inside : ForOffset t (from.head ≤ length (segment_read r))
@@ -47,7 +68,8 @@ pub record Finds (r : Reading) (from to : Progress) (t : Tree) : Type 0 where
   pub paid : Paid r.charging from.meter to.meter (charge t) (pointers_in t)
   pub head_is : to.head ≡ from.head + word_count t
 
--- The canonical words of ts stand at pointers one behind the other, from the place on, and at a head: as for one pointer.
+-- The canonical words of ts stand at pointers one behind the other, from the place on, and at a
+-- head: as for one pointer.
 pub record FindsAll (r : Reading) (from to : Progress) (ts : Trees) : Type 0 where
   pub stand : AllStand r.segments r.segment r.at from.head ts
   pub levels : depth_all ts ≤ r.levels
@@ -75,12 +97,14 @@ IsCanonicalAt r h = (t : Tree) × Stands r.segments r.segment r.at h t
 abbrev pub AreCanonicalAt : Reading → ℕ → ℕ → Type 0
 AreCanonicalAt r i h = (ts : Trees) × (count ts ≡ i) × AllStand r.segments r.segment r.at h ts
 
--- Where the object of a pointer at position p starts in canonical form: a struct of no words at the pointer itself, and any other
--- at the head, a list of structs with its tag. No capability is canonical.
+-- Where the object of a pointer at position p starts in canonical form: a struct of no words at the
+-- pointer itself, and any other at the head, a list of structs with its tag. No capability is
+-- canonical.
 abbrev pub StartsRight : Object → ℕ → ℕ → Type 0
-StartsRight ObjectNull p h = Unit {0}
+StartsRight ObjectNull p h = ⊤
 StartsRight (ObjectCapability i) p h = ⊥
-StartsRight (ObjectStruct start size) p h = start.at ≡ cond (nat_eq (size.data_words + size.pointers) 0) p h
+StartsRight (ObjectStruct start size) p h =
+    start.at ≡ (if nat_eq (size.data_words + size.pointers) 0 then p else h)
 StartsRight (ObjectFlat start size n) p h = start.at ≡ h
 StartsRight (ObjectPointers start n) p h = start.at ≡ h
 StartsRight (ObjectStructs start size n) p h = start.at ≡ h + 1
@@ -91,7 +115,8 @@ pub record IsTested (r : Reading) : Type 0 where
   pub there : IsPlace r.segments r.segment r.at
   pub near : kind (word_of r) < 2
 
--- What a test that is answered tells: the head behind the canonical words that it has found, or that there are none.
+-- What a test that is answered tells: the head behind the canonical words that it has found, or
+-- that there are none.
 abbrev pub Tells : Reading → Progress → Meter → Option ℕ → Type 0
 Tells r from m' (Some h) = IsFound r from (progress h m')
 Tells r from m' None = IsCanonicalAt r from.head → ⊥
@@ -101,51 +126,70 @@ abbrev pub TellsAll : Reading → ℕ → Progress → Meter → Option ℕ → 
 TellsAll r i from m' (Some h) = AreFound r i from (progress h m')
 TellsAll r i from m' None = AreCanonicalAt r i from.head → ⊥
 
--- Of a list of n numbers of a size that starts at position p of these words: the bits behind its numbers are zero.
+-- Of a list of n numbers of a size that starts at position p of these words: the bits behind its
+-- numbers are zero.
 abbrev pub TellsFlat : List ℕ → ℕ → ElementSize → ℕ → Option ℕ → Type 0
-TellsFlat words p size n (Some e) = IsPadded (words ∷ []) 0 p (size_number size) n × (e ≡ p + words_for (size_number size) n)
+TellsFlat words p size n (Some e) =
+    IsPadded (words ∷ []) 0 p (size_number size) n × (e ≡ p + words_for (size_number size) n)
 TellsFlat words p size n None = IsPadded (words ∷ []) 0 p (size_number size) n → ⊥
 
 -- Of the two sections of a struct that starts at a place: each is empty or ends in a word that is not zero.
 abbrev pub AreUsed : Reading → StructSize → Type 0
-AreUsed r size = EndsUsed r.segments r.segment r.at size.data_words × EndsUsed r.segments r.segment (r.at + size.data_words) size.pointers
+AreUsed r size = EndsUsed r.segments r.segment r.at size.data_words ×
+    EndsUsed r.segments r.segment (r.at + size.data_words) size.pointers
 
 -- Of a struct that starts at a place: its pointers are canonical, the first object behind the struct.
 abbrev pub TellsStruct : Reading → StructSize → Meter → Meter → Option ℕ → Type 0
-TellsStruct r size m m' (Some e) = AreUsed r size × AreFound (behind r size.data_words) size.pointers (progress (r.at + size.data_words + size.pointers) m) (progress e m')
-TellsStruct r size m m' None = AreUsed r size × AreCanonicalAt (behind r size.data_words) size.pointers (r.at + size.data_words + size.pointers) → ⊥
+TellsStruct r size m m' (Some e) =
+    AreUsed r size × AreFound (behind r size.data_words) size.pointers
+    (progress (r.at + size.data_words + size.pointers) m) (progress e m')
+TellsStruct r size m m' None =
+    AreUsed r size × AreCanonicalAt (behind r size.data_words) size.pointers
+    (r.at + size.data_words + size.pointers) → ⊥
 
--- Of n elements of a list of structs, the first of which starts at a place: their pointers are canonical, the first object at the
--- head; and no smaller size of elements would do.
+-- Of n elements of a list of structs, the first of which starts at a place: their pointers are
+-- canonical, the first object at the head; and no smaller size of elements would do.
 abbrev pub AreFoundRows : Reading → StructSize → ℕ → Progress → Progress → Type 0
 AreFoundRows r size n from to =
-    (es : Elements) × (element_count es ≡ n) × (data_width es ≡ size.data_words) × (pointer_width es ≡ size.pointers) × FindsElements r size from to es
+    (es : Elements) × (element_count es ≡ n) × (data_width es ≡ size.data_words) ×
+    (pointer_width es ≡ size.pointers) × FindsElements r size from to es
 
 abbrev pub TellsRows : Reading → StructSize → ℕ → Progress → Meter → Option ℕ → Type 0
 TellsRows r size n from m' (Some e) = AreFoundRows r size n from (progress e m')
-TellsRows r size n from m' None = ElementsAccept r.segments r.segment r.at size.data_words size.pointers from.head n → ⊥
+TellsRows r size n from m' None =
+    ElementsAccept r.segments r.segment r.at size.data_words size.pointers from.head n → ⊥
 
--- Of the list that claims so many words: its elements take just these, and the first object stands behind them.
+-- Of the list that claims so many words: its elements take just these, and the first object stands
+-- behind them.
 abbrev pub TellsClaimed : Reading → StructSize → ℕ → ℕ → Meter → Meter → Option ℕ → Type 0
-TellsClaimed r size n claimed m m' (Some e) = (n * (size.data_words + size.pointers) ≡ claimed) × AreFoundRows r size n (progress (r.at + claimed) m) (progress e m')
-TellsClaimed r size n claimed m m' None = n * (size.data_words + size.pointers) ≡ claimed → ElementsAccept r.segments r.segment r.at size.data_words size.pointers (r.at + claimed) n → ⊥
+TellsClaimed r size n claimed m m' (Some e) =
+    (n * (size.data_words + size.pointers) ≡ claimed) ×
+    AreFoundRows r size n (progress (r.at + claimed) m) (progress e m')
+TellsClaimed r size n claimed m m' None =
+    n * (size.data_words + size.pointers) ≡ claimed →
+    ElementsAccept r.segments r.segment r.at size.data_words size.pointers (r.at + claimed) n → ⊥
 
--- Canonical words stand at a place and a head in its segment, the levels are enough, and the limiter covers their cost; of i
--- pointers.
+-- Canonical words stand at a place and a head in its segment, the levels are enough, and the
+-- limiter covers their cost; of i pointers.
 abbrev pub CanBeFound : Reading → Progress → Type 0
 CanBeFound r from =
-    (t : Tree) × Stands r.segments r.segment r.at from.head t × ForOffset t (from.head ≤ length (segment_read r)) × (depth t ≤ r.levels) × Affords r.charging from.meter (charge t)
+    (t : Tree) × Stands r.segments r.segment r.at from.head t ×
+    ForOffset t (from.head ≤ length (segment_read r)) × (depth t ≤ r.levels) ×
+    Affords r.charging from.meter (charge t)
 
 abbrev pub CanAllBeFound : Reading → ℕ → Progress → Type 0
 CanAllBeFound r i from =
-    (ts : Trees) × (count ts ≡ i) × AllStand r.segments r.segment r.at from.head ts × (depth_all ts ≤ r.levels) × Affords r.charging from.meter (charge_all ts)
+    (ts : Trees) × (count ts ≡ i) × AllStand r.segments r.segment r.at from.head ts ×
+    (depth_all ts ≤ r.levels) × Affords r.charging from.meter (charge_all ts)
 
 -- The name of a refusal: a list that has no level is refused by another than a struct is.
 abbrev pub level_refusal_name : ℕ → ErrorKind → ErrorKind
-level_refusal_name w MessageIsTooDeeplyNestedOrContainsCycles = cond (nat_eq (kind w) 1) NestingLimitExceeded MessageIsTooDeeplyNestedOrContainsCycles
+level_refusal_name w MessageIsTooDeeplyNestedOrContainsCycles =
+    if nat_eq (kind w) 1 then NestingLimitExceeded else MessageIsTooDeeplyNestedOrContainsCycles
 level_refusal_name w k = k
 
--- The object of a near pointer can't be read, from m to m', for the reason k: its reading stops as any other does.
+-- The object of a near pointer can't be read, from m to m', for the reason k: its reading stops as
+-- any other does.
 pub record Unread (r : Reading) (m m' : Meter) (k : ErrorKind) : Type 0 where
   pub name : ErrorKind
   pub near : kind (word_of r) < 2
@@ -156,8 +200,9 @@ pub record Unread (r : Reading) (m m' : Meter) (k : ErrorKind) : Type 0 where
 abbrev pub behind_object : Target → Meter → Progress
 behind_object a m = progress (a.start + claim a.word) m
 
--- The test of a place ends where P says so: at the place itself; or its object is read, starts at the head and claims what its
--- elements take, and the test of one of its pointers ends, those before that one being canonical.
+-- The test of a place ends where P says so: at the place itself; or its object is read, starts at
+-- the head and claims what its elements take, and the test of one of its pointers ends, those
+-- before that one being canonical.
 pub data TestEnds (P : Reading → Progress → Meter → Type 0) : Reading → Progress → Meter → Type 0 where
   here : {r : Reading} {from : Progress} {m' : Meter} → P r from m' → TestEnds P r from m'
   below :
@@ -171,7 +216,8 @@ pub data TestEnds (P : Reading → Progress → Meter → Type 0) : Reading → 
       TestEnds P r from m'
 
 -- The test of i pointers from a place on ends at one of them, those before it being canonical.
-pub record TestsEnd (P : Reading → Progress → Meter → Type 0) (r : Reading) (i : ℕ) (from : Progress) (m' : Meter) : Type 0 where
+pub record TestsEnd (P : Reading → Progress → Meter → Type 0) (r : Reading) (i : ℕ)
+    (from : Progress) (m' : Meter) : Type 0 where
   pub first : Trees
   pub fewer : count first < i
   pub mid : Progress
@@ -179,15 +225,16 @@ pub record TestsEnd (P : Reading → Progress → Meter → Type 0) (r : Reading
   pub ends : TestEnds P (behind r (count first)) mid m'
 
 -- The test of i elements ends at a pointer of one of them, the elements before it being canonical.
-pub record RowTestsEnd (P : Reading → Progress → Meter → Type 0) (r : Reading) (size : StructSize) (i : ℕ) (from : Progress) (m' : Meter) : Type 0 where
+pub record RowTestsEnd (P : Reading → Progress → Meter → Type 0) (r : Reading) (size : StructSize)
+    (i : ℕ) (from : Progress) (m' : Meter) : Type 0 where
   pub first : Elements
   pub fewer : element_count first < i
   pub mid : Progress
   pub are_found : FindsElements r size from mid first
   pub ends : TestsEnd P (pointers_of r size (element_count first)) size.pointers mid m'
 
--- The test of a place stops by the name k: an object can't be read. So does that of one of i pointers from a place on, and
--- that of a pointer of one of i elements.
+-- The test of a place stops by the name k: an object can't be read. So does that of one of i
+-- pointers from a place on, and that of a pointer of one of i elements.
 abbrev pub TestStops : ErrorKind → Reading → Progress → Meter → Type 0
 TestStops k r from m' = TestEnds (λ s at m. Unread s at.meter m k) r from m'
 
@@ -197,9 +244,12 @@ TestsStop r i from m' k = TestsEnd (λ s at m. Unread s at.meter m k) r i from m
 abbrev pub RowTestsStop : Reading → StructSize → ℕ → Progress → Meter → ErrorKind → Type 0
 RowTestsStop r size i from m' k = RowTestsEnd (λ s at m. Unread s at.meter m k) r size i from m'
 
--- The test of the pointers of a struct of this size, the first object right behind the struct, stops by the name k.
+-- The test of the pointers of a struct of this size, the first object right behind the struct,
+-- stops by the name k.
 abbrev pub StructTestStops : Reading → StructSize → Meter → Meter → ErrorKind → Type 0
-StructTestStops r size m m' k = TestsStop (behind r size.data_words) size.pointers (progress (r.at + size.data_words + size.pointers) m) m' k
+StructTestStops r size m m' k =
+    TestsStop (behind r size.data_words) size.pointers
+    (progress (r.at + size.data_words + size.pointers) m) m' k
 
 -- A struct without words, which stands at its pointer in canonical form.
 abbrev pub IsEmptyStruct : Target → Type 0
@@ -214,27 +264,35 @@ abbrev pub HasWideSection : CanonicalFault → Reading → StructSize → Type 0
 HasWideSection f r size =
     let first = r.at + size.data_words in
     (FaultIs f DataSection r.segment (first - 1) × EndsUnused r.segments r.segment r.at size.data_words)
-    ⊎ (FaultIs f PointerSection r.segment (first + size.pointers - 1) × EndsUnused r.segments r.segment first size.pointers)
+    ⊎ (FaultIs f PointerSection r.segment (first + size.pointers - 1) ×
+    EndsUnused r.segments r.segment first size.pointers)
 
--- The pointers of n elements of a size are canonical, and none of the elements uses its last word of data, or its last pointer; the
--- fault names the tag before the first element, at the place.
+-- The pointers of n elements of a size are canonical, and none of the elements uses its last word
+-- of data, or its last pointer; the fault names the tag before the first element, at the place.
 abbrev pub AreFoundTooWide : CanonicalFault → Reading → StructSize → ℕ → Progress → Progress → Type 0
 AreFoundTooWide f r size n from to =
     (es : Elements) × (element_count es ≡ n) × FindsElements r size from to es
     × ((FaultIs f ElementData r.segment (r.at - 1) × (data_width es ≢ size.data_words))
     ⊎ (FaultIs f ElementPointers r.segment (r.at - 1) × (pointer_width es ≢ size.pointers)))
 
--- A place isn't canonical by itself, for the reason and with the word that the fault f names, and the limiter is left as m'. No near
--- pointer is there, and nothing is counted or charged; or its object is read and charged, and starts elsewhere than in canonical
--- form, or has other bits than zeros behind its numbers, or claims other words than its elements take; or all its pointers are
+-- A place isn't canonical by itself, for the reason and with the word that the fault f names, and
+-- the limiter is left as m'. No near pointer is there, and nothing is counted or charged; or its
+-- object is read and charged, and starts elsewhere than in canonical form, or has other bits than
+-- zeros behind its numbers, or claims other words than its elements take; or all its pointers are
 -- canonical and charged as well, and smaller sections or elements would do.
 pub data IsFault (f : CanonicalFault) (r : Reading) (from : Progress) (m' : Meter) : Type 0 where
-  no_pointer : FaultIs f NoPointer r.segment r.at → (IsPlace r.segments r.segment r.at → ⊥) → m' ≡ from.meter → IsFault f r from m'
-  other_pointer : FaultIs f (other_reason (word_of r)) r.segment r.at → IsPlace r.segments r.segment r.at → 2 ≤ kind (word_of r) → m' ≡ from.meter → IsFault f r from m'
+  no_pointer : FaultIs f NoPointer r.segment r.at → (IsPlace r.segments r.segment r.at → ⊥) →
+      m' ≡ from.meter → IsFault f r from m'
+  other_pointer : FaultIs f (other_reason (word_of r)) r.segment r.at →
+      IsPlace r.segments r.segment r.at → 2 ≤ kind (word_of r) → m' ≡ from.meter →
+      IsFault f r from m'
   empty_elsewhere :
-      (a : Target) → FaultIs f EmptyStructPlace r.segment r.at → kind (word_of r) < 2 → Entered Value r from.meter m' a → IsEmptyStruct a → a.start ≢ r.at → IsFault f r from m'
+      (a : Target) → FaultIs f EmptyStructPlace r.segment r.at → kind (word_of r) < 2 →
+      Entered Value r from.meter m' a → IsEmptyStruct a → a.start ≢ r.at → IsFault f r from m'
   elsewhere :
-      (a : Target) → FaultIs f ObjectPlace r.segment r.at → kind (word_of r) < 2 → Entered Value r from.meter m' a → (IsEmptyStruct a → ⊥) → a.start ≢ from.head → IsFault f r from m'
+      (a : Target) → FaultIs f ObjectPlace r.segment r.at → kind (word_of r) < 2 →
+      Entered Value r from.meter m' a → (IsEmptyStruct a → ⊥) → a.start ≢ from.head →
+      IsFault f r from m'
   not_padded :
       (a : Target) →
       FaultIs f Padding a.segment (a.start + words_for (element_size a.word) (list_count a.word) - 1) →
@@ -260,8 +318,10 @@ pub data IsFault (f : CanonicalFault) (r : Reading) (from : Progress) (m' : Mete
       Entered Value r from.meter first a →
       a.start ≡ from.head →
       kind a.word ≡ 0 →
-      AreFound (child_at r a (pred r.levels) (a.start + data_words a.word)) (pointer_count a.word) (behind_object a first) (progress e m') →
-      HasWideSection f (child_at r a (pred r.levels) a.start) (sized (data_words a.word) (pointer_count a.word)) →
+      AreFound (child_at r a (pred r.levels) (a.start + data_words a.word)) (pointer_count a.word)
+      (behind_object a first) (progress e m') →
+      HasWideSection f (child_at r a (pred r.levels) a.start)
+      (sized (data_words a.word) (pointer_count a.word)) →
       IsFault f r from m'
   wide_elements :
       {first : Meter} (a : Target) (e : ℕ) →
@@ -270,14 +330,16 @@ pub data IsFault (f : CanonicalFault) (r : Reading) (from : Progress) (m' : Mete
       a.start ≡ from.head →
       IsStructList a.word →
       element_words (tag r.segments a) ≡ list_count a.word →
-      AreFoundTooWide f (child_at r a (pred r.levels) (a.start + 1)) (tag_size r.segments a) (offset_bits (tag r.segments a)) (behind_object a first) (progress e m') →
+      AreFoundTooWide f (child_at r a (pred r.levels) (a.start + 1)) (tag_size r.segments a)
+      (offset_bits (tag r.segments a)) (behind_object a first) (progress e m') →
       IsFault f r from m'
 
 -- A place isn't canonical by itself, for some reason.
 abbrev pub IsUnfit : Reading → Progress → Meter → Type 0
 IsUnfit r from m' = (f : CanonicalFault) × IsFault f r from m'
 
--- The test of a struct of this size that starts at a place fails: that of its pointers does, or smaller sections would do.
+-- The test of a struct of this size that starts at a place fails: that of its pointers does, or
+-- smaller sections would do.
 abbrev pub SectionsFail : CanonicalFault → Reading → StructSize → Meter → Meter → Type 0
 SectionsFail f r size m m' =
     let pointers = behind r size.data_words in
@@ -285,16 +347,19 @@ SectionsFail f r size m m' =
     TestsEnd (IsFault f) pointers size.pointers from m'
     ⊎ ((e : ℕ) × AreFound pointers size.pointers from (progress e m') × HasWideSection f r size)
 
--- The test of n elements, the first object behind them, fails: that of their pointers does, or a smaller size would do.
+-- The test of n elements, the first object behind them, fails: that of their pointers does, or a
+-- smaller size would do.
 abbrev pub RowsFail : CanonicalFault → Reading → StructSize → ℕ → Meter → Meter → Type 0
 RowsFail f r size n m m' =
     let from = progress (r.at + n * (size.data_words + size.pointers)) m in
     RowTestsEnd (IsFault f) r size n from m' ⊎ ((e : ℕ) × AreFoundTooWide f r size n from (progress e m'))
 
--- The test of a list that claims so many words fails: its elements take others, and nothing more is charged; or their test fails.
+-- The test of a list that claims so many words fails: its elements take others, and nothing more is
+-- charged; or their test fails.
 abbrev pub ClaimedFails : CanonicalFault → Reading → StructSize → ℕ → ℕ → Meter → Meter → Type 0
 ClaimedFails f r size n claimed m m' =
-    (FaultIs f ElementWords r.segment (r.at - 1) × (n * (size.data_words + size.pointers) ≢ claimed) × (m' ≡ m))
+    (FaultIs f ElementWords r.segment (r.at - 1) ×
+    (n * (size.data_words + size.pointers) ≢ claimed) × (m' ≡ m))
     ⊎ ((n * (size.data_words + size.pointers) ≡ claimed) × RowsFail f r size n m m')
 
 module _ {A : Type 0} (g : Ghosts A) where
@@ -306,18 +371,20 @@ module _ {A : Type 0} (g : Ghosts A) where
   abbrev pub IsCanonicalStruct : StructReader A g → ℕ → ℕ → Type 0
   IsCanonicalStruct r h bodies = StartsWhole r h × AreCanonicalAt (pointers_read g r) r.pointer_count bodies
 
-  -- The test of a struct at a head fails: the struct doesn't start there, and nothing is counted or charged; or that of one of
-  -- its pointers fails.
+  -- The test of a struct at a head fails: the struct doesn't start there, and nothing is counted or
+  -- charged; or that of one of its pointers fails.
   abbrev pub StructTestFails : StructReader A g → ℕ → Progress → Meter → Type 0
   StructTestFails r h from m' =
-      ((StartsWhole r h → ⊥) × (m' ≡ from.meter)) ⊎ (StartsWhole r h × TestsEnd IsUnfit (pointers_read g r) r.pointer_count from m')
+      ((StartsWhole r h → ⊥) × (m' ≡ from.meter)) ⊎
+      (StartsWhole r h × TestsEnd IsUnfit (pointers_read g r) r.pointer_count from m')
 
   -- The data section is empty or ends in a word that is not zero; so does the pointer section.
   abbrev pub IsDataUsed : StructReader A g → Type 0
   IsDataUsed r = EndsUsed (source_start g r.source).segments r.pointers.segment (r.byte / 8) (r.bits / 64)
 
   abbrev pub ArePointersUsed : StructReader A g → Type 0
-  ArePointersUsed r = EndsUsed (source_start g r.source).segments r.pointers.segment r.pointers.at r.pointer_count
+  ArePointersUsed r =
+      EndsUsed (source_start g r.source).segments r.pointers.segment r.pointers.at r.pointer_count
 
   -- The head behind a struct's own words; the greatest head stays what it is.
   abbrev pub head_behind : StructReader A g → ℕ → ℕ

@@ -1,10 +1,23 @@
 -- What a fault of a message in canonical form says, and its text ("Canonicalization").
-use Rattle.std.specs.Prelude.{◌≡◌, ℕ, List, codes, ◌++◌, cond, nat_eq}
+use Rattle.std.specs.Prelude.{◌≡◌, ℕ, List, codes, ◌++◌, if◌then◌else◌, nat_eq}
 use Rattle.std.specs.Fmt.{decimal}
 use Rattle.capnp_format.specs.Word.{kind, lower_half}
 use Rattle.capnp_readers.specs.declared.readers.canonical_fault.CanonicalFault.{CanonicalFault}
 use Rattle.capnp_readers.specs.declared.readers.canonical_fault.CanonicalFaultReason.{CanonicalFaultReason}
-use Rattle.capnp_readers.specs.declared.readers.canonical_fault.CanonicalFaultReason.TheVariants.{SegmentCount, NoPointer, FarPointer, Capability, UnknownPointer, EmptyStructPlace, ObjectPlace, Padding, DataSection, PointerSection, ElementWords, ElementData, ElementPointers, WordsBehind}
+use Rattle.capnp_readers.specs.declared.readers.canonical_fault.CanonicalFaultReason.TheVariants.{SegmentCount}
+use Rattle.capnp_readers.specs.declared.readers.canonical_fault.CanonicalFaultReason.TheVariants.{NoPointer}
+use Rattle.capnp_readers.specs.declared.readers.canonical_fault.CanonicalFaultReason.TheVariants.{FarPointer}
+use Rattle.capnp_readers.specs.declared.readers.canonical_fault.CanonicalFaultReason.TheVariants.{Capability}
+use Rattle.capnp_readers.specs.declared.readers.canonical_fault.CanonicalFaultReason.TheVariants.{UnknownPointer}
+use Rattle.capnp_readers.specs.declared.readers.canonical_fault.CanonicalFaultReason.TheVariants.{EmptyStructPlace}
+use Rattle.capnp_readers.specs.declared.readers.canonical_fault.CanonicalFaultReason.TheVariants.{ObjectPlace}
+use Rattle.capnp_readers.specs.declared.readers.canonical_fault.CanonicalFaultReason.TheVariants.{Padding}
+use Rattle.capnp_readers.specs.declared.readers.canonical_fault.CanonicalFaultReason.TheVariants.{DataSection}
+use Rattle.capnp_readers.specs.declared.readers.canonical_fault.CanonicalFaultReason.TheVariants.{PointerSection}
+use Rattle.capnp_readers.specs.declared.readers.canonical_fault.CanonicalFaultReason.TheVariants.{ElementWords}
+use Rattle.capnp_readers.specs.declared.readers.canonical_fault.CanonicalFaultReason.TheVariants.{ElementData}
+use Rattle.capnp_readers.specs.declared.readers.canonical_fault.CanonicalFaultReason.TheVariants.{ElementPointers}
+use Rattle.capnp_readers.specs.declared.readers.canonical_fault.CanonicalFaultReason.TheVariants.{WordsBehind}
 
 -- the text of a reason
 abbrev pub fault_reason_text : CanonicalFaultReason → List ℕ
@@ -25,7 +38,9 @@ fault_reason_text WordsBehind = codes "words behind the value"
 
 -- the text of a fault
 abbrev pub fault_text : CanonicalFault → List ℕ
-fault_text f = fault_reason_text f.reason ++ codes " at segment " ++ decimal f.segment ++ codes ", word " ++ decimal f.word
+fault_text f =
+    fault_reason_text f.reason ++ codes " at segment " ++ decimal f.segment ++ codes ", word "
+    ++ decimal f.word
 
 -- A fault names a word of a segment, for this reason.
 abbrev pub FaultIs : CanonicalFault → CanonicalFaultReason → ℕ → ℕ → Type 0
@@ -33,4 +48,5 @@ FaultIs f reason s p = (f.reason ≡ reason) × (f.segment ≡ s) × (f.word ≡
 
 -- Why a pointer that is neither of a struct nor of a list isn't canonical, by its word.
 abbrev pub other_reason : ℕ → CanonicalFaultReason
-other_reason w = cond (nat_eq (kind w) 2) FarPointer (cond (nat_eq (lower_half w) 3) Capability UnknownPointer)
+other_reason w = if nat_eq (kind w) 2 then FarPointer else if nat_eq (lower_half w) 3 then
+    Capability else UnknownPointer

@@ -5,7 +5,8 @@ use Rattle.capnp_words.specs.Meter.{Meter, Affords}
 use Rattle.capnp_format.specs.Segments.{Segments, Target, segment, words_at}
 use Rattle.capnp_format.specs.Numbers.{element_bits}
 use Rattle.capnp_words.specs.Sizes.{size_number}
-use Rattle.capnp_format.specs.Word.{kind, offset_bits, data_words, pointer_count, element_size, list_count, upper_half}
+use Rattle.capnp_format.specs.Word.{kind, offset_bits, data_words, pointer_count, element_size}
+use Rattle.capnp_format.specs.Word.{list_count, upper_half}
 use Rattle.capnp_words.specs.declared.wire_pointer.ElementSize.{ElementSize}
 use Rattle.capnp_words.specs.declared.wire_pointer.ElementSize.TheVariants.{Pointer, InlineComposite}
 use Rattle.capnp_arena.specs.declared.arena.reader_arena.ReaderArena.{Ghosts}
@@ -27,13 +28,17 @@ use Rattle.capnp_objects.specs.Wanted.{FollowsTo}
 -- Both sections of a struct lie in its segment.
 abbrev pub IsStructPlace : Segments → StructPlace → Type 0
 IsStructPlace S place =
-    (place.segment < length S) × (place.byte + bytes_for place.bits ≤ 8 * length (segment S place.segment)) × (place.pointers_at + place.pointers ≤ length (segment S place.segment))
+    (place.segment < length S) × (place.byte + bytes_for place.bits
+    ≤ 8 * length (segment S place.segment)) × (place.pointers_at + place.pointers
+    ≤ length (segment S place.segment))
 
 -- The elements of a list lie in its segment, from a word on.
 abbrev pub IsListPlace : Segments → ListPlace → Type 0
 IsListPlace S place =
     (place.segment < length S) × (place.byte % 8 ≡ 0)
-    × (place.byte + 8 * elements_words place.size place.count (place.struct_size.data_words + place.struct_size.pointers) ≤ 8 * length (segment S place.segment))
+    × (place.byte + 8 * elements_words place.size place.count
+    (place.struct_size.data_words + place.struct_size.pointers)
+    ≤ 8 * length (segment S place.segment))
 
 module _ {A : Type 0} (g : Ghosts A) where
   -- A reader shows the struct of d data words and q pointers that starts at position p of segment s.
@@ -45,8 +50,8 @@ module _ {A : Type 0} (g : Ghosts A) where
     pub pointers_start : r.pointers.at ≡ p + d
     pub pointers_are : r.pointer_count ≡ q
 
-  -- A reader shows the list of n elements that starts at position p of segment s, with d data words and q pointers each where
-  -- they are structs, and else with 0 of both.
+  -- A reader shows the list of n elements that starts at position p of segment s, with d data words
+  -- and q pointers each where they are structs, and else with 0 of both.
   pub record ShowsList (S : Segments) (r : ListReader A g) (s p n d q : ℕ) : Type 0 where
     pub words_are : words_of r.content.now ≡ words_at S s p (elements_words r.element_size n (d + q))
     pub segment_is : r.start.segment ≡ s
@@ -55,23 +60,27 @@ module _ {A : Type 0} (g : Ghosts A) where
     pub data_of : r.struct_size.data_words ≡ d
     pub pointers_of : r.struct_size.pointers ≡ q
 
-  -- A struct reader shows element number i of a list, whose elements have this size: a struct's two sections, one pointer, or the
-  -- bits of a number.
+  -- A struct reader shows element number i of a list, whose elements have this size: a struct's two
+  -- sections, one pointer, or the bits of a number.
   abbrev pub ShowsElement : ElementSize → ListReader A g → ℕ → StructReader A g → Type 0
   ShowsElement InlineComposite list i r =
       let d = list.struct_size.data_words in
       let q = list.struct_size.pointers in
       ShowsStruct (source_start g list.source).segments r list.start.segment (list.start.at + i * (d + q)) d q
-  ShowsElement Pointer list i r = ShowsStruct (source_start g list.source).segments r list.start.segment (list.start.at + i) 0 1
+  ShowsElement Pointer list i r =
+      ShowsStruct (source_start g list.source).segments r list.start.segment (list.start.at + i) 0 1
   ShowsElement size list i r =
       (r.bits ≡ element_bits (size_number size)) × (r.byte ≡ 8 * list.start.at + i * (r.bits / 8))
-      × (r.content.now ≡ slice_range list.content.now (i * (r.bits / 8)) (i * (r.bits / 8) + r.bits / 8)) × (r.pointer_count ≡ 0)
+      × (r.content.now ≡ slice_range list.content.now (i * (r.bits / 8))
+      (i * (r.bits / 8) + r.bits / 8)) × (r.pointer_count ≡ 0)
 
   -- The list of a target, by its size: one of structs starts behind its tag.
   abbrev pub IsTargetList : ElementSize → Segments → ListReader A g → Target → Type 0
   IsTargetList InlineComposite S r a =
-      (element_size a.word ≡ 7) × ShowsList S r a.segment (a.start + 1) (offset_bits (tag S a)) (data_words (tag S a)) (pointer_count (tag S a))
-  IsTargetList size S r a = (element_size a.word ≡ size_number size) × ShowsList S r a.segment a.start (list_count a.word) 0 0
+      (element_size a.word ≡ 7) × ShowsList S r a.segment (a.start + 1) (offset_bits (tag S a))
+      (data_words (tag S a)) (pointer_count (tag S a))
+  IsTargetList size S r a = (element_size a.word ≡ size_number size) ×
+      ShowsList S r a.segment a.start (list_count a.word) 0 0
 
   -- The bit of a list's words at which element number i starts.
   abbrev pub element_start : ListReader A g → ℕ → ℕ
@@ -81,8 +90,8 @@ module _ {A : Type 0} (g : Ghosts A) where
   abbrev pub reading : PointerReader A g → Reading
   reading r = reading_at g r.source r.place r.nesting_limit
 
-  -- The pointer of a reader leads to the struct that another shows, whose words are checked and charged, from m to m'. That one
-  -- reads the same source, with one level less.
+  -- The pointer of a reader leads to the struct that another shows, whose words are checked and
+  -- charged, from m to m'. That one reads the same source, with one level less.
   abbrev pub IsStructThere : PointerReader A g → Meter → Meter → StructReader A g → Type 0
   IsStructThere from m m' r =
       (a : Target) × Entered Value (reading from) m m' a × (kind a.word ≡ 0)
@@ -92,7 +101,8 @@ module _ {A : Type 0} (g : Ghosts A) where
   -- So it leads to a list.
   abbrev pub IsListThere : PointerReader A g → Meter → Meter → ListReader A g → Type 0
   IsListThere from m m' r =
-      (a : Target) × Entered Value (reading from) m m' a × (kind a.word ≡ 1) × IsTargetList r.element_size (reading from).segments r a
+      (a : Target) × Entered Value (reading from) m m' a × (kind a.word ≡ 1) ×
+      IsTargetList r.element_size (reading from).segments r a
       × (r.source ≡ from.source) × (r.nesting_limit ≡ from.nesting_limit -ℤ pos 1)
 
   -- What the pointer of a reader leads to: its words are checked and charged, from m to m'.

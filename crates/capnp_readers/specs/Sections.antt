@@ -1,5 +1,6 @@
 -- Parts of a segment that a reader holds as slices.
-use Rattle.std.specs.Prelude.{◌≡◌, ℕ, List, take, drop, length, ◌+◌, ◌*◌, ◌/◌, ◌%◌, ◌^◌, slice_index, slice_range, min, ◌<◌, ◌≤◌}
+use Rattle.std.specs.Prelude.{◌≡◌, ℕ, List, take, drop, length, ◌+◌, ◌*◌, ◌/◌, ◌%◌, ◌^◌}
+use Rattle.std.specs.Prelude.{slice_index, slice_range, min, ◌<◌, ◌≤◌, ⊤}
 use Rattle.capnp_format.specs.Segments.{Segments, segment}
 use Rattle.capnp_format.specs.Numbers.{from_digits, words_for, element_bits}
 use Rattle.capnp_words.specs.Sizes.{size_number}
@@ -14,7 +15,8 @@ bytes_for bits = (bits + 7) / 8
 
 -- These bytes stand in the segment of a place, from a byte position on, and hold so many bits.
 abbrev pub IsPart : Place → ℕ → ℕ → List ℕ → Type 0
-IsPart here byte bits bytes = (bytes ≡ take (bytes_for bits) (drop byte here.bytes.now)) × (length bytes ≡ bytes_for bits)
+IsPart here byte bits bytes =
+    (bytes ≡ take (bytes_for bits) (drop byte here.bytes.now)) × (length bytes ≡ bytes_for bits)
 
 -- A field of so many bits, the offset counting such fields, lies wholly in a section of so many bits.
 abbrev pub IsInside : ℕ → ℕ → ℕ → Type 0
@@ -28,7 +30,8 @@ bit_at bytes i = slice_index bytes (i / 8) / 2 ^ (i % 8) % 2
 abbrev pub HasWordsFrom : Segments → Place → ℕ → Type 0
 HasWordsFrom S here n = here.at + n ≤ length (segment S here.segment)
 
--- How many words the elements of a list take: n elements, of a width in words where they are structs ("Lists").
+-- How many words the elements of a list take: n elements, of a width in words where they are
+-- structs ("Lists").
 abbrev pub elements_words : ElementSize → ℕ → ℕ → ℕ
 elements_words InlineComposite n width = n * width
 elements_words Pointer n width = n
@@ -40,13 +43,15 @@ IsSized size sections = size_number size < 7 → (sections.data_words ≡ 0) × 
 
 -- An element holds a pointer: it is one, or a struct with pointers.
 abbrev pub HoldsPointer : ElementSize → StructSize → Type 0
-HoldsPointer Pointer sections = Unit {0}
+HoldsPointer Pointer sections = ⊤
 HoldsPointer InlineComposite sections = 0 < sections.pointers
 HoldsPointer size sections = ⊥
 
--- How many words behind the elements' start the pointers of element number i start: in a struct they stand behind its data.
+-- How many words behind the elements' start the pointers of element number i start: in a struct
+-- they stand behind its data.
 abbrev pub pointers_behind : ElementSize → StructSize → ℕ → ℕ
-pointers_behind InlineComposite sections i = i * (sections.data_words + sections.pointers) + sections.data_words
+pointers_behind InlineComposite sections i =
+    i * (sections.data_words + sections.pointers) + sections.data_words
 pointers_behind size sections i = i
 
 -- How many bits there are from the start of an element to the start of the next.
@@ -67,8 +72,8 @@ low_data size sections bytes i =
     let start = i * step_bits size sections / 8 in
     from_digits 256 (slice_range bytes start (start + min 64 (data_bits size sections) / 8))
 
--- Elements are as wide as those of an expected size, or wider: they have at least its bits of data, and a pointer where it is
--- one; and they are bits only where bits are expected.
+-- Elements are as wide as those of an expected size, or wider: they have at least its bits of data,
+-- and a pointer where it is one; and they are bits only where bits are expected.
 pub record IsWide (expected found : ElementSize) (sections : StructSize) : Type 0 where
   pub bits : element_bits (size_number expected) ≤ data_bits found sections
   pub pointers : size_number expected ≡ 6 → HoldsPointer found sections

@@ -1,11 +1,12 @@
 -- What sizes are taken of: of the places that a reader's segment has, and of a struct.
-use Rattle.std.specs.Prelude.{◌≡◌, ℕ, ℤ, ◌+◌, ◌*◌, ◌/◌}
+use Rattle.std.specs.Prelude.{◌≡◌, ℕ, ℤ, ◌+◌, ◌*◌, ◌/◌, ⊤}
 use Rattle.capnp_arena.specs.declared.arena.reader_arena.ReaderArena.{Ghosts}
 use Rattle.capnp_words.specs.Meter.{Meter}
 use Rattle.capnp_format.specs.Numbers.{words_for}
 use Rattle.capnp_words.specs.Sizes.{size_number}
 use Rattle.capnp_objects.specs.declared.object.Object.{Object}
-use Rattle.capnp_objects.specs.declared.object.Object.TheVariants.{Null, Capability, Struct, Flat, Pointers, Structs}
+use Rattle.capnp_objects.specs.declared.object.Object.TheVariants.{Null, Capability, Struct, Flat}
+use Rattle.capnp_objects.specs.declared.object.Object.TheVariants.{Pointers, Structs}
 use Rattle.capnp_objects.specs.Reading.{Reading, reading_at}
 use Rattle.capnp_objects.specs.Sizing.{Tally, tally}
 use Rattle.capnp_readers.specs.declared.readers.sizes.MessageSize.{MessageSize}
@@ -28,16 +29,21 @@ object_words (Structs start size count) = 1 + count * (size.data_words + size.po
 
 -- The pointers of an object are those of these elements; or it has none.
 abbrev pub HasRows : Object → Rows → Type 0
-HasRows (Struct start size) rows = (rows.start ≡ start) × (rows.data_words ≡ size.data_words) × (rows.pointers ≡ size.pointers) × (rows.count ≡ 1)
-HasRows (Pointers start count) rows = (rows.start ≡ start) × (rows.data_words ≡ 0) × (rows.pointers ≡ count) × (rows.count ≡ 1)
-HasRows (Structs start size count) rows = (rows.start ≡ start) × (rows.data_words ≡ size.data_words) × (rows.pointers ≡ size.pointers) × (rows.count ≡ count)
+HasRows (Struct start size) rows =
+    (rows.start ≡ start) × (rows.data_words ≡ size.data_words) × (rows.pointers ≡ size.pointers) ×
+    (rows.count ≡ 1)
+HasRows (Pointers start count) rows =
+    (rows.start ≡ start) × (rows.data_words ≡ 0) × (rows.pointers ≡ count) × (rows.count ≡ 1)
+HasRows (Structs start size count) rows =
+    (rows.start ≡ start) × (rows.data_words ≡ size.data_words) × (rows.pointers ≡ size.pointers) ×
+    (rows.count ≡ count)
 HasRows object rows = ⊥
 
 abbrev pub HasNoRows : Object → Type 0
 HasNoRows (Struct start size) = ⊥
 HasNoRows (Pointers start count) = ⊥
 HasNoRows (Structs start size count) = ⊥
-HasNoRows object = Unit {0}
+HasNoRows object = ⊤
 
 module _ {A : Type 0} (g : Ghosts A) where
   -- The words of a struct's own: its data section, rounded up, and its pointers.

@@ -1,25 +1,29 @@
 -- Canonical words that stand one behind the other, as a test with a moving head finds them.
-use Rattle.std.specs.Prelude.{◌≡◌, ◌≢◌, ℕ, ◌+◌, ◌-◌, ◌⊎◌, length}
+use Rattle.std.specs.Prelude.{◌≡◌, ◌≢◌, ℕ, ◌+◌, ◌-◌, ◌⊎◌, length, ⊤}
 use Rattle.capnp_format.specs.Segments.{Segments, word_at, HasWords}
-use Rattle.capnp_format.specs.Tree.{Trees, no_trees, tree, Elements, no_elements, element, count, element_count}
+use Rattle.capnp_format.specs.Tree.{Trees, no_trees, tree, Elements, no_elements, element, count}
+use Rattle.capnp_format.specs.Tree.{element_count}
 pub use Rattle.capnp_format.specs.Padding.{IsPadded}
 use Rattle.capnp_format.specs.Canonical.{word_count, word_count_all, data_width, pointer_width, Stands}
 
 -- The pointers of children stand from position p on, and their bodies in order from the head h on.
 abbrev pub AllStand : Segments → ℕ → ℕ → ℕ → Trees → Type 0
-AllStand S s p h no_trees = Unit {0}
+AllStand S s p h no_trees = ⊤
 AllStand S s p h (tree t ts) = Stands S s p h t × AllStand S s (p + 1) (h + word_count t) ts
 
--- Elements of d data words and q pointers stand from position p on, and the bodies of all their children in order from the
--- head h on.
+-- Elements of d data words and q pointers stand from position p on, and the bodies of all their
+-- children in order from the head h on.
 abbrev pub ElementsStand : Segments → ℕ → ℕ → ℕ → ℕ → ℕ → Elements → Type 0
-ElementsStand S s p d q h no_elements = Unit {0}
+ElementsStand S s p d q h no_elements = ⊤
 ElementsStand S s p d q h (element ws ts es) =
-    (length ws ≡ d) × (count ts ≡ q) × HasWords S s p ws × AllStand S s (p + d) h ts × ElementsStand S s (p + d + q) d q (h + word_count_all ts) es
+    (length ws ≡ d) × (count ts ≡ q) × HasWords S s p ws × AllStand S s (p + d) h ts ×
+    ElementsStand S s (p + d + q) d q (h + word_count_all ts) es
 
 -- Some n elements stand from a place and a head on, and no smaller sections would hold them.
 abbrev pub ElementsAccept : Segments → ℕ → ℕ → ℕ → ℕ → ℕ → ℕ → Type 0
-ElementsAccept S s p d q h n = (es : Elements) × (element_count es ≡ n) × (data_width es ≡ d) × (pointer_width es ≡ q) × ElementsStand S s p d q h es
+ElementsAccept S s p d q h n =
+    (es : Elements) × (element_count es ≡ n) × (data_width es ≡ d) × (pointer_width es ≡ q) ×
+    ElementsStand S s p d q h es
 
 -- Of n words from position p on the last is not zero, or there are none.
 abbrev pub EndsUsed : Segments → ℕ → ℕ → ℕ → Type 0

@@ -1,5 +1,5 @@
 -- The words behind the program's name: a command, and options in any order.
-use Rattle.std.specs.Prelude.{◌≡◌, ◌⊎◌, ℕ, ℤ, pos, List, [], ◌∷◌, codes, Option, Some, true, false}
+use Rattle.std.specs.Prelude.{◌≡◌, ◌⊎◌, ℕ, ℤ, pos, List, [], ◌∷◌, codes, Option, Some, true, false, ⊤}
 use Rattle.capnp_arena.specs.declared.arena.reader_arena_impl.ReaderOptions.{ReaderOptions}
 use Rattle.capnp_layout.specs.Arguments.{IsBudget, IsNesting}
 use Rattle.capnp_streams.specs.declared.streams.task.Command.{Command}
@@ -16,7 +16,7 @@ NamesCommand name Check = name ≡ codes "check"
 NamesCommand name Size = name ≡ codes "size"
 
 abbrev pub IsCanon : Command → Type 0
-IsCanon (Canon form) = Unit {0}
+IsCanon (Canon form) = ⊤
 IsCanon _ = ⊥
 
 -- An option without a value makes one task of another.
@@ -36,7 +36,8 @@ limited_task limit task = record task { limits = record task.limits { traversal_
 abbrev pub IsSetting : List ℕ → List ℕ → Task → Task → Type 0
 IsSetting name value from to =
     ((name ≡ codes "--nesting") × ((n : ℤ) × IsNesting value n × (to ≡ nested_task n from)))
-    ⊎ ((name ≡ codes "--words") × ((limit : Option ℕ) × IsBudget value limit × (to ≡ limited_task limit from)))
+    ⊎ ((name ≡ codes "--words") × ((limit : Option ℕ) × IsBudget value limit ×
+    (to ≡ limited_task limit from)))
 
 -- Options make one task of another, each in turn.
 abbrev pub AreOptions : List (List ℕ) → Task → Task → Type 0

@@ -38,4 +38,5 @@ IsCutBehind task old output stop =
 -- message.
 abbrev pub WherePackedAnswerable : Task → Option (List ℕ) → Fault → Type 0
 WherePackedAnswerable task packed fault =
-    IsSomeAnd packed (λ bytes. IsWhole Tag bytes × CanBeAnswered task (unpacked_bytes Tag bytes)) → IsOfDevices fault
+    IsSomeAnd packed (λ bytes. IsWhole Tag bytes × CanBeAnswered task (unpacked_bytes Tag bytes)) →
+    IsOfDevices fault

@@ -1,5 +1,5 @@
 -- The messages that stand in a stream, one frame behind the other, and what a task answers to them.
-use Rattle.std.specs.Prelude.{◌≡◌, ◌⊎◌, ℕ, ◌+◌, ◌-◌, ◌^◌, ◌≤◌, List, [], ◌∷◌, ◌++◌, All, length, codes}
+use Rattle.std.specs.Prelude.{◌≡◌, ◌⊎◌, ℕ, ◌+◌, ◌-◌, ◌^◌, ◌≤◌, List, [], ◌∷◌, ◌++◌, All, length, codes, ⊤}
 use Rattle.std.specs.Prelude.{Bool, true, false, ◌&&◌, Option, Some, None, IfSome, IsSomeAnd}
 use Rattle.std.specs.Fmt.{decimal}
 use Rattle.std.specs.Io.KnownBytes.{Appends, Consumes, IsAtEnd}
@@ -87,7 +87,8 @@ AnswerIs (Canon form) limits S holds bytes =
     (holds ≡ true) × ((t : Tree) × IsValueOf S limits t × (bytes ≡ form_bytes form (encoding (trim t))))
 AnswerIs Check limits S holds bytes = ChecksAs S limits holds bytes
 AnswerIs Size limits S holds bytes =
-    (holds ≡ true) × ((words : ℕ) × (caps : ℕ) × HasSizeOf S limits words caps × (bytes ≡ size_line words caps))
+    (holds ≡ true) × ((words : ℕ) × (caps : ℕ) × HasSizeOf S limits words caps ×
+    (bytes ≡ size_line words caps))
 
 -- P holds of the bytes that it answers.
 abbrev pub AnswersWith : Command → ReaderOptions → Segments → Bool → (List ℕ → Type 0) → Type 0
@@ -168,7 +169,8 @@ pub record IsOneDone (task : Task) (old new : Stage) (holds : Bool) : Type 0 whe
 -- So those of all messages: behind them the input is at its end.
 abbrev pub AllAreDone : Task → Stage → Option (List ℕ) → Summary → Type 0
 AllAreDone task old output summary =
-    (left : Option (List ℕ)) × AreDone task old (record { input = left; output = output }) summary × IsAtEnd left
+    (left : Option (List ℕ)) × AreDone task old (record { input = left; output = output }) summary ×
+    IsAtEnd left
 
 -- Why the message at the front of what an input has left isn't answered, though some were: there is no frame
 -- of one, a task refuses the message, or memory or the input fails.
@@ -199,7 +201,7 @@ CanBeAnswered task bytes =
 abbrev pub IsOfDevices : Fault → Type 0
 IsOfDevices (Frame e) = (e ≡ NoMemory) ⊎ (e ≡ ReadFailed) ⊎ (e ≡ WriteFailed)
 IsOfDevices (Layout k) = k ≡ AllocationFailed
-IsOfDevices TooManyMessages = Unit {0}
+IsOfDevices TooManyMessages = ⊤
 
 -- Where all that an input has is frames of messages with an answer, a fault is none of these.
 abbrev pub WhereAnswerable : Task → Option (List ℕ) → Fault → Type 0

@@ -13,7 +13,8 @@ use Rattle.capnp_widening.specs.Widened.{Rewriting}
 
 -- From S to T the words of a room for n words are new, all zero: in segment id, or behind a landing pad.
 abbrev pub IsRoom : Segments → Segments → ℕ → ℕ → Room → Type 0
-IsRoom S T id n h = IsGrown S T h.segment h.at (h.pads + n) × (((h.pads ≡ 0) × (h.segment ≡ id)) ⊎ (h.pads ≡ 1))
+IsRoom S T id n h =
+    IsGrown S T h.segment h.at (h.pads + n) × (((h.pads ≡ 0) × (h.segment ≡ id)) ⊎ (h.pads ≡ 1))
 
 -- From S to R so many words are copied to others: only these are written.
 pub record AreWordsCopied (S R : Segments) (from to : Start) (n : ℕ) : Type 0 where
@@ -28,8 +29,10 @@ pub record IsSettled (S R : Segments) (u q : ℕ) (b : Target) (v at pads : ℕ)
   pub words : (x : ℕ) → length (segment R x) ≡ length (segment S x)
   pub leads_there : Leads R u q b
   pub pads_there : (x y : ℕ) → times (pads_of (word_at R u q)) x y ≡ times (row v at pads ∷ []) x y
-  pub kept : (x y : ℕ) → times (word_interval u q ∷ []) x y ≡ 0 → times (row v at pads ∷ []) x y ≡ 0 → word_at R x y ≡ word_at S x y
+  pub kept : (x y : ℕ) → times (word_interval u q ∷ []) x y ≡ 0 →
+      times (row v at pads ∷ []) x y ≡ 0 → word_at R x y ≡ word_at S x y
 
 -- The pointer at the place is overwritten, and leads to the object of this shape that stands in a room.
 abbrev pub Settles : Rewriting → Room → Shape → Type 0
-Settles c h shape = (b : Target) × IsSettled c.old c.new c.segment c.at b h.segment h.at h.pads × IsShape shape b.word × (b.segment ≡ h.segment) × (b.start ≡ h.at + h.pads)
+Settles c h shape = (b : Target) × IsSettled c.old c.new c.segment c.at b h.segment h.at h.pads ×
+    IsShape shape b.word × (b.segment ≡ h.segment) × (b.start ≡ h.at + h.pads)

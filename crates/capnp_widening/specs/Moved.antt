@@ -1,5 +1,6 @@
 -- Pointers written anew at other places, to what the old ones lead to ("Inter-Segment Pointers").
-use Rattle.std.specs.Prelude.{flat_map, ◌≡◌, ℕ, zero, suc, ◌+◌, ◌%◌, ◌^◌, ◌<◌, ◌≤◌, ◌⊎◌, cond, nat_eq, List, [], ◌∷◌, ◌++◌, length}
+use Rattle.std.specs.Prelude.{flat_map, ◌≡◌, ℕ, zero, suc, ◌+◌, ◌%◌, ◌^◌, ◌<◌, ◌≤◌, ◌⊎◌}
+use Rattle.std.specs.Prelude.{if◌then◌else◌, nat_eq, List, [], ◌∷◌, ◌++◌, length, ⊤}
 use Rattle.capnp_format.specs.Word.{kind, upper_half}
 use Rattle.capnp_format.specs.Segments.{Segments, Grows, segment, word_at, Target}
 use Rattle.capnp_format.specs.Tree.{Tree}
@@ -8,10 +9,12 @@ use Rattle.capnp_format.specs.Forest.{Interval, times, pads_of}
 use Rattle.capnp_making.specs.Path.{word_interval, extent}
 use Rattle.capnp_making.specs.Zeroed.{IsZeroed}
 
--- Where the objects of two targets start: at one place, or they have no words, being structs of none or capabilities.
+-- Where the objects of two targets start: at one place, or they have no words, being structs of
+-- none or capabilities.
 pub data SameStart (S : Segments) (a b : Target) : Type 0 where
   same_place : b.segment ≡ a.segment → b.start ≡ a.start → SameStart S a b
-  of_no_words : kind a.word ≡ 0 → upper_half a.word ≡ 0 → b.start ≤ length (segment S b.segment) → SameStart S a b
+  of_no_words : kind a.word ≡ 0 → upper_half a.word ≡ 0 → b.start ≤ length (segment S b.segment) →
+      SameStart S a b
   of_capability : a.word % 2 ^ 32 ≡ 3 → SameStart S a b
 
 -- Two targets are one object.
@@ -23,7 +26,8 @@ pub record SameObject (S : Segments) (a b : Target) : Type 0 where
 
 -- The place (v, r) leads to what the place (s, p) leads to, or both are null.
 abbrev pub IsMoved : Segments → ℕ → ℕ → ℕ → ℕ → Type 0
-IsMoved S s p v r = ((word_at S s p ≡ 0) × (word_at S v r ≡ 0)) ⊎ ((a : Target) × (b : Target) × Leads S s p a × Leads S v r b × SameObject S a b)
+IsMoved S s p v r = ((word_at S s p ≡ 0) × (word_at S v r ≡ 0)) ⊎
+    ((a : Target) × (b : Target) × Leads S s p a × Leads S v r b × SameObject S a b)
 
 -- R has the words of B, and more behind them.
 pub record Extends (B R : Segments) : Type 0 where
@@ -59,40 +63,49 @@ abbrev pub new_places : List Move → List Interval
 new_places [] = []
 new_places (m ∷ ms) = word_interval m.to_segment m.to_at ∷ new_places ms
 
--- The landing pads that were written for the new pointers: a far pointer is copied as it is, and has none of its own.
+-- The landing pads that were written for the new pointers: a far pointer is copied as it is, and
+-- has none of its own.
 abbrev pub fresh_pads : Segments → List Move → List Interval
-fresh_pads R ms = flat_map (λ m. cond (nat_eq (kind (word_at R m.segment m.at)) 2) [] (pads_of (word_at R m.to_segment m.to_at))) ms
+fresh_pads R ms =
+    flat_map (λ m. if nat_eq (kind (word_at R m.segment m.at)) 2 then []
+    else pads_of (word_at R m.to_segment m.to_at)) ms
 
 -- Each old pointer means a value in B, whose words lie in B.
 abbrev pub HasValueInside : Segments → ℕ → ℕ → Type 0
-HasValueInside B s p = (t : Tree) × (n : ℕ) × (c : ℕ) × Means B n s p t c × ((x y : ℕ) → 0 < times (extent B s p t) x y → y < length (segment B x))
+HasValueInside B s p = (t : Tree) × (n : ℕ) × (c : ℕ) × Means B n s p t c ×
+    ((x y : ℕ) → 0 < times (extent B s p t) x y → y < length (segment B x))
 
 abbrev pub HaveValuesInside : Segments → List Move → Type 0
-HaveValuesInside B [] = Unit {0}
+HaveValuesInside B [] = ⊤
 HaveValuesInside B (m ∷ ms) = HasValueInside B m.segment m.at × HaveValuesInside B ms
 
 -- Each new pointer leads to what the old one leads to.
 abbrev pub AllMoved : Segments → List Move → Type 0
-AllMoved R [] = Unit {0}
+AllMoved R [] = ⊤
 AllMoved R (m ∷ ms) = IsMoved R m.segment m.at m.to_segment m.to_at × AllMoved R ms
 
--- S has the words of B, where the old pointers mean values, and behind them the new places, each once, all zero.
+-- S has the words of B, where the old pointers mean values, and behind them the new places, each
+-- once, all zero.
 pub record CanMove (B S : Segments) (ms : List Move) : Type 0 where
   pub extends : Extends B S
   pub stand : HaveValuesInside B ms
-  pub behind : (x y : ℕ) → 0 < times (new_places ms) x y → (length (segment B x) ≤ y) × (y < length (segment S x)) × (word_at S x y ≡ 0)
+  pub behind : (x y : ℕ) → 0 < times (new_places ms) x y → (length (segment B x) ≤ y) ×
+      (y < length (segment S x)) × (word_at S x y ≡ 0)
   pub once : (x y : ℕ) → times (new_places ms) x y ≤ 1
 
--- From S to R the new pointers are written, and their own landing pads into new words, each once; nothing else is written. The pads of the new pointers
--- are these and those of the old ones.
+-- From S to R the new pointers are written, and their own landing pads into new words, each once;
+-- nothing else is written. The pads of the new pointers are these and those of the old ones.
 pub record AreMoved (S R : Segments) (ms : List Move) : Type 0 where
   pub grows : Grows S R
   pub moved : AllMoved R ms
-  pub kept : (x y : ℕ) → times (new_places ms) x y ≡ 0 → y < length (segment S x) → word_at R x y ≡ word_at S x y
+  pub kept : (x y : ℕ) → times (new_places ms) x y ≡ 0 → y < length (segment S x) →
+      word_at R x y ≡ word_at S x y
   pub sums :
       (x y : ℕ) → times (flat_map (λ (m : Move). pads_of (word_at R m.to_segment m.to_at)) ms) x y
-      ≡ times (fresh_pads R ms) x y + times (flat_map (λ (m : Move). pads_of (word_at R m.segment m.at)) ms) x y
-  pub fresh : (x y : ℕ) → 0 < times (fresh_pads R ms) x y → (length (segment S x) ≤ y) × (y < length (segment R x))
+      ≡ times (fresh_pads R ms) x y + times
+      (flat_map (λ (m : Move). pads_of (word_at R m.segment m.at)) ms) x y
+  pub fresh : (x y : ℕ) → 0 < times (fresh_pads R ms) x y → (length (segment S x) ≤ y) ×
+      (y < length (segment R x))
   pub once : (x y : ℕ) → times (fresh_pads R ms) x y ≤ 1
   pub zero : (x y : ℕ) → times (fresh_pads R ms) x y ≡ 0 → length (segment S x) ≤ y → word_at R x y ≡ 0
 

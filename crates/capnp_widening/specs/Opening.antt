@@ -1,12 +1,17 @@
--- Structs and lists of structs that are opened for writing, at least as large as asked for ("Structs", "Lists").
-use Rattle.std.specs.Prelude.{◌≡◌, ◌⊎◌, ℕ, ◌+◌, ◌*◌, ◌^◌, ◌≤◌, max, cond, nat_lt, Option, Some, None, IfSome, Result, Ok, Err, length}
+-- Structs and lists of structs that are opened for writing, at least as large as asked for
+-- ("Structs", "Lists").
+use Rattle.std.specs.Prelude.{◌≡◌, ◌⊎◌, ℕ, ◌+◌, ◌*◌, ◌^◌, ◌≤◌, max, if◌then◌else◌, nat_lt, Option}
+use Rattle.std.specs.Prelude.{Some, None, IfSome, Result, Ok, Err, length}
 use Rattle.capnp_words.specs.declared.error.ErrorKind.{ErrorKind}
-use Rattle.capnp_words.specs.declared.error.ErrorKind.TheVariants.{FoundBitListWhereStructListWasExpected, MessageContainsNonStructPointerWhereStructPointerWasExpected, MessageTooLarge}
+use Rattle.capnp_words.specs.declared.error.ErrorKind.TheVariants.{FoundBitListWhereStructListWasExpected}
+use Rattle.capnp_words.specs.declared.error.ErrorKind.TheVariants.{MessageContainsNonStructPointerWhereStructPointerWasExpected}
+use Rattle.capnp_words.specs.declared.error.ErrorKind.TheVariants.{MessageTooLarge}
 use Rattle.capnp_format.specs.Forest.{target}
 use Rattle.capnp_format.specs.Segments.{Segments}
 use Rattle.capnp_format.specs.Tree.{Tree, Null, Struct, Structs, count}
 use Rattle.capnp_words.specs.declared.wire_pointer.ElementSize.{ElementSize}
-use Rattle.capnp_words.specs.declared.wire_pointer.ElementSize.TheVariants.{Void, Bit, Pointer, InlineComposite}
+use Rattle.capnp_words.specs.declared.wire_pointer.ElementSize.TheVariants.{Void, Bit, Pointer}
+use Rattle.capnp_words.specs.declared.wire_pointer.ElementSize.TheVariants.{InlineComposite}
 use Rattle.capnp_words.specs.declared.wire_pointer.StructSize.{StructSize}
 use Rattle.capnp_making.specs.declared.existing.ExistingList.{ExistingList}
 use Rattle.capnp_making.specs.declared.existing.ExistingStruct.{ExistingStruct}
@@ -24,20 +29,23 @@ use Rattle.capnp_widening.specs.Widened.{widened, list_widened}
 abbrev pub existing_struct : Start → StructSize → ExistingStruct
 existing_struct start size = record { segment = start.segment; start = start.at; size = size }
 
--- What a value becomes where a struct of at least a size is opened, or by what name that is refused. Null becomes a new one.
+-- What a value becomes where a struct of at least a size is opened, or by what name that is
+-- refused. Null becomes a new one.
 abbrev pub struct_opened : StructSize → Tree → Result Tree ErrorKind
 struct_opened size Null = Ok (zero_struct size)
 struct_opened size (Struct ws ts) = Ok (widened size ws ts)
 struct_opened size t = Err MessageContainsNonStructPointerWhereStructPointerWasExpected
 
--- A struct, or each struct of a list, has sections of at least a size. Null is a list of none, which needs none.
+-- A struct, or each struct of a list, has sections of at least a size. Null is a list of none,
+-- which needs none.
 abbrev pub HasSections : StructSize → Tree → Type 0
 HasSections size (Struct ws ts) = (size.data_words ≤ length ws) × (size.pointers ≤ count ts)
 HasSections size (Structs d q es) = (size.data_words ≤ d) × (size.pointers ≤ q)
 HasSections size t = ⊥
 
--- Where t was stored, u is so in its stead, and what is given leads to it. No more words are taken than u has, with a landing pad and two words for each
--- pointer of t. Where t is large enough, nothing is changed.
+-- Where t was stored, u is so in its stead, and what is given leads to it. No more words are taken
+-- than u has, with a landing pad and two words for each pointer of t. Where t is large enough,
+-- nothing is changed.
 pub record Opened (size : StructSize) (c : CallAt) (t u : Tree) (given : Type 0) : Type 0 where
   pub replaced : IsReplaced c.old.words c.new.words c.segment c.at t u
   pub leads : given
@@ -45,8 +53,9 @@ pub record Opened (size : StructSize) (c : CallAt) (t u : Tree) (given : Type 0)
   pub taken : GrowsByAtMost c.old.words c.new.words (widened_words u + 1 + 2 * direct_pointers t)
   pub unchanged : HasSections size t → c.new ≡ c.old
 
--- Memory is refused by the name k, for a value t that isn't large enough and was to become u: it stands as it was, and new words are zero, no more than
--- u would have taken. It is its words that are refused, or those of a landing pad for one of the pointers of t.
+-- Memory is refused by the name k, for a value t that isn't large enough and was to become u: it
+-- stands as it was, and new words are zero, no more than u would have taken. It is its words that
+-- are refused, or those of a landing pad for one of the pointers of t.
 pub record Unopened (size : StructSize) (c : CallAt) (t u : Tree) (k : ErrorKind) : Type 0 where
   pub stands : IsReplaced c.old.words c.new.words c.segment c.at t t
   pub narrow : HasSections size t → ⊥
@@ -54,13 +63,16 @@ pub record Unopened (size : StructSize) (c : CallAt) (t u : Tree) (k : ErrorKind
   pub taken : GrowsByAtMost c.old.words c.new.words (widened_words u + 1 + 2 * direct_pointers t)
   pub full : RefusesGrowth c.old c.new (widened_words u) (direct_pointers t) k
 
--- A call opens t, which is to become u, and what it gives is as Given says; or it is refused: by what t is, and nothing is changed, or for memory.
-abbrev pub Opens : {B : Type 0} → StructSize → (Segments → ℕ → ℕ → Tree → B → Type 0) → CallAt → Tree → Result Tree ErrorKind → Result B ErrorKind → Type 0
+-- A call opens t, which is to become u, and what it gives is as Given says; or it is refused: by
+-- what t is, and nothing is changed, or for memory.
+abbrev pub Opens : {B : Type 0} → StructSize → (Segments → ℕ → ℕ → Tree → B → Type 0) → CallAt →
+    Tree → Result Tree ErrorKind → Result B ErrorKind → Type 0
 Opens size Given c t (Ok u) (Ok b) = Opened size c t u (Given c.new.words c.segment c.at u b)
 Opens size Given c t (Ok u) (Err k) = Unopened size c t u k
 Opens size Given c t (Err k) result = (result ≡ Err k) × (c.new ≡ c.old)
 
--- The pointer at a place leads to the struct u, which is e; or to the list u, which is l, or none where u is null.
+-- The pointer at a place leads to the struct u, which is e; or to the list u, which is l, or none
+-- where u is null.
 abbrev pub LeadsToOne : Segments → ℕ → ℕ → Tree → ExistingStruct → Type 0
 LeadsToOne S s p u e = (struct_in (target S s p) u ≡ Some e) × StructLiesIn S e
 
@@ -68,29 +80,36 @@ abbrev pub LeadsToAll : Segments → ℕ → ℕ → Tree → Option ExistingLis
 LeadsToAll S s p u l = (list_in (target S s p) Void u ≡ Ok l) × IfSome l (ListLiesIn S)
 
 -- The struct that stands is opened, or a new one in place of null.
-abbrev pub OpensStruct : {B : Type 0} → (Segments → ℕ → ℕ → Tree → B → Type 0) → StructSize → Result B ErrorKind → CallAt → Tree → Type 0
+abbrev pub OpensStruct : {B : Type 0} → (Segments → ℕ → ℕ → Tree → B → Type 0) → StructSize →
+    Result B ErrorKind → CallAt → Tree → Type 0
 OpensStruct Given size result c t = Opens size Given c t (struct_opened size t) result
 
--- A call that opens a struct is refused by the name k: the place stores none, and nothing is changed; or for memory.
+-- A call that opens a struct is refused by the name k: the place stores none, and nothing is
+-- changed; or for memory.
 abbrev pub IsNoWider : StructSize → CallAt → ErrorKind → Type 0
 IsNoWider size c k =
     ((k ≡ MessageContainsNonStructPointerWhereStructPointerWasExpected) × (c.new ≡ c.old)
-    × ((t : Tree) → IsStored c.old.words c.segment c.at t → struct_in (target c.old.words c.segment c.at) t ≡ None))
+    × ((t : Tree) → IsStored c.old.words c.segment c.at t →
+    struct_in (target c.old.words c.segment c.at) t ≡ None))
     ⊎ RefusesToBecome (IsStored c.old.words c.segment c.at) (struct_opened size) c.old c.new k
 
--- The list of structs that stands is opened, made one of any other list. Null is a list of none, and nothing is changed.
+-- The list of structs that stands is opened, made one of any other list. Null is a list of none,
+-- and nothing is changed.
 abbrev pub OpensExistingList : StructSize → Result (Option ExistingList) ErrorKind → CallAt → Tree → Type 0
 OpensExistingList size result c Null = (result ≡ Ok None) × (c.new ≡ c.old)
-OpensExistingList size result c t = Opens size LeadsToAll c t (list_widened size.data_words size.pointers t) result
+OpensExistingList size result c t =
+    Opens size LeadsToAll c t (list_widened size.data_words size.pointers t) result
 
 -- Structs of so many words, which are 2^29 or more, are too large for a list.
 abbrev pub refusal_of_words : ℕ → Option ErrorKind
-refusal_of_words n = cond (nat_lt n (2 ^ 29)) None (Some (MessageTooLarge n))
+refusal_of_words n = if nat_lt n (2 ^ 29) then None else Some (MessageTooLarge n)
 
--- Why n elements make no structs of at least a size, if they don't: elements of an element size, which are structs of the size had or no structs.
+-- Why n elements make no structs of at least a size, if they don't: elements of an element size,
+-- which are structs of the size had or no structs.
 abbrev pub refusal_of_elements : StructSize → ElementSize → StructSize → ℕ → Option ErrorKind
 refusal_of_elements size Void had n = refusal_of_words (n * (size.data_words + size.pointers))
 refusal_of_elements size Bit had n = Some FoundBitListWhereStructListWasExpected
 refusal_of_elements size Pointer had n = refusal_of_words (n * (size.data_words + max 1 size.pointers))
-refusal_of_elements size InlineComposite had n = refusal_of_words (n * (max had.data_words size.data_words + max had.pointers size.pointers))
+refusal_of_elements size InlineComposite had n =
+    refusal_of_words (n * (max had.data_words size.data_words + max had.pointers size.pointers))
 refusal_of_elements size other had n = refusal_of_words (n * (max 1 size.data_words + size.pointers))

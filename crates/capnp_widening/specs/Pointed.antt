@@ -9,17 +9,21 @@ use Rattle.capnp_making.specs.Made.{IsShape}
 use Rattle.capnp_making.specs.declared.making.Shape.{Shape}
 use Rattle.capnp_making.specs.declared.making.Start.{Start}
 
--- From S to R the pointer at a place is written, and leads to a; its pads are written into new words, and nothing else is.
+-- From S to R the pointer at a place is written, and leads to a; its pads are written into new
+-- words, and nothing else is.
 pub record IsPointed (S R : Segments) (s p : ℕ) (a : Target) : Type 0 where
   pub grows : Grows S R
   pub leads_there : Leads R s p a
   pub inside : a.start ≤ length (segment R a.segment)
-  pub kept : (x y : ℕ) → times (word_interval s p ∷ []) x y ≡ 0 → y < length (segment S x) → word_at R x y ≡ word_at S x y
-  pub fresh : (x y : ℕ) → 0 < times (pads_of (word_at R s p)) x y → (length (segment S x) ≤ y) × (y < length (segment R x))
-  pub zero : (x y : ℕ) → times (pads_of (word_at R s p)) x y ≡ 0 → length (segment S x) ≤ y → word_at R x y ≡ 0
+  pub kept : (x y : ℕ) → times (word_interval s p ∷ []) x y ≡ 0 → y < length (segment S x) →
+      word_at R x y ≡ word_at S x y
+  pub fresh : (x y : ℕ) → 0 < times (pads_of (word_at R s p)) x y → (length (segment S x) ≤ y) ×
+      (y < length (segment R x))
+  pub zero : (x y : ℕ) → times (pads_of (word_at R s p)) x y ≡ 0 → length (segment S x) ≤ y →
+      word_at R x y ≡ 0
 
--- From S to R the pointer at a place is written to the object of this shape that starts at h; a struct without sections may be meant
--- to start anywhere.
+-- From S to R the pointer at a place is written to the object of this shape that starts at h; a
+-- struct without sections may be meant to start anywhere.
 abbrev pub PointsTo : Segments → Segments → Shape → Start → Start → Type 0
 PointsTo S R shape h at =
     (a : Target) × IsPointed S R at.segment at.at a × IsShape shape a.word

@@ -1,5 +1,6 @@
 -- The words that making an object wider takes, and the room for them.
-use Rattle.std.specs.Prelude.{◌≡◌, ◌⊎◌, ℕ, ◌+◌, ◌*◌, ◌<◌, ◌≤◌, Bool, true, false, Result, Ok, List, [], ◌∷◌, length}
+use Rattle.std.specs.Prelude.{◌≡◌, ◌⊎◌, ℕ, ◌+◌, ◌*◌, ◌<◌, ◌≤◌, Bool, true, false, Result, Ok, List}
+use Rattle.std.specs.Prelude.{[], ◌∷◌, length}
 use Rattle.capnp_words.specs.declared.error.ErrorKind.{ErrorKind}
 use Rattle.capnp_words.specs.declared.error.ErrorKind.TheVariants.{AllocationFailed, MessageTooLarge}
 use Rattle.capnp_format.specs.Segments.{Segments, word_at}
@@ -27,7 +28,8 @@ GrowsByAtMost S R n = all_words R ≤ all_words S + n
 abbrev pub HasSomeRoom : View → ℕ → Type 0
 HasSomeRoom v n = (k : ℕ) × (k < length v.words) × HasOwnRoom v k n
 
--- The words of a struct and of a list of structs, and how many pointers a struct and the elements of a list have.
+-- The words of a struct and of a list of structs, and how many pointers a struct and the elements
+-- of a list have.
 abbrev pub widened_words : Tree → ℕ
 widened_words (Struct ws ts) = length ws + count ts
 widened_words (Structs d q es) = 1 + element_count es * (d + q)
@@ -45,41 +47,57 @@ is_allocation_name AllocationFailed = true
 is_allocation_name (MessageTooLarge n) = true
 is_allocation_name k = false
 
--- The value that stands there finds no room for what it is to become, and a growth is refused by the name k: that of the words of what it becomes, or of a
--- landing pad for one of its pointers.
-pub record RefusesToBecome (Stands : Tree → Type 0) (becomes : Tree → Result Tree ErrorKind) (old new : View) (k : ErrorKind) : Type 0 where
+-- The value that stands there finds no room for what it is to become, and a growth is refused by
+-- the name k: that of the words of what it becomes, or of a landing pad for one of its pointers.
+pub record RefusesToBecome (Stands : Tree → Type 0) (becomes : Tree → Result Tree ErrorKind)
+    (old new : View) (k : ErrorKind) : Type 0 where
   pub name : is_allocation_name k ≡ true
   pub memory : SpendsMemory old new k
-  pub full : (t u : Tree) → Stands t → becomes t ≡ Ok u → RefusesGrowth old new (widened_words u) (direct_pointers t) k
+  pub full : (t u : Tree) → Stands t → becomes t ≡ Ok u →
+      RefusesGrowth old new (widened_words u) (direct_pointers t) k
 
--- There is room for u, which t becomes at a place, and for two words for each pointer of t; or t stands in the segment of the place, and that has
--- room for u.
+-- There is room for u, which t becomes at a place, and for two words for each pointer of t; or t
+-- stands in the segment of the place, and that has room for u.
 abbrev pub HasRoomFor : View → ℕ → ℕ → Tree → Tree → Type 0
-HasRoomFor v s p t u = HasRoom v s (widened_words u + 2 * direct_pointers t) ⊎ (((target v.words s p).segment ≡ s) × HasOwnRoom v s (widened_words u))
+HasRoomFor v s p t u = HasRoom v s (widened_words u + 2 * direct_pointers t) ⊎
+    (((target v.words s p).segment ≡ s) × HasOwnRoom v s (widened_words u))
 
 -- The place stores a struct, and there is room for what it becomes.
 abbrev pub WiderStructFits : View → ℕ → ℕ → StructSize → Type 0
-WiderStructFits v s p size = (ws : List ℕ) × (ts : Trees) × IsStored v.words s p (Struct ws ts) × HasRoomFor v s p (Struct ws ts) (widened size ws ts)
+WiderStructFits v s p size = (ws : List ℕ) × (ts : Trees) × IsStored v.words s p (Struct ws ts) ×
+    HasRoomFor v s p (Struct ws ts) (widened size ws ts)
 
--- A struct is opened at the place, and there is room for it: for a new one in place of null, or for what the struct that stands becomes.
+-- A struct is opened at the place, and there is room for it: for a new one in place of null, or for
+-- what the struct that stands becomes.
 abbrev pub OpeningFits : View → ℕ → ℕ → StructSize → Type 0
-OpeningFits v s p size = ((word_at v.words s p ≡ 0) × HasRoom v s (size.data_words + size.pointers)) ⊎ WiderStructFits v s p size
+OpeningFits v s p size =
+    ((word_at v.words s p ≡ 0) × HasRoom v s (size.data_words + size.pointers)) ⊎
+    WiderStructFits v s p size
 
--- From S to R no more words are taken than what a struct at the place becomes, a pad, and two words for each of its pointers.
+-- From S to R no more words are taken than what a struct at the place becomes, a pad, and two words
+-- for each of its pointers.
 abbrev pub GrowsForStruct : Segments → Segments → ℕ → ℕ → StructSize → Type 0
-GrowsForStruct S R s p size = (ws : List ℕ) (ts : Trees) → IsStored S s p (Struct ws ts) → GrowsByAtMost S R (widened_words (widened size ws ts) + 1 + 2 * count ts)
+GrowsForStruct S R s p size =
+    (ws : List ℕ) (ts : Trees) → IsStored S s p (Struct ws ts) →
+    GrowsByAtMost S R (widened_words (widened size ws ts) + 1 + 2 * count ts)
 
--- A value stands at the place that becomes a list of structs where these are wanted, and there is room for what it becomes.
+-- A value stands at the place that becomes a list of structs where these are wanted, and there is
+-- room for what it becomes.
 abbrev pub WiderListFits : (Tree → Type 0) → View → ℕ → ℕ → StructSize → Type 0
-WiderListFits Stands v s p size = (t : Tree) × (u : Tree) × Stands t × (list_widened size.data_words size.pointers t ≡ Ok u) × HasRoomFor v s p t u
+WiderListFits Stands v s p size =
+    (t : Tree) × (u : Tree) × Stands t × (list_widened size.data_words size.pointers t ≡ Ok u) ×
+    HasRoomFor v s p t u
 
--- From S to R no more words are taken than what a list that stands there becomes, a pad, and two words for each of its pointers.
+-- From S to R no more words are taken than what a list that stands there becomes, a pad, and two
+-- words for each of its pointers.
 abbrev pub GrowsForList : (Tree → Type 0) → Segments → Segments → StructSize → Type 0
 GrowsForList Stands S R size =
-    (t u : Tree) → Stands t → list_widened size.data_words size.pointers t ≡ Ok u → GrowsByAtMost S R (widened_words u + 1 + 2 * direct_pointers t)
+    (t u : Tree) → Stands t → list_widened size.data_words size.pointers t ≡ Ok u →
+    GrowsByAtMost S R (widened_words u + 1 + 2 * direct_pointers t)
 
--- There is room for a list of structs of a size made of these elements, and for two words for each of their pointers; or they stand in segment s, and
--- that has room for the list.
+-- There is room for a list of structs of a size made of these elements, and for two words for each
+-- of their pointers; or they stand in segment s, and that has room for the list.
 abbrev pub RemadeRowsFit : View → ℕ → ElementRows → StructSize → Type 0
 RemadeRowsFit v s rows size =
-    HasRoom v s (structs_words rows.count size + 2 * (rows.count * rows.size.pointers)) ⊎ ((rows.segment ≡ s) × HasOwnRoom v s (structs_words rows.count size))
+    HasRoom v s (structs_words rows.count size + 2 * (rows.count * rows.size.pointers)) ⊎
+    ((rows.segment ≡ s) × HasOwnRoom v s (structs_words rows.count size))

@@ -1,5 +1,6 @@
 -- Lists of structs made anew of the elements of other lists, as rows of words ("Lists").
-use Rattle.std.specs.Prelude.{◌≡◌, ◌⊎◌, ℕ, zero, suc, ◌+◌, ◌*◌, ◌<◌, ◌≤◌, Option, Some, None, IfSome, Ok, Err, List, [], ◌∷◌, length}
+use Rattle.std.specs.Prelude.{◌≡◌, ◌⊎◌, ℕ, zero, suc, ◌+◌, ◌*◌, ◌<◌, ◌≤◌, Option, Some, None}
+use Rattle.std.specs.Prelude.{IfSome, Ok, Err, List, [], ◌∷◌, length}
 use Rattle.capnp_words.specs.Sizes.{size_number}
 use Rattle.capnp_words.specs.declared.error.ErrorKind.{ErrorKind}
 use Rattle.capnp_arena.specs.View.{View}
@@ -23,10 +24,12 @@ use Rattle.capnp_making.specs.Zeroed.{row}
 use Rattle.capnp_widening.specs.declared.remaking.ElementRows.{ElementRows}
 use Rattle.capnp_widening.specs.Moved.{Move, rows_of_moves}
 use Rattle.capnp_widening.specs.Rooms.{RefusesToBecome}
-use Rattle.capnp_widening.specs.Widened.{Rewriting, fill_elements, struct_for_each, struct_for_each_tree, limited, list_widened}
+use Rattle.capnp_widening.specs.Widened.{Rewriting, fill_elements, struct_for_each}
+use Rattle.capnp_widening.specs.Widened.{struct_for_each_tree, limited, list_widened}
 
--- From S to R the first d words of each of n rows are copied over those of other rows, and nothing else is written. The old rows start every w words
--- from (s, p) on, and the new ones, of z words each, from (v, r) on.
+-- From S to R the first d words of each of n rows are copied over those of other rows, and nothing
+-- else is written. The old rows start every w words from (s, p) on, and the new ones, of z words
+-- each, from (v, r) on.
 pub record AreRowsCopied (S R : Segments) (s p w v r z d n : ℕ) : Type 0 where
   pub segments : length R ≡ length S
   pub words : (x : ℕ) → length (segment R x) ≡ length (segment S x)
@@ -39,25 +42,33 @@ pub record IsTagWritten (c : Rewriting) (n : ℕ) (size : StructSize) : Type 0 w
   pub segments : length c.new ≡ length c.old
   pub words : (x : ℕ) → length (segment c.new x) ≡ length (segment c.old x)
   pub tag : IsTag (word_at c.new c.segment c.at) n size.data_words size.pointers
-  pub kept : (x y : ℕ) → times (word_interval c.segment c.at ∷ []) x y ≡ 0 → word_at c.new x y ≡ word_at c.old x y
+  pub kept : (x y : ℕ) → times (word_interval c.segment c.at ∷ []) x y ≡ 0 →
+      word_at c.new x y ≡ word_at c.old x y
 
 -- The words of a list lie in their segment, its tag included.
 abbrev pub RowsInside : Segments → ElementRows → Type 0
-RowsInside S rows = rows.at + (rows.tag + rows.count * (rows.size.data_words + rows.size.pointers)) ≤ length (segment S rows.segment)
+RowsInside S rows =
+    rows.at + (rows.tag + rows.count * (rows.size.data_words + rows.size.pointers))
+    ≤ length (segment S rows.segment)
 
 -- From S to R the data words of elements are copied into structs of a size, the first of which starts at h.
 abbrev pub CopiesData : Segments → Segments → ElementRows → Start → StructSize → Type 0
 CopiesData S R old h size =
-    AreRowsCopied S R old.segment (old.at + old.tag) (old.size.data_words + old.size.pointers) h.segment h.at (size.data_words + size.pointers) old.size.data_words old.count
+    AreRowsCopied S R old.segment (old.at + old.tag)
+    (old.size.data_words + old.size.pointers) h.segment h.at
+    (size.data_words + size.pointers) old.size.data_words old.count
 
 -- The pointers of elements, written anew in these structs.
 abbrev pub element_moves : ElementRows → Start → StructSize → List Move
 element_moves old h size =
-    rows_of_moves old.segment (old.at + old.tag + old.size.data_words) (old.size.data_words + old.size.pointers) h.segment (h.at + size.data_words) (size.data_words + size.pointers)
+    rows_of_moves old.segment (old.at + old.tag + old.size.data_words)
+    (old.size.data_words + old.size.pointers) h.segment (h.at + size.data_words)
+    (size.data_words + size.pointers)
     old.size.pointers old.count
 
--- From S to R each of n numbers of so many bits, one behind the other from the word (s, p) on, is copied into the first word of a row; the rows are of
--- z words, from (v, r) on. Nothing else is written.
+-- From S to R each of n numbers of so many bits, one behind the other from the word (s, p) on, is
+-- copied into the first word of a row; the rows are of z words, from (v, r) on. Nothing else is
+-- written.
 pub record AreNumbersCopied (S R : Segments) (s p width v r z n : ℕ) : Type 0 where
   pub segments : length R ≡ length S
   pub words : (x : ℕ) → length (segment R x) ≡ length (segment S x)
@@ -69,19 +80,45 @@ pub record AreNumbersCopied (S R : Segments) (s p width v r z n : ℕ) : Type 0 
 abbrev pub NumbersInside : Segments → ExistingList → Type 0
 NumbersInside S l = l.start + words_for (size_number l.size) l.count ≤ length (segment S l.segment)
 
--- The elements of a list to which the target leads, if they are whole words: behind a tag, if they are structs.
+-- The elements of a list to which the target leads, if they are whole words: behind a tag, if they
+-- are structs.
 abbrev pub rows_in : Target → Tree → Option ElementRows
-rows_in a (Structs d q es) = Some (record { segment = a.segment; at = a.start; tag = 1; size = record { data_words = d; pointers = q }; count = element_count es })
-rows_in a (Pointers ts) = Some (record { segment = a.segment; at = a.start; tag = 0; size = record { data_words = 0; pointers = 1 }; count = count ts })
-rows_in a (Flat zero ns) = Some (record { segment = a.segment; at = a.start; tag = 0; size = record { data_words = 0; pointers = 0 }; count = length ns })
+rows_in a (Structs d q es) =
+    Some (record {
+      segment = a.segment;
+      at = a.start;
+      tag = 1;
+      size = record { data_words = d; pointers = q };
+      count = element_count es;
+    })
+rows_in a (Pointers ts) =
+    Some (record {
+      segment = a.segment;
+      at = a.start;
+      tag = 0;
+      size = record { data_words = 0; pointers = 1 };
+      count = count ts;
+    })
+rows_in a (Flat zero ns) =
+    Some (record {
+      segment = a.segment;
+      at = a.start;
+      tag = 0;
+      size = record { data_words = 0; pointers = 0 };
+      count = length ns;
+    })
 rows_in a t = None
 
 -- The list of structs of at least their size that the elements of a list become.
 abbrev pub as_structs : StructSize → Tree → Tree
-as_structs size (Flat zero ns) = Structs size.data_words size.pointers (zero_elements size.data_words size.pointers (length ns))
-as_structs size (Flat (suc n) ns) = Structs size.data_words size.pointers (struct_for_each size.data_words size.pointers ns)
-as_structs size (Pointers ts) = Structs size.data_words size.pointers (struct_for_each_tree size.data_words size.pointers ts)
-as_structs size (Structs d q es) = Structs size.data_words size.pointers (fill_elements size.data_words size.pointers es)
+as_structs size (Flat zero ns) =
+    Structs size.data_words size.pointers (zero_elements size.data_words size.pointers (length ns))
+as_structs size (Flat (suc n) ns) =
+    Structs size.data_words size.pointers (struct_for_each size.data_words size.pointers ns)
+as_structs size (Pointers ts) =
+    Structs size.data_words size.pointers (struct_for_each_tree size.data_words size.pointers ts)
+as_structs size (Structs d q es) =
+    Structs size.data_words size.pointers (fill_elements size.data_words size.pointers es)
 as_structs size t = t
 
 -- The place stores t in S, a list of these elements.
@@ -90,7 +127,9 @@ StoresRows S s p rows t = IsStored S s p t × (rows_in (target S s p) t ≡ Some
 
 -- The structs of a list lie in their segment.
 abbrev pub ListLiesIn : Segments → ExistingList → Type 0
-ListLiesIn S l = l.start + l.count * (l.struct_size.data_words + l.struct_size.pointers) ≤ length (segment S l.segment)
+ListLiesIn S l =
+    l.start + l.count * (l.struct_size.data_words + l.struct_size.pointers)
+    ≤ length (segment S l.segment)
 
 -- The place gets the list u in place of t, and the pointer leads to l.
 pub record BecomesList (c : Rewriting) (l : ExistingList) (t u : Tree) : Type 0 where
@@ -101,12 +140,14 @@ pub record BecomesList (c : Rewriting) (l : ExistingList) (t u : Tree) : Type 0 
 abbrev pub RemakesList : (Tree → Type 0) → StructSize → Rewriting → ExistingList → Type 0
 RemakesList Stands size c l = (t : Tree) → Stands t → BecomesList c l t (as_structs size t)
 
--- A call is refused by the name k: the elements would take too many words, and nothing is changed; or memory is refused
--- for their list, or for a landing pad of one of their pointers.
+-- A call is refused by the name k: the elements would take too many words, and nothing is changed;
+-- or memory is refused for their list, or for a landing pad of one of their pointers.
 abbrev pub RefusesRows : ElementRows → StructSize → CallAt → ErrorKind → Type 0
 RefusesRows rows size c k =
-    ((c.new ≡ c.old) × ((t : Tree) → StoresRows c.old.words c.segment c.at rows t → limited (rows.count * (size.data_words + size.pointers)) (as_structs size t) ≡ Err k))
-    ⊎ (SpendsMemory c.old c.new k × RefusesGrowth c.old c.new (structs_words rows.count size) (rows.count * rows.size.pointers) k)
+    ((c.new ≡ c.old) × ((t : Tree) → StoresRows c.old.words c.segment c.at rows t →
+    limited (rows.count * (size.data_words + size.pointers)) (as_structs size t) ≡ Err k))
+    ⊎ (SpendsMemory c.old c.new k × RefusesGrowth c.old c.new (structs_words rows.count size)
+    (rows.count * rows.size.pointers) k)
 
 -- The place stores t in S, which is the list l.
 abbrev pub IsList : Segments → ℕ → ℕ → ExistingList → Tree → Type 0
@@ -114,12 +155,16 @@ IsList S s p l t = IsStored S s p t × (list_in (target S s p) Void t ≡ Ok (So
 
 -- The place gets, in place of the list l, what it becomes where structs of a size are wanted, which is m.
 abbrev pub WidensTo : ExistingList → StructSize → Rewriting → ExistingList → Type 0
-WidensTo l size c m = (t : Tree) → IsList c.old c.segment c.at l t → (u : Tree) × (list_widened size.data_words size.pointers t ≡ Ok u) × BecomesList c m t u
+WidensTo l size c m = (t : Tree) → IsList c.old c.segment c.at l t → (u : Tree) ×
+    (list_widened size.data_words size.pointers t ≡ Ok u) × BecomesList c m t u
 
--- The place gets, in place of the value that it stores, the list that this becomes where structs of a size are wanted; null stays.
+-- The place gets, in place of the value that it stores, the list that this becomes where structs of
+-- a size are wanted; null stays.
 abbrev pub WidensList : StructSize → Rewriting → Type 0
 WidensList size c =
-    (t : Tree) → IsStored c.old c.segment c.at t → (u : Tree) × (list_widened size.data_words size.pointers t ≡ Ok u) × IsReplaced c.old c.new c.segment c.at t u
+    (t : Tree) → IsStored c.old c.segment c.at t → (u : Tree) ×
+    (list_widened size.data_words size.pointers t ≡ Ok u) ×
+    IsReplaced c.old c.new c.segment c.at t u
 
 -- That list is l, and all its structs lie in the new message.
 abbrev pub LeadsToWiderList : StructSize → Rewriting → Option ExistingList → Type 0
@@ -127,7 +172,8 @@ LeadsToWiderList size c l =
     (t u : Tree) → IsStored c.old c.segment c.at t → list_widened size.data_words size.pointers t ≡ Ok u
     → (list_in (target c.new c.segment c.at) Void u ≡ Ok l) × IfSome l (ListLiesIn c.new)
 
--- A call is refused by the name k: by what stands there and what is wanted, and nothing is changed; or for memory.
+-- A call is refused by the name k: by what stands there and what is wanted, and nothing is changed;
+-- or for memory.
 abbrev pub RefusesWider : (Tree → Type 0) → StructSize → View → View → ErrorKind → Type 0
 RefusesWider Stands size old new k =
     ((new ≡ old) × ((t : Tree) → Stands t → list_widened size.data_words size.pointers t ≡ Err k))

@@ -1,13 +1,19 @@
 -- Objects filled up with zeros and Nulls, and a struct for each element of another list ("Structs", "Lists").
-use Rattle.std.specs.Prelude.{◌≡◌, ℕ, zero, suc, ◌+◌, ◌-◌, ◌*◌, ◌^◌, ◌≤◌, ◌<◌, max, cond, ◌&&◌, nat_le, nat_lt, Result, Ok, Err, List, [], ◌∷◌, ◌++◌, length, Some}
+use Rattle.std.specs.Prelude.{◌≡◌, ℕ, zero, suc, ◌+◌, ◌-◌, ◌*◌, ◌^◌, ◌≤◌, ◌<◌, max, if◌then◌else◌}
+use Rattle.std.specs.Prelude.{◌&&◌, nat_le, nat_lt, Result, Ok, Err, List, [], ◌∷◌, ◌++◌, length}
+use Rattle.std.specs.Prelude.{Some}
 use Rattle.capnp_format.specs.Segments.{Segments, Grows, segment, word_at}
-use Rattle.capnp_format.specs.Tree.{Tree, Null, Capability, Struct, Flat, Pointers, Structs, Trees, no_trees, tree, Elements, no_elements, element, count, element_count}
+use Rattle.capnp_format.specs.Tree.{Tree, Null, Capability, Struct, Flat, Pointers, Structs, Trees}
+use Rattle.capnp_format.specs.Tree.{no_trees, tree, Elements, no_elements, element, count}
+use Rattle.capnp_format.specs.Tree.{element_count}
 use Rattle.capnp_words.specs.declared.wire_pointer.StructSize.{StructSize}
 use Rattle.capnp_making.specs.declared.existing.ExistingStruct.{ExistingStruct}
 use Rattle.capnp_making.specs.Made.{words_of_zero, nulls, zero_elements}
 use Rattle.capnp_format.specs.Forest.{target}
 use Rattle.capnp_words.specs.declared.error.ErrorKind.{ErrorKind}
-use Rattle.capnp_words.specs.declared.error.ErrorKind.TheVariants.{ExistingPointerIsNotAList, FoundBitListWhereStructListWasExpected, MessageTooLarge}
+use Rattle.capnp_words.specs.declared.error.ErrorKind.TheVariants.{ExistingPointerIsNotAList}
+use Rattle.capnp_words.specs.declared.error.ErrorKind.TheVariants.{FoundBitListWhereStructListWasExpected}
+use Rattle.capnp_words.specs.declared.error.ErrorKind.TheVariants.{MessageTooLarge}
 use Rattle.capnp_making.specs.Existing.{struct_in, StructLiesIn}
 use Rattle.capnp_making.specs.Stored.{IsStored, IsReplaced}
 
@@ -34,7 +40,8 @@ struct_for_each d q (x ∷ xs) = element (fill_words d (x ∷ [])) (nulls q) (st
 -- A struct for each child.
 abbrev pub struct_for_each_tree : ℕ → ℕ → Trees → Elements
 struct_for_each_tree d q no_trees = no_elements
-struct_for_each_tree d q (tree t ts) = element (words_of_zero d) (fill_trees q (tree t no_trees)) (struct_for_each_tree d q ts)
+struct_for_each_tree d q (tree t ts) =
+    element (words_of_zero d) (fill_trees q (tree t no_trees)) (struct_for_each_tree d q ts)
 
 -- From S to R there may be more words, all zero; those of S are as they were.
 pub record GrowsByZeros (S R : Segments) : Type 0 where
@@ -60,8 +67,8 @@ pub record Rewriting : Type 0 where
 abbrev pub rewriting : ℕ → ℕ → Segments → Segments → Rewriting
 rewriting s p S R = record { segment = s; at = p; old = S; new = R }
 
--- The place gets, in place of a struct that stands there, what it becomes where sections of a size are wanted. What stands there is said by Stands, here
--- and below: as that it is stored.
+-- The place gets, in place of a struct that stands there, what it becomes where sections of a size
+-- are wanted. What stands there is said by Stands, here and below: as that it is stored.
 abbrev pub WidensStruct : (Tree → Type 0) → StructSize → Rewriting → Type 0
 WidensStruct Stands size c =
     (ws : List ℕ) (ts : Trees) → Stands (Struct ws ts)
@@ -74,7 +81,8 @@ LeavesAll Stands S R = (t : Tree) → Stands t → GrowsByZeros S R
 -- Where a struct stood there, the place leads to e in R, all of which lies there.
 abbrev pub LeadsToWiderStruct : (Tree → Type 0) → Segments → ℕ → ℕ → ExistingStruct → Type 0
 LeadsToWiderStruct Stands R s p e =
-    (ws : List ℕ) (ts : Trees) → Stands (Struct ws ts) → (e.segment ≡ (target R s p).segment) × (e.start ≡ (target R s p).start) × StructLiesIn R e
+    (ws : List ℕ) (ts : Trees) → Stands (Struct ws ts) → (e.segment ≡ (target R s p).segment) ×
+    (e.start ≡ (target R s p).start) × StructLiesIn R e
 
 -- A struct is at least as large as asked for.
 abbrev pub IsAtLeast : StructSize → ExistingStruct → Type 0
@@ -82,10 +90,11 @@ IsAtLeast size e = (size.data_words ≤ e.size.data_words) × (size.pointers ≤
 
 -- A list of structs that take so many words, where these are fewer than 2^29.
 abbrev pub limited : ℕ → Tree → Result Tree ErrorKind
-limited n t = cond (nat_lt n (2 ^ 29)) (Ok t) (Err (MessageTooLarge n))
+limited n t = if nat_lt n (2 ^ 29) then Ok t else Err (MessageTooLarge n)
 
--- What a list becomes where structs of at least d data words and q pointers are wanted, memory aside; or by what name that is refused. Null stays.
--- From void the elements are of exactly that size; a number is the lowest bits of a first data word, and a pointer the first one of a struct
+-- What a list becomes where structs of at least d data words and q pointers are wanted, memory
+-- aside; or by what name that is refused. Null stays. From void the elements are of exactly that
+-- size; a number is the lowest bits of a first data word, and a pointer the first one of a struct
 -- ("Lists").
 abbrev pub list_widened : ℕ → ℕ → Tree → Result Tree ErrorKind
 list_widened d q Null = Ok Null
@@ -93,7 +102,11 @@ list_widened d q (Capability i) = Err ExistingPointerIsNotAList
 list_widened d q (Struct ws ts) = Err ExistingPointerIsNotAList
 list_widened d q (Flat zero ns) = limited (length ns * (d + q)) (Structs d q (zero_elements d q (length ns)))
 list_widened d q (Flat (suc zero) ns) = Err FoundBitListWhereStructListWasExpected
-list_widened d q (Flat size ns) = limited (length ns * (max 1 d + q)) (Structs (max 1 d) q (struct_for_each d q ns))
-list_widened d q (Pointers ts) = limited (count ts * (d + max 1 q)) (Structs d (max 1 q) (struct_for_each_tree d q ts))
+list_widened d q (Flat size ns) =
+    limited (length ns * (max 1 d + q)) (Structs (max 1 d) q (struct_for_each d q ns))
+list_widened d q (Pointers ts) =
+    limited (count ts * (d + max 1 q)) (Structs d (max 1 q) (struct_for_each_tree d q ts))
 list_widened d q (Structs e k es) =
-    cond (nat_le d e && nat_le q k) (Ok (Structs e k es)) (limited (element_count es * (max e d + max k q)) (Structs (max e d) (max k q) (fill_elements d q es)))
+    if nat_le d e && nat_le q k then Ok (Structs e k es)
+    else limited (element_count es * (max e d + max k q))
+    (Structs (max e d) (max k q) (fill_elements d q es))

@@ -1,5 +1,5 @@
 -- What a read limiter holds, and what it grants.
-use Rattle.std.specs.Prelude.{ℕ, Bool, true, false, Option, Some, None, ◌+◌, ◌-◌, ◌^◌, ◌≤◌, min, max}
+use Rattle.std.specs.Prelude.{ℕ, Bool, true, false, Option, Some, None, ◌+◌, ◌-◌, ◌^◌, ◌≤◌, min, max, ⊤}
 
 -- a budget of words, and the number of pointers followed so far ("Security Considerations")
 pub record Meter : Type 0 where
@@ -12,7 +12,7 @@ unused limit = record { left = limit; followed = 0 }
 
 -- a limit covers n words; where there is none, every number is covered ("Security Considerations")
 abbrev pub FitsIn : Option ℕ → ℕ → Type 0
-FitsIn None n = Unit {0}
+FitsIn None n = ⊤
 FitsIn (Some left) n = n ≤ left
 
 -- what is left of a limit once n words are granted
@@ -43,7 +43,7 @@ counted_once false m = m
 -- an arena that charges asks its limiter
 abbrev pub Affords : Bool → Meter → ℕ → Type 0
 Affords true m n = Allows m n
-Affords false m n = Unit {0}
+Affords false m n = ⊤
 
 -- the limiter after n words that an arena asked for
 abbrev pub charged : Bool → Meter → ℕ → Meter

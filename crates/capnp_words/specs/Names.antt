@@ -2,7 +2,40 @@
 use Rattle.std.specs.Prelude.{ℕ, List, codes, ◌++◌}
 use Rattle.std.specs.Fmt.{decimal}
 use Rattle.capnp_words.specs.declared.error.ErrorKind.{ErrorKind}
-use Rattle.capnp_words.specs.declared.error.ErrorKind.TheVariants.{AllocationFailed, CannotCreateACanonicalMessageWithACapability, CantHandleNonStructInlineComposite, ExistingListPointerIsNotByteSized, ExistingListValueIsIncompatibleWithExpectedType, ExistingPointerIsNotAList, ExpectedAPointerListButGotAListOfDataOnlyStructs, ExpectedAPrimitiveListButGotAListOfPointerOnlyStructs, FoundBitListWhereStructListWasExpected, FoundStructListWhereBitListWasExpected, InlineCompositeListsElementsOverrunItsWordCount, InlineCompositeListsOfNonStructTypeAreNotSupported, InvalidSegmentId, MalformedDoubleFarPointer, MessageContainsListPointerOfNonBytesWhereDataWasExpected, MessageContainsListPointerOfNonBytesWhereTextWasExpected, MessageContainsListWithIncompatibleElementType, MessageContainsNonCapabilityPointerWhereCapabilityPointerWasExpected, MessageContainsNonListPointerWhereDataWasExpected, MessageContainsNonListPointerWhereListPointerWasExpected, MessageContainsNonListPointerWhereTextWasExpected, MessageContainsNonStructPointerWhereStructPointerWasExpected, MessageContainsNullCapabilityPointer, MessageContainsOutOfBoundsPointer, MessageContainsTextThatIsNotNULTerminated, MessageIsTooDeeplyNested, MessageIsTooDeeplyNestedOrContainsCycles, MessageTooLarge, NestingLimitExceeded, NoSuchPlace, ReadLimitExceeded, TextBlobMissingNULTerminator, TriedToReadFromNullArena, UnexpectedFarPointer, UnknownPointerType}
+use Rattle.capnp_words.specs.declared.error.ErrorKind.TheVariants.{AllocationFailed}
+use Rattle.capnp_words.specs.declared.error.ErrorKind.TheVariants.{CannotCreateACanonicalMessageWithACapability}
+use Rattle.capnp_words.specs.declared.error.ErrorKind.TheVariants.{CantHandleNonStructInlineComposite}
+use Rattle.capnp_words.specs.declared.error.ErrorKind.TheVariants.{ExistingListPointerIsNotByteSized}
+use Rattle.capnp_words.specs.declared.error.ErrorKind.TheVariants.{ExistingListValueIsIncompatibleWithExpectedType}
+use Rattle.capnp_words.specs.declared.error.ErrorKind.TheVariants.{ExistingPointerIsNotAList}
+use Rattle.capnp_words.specs.declared.error.ErrorKind.TheVariants.{ExpectedAPointerListButGotAListOfDataOnlyStructs}
+use Rattle.capnp_words.specs.declared.error.ErrorKind.TheVariants.{ExpectedAPrimitiveListButGotAListOfPointerOnlyStructs}
+use Rattle.capnp_words.specs.declared.error.ErrorKind.TheVariants.{FoundBitListWhereStructListWasExpected}
+use Rattle.capnp_words.specs.declared.error.ErrorKind.TheVariants.{FoundStructListWhereBitListWasExpected}
+use Rattle.capnp_words.specs.declared.error.ErrorKind.TheVariants.{InlineCompositeListsElementsOverrunItsWordCount}
+use Rattle.capnp_words.specs.declared.error.ErrorKind.TheVariants.{InlineCompositeListsOfNonStructTypeAreNotSupported}
+use Rattle.capnp_words.specs.declared.error.ErrorKind.TheVariants.{InvalidSegmentId}
+use Rattle.capnp_words.specs.declared.error.ErrorKind.TheVariants.{MalformedDoubleFarPointer}
+use Rattle.capnp_words.specs.declared.error.ErrorKind.TheVariants.{MessageContainsListPointerOfNonBytesWhereDataWasExpected}
+use Rattle.capnp_words.specs.declared.error.ErrorKind.TheVariants.{MessageContainsListPointerOfNonBytesWhereTextWasExpected}
+use Rattle.capnp_words.specs.declared.error.ErrorKind.TheVariants.{MessageContainsListWithIncompatibleElementType}
+use Rattle.capnp_words.specs.declared.error.ErrorKind.TheVariants.{MessageContainsNonCapabilityPointerWhereCapabilityPointerWasExpected}
+use Rattle.capnp_words.specs.declared.error.ErrorKind.TheVariants.{MessageContainsNonListPointerWhereDataWasExpected}
+use Rattle.capnp_words.specs.declared.error.ErrorKind.TheVariants.{MessageContainsNonListPointerWhereListPointerWasExpected}
+use Rattle.capnp_words.specs.declared.error.ErrorKind.TheVariants.{MessageContainsNonListPointerWhereTextWasExpected}
+use Rattle.capnp_words.specs.declared.error.ErrorKind.TheVariants.{MessageContainsNonStructPointerWhereStructPointerWasExpected}
+use Rattle.capnp_words.specs.declared.error.ErrorKind.TheVariants.{MessageContainsNullCapabilityPointer}
+use Rattle.capnp_words.specs.declared.error.ErrorKind.TheVariants.{MessageContainsOutOfBoundsPointer}
+use Rattle.capnp_words.specs.declared.error.ErrorKind.TheVariants.{MessageContainsTextThatIsNotNULTerminated}
+use Rattle.capnp_words.specs.declared.error.ErrorKind.TheVariants.{MessageIsTooDeeplyNested}
+use Rattle.capnp_words.specs.declared.error.ErrorKind.TheVariants.{MessageIsTooDeeplyNestedOrContainsCycles}
+use Rattle.capnp_words.specs.declared.error.ErrorKind.TheVariants.{MessageTooLarge}
+use Rattle.capnp_words.specs.declared.error.ErrorKind.TheVariants.{NestingLimitExceeded}
+use Rattle.capnp_words.specs.declared.error.ErrorKind.TheVariants.{NoSuchPlace, ReadLimitExceeded}
+use Rattle.capnp_words.specs.declared.error.ErrorKind.TheVariants.{TextBlobMissingNULTerminator}
+use Rattle.capnp_words.specs.declared.error.ErrorKind.TheVariants.{TriedToReadFromNullArena}
+use Rattle.capnp_words.specs.declared.error.ErrorKind.TheVariants.{UnexpectedFarPointer}
+use Rattle.capnp_words.specs.declared.error.ErrorKind.TheVariants.{UnknownPointerType}
 
 -- the name of a refusal
 abbrev pub name_of : ErrorKind → List ℕ
@@ -10,24 +43,37 @@ name_of AllocationFailed = codes "AllocationFailed"
 name_of CannotCreateACanonicalMessageWithACapability = codes "CannotCreateACanonicalMessageWithACapability"
 name_of CantHandleNonStructInlineComposite = codes "CantHandleNonStructInlineComposite"
 name_of ExistingListPointerIsNotByteSized = codes "ExistingListPointerIsNotByteSized"
-name_of ExistingListValueIsIncompatibleWithExpectedType = codes "ExistingListValueIsIncompatibleWithExpectedType"
+name_of ExistingListValueIsIncompatibleWithExpectedType =
+    codes "ExistingListValueIsIncompatibleWithExpectedType"
 name_of ExistingPointerIsNotAList = codes "ExistingPointerIsNotAList"
-name_of ExpectedAPointerListButGotAListOfDataOnlyStructs = codes "ExpectedAPointerListButGotAListOfDataOnlyStructs"
-name_of ExpectedAPrimitiveListButGotAListOfPointerOnlyStructs = codes "ExpectedAPrimitiveListButGotAListOfPointerOnlyStructs"
+name_of ExpectedAPointerListButGotAListOfDataOnlyStructs =
+    codes "ExpectedAPointerListButGotAListOfDataOnlyStructs"
+name_of ExpectedAPrimitiveListButGotAListOfPointerOnlyStructs =
+    codes "ExpectedAPrimitiveListButGotAListOfPointerOnlyStructs"
 name_of FoundBitListWhereStructListWasExpected = codes "FoundBitListWhereStructListWasExpected"
 name_of FoundStructListWhereBitListWasExpected = codes "FoundStructListWhereBitListWasExpected"
-name_of InlineCompositeListsElementsOverrunItsWordCount = codes "InlineCompositeListsElementsOverrunItsWordCount"
-name_of InlineCompositeListsOfNonStructTypeAreNotSupported = codes "InlineCompositeListsOfNonStructTypeAreNotSupported"
+name_of InlineCompositeListsElementsOverrunItsWordCount =
+    codes "InlineCompositeListsElementsOverrunItsWordCount"
+name_of InlineCompositeListsOfNonStructTypeAreNotSupported =
+    codes "InlineCompositeListsOfNonStructTypeAreNotSupported"
 name_of (InvalidSegmentId _) = codes "InvalidSegmentId"
 name_of MalformedDoubleFarPointer = codes "MalformedDoubleFarPointer"
-name_of MessageContainsListPointerOfNonBytesWhereDataWasExpected = codes "MessageContainsListPointerOfNonBytesWhereDataWasExpected"
-name_of MessageContainsListPointerOfNonBytesWhereTextWasExpected = codes "MessageContainsListPointerOfNonBytesWhereTextWasExpected"
-name_of MessageContainsListWithIncompatibleElementType = codes "MessageContainsListWithIncompatibleElementType"
-name_of MessageContainsNonCapabilityPointerWhereCapabilityPointerWasExpected = codes "MessageContainsNonCapabilityPointerWhereCapabilityPointerWasExpected"
-name_of MessageContainsNonListPointerWhereDataWasExpected = codes "MessageContainsNonListPointerWhereDataWasExpected"
-name_of MessageContainsNonListPointerWhereListPointerWasExpected = codes "MessageContainsNonListPointerWhereListPointerWasExpected"
-name_of MessageContainsNonListPointerWhereTextWasExpected = codes "MessageContainsNonListPointerWhereTextWasExpected"
-name_of MessageContainsNonStructPointerWhereStructPointerWasExpected = codes "MessageContainsNonStructPointerWhereStructPointerWasExpected"
+name_of MessageContainsListPointerOfNonBytesWhereDataWasExpected =
+    codes "MessageContainsListPointerOfNonBytesWhereDataWasExpected"
+name_of MessageContainsListPointerOfNonBytesWhereTextWasExpected =
+    codes "MessageContainsListPointerOfNonBytesWhereTextWasExpected"
+name_of MessageContainsListWithIncompatibleElementType =
+    codes "MessageContainsListWithIncompatibleElementType"
+name_of MessageContainsNonCapabilityPointerWhereCapabilityPointerWasExpected =
+    codes "MessageContainsNonCapabilityPointerWhereCapabilityPointerWasExpected"
+name_of MessageContainsNonListPointerWhereDataWasExpected =
+    codes "MessageContainsNonListPointerWhereDataWasExpected"
+name_of MessageContainsNonListPointerWhereListPointerWasExpected =
+    codes "MessageContainsNonListPointerWhereListPointerWasExpected"
+name_of MessageContainsNonListPointerWhereTextWasExpected =
+    codes "MessageContainsNonListPointerWhereTextWasExpected"
+name_of MessageContainsNonStructPointerWhereStructPointerWasExpected =
+    codes "MessageContainsNonStructPointerWhereStructPointerWasExpected"
 name_of MessageContainsNullCapabilityPointer = codes "MessageContainsNullCapabilityPointer"
 name_of MessageContainsOutOfBoundsPointer = codes "MessageContainsOutOfBoundsPointer"
 name_of MessageContainsTextThatIsNotNULTerminated = codes "MessageContainsTextThatIsNotNULTerminated"

@@ -1,7 +1,10 @@
 -- The numbers of element sizes and of kinds of pointers.
 use Rattle.std.specs.Prelude.{ℕ}
 use Rattle.capnp_words.specs.declared.wire_pointer.ElementSize.{ElementSize}
-use Rattle.capnp_words.specs.declared.wire_pointer.ElementSize.TheVariants.{Void, Bit, Byte, TwoBytes, FourBytes, EightBytes, Pointer, InlineComposite}
+use Rattle.capnp_words.specs.declared.wire_pointer.ElementSize.TheVariants.{Void, Bit, Byte}
+use Rattle.capnp_words.specs.declared.wire_pointer.ElementSize.TheVariants.{TwoBytes, FourBytes}
+use Rattle.capnp_words.specs.declared.wire_pointer.ElementSize.TheVariants.{EightBytes, Pointer}
+use Rattle.capnp_words.specs.declared.wire_pointer.ElementSize.TheVariants.{InlineComposite}
 use Rattle.capnp_words.specs.declared.wire_pointer.WirePointerKind.{WirePointerKind}
 use Rattle.capnp_words.specs.declared.wire_pointer.WirePointerKind.TheVariants.{Struct, List, Far, Other}
 

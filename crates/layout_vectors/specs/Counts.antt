@@ -1,9 +1,12 @@
 -- What is reached from places that are still to be looked at, counted word by word.
-use Rattle.std.specs.Prelude.{◌≡◌, ℕ, ◌+◌, ◌*◌, ◌≤◌, List, [], ◌∷◌, length}
-use Rattle.capnp_format.specs.Word.{kind, data_words, pointer_count, element_size, list_count, capability_word}
+use Rattle.std.specs.Prelude.{◌≡◌, ℕ, ◌+◌, ◌*◌, ◌≤◌, List, [], ◌∷◌, length, ⊤}
+use Rattle.capnp_format.specs.Word.{kind, data_words, pointer_count, element_size, list_count}
+use Rattle.capnp_format.specs.Word.{capability_word}
 use Rattle.capnp_format.specs.Numbers.{words_for, unpacked, packed}
 use Rattle.capnp_format.specs.Segments.{Segments, word_at, words_at, HasWords, Target}
-use Rattle.capnp_format.specs.Tree.{Tree, Null, Capability, Struct, Flat, Pointers, Structs, Trees, no_trees, tree, count, Elements, no_elements, element, element_count}
+use Rattle.capnp_format.specs.Tree.{Tree, Null, Capability, Struct, Flat, Pointers, Structs, Trees}
+use Rattle.capnp_format.specs.Tree.{no_trees, tree, count, Elements, no_elements, element}
+use Rattle.capnp_format.specs.Tree.{element_count}
 use Rattle.capnp_format.specs.Means.{Means, Claims, IsTag}
 use Rattle.capnp_format.specs.Forest.{times, cover, object_cover, IsTidy}
 use Rattle.layout_vectors.specs.declared.vectors.pending.Spot.{Spot}
@@ -23,31 +26,42 @@ pub record MeansTidily (S : Segments) (s p : ℕ) (t : Tree) : Type 0 where
 -- F is M and what is reached from these places, for some values that they mean.
 abbrev pub Counts : Segments → Counting → List Spot → Counting → Type 0
 Counts S M [] F = (u q : ℕ) → F u q ≡ M u q
-Counts S M (j ∷ J) F = (t : Tree) × MeansTidily S j.segment j.at t × Counts S (plus M (times (cover S j.segment j.at t))) J F
+Counts S M (j ∷ J) F = (t : Tree) × MeansTidily S j.segment j.at t ×
+    Counts S (plus M (times (cover S j.segment j.at t))) J F
 
--- Pointers one behind the other mean values, and below them all is tidy; of the pointers of elements the same.
+-- Pointers one behind the other mean values, and below them all is tidy; of the pointers of
+-- elements the same.
 abbrev pub AreRead : Segments → ℕ → ℕ → Trees → Type 0
-AreRead S s p no_trees = Unit {0}
+AreRead S s p no_trees = ⊤
 AreRead S s p (tree t ts) = MeansTidily S s p t × AreRead S s (p + 1) ts
 
 abbrev pub AreElementsRead : Segments → ℕ → ℕ → ℕ → ℕ → Elements → Type 0
-AreElementsRead S s p d q no_elements = Unit {0}
-AreElementsRead S s p d q (element ws ts es) = (length ws ≡ d) × (count ts ≡ q) × HasWords S s p ws × AreRead S s (p + d) ts × AreElementsRead S s (p + d + q) d q es
+AreElementsRead S s p d q no_elements = ⊤
+AreElementsRead S s p d q (element ws ts es) =
+    (length ws ≡ d) × (count ts ≡ q) × HasWords S s p ws × AreRead S s (p + d) ts ×
+    AreElementsRead S s (p + d + q) d q es
 
 -- Where the target a leads, a value stands, and all is tidy.
 abbrev pub IsTidyObject : Segments → Target → Tree → Type 0
 IsTidyObject S a Null = ⊥
 IsTidyObject S a (Capability i) = a.word ≡ capability_word i
 IsTidyObject S a (Struct ws ts) =
-    (kind a.word ≡ 0) × (data_words a.word ≡ length ws) × (pointer_count a.word ≡ count ts) × Claims S a (length ws + count ts) × HasWords S a.segment a.start ws
+    (kind a.word ≡ 0) × (data_words a.word ≡ length ws) × (pointer_count a.word ≡ count ts) ×
+    Claims S a (length ws + count ts) × HasWords S a.segment a.start ws
     × AreRead S a.segment (a.start + length ws) ts
 IsTidyObject S a (Flat size ns) =
-    (size ≤ 5) × (kind a.word ≡ 1) × (element_size a.word ≡ size) × (list_count a.word ≡ length ns) × Claims S a (words_for size (length ns))
-    × (ns ≡ unpacked size (length ns) (words_at S a.segment a.start (words_for size (length ns)))) × (words_at S a.segment a.start (words_for size (length ns)) ≡ packed size ns)
-IsTidyObject S a (Pointers ts) = (kind a.word ≡ 1) × (element_size a.word ≡ 6) × (list_count a.word ≡ count ts) × Claims S a (count ts) × AreRead S a.segment a.start ts
+    (size ≤ 5) × (kind a.word ≡ 1) × (element_size a.word ≡ size) ×
+    (list_count a.word ≡ length ns) × Claims S a (words_for size (length ns))
+    × (ns ≡ unpacked size (length ns) (words_at S a.segment a.start (words_for size (length ns)))) ×
+    (words_at S a.segment a.start (words_for size (length ns)) ≡ packed size ns)
+IsTidyObject S a (Pointers ts) =
+    (kind a.word ≡ 1) × (element_size a.word ≡ 6) × (list_count a.word ≡ count ts) ×
+    Claims S a (count ts) × AreRead S a.segment a.start ts
 IsTidyObject S a (Structs d q es) =
-    (kind a.word ≡ 1) × (element_size a.word ≡ 7) × (list_count a.word ≡ element_count es * (d + q)) × Claims S a (1 + element_count es * (d + q))
-    × IsTag (word_at S a.segment a.start) (element_count es) d q × AreElementsRead S a.segment (a.start + 1) d q es
+    (kind a.word ≡ 1) × (element_size a.word ≡ 7) ×
+    (list_count a.word ≡ element_count es * (d + q)) × Claims S a (1 + element_count es * (d + q))
+    × IsTag (word_at S a.segment a.start) (element_count es) d q ×
+    AreElementsRead S a.segment (a.start + 1) d q es
 
 -- F is M, and what is reached from an object where a leads, and from these places.
 abbrev pub ObjectCounts : Segments → Target → Counting → List Spot → Counting → Type 0

@@ -1,5 +1,7 @@
--- Marks of words that are taken: for each segment a row of numbers, one for each word, of which those that aren't 0 are taken.
-use Rattle.std.specs.Prelude.{◌≡◌, ◌≢◌, ℕ, ◌+◌, ◌/◌, ◌<◌, ◌≤◌, cond, nat_eq, Bool, true, false, List, [], ◌∷◌, length, map, replicate, slice_index, vec_items}
+-- Marks of words that are taken: for each segment a row of numbers, one for each word, of which
+-- those that aren't 0 are taken.
+use Rattle.std.specs.Prelude.{◌≡◌, ◌≢◌, ℕ, ◌+◌, ◌/◌, ◌<◌, ◌≤◌, if◌then◌else◌, nat_eq, Bool, true}
+use Rattle.std.specs.Prelude.{false, List, [], ◌∷◌, length, map, replicate, slice_index, vec_items}
 use Rattle.std.specs.Borrow.{Bor}
 use Rattle.capnp_format.specs.Segments.{Segments, segment, word_at}
 use Rattle.capnp_format.specs.Forest.{times, pads_of}
@@ -23,7 +25,7 @@ IsMarkedWithin xs p n = (q : ℕ) × (p ≤ q) × (q < p + n) × (slice_index xs
 -- How many words are free.
 abbrev pub free_words : List ℕ → ℕ
 free_words [] = 0
-free_words (x ∷ xs) = cond (nat_eq x 0) 1 0 + free_words xs
+free_words (x ∷ xs) = (if nat_eq x 0 then 1 else 0) + free_words xs
 
 abbrev pub free : Segments → ℕ
 free [] = 0
@@ -33,7 +35,8 @@ free (xs ∷ M) = free_words xs + free M
 abbrev pub AreMarks : Segments → Type 0
 AreMarks M = (u q : ℕ) → word_at M u q ≤ 1
 
--- From M to N as many words are marked, of as many segments, and none more often than once; and so many more may be.
+-- From M to N as many words are marked, of as many segments, and none more often than once; and so
+-- many more may be.
 pub record KeepsRows (M N : Segments) : Type 0 where
   pub segments : length N ≡ length M
   pub words : (u : ℕ) → length (segment N u) ≡ length (segment M u)
@@ -45,7 +48,8 @@ pub record TakesRow (M N : Segments) (s p n : ℕ) : Type 0 where
   pub marks : (u q : ℕ) → word_at N u q ≡ word_at M u q + times (row s p n ∷ []) u q
   pub fewer : free N + n ≡ free M
 
--- The landing pads of the word x are taken from M to N, if it is a far pointer; or they aren't there, or one of their words is taken already.
+-- The landing pads of the word x are taken from M to N, if it is a far pointer; or they aren't
+-- there, or one of their words is taken already.
 pub record TakesEach (M N : Segments) (is : ℕ → ℕ → ℕ) : Type 0 where
   pub keeps : KeepsRows M N
   pub marks : (u q : ℕ) → word_at N u q ≡ word_at M u q + is u q

@@ -30,19 +30,23 @@ pub record Proceeds (w v : Walk) : Type 0 where
   pub keeps : KeepsRows w.marks v.marks
   pub fewer : free v.marks + length v.pending ≤ free w.marks + length w.pending
 
--- From w to v the object where a leads is taken: what is counted with it before is what is counted without it afterwards.
+-- From w to v the object where a leads is taken: what is counted with it before is what is counted
+-- without it afterwards.
 pub record TakesTarget (S : Segments) (a : Target) (w v : Walk) : Type 0 where
   pub proceeds : Proceeds w v
-  pub same : (F : Counting) → ObjectCounts S a (word_at w.marks) w.pending F ↔ Counts S (word_at v.marks) v.pending F
+  pub same : (F : Counting) → ObjectCounts S a (word_at w.marks) w.pending F
+      ↔ Counts S (word_at v.marks) v.pending F
 
 -- There is no object with which no word would be held twice.
 abbrev pub HasNoObject : Segments → Target → Walk → Type 0
 HasNoObject S a w = (F : Counting) → ObjectCounts S a (word_at w.marks) w.pending F → IsOnce F → ⊥
 
--- From w to v what the pointer at j leads to is taken: what is counted with j before is what is counted without it afterwards.
+-- From w to v what the pointer at j leads to is taken: what is counted with j before is what is
+-- counted without it afterwards.
 pub record Goes (S : Segments) (j : Spot) (w v : Walk) : Type 0 where
   pub proceeds : Proceeds w v
-  pub same : (F : Counting) → Counts S (word_at w.marks) (j ∷ w.pending) F ↔ Counts S (word_at v.marks) v.pending F
+  pub same : (F : Counting) → Counts S (word_at w.marks) (j ∷ w.pending) F
+      ↔ Counts S (word_at v.marks) v.pending F
 
 abbrev pub FailsWalk : Segments → Spot → Walk → Type 0
 FailsWalk S j w = (F : Counting) → Counts S (word_at w.marks) (j ∷ w.pending) F → IsOnce F → ⊥
