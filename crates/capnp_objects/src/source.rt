@@ -114,10 +114,7 @@ impl<'a, A: ReaderArena> Source<'a, A> {
             lim.old lim.new) }
     {
         self.count(lim);
-        let found = match self.follow(place, word, nesting_limit, lim) {
-            Ok(found) => found,
-            Err(k) => return Err(k),
-        };
+        let found = self.follow(place, word, nesting_limit, lim)?;
         let landing = Landing {
             source: self,
             found,
@@ -147,19 +144,14 @@ impl<'a, A: ReaderArena> Source<'a, A> {
             lim.old lim.new) }
     {
         self.count(lim);
-        let found = match self.follow(place, word, nesting_limit, lim) {
-            Ok(found) => found,
-            Err(k) => return Err(k),
-        };
+        let found = self.follow(place, word, nesting_limit, lim)?;
         let landing = Landing {
             source: self,
             found,
             depth: depth_of(nesting_limit),
         };
-        match landing.claim(word.struct_word_size(), lim) {
-            Ok(()) => Ok(found.start.at),
-            Err(k) => Err(k),
-        }
+        landing.claim(word.struct_word_size(), lim)?;
+        Ok(found.start.at)
     }
 
     /// Reads the list of bits or bytes that a near pointer leads to, as `read_object` does: where its
@@ -186,19 +178,14 @@ impl<'a, A: ReaderArena> Source<'a, A> {
             lim.old lim.new) }
     {
         self.count(lim);
-        let found = match self.follow(place, word, nesting_limit, lim) {
-            Ok(found) => found,
-            Err(k) => return Err(k),
-        };
+        let found = self.follow(place, word, nesting_limit, lim)?;
         let landing = Landing {
             source: self,
             found,
             depth: depth_of(nesting_limit),
         };
-        match landing.claim(words, lim) {
-            Ok(_) => Ok(found.start.at),
-            Err(k) => Err(k),
-        }
+        landing.claim(words, lim)?;
+        Ok(found.start.at)
     }
 
     // Counts a pointer as followed, which only an arena that charges does.
@@ -306,10 +293,7 @@ fn follow_far<'a, A: ReaderArena>(
         (following_far (message (A.segments arena.now)) (A.charging arena.now) far.0)
         lim.old lim.new) }
 {
-    let pad = match landing_pad(arena, far, lim) {
-        Ok(pad) => pad,
-        Err(k) => return Err(k),
-    };
+    let pad = landing_pad(arena, far, lim)?;
     let word = pad.word();
     if far.is_double_far() {
         let tag = Place {
@@ -317,18 +301,16 @@ fn follow_far<'a, A: ReaderArena>(
             ..pad
         };
         let id = word.far_segment_id();
-        match arena.get_segment(id) {
-            Ok(bytes) => Ok(Found {
-                word: tag.word(),
-                start: Place {
-                    segment: u64::from(id),
-                    bytes,
-                    at: word.far_position_in_segment(),
-                },
-                pads: 2,
-            }),
-            Err(k) => Err(k),
-        }
+        let bytes = arena.get_segment(id)?;
+        Ok(Found {
+            word: tag.word(),
+            start: Place {
+                segment: u64::from(id),
+                bytes,
+                at: word.far_position_in_segment(),
+            },
+            pads: 2,
+        })
     } else {
         match word.target(pad.at, pad.length()) {
             Some(at) => Ok(Found {
@@ -357,23 +339,18 @@ fn landing_pad<'a, A: ReaderArena>(
         lim.old lim.new) }
 {
     let id = far.far_segment_id();
-    let bytes = match arena.get_segment(id) {
-        Ok(bytes) => bytes,
-        Err(k) => return Err(k),
-    };
+    let bytes = arena.get_segment(id)?;
     let at = far.far_position_in_segment();
     let words: u32 = if far.is_double_far() { 2 } else { 1 };
     if (at + words) as usize > bytes.len() / 8 {
         return Err(ErrorKind::MessageContainsOutOfBoundsPointer);
     }
-    match arena.amplified_read(u64::from(words), lim) {
-        Ok(()) => Ok(Place {
-            segment: u64::from(id),
-            bytes,
-            at,
-        }),
-        Err(k) => Err(k),
-    }
+    arena.amplified_read(u64::from(words), lim)?;
+    Ok(Place {
+        segment: u64::from(id),
+        bytes,
+        at,
+    })
 }
 
 // How many levels a nesting limit leaves.

@@ -60,17 +60,13 @@ impl<'a, A: ReaderArena> Source<'a, A> {
             None => {}
         }
         self.count(lim);
-        match self.follow(place, word, nesting_limit, lim) {
-            Ok(found) => {
-                let landing = Landing {
-                    source: self,
-                    found,
-                    depth: 1,
-                };
-                landing.enter_expected(expected, lim)
-            }
-            Err(kind) => Err(kind),
-        }
+        let found = self.follow(place, word, nesting_limit, lim)?;
+        let landing = Landing {
+            source: self,
+            found,
+            depth: 1,
+        };
+        landing.enter_expected(expected, lim)
     }
 }
 
@@ -96,10 +92,7 @@ impl<'a, A: ReaderArena> Landing<'a, A> {
             Some(kind) => return Err(kind),
             None => {}
         }
-        let object = match self.enter(Purpose::Value, lim) {
-            Ok(object) => object,
-            Err(kind) => return Err(kind),
-        };
+        let object = self.enter(Purpose::Value, lim)?;
         match name_of_misfit(expected, object) {
             Some(kind) => Err(kind),
             None => Ok(object),

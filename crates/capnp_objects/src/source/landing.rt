@@ -105,13 +105,11 @@ impl<'a, A: ReaderArena> Landing<'a, A> {
         ensures refused { IfErr result (NotEntered purpose (arrival A.ReaderArena self.entry)
             lim.old lim.new) }
     {
-        match self.claim(self.found.word.struct_word_size(), lim) {
-            Ok(()) => Ok(Object::Struct {
-                start: self.found.start,
-                size: self.found.word.struct_size(),
-            }),
-            Err(k) => Err(k),
-        }
+        self.claim(self.found.word.struct_word_size(), lim)?;
+        Ok(Object::Struct {
+            start: self.found.start,
+            size: self.found.word.struct_size(),
+        })
     }
 
     // Enters a list.
@@ -152,14 +150,9 @@ impl<'a, A: ReaderArena> Landing<'a, A> {
             Purpose::Size => return Ok(Object::Flat { start, size, count }),
             Purpose::Value => {}
         }
-        match self.claim(0, lim) {
-            Ok(()) => {}
-            Err(k) => return Err(k),
-        }
-        match self.source.charge(u64::from(count), lim) {
-            Ok(()) => Ok(Object::Flat { start, size, count }),
-            Err(k) => Err(k),
-        }
+        self.claim(0, lim)?;
+        self.source.charge(u64::from(count), lim)?;
+        Ok(Object::Flat { start, size, count })
     }
 
     // Enters a list of elements of bits or bytes.
@@ -183,14 +176,12 @@ impl<'a, A: ReaderArena> Landing<'a, A> {
         let count = self.found.word.list_element_count();
         let bits = data_bits_per_element(size);
         let words = (u64::from(count) * u64::from(bits) + 63) / 64;
-        match self.claim(words as u32, lim) {
-            Ok(()) => Ok(Object::Flat {
-                start: self.found.start,
-                size,
-                count,
-            }),
-            Err(k) => Err(k),
-        }
+        self.claim(words as u32, lim)?;
+        Ok(Object::Flat {
+            start: self.found.start,
+            size,
+            count,
+        })
     }
 
     // Enters a list of pointers.
@@ -209,13 +200,11 @@ impl<'a, A: ReaderArena> Landing<'a, A> {
             lim.old lim.new) }
     {
         let count = self.found.word.list_element_count();
-        match self.claim(count, lim) {
-            Ok(()) => Ok(Object::Pointers {
-                start: self.found.start,
-                count,
-            }),
-            Err(k) => Err(k),
-        }
+        self.claim(count, lim)?;
+        Ok(Object::Pointers {
+            start: self.found.start,
+            count,
+        })
     }
 
     // Enters a list of structs, whose first word is their tag.
@@ -230,10 +219,7 @@ impl<'a, A: ReaderArena> Landing<'a, A> {
             lim.old lim.new) }
     {
         let words = self.found.word.list_inline_composite_word_count();
-        match self.claim(words + 1, lim) {
-            Ok(()) => {}
-            Err(k) => return Err(k),
-        }
+        self.claim(words + 1, lim)?;
         let tag = self.found.start.word();
         if tag.kind() != WirePointerKind::Struct {
             return Err(name_of_non_struct_tag(purpose));
@@ -243,17 +229,15 @@ impl<'a, A: ReaderArena> Landing<'a, A> {
         if u64::from(count) * u64::from(width) > u64::from(words) {
             return Err(ErrorKind::InlineCompositeListsElementsOverrunItsWordCount);
         }
-        match self.source.charge_count(purpose, width, count, lim) {
-            Ok(()) => Ok(Object::Structs {
-                start: Place {
-                    at: self.found.start.at + 1,
-                    ..self.found.start
-                },
-                size: tag.struct_size(),
-                count,
-            }),
-            Err(k) => Err(k),
-        }
+        self.source.charge_count(purpose, width, count, lim)?;
+        Ok(Object::Structs {
+            start: Place {
+                at: self.found.start.at + 1,
+                ..self.found.start
+            },
+            size: tag.struct_size(),
+            count,
+        })
     }
 }
 

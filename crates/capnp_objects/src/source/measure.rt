@@ -91,18 +91,13 @@ impl<'a, A: ReaderArena> Source<'a, A> {
             return Err(ErrorKind::MessageIsTooDeeplyNested);
         }
         self.count(lim);
-        let found = match self.follow(place, word, nesting_limit, lim) {
-            Ok(found) => found,
-            Err(k) => return Err(k),
-        };
+        let found = self.follow(place, word, nesting_limit, lim)?;
         let landing = Landing {
             source: self,
             found,
             depth,
         };
-        match landing.claim(words, lim) {
-            Ok(()) => Ok(found.start.at),
-            Err(k) => Err(k),
-        }
+        landing.claim(words, lim)?;
+        Ok(found.start.at)
     }
 }

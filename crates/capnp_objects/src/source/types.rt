@@ -39,10 +39,8 @@ impl<'a, A: ReaderArena> Source<'a, A> {
             return Ok(PointerType::Null);
         }
         self.count(lim);
-        match self.follow(place, word, nesting_limit, lim) {
-            Ok(found) => described(found.word),
-            Err(kind) => Err(kind),
-        }
+        let found = self.follow(place, word, nesting_limit, lim)?;
+        described(found.word)
     }
 }
 

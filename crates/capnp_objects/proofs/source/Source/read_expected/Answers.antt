@@ -1,6 +1,7 @@
 use Rattle.std.proofs.Common.{◌≡◌, ◌≢◌, get_or, ap, ◌∙◌, w32, sym, refl, Some, None, lit<}
 use Rattle.std.proofs.lemmas.Int.{to_z-of_z}
 use Rattle.std.proofs.lemmas.Bool.{false≢true}
+use Rattle.std.proofs.lemmas.Result.{err_from_is_err_and}
 use Rattle.capnp_words.specs.Meter.{Meter}
 use Rattle.capnp_objects.specs.Source.{levels}
 use Rattle.capnp_objects.specs.Objects.{IsObject}
@@ -30,37 +31,37 @@ returns-in-Some-clause-exactly g c =
     let m : Meter = c.args.lim.now in
     ((λ e. absurd (false≢true e)), (λ can. absurd (not_withheld (expectation c.args.expected) r m m c.in-Some.kind can (no_level (rw word at some) named refl))))
 
-pub returns-in-Ok-clause-object : goal.returns-in-Ok-clause-object
-returns-in-Ok-clause-object g c =
+pub returns-clause-object : goal.returns-clause-object
+returns-clause-object g c =
     let r : Reading = reading_at g.A.ReaderArena c.args.self c.args.place c.args.nesting_limit in
     let word : c.word-word.result.0 ≡ word_of r = c.word-word.ensures.value ∙ ap (λ ws. get_or ws c.args.place.at 0) c.requires.held.0 in
     let some : c.word-word.result.0 ≢ 0 = λ e. false≢true (c.if-is_null.ensures.1 e) in
     let counted : IsCounted r c.args.lim.now c.count.new.lim = record { some = rw word at some; by_one = c.count.ensures } in
     let m : Meter = c.enter_expected.new.lim in
     if_both c.enter_expected.result _ _ (IsObject Value (one_level r) c.args.lim.now m)
-    (λ x opened fits. object_opened Value {r = one_level r} m x (λ _. lit< tt) (level_counted counted) c.in-Ok.ensures.followed opened) c.enter_expected.ensures.object (fits_kind c.args.expected c.in-Ok.found.word.0 c.enter_expected.result c.enter_expected.ensures.of_kind c.enter_expected.ensures.fits)
+    (λ x opened fits. object_opened Value {r = one_level r} m x (λ _. lit< tt) (level_counted counted) c.in_ok-found.ensures.followed opened) c.enter_expected.ensures.object (fits_kind c.args.expected c.in_ok-found.found.word.0 c.enter_expected.result c.enter_expected.ensures.of_kind c.enter_expected.ensures.fits)
 
-pub returns-in-Ok-clause-given : goal.returns-in-Ok-clause-given
-returns-in-Ok-clause-given g c =
+pub returns-clause-given : goal.returns-clause-given
+returns-clause-given g c =
     let r : Reading = reading_at g.A.ReaderArena c.args.self c.args.place c.args.nesting_limit in
     let depth : c.depth_of.result ≡ r.levels = c.depth_of.ensures ∙ ap levels (to_z-of_z w32 c.args.nesting_limit c.ranges.nesting_limit) in
     let level : (expectation c.args.expected).too_deep r.levels ≡ None = rw depth at (sym c.name_of_depth.ensures ∙ c.in-None.is) in
-    if_both c.enter_expected.result (IsOpened Value (arrived (one_level r) (found_target c.in-Ok.found)) c.follow.new.lim c.enter_expected.new.lim) (λ x. ((expectation c.args.expected).another_kind c.in-Ok.found.word.0 ≡ None) × (object_misfit c.args.expected x ≡ None)) (IsGiven c.args.expected r.levels)
-    (λ x opened fits. given x r.levels level fits.1 (is_entered opened fits.0)) c.enter_expected.ensures.object (fits_kind c.args.expected c.in-Ok.found.word.0 c.enter_expected.result c.enter_expected.ensures.of_kind c.enter_expected.ensures.fits)
+    if_both c.enter_expected.result (IsOpened Value (arrived (one_level r) (found_target c.in_ok-found.found)) c.follow.new.lim c.enter_expected.new.lim) (λ x. ((expectation c.args.expected).another_kind c.in_ok-found.found.word.0 ≡ None) × (object_misfit c.args.expected x ≡ None)) (IsGiven c.args.expected r.levels)
+    (λ x opened fits. given x r.levels level fits.1 (is_entered opened fits.0)) c.enter_expected.ensures.object (fits_kind c.args.expected c.in_ok-found.found.word.0 c.enter_expected.result c.enter_expected.ensures.of_kind c.enter_expected.ensures.fits)
 
-pub returns-in-Ok-clause-refused : goal.returns-in-Ok-clause-refused
-returns-in-Ok-clause-refused g c =
+pub returns-clause-refused : goal.returns-clause-refused
+returns-clause-refused g c =
     let r : Reading = reading_at g.A.ReaderArena c.args.self c.args.place c.args.nesting_limit in
     let word : c.word-word.result.0 ≡ word_of r = c.word-word.ensures.value ∙ ap (λ ws. get_or ws c.args.place.at 0) c.requires.held.0 in
     let some : c.word-word.result.0 ≢ 0 = λ e. false≢true (c.if-is_null.ensures.1 e) in
     let counted : IsCounted r c.args.lim.now c.count.new.lim = record { some = rw word at some; by_one = c.count.ensures } in
     let depth : c.depth_of.result ≡ r.levels = c.depth_of.ensures ∙ ap levels (to_z-of_z w32 c.args.nesting_limit c.ranges.nesting_limit) in
     let level : (expectation c.args.expected).too_deep r.levels ≡ None = rw depth at (sym c.name_of_depth.ensures ∙ c.in-None.is) in
-    if_err c.enter_expected.result (IsUnsuited (expectation c.args.expected) (arrived (one_level r) (found_target c.in-Ok.found)) c.follow.new.lim c.enter_expected.new.lim)
-    (Withheld (expectation c.args.expected) r c.args.lim.now c.enter_expected.new.lim) (λ k h. withheld (expectation c.args.expected) counted c.in-Ok.ensures.followed level h) c.enter_expected.ensures.refused
+    if_err c.enter_expected.result (IsUnsuited (expectation c.args.expected) (arrived (one_level r) (found_target c.in_ok-found.found)) c.follow.new.lim c.enter_expected.new.lim)
+    (Withheld (expectation c.args.expected) r c.args.lim.now c.enter_expected.new.lim) (λ k h. withheld (expectation c.args.expected) counted c.in_ok-found.ensures.followed level h) c.enter_expected.ensures.refused
 
-pub returns-in-Ok-clause-exactly : goal.returns-in-Ok-clause-exactly
-returns-in-Ok-clause-exactly g c =
+pub returns-clause-exactly : goal.returns-clause-exactly
+returns-clause-exactly g c =
     let r : Reading = reading_at g.A.ReaderArena c.args.self c.args.place c.args.nesting_limit in
     let word : c.word-word.result.0 ≡ word_of r = c.word-word.ensures.value ∙ ap (λ ws. get_or ws c.args.place.at 0) c.requires.held.0 in
     let some : c.word-word.result.0 ≢ 0 = λ e. false≢true (c.if-is_null.ensures.1 e) in
@@ -68,21 +69,24 @@ returns-in-Ok-clause-exactly g c =
     let depth : c.depth_of.result ≡ r.levels = c.depth_of.ensures ∙ ap levels (to_z-of_z w32 c.args.nesting_limit c.ranges.nesting_limit) in
     let level : (expectation c.args.expected).too_deep r.levels ≡ None = rw depth at (sym c.name_of_depth.ensures ∙ c.in-None.is) in
     given_exactly (expectation c.args.expected) r c.args.lim.now c.enter_expected.new.lim c.enter_expected.result
-    (if_both c.enter_expected.result (IsOpened Value (arrived (one_level r) (found_target c.in-Ok.found)) c.follow.new.lim c.enter_expected.new.lim) (λ x. ((expectation c.args.expected).another_kind c.in-Ok.found.word.0 ≡ None) × (object_misfit c.args.expected x ≡ None)) (λ x. CanBeGiven (expectation c.args.expected) r c.args.lim.now)
-    (λ x opened fits. suited c.args.expected x counted c.in-Ok.ensures.followed level fits.1 (is_entered opened fits.0)) c.enter_expected.ensures.object (fits_kind c.args.expected c.in-Ok.found.word.0 c.enter_expected.result c.enter_expected.ensures.of_kind c.enter_expected.ensures.fits))
-    (returns-in-Ok-clause-refused g c)
+    (if_both c.enter_expected.result (IsOpened Value (arrived (one_level r) (found_target c.in_ok-found.found)) c.follow.new.lim c.enter_expected.new.lim) (λ x. ((expectation c.args.expected).another_kind c.in_ok-found.found.word.0 ≡ None) × (object_misfit c.args.expected x ≡ None)) (λ x. CanBeGiven (expectation c.args.expected) r c.args.lim.now)
+    (λ x opened fits. suited c.args.expected x counted c.in_ok-found.ensures.followed level fits.1 (is_entered opened fits.0)) c.enter_expected.ensures.object (fits_kind c.args.expected c.in_ok-found.found.word.0 c.enter_expected.result c.enter_expected.ensures.of_kind c.enter_expected.ensures.fits))
+    (returns-clause-refused g c)
 
-pub returns-in-Err-clause-refused : goal.returns-in-Err-clause-refused
-returns-in-Err-clause-refused g c =
+pub returns-in_err-found-clause-refused : goal.returns-in_err-found-clause-refused
+returns-in_err-found-clause-refused g c =
     let r : Reading = reading_at g.A.ReaderArena c.args.self c.args.place c.args.nesting_limit in
     let word : c.word-word.result.0 ≡ word_of r = c.word-word.ensures.value ∙ ap (λ ws. get_or ws c.args.place.at 0) c.requires.held.0 in
     let some : c.word-word.result.0 ≢ 0 = λ e. false≢true (c.if-is_null.ensures.1 e) in
     let counted : IsCounted r c.args.lim.now c.count.new.lim = record { some = rw word at some; by_one = c.count.ensures } in
     let depth : c.depth_of.result ≡ r.levels = c.depth_of.ensures ∙ ap levels (to_z-of_z w32 c.args.nesting_limit c.ranges.nesting_limit) in
     let level : (expectation c.args.expected).too_deep r.levels ≡ None = rw depth at (sym c.name_of_depth.ensures ∙ c.in-None.is) in
-    unfollowed level (not_followed counted c.in-Err.ensures.refused)
+    let p = err_from_is_err_and c.from_residual.result c.from_residual.ensures.1 in
+    rw (p.1, p.2) (unfollowed level (not_followed counted c.in_err-found.ensures.refused))
 
-pub returns-in-Err-clause-exactly : goal.returns-in-Err-clause-exactly
-returns-in-Err-clause-exactly g c =
+pub returns-in_err-found-clause-exactly : goal.returns-in_err-found-clause-exactly
+returns-in_err-found-clause-exactly g c =
     let r : Reading = reading_at g.A.ReaderArena c.args.self c.args.place c.args.nesting_limit in
-    ((λ e. absurd (false≢true e)), (λ can. absurd (not_withheld (expectation c.args.expected) r c.args.lim.now c.follow.new.lim c.in-Err.kind can (returns-in-Err-clause-refused g c))))
+    let p = err_from_is_err_and c.from_residual.result c.from_residual.ensures.1 in
+    let refused = rw p.1 at (returns-in_err-found-clause-refused g c) in
+    rw p.1 ((λ e. absurd (false≢true e)), (λ can. absurd (not_withheld (expectation c.args.expected) r c.args.lim.now c.follow.new.lim p.0 can refused)))
