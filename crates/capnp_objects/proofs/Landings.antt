@@ -392,11 +392,6 @@ pub untagged : (purpose : Purpose) {a : Arrival} {m m' : Meter} → IsClaimed a 
 untagged Value o t other = broken (o.levels, t, o.claims, other) o.covers o.paid
 untagged Size o t other = broken (o.levels, t, o.claims, other) o.covers o.paid
 
--- what isn't read for its size is read for its value
-pub for_value : (purpose : Purpose) → (purpose ≡ Size → ⊥) → purpose ≡ Value
-for_value Value h = refl
-for_value Size h = absurd (h refl)
-
 -- what is true of a result is true of it in other words
 pub if_ok : {A E : Type 0} (r : Result A E) (P Q : A → Type 0) → ((x : A) → P x → Q x) → IfOk r P → IfOk r Q
 if_ok (Ok x) P Q f h = f x h

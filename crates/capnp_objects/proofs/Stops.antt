@@ -20,9 +20,10 @@ use Rattle.capnp_objects.specs.declared.object.Purpose.TheVariants.{Value}
 use Rattle.capnp_format.proofs.Sound.{if_bind, at_some}
 use Rattle.capnp_objects.proofs.Parts.{is_null, is_capability, is_inner, means_parts}
 use Rattle.capnp_objects.proofs.Followed.{leads_there, entered_leads}
-use Rattle.capnp_objects.proofs.Faultless.{same_target, no_fault}
+use Rattle.capnp_objects.proofs.Faultless.{no_fault}
 use Rattle.capnp_objects.proofs.Objects.{own_struct, own_pointers, own_structs}
 use Rattle.capnp_objects.proofs.Budgets.{fewer_than_words, paid_both, paid_own, affords_rest}
+use Rattle.capnp_objects.proofs.Sized.{one_target}
 
 -- The word at a place is followed to a, and its pads are paid, from m to m', the pointer counted.
 pub record Reached (r : Reading) (m m' : Meter) (a : Target) : Type 0 where
@@ -42,17 +43,14 @@ InStructs r a m c =
     (es : Elements) × (k : ℕ) × (element_count es ≡ offset_bits (tag r.segments a)) × ElementsMean (child_at r a (pred r.levels) (a.start + 1)) (tag_size r.segments a) es k
     × (m ≡ capabilities_elements es) × (own Value r.segments a + k ≤ c)
 
-same_there : (r : Reading) (b a : Target) → LeadsTo r b → LeadsTo r a → b ≡ a
-same_there r b a l m = same_target r.segments r.segment r.at l.1 m.1
-
-same_word : (r : Reading) (b a : Target) → LeadsTo r b → LeadsTo r a → b.word ≡ a.word
-same_word r b a l m = ap (λ x. x.word) (same_there r b a l m)
+pub same_word : (r : Reading) (b a : Target) → LeadsTo r b → LeadsTo r a → b.word ≡ a.word
+same_word r b a l m = ap (λ x. x.word) (one_target r b a l m)
 
 in_struct : (r : Reading) {a : Target} (t : Tree) (c : ℕ) → LeadsTo r a → kind a.word ≡ 0 → MeansThere r t c → InStruct r a (capabilities t) c
 in_struct r Null c l z h = absurd (l.0 h.0)
 in_struct r {a} (Capability i) c l z (b, lb, e, g) = absurd (omega (arith, same_word r b a lb l, e, z))
 in_struct r {a} (Struct ws ts) c l z (b, k, some, o, claims, e, all, g) =
-    subst (λ x. InStruct r x (capabilities_all ts) c) (same_there r b a o.leads_to l)
+    subst (λ x. InStruct r x (capabilities_all ts) c) (one_target r b a o.leads_to l)
     (ts, k, sym o.pointers, subst (λ d. MeansAll r.segments (pred r.levels) b.segment (b.start + d) ts k) (sym o.data_of) all, refl, omega (arith, own_struct r.segments b o.is_struct, o.data_of, o.pointers, g))
 in_struct r {a} (Flat size ns) c l z (b, some, small, o, claims, e, g) = absurd (omega (arith, same_word r b a o.leads_to l, o.is_list, z))
 in_struct r {a} (Pointers ts) c l z (b, k, some, o, claims, all, g) = absurd (omega (arith, same_word r b a o.leads_to l, o.is_list, z))
@@ -64,7 +62,7 @@ in_pointers r {a} (Capability i) c l (b, lb, e, g) = absurd (omega (arith, same_
 in_pointers r {a} (Struct ws ts) c l (b, k, some, o, claims, e, all, g) = absurd (omega (arith, same_word r b a o.leads_to l.leads_to, o.is_struct, l.is_list))
 in_pointers r {a} (Flat size ns) c l (b, some, small, o, claims, e, g) = absurd (omega (arith, same_word r b a o.leads_to l.leads_to, o.is_size, small, l.is_size))
 in_pointers r {a} (Pointers ts) c l (b, k, some, o, claims, all, g) =
-    subst (λ x. InPointers r x (capabilities_all ts) c) (same_there r b a o.leads_to l.leads_to)
+    subst (λ x. InPointers r x (capabilities_all ts) c) (one_target r b a o.leads_to l.leads_to)
     (ts, k, sym o.counts, all, refl, omega (arith, own_pointers r.segments b o.is_list o.is_size, o.counts, g))
 in_pointers r {a} (Structs d q es) c l (b, m, k, some, o, claims, t, fits, all, g) = absurd (omega (arith, same_word r b a o.leads_to l.leads_to, o.is_size, l.is_size))
 
@@ -75,7 +73,7 @@ in_structs r {a} (Struct ws ts) c l (b, k, some, o, claims, e, all, g) = absurd 
 in_structs r {a} (Flat size ns) c l (b, some, small, o, claims, e, g) = absurd (omega (arith, same_word r b a o.leads_to l.leads_to, o.is_size, small, l.is_size))
 in_structs r {a} (Pointers ts) c l (b, k, some, o, claims, all, g) = absurd (omega (arith, same_word r b a o.leads_to l.leads_to, o.is_size, l.is_size))
 in_structs r {a} (Structs d q es) c l (b, m, k, some, o, claims, t, fits, all, g) =
-    subst (λ x. InStructs r x (capabilities_elements es) c) (same_there r b a o.leads_to l.leads_to) (
+    subst (λ x. InStructs r x (capabilities_elements es) c) (one_target r b a o.leads_to l.leads_to) (
       es,
       k,
       sym t.counts,
@@ -148,7 +146,7 @@ own_within : (r : Reading) {a : Target} (t : Tree) (c : ℕ) → LeadsTo r a →
 own_within r {a} t c l object h = elim (means_parts r t c h) [
   | is_null z ↦ absurd (l.0 z)
   | is_capability b m low one g ↦ absurd (let e : b.word ≡ a.word = same_word r b a m l in omega (arith, low, e, object))
-  | is_inner b m i ↦ let e : own Value r.segments b ≡ own Value r.segments a = ap (own Value r.segments) (same_there r b a m l) in omega (arith, i.cost, e)
+  | is_inner b m i ↦ let e : own Value r.segments b ≡ own Value r.segments a = ap (own Value r.segments) (one_target r b a m l) in omega (arith, i.cost, e)
 ]
 
 -- the object's claim is not covered

@@ -21,7 +21,7 @@ use Rattle.capnp_objects.specs.Outcomes.{Entered}
 use Rattle.capnp_objects.specs.Objects.{IsObject}
 use Rattle.capnp_objects.specs.Refusals.{GoesBefore, in_struct, in_pointers, in_element, CanBeRead}
 use Rattle.capnp_objects.specs.Reading.{Reading, behind, pointers_of, tag_size, sized}
-use Rattle.capnp_objects.specs.Sizing.{Sized, SizedAll, SizedThere, SizedAllThere, FitSize, Tally, tally, WalksAll, WalksElements, WalksRows, SizeStopped, unmeasured, too_large, too_many, SizeStops, here, below, SizesStop, RowsStop}
+use Rattle.capnp_objects.specs.Sizing.{Sized, SizedAll, SizedThere, SizedAllThere, FitSize, Tally, tally, WalksAll, WalksElements, SizeStopped, unmeasured, too_large, too_many, SizeStops, here, below, SizesStop, RowsStop}
 use Rattle.capnp_objects.specs.Spending.{Paid, after}
 use Rattle.capnp_objects.proofs.Budgets.{affords_rest, after_none}
 use Rattle.capnp_objects.proofs.Measures.{with_object_counted, can_not, paid_words}
@@ -31,12 +31,9 @@ use Rattle.capnp_objects.proofs.Sized.{ElementsSized, form, form_there, sized_fo
 use Rattle.capnp_objects.proofs.Sized.{of_struct as form_struct, of_pointers as form_pointers, of_structs as form_structs}
 use Rattle.capnp_objects.proofs.Walked.{inside, beginning, same_place, same_size, counted_struct, counted_flat, counted_pointers, counted_structs}
 use Rattle.capnp_objects.proofs.Followed.{entered_leads, leads_to, leads_there}
+use Rattle.capnp_objects.proofs.Stops.{same_word}
 
 -- from children to their object
-
-pub row_stops : {r : Reading} {size : StructSize} {i : ℕ} {from mid : Tally} {m' : Meter} {k : ErrorKind} (j : ℕ) → WalksRows r size i from mid → i < j → SizesStop (pointers_of r size i) size.pointers mid m' k → RowsStop r size j from m' k
-row_stops {r} {size} {i} {from} {mid} {m'} {k} j (es, len, all) lt stops =
-    record { first = es; fewer = omega (arith, len, lt); mid = mid; are_walked = all; stops = subst (λ x. SizesStop (pointers_of r size x) size.pointers mid m' k) (sym len) stops }
 
 pub struct_stops_at : {r : Reading} {from : Tally} {m' m'' : Meter} {a : Target} {k : ErrorKind} → Entered Size r from.meter m' a → kind a.word ≡ 0 →
     SizesStop (child_at r a (pred r.levels) (a.start + data_words a.word)) (pointer_count a.word) (with_object_counted from a r.segments m') m'' k → SizeStops k r from m''
@@ -139,9 +136,6 @@ can_be r m (Structs d q es) c (a, i, k, some, o, claims, t, fits, all, g) covers
     let words : element_words (tag r.segments a) ≤ list_count a.word = rw (t.counts, t.data_of, t.pointers, o.counts) fits in
     let meets : Meets Size r.segments r.levels a = record { levels = some; is_object = omega (arith, o.is_list); claims = λ v. omega (arith, claims, claimed, o.counts); tagged = λ v. (t.is_struct, words) } in
     inr (inr (a, leads_to r a o.leads_to, meets, affords_less r.charging m (own Size r.segments a) c (omega (arith, charge_of_size r.segments a, claimed, o.counts, g)) covers))
-
-same_word : (r : Reading) (b a : Target) → LeadsTo r b → LeadsTo r a → b.word ≡ a.word
-same_word r b a l m = ap (λ x. x.word) (one_target r b a l m)
 
 -- the words that an object counts are among those of the value
 counted_within : (r : Reading) {a : Target} (t : Tree) (c : ℕ) → SizedThere r t c → LeadsTo r a → kind a.word < 2 → counted_words r.segments a ≤ word_count t
