@@ -21,7 +21,7 @@ use Rattle.capnp_objects.specs.declared.object.Object.TheVariants.{Flat as Objec
 use Rattle.capnp_objects.specs.declared.object.Object.TheVariants.{Pointers as ObjectPointers}
 use Rattle.capnp_objects.specs.declared.object.Object.TheVariants.{Structs as ObjectStructs}
 use Rattle.capnp_objects.specs.declared.source.Found.{Found}
-use Rattle.capnp_objects.specs.declared.source.landing.Landing.{Landing}
+use Rattle.capnp_objects.specs.declared.source.landing.Entrance.{Entrance}
 use Rattle.capnp_arena.specs.declared.arena.reader_arena.ReaderArena.{Ghosts}
 use Rattle.capnp_objects.specs.declared.object.Purpose.{Purpose}
 use Rattle.capnp_objects.specs.Demands.{claim, tag, amplified, Meets}
@@ -85,7 +85,7 @@ pub record Arrival : Type 0 where
   pub target : Target
 
 -- What a landing is at.
-abbrev pub arrival : {A : Type 0} (g : Ghosts A) → Landing A g → Arrival
+abbrev pub arrival : {A : Type 0} (g : Ghosts A) → Entrance A g → Arrival
 arrival g l =
     record {
       segments = (source_start g l.source).segments;

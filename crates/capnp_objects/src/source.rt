@@ -25,7 +25,7 @@ use capnp_arena::arena::ReaderArena;
 use capnp_words::error::ErrorKind;
 use capnp_words::read_limiter::ReadLimiter;
 use capnp_words::wire_pointer::{WirePointer, WirePointerKind};
-use landing::Landing;
+use landing::Entrance;
 
 /// Where a reader reads.
 #[derive_where(Clone, Copy)]
@@ -115,12 +115,12 @@ impl<'a, A: ReaderArena> Source<'a, A> {
     {
         self.count(lim);
         let found = self.follow(place, word, nesting_limit, lim)?;
-        let landing = Landing {
+        let entrance = Entrance {
             source: self,
             found,
             depth: depth_of(nesting_limit),
         };
-        landing.enter(purpose, lim)
+        entrance.enter(purpose, lim)
     }
 
     /// Reads the struct that a near pointer leads to, as `read_object` does: where it starts in the
@@ -145,12 +145,12 @@ impl<'a, A: ReaderArena> Source<'a, A> {
     {
         self.count(lim);
         let found = self.follow(place, word, nesting_limit, lim)?;
-        let landing = Landing {
+        let entrance = Entrance {
             source: self,
             found,
             depth: depth_of(nesting_limit),
         };
-        landing.claim(word.struct_word_size(), lim)?;
+        entrance.claim(word.struct_word_size(), lim)?;
         Ok(found.start.at)
     }
 
@@ -179,12 +179,12 @@ impl<'a, A: ReaderArena> Source<'a, A> {
     {
         self.count(lim);
         let found = self.follow(place, word, nesting_limit, lim)?;
-        let landing = Landing {
+        let entrance = Entrance {
             source: self,
             found,
             depth: depth_of(nesting_limit),
         };
-        landing.claim(words, lim)?;
+        entrance.claim(words, lim)?;
         Ok(found.start.at)
     }
 

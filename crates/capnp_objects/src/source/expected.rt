@@ -9,7 +9,7 @@ ghost use Rattle.capnp_objects.specs.Landings.{arrival, IsOpened};
 ghost use Rattle.capnp_objects.specs.Expected.{expectation, narrow_elements, narrow_structs, CanBeGiven, IsGiven, Withheld};
 ghost use Rattle.capnp_objects.specs.Entering.{object_misfit, place_byte, IsAtHand, IsUnsuited};
 
-use super::landing::Landing;
+use super::landing::Entrance;
 use super::{Source, depth_of};
 use crate::object::{Expected, Object, Place, Purpose};
 use capnp_arena::arena::ReaderArena;
@@ -61,16 +61,16 @@ impl<'a, A: ReaderArena> Source<'a, A> {
         }
         self.count(lim);
         let found = self.follow(place, word, nesting_limit, lim)?;
-        let landing = Landing {
+        let entrance = Entrance {
             source: self,
             found,
             depth: 1,
         };
-        landing.enter_expected(expected, lim)
+        entrance.enter_expected(expected, lim)
     }
 }
 
-impl<'a, A: ReaderArena> Landing<'a, A> {
+impl<'a, A: ReaderArena> Entrance<'a, A> {
     // Enters the object that a pointer leads to, if it is as expected.
     #[inline(always)]
     fn enter_expected(

@@ -13,7 +13,7 @@ use capnp_words::wire_pointer::{ElementSize, WirePointerKind, data_bits_per_elem
 use std::alloc::AllocError;
 
 // What following a pointer found, in the source that it is read from.
-pub(crate) struct Landing<'a, A: ReaderArena> {
+pub(crate) struct Entrance<'a, A: ReaderArena> {
     // Where it is read from.
     pub(crate) source: Source<'a, A>,
     // The word that describes the object, and where that starts.
@@ -23,7 +23,7 @@ pub(crate) struct Landing<'a, A: ReaderArena> {
     ghost held: { IsHeld (source_start A.ReaderArena source).segments found.start },
 }
 
-impl<'a, A: ReaderArena> Clone for Landing<'a, A> {
+impl<'a, A: ReaderArena> Clone for Entrance<'a, A> {
     ghost is_clone = { λ x y. y ≡ x };
 
     ghost is_infallible = { λ _. ⊤ };
@@ -33,9 +33,9 @@ impl<'a, A: ReaderArena> Clone for Landing<'a, A> {
     }
 }
 
-impl<'a, A: ReaderArena> Copy for Landing<'a, A> {}
+impl<'a, A: ReaderArena> Copy for Entrance<'a, A> {}
 
-impl<'a, A: ReaderArena> Landing<'a, A> {
+impl<'a, A: ReaderArena> Entrance<'a, A> {
     ghost use Rattle.std.specs.Prelude.{◌<◌, ◌≤◌, IfOk, OnOk, IfErr};
     ghost use Rattle.capnp_format.specs.Word.{kind, element_size};
     ghost use Rattle.capnp_words.specs.Sizes.{size_number};

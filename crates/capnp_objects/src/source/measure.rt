@@ -9,7 +9,7 @@ ghost use Rattle.capnp_objects.specs.Outcomes.{Entered};
 ghost use Rattle.capnp_objects.specs.Refusals.{CanBeRead};
 ghost use Rattle.capnp_objects.specs.Measures.{NotMeasured};
 
-use super::landing::Landing;
+use super::landing::Entrance;
 use super::{Source, depth_of};
 use crate::object::{Object, Place, Purpose};
 use capnp_arena::arena::ReaderArena;
@@ -92,12 +92,12 @@ impl<'a, A: ReaderArena> Source<'a, A> {
         }
         self.count(lim);
         let found = self.follow(place, word, nesting_limit, lim)?;
-        let landing = Landing {
+        let entrance = Entrance {
             source: self,
             found,
             depth,
         };
-        landing.claim(words, lim)?;
+        entrance.claim(words, lim)?;
         Ok(found.start.at)
     }
 }

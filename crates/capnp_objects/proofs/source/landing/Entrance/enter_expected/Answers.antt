@@ -2,7 +2,7 @@ use Rattle.std.proofs.Common.{sym, ◌∙◌}
 use Rattle.capnp_objects.specs.Entering.{misfits}
 use Rattle.capnp_objects.specs.Landings.{arrival}
 use Rattle.capnp_objects.proofs.Expecting.{IsEnteredAs, entered_object, misfit_of}
-use Rattle.capnp_objects.proofs.source.landing.Landing.enter_expected.Goals as goal
+use Rattle.capnp_objects.proofs.source.landing.Entrance.enter_expected.Goals as goal
 
 pub returns-in-Some-name_of_misfit-clause-refused :
     goal.returns-in-Some-name_of_misfit-clause-refused

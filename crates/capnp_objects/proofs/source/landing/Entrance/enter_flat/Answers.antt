@@ -7,7 +7,7 @@ use Rattle.capnp_objects.specs.Landings.{found_target}
 use Rattle.capnp_objects.specs.Reading.{source_start}
 use Rattle.capnp_objects.proofs.Landings.{entered_free, lies}
 use Rattle.capnp_objects.proofs.Parts.{extra_list, extra_flat, charge_some}
-use Rattle.capnp_objects.proofs.source.landing.Landing.enter_flat.Goals as goal
+use Rattle.capnp_objects.proofs.source.landing.Entrance.enter_flat.Goals as goal
 
 pub returns-in_err-claim-clause-refused : goal.returns-in_err-claim-clause-refused
 returns-in_err-claim-clause-refused g c =

@@ -1,7 +1,7 @@
 use Rattle.std.proofs.Common.{inl, refl, sym}
 use Rattle.std.proofs.lemmas.Bool.{false≢true}
 use Rattle.capnp_objects.proofs.Landings.{refuses_at_once}
-use Rattle.capnp_objects.proofs.source.landing.Landing.enter.Goals as goal
+use Rattle.capnp_objects.proofs.source.landing.Entrance.enter.Goals as goal
 
 pub returns-in-Far-clause-refused : goal.returns-in-Far-clause-refused
 returns-in-Far-clause-refused g c = refuses_at_once (sym c.in-Far.ensures) refl

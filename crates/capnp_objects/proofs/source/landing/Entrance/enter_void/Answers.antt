@@ -1,7 +1,7 @@
 use Rattle.std.proofs.Common.{refl, sym, arith}
 use Rattle.capnp_objects.proofs.Landings.{void_entered}
 use Rattle.capnp_objects.proofs.Parts.{claim_list}
-use Rattle.capnp_objects.proofs.source.landing.Landing.enter_void.Goals as goal
+use Rattle.capnp_objects.proofs.source.landing.Entrance.enter_void.Goals as goal
 
 pub claim-requires-clause-claimed : goal.claim-requires-clause-claimed
 claim-requires-clause-claimed g c = omega (arith, claim_list c.args.self.found.word.0 0 c.requires.is_list c.requires.of_void)

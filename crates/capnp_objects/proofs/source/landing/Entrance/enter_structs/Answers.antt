@@ -6,7 +6,7 @@ use Rattle.capnp_objects.specs.Demands.{tag, element_words}
 use Rattle.capnp_objects.specs.Reading.{source_start}
 use Rattle.capnp_objects.specs.Landings.{found_target, broken}
 use Rattle.capnp_objects.proofs.Landings.{untagged}
-use Rattle.capnp_objects.proofs.source.landing.Landing.enter_structs.Goals as goal
+use Rattle.capnp_objects.proofs.source.landing.Entrance.enter_structs.Goals as goal
 
 pub returns-in_err-claim-clause-refused : goal.returns-in_err-claim-clause-refused
 returns-in_err-claim-clause-refused g c =
