@@ -1,13 +1,13 @@
 -- What is read piece by piece is read as a whole.
-use Rattle.std.proofs.Common.{◌≡◌, ℕ, zero, suc, ◌+◌, ◌-◌, ◌*◌, ◌/◌, ◌^◌, ◌<◌, ◌≤◌, inl, inr, List, [], ◌∷◌, ◌++◌, length, get_or, take, drop, map, replicate, refl, sym, ap, ap₂, ◌∙◌, subst, arith, length-append, length-take, length-drop, get_or-drop, append-nil, append_assoc, take-add, take_at, drop_at, drop-drop, take-append-drop, slice_get, Option, Some, None, IfSome}
+use Rattle.std.proofs.Common.{◌≡◌, ℕ, zero, suc, ◌+◌, ◌-◌, ◌*◌, ◌/◌, ◌^◌, ◌<◌, ◌≤◌, inl, inr, List, [], ◌∷◌, ◌++◌, length, get_or, take, drop, replicate, refl, sym, ap, ap₂, ◌∙◌, subst, arith, length-append, length-take, length-drop, get_or-drop, append-nil, append_assoc, take-add, take_at, drop_at, drop-drop, take-append-drop, slice_get, Option, Some, None, IfSome}
 use Rattle.std.specs.List.{All}
 use Rattle.std.specs.Int.{from_le_bytes, to_le_bytes, w32, w64}
-use Rattle.std.specs.Io.KnownBytes.{Consumes, IsAtEnd}
+use Rattle.std.specs.Io.KnownBytes.{Consumes}
 use Rattle.std.proofs.lemmas.Grind.{common_steps}
 use Rattle.std.proofs.lemmas.List.{take-append-le, drop-append-le, length-replicate}
 use Rattle.std.proofs.lemmas.Nat.{from_le_bytes-to_le_bytes_4, le_bytes_4}
 use Rattle.capnp_format.specs.Bytes.{message, words_of}
-use Rattle.capnp_framing.proofs.TableLemmas.{below_take, length-lengths}
+use Rattle.capnp_framing.proofs.TableLemmas.{length-lengths}
 use Rattle.capnp_framing.specs.Laws.{FrameIsRead, FramesAreAsLong}
 use borrow.Rule.Slice.PartMut.{put_mid}
 use Rattle.capnp_format.specs.Segments.{Segments}
@@ -25,12 +25,6 @@ consumes_both None b c first more f g = tt
 consumes_both (Some x) None c first more f g = absurd f
 consumes_both (Some x) (Some y) None first more f g = absurd g
 consumes_both (Some x) (Some y) (Some z) first more f g = grind (arith, common_steps)
-
--- the input ended behind these
-pub ended : (a b : Option (List ℕ)) (xs : List ℕ) (m : ℕ) → Consumes a b xs → IsAtEnd b → length xs < m → IfSome a (λ bytes. length bytes < m)
-ended None b xs m f e l = tt
-ended (Some x) None xs m f e l = absurd f
-ended (Some x) (Some y) xs m f e l = let whole : x ≡ xs = f ∙ ap (λ ys. xs ++ ys) e ∙ append-nil xs in omega (arith, ap length whole)
 
 -- it ended later
 cut_later : (a b : Option (List ℕ)) (xs : List ℕ) (n m : ℕ) → Consumes a b xs → length xs + n ≤ m → IfSome b (λ bytes. length bytes < n) → IfSome a (λ bytes. length bytes < m)
@@ -76,39 +70,8 @@ told_more i bs = rw (let e : i + 1 ≡ suc i = omega arith in e) (go i bs)
         go i (drop 4 bs) ∙ ap (λ (xs : List ℕ). words_told i (drop 4 bs) + from_le_bytes w32 (take 4 xs)) there in
         omega (arith, h)
 
--- one segment more
-pub contents-push : (S : Segments) (ws : List ℕ) → contents (S ++ ws ∷ []) ≡ contents S ++ bytes_of_words ws
-contents-push [] ws = append-nil (bytes_of_words ws)
-contents-push (vs ∷ S) ws = ap (λ (xs : List ℕ). bytes_of_words vs ++ xs) (contents-push S ws) ∙ sym (append_assoc (bytes_of_words vs) (contents S) (bytes_of_words ws))
-
-pub lengths-push : (S : Segments) (ws : List ℕ) → lengths (S ++ ws ∷ []) ≡ lengths S ++ to_le_bytes w32 (length ws)
-lengths-push [] ws = append-nil (to_le_bytes w32 (length ws))
-lengths-push (vs ∷ S) ws = ap (λ (xs : List ℕ). to_le_bytes w32 (length vs) ++ xs) (lengths-push S ws) ∙ sym (append_assoc (to_le_bytes w32 (length vs)) (lengths S) (to_le_bytes w32 (length ws)))
-
-pub message_push : {A : Type 0} (f : A → List ℕ) (rows : List A) (row : A) → message (map f (rows ++ row ∷ [])) ≡ message (map f rows) ++ words_of (f row) ∷ []
-message_push f [] row = refl
-message_push f (x ∷ xs) row = ap (λ (ys : Segments). words_of (f x) ∷ ys) (message_push f xs row)
-
 below_drop : (n : ℕ) (bs : List ℕ) → ((i : ℕ) → get_or bs i 0 < 256) → (i : ℕ) → get_or (drop n bs) i 0 < 256
 below_drop n bs l i = omega (arith, get_or-drop n bs i 0, l (n + i))
-
--- one length more of a table is read
-pub told_push : (i : ℕ) (table : List ℕ) (S : Segments) (ws : List ℕ) → ((j : ℕ) → get_or table j 0 < 256) → 4 * i + 4 ≤ length table → lengths S ≡ take (4 * i) table →
-    length ws ≡ from_le_bytes w32 (take 4 (drop (4 * i) table)) → lengths (S ++ ws ∷ []) ≡ take (4 * (i + 1)) table
-told_push i table S ws l room e same =
-    let four : List ℕ = take 4 (drop (4 * i) table) in
-    let long : length four ≡ 4 = omega (arith, length-take 4 (drop (4 * i) table), length-drop (4 * i) table) in
-    lengths-push S ws
-    ∙ ap₂ (λ (xs ys : List ℕ). xs ++ ys) e (le_bytes_4 four (length ws) long (below_take 4 (drop (4 * i) table) (below_drop (4 * i) table l)) same)
-    ∙ sym (take-add (4 * i) 4 table)
-    ∙ ap (λ n. take n table) (let k : 4 * i + 4 ≡ 4 * (i + 1) = omega arith in k)
-
-pub size_push : (S : Segments) (ws bs : List ℕ) (n m : ℕ) → bytes_of_words ws ≡ bs → length (contents S) ≡ n → length bs ≡ m → length (contents (S ++ ws ∷ [])) ≡ n + m
-size_push S ws bs n m whole e l = ap length (contents-push S ws) ∙ omega (arith, length-append (contents S) (bytes_of_words ws), ap length whole, e, l)
-
-pub total-push : (S : Segments) (ws : List ℕ) → total (S ++ ws ∷ []) ≡ total S + length ws
-total-push [] ws = omega arith
-total-push (vs ∷ S) ws = omega (arith, total-push S ws)
 
 -- only the lengths themselves are looked at
 told_front : (n : ℕ) (xs ys zs : List ℕ) → 4 * n ≤ length xs → words_told n (xs ++ ys) ≡ words_told n (xs ++ zs)

@@ -8,7 +8,7 @@ use Rattle.capnp_format.specs.Bytes.{message, words_of}
 use Rattle.capnp_format.specs.Segments.{Segments, segment}
 use Rattle.capnp_format.proofs.WordsOf.{words}
 use Rattle.std.proofs.lemmas.List.Elements.{All-nil, All-cons}
-use Rattle.capnp_framing.specs.Frames.{bytes_of_words, lengths, contents, padding_size, frame}
+use Rattle.capnp_framing.specs.Frames.{bytes_of_words, lengths, contents, padding_size}
 use borrow.Rule.Slice.PartMut.{put_mid}
 
 pub length-lengths : (S : Segments) → length (lengths S) ≡ 4 * length S
@@ -63,9 +63,6 @@ table_end S i h = ap lengths_left (drop_all i S h)
 
 pub contents-drop : (S : Segments) (i : ℕ) → i < length S → contents (drop i S) ≡ bytes_of_words (segment S i) ++ contents (drop (i + 1) S)
 contents-drop S i h = ap contents (drop_more S i [] h)
-
-pub contents-end : (S : Segments) (i : ℕ) → length S ≤ i → contents (drop i S) ≡ []
-contents-end S i h = ap contents (drop_all i S h)
 
 pub below_take : (n : ℕ) (bs : List ℕ) → ((i : ℕ) → get_or bs i 0 < 256) → (i : ℕ) → get_or (take n bs) i 0 < 256
 below_take zero bs l i = omega arith
