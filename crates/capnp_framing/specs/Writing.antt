@@ -1,5 +1,5 @@
 -- What a writer has taken, and what it still has to take.
-use Rattle.std.specs.Prelude.{◌≡◌, ℕ, List}
+use Rattle.std.specs.Prelude.{◌≡◌, ℕ, List, Result, OnOk, OnErr, true, false}
 use Rattle.std.specs.Io.KnownBytes.{Appends}
 use Rattle.capnp_framing.specs.declared.devices.Output.{Ghosts}
 
@@ -11,3 +11,9 @@ module _ {W : Type 0} (g : Ghosts W) where
   -- An output has taken nothing, and works if it did before.
   abbrev pub IsUnwritten : W → W → Type 0
   IsUnwritten from to = (g.contents to ≡ g.contents from) × (g.has_failed to ≡ g.has_failed from)
+
+  -- All bytes are written, and the output works on; or it has failed.
+  pub record Writes {A E : Type 0} (result : Result A E) (from to : W) (bytes : List ℕ) : Type 0 where
+    pub written : OnOk result (Prints from to bytes)
+    pub works : OnOk result (g.has_failed to ≡ false)
+    pub fails : OnErr result (g.has_failed to ≡ true)

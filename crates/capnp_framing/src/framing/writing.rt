@@ -6,7 +6,7 @@ ghost use Rattle.capnp_format.specs.Segments.{segment};
 ghost use Rattle.capnp_arena.specs.Limits.{IsSmall};
 ghost use Rattle.capnp_framing.specs.Frames.{CanBeFramed, AreSegmentWords, bytes_of_words, contents, frame, lengths, max_frame_segments, padding_size};
 ghost use Rattle.capnp_framing.specs.Reading.{IsRefusedNumber};
-ghost use Rattle.capnp_framing.specs.Writing.{IsUnwritten, Prints};
+ghost use Rattle.capnp_framing.specs.Writing.{IsUnwritten, Prints, Writes};
 ghost use Rattle.capnp_framing.specs.declared.framing.frame_error.FrameError.TheVariants.{WriteFailed};
 ghost use borrow.Rule.Slice.PartMut.{put_mid};
 
@@ -67,11 +67,9 @@ fn write_table<W: Output, S: ReaderSegments>(
     requires count { count ≡ length (S.segments segments.now) }
     requires some { 1 ≤ count }
     requires few { count ≤ max_frame_segments }
-    ensures written { OnOk result (Prints W.Output output.old output.new
+    ensures { Writes W.Output result output.old output.new
         (to_le_bytes w32 (count - 1)
-        ++ (lengths (message (S.segments segments.now)) ++ replicate (padding_size count) 0))) }
-    ensures works { OnOk result (W.has_failed output.new ≡ false) }
-    ensures fails { OnErr result (W.has_failed output.new ≡ true) }
+        ++ (lengths (message (S.segments segments.now)) ++ replicate (padding_size count) 0)) }
 {
     let first = two_numbers(count - 1, length_of(segments, 0));
     write_all(output, first.as_slice())?;
@@ -89,11 +87,9 @@ fn write_table<W: Output, S: ReaderSegments>(
 fn write_words<W: Output>(output: &mut W, words: &[u8]) -> Result<(), DeviceFault>
     requires works { W.has_failed output.old ≡ false }
     requires whole { length words.now ≡ 8 * length (words_of words.now) }
-    ensures written { OnOk result (Prints W.Output output.old output.new
-        (bytes_of_words (words_of words.now))) }
+    ensures writes { Writes W.Output result output.old output.new
+        (bytes_of_words (words_of words.now)) }
     ensures words { AreSegmentWords (words_of words.now) }
-    ensures works { OnOk result (W.has_failed output.new ≡ false) }
-    ensures fails { OnErr result (W.has_failed output.new ≡ true) }
 {
     write_all(output, words)
 }
@@ -107,11 +103,9 @@ fn write_contents<W: Output, S: ReaderSegments>(
     requires works { W.has_failed output.old ≡ false }
     requires small { IsSmall (S.segments segments.now) }
     requires count { count ≡ length (S.segments segments.now) }
-    ensures written { OnOk result (Prints W.Output output.old output.new
-        (contents (message (S.segments segments.now)))) }
+    ensures writes { Writes W.Output result output.old output.new
+        (contents (message (S.segments segments.now))) }
     ensures words { OnOk result (All AreSegmentWords (message (S.segments segments.now))) }
-    ensures works { OnOk result (W.has_failed output.new ≡ false) }
-    ensures fails { OnErr result (W.has_failed output.new ≡ true) }
 {
     for i in 0..count {
         write_words(output, words_in(segments, i))?;

@@ -15,7 +15,7 @@ loop-i-preserved g c =
     let inside : c.loop-i.i < length S = omega (arith, as_many bytes, c.requires.count, c.loop-i-test.true) in
     let same = c.words_in.ensures.words in
     record {
-      left_over = left_over_less (contents (drop (c.loop-i.i + 1) S)) (record { left_over = c.loop-i.invariant.left_over; appended = c.in_ok-write_words.ensures.written })
+      left_over = left_over_less (contents (drop (c.loop-i.i + 1) S)) (record { left_over = c.loop-i.invariant.left_over; appended = c.in_ok-write_words.ensures.writes.written })
           (contents-drop S c.loop-i.i inside ∙ ap (λ ws. bytes_of_words ws ++ contents (drop (c.loop-i.i + 1) S)) (sym same));
       small = All-more AreSegmentWords S c.loop-i.i [] inside c.loop-i.invariant.small (subst AreSegmentWords same c.write_words.ensures.words);
       works = search rules;

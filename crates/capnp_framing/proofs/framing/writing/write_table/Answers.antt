@@ -35,8 +35,12 @@ loop-k-preserved g c =
       works = search rules;
     }
 
-pub returns-clause-written : goal.returns-clause-written
-returns-clause-written g c =
+pub returns : goal.returns
+returns g c =
     let bytes : List (List ℕ) = g.S.ReaderSegments.segments c.args.segments.now in
     let S : Segments = message bytes in
-    left_over_end _ _ _ _ c.loop-k.invariant.left_over (table_end S (2 * c.loop-k.k + 1) (omega (arith, as_many bytes, c.requires.count, c.loop-k-test.false, c.loop-k.auto.k-end)))
+    record {
+      written = left_over_end _ _ _ _ c.loop-k.invariant.left_over (table_end S (2 * c.loop-k.k + 1) (omega (arith, as_many bytes, c.requires.count, c.loop-k-test.false, c.loop-k.auto.k-end)));
+      works = search rules;
+      fails = search rules;
+    }
