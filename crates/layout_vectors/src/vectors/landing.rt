@@ -11,7 +11,7 @@ use capnp_words::words;
 
 /// Where a pointer leads, its landing pads read.
 #[derive(Clone, Copy)]
-pub(crate) struct Landing {
+pub(crate) struct PointerTarget {
     /// The word that describes the object: the pointer itself, its landing pad, or the pad's tag.
     pub(crate) word: WirePointer,
     /// The segment of the object.
@@ -57,7 +57,7 @@ fn exists<A: ReaderArena>(arena: &A, id: u32) -> bool
 }
 
 /// Where the pointer at a place leads, which is not zero.
-pub(crate) fn follow<A: ReaderArena>(arena: &A, id: u32, at: u32) -> Option<Landing>
+pub(crate) fn follow<A: ReaderArena>(arena: &A, id: u32, at: u32) -> Option<PointerTarget>
     ensures { target_reached result ≡ leads (message (A.segments arena.now)) id at }
 {
     let word = word_of(arena, id, at);
@@ -75,11 +75,11 @@ fn follow_near<A: ReaderArena>(
     at: u32,
     word: WirePointer,
     pads: u32,
-) -> Option<Landing>
+) -> Option<PointerTarget>
     ensures { target_reached result ≡ near (message (A.segments arena.now)) id at word.0 pads }
 {
     match word.target(at, length_of(arena, id)) {
-        Some(start) => Some(Landing {
+        Some(start) => Some(PointerTarget {
             word,
             segment: id,
             start,
@@ -90,7 +90,7 @@ fn follow_near<A: ReaderArena>(
 }
 
 /// Where a far pointer leads.
-fn follow_far<A: ReaderArena>(arena: &A, word: WirePointer) -> Option<Landing>
+fn follow_far<A: ReaderArena>(arena: &A, word: WirePointer) -> Option<PointerTarget>
     ensures { target_reached result
         ≡ far (message (A.segments arena.now)) word.0 (is_double word.0) }
 {
@@ -102,7 +102,7 @@ fn follow_far<A: ReaderArena>(arena: &A, word: WirePointer) -> Option<Landing>
 }
 
 /// Where a far pointer of one landing pad leads.
-fn follow_single<A: ReaderArena>(arena: &A, word: WirePointer) -> Option<Landing>
+fn follow_single<A: ReaderArena>(arena: &A, word: WirePointer) -> Option<PointerTarget>
     ensures { target_reached result ≡ far (message (A.segments arena.now)) word.0 0 }
 {
     let id = word.far_segment_id();
@@ -118,7 +118,7 @@ fn follow_single<A: ReaderArena>(arena: &A, word: WirePointer) -> Option<Landing
 }
 
 /// Where a far pointer of two landing pads leads.
-fn follow_double<A: ReaderArena>(arena: &A, word: WirePointer) -> Option<Landing>
+fn follow_double<A: ReaderArena>(arena: &A, word: WirePointer) -> Option<PointerTarget>
     ensures { target_reached result ≡ far (message (A.segments arena.now)) word.0 1 }
 {
     let id = word.far_segment_id();
@@ -131,7 +131,7 @@ fn follow_double<A: ReaderArena>(arena: &A, word: WirePointer) -> Option<Landing
     if tag.kind() == WirePointerKind::Far || !exists(arena, pad.far_segment_id()) {
         return None;
     }
-    Some(Landing {
+    Some(PointerTarget {
         word: tag,
         segment: pad.far_segment_id(),
         start: pad.far_position_in_segment(),

@@ -11,7 +11,7 @@ ghost use Rattle.capnp_words.specs.declared.error.ErrorKind.TheVariants.{Allocat
 ghost use Rattle.layout_vectors.specs.Landings.{target_at};
 ghost use Rattle.layout_vectors.specs.Walks.{walk, Goes, FailsWalk, TakesTarget, HasNoObject, FitsMarks};
 
-use crate::vectors::landing::{Landing, word_of};
+use crate::vectors::landing::{PointerTarget, word_of};
 use crate::vectors::marks::Marks;
 use crate::vectors::pending::{Spot, put_elements, put_pointers};
 use capnp_arena::arena::ReaderArena;
@@ -26,7 +26,7 @@ pub(crate) fn take_object<A: ReaderArena>(
     arena: &A,
     marks: &mut Marks,
     pending: &mut Vec<Spot>,
-    landing: Landing,
+    landing: PointerTarget,
 ) -> Result<bool, ErrorKind>
     requires { FitsMarks (message (A.segments arena.now)) marks.old }
     ensures goes { IfOk result (λ b. IsTrue b
@@ -54,7 +54,7 @@ fn take_struct<A: ReaderArena>(
     arena: &A,
     marks: &mut Marks,
     pending: &mut Vec<Spot>,
-    landing: Landing,
+    landing: PointerTarget,
 ) -> Result<bool, ErrorKind>
     requires fits { FitsMarks (message (A.segments arena.now)) marks.old }
     requires is_struct { kind landing.word.0 ≡ 0 }
@@ -80,7 +80,7 @@ fn take_pointers<A: ReaderArena>(
     arena: &A,
     marks: &mut Marks,
     pending: &mut Vec<Spot>,
-    landing: Landing,
+    landing: PointerTarget,
 ) -> Result<bool, ErrorKind>
     requires fits { FitsMarks (message (A.segments arena.now)) marks.old }
     requires is_list { kind landing.word.0 ≡ 1 }
@@ -106,7 +106,7 @@ fn take_flat<A: ReaderArena>(
     arena: &A,
     marks: &mut Marks,
     pending: &mut Vec<Spot>,
-    landing: Landing,
+    landing: PointerTarget,
     size: ElementSize,
 ) -> bool
     requires fits { FitsMarks (message (A.segments arena.now)) marks.old }
@@ -135,7 +135,12 @@ fn flat_words(size: ElementSize, count: u32) -> u32
 }
 
 /// Whether the bits behind the elements of a list are zero, whose words lie in their segment.
-fn has_padding<A: ReaderArena>(arena: &A, landing: Landing, size: ElementSize, count: u32) -> bool
+fn has_padding<A: ReaderArena>(
+    arena: &A,
+    landing: PointerTarget,
+    size: ElementSize,
+    count: u32,
+) -> bool
     requires inside { landing.start + words_for (size_number size) count
         ≤ length (segment (message (A.segments arena.now)) landing.segment) }
     requires is_flat { size_number size ≤ 5 }
@@ -189,7 +194,7 @@ fn take_structs<A: ReaderArena>(
     arena: &A,
     marks: &mut Marks,
     pending: &mut Vec<Spot>,
-    landing: Landing,
+    landing: PointerTarget,
 ) -> Result<bool, ErrorKind>
     requires fits { FitsMarks (message (A.segments arena.now)) marks.old }
     requires is_list { kind landing.word.0 ≡ 1 }
