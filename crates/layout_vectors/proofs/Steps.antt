@@ -1,6 +1,6 @@
 -- One object taken: what is counted with it before is what is counted without it afterwards; or nothing can be counted.
 use Rattle.std.proofs.Common.{◌≡◌, ◌≢◌, ◌↔◌, ℕ, zero, suc, length-append, ◌+◌, ◌*◌, ◌^◌, ◌<◌, ◌≤◌, List, [], ◌∷◌, ◌++◌, length, Some, None, refl, sym, ap, ap₂, ◌∙◌, subst, arith, pow_pos, pow_mono, lt_of_lt_of_le}
-use Rattle.capnp_format.specs.Word.{kind, lower_half, upper_half, offset_bits, data_words, pointer_count, element_size, list_count, capability_word}
+use Rattle.capnp_format.specs.Word.{kind, lower_half, upper_half, data_words, pointer_count, element_size, list_count, capability_word}
 use Rattle.capnp_format.specs.Numbers.{words_for, unpacked, packed, element_bits, from_digits}
 use Rattle.capnp_format.specs.Value.{AreBelow}
 use Rattle.capnp_format.specs.Segments.{Segments, segment, word_at, words_at, Target, leads}
@@ -203,14 +203,6 @@ capability_goes S a M J x F = (λ h. to h.0 h.1 h.2, λ h. (Capability (upper_ha
     to (Pointers ts) o h = absurd (omega (arith, x, o.0))
     to (Structs e f es) o h = absurd (omega (arith, x, o.0))
 
-pub no_object : (S : Segments) (a : Target) (t : Tree) → 1 < kind a.word → lower_half a.word ≢ 3 → IsTidyObject S a t → ⊥
-no_object S a Null k n o = o
-no_object S a (Capability i) k n o = n (ap lower_half o ∙ omega arith)
-no_object S a (Struct ws ts) k n o = omega (arith, k, o.0)
-no_object S a (Flat size ns) k n o = omega (arith, k, o.1)
-no_object S a (Pointers ts) k n o = omega (arith, k, o.0)
-no_object S a (Structs e f es) k n o = omega (arith, k, o.0)
-
 -- how many words an object has by itself
 abbrev pub own_words : Tree → ℕ
 own_words Null = 0
@@ -278,17 +270,6 @@ flat_words S a size n (Struct ws ts) es en x small o = absurd (omega (arith, x, 
 flat_words S a size n (Flat z ns) es en x small o = ap₂ words_for (sym o.2 ∙ sym es) (sym o.3 ∙ sym en)
 flat_words S a size n (Pointers ts) es en x small o = absurd (omega (arith, es, small, o.1))
 flat_words S a size n (Structs d q gs) es en x small o = absurd (omega (arith, es, small, o.1))
-
--- the tag is none, or the elements don't take exactly what is claimed
-pub structs_fail : (S : Segments) (a : Target) (t : Tree) (n d q : ℕ) → kind a.word ≡ 1 → element_size a.word ≡ 7 → n ≡ offset_bits (word_at S a.segment a.start) → d ≡ data_words (word_at S a.segment a.start) →
-    q ≡ pointer_count (word_at S a.segment a.start) → (kind (word_at S a.segment a.start) ≡ 0 → n * (d + q) ≡ list_count a.word → ⊥) → IsTidyObject S a t → ⊥
-structs_fail S a Null n d q x z en ed eq fails o = o
-structs_fail S a (Capability i) n d q x z en ed eq fails o = omega (arith, x, capability_kind a.word i o)
-structs_fail S a (Struct ws ts) n d q x z en ed eq fails o = omega (arith, x, o.0)
-structs_fail S a (Flat size ns) n d q x z en ed eq fails o = omega (arith, z, o.0, o.2)
-structs_fail S a (Pointers ts) n d q x z en ed eq fails o = omega (arith, z, o.1)
-structs_fail S a (Structs e f es) n d q x z en ed eq fails (y, w, c, inside, g, ks) =
-    fails g.is_struct (ap₂ (λ i j. i * j) (en ∙ g.counts) (ap₂ (λ i j. i + j) (ed ∙ g.data_of) (eq ∙ g.pointers)) ∙ sym c)
 
 -- the pointer itself: null
 pub null_goes : (S : Segments) (M : Counting) (j : Spot) (J : List Spot) → word_at S j.segment j.at ≡ 0 → (F : Counting) → Counts S M (j ∷ J) F ↔ Counts S M J F

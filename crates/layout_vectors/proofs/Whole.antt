@@ -6,7 +6,7 @@ use Rattle.capnp_format.specs.Segments.{Segments, segment, word_at}
 use Rattle.capnp_format.specs.Tree.{Tree}
 use Rattle.capnp_format.specs.Forest.{times, cover, root, IsForest}
 use Rattle.capnp_format.specs.Forest.{row}
-use Rattle.layout_vectors.specs.Counts.{Counting, Counts}
+use Rattle.layout_vectors.specs.Counts.{Counts}
 use Rattle.layout_vectors.specs.Marks.{AreMarks}
 use Rattle.layout_vectors.specs.Spots.{spot}
 use Rattle.layout_vectors.specs.Walks.{FitsRows, IsZeroWhereFree}
@@ -37,8 +37,3 @@ counts_forest S M N only (t, k, h) fits marks zero =
         tidy = k.tidy;
       },
     )
-
-pub not_zero : (S M N : Segments) → OnlyRoot M → ((F : Counting) → Counts S (word_at M) (spot 0 0 ∷ []) F → (u q : ℕ) → F u q ≡ word_at N u q) → (IsZeroWhereFree S N → ⊥) → (t : Tree) → IsForest S t → ⊥
-not_zero S M N only ends fails t f =
-    let same = ends (times (root ∷ cover S 0 0 t)) (forest_counts S M t only f) in
-    fails (λ u q e. f.zero_elsewhere u q (same u q ∙ e))
