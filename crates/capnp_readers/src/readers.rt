@@ -201,10 +201,7 @@ impl<'a, A: ReaderArena> PointerReader<'a, A> {
             (record { from = self.entry; expected = expectation expected; default = default })
             result }
     {
-        let default = match Self::from_default(bytes) {
-            Ok(default) => default,
-            Err(kind) => return Err(kind),
-        };
+        let default = Self::from_default(bytes)?;
         let from = PointerReader {
             source: default.source,
             place: default.place,
@@ -263,17 +260,11 @@ impl<'a, A: ReaderArena> PointerReader<'a, A> {
             (record { from = self.entry; expected = expectation expected; default = default.entry })
             lim.old lim.new) }
     {
-        let from = match self.or_default(expected, default) {
-            Ok(from) => from,
-            Err(kind) => return Err(kind),
-        };
-        match from
+        let from = self.or_default(expected, default)?;
+        let object = from
             .source
-            .read_expected(expected, from.place, from.nesting_limit, lim)
-        {
-            Ok(object) => Ok((from, object)),
-            Err(kind) => Err(kind),
-        }
+            .read_expected(expected, from.place, from.nesting_limit, lim)?;
+        Ok((from, object))
     }
 
     /// The struct that the pointer leads to ("Structs"). A null pointer gives that of the default; where
@@ -305,10 +296,8 @@ impl<'a, A: ReaderArena> PointerReader<'a, A> {
             (record { from = self.entry; expected = struct_expected; default = default.entry })
             lim.old lim.new) }
     {
-        let (from, object) = match self.expect(Expected::Struct, lim, default) {
-            Ok(found) => found,
-            Err(kind) => return Err(kind),
-        };
+        let found = self.expect(Expected::Struct, lim, default)?;
+        let (from, object) = found;
         match from.target_of(object) {
             Target::Struct(found) => Ok(found),
             _ => Ok(StructReader::new_default()),
@@ -348,10 +337,8 @@ impl<'a, A: ReaderArena> PointerReader<'a, A> {
             lim.old lim.new) }
     {
         let expected = Expected::List(expected_element_size);
-        let (from, object) = match self.expect(expected, lim, default) {
-            Ok(found) => found,
-            Err(kind) => return Err(kind),
-        };
+        let found = self.expect(expected, lim, default)?;
+        let (from, object) = found;
         match from.target_of(object) {
             Target::List(found) => Ok(found),
             _ => Ok(ListReader::new_default()),
@@ -385,11 +372,8 @@ impl<'a, A: ReaderArena> PointerReader<'a, A> {
             (record { from = self.entry; expected = text_expected; default = default.entry })
             lim.old lim.new) }
     {
-        let (_, object) = match self.expect(Expected::Text, lim, default) {
-            Ok(found) => found,
-            Err(kind) => return Err(kind),
-        };
-        match object {
+        let found = self.expect(Expected::Text, lim, default)?;
+        match found.1 {
             Object::Flat { start, count, .. } => Ok(bytes_at(start, count - 1)),
             _ => Ok(&[]),
         }
@@ -417,11 +401,8 @@ impl<'a, A: ReaderArena> PointerReader<'a, A> {
             (record { from = self.now; expected = data_expected; default = default.entry })
             lim.old lim.new) }
     {
-        let (_, object) = match self.expect(Expected::Data, lim, default) {
-            Ok(found) => found,
-            Err(kind) => return Err(kind),
-        };
-        match object {
+        let found = self.expect(Expected::Data, lim, default)?;
+        match found.1 {
             Object::Flat { start, count, .. } => Ok(bytes_at(start, count)),
             _ => Ok(&[]),
         }
@@ -480,10 +461,10 @@ impl<'a, A: ReaderArena> PointerReader<'a, A> {
         ensures refused { IfErr result
             (Stopped Value plain (reading A.ReaderArena self.now) lim.old lim.new) }
     {
-        match self.source.read_object(self.place, self.nesting_limit, lim) {
-            Ok(object) => Ok(self.target_of(object)),
-            Err(kind) => Err(kind),
-        }
+        let object = self
+            .source
+            .read_object(self.place, self.nesting_limit, lim)?;
+        Ok(self.target_of(object))
     }
 
     // An object that the pointer leads to, as readers of the same source with one level less.

@@ -8,23 +8,29 @@ pub target_of-requires : goal.target_of-requires
 target_of-requires g c =
     let m = c.args.lim.now in
     let m' = c.expect.new.lim in
-    let read : IsReadAt (reading g.A.ReaderArena c.in-Ok.found.0) m m' c.in-Ok.found.1 = record { object = c.in-Ok.ensures.object } in
-    record { read = (m, m', struct_given c.in-Ok.found.1 c.in-Ok.ensures.given read) }
+    let read : IsReadAt (reading g.A.ReaderArena c.in_ok-found.found.0) m m' c.in_ok-found.found.1 = record { object = c.in_ok-found.ensures.object } in
+    record { read = (m, m', struct_given c.in_ok-found.found.1 c.in_ok-found.ensures.given read) }
 
 pub returns-in-Struct-clause-read : goal.returns-in-Struct-clause-read
 returns-in-Struct-clause-read g c =
     let m = c.args.lim.now in
     let m' = c.expect.new.lim in
-    let read : IsReadAt (reading g.A.ReaderArena c.in-Ok.found.0) m m' c.in-Ok.found.1 = record { object = c.in-Ok.ensures.object } in
-    (c.in-Ok.found.0, c.in-Ok.ensures.read, inr (rw c.in-Struct.is at (c.target_of.ensures m m' (struct_given c.in-Ok.found.1 c.in-Ok.ensures.given read))))
+    let read : IsReadAt (reading g.A.ReaderArena c.in_ok-found.found.0) m m' c.in_ok-found.found.1 = record { object = c.in_ok-found.ensures.object } in
+    (c.in_ok-found.found.0, c.in_ok-found.ensures.read, inr (rw c.in-Struct.is at (c.target_of.ensures m m' (struct_given c.in_ok-found.found.1 c.in_ok-found.ensures.given read))))
 
 pub returns-in_default-clause-read : goal.returns-in_default-clause-read
 returns-in_default-clause-read g c =
     let m = c.args.lim.now in
     let m' = c.expect.new.lim in
-    let read : IsReadAt (reading g.A.ReaderArena c.in-Ok.found.0) m m' c.in-Ok.found.1 = record { object = c.in-Ok.ensures.object } in
-    let target = c.target_of.ensures m m' (struct_given c.in-Ok.found.1 c.in-Ok.ensures.given read) in
-    let shown : IsShown g.A.ReaderArena c.in-Ok.found.0 m m' c.in-Ok.found.1 c.target_of.result = record { read = read; target = target } in
-    let null = no_struct g.A.ReaderArena c.target_of.result c.in-Ok.ensures.given shown c.in_default.not-Struct in
+    let read : IsReadAt (reading g.A.ReaderArena c.in_ok-found.found.0) m m' c.in_ok-found.found.1 = record { object = c.in_ok-found.ensures.object } in
+    let target = c.target_of.ensures m m' (struct_given c.in_ok-found.found.1 c.in_ok-found.ensures.given read) in
+    let shown : IsShown g.A.ReaderArena c.in_ok-found.found.0 m m' c.in_ok-found.found.1 c.target_of.result = record { read = read; target = target } in
+    let null = no_struct g.A.ReaderArena c.target_of.result c.in_ok-found.ensures.given shown c.in_default.not-Struct in
     let made = c.new_default.ensures in
-    (c.in-Ok.found.0, c.in-Ok.ensures.read, inl (null.0, null.1, made.source, made.sections.0, made.sections.1, made.nesting))
+    (c.in_ok-found.found.0, c.in_ok-found.ensures.read, inl (null.0, null.1, made.source, made.sections.0, made.sections.1, made.nesting))
+
+pub returns-in-Struct-clause-exactly : goal.returns-in-Struct-clause-exactly
+returns-in-Struct-clause-exactly g c = c.in_ok-found.ensures.exactly
+
+pub returns-in_default-clause-exactly : goal.returns-in_default-clause-exactly
+returns-in_default-clause-exactly g c = c.in_ok-found.ensures.exactly
