@@ -211,10 +211,6 @@ flat_stands S s p h a size n w place other o size_small start claim padded =
       ),
     )
 
--- The elements that are read of words take so many words.
-pub words-unpacked : (size n : ℕ) (ws : List ℕ) → word_count (Flat size (unpacked size n ws)) ≡ words_for size n
-words-unpacked size n ws = ap (words_for size) (length-digits (2 ^ element_bits size) n (from_digits (2 ^ 64) ws))
-
 -- A tag is made of the count and of the sections of an element.
 tag_again : (g n d q : ℕ) → IsTag g n d q → g ≡ struct_word n d q
 tag_again g n d q t = sym (struct_word_again g t.is_struct) ∙ ap (λ k. struct_word k (data_words g) (pointer_count g)) t.counts ∙ ap₂ (struct_word n) t.data_of t.pointers

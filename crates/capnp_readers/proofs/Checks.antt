@@ -425,19 +425,12 @@ flat_tells {r} {m'} from start size n None ready (a, o, z, small, (held, seg, at
     flat_never from.head ready o z small (λ padded. fails
     (subst (λ ws. IsPadded (ws ∷ []) 0 start.at (size_number size) n) (sym held.0) (padded_at r.segments (sym seg) (omega (arith, at)) (sym width) (sym len) padded)))
 
--- The first element of a list of structs, as its pointers are read.
-abbrev pub first_element : Reading → Place → Reading
-first_element r start = record r { levels = pred r.levels; segment = start.segment; at = start.at }
-
-pub same_elements : {s t p q : ℕ} (r : Reading) → s ≡ t → p ≡ q → record r { levels = pred r.levels; segment = s; at = p } ≡ record r { levels = pred r.levels; segment = t; at = q }
-same_elements r e f = ap₂ (λ s p. record r { levels = pred r.levels; segment = s; at = p }) e f
-
 pub structs_tell : {r : Reading} {m' : Meter} (from : Progress) (m'' : Meter) (start : Place) (size : StructSize) (n : ℕ) (o : Option ℕ) → IsTested r → IsObject Value r from.meter m' (ObjectStructs start size n) →
-    StartsRight (ObjectStructs start size n) r.at from.head → TellsClaimed (first_element r start) size n (list_count (word_of r)) m' m'' o → Tells r from m'' o
+    StartsRight (ObjectStructs start size n) r.at from.head → TellsClaimed (beginning r start) size n (list_count (word_of r)) m' m'' o → Tells r from m'' o
 structs_tell {r} {m'} from m'' start size n (Some e) ready (a, o, z, seven, (held, seg, at), many, wide, pointers) right (exact, found) =
     let S : Segments = r.segments in
     let claimed : list_count (word_of r) ≡ list_count a.word = ap list_count (sym (near_object r ready.near (entered_leads o)).same_word) in
-    let there : first_element r start ≡ list_elements r a = same_elements r seg at in
+    let there : beginning r start ≡ list_elements r a = same_place r seg at in
     let of_size : size ≡ tag_size S a = same_size S a wide pointers in
     let goes : start.at + list_count (word_of r) ≡ a.start + 1 + list_count a.word = omega (arith, at, claimed) in
     let words : element_words (tag S a) ≡ list_count a.word = sym (ap₂ (λ i j. i * (j.data_words + j.pointers)) many of_size) ∙ exact ∙ claimed in
@@ -624,11 +617,11 @@ pointers_end {P} {r} {from} {m'} {m''} start n ready (a, o, z, six, (held, seg, 
 
 pub structs_end : {P : Reading → Progress → Meter → Type 0} {r : Reading} {from : Progress} {m' m'' : Meter} (start : Place) (size : StructSize) (n : ℕ) → IsTested r → IsObject Value r from.meter m' (ObjectStructs start size n) →
     StartsRight (ObjectStructs start size n) r.at from.head → n * (size.data_words + size.pointers) ≡ list_count (word_of r) →
-    RowTestsEnd P (first_element r start) size n (progress (start.at + list_count (word_of r)) m') m'' → TestEnds P r from m''
+    RowTestsEnd P (beginning r start) size n (progress (start.at + list_count (word_of r)) m') m'' → TestEnds P r from m''
 structs_end {P} {r} {from} {m'} {m''} start size n ready (a, o, z, seven, (held, seg, at), many, wide, pointers) right exact ends =
     let S : Segments = r.segments in
     let claimed : list_count (word_of r) ≡ list_count a.word = ap list_count (sym (near_object r ready.near (entered_leads o)).same_word) in
-    let there : first_element r start ≡ list_elements r a = same_elements r seg at in
+    let there : beginning r start ≡ list_elements r a = same_place r seg at in
     let of_size : size ≡ tag_size S a = same_size S a wide pointers in
     let goes : start.at + list_count (word_of r) ≡ a.start + 1 + list_count a.word = omega (arith, at, claimed) in
     let words : element_words (tag S a) ≡ list_count a.word = sym (ap₂ (λ i j. i * (j.data_words + j.pointers)) many of_size) ∙ exact ∙ claimed in
@@ -651,7 +644,7 @@ IsList (ObjectStructs start size n) = Unit {0}
 pub place_begins : {n : ℕ} (r : Reading) (start : Place) → n ≡ pred r.levels → r.segment ≡ start.segment → record r { levels = n; at = start.at } ≡ beginning r start
 place_begins r start e f = ap₂ (λ n s. record r { levels = n; segment = s; at = start.at }) e f
 
-pub elements_begin : {n : ℕ} (r : Reading) (start : Place) → n ≡ pred r.levels → r.segment ≡ start.segment → record r { levels = n; at = start.at } ≡ first_element r start
+pub elements_begin : {n : ℕ} (r : Reading) (start : Place) → n ≡ pred r.levels → r.segment ≡ start.segment → record r { levels = n; at = start.at } ≡ beginning r start
 elements_begin r start e f = ap₂ (λ n s. record r { levels = n; segment = s; at = start.at }) e f
 
 -- An object stands in the segment of its pointer.
@@ -684,7 +677,7 @@ no_list_else (ObjectStruct start size) list flat pointers structs = list
 pub struct_room : {r : Reading} {m m' : Meter} (start : Place) (size : StructSize) → IsObject Value r m m' (ObjectStruct start size) → start.at + (size.data_words + size.pointers) ≤ length (segment_read (beginning r start))
 struct_room {r} start size (a, o, z, (held, seg, at), wide, many) = omega (arith, o.meets.claims, claim_struct a.word z, at, wide, many, ap (λ s. length (segment r.segments s)) seg)
 
-pub structs_room : {r : Reading} {m m' : Meter} (start : Place) (size : StructSize) (n : ℕ) → kind (word_of r) < 2 → IsObject Value r m m' (ObjectStructs start size n) → start.at + list_count (word_of r) ≤ length (segment_read (first_element r start))
+pub structs_room : {r : Reading} {m m' : Meter} (start : Place) (size : StructSize) (n : ℕ) → kind (word_of r) < 2 → IsObject Value r m m' (ObjectStructs start size n) → start.at + list_count (word_of r) ≤ length (segment_read (beginning r start))
 structs_room {r} start size n near (a, o, z, seven, (held, seg, at), many, wide, pointers) =
     let claimed : list_count (word_of r) ≡ list_count a.word = ap list_count (sym (near_object r near (entered_leads o)).same_word) in
     omega (arith, o.meets.claims, claim_list a.word 7 z seven, at, claimed, ap (λ s. length (segment r.segments s)) seg)

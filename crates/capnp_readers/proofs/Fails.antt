@@ -24,7 +24,7 @@ use Rattle.capnp_readers.specs.declared.readers.canonical_fault.CanonicalFaultRe
 use Rattle.capnp_readers.specs.Faults.{FaultIs}
 use Rattle.capnp_readers.specs.Standing.{IsPadded}
 use Rattle.capnp_readers.specs.Checking.{Progress, progress, AreFound, AreFoundTooWide, IsTested, StartsRight, TestsEnd, RowTestsEnd, here, below, IsFault, IsUnfit, HasWideSection, empty_elsewhere, elsewhere, not_padded, other_claim, wide_sections, wide_elements, TestEnds, SectionsFail, ClaimedFails}
-use Rattle.capnp_readers.proofs.Checks.{near_object, struct_pointers, list_elements, padded_at, some_starts, first_element, same_elements, lists_alone, AreSeen, struct_ends, structs_end}
+use Rattle.capnp_readers.proofs.Checks.{near_object, struct_pointers, list_elements, padded_at, some_starts, lists_alone, AreSeen, struct_ends, structs_end}
 use Rattle.capnp_objects.proofs.Followed.{entered_leads}
 
 -- A test that ends where P says so ends where Q does that follows; so does that of pointers.
@@ -95,7 +95,7 @@ sections_fail {f} {r} {from} {m'} {m''} start size ready (a, o, z, (held, seg, a
 
 -- A list of structs whose elements take other words than it claims, or of which a pointer fails, or smaller elements would do.
 pub claimed_fails : {f : CanonicalFault} {r : Reading} {from : Progress} {m' m'' : Meter} (start : Place) (size : StructSize) (n : ℕ) → IsTested r → IsObject Value r from.meter m' (ObjectStructs start size n) →
-    StartsRight (ObjectStructs start size n) r.at from.head → ClaimedFails f (first_element r start) size n (list_count (word_of r)) m' m'' → TestEnds (IsFault f) r from m''
+    StartsRight (ObjectStructs start size n) r.at from.head → ClaimedFails f (beginning r start) size n (list_count (word_of r)) m' m'' → TestEnds (IsFault f) r from m''
 claimed_fails {f} {r} {from} {m'} {m''} start size n ready (a, o, z, seven, (held, seg, at), many, wide, pointers) right (inl ((reason, segment, word), other, same)) =
     let S : Segments = r.segments in
     let claimed : list_count (word_of r) ≡ list_count a.word = ap list_count (sym (near_object r ready.near (entered_leads o)).same_word) in
@@ -103,11 +103,11 @@ claimed_fails {f} {r} {from} {m'} {m''} start size n ready (a, o, z, seven, (hel
     let words : n * (size.data_words + size.pointers) ≡ element_words (tag S a) = ap₂ (λ i j. i * (j.data_words + j.pointers)) many of_size in
     subst (λ m. TestEnds (IsFault f) r from m) (sym same) (here (other_claim a (reason, segment ∙ seg, omega (arith, word, at)) ready.near o (omega (arith, right, at)) (z, seven) (λ e. other (words ∙ e ∙ sym claimed))))
 claimed_fails {f} {r} {from} {m'} {m''} start size n ready object right (inr (exact, inl ends)) =
-    structs_end {r = r} {from = from} {m' = m'} {m'' = m''} start size n ready object right exact (subst (λ w. RowTestsEnd (IsFault f) (first_element r start) size n (progress (start.at + w) m') m'') exact ends)
+    structs_end {r = r} {from = from} {m' = m'} {m'' = m''} start size n ready object right exact (subst (λ w. RowTestsEnd (IsFault f) (beginning r start) size n (progress (start.at + w) m') m'') exact ends)
 claimed_fails {f} {r} {from} {m'} {m''} start size n ready (a, o, z, seven, (held, seg, at), many, wide, pointers) right (inr (exact, inr (e, found))) =
     let S : Segments = r.segments in
     let claimed : list_count (word_of r) ≡ list_count a.word = ap list_count (sym (near_object r ready.near (entered_leads o)).same_word) in
-    let there : first_element r start ≡ list_elements r a = same_elements r seg at in
+    let there : beginning r start ≡ list_elements r a = same_place r seg at in
     let of_size : size ≡ tag_size S a = same_size S a wide pointers in
     let last : start.at + list_count (word_of r) ≡ a.start + claim a.word = omega (arith, at, claimed, claim_list a.word 7 z seven) in
     let goes : start.at + n * (size.data_words + size.pointers) ≡ a.start + claim a.word = ap (λ w. start.at + w) exact ∙ last in

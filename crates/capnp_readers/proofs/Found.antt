@@ -1,6 +1,6 @@
 -- Where a value stands, its object passes each check of its canonical form, and its children stand. Each lemma gives what the
 -- checks find one by one.
-use Rattle.std.proofs.Common.{◌≡◌, ◌≢◌, inl, inr, ℕ, ◌+◌, ◌-◌, ◌*◌, ◌^◌, ◌<◌, ◌≤◌, List, [], ◌∷◌, ◌++◌, length, take, refl, sym, ap, ap₂, ◌∙◌, subst, arith, take_all, length-take, length-append, pow_mono, lt_of_lt_of_le, eq-eqb}
+use Rattle.std.proofs.Common.{◌≡◌, ◌≢◌, inl, inr, ℕ, ◌+◌, ◌-◌, ◌*◌, ◌^◌, ◌<◌, ◌≤◌, List, [], ◌∷◌, ◌++◌, length, take, refl, sym, ap, ap₂, ◌∙◌, subst, arith, take_all, length-take, length-append, pow_mono, lt_of_lt_of_le}
 use Rattle.std.proofs.lemmas.Bool.{cases_lt}
 use Rattle.capnp_format.specs.Word.{kind, offset_bits, struct_word, list_word}
 use Rattle.capnp_format.specs.Numbers.{words_for, unpacked, packed, element_bits, from_digits}
@@ -13,16 +13,11 @@ use Rattle.capnp_readers.specs.Standing.{AllStand, ElementsStand, EndsUsed, IsPa
 use Rattle.capnp_format.proofs.Digits.{length-digits, from_digits-below, from_digits-digits}
 use Rattle.capnp_format.proofs.Slices.{has_words_first, has_words_rest, has_words_head, has_words_tail, has_words_within, moved}
 use Rattle.capnp_format.proofs.Lengths.{length-pointers, length-rows}
-use Rattle.capnp_format.proofs.LawLemmas.{null_is}
 use Rattle.capnp_format.proofs.Lies.{pow_pow, unpacked-packed, tag_is}
 use Rattle.capnp_format.proofs.Trimming.{used_words-le, used_trees-le, take_trees-count, trim_each-count}
 use Rattle.capnp_readers.proofs.Chains.{standing_where_laid, standing_where_rows}
-use Rattle.capnp_readers.proofs.Used.{used_words-pointers, pointer_is_null, used_ends}
+use Rattle.capnp_readers.proofs.Used.{used_words-pointers, used_ends}
 use Rattle.capnp_readers.proofs.Accepts.{near_to, near_struct_word, near_list_word, take_trees_all, struct_pointer}
-
--- At a zero word only Null stands.
-pub null_found : (S : Segments) (s p h : ℕ) (t : Tree) → Stands S s p h t → word_at S s p ≡ 0 → t ≡ Null
-null_found S s p h t a e = null_is t (sym (pointer_is_null t (offset_to p h)) ∙ eq-eqb (pointer t (offset_to p h)) 0 (sym (a.5).1 ∙ e))
 
 -- The pointer of a value without capabilities is one of a struct or of a list.
 kind_of_pointer : (t : Tree) (k : ℕ) → capabilities t ≡ 0 → kind (pointer t k) < 2
