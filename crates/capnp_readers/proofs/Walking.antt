@@ -21,7 +21,7 @@ use Rattle.capnp_objects.specs.Source.{levels}
 use Rattle.capnp_objects.proofs.Walked.{beginning, null_walked, flat_walked, struct_row_walked, pointers_row_walked, structs_rows_walked}
 use Rattle.capnp_objects.proofs.WalkStops.{stops_never, stop_never, struct_row_stops, pointers_row_stops, structs_rows_stop, flat_beyond, struct_beyond, pointers_beyond, structs_beyond}
 use Rattle.capnp_words.specs.Meter.{Meter}
-use Rattle.capnp_readers.specs.declared.readers.sizes.PointerRows.{PointerRows}
+use Rattle.capnp_readers.specs.declared.readers.sizes.MeasuredRows.{MeasuredRows}
 use Rattle.capnp_readers.specs.Sizes.{object_words, HasRows, HasNoRows}
 
 one_level : (z : ℤ) → SFits w32 z → 0 < levels z → levels (to_z w32 (of_z w32 (z -ℤ pos 1))) ≡ pred (levels z)
@@ -80,12 +80,12 @@ pub no_sizes : {r : Reading} {i : ℕ} {from : Tally} {m' : Meter} {k : ErrorKin
 no_sizes refused h = stop_never refused h.0 h.1 h.2 h.3 h.4 h.5
 
 -- An object is measured that has pointers, those of these rows.
-pub record Opened (r : Reading) (m m' : Meter) (x : Object) (rows : PointerRows) : Type 0 where
+pub record Opened (r : Reading) (m m' : Meter) (x : Object) (rows : MeasuredRows) : Type 0 where
   pub is_measured : IsObject Size r m m' x
   pub has : HasRows x rows
 
 -- There is a level for its pointers, and they lie in their segment.
-pub object_level : {r : Reading} {m m' : Meter} {rows : PointerRows} (x : Object) → Opened r m m' x rows → 0 < r.levels
+pub object_level : {r : Reading} {m m' : Meter} {rows : MeasuredRows} (x : Object) → Opened r m m' x rows → 0 < r.levels
 object_level (ObjectStruct start size) o = o.is_measured.1.meets.levels
 object_level (ObjectPointers start i) o = o.is_measured.1.meets.levels
 object_level (ObjectStructs start size i) o = o.is_measured.1.meets.levels
@@ -108,7 +108,7 @@ inside_structs start size i (a, o, z, seven, (held, seg, at), len, wide, many) =
     let room = o.meets.claims (λ v. omega (arith, v.1, seven)) in
     rw (seg, len, wide, many) (omega (arith, room, at, claim_list a.word 7 z seven, (o.meets.tagged (z, seven)).1))
 
-pub object_inside : {r : Reading} {m m' : Meter} {rows : PointerRows} (x : Object) → Opened r m m' x rows → rows.start.at + rows.count * (rows.data_words + rows.pointers) ≤ length (segment_read (beginning r rows.start))
+pub object_inside : {r : Reading} {m m' : Meter} {rows : MeasuredRows} (x : Object) → Opened r m m' x rows → rows.start.at + rows.count * (rows.data_words + rows.pointers) ≤ length (segment_read (beginning r rows.start))
 object_inside {r} {m} {m'} (ObjectStruct start size) o = rw (o.has.0, o.has.1, o.has.2, o.has.3) (inside_struct {r = r} {m = m} {m' = m'} start size o.is_measured)
 object_inside {r} {m} {m'} (ObjectPointers start i) o = rw (o.has.0, o.has.1, o.has.2, o.has.3) (inside_pointers {r = r} {m = m} {m' = m'} start i o.is_measured)
 object_inside {r} {m} {m'} (ObjectStructs start size i) o = rw (o.has.0, o.has.1, o.has.2, o.has.3) (inside_structs {r = r} {m = m} {m' = m'} start size i o.is_measured)
@@ -125,7 +125,7 @@ leaf_walked {r} {from} {m'} (ObjectStruct start size) object none other = absurd
 leaf_walked {r} {from} {m'} (ObjectPointers start i) object none other = absurd none
 leaf_walked {r} {from} {m'} (ObjectStructs start size i) object none other = absurd none
 
-pub object_walked : {r : Reading} {from to : Tally} {m' : Meter} {rows : PointerRows} (x : Object) → Opened r from.meter m' x rows →
+pub object_walked : {r : Reading} {from to : Tally} {m' : Meter} {rows : MeasuredRows} (x : Object) → Opened r from.meter m' x rows →
     WalksRows (beginning r rows.start) (sized rows.data_words rows.pointers) rows.count (tally (from.words + object_words x) from.caps m') to → WalksPlace r from to
 object_walked {r} {from} (ObjectStruct start size) o h = struct_row_walked {r = r} {from = from} start size o.is_measured (rw (o.has.0, o.has.1, o.has.2, o.has.3) at h)
 object_walked {r} {from} (ObjectPointers start i) o h = pointers_row_walked {r = r} {from = from} start i o.is_measured (rw (o.has.0, o.has.1, o.has.2, o.has.3) at h)
@@ -134,7 +134,7 @@ object_walked ObjectNull o h = absurd o.has
 object_walked (ObjectCapability i) o h = absurd o.has
 object_walked (ObjectFlat start size i) o h = absurd o.has
 
-pub object_stops : {r : Reading} {from : Tally} {m' m'' : Meter} {k : ErrorKind} {rows : PointerRows} (x : Object) → Opened r from.meter m' x rows →
+pub object_stops : {r : Reading} {from : Tally} {m' m'' : Meter} {k : ErrorKind} {rows : MeasuredRows} (x : Object) → Opened r from.meter m' x rows →
     RowsStop (beginning r rows.start) (sized rows.data_words rows.pointers) rows.count (tally (from.words + object_words x) from.caps m') m'' k → SizeStops k r from m''
 object_stops {r} {from} (ObjectStruct start size) o h = struct_row_stops {r = r} {from = from} start size o.is_measured (rw (o.has.0, o.has.1, o.has.2, o.has.3) at h)
 object_stops {r} {from} (ObjectPointers start i) o h = pointers_row_stops {r = r} {from = from} start i o.is_measured (rw (o.has.0, o.has.1, o.has.2, o.has.3) at h)

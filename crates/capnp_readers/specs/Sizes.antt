@@ -10,7 +10,7 @@ use Rattle.capnp_objects.specs.declared.object.Object.TheVariants.{Pointers, Str
 use Rattle.capnp_objects.specs.Reading.{Reading, reading_at}
 use Rattle.capnp_objects.specs.Sizing.{Tally, tally}
 use Rattle.capnp_readers.specs.declared.readers.sizes.MessageSize.{MessageSize}
-use Rattle.capnp_readers.specs.declared.readers.sizes.PointerRows.{PointerRows}
+use Rattle.capnp_readers.specs.declared.readers.sizes.MeasuredRows.{MeasuredRows}
 use Rattle.capnp_readers.specs.declared.readers.PointerReader.{PointerReader}
 use Rattle.capnp_readers.specs.declared.readers.struct_reader.StructReader.{StructReader}
 
@@ -28,7 +28,7 @@ object_words (Pointers start count) = count
 object_words (Structs start size count) = 1 + count * (size.data_words + size.pointers)
 
 -- The pointers of an object are those of these elements; or it has none.
-abbrev pub HasRows : Object → PointerRows → Type 0
+abbrev pub HasRows : Object → MeasuredRows → Type 0
 HasRows (Struct start size) rows =
     (rows.start ≡ start) × (rows.data_words ≡ size.data_words) × (rows.pointers ≡ size.pointers) ×
     (rows.count ≡ 1)

@@ -163,7 +163,7 @@ impl Walk {
 // The pointers of an object, in elements of equal size: a struct and a list of pointers are one
 // element, so that all pointers are gone over in one place.
 #[derive(Clone, Copy)]
-struct PointerRows<'a> {
+struct MeasuredRows<'a> {
     // The first word of the first element.
     start: Place<'a>,
     // How many words stand before the pointers of an element.
@@ -435,24 +435,24 @@ fn words_of_object(object: Object) -> u64
 }
 
 // The pointers of an object; there are none of what is null, a capability, or a list of bits.
-fn rows_of_object(object: Object) -> Option<PointerRows>
+fn rows_of_object(object: Object) -> Option<MeasuredRows>
     ensures { MatchOption result (HasNoRows object.entry) (HasRows object.entry) }
 {
     match object {
         Object::Null | Object::Capability(_) | Object::Flat { .. } => None,
-        Object::Struct { start, size } => Some(PointerRows {
+        Object::Struct { start, size } => Some(MeasuredRows {
             start,
             data_words: u32::from(size.data_words),
             pointers: u32::from(size.pointers),
             count: 1,
         }),
-        Object::Pointers { start, count } => Some(PointerRows {
+        Object::Pointers { start, count } => Some(MeasuredRows {
             start,
             data_words: 0,
             pointers: count,
             count: 1,
         }),
-        Object::Structs { start, size, count } => Some(PointerRows {
+        Object::Structs { start, size, count } => Some(MeasuredRows {
             start,
             data_words: u32::from(size.data_words),
             pointers: u32::from(size.pointers),
