@@ -1,11 +1,13 @@
 //! Tests of capnp_arena, by its public calls: places and words of segments that are read, messages that
-//! are built, and what happens where memory is refused.
+//! are built, and what happens where memory is refused; and how many segments the allocator of layout_vectors gives.
 #![tactic(auto)]
 
 #[cfg(test)]
 mod asking;
 #[cfg(test)]
 mod building;
+#[cfg(test)]
+mod limits;
 #[cfg(test)]
 mod names;
 #[cfg(test)]
