@@ -108,6 +108,7 @@ fn give_back_apart<A: Allocator>(allocator: &mut A, rows: Rows<A::Segment>)
 
 /// Gives each segment back to the allocator once, in order of number. Of one of the two kinds
 /// there are none.
+#[inline(always)]
 fn give_back<A: Allocator>(allocator: &mut A, listed: Listed<A::Segment>, apart: Rows<A::Segment>)
     ensures refusals { A.refusals allocator.new ≡ A.refusals allocator.old }
     ensures offers { A.offers allocator.new ≡ A.offers allocator.old }
@@ -344,6 +345,7 @@ impl<A: Allocator> BuilderArenaImpl<A> {
     }
 
     /// Gives each segment back to the allocator once, in order of number, and then the allocator itself.
+    #[inline(always)]
     pub fn into_allocator(self) -> A
         ensures refusals { A.refusals result ≡ A.refusals self.allocator }
         ensures offers { A.offers result ≡ A.offers self.allocator }

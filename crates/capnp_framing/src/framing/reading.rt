@@ -103,6 +103,7 @@ fn fill_between<R: Input>(
 }
 
 /// Reads so many bytes to the front of memory, which is made longer where it has to be.
+#[inline(always)]
 fn read_front<R: Input>(input: &mut R, to: &mut Vec<u8>, size: usize) -> Result<(), FrameError>
     requires { R.has_failed input.old ≡ false }
     ensures bytes { OnOk result (Consumes (R.remaining input.old) (R.remaining input.new)
