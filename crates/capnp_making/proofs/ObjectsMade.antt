@@ -4,7 +4,7 @@ use Rattle.capnp_words.specs.declared.error.ErrorKind.{ErrorKind}
 use Rattle.capnp_format.specs.Segments.{Segments}
 use Rattle.capnp_format.specs.Tree.{Tree, Null}
 use Rattle.capnp_arena.specs.View.{View, KeepsLimits}
-use Rattle.capnp_making.specs.Makes.{Allocates, AsksForObject, MakesObject, ObjectStartsAt, call_at}
+use Rattle.capnp_making.specs.Makes.{Allocates, CallAt, MakesObject, ObjectStartsAt, call_at}
 use Rattle.capnp_making.specs.Path.{extent}
 use Rattle.capnp_making.specs.Stored.{IsReplaced, Puts}
 use Rattle.capnp_making.specs.Zeroed.{IsApart, IsPruned, IsZeroed}
@@ -55,9 +55,23 @@ makes_after_zeros (Err k) old mid new id at n t zeroed limits pruned made start 
   only = subst (IsPruned old.words) (sym same) pruned;
 }
 
--- A refusal of a call that kept the message is one of a call that keeps none.
-pub asked_in_vain : {A B : Type 0} (old new : View) (id at n : ℕ) (t : Tree) (k : ErrorKind) → MakesObject {A = A} (Err k) (call_at id at old new) t n → AsksForObject {A = B} (Err k) old id at n
-asked_in_vain old new id at n t k x = record {
-  fits = x.memory.fits;
-  refused = (new, x.memory.named, x.refused, x.only);
+-- What is made stays so, whatever the call gives for it; and so does a refusal.
+pub made_as : {A B : Type 0} (x : A) (y : B) (c : CallAt) (t : Tree) (n : ℕ) → MakesObject (Ok x) c t n → MakesObject (Ok y) c t n
+made_as x y c t n m = record {
+  made = m.made;
+  behind = m.behind;
+  zeroed = m.zeroed;
+  memory = record { fits = λ room. refl; granted = m.memory.granted; taken = m.memory.taken; named = tt };
+  refused = tt;
+  only = tt;
+}
+
+pub refused_as : {A B : Type 0} (k : ErrorKind) (c : CallAt) (t : Tree) (n : ℕ) → MakesObject {A = A} (Err k) c t n → MakesObject {A = B} (Err k) c t n
+refused_as k c t n m = record {
+  made = tt;
+  behind = tt;
+  zeroed = tt;
+  memory = record { fits = m.memory.fits; granted = tt; taken = tt; named = m.memory.named };
+  refused = m.refused;
+  only = m.only;
 }

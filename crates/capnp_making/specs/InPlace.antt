@@ -1,12 +1,18 @@
 -- Bytes of a segment that are written in place ("Lists").
 use Rattle.std.specs.Prelude.{◌≡◌, ℕ, ◌*◌, ◌≤◌, ◌++◌, List, [], length, take, drop, slice_index_or}
-use Rattle.std.specs.Prelude.{slice_set, replicate}
+use Rattle.std.specs.Prelude.{slice_set, replicate, Result, IfOk}
+use Rattle.std.specs.Borrow.{MutBor}
+use Rattle.capnp_words.specs.declared.error.ErrorKind.{ErrorKind}
 use Rattle.capnp_format.specs.Forest.{target}
+use Rattle.capnp_format.specs.Numbers.{words_for}
 use Rattle.capnp_format.specs.Segments.{Segments}
 use Rattle.capnp_format.specs.Tree.{Tree, Flat}
 use Rattle.capnp_arena.specs.Written.{overwritten}
+use Rattle.capnp_making.specs.Made.{LeadsToStart, zero_list}
+use Rattle.capnp_making.specs.Makes.{CallAt, MakesObject}
 use Rattle.capnp_making.specs.Stored.{IsStored, IsReplaced}
 use Rattle.capnp_making.specs.declared.existing.ExistingBytes.{ExistingBytes}
+use Rattle.capnp_making.specs.declared.making.Start.{Start}
 
 -- The bytes at a place of the segments.
 abbrev pub bytes_there : List (List ℕ) → ExistingBytes → List ℕ
@@ -33,3 +39,20 @@ Overwrites S R b ws =
 -- Where a place of the message holds a value, these bytes are zero.
 abbrev pub AreZeroOnce : Segments → ℕ → ℕ → List ℕ → Type 0
 AreZeroOnce S s p ws = (t : Tree) → IsStored S s p t → ws ≡ replicate (length ws) 0
+
+-- Where bytes start.
+abbrev pub start_of_bytes : ExistingBytes → Start
+start_of_bytes b = record { segment = b.segment; at = b.start }
+
+-- In an arena the bytes at a place are lent.
+abbrev pub LendsBytes : {A : Type 0} → (A → List (List ℕ)) → A → ExistingBytes → MutBor (List ℕ) →
+    Type 0
+LendsBytes segments now b lent = lent.now ≡ bytes_there (segments now) b
+
+-- A call makes a list of count bytes, all zero, and gives where the first of them are, so many as
+-- size; or that is refused.
+pub record MakesBytes (result : Result ExistingBytes ErrorKind) (c : CallAt) (count size : ℕ)
+    : Type 0 where
+  pub object : MakesObject result c (zero_list 2 count) (words_for 2 count)
+  pub leads : IfOk result (λ b. LeadsToStart c.new.words c.segment c.at (start_of_bytes b))
+  pub first : IfOk result (λ b. b.length ≡ size)

@@ -1,5 +1,5 @@
 -- A call that makes an object at the place of a pointer.
-use Rattle.std.specs.Prelude.{◌≡◌, ◌<◌, ℕ, Result, IsOk, IfErr, OnOk, OnErr}
+use Rattle.std.specs.Prelude.{◌≡◌, ◌<◌, ℕ, Result, Ok, Err, IsOk, IfErr, OnOk, OnErr}
 use Rattle.capnp_words.specs.declared.error.ErrorKind.{ErrorKind}
 use Rattle.capnp_format.specs.Forest.{cover, target, times}
 use Rattle.capnp_format.specs.Segments.{word_at}
@@ -51,11 +51,18 @@ pub record ObjectStartsAt (c : CallAt) (n : ℕ) (h : Start) : Type 0 where
   pub inside : WordsLieFrom c.new.words n h
   pub behind : StandsBehind c.old c.segment n h
 
--- What can be known of a call that makes an object of n words at a place, and keeps no message,
--- whatever comes of it: it is never refused where there is room; and it is refused as with some
--- message, in which the place is null and nothing but zeros is written.
-pub record AsksForObject {A : Type 0} (result : Result A ErrorKind) (old : View) (id at n : ℕ) : Type 0 where
-  pub fits : HasRoom old id n → IsOk result
-  pub refused :
-      IfErr result (λ k. (new : View) × IsRefusedFor old new n k ×
-      Puts old.words new.words id at Null × IsPruned old.words new.words)
+-- A result gives what was found, by what Gives says of both; or it is refused by the same name.
+abbrev pub GivesAs : {B C : Type 0} → (C → B → Type 0) → Result C ErrorKind → Result B ErrorKind →
+    Type 0
+GivesAs Gives (Ok x) (Ok y) = Gives x y
+GivesAs Gives (Err k) (Err l) = l ≡ k
+GivesAs Gives found result = ⊥
+
+-- A call that keeps no arena is said to do what it does in one that it reached: there it found what
+-- Does says, and its result gives just that, by what Gives says; or it is refused by the same name.
+pub record ReachesArena {A B C : Type 0} (Gives : A → C → B → Type 0)
+    (Does : A → Result C ErrorKind → Type 0) (result : Result B ErrorKind) : Type 0 where
+  pub now : A
+  pub found : Result C ErrorKind
+  pub does : Does now found
+  pub gives : GivesAs (Gives now) found result

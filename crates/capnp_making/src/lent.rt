@@ -1,13 +1,12 @@
 //! Bytes of a message that is built, lent to be written in place ("Lists").
 ghost use Rattle.std.specs.Prelude.{◌≡◌, ℕ, ◌+◌, ◌-◌, ◌^◌, ◌<◌, ◌≤◌, List, [], length, take, drop, get_or, slice_index_or, IfOk};
 ghost use Rattle.std.specs.Borrow.{sem, Lends, Array, u8 as byte};
-ghost use Rattle.capnp_format.specs.Numbers.{words_for};
 ghost use Rattle.capnp_format.specs.Segments.{IsPlace};
 ghost use Rattle.capnp_format.specs.Value.{AreBelow};
 ghost use Rattle.capnp_arena.specs.Written.{overwritten};
 ghost use Rattle.capnp_making.specs.Existing.{AreInside};
-ghost use Rattle.capnp_making.specs.InPlace.{bytes_there, rewritten, segments_with, AreZeroOnce, Overwrites};
-ghost use Rattle.capnp_making.specs.Makes.{AsksForObject};
+ghost use Rattle.capnp_making.specs.InPlace.{bytes_there, rewritten, segments_with, AreZeroOnce, LendsBytes, MakesBytes, Overwrites};
+ghost use Rattle.capnp_making.specs.Makes.{ReachesArena, call_at};
 
 use crate::existing::ExistingBytes;
 use crate::making::init_list;
@@ -66,7 +65,9 @@ pub fn init_data<A: BuilderArena>(
     requires few { size < 2 ^ 29 }
     ensures count { IfOk result (λ bytes. length bytes.now ≡ size) }
     ensures zero { IfOk result (λ bytes. AreZeroOnce (A.view arena.old).words id at bytes.now) }
-    ensures asked { AsksForObject result (A.view arena.old) id at (words_for 2 size) }
+    ensures made { ReachesArena (LendsBytes A.segments)
+        (λ now r. MakesBytes r (call_at id at (A.view arena.old) (A.view now)) size size)
+        result }
 {
     init_bytes(arena, id, at, size, size)
 }
@@ -86,7 +87,9 @@ pub fn init_text<A: BuilderArena>(
     requires few { size + 1 < 2 ^ 29 }
     ensures count { IfOk result (λ bytes. length bytes.now ≡ size) }
     ensures zero { IfOk result (λ bytes. AreZeroOnce (A.view arena.old).words id at bytes.now) }
-    ensures asked { AsksForObject result (A.view arena.old) id at (words_for 2 (size + 1)) }
+    ensures made { ReachesArena (LendsBytes A.segments)
+        (λ now r. MakesBytes r (call_at id at (A.view arena.old) (A.view now)) (size + 1) size)
+        result }
 {
     init_bytes(arena, id, at, size + 1, size)
 }
@@ -105,7 +108,9 @@ fn init_bytes<A: BuilderArena>(
     requires enough { size ≤ count }
     ensures count { IfOk result (λ bytes. length bytes.now ≡ size) }
     ensures zero { IfOk result (λ bytes. AreZeroOnce (A.view arena.old).words id at bytes.now) }
-    ensures asked { AsksForObject result (A.view arena.old) id at (words_for 2 count) }
+    ensures made { ReachesArena (LendsBytes A.segments)
+        (λ now r. MakesBytes r (call_at id at (A.view arena.old) (A.view now)) count size)
+        result }
 {
     match init_list(arena, id, at, ElementSize::Byte, count) {
         Ok(start) => {
