@@ -1,12 +1,15 @@
 -- A pointer of a message that is built.
-use Rattle.std.specs.Prelude.{IfErr, OnOk, ◌≡◌, ℕ, Result, Ok, Err}
+use Rattle.std.specs.Prelude.{IfErr, OnOk, ◌≡◌, ℕ, true, Result}
 use Rattle.capnp_words.specs.declared.error.ErrorKind.{ErrorKind}
 use Rattle.capnp_format.specs.Segments.{Segments, word_at, IsPlace}
 use Rattle.capnp_format.specs.Tree.{Tree}
 use Rattle.capnp_arena.specs.View.{View}
+use Rattle.capnp_making.specs.Existing.{is_unfound}
 use Rattle.capnp_making.specs.Memory.{KeepsMemory, SpendsMemory}
 use Rattle.capnp_making.specs.Stored.{IsStored, Puts}
 use Rattle.capnp_making.specs.Makes.{CallAt, call_at}
+use Rattle.capnp_readers.specs.declared.readers.list_reader.ListPlace.{ListPlace}
+use Rattle.capnp_readers.specs.declared.readers.struct_reader.StructPlace.{StructPlace}
 use Rattle.capnp_builders.specs.declared.builders.PointerBuilder.{PointerBuilder}
 use Rattle.capnp_builders.specs.declared.builders.struct_builder.StructBuilder.{StructBuilder}
 use Rattle.capnp_builders.specs.declared.builders.list_builder.ListBuilder.{ListBuilder}
@@ -61,20 +64,37 @@ pub record ChangesWords {A : Type 0} (result : Result A ErrorKind) (old new : Vi
   pub granted : OnOk result (KeepsMemory old new)
   pub refused : IfErr result (SpendsMemory old new)
 
--- A call on a builder; and one that is done with it, with the message that is left.
+-- A call on a builder; and one that is done with it, with an arena that it reached.
 abbrev pub calling : {A : Type 0} → (A → View) → PointerBuilder A → PointerBuilder A → CallAt
 calling view b b' = call_at b.segment b.at (view b.arena.now) (view b'.arena.now)
 
-abbrev pub calling_last : {A : Type 0} → (A → View) → PointerBuilder A → View → CallAt
-calling_last view b new = call_at b.segment b.at (view b.arena.now) new
+abbrev pub calling_last : {A : Type 0} → (A → View) → PointerBuilder A → A → CallAt
+calling_last view b now = call_at b.segment b.at (view b.arena.now) (view now)
 
 -- P holds of the value that is stored at the place, whatever it is.
 abbrev pub OfStored : Building → (Tree → Type 0) → Type 0
 OfStored b P = (t : Tree) → IsStored b.segments b.segment b.at t → P t
 
--- A call that is done with its builder gives a value by which Q holds of the message that is left;
--- or it is refused, and so it is with some message.
-abbrev pub LeavesMessage : {B C : Type 0} → (B → View) → (B → C) →
-    (View → Result C ErrorKind → Type 0) → Result B ErrorKind → Type 0
-LeavesMessage view_in value_in Q (Ok b) = Q (view_in b) (Ok (value_in b))
-LeavesMessage view_in value_in Q (Err k) = (new : View) × Q new (Err k)
+-- A call that is done with its builder gives the builder of a struct over an arena, or of a list.
+abbrev pub GivesStruct : {A : Type 0} → A → StructPlace → StructBuilder A → Type 0
+GivesStruct now place b = (b.arena.now ≡ now) × (b.place ≡ place)
+
+abbrev pub GivesList : {A : Type 0} → A → ListPlace → ListBuilder A → Type 0
+GivesList now place b = (b.arena.now ≡ now) × (b.place ≡ place)
+
+-- What a call on a builder finds is as P says of the value that is stored there, whatever it is, and
+-- the call changes nothing but words.
+pub record FindsStored {A C : Type 0} (view : A → View)
+    (P : Result C ErrorKind → CallAt → Tree → Type 0) (b : PointerBuilder A) (now : A)
+    (result : Result C ErrorKind) : Type 0 where
+  pub found : OfStored (built view b) (P result (calling_last view b now))
+  pub memory : ChangesWords result (view b.arena.now) (view now)
+
+-- A call that looks for a value changes nothing where the place isn't null, and a refusal there is
+-- of what stands.
+pub record LooksUp {A C : Type 0} (view : A → View)
+    (P : Result C ErrorKind → CallAt → Tree → Type 0) (b : PointerBuilder A) (now : A)
+    (result : Result C ErrorKind) : Type 0 where
+  pub finds : FindsStored view P b now result
+  pub set : (IsNull (built view b) → ⊥) →
+      (view now ≡ view b.arena.now) × IfErr result (λ k. is_unfound k ≡ true)

@@ -8,7 +8,6 @@ use Rattle.capnp_words.specs.declared.wire_pointer.ElementSize.{ElementSize}
 use Rattle.capnp_words.specs.declared.wire_pointer.ElementSize.TheVariants.{Void}
 use Rattle.capnp_words.specs.declared.error.ErrorKind.{ErrorKind}
 use Rattle.capnp_making.specs.Existing.{list_in}
-use Rattle.capnp_making.specs.InPlace.{bytes_there}
 use Rattle.capnp_making.specs.declared.existing.ExistingBytes.{ExistingBytes}
 use Rattle.capnp_making.specs.declared.existing.ExistingList.{ExistingList}
 use Rattle.capnp_readers.specs.declared.readers.list_reader.ListPlace.{ListPlace}
@@ -67,10 +66,3 @@ abbrev pub FindsBytes :
     Result ExistingBytes ErrorKind → CallAt → Tree → Type 0
 FindsBytes found_in default result c t =
     WithDefault (blob_default default t) c t (GivesFoundBytes found_in result) result
-
--- What is found is lent for writing; or the call is refused by the same name.
-abbrev pub IsLent : {B : Type 0} → (B → List ℕ) → List (List ℕ) → Result ExistingBytes ErrorKind →
-    Result B ErrorKind → Type 0
-IsLent now segments (Ok b) (Ok s) = now s ≡ bytes_there segments b
-IsLent now segments (Err k) (Err l) = l ≡ k
-IsLent now segments found result = ⊥

@@ -7,10 +7,10 @@ ghost use Rattle.capnp_format.specs.Word.{capability_word, struct_word};
 ghost use Rattle.capnp_format.specs.Numbers.{words_for};
 ghost use Rattle.capnp_format.specs.Value.{AreBelow};
 ghost use Rattle.capnp_making.specs.Existing.{AreInside, capability_of, plain_list, struct_list};
-ghost use Rattle.capnp_making.specs.InPlace.{bytes_there, rewritten, AreZeroOnce, Overwrites};
+ghost use Rattle.capnp_making.specs.InPlace.{bytes_there, rewritten, AreZeroOnce, LendsBytes, MakesBytes, Overwrites};
 ghost use Rattle.capnp_words.specs.Sizes.{size_number};
 ghost use Rattle.capnp_making.specs.Made.{zero_struct, zero_structs, zero_list, list_words};
-ghost use Rattle.capnp_making.specs.Makes.{AsksForObject, MakesObject};
+ghost use Rattle.capnp_making.specs.Makes.{MakesObject, ReachesArena};
 ghost use Rattle.capnp_making.specs.Near.{LeadsToEnd};
 ghost use Rattle.capnp_making.specs.Zeroed.{IsPruned, IsPrunedBut};
 ghost use Rattle.capnp_builders.specs.Places.{IsAligned, IsStructOf, IsListOf};
@@ -70,7 +70,7 @@ pub struct PointerBuilder<'a, A> {
 impl<'a, A: BuilderArena> PointerBuilder<'a, A> {
     ghost use Rattle.std.specs.Borrow.{sem, follows, Array, u8 as byte};
     ghost use Rattle.capnp_arena.specs.View.{KeepsLimits};
-    ghost use Rattle.capnp_builders.specs.Building.{Becomes, ChangesWords, IsNull, IsThere, KeepsBuilder, LeavesMessage, built, calling, calling_last};
+    ghost use Rattle.capnp_builders.specs.Building.{Becomes, ChangesWords, GivesList, GivesStruct, IsNull, IsThere, KeepsBuilder, built, calling, calling_last};
     ghost use Rattle.capnp_builders.specs.Kept.{PutsCopy, LeavesCleared, FillsSegment, FillsMessage, copying};
     ghost use Rattle.capnp_builders.specs.contracts.builders.PointerBuilder.{the_row};
     ghost use mir.Syntax.{named};
@@ -214,17 +214,15 @@ impl<'a, A: BuilderArena> PointerBuilder<'a, A> {
     pub fn init_struct(mut self, size: StructSize) -> Result<StructBuilder<'a, A>, ErrorKind>
         requires { IsThere (built A.view self) }
         ensures same { IfOk result (λ b. b.arena.ghost_name ≡ self.entry.arena.ghost_name) }
-        ensures object { LeavesMessage (λ b. A.view b.arena.now) (λ b. b.place)
-            (λ new r. MakesObject r (calling_last A.view self.entry new)
+        ensures object { ReachesArena GivesStruct
+            (λ now r. MakesObject r (calling_last A.view self.entry now)
             (zero_struct size) (size.data_words + size.pointers)) result }
         ensures leads { IfOk result (λ b.
-            IsStructOf (calling_last A.view self.entry (A.view b.arena.now)) size b.place) }
+            IsStructOf (calling_last A.view self.entry b.arena.now) size b.place) }
         ensures empty { size.data_words + size.pointers ≡ 0
             → IfOk result (λ b.
             word_at (A.view b.arena.now).words self.entry.segment self.entry.at
             ≡ struct_word (2 ^ 30 - 1) 0 0) }
-        ensures asked { AsksForObject result (A.view self.entry.arena.now) self.entry.segment
-            self.entry.at (size.data_words + size.pointers) }
     {
         match self.put_struct(size) {
             Ok(place) => Ok(self.into_struct(place)),
@@ -291,17 +289,15 @@ impl<'a, A: BuilderArena> PointerBuilder<'a, A> {
         requires few { count < 2 ^ 29 }
         requires plain { size_number size ≤ 6 }
         ensures same { IfOk result (λ b. b.arena.ghost_name ≡ self.entry.arena.ghost_name) }
-        ensures object { LeavesMessage (λ b. A.view b.arena.now) (λ b. b.place)
-            (λ new r. MakesObject r (calling_last A.view self.entry new)
+        ensures object { ReachesArena GivesList
+            (λ now r. MakesObject r (calling_last A.view self.entry now)
             (zero_list (size_number size) count) (list_words (size_number size) count)) result }
         ensures leads { IfOk result (λ b.
-            IsListOf (calling_last A.view self.entry (A.view b.arena.now))
+            IsListOf (calling_last A.view self.entry b.arena.now)
             (λ a. plain_list a size count) b.place) }
         ensures at_end { IfOk result (λ b.
-            LeadsToEnd (calling_last A.view self.entry (A.view b.arena.now))
+            LeadsToEnd (calling_last A.view self.entry b.arena.now)
             (list_words (size_number size) count)) }
-        ensures asked { AsksForObject result (A.view self.entry.arena.now) self.entry.segment
-            self.entry.at (list_words (size_number size) count) }
     {
         match self.put_list(size, count) {
             Ok(place) => Ok(self.into_list(place)),
@@ -349,14 +345,12 @@ impl<'a, A: BuilderArena> PointerBuilder<'a, A> {
         requires few { count < 2 ^ 30 }
         requires words { count * (size.data_words + size.pointers) < 2 ^ 29 }
         ensures same { IfOk result (λ b. b.arena.ghost_name ≡ self.entry.arena.ghost_name) }
-        ensures object { LeavesMessage (λ b. A.view b.arena.now) (λ b. b.place)
-            (λ new r. MakesObject r (calling_last A.view self.entry new)
+        ensures object { ReachesArena GivesList
+            (λ now r. MakesObject r (calling_last A.view self.entry now)
             (zero_structs count size) (1 + count * (size.data_words + size.pointers))) result }
         ensures leads { IfOk result (λ b.
-            IsListOf (calling_last A.view self.entry (A.view b.arena.now))
+            IsListOf (calling_last A.view self.entry b.arena.now)
             (λ a. struct_list a size.data_words size.pointers count) b.place) }
-        ensures asked { AsksForObject result (A.view self.entry.arena.now) self.entry.segment
-            self.entry.at (1 + count * (size.data_words + size.pointers)) }
     {
         match self.put_struct_list(count, size) {
             Ok(place) => Ok(self.into_list(place)),
@@ -397,8 +391,8 @@ impl<'a, A: BuilderArena> PointerBuilder<'a, A> {
         ensures count { IfOk result (λ bytes. length bytes.now ≡ size) }
         ensures zero { IfOk result (λ bytes. AreZeroOnce
             (A.view self.entry.arena.now).words self.entry.segment self.entry.at bytes.now) }
-        ensures asked { AsksForObject result (A.view self.entry.arena.now) self.entry.segment
-            self.entry.at (words_for 2 size) }
+        ensures made { ReachesArena (LendsBytes A.segments)
+            (λ now r. MakesBytes r (calling_last A.view self.entry now) size size) result }
     {
         let PointerBuilder { arena, segment, at } = self;
         lent::init_data(arena, segment, at, size)
@@ -416,8 +410,8 @@ impl<'a, A: BuilderArena> PointerBuilder<'a, A> {
         ensures count { IfOk result (λ bytes. length bytes.now ≡ size) }
         ensures zero { IfOk result (λ bytes. AreZeroOnce
             (A.view self.entry.arena.now).words self.entry.segment self.entry.at bytes.now) }
-        ensures asked { AsksForObject result (A.view self.entry.arena.now) self.entry.segment
-            self.entry.at (words_for 2 (size + 1)) }
+        ensures made { ReachesArena (LendsBytes A.segments)
+            (λ now r. MakesBytes r (calling_last A.view self.entry now) (size + 1) size) result }
     {
         let PointerBuilder { arena, segment, at } = self;
         lent::init_text(arena, segment, at, size)

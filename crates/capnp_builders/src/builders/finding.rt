@@ -1,20 +1,20 @@
 //! What a pointer leads to, found for writing: a default is put in place of null first, and a struct or
 //! list of structs that is too small is made wider ("Structs", "Lists", "Default Values").
-ghost use Rattle.std.specs.Prelude.{◌-◌, ◌≡◌, ◌+◌, ◌*◌, ◌^◌, ◌<◌, ◌≤◌, true, IsNone, IsOk, IfOk, IfErr, OnOk, OnErr, Result};
-ghost use Rattle.capnp_making.specs.declared.existing.ExistingBytes.{ExistingBytes};
+ghost use Rattle.std.specs.Prelude.{◌-◌, ◌≡◌, ◌+◌, ◌*◌, ◌^◌, ◌<◌, ◌≤◌, true, IsNone, IsOk, IfOk, IfErr, OnOk, OnErr};
 ghost use Rattle.capnp_making.specs.Existing.{BytesLieIn, data_in, is_unfound, text_in};
 ghost use Rattle.capnp_format.specs.Forest.{target};
 ghost use Rattle.capnp_format.specs.Segments.{word_at};
 ghost use Rattle.capnp_format.specs.Word.{struct_word};
+ghost use Rattle.capnp_making.specs.InPlace.{LendsBytes};
+ghost use Rattle.capnp_making.specs.Makes.{ReachesArena};
 ghost use Rattle.capnp_making.specs.Memory.{KeepsMemory, StandsBehind, TakesWords, start_of};
 ghost use Rattle.capnp_making.specs.Stored.{IsStored};
 ghost use Rattle.capnp_words.specs.Sizes.{size_number};
 ghost use Rattle.capnp_readers.specs.Readers.{IsListPlace};
 ghost use Rattle.capnp_widening.specs.Opening.{IsNoWider};
 ghost use Rattle.capnp_widening.specs.RowsRemade.{RefusesWider};
-ghost use Rattle.capnp_words.specs.declared.error.ErrorKind.{ErrorKind};
 ghost use Rattle.capnp_builders.specs.Defaults.{IsShortDefault, DefaultFits, IsIgnoredDefault, object_default, PutsDefaultOver};
-ghost use Rattle.capnp_builders.specs.Found.{FindsList, FindsBytes, IsLent};
+ghost use Rattle.capnp_builders.specs.Found.{FindsList, FindsBytes};
 ghost use Rattle.capnp_builders.specs.Opening.{FindsStruct, FindsStructs, StructFindFits, StructsFindFits};
 ghost use Rattle.capnp_builders.specs.Places.{IsAligned};
 
@@ -33,7 +33,7 @@ use capnp_words::error::ErrorKind;
 use capnp_words::wire_pointer::{ElementSize, StructSize};
 
 impl<'a, A: BuilderArena> PointerBuilder<'a, A> {
-    ghost use Rattle.capnp_builders.specs.Building.{ChangesWords, IsNull, IsThere, KeepsBuilder, OfStored, LeavesMessage, built, calling, calling_last};
+    ghost use Rattle.capnp_builders.specs.Building.{ChangesWords, FindsStored, GivesList, GivesStruct, IsNull, IsThere, KeepsBuilder, LooksUp, OfStored, built, calling};
 
     /// Puts the value of a default in place of a null pointer, as it stands ("Default Values"). What isn't
     /// null stays, and so does null where there is no default, or one whose first word is null.
@@ -128,10 +128,8 @@ impl<'a, A: BuilderArena> PointerBuilder<'a, A> {
         requires there { IsThere (built A.view self) }
         requires few { IsShortDefault default }
         ensures same { IfOk result (λ b. b.arena.ghost_name ≡ self.entry.arena.ghost_name) }
-        ensures found { OfStored (built A.view self.entry)
-            (λ t. LeavesMessage (λ b. A.view b.arena.now) (λ b. b.place)
-            (λ new r. FindsStruct size default.entry r (calling_last A.view self.entry new) t)
-            result) }
+        ensures found { ReachesArena GivesStruct
+            (FindsStored A.view (FindsStruct size default.entry) self.entry) result }
         ensures fits { StructFindFits size default.entry
             (A.view self.entry.arena.now) self.entry.segment self.entry.at → IsOk result }
         ensures taken { IsNull (built A.view self.entry) → IsIgnoredDefault default.entry
@@ -201,10 +199,8 @@ impl<'a, A: BuilderArena> PointerBuilder<'a, A> {
         requires there { IsThere (built A.view self) }
         requires few { IsShortDefault default }
         ensures same { IfOk result (λ b. b.arena.ghost_name ≡ self.entry.arena.ghost_name) }
-        ensures found { OfStored (built A.view self.entry)
-            (λ t. LeavesMessage (λ b. A.view b.arena.now) (λ b. b.place)
-            (λ new r. FindsStructs size default.entry r (calling_last A.view self.entry new) t)
-            result) }
+        ensures found { ReachesArena GivesList
+            (FindsStored A.view (FindsStructs size default.entry) self.entry) result }
         ensures fits { StructsFindFits size default.entry
             (A.view self.entry.arena.now) self.entry.segment self.entry.at → IsOk result }
         ensures granted { IfOk result (λ b. KeepsMemory (A.view self.entry.arena.now)
@@ -262,10 +258,8 @@ impl<'a, A: BuilderArena> PointerBuilder<'a, A> {
         requires few { IsShortDefault default }
         requires plain { size_number size ≤ 6 }
         ensures same { IfOk result (λ b. b.arena.ghost_name ≡ self.entry.arena.ghost_name) }
-        ensures found { OfStored (built A.view self.entry)
-            (λ t. LeavesMessage (λ b. A.view b.arena.now) (λ b. b.place)
-            (λ new r. FindsList size default.entry r (calling_last A.view self.entry new) t)
-            result) }
+        ensures found { ReachesArena GivesList
+            (LooksUp A.view (FindsList size default.entry) self.entry) result }
         ensures inside { OfStored (built A.view self.entry)
             (λ t. IfOk result (λ b. IsListPlace (A.view b.arena.now).words b.place)) }
         ensures granted { IfOk result (λ b. KeepsMemory (A.view self.entry.arena.now)
@@ -309,11 +303,8 @@ impl<'a, A: BuilderArena> PointerBuilder<'a, A> {
     pub fn get_data(mut self, default: Option<&[u8]>) -> Result<&'a mut [u8], ErrorKind>
         requires there { IsThere (built A.view self) }
         requires few { IsShortDefault default }
-        ensures found { OfStored (built A.view self.entry)
-            (λ t. (now : A) × (r : Result ExistingBytes ErrorKind)
-            × FindsBytes data_in default.entry r
-            (calling_last A.view self.entry (A.view now)) t
-            × IsLent (λ s. s.now) (A.segments now) r result) }
+        ensures found { ReachesArena (LendsBytes A.segments)
+            (LooksUp A.view (FindsBytes data_in default.entry) self.entry) result }
     {
         match self.find_data(default) {
             Ok(bytes) => {
@@ -360,11 +351,8 @@ impl<'a, A: BuilderArena> PointerBuilder<'a, A> {
     pub fn get_text(mut self, default: Option<&[u8]>) -> Result<&'a mut [u8], ErrorKind>
         requires there { IsThere (built A.view self) }
         requires few { IsShortDefault default }
-        ensures found { OfStored (built A.view self.entry)
-            (λ t. (now : A) × (r : Result ExistingBytes ErrorKind)
-            × FindsBytes text_in default.entry r
-            (calling_last A.view self.entry (A.view now)) t
-            × IsLent (λ s. s.now) (A.segments now) r result) }
+        ensures found { ReachesArena (LendsBytes A.segments)
+            (LooksUp A.view (FindsBytes text_in default.entry) self.entry) result }
     {
         match self.find_text(default) {
             Ok(bytes) => {
