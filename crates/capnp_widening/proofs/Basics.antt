@@ -1,5 +1,5 @@
 -- Single intervals.
-use Rattle.std.proofs.Common.{◌≡◌, ℕ, ◌+◌, ◌≤◌, [], ◌∷◌, cond, ap, arith, eq-eqb}
+use Rattle.std.proofs.Common.{Result, Ok, Err, OnOk, ◌≡◌, ℕ, ◌+◌, ◌≤◌, [], ◌∷◌, cond, ap, arith, eq-eqb}
 use Rattle.std.proofs.lemmas.Bool.Decides.{nat_tests}
 use Rattle.capnp_format.specs.Word.{kind, is_double, upper_half, far_position}
 use Rattle.capnp_format.specs.Forest.{times, pads_of}
@@ -10,3 +10,8 @@ is_far x n = ap (λ b. cond b (record { segment = upper_half x; start = far_posi
 
 pub once_row : (s p n v r : ℕ) → times (row s p n ∷ []) v r ≤ 1
 once_row s p n v r = grind (arith, nat_tests)
+
+-- what holds of an outcome of which two facts are known
+pub on_both_so : {A E : Type 0} (r : Result A E) (P Q T : Type 0) → OnOk r P → OnOk r Q → (P → Q → T) → OnOk r T
+on_both_so (Ok x) P Q T h k f = f h k
+on_both_so (Err e) P Q T h k f = tt

@@ -31,7 +31,9 @@ already_wide S s p d k ws ts x l m =
     subst (λ t. IsReplaced S S s p (Struct ws ts) t) (ap₂ (λ vs us. Struct vs us) (sym (wide_words d ws l)) (sym (wide_trees k ts m))) (unchanged S s p (Struct ws ts) x)
 
 -- one that is made wider by the greater of two sizes
+pub same_wide : (d k e f : ℕ) (ws : List ℕ) (ts : Trees) → e ≡ max (length ws) d → f ≡ max (count ts) k → Struct (fill_words e ws) (fill_trees f ts) ≡ Struct (fill_words d ws) (fill_trees k ts)
+same_wide d k e f ws ts l m = ap₂ (λ vs us. Struct vs us) (ap (λ n. fill_words n ws) l ∙ greater_words d ws) (ap (λ n. fill_trees n ts) m ∙ greater_trees k ts)
+
 pub greater_size : (S R : Segments) (s p d k e f : ℕ) (ws : List ℕ) (ts : Trees) → e ≡ max (length ws) d → f ≡ max (count ts) k → IsReplaced S R s p (Struct ws ts) (Struct (fill_words e ws) (fill_trees f ts)) →
     IsReplaced S R s p (Struct ws ts) (Struct (fill_words d ws) (fill_trees k ts))
-greater_size S R s p d k e f ws ts l m r =
-    subst (λ t. IsReplaced S R s p (Struct ws ts) t) (ap₂ (λ vs us. Struct vs us) (ap (λ n. fill_words n ws) l ∙ greater_words d ws) (ap (λ n. fill_trees n ts) m ∙ greater_trees k ts)) r
+greater_size S R s p d k e f ws ts l m r = subst (λ t. IsReplaced S R s p (Struct ws ts) t) (same_wide d k e f ws ts l m) r

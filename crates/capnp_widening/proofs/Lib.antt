@@ -21,6 +21,7 @@ pub mod NumbersRead
 pub mod PlainLists
 pub mod Pointed
 pub mod PointerSteps
+pub mod PointersWritten
 pub mod Refusing
 pub mod Rehoused
 pub mod Remade
@@ -34,8 +35,10 @@ pub mod StructLists
 pub mod StructRemade
 pub mod StructRooms
 pub mod StructSteps
+pub mod TakingWords
 pub mod Unmoving
 pub mod Unspent
 pub mod Widenings
+pub mod WrittenAnew
 pub mod StructsOpened
 pub mod ListsOpened

@@ -129,29 +129,50 @@ none_moved S = λ B c. record {
   zero = λ x y h l. get_or_past (segment S x) y 0 l;
 }
 
--- some pointers are moved, and then others
-pub moves_both : (S M R : Segments) (ms ns : List Move) → Moves S M ms → Moves M R ns → Moves S R (ms ++ ns)
-moves_both S M R ms ns f g = λ B c.
-    (let split = new_places-append ms ns in
-    let first : CanMove B S ms = record {
-      extends = c.extends;
-      stand = stand_left B ms ns c.stand;
-      behind = λ x y l. c.behind x y (omega (arith, split x y));
-      once = λ x y. omega (arith, split x y, c.once x y);
-    } in
-    let a = f B first in
-    let base_beside = λ (x y : ℕ) (l : y < length (segment B x)). (let e : times (new_places (ms ++ ns)) x y ≡ 0 = no_place B S (ms ++ ns) x y c l in e) in
-    let extends : Extends B M = record {
-      grows = record { segments = le_trans c.extends.grows.segments a.grows.segments; words = λ x. le_trans (c.extends.grows.words x) (a.grows.words x) };
-      kept = λ x y l. a.kept x y (omega (arith, base_beside x y l, split x y)) (omega (arith, c.extends.grows.words x)) ∙ c.extends.kept x y l;
-    } in
-    let second : CanMove B M ns = record {
-      extends = extends;
+-- what CanMove says of the first moves
+pub can_left : (B S : Segments) (ms ns : List Move) → CanMove B S (ms ++ ns) → CanMove B S ms
+can_left B S ms ns c = record {
+  extends = c.extends;
+  stand = stand_left B ms ns c.stand;
+  behind = λ x y l. c.behind x y (omega (arith, new_places-append ms ns x y));
+  once = λ x y. omega (arith, new_places-append ms ns x y, c.once x y);
+}
+
+-- what it says of the others, once the first are moved
+
+-- no new place lies in B
+no_place : (B S : Segments) (os : List Move) (x y : ℕ) → CanMove B S os → y < length (segment B x) → times (new_places os) x y ≡ 0
+no_place B S os x y c l = elim (cases_eq (times (new_places os) x y) 0) [
+  | inl e ↦ e
+  | inr e ↦ absurd (omega (arith, l, (c.behind x y (omega arith)).0))
+]
+
+moved_extends : (B S M : Segments) (ms ns : List Move) → CanMove B S (ms ++ ns) → AreMoved S M ms → Extends B M
+moved_extends B S M ms ns c a = record {
+  grows = record { segments = le_trans c.extends.grows.segments a.grows.segments; words = λ x. le_trans (c.extends.grows.words x) (a.grows.words x) };
+  kept = λ x y l. a.kept x y (omega (arith, no_place B S (ms ++ ns) x y c l, new_places-append ms ns x y)) (omega (arith, c.extends.grows.words x)) ∙ c.extends.kept x y l;
+}
+
+pub can_right : (B S M : Segments) (ms ns : List Move) → CanMove B S (ms ++ ns) → AreMoved S M ms → CanMove B M ns
+can_right B S M ms ns c a =
+    let split = new_places-append ms ns in
+    record {
+      extends = moved_extends B S M ms ns c a;
       stand = stand_right B ms ns c.stand;
       behind = λ x y l. (let (low, high, none) = c.behind x y (omega (arith, split x y)) in
           (low, omega (arith, high, a.grows.words x), a.kept x y (omega (arith, split x y, c.once x y)) high ∙ none));
       once = λ x y. omega (arith, split x y, c.once x y);
-    } in
+    }
+
+-- some pointers are moved, and then others
+pub moves_both : (S M R : Segments) (ms ns : List Move) → Moves S M ms → Moves M R ns → Moves S R (ms ++ ns)
+moves_both S M R ms ns f g = λ B c.
+    (let split = new_places-append ms ns in
+    let first : CanMove B S ms = can_left B S ms ns c in
+    let a = f B first in
+    let base_beside = λ (x y : ℕ) (l : y < length (segment B x)). (let e : times (new_places (ms ++ ns)) x y ≡ 0 = no_place B S (ms ++ ns) x y c l in e) in
+    let extends : Extends B M = moved_extends B S M ms ns c a in
+    let second : CanMove B M ns = can_right B S M ms ns c a in
     let b = g B second in
     let in_s = λ (x y : ℕ) (l : 0 < times (new_places ns) x y). (let e : y < length (segment S x) = (c.behind x y (omega (arith, split x y))).1 in e) in
     let stays : StaysMoved B M R ms = record {
@@ -199,12 +220,6 @@ moves_both S M R ms ns f g = λ B c.
       ];
     })
   where
-    no_place : (B S : Segments) (os : List Move) (x y : ℕ) → CanMove B S os → y < length (segment B x) → times (new_places os) x y ≡ 0
-    no_place B S os x y c l = elim (cases_eq (times (new_places os) x y) 0) [
-      | inl e ↦ e
-      | inr e ↦ absurd (omega (arith, l, (c.behind x y (omega arith)).0))
-    ]
-
     not_held_by : (os : List Move) (x y : ℕ) → (0 < times (new_places os) x y → ⊥) → times (new_places os) x y ≡ 0
     not_held_by os x y h = elim (cases_eq (times (new_places os) x y) 0) [ inl e ↦ e | inr e ↦ absurd (h (omega arith)) ]
 
@@ -291,15 +306,6 @@ row_old_places s p v r (suc k) x y = omega (arith, row_old_places s (p + 1) v (r
   where
     first_word : (v r n x y : ℕ) → times (row v r (suc n) ∷ []) x y ≡ times (word_interval v r ∷ []) x y + times (row v (r + 1) n ∷ []) x y
     first_word v r n x y = grind (arith, nat_tests)
-
--- what CanMove says of the first moves
-pub can_left : (B S : Segments) (ms ns : List Move) → CanMove B S (ms ++ ns) → CanMove B S ms
-can_left B S ms ns c = record {
-  extends = c.extends;
-  stand = stand_left B ms ns c.stand;
-  behind = λ x y l. c.behind x y (omega (arith, new_places-append ms ns x y));
-  once = λ x y. omega (arith, new_places-append ms ns x y, c.once x y);
-}
 
 -- old places lie in B
 pub old_place_inside : (B : Segments) (ms : List Move) → HaveValuesInside B ms → (x y : ℕ) → 0 < times (old_places ms) x y → y < length (segment B x)

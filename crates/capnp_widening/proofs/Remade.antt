@@ -1,11 +1,15 @@
 -- An object made anew, step by step: words are taken, written, pointers moved, the pointer set, and the old object made zero.
-use Rattle.std.proofs.Common.{◌≡◌, inl, inr, ℕ, ◌+◌, ◌<◌, ◌≤◌, List, [], ◌∷◌, ◌++◌, length, refl, sym, ap, ◌∙◌, subst, arith}
+use Rattle.std.proofs.Common.{◌≡◌, inl, inr, ℕ, ◌+◌, ◌<◌, ◌≤◌, List, [], ◌∷◌, ◌++◌, length, refl, sym, ap, ap₂, ◌∙◌, subst, arith}
 use Rattle.std.proofs.lemmas.Bool.{cases_eq, cases_lt}
 use Rattle.capnp_format.specs.Segments.{Segments, segment, word_at, Target}
 use Rattle.capnp_format.specs.Means.{Leads}
-use Rattle.capnp_format.specs.Forest.{times, pads_of, object_of}
+use Rattle.capnp_format.specs.Forest.{times, pads_of, object_of, target, target_in}
 use Rattle.capnp_format.proofs.Frame.{leads_agree}
+use Rattle.capnp_arena.specs.View.{View}
 use Rattle.capnp_arena.specs.Written.{with_word}
+use Rattle.capnp_making.specs.Makes.{call_at}
+use Rattle.capnp_making.specs.Memory.{KeepsMemory, StandsBehind, TakesWords, start_of}
+use Rattle.capnp_making.specs.declared.making.Start.{Start}
 use Rattle.capnp_making.specs.Path.{word_interval}
 use Rattle.capnp_making.specs.Zeroed.{row, IsZeroed}
 use Rattle.capnp_making.specs.Made.{IsGrown}
@@ -15,10 +19,12 @@ use Rattle.capnp_making.proofs.MadeWords.{IsPut, word_put, outside}
 use Rattle.capnp_widening.proofs.Basics.{once_row}
 use Rattle.capnp_making.proofs.Zeros.{in_row, of_row}
 use Rattle.capnp_widening.specs.Moved.{Move, AllMoved, CanMove, AreMoved, Moves, MovesSome, Unmoves, new_places, fresh_pads}
+use Rattle.capnp_widening.specs.Anew.{OnlyWrites, StandsAnew, WritesAnew}
 use Rattle.capnp_widening.specs.Housed.{IsSettled}
 use Rattle.capnp_widening.specs.Widened.{GrowsByZeros}
 use Rattle.capnp_widening.proofs.Movings.{SameMoves, StaysMoved, same_moves, moved_still, all_old_inside, fresh_pads-append, can_left, old_place_inside, unwritten, left_null}
 use Rattle.capnp_widening.proofs.NewObjects.{IsRehoused, old_pads, new_pads}
+use Rattle.capnp_widening.proofs.WrittenAnew.{pads_after, pads_before, written_later}
 
 -- Words are taken in segment v from position at on, for pads and an object of wide words, which is then written; its new pointers are to be moved there.
 pub record IsBegun (S T D : Segments) (v at pads wide : ℕ) (ms : List Move) : Type 0 where
@@ -205,6 +211,31 @@ module _ (S T D P R Q : Segments) (u q : ℕ) (a : Target) (size : ℕ) (b : Tar
         | inl e ↦ e
         | inr e ↦ absurd (omega (arith, h.inside x y (omega arith), not_taken S T D v at pads wide ms h.begun x y (h.inside x y (omega arith)), split S T D v at pads wide ms h.begun x y, h.settled.pads_there x y))
       ])) h.settled.leads_there
+
+  -- the moved pointers are as they were written
+  pub new_last : (x y : ℕ) → 0 < times (new_places ms) x y → word_at Q x y ≡ word_at P x y
+  new_last x y l =
+      let new = (h.begun.can.behind x y l).0 in
+      h.zeroed.kept x y (elim (cases_eq (times (pads_of (word_at S u q) ++ object_of a size ∷ []) x y) 0) [
+        | inl e ↦ e
+        | inr e ↦ absurd (omega (arith, h.inside x y (omega arith), new))
+      ])
+      ∙ h.settled.kept x y (outside u q x y (λ f g. omega (arith, h.place, new, ap (λ z. length (segment S z)) f)))
+      (omega (arith, h.begun.within x y l, split S T D v at pads wide ms h.begun x y, once_row v at (pads + wide) x y))
+
+-- The object stands anew, where its words and those of its pads were taken.
+pub object_anew : (s t d p r q : View) (T : Segments) (u i : ℕ) (a : Target) (size : ℕ) (b : Target) (v at pads wide : ℕ) (ms : List Move) → IsRemade s.words T d.words p.words r.words q.words u i a size b v at pads wide ms →
+    KeepsMemory s t → TakesWords s t u wide → StandsBehind s u wide (record { segment = v; at = at + pads }) → OnlyWrites t d → WritesAnew d p ms → OnlyWrites p q → StandsAnew (call_at u i s q) wide ms
+object_anew s t d p r q T u i a size b v at pads wide ms h kept taken behind first w last =
+    let written = w s.words h.begun.can in
+    let goes : target q.words u i ≡ b = ap target_in (leads_last s.words T d.words p.words r.words q.words u i a size b v at pads wide ms h).1 in
+    let start : ℕ → ℕ → Start = λ x y. record { segment = x; at = y } in
+    let there : start v (at + pads) ≡ start_of (target q.words u i) = ap₂ start (sym h.segment_of) (sym h.start_of) ∙ ap start_of (sym goes) in
+    record {
+      behind = subst (λ (x : Start). StandsBehind s u wide x) there behind;
+      forms = written_later s.words p.words q.words ms (new_last s.words T d.words p.words r.words q.words u i a size b v at pads wide ms h) written.forms;
+      taken = record { begun = t; kept = kept; object = taken; pads = pads_before s.words t d q ms first (pads_after s.words d p q ms written.taken last) };
+    }
 
 -- a growth is refused: the pads and the new object are made zero again
 pub undone : (S T D P U Z : Segments) (v at pads wide : ℕ) (ms : List Move) → IsBegun S T D v at pads wide ms → MovesSome D P ms → Unmoves P U ms → (at + pads + wide ≤ length (segment U v) → IsZeroed U Z (row v (at + pads) wide ∷ [])) → GrowsByZeros S Z

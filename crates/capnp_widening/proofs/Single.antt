@@ -87,7 +87,7 @@ apart_places B S s p v r c = elim (cases_eq (times (word_interval v r ∷ []) s 
   | inr e ↦ (let (t, n, k, m, inside) = c.stand.0 in absurd (omega (arith, inside s p (omega (arith, times-first (word_interval s p) (cover B s p t) s p, once_held s p)), (c.behind s p (omega arith)).0)))
 ]
 
-place_there : (B S : Segments) (s p v r : ℕ) → CanMove B S (a_move s p v r ∷ []) → (p < length (segment B s)) × (r < length (segment S v)) × (word_at S v r ≡ 0)
+pub place_there : (B S : Segments) (s p v r : ℕ) → CanMove B S (a_move s p v r ∷ []) → (p < length (segment B s)) × (r < length (segment S v)) × (word_at S v r ≡ 0)
 place_there B S s p v r c =
     let (t, n, k, m, inside) = c.stand.0 in
     let b = c.behind v r (omega (arith, once_held v r)) in
@@ -194,9 +194,11 @@ near_moves B S R s p v r start shape h at some shaped goes hs ha vs rs (b, w, ki
     }
 
 -- a near pointer that leads nowhere means nothing
-pub nowhere_moves : (B S R : Segments) (s p v r : ℕ) → word_at S s p ≢ 0 → kind (word_at S s p) ≢ 2 → offset_leads (length (segment S s)) p (offset_bits (word_at S s p)) ≡ None → CanMove B S (a_move s p v r ∷ []) → AreMoved S R (a_move s p v r ∷ [])
-nowhere_moves B S R s p v r some near goes c =
+pub means_nothing : (B S : Segments) (s p v r : ℕ) → word_at S s p ≢ 0 → kind (word_at S s p) ≢ 2 → offset_leads (length (segment S s)) p (offset_bits (word_at S s p)) ≡ None → CanMove B S (a_move s p v r ∷ []) → ⊥
+means_nothing B S s p v r some near goes c =
     let (t, n, k, m, stays) = stands_later B S s p c.extends c.stand.0 in
     let (a, l, what) = means_leads S n s p t k some m in
     let found = near_found S s p a near l.1 in
-    absurd (let e = goes in let f = found.3 in cc)
+    let e = goes in
+    let f = found.3 in
+    cc

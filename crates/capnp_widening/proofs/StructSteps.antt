@@ -2,11 +2,15 @@
 use Rattle.std.proofs.Common.{ap, ◌∙◌, ◌≡◌, ℕ, ◌+◌, ◌≤◌, [], ◌∷◌, ◌++◌, length, List, Some, refl, sym, subst, arith}
 use Rattle.std.proofs.lemmas.List.{get_or_past}
 use Rattle.capnp_format.specs.Word.{upper_half}
-use Rattle.capnp_format.specs.Segments.{Segments, segment, word_at, IsPlace}
+use Rattle.capnp_format.specs.Segments.{Segments, segment, word_at, IsPlace, Target}
+use Rattle.capnp_arena.specs.View.{View}
 use Rattle.capnp_format.specs.Tree.{Tree, Null, Capability, Struct, Flat, Pointers, Structs, Trees, count}
 use Rattle.capnp_format.specs.Forest.{times, pads_of, object_of, target, target_in, cover, cover_all}
 use Rattle.capnp_format.proofs.Frame.{times-append}
 use Rattle.capnp_words.specs.declared.wire_pointer.StructSize.{StructSize}
+use Rattle.capnp_making.specs.Made.{IsShape}
+use Rattle.capnp_making.specs.Makes.{call_at}
+use Rattle.capnp_making.specs.Memory.{KeepsMemory, StandsBehind, TakesWords, start_of}
 use Rattle.capnp_making.specs.Path.{word_interval}
 use Rattle.capnp_making.specs.Existing.{struct_in}
 use Rattle.capnp_making.specs.Stored.{IsStored, IsReplaced}
@@ -18,10 +22,12 @@ use Rattle.capnp_making.proofs.Extents.{times-first, once_held}
 use Rattle.capnp_making.proofs.Zeros.{zeroed_again}
 use Rattle.capnp_widening.specs.declared.widening.Room.{Room}
 use Rattle.capnp_widening.specs.Moved.{Moves, MovesSome, Unmoves, row_of_moves}
-use Rattle.capnp_widening.specs.Housed.{IsRoom, AreWordsCopied, Settles}
-use Rattle.capnp_widening.specs.Widened.{fill_words, fill_trees, GrowsByZeros, IsStruct, LeadsToWiderStruct, LeavesAll, WidensStruct, rewriting}
-use Rattle.capnp_widening.proofs.Remade.{IsRemade, leads_last, undone}
+use Rattle.capnp_widening.specs.Anew.{BecomesAnew, OnlyWrites, StandsAnew, WidensStructAnew, WritesAnew}
+use Rattle.capnp_widening.specs.Housed.{IsRoom, AreWordsCopied, Settles, object_start}
+use Rattle.capnp_widening.specs.Widened.{fill_words, fill_trees, GrowsByZeros, IsStruct, LeadsToWiderStruct, LeavesAll, WidensStruct, rewriting, widened}
+use Rattle.capnp_widening.proofs.Remade.{IsRemade, leads_last, object_anew, undone}
 use Rattle.capnp_widening.proofs.StructRemade.{struct_parts, struct_begun, struct_remade}
+use Rattle.capnp_widening.proofs.Widenings.{length-fill_words, count-fill_trees}
 
 pub record StructSteps (S T D P R Z Q : Segments) (id at : ℕ) (old : ExistingStruct) (size : StructSize) (h : Room) : Type 0 where
   pub place : IsPlace S id at
@@ -47,8 +53,17 @@ record IsWidened (S Q : Segments) (id at : ℕ) (ws : List ℕ) (ts : Trees) (si
   start_of : h.at + h.pads ≡ (target Q id at).start
   claim : h.at + h.pads + (size.data_words + size.pointers) ≤ length (segment Q h.segment)
 
-is_widened : (S T D P R Z Q : Segments) (id at : ℕ) (size : StructSize) (h : Room) (ws : List ℕ) (ts : Trees) → IsStored S id at (Struct ws ts) → StructSteps S T D P R Z Q id at (the_struct S id at ws ts) size h → IsWidened S Q id at ws ts size h
-is_widened S T D P R Z Q id at size h ws ts x s =
+-- the struct is made anew, and the old one is zero
+record RemadeBy (S T D P R Z Q : Segments) (id at : ℕ) (size : StructSize) (h : Room) (ws : List ℕ) (ts : Trees) : Type 0 where
+  object : Target
+  shaped : IsShape (StructShape size) object.word
+  made :
+      IsRemade S T D P R Q id at (target S id at) (length ws + count ts) object h.segment h.at h.pads (size.data_words + size.pointers)
+      (row_of_moves (target S id at).segment ((target S id at).start + length ws) h.segment (h.at + h.pads + size.data_words) (count ts))
+  claim : h.at + h.pads + (size.data_words + size.pointers) ≤ length (segment Q h.segment)
+
+remade_by : (S T D P R Z Q : Segments) (id at : ℕ) (size : StructSize) (h : Room) (ws : List ℕ) (ts : Trees) → IsStored S id at (Struct ws ts) → StructSteps S T D P R Z Q id at (the_struct S id at ws ts) size h → RemadeBy S T D P R Z Q id at size h ws ts
+remade_by S T D P R Z Q id at size h ws ts x s =
     let a = target S id at in
     let n = length ws + count ts in
     let word = word_at S id at in
@@ -68,25 +83,71 @@ is_widened S T D P R Z Q id at size h ws ts x s =
     let covered = λ (y w : ℕ). (let e : times (pads_of word ++ object_of a n ∷ []) y w ≤ times (cover S id at (Struct ws ts)) y w =
     omega (arith, both y w, times-append (pads_of word) (object_of a n ∷ inner) y w, times-first (object_of a n) inner y w) in e) in
     let whole = λ (y w : ℕ). times-first (word_interval id at) (cover S id at (Struct ws ts)) y w in
-    let made : IsRemade S T D P R Q id at a n b h.segment h.at h.pads (size.data_words + size.pointers) (row_of_moves a.segment (a.start + length ws) h.segment (h.at + h.pads + size.data_words) (count ts)) = record {
-      begun = begun;
-      moves = s.moves;
-      settled = settled;
-      segment_of = segment_of;
-      start_of = start_of;
-      zeroed = zeroed;
-      place = s.place;
-      alone = omega (arith, covered id at, whole id at, x.apart id at, once_held id at);
-      inside = λ y w l. x.inside y w (omega (arith, l, covered y w, whole y w));
-    } in
-    let leads_there = leads_last S T D P R Q id at a n b h.segment h.at h.pads (size.data_words + size.pointers) (row_of_moves a.segment (a.start + length ws) h.segment (h.at + h.pads + size.data_words) (count ts)) made in
-    let goes : target Q id at ≡ b = ap target_in leads_there.1 in
     record {
-      replaced = struct_remade S T D P R Q id at ws ts size.data_words size.pointers b h.segment h.at h.pads x ld lk s.copied made shaped.0 shaped.1 shaped.2;
-      segment_of = sym segment_of ∙ ap (λ t. t.segment) (sym goes);
-      start_of = sym start_of ∙ ap (λ t. t.start) (sym goes);
+      object = b;
+      shaped = shaped;
+      made = record {
+        begun = begun;
+        moves = s.moves;
+        settled = settled;
+        segment_of = segment_of;
+        start_of = start_of;
+        zeroed = zeroed;
+        place = s.place;
+        alone = omega (arith, covered id at, whole id at, x.apart id at, once_held id at);
+        inside = λ y w l. x.inside y w (omega (arith, l, covered y w, whole y w));
+      };
       claim = omega (arith, grown.room, s.copied.words h.segment, moved.grows.words h.segment, settled.words h.segment, z.words h.segment, zz.words h.segment);
     }
+
+is_widened : (S T D P R Z Q : Segments) (id at : ℕ) (size : StructSize) (h : Room) (ws : List ℕ) (ts : Trees) → IsStored S id at (Struct ws ts) → StructSteps S T D P R Z Q id at (the_struct S id at ws ts) size h → IsWidened S Q id at ws ts size h
+is_widened S T D P R Z Q id at size h ws ts x s =
+    let a = target S id at in
+    let r = remade_by S T D P R Z Q id at size h ws ts x s in
+    let b = r.object in
+    let (ld, lk) = s.wider in
+    let leads_there = leads_last S T D P R Q id at a (length ws + count ts) b h.segment h.at h.pads (size.data_words + size.pointers)
+    (row_of_moves a.segment (a.start + length ws) h.segment (h.at + h.pads + size.data_words) (count ts)) r.made in
+    let goes : target Q id at ≡ b = ap target_in leads_there.1 in
+    record {
+      replaced = struct_remade S T D P R Q id at ws ts size.data_words size.pointers b h.segment h.at h.pads x ld lk s.copied r.made r.shaped.0 r.shaped.1 r.shaped.2;
+      segment_of = sym r.made.segment_of ∙ ap (λ t. t.segment) (sym goes);
+      start_of = sym r.made.start_of ∙ ap (λ t. t.start) (sym goes);
+      claim = r.claim;
+    }
+
+-- where it stands, and what words were taken for it
+pub record StructTaken (s t d p q : View) (id : ℕ) (old : ExistingStruct) (size : StructSize) (h : Room) : Type 0 where
+  pub kept : KeepsMemory s t
+  pub taken : TakesWords s t id (size.data_words + size.pointers)
+  pub behind : StandsBehind s id (size.data_words + size.pointers) (object_start h)
+  pub first : OnlyWrites t d
+  pub written : WritesAnew d p (row_of_moves old.segment (old.start + old.size.data_words) h.segment (h.at + h.pads + size.data_words) old.size.pointers)
+  pub last : OnlyWrites p q
+
+anew_at : (s t d p r z q : View) (id at : ℕ) (size : StructSize) (h : Room) (ws : List ℕ) (ts : Trees) → IsStored s.words id at (Struct ws ts) → StructSteps s.words t.words d.words p.words r.words z.words q.words id at (the_struct s.words id at ws ts) size h →
+    StructTaken s t d p q id (the_struct s.words id at ws ts) size h → BecomesAnew (call_at id at s q) (Struct ws ts) (widened size ws ts)
+anew_at s t d p r z q id at size h ws ts x steps k =
+    let a = target s.words id at in
+    let m = remade_by s.words t.words d.words p.words r.words z.words q.words id at size h ws ts x steps in
+    let w = is_widened s.words t.words d.words p.words r.words z.words q.words id at size h ws ts x steps in
+    let n = size.data_words + size.pointers in
+    let (ld, lk) = steps.wider in
+    let long : length (fill_words size.data_words ws) ≡ size.data_words = omega (arith, length-fill_words size.data_words ws) in
+    let full : count (fill_trees size.pointers ts) ≡ size.pointers = omega (arith, count-fill_trees size.pointers ts) in
+    let words : n ≡ length (fill_words size.data_words ws) + count (fill_trees size.pointers ts) = omega (arith, long, full) in
+    let b = start_of (target q.words id at) in
+    let to : h.at + h.pads + size.data_words ≡ b.at + length (fill_words size.data_words ws) = omega (arith, w.start_of, long) in
+    let made = object_anew s t d p r q t.words id at a (length ws + count ts) m.object h.segment h.at h.pads n (row_of_moves a.segment (a.start + length ws) h.segment (h.at + h.pads + size.data_words) (count ts)) m.made k.kept k.taken k.behind k.first k.written k.last in
+    subst (λ i. StandsAnew (call_at id at s q) i (row_of_moves a.segment (a.start + length ws) b.segment (b.at + length (fill_words size.data_words ws)) (count ts))) words
+    (subst (λ i. StandsAnew (call_at id at s q) n (row_of_moves a.segment (a.start + length ws) i (b.at + length (fill_words size.data_words ws)) (count ts))) w.segment_of
+    (subst (λ i. StandsAnew (call_at id at s q) n (row_of_moves a.segment (a.start + length ws) h.segment i (count ts))) to made))
+
+pub struct_anew : (s t d p r z q : View) (id at : ℕ) (old : ExistingStruct) (size : StructSize) (h : Room) → StructSteps s.words t.words d.words p.words r.words z.words q.words id at old size h → StructTaken s t d p q id old size h →
+    WidensStructAnew (IsStruct s.words id at old) size (call_at id at s q)
+struct_anew s t d p r z q id at old size h steps k = λ ws ts i.
+    (let same = sym (same_struct (the_struct s.words id at ws ts) old i.1) in
+    anew_at s t d p r z q id at size h ws ts i.0 (subst (λ o. StructSteps s.words t.words d.words p.words r.words z.words q.words id at o size h) same steps) (subst (λ o. StructTaken s t d p q id o size h) same k))
 
 pub struct_rehoused : (S T D P R Z Q : Segments) (id at : ℕ) (old : ExistingStruct) (size : StructSize) (h : Room) → StructSteps S T D P R Z Q id at old size h → WidensStruct (IsStruct S id at old) size (rewriting id at S Q)
 struct_rehoused S T D P R Z Q id at old size h s = λ ws ts i.

@@ -1,5 +1,5 @@
 -- Structs that are opened for writing.
-use Rattle.std.proofs.Common.{◌≡◌, inl, Bool, true, false, ℕ, zero, suc, ◌+◌, ◌≤◌, max, List, length, Some, None, Result, Ok, Err, refl, sym, ap, ap₂, ◌∙◌, subst, arith}
+use Rattle.std.proofs.Common.{[], ◌≡◌, inl, Bool, true, false, ℕ, zero, suc, ◌+◌, ◌≤◌, max, List, length, Some, None, Result, Ok, Err, refl, sym, ap, ap₂, ◌∙◌, subst, arith}
 use Rattle.std.proofs.lemmas.Grind.{common_steps}
 use Rattle.capnp_words.specs.declared.error.ErrorKind.{ErrorKind}
 use Rattle.capnp_words.specs.declared.error.ErrorKind.TheVariants.{AllocationFailed}
@@ -13,20 +13,23 @@ use Rattle.capnp_making.specs.declared.existing.ExistingStruct.{ExistingStruct}
 use Rattle.capnp_making.specs.declared.making.Start.{Start}
 use Rattle.capnp_making.specs.Existing.{struct_in, StructLiesIn}
 use Rattle.capnp_making.specs.Made.{zero_struct, words_of_zero, nulls, LeadsToStart}
-use Rattle.capnp_making.specs.Memory.{HasRoom, KeepsMemory, SpendsMemory, IsRefusedFor, RefusesGrowth, RefusesWords}
+use Rattle.capnp_making.specs.Memory.{HasRoom, KeepsMemory, SpendsMemory, IsRefusedFor, RefusesGrowth, RefusesWords, StandsBehind, TakesWords, start_of}
 use Rattle.capnp_making.specs.Stored.{IsStored, IsReplaced}
 use Rattle.capnp_making.proofs.Filling.{unchanged}
 use Rattle.capnp_making.proofs.FillingMade.{null_stored}
 use Rattle.capnp_making.proofs.Memory.{keeps_itself, spends_nothing, not_the_allocator, made_refused}
 use Rattle.capnp_making.proofs.Replaced.{grown}
 use Rattle.capnp_making.specs.Makes.{call_at}
+use Rattle.capnp_widening.specs.Anew.{StandsAnew, WidensStructAnew}
 use Rattle.capnp_widening.specs.Opening.{LeadsToOne, OpensStruct, struct_opened}
 use Rattle.capnp_widening.specs.Rooms.{all_words, direct_pointers, GrowsByAtMost, GrowsForStruct, RefusesToBecome, widened_words}
 use Rattle.capnp_widening.specs.Widened.{fill_words, fill_trees, GrowsByZeros, WidensStruct, LeavesAll, LeadsToWiderStruct, rewriting, widened}
 use Rattle.capnp_widening.proofs.Filled.{already_wide, wide_words, wide_trees}
 use Rattle.capnp_widening.proofs.Refusing.{growth_named}
+use Rattle.capnp_widening.proofs.Rooms.{takes_words}
 use Rattle.capnp_widening.proofs.StructSteps.{the_struct, same_struct}
 use Rattle.capnp_widening.proofs.Widenings.{length-fill_words, count-fill_trees}
+use Rattle.capnp_widening.proofs.WrittenAnew.{writes_nothing}
 
 -- a refusal that spends nothing
 pub nothing_spent : (v : View) (k : ErrorKind) → (k ≡ AllocationFailed → ⊥) → SpendsMemory v v k
@@ -66,6 +69,7 @@ struct_wide_at v s p ws ts e size stored is l m =
       memory = keeps_itself v;
       taken = omega arith;
       unchanged = λ h. refl;
+      anew = λ narrow. absurd (narrow (wide, many));
     }
 
 pub struct_wide : (v : View) (s p : ℕ) (t : Tree) (e : ExistingStruct) (size : StructSize) → IsStored v.words s p t → struct_in (target v.words s p) t ≡ Some e →
@@ -90,6 +94,7 @@ pub record Wider (a b : View) (s p : ℕ) (e f : ExistingStruct) (size : StructS
   pub leads : LeadsToWiderStruct (IsStored a.words s p) b.words s p f
   pub memory : KeepsMemory a b
   pub taken : GrowsForStruct a.words b.words s p size
+  pub anew : WidensStructAnew (IsStored a.words s p) size (call_at s p a b)
   pub narrow : size.data_words ≤ e.size.data_words → size.pointers ≤ e.size.pointers → ⊥
 
 struct_wider_at : (a b : View) (s p : ℕ) (ws : List ℕ) (ts : Trees) (e f : ExistingStruct) (size greater : StructSize) → IsStored a.words s p (Struct ws ts) → the_struct a.words s p ws ts ≡ e → Wider a b s p e f size →
@@ -112,6 +117,7 @@ struct_wider_at a b s p ws ts e f size greater stored is w l m =
       memory = w.memory;
       taken = w.taken ws ts stored;
       unchanged = λ h. absurd (w.narrow (omega (arith, h.0, d)) (omega (arith, h.1, q)));
+      anew = λ h. w.anew ws ts stored;
     }
 
 pub struct_wider : (a b : View) (s p : ℕ) (t : Tree) (e f : ExistingStruct) (size greater : StructSize) → IsStored a.words s p t → struct_in (target a.words s p) t ≡ Some e → Wider a b s p e f size →
@@ -178,19 +184,26 @@ null_count : (n : ℕ) → count (nulls n) ≡ n
 null_count zero = refl
 null_count (suc n) = ap (λ k. suc k) (null_count n)
 
-pub struct_made : (a b : View) (s p : ℕ) (size : StructSize) (h : Start) → IsReplaced a.words b.words s p Null (zero_struct size) → KeepsMemory a b → GrowsByAtMost a.words b.words (size.data_words + size.pointers + 1) → LeadsToStart b.words s p h →
+pub struct_made : (a b : View) (s p : ℕ) (size : StructSize) (h : Start) → IsReplaced a.words b.words s p Null (zero_struct size) → KeepsMemory a b → TakesWords a b s (size.data_words + size.pointers) →
+    StandsBehind a s (size.data_words + size.pointers) (start_of (target b.words s p)) → LeadsToStart b.words s p h →
     OpensStruct LeadsToOne size (Ok (struct_at h.segment h.at size.data_words size.pointers)) (call_at s p a b) Null
-struct_made a b s p size h made memory few leads =
+struct_made a b s p size h made memory taken behind leads =
     let vs : List ℕ = words_of_zero size.data_words in
     let us : Trees = nulls size.pointers in
+    let long : size.data_words + size.pointers ≡ widened_words (zero_struct size) = ap₂ (λ x y. x + y) (sym (zero_count size.data_words)) (sym (null_count size.pointers)) in
     let same : the_struct b.words s p vs us ≡ struct_at h.segment h.at size.data_words size.pointers =
     same_place (target b.words s p).segment (target b.words s p).start (length vs) (count us) h.segment h.at size.data_words size.pointers (sym leads.0) (sym leads.1) (zero_count size.data_words) (null_count size.pointers) in
     record {
       replaced = made;
       leads = (ap (λ x. Some x) same, subst (StructLiesIn b.words) same (struct_lies b.words s p vs us made.stored));
       memory = memory;
-      taken = omega (arith, few, zero_count size.data_words, null_count size.pointers);
+      taken = omega (arith, takes_words a b s (size.data_words + size.pointers) taken, long);
       unchanged = λ h. absurd h;
+      anew = λ narrow. subst (λ n. StandsAnew (call_at s p a b) n []) long (record {
+        behind = behind;
+        forms = tt;
+        taken = record { begun = b; kept = memory; object = taken; pads = writes_nothing b };
+      });
     }
 
 pub struct_unmade : (a b : View) (s p : ℕ) (size : StructSize) (k : ErrorKind) → IsPlace a.words s p → word_at a.words s p ≡ 0 → b.words ≡ a.words → IsRefusedFor a b (size.data_words + size.pointers) k →

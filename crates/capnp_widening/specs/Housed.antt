@@ -16,6 +16,10 @@ abbrev pub IsRoom : Segments → Segments → ℕ → ℕ → Room → Type 0
 IsRoom S T id n h =
     IsGrown S T h.segment h.at (h.pads + n) × (((h.pads ≡ 0) × (h.segment ≡ id)) ⊎ (h.pads ≡ 1))
 
+-- Where the object of a room starts, behind its pads.
+abbrev pub object_start : Room → Start
+object_start h = record { segment = h.segment; at = h.at + h.pads }
+
 -- From S to R so many words are copied to others: only these are written.
 pub record AreWordsCopied (S R : Segments) (from to : Start) (n : ℕ) : Type 0 where
   pub segments : length R ≡ length S

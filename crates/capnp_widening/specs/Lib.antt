@@ -1,3 +1,4 @@
+pub mod Anew
 pub mod Housed
 pub mod Laws
 pub mod Moved

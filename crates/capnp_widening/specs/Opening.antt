@@ -21,6 +21,7 @@ use Rattle.capnp_making.specs.Made.{zero_struct}
 use Rattle.capnp_making.specs.Makes.{CallAt}
 use Rattle.capnp_making.specs.Memory.{KeepsMemory, SpendsMemory, RefusesGrowth}
 use Rattle.capnp_making.specs.Stored.{IsStored, IsReplaced}
+use Rattle.capnp_widening.specs.Anew.{StructBecomesAnew}
 use Rattle.capnp_widening.specs.Rooms.{GrowsByAtMost, RefusesToBecome, widened_words, direct_pointers}
 use Rattle.capnp_widening.specs.RowsRemade.{ListLiesIn}
 use Rattle.capnp_widening.specs.Widened.{widened, list_widened}
@@ -45,13 +46,14 @@ HasSections size t = ⊥
 
 -- Where t was stored, u is so in its stead, and what is given leads to it. No more words are taken
 -- than u has, with a landing pad and two words for each pointer of t. Where t is large enough,
--- nothing is changed.
+-- nothing is changed; else a struct stands anew.
 pub record Opened (size : StructSize) (c : CallAt) (t u : Tree) (given : Type 0) : Type 0 where
   pub replaced : IsReplaced c.old.words c.new.words c.segment c.at t u
   pub leads : given
   pub memory : KeepsMemory c.old c.new
   pub taken : GrowsByAtMost c.old.words c.new.words (widened_words u + 1 + 2 * direct_pointers t)
   pub unchanged : HasSections size t → c.new ≡ c.old
+  pub anew : (HasSections size t → ⊥) → StructBecomesAnew c t u
 
 -- Memory is refused by the name k, for a value t that isn't large enough and was to become u: it
 -- stands as it was, and new words are zero, no more than u would have taken. It is its words that

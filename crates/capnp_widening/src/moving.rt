@@ -11,9 +11,11 @@ ghost use Rattle.capnp_format.specs.Segments.{segment, word_at, IsPlace, Grows};
 ghost use Rattle.capnp_format.specs.Word.{kind, offset_bits, struct_word, upper_half};
 ghost use Rattle.capnp_format.specs.Forest.{times};
 ghost use Rattle.capnp_making.specs.Made.{IsShape, CountFits, AsksWords};
+ghost use Rattle.capnp_making.specs.Makes.{call_at};
 ghost use Rattle.capnp_making.specs.Memory.{KeepsMemory, SpendsMemory, RefusesWords};
 ghost use Rattle.capnp_making.specs.Path.{word_interval};
 ghost use Rattle.capnp_making.specs.Zeroed.{IsPruned};
+ghost use Rattle.capnp_widening.specs.Anew.{WritesAnew, WritesPointer};
 ghost use Rattle.capnp_widening.specs.Moved.{a_move, row_of_moves, Moves, MovesSome, Unmoves, rows_of_moves};
 ghost use Rattle.capnp_widening.specs.Pointed.{PointsTo};
 ghost use Rattle.capnp_widening.specs.Rooms.{GrowsByAtMost, HasSomeRoom};
@@ -33,6 +35,8 @@ pub fn move_pointer<A: BuilderArena>(arena: &mut A, from: Start, to: Start) -> R
     requires from { IsPlace (A.view arena.old).words from.segment from.at }
     requires to { IsPlace (A.view arena.old).words to.segment to.at }
     ensures moved { OnOk result (Moves (A.view arena.old).words (A.view arena.new).words
+        (a_move from.segment from.at to.segment to.at ∷ [])) }
+    ensures written { OnOk result (WritesAnew (A.view arena.old) (A.view arena.new)
         (a_move from.segment from.at to.segment to.at ∷ [])) }
     ensures granted { OnOk result (KeepsMemory (A.view arena.old) (A.view arena.new)) }
     ensures only { OnOk result ((x y : ℕ) → times (word_interval to.segment to.at ∷ []) x y ≡ 0
@@ -92,6 +96,9 @@ fn point_to<A: BuilderArena>(
     requires few { CountFits shape }
     ensures points { OnOk result (PointsTo (A.view arena.old).words
         (A.view arena.new).words shape object to) }
+    ensures written { OnOk result ((x : ℕ) → IsShape shape x → x ≢ 0
+        → WritesPointer object.segment x
+        (call_at to.segment to.at (A.view arena.old) (A.view arena.new))) }
     ensures granted { OnOk result (KeepsMemory (A.view arena.old) (A.view arena.new)) }
     ensures longer { Grows (A.view arena.old).words (A.view arena.new).words }
     ensures memory { IfErr result (SpendsMemory (A.view arena.old) (A.view arena.new)) }
@@ -138,6 +145,8 @@ fn near_word(shape: Shape, position: u32, target: u32) -> WirePointer
     ensures lands { (offset_bits result.0 ≡ offset_to position target)
         ⊎ ((kind result.0 ≡ 0) × (upper_half result.0 ≡ 0)
         × (offset_bits result.0 ≡ 2 ^ 30 - 1)) }
+    ensures empty { IsShape shape (struct_word (2 ^ 30 - 1) 0 0)
+        → result.0 ≡ struct_word (2 ^ 30 - 1) 0 0 }
 {
     if is_empty(shape) {
         WirePointer::empty_struct()
@@ -182,6 +191,8 @@ pub fn move_row<A: BuilderArena>(
     requires to { to.at + count ≤ length (segment (A.view arena.old).words to.segment) }
     ensures moved { OnOk result (Moves (A.view arena.old).words (A.view arena.new).words
         (row_of_moves from.segment from.at to.segment to.at count)) }
+    ensures written { OnOk result (WritesAnew (A.view arena.old) (A.view arena.new)
+        (row_of_moves from.segment from.at to.segment to.at count)) }
     ensures some { OnErr result
         (MovesSome (A.view arena.old).words (A.view arena.new).words
         (row_of_moves from.segment from.at to.segment to.at count)) }
@@ -214,6 +225,8 @@ fn move_row_apart<A: BuilderArena>(
     requires to { to.at + count ≤ length (segment (A.view arena.old).words to.segment) }
     ensures moved { OnOk result (Moves (A.view arena.old).words (A.view arena.new).words
         (row_of_moves from.segment from.at to.segment to.at count)) }
+    ensures written { OnOk result (WritesAnew (A.view arena.old) (A.view arena.new)
+        (row_of_moves from.segment from.at to.segment to.at count)) }
     ensures some { OnErr result
         (MovesSome (A.view arena.old).words (A.view arena.new).words
         (row_of_moves from.segment from.at to.segment to.at count)) }
@@ -240,6 +253,8 @@ fn move_each<A: BuilderArena>(
     requires from { from.at + count ≤ length (segment (A.view arena.old).words from.segment) }
     requires to { to.at + count ≤ length (segment (A.view arena.old).words to.segment) }
     ensures moved { OnOk result (Moves (A.view arena.old).words (A.view arena.new).words
+        (row_of_moves from.segment from.at to.segment to.at count)) }
+    ensures written { OnOk result (WritesAnew (A.view arena.old) (A.view arena.new)
         (row_of_moves from.segment from.at to.segment to.at count)) }
     ensures some { OnErr result
         (MovesSome (A.view arena.old).words (A.view arena.new).words
@@ -327,6 +342,8 @@ pub fn move_rows<A: BuilderArena>(
         ≤ length (segment (A.view arena.old).words to.segment) + to.step }
     requires small { (from.step < 2 ^ 18) × (to.step < 2 ^ 18) }
     ensures moved { OnOk result (Moves (A.view arena.old).words (A.view arena.new).words
+        (rows_of_moves from.segment from.at from.step to.segment to.at to.step pointers count)) }
+    ensures written { OnOk result (WritesAnew (A.view arena.old) (A.view arena.new)
         (rows_of_moves from.segment from.at from.step to.segment to.at to.step pointers count)) }
     ensures some { OnErr result
         (MovesSome (A.view arena.old).words (A.view arena.new).words

@@ -8,11 +8,13 @@ ghost use Rattle.capnp_format.specs.Forest.{target};
 ghost use Rattle.capnp_format.specs.Tree.{Tree};
 ghost use Rattle.capnp_making.specs.Existing.{StructLiesIn, struct_in};
 ghost use Rattle.capnp_making.specs.Made.{CountFits, AsksWords};
-ghost use Rattle.capnp_making.specs.Memory.{HasRoom, KeepsMemory, SpendsMemory, RefusesWords, RefusesGrowth};
+ghost use Rattle.capnp_making.specs.Memory.{HasRoom, KeepsMemory, SpendsMemory, RefusesWords, RefusesGrowth, StandsBehind, TakesWords};
+ghost use Rattle.capnp_making.specs.Makes.{call_at};
 ghost use Rattle.capnp_making.specs.Near.{HasOwnRoom};
 ghost use Rattle.capnp_making.specs.Stored.{IsStored};
 ghost use Rattle.capnp_making.specs.Zeroed.{IsPruned};
-ghost use Rattle.capnp_widening.specs.Housed.{IsRoom, AreWordsCopied, Settles};
+ghost use Rattle.capnp_widening.specs.Anew.{WidensStructAnew};
+ghost use Rattle.capnp_widening.specs.Housed.{IsRoom, AreWordsCopied, Settles, object_start};
 ghost use Rattle.capnp_widening.specs.Rooms.{GrowsByAtMost, HasSomeRoom, WiderStructFits, GrowsForStruct};
 ghost use Rattle.capnp_widening.specs.Widened.{IsStruct, LeadsToWiderStruct, LeavesAll, WidensStruct, rewriting};
 
@@ -44,6 +46,9 @@ pub(crate) fn take<A: BuilderArena>(arena: &mut A, id: u32, amount: u32) -> Resu
     requires small { amount < 2 ^ 31 }
     ensures taken { IfOk result (IsRoom (A.view arena.old).words
         (A.view arena.new).words id amount) }
+    ensures words { OnOk result (TakesWords (A.view arena.old) (A.view arena.new) id amount) }
+    ensures behind { IfOk result (λ room.
+        StandsBehind (A.view arena.old) id amount (object_start room)) }
     ensures granted { OnOk result (KeepsMemory (A.view arena.old) (A.view arena.new)) }
     ensures memory { IfErr result (SpendsMemory (A.view arena.old) (A.view arena.new)) }
     ensures full { IfErr result (RefusesWords (A.view arena.old) (A.view arena.new) amount) }
@@ -149,6 +154,8 @@ pub(crate) fn widen_known<A: BuilderArena>(
         (rewriting id at (A.view arena.old).words (A.view arena.new).words)) }
     ensures leads { IfOk result (LeadsToWiderStruct
         (IsStored (A.view arena.old).words id at) (A.view arena.new).words id at) }
+    ensures anew { OnOk result (WidensStructAnew (IsStored (A.view arena.old).words id at) size
+        (call_at id at (A.view arena.old) (A.view arena.new))) }
     ensures granted { OnOk result (KeepsMemory (A.view arena.old) (A.view arena.new)) }
     ensures refused { OnErr result
         (LeavesAll (IsStored (A.view arena.old).words id at)
@@ -214,6 +221,8 @@ fn widen_struct<A: BuilderArena>(
         (rewriting id at (A.view arena.old).words (A.view arena.new).words)) }
     ensures leads { IfOk result (LeadsToWiderStruct
         (IsStruct (A.view arena.old).words id at old) (A.view arena.new).words id at) }
+    ensures anew { OnOk result (WidensStructAnew (IsStruct (A.view arena.old).words id at old) size
+        (call_at id at (A.view arena.old) (A.view arena.new))) }
     ensures size { IfOk result (λ e. e.size ≡ size) }
     ensures granted { OnOk result (KeepsMemory (A.view arena.old) (A.view arena.new)) }
     ensures refused { OnErr result

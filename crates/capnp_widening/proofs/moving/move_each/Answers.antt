@@ -5,12 +5,13 @@ use Rattle.capnp_widening.specs.Moved.{row_of_moves, Moves}
 use Rattle.capnp_widening.specs.Rooms.{all_words}
 use Rattle.capnp_widening.proofs.Movings.{none_moved, moves_next, moves_some}
 use Rattle.capnp_widening.proofs.Rooms.{room_left, less_room}
+use Rattle.capnp_widening.proofs.WrittenAnew.{writes_none, writes_next}
 use Rattle.capnp_widening.proofs.moving.move_each.Goals as goal
 
 pub loop-i-init : goal.loop-i-init
 loop-i-init g c =
     let S : Segments = (g.A.BuilderArena.view c.args.arena.now).words in
-    record { moves = none_moved S; longer = record { segments = omega arith; words = λ x. omega arith }; few = omega arith; memory = keeps_itself (g.A.BuilderArena.view c.args.arena.now) }
+    record { moves = none_moved S; written = writes_none (g.A.BuilderArena.view c.args.arena.now); longer = record { segments = omega arith; words = λ x. omega arith }; few = omega arith; memory = keeps_itself (g.A.BuilderArena.view c.args.arena.now) }
 
 -- One pointer more.
 pub loop-i-preserved : goal.loop-i-preserved
@@ -21,6 +22,7 @@ loop-i-preserved g c =
     let longer = c.in-Ok.ensures.longer in
     record {
       moves = moves_next S M R c.args.from.segment c.args.from.at c.args.to.segment c.args.to.at c.loop-i.i c.loop-i.invariant.moves c.in-Ok.ensures.moved;
+      written = writes_next (g.A.BuilderArena.view c.args.arena.now) (g.A.BuilderArena.view c.loop-i.arena) (g.A.BuilderArena.view c.move_pointer.new.arena) c.args.from.segment c.args.from.at c.args.to.segment c.args.to.at c.loop-i.i c.loop-i.invariant.moves c.in-Ok.ensures.moved c.loop-i.invariant.written c.in-Ok.ensures.written;
       longer = record { segments = le_trans c.loop-i.invariant.longer.segments longer.segments; words = λ x. le_trans (c.loop-i.invariant.longer.words x) (longer.words x) };
       few = omega (arith, c.loop-i.invariant.few, c.in-Ok.ensures.few);
       memory = keeps_both _ _ _ c.loop-i.invariant.longer.segments c.loop-i.invariant.memory c.in-Ok.ensures.granted;

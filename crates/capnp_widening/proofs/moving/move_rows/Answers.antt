@@ -2,12 +2,28 @@ use Rattle.std.proofs.Common.{◌≡◌, ◌+◌, ◌*◌, ◌≤◌, ℕ, le_tr
 use Rattle.capnp_arena.specs.View.{View}
 use Rattle.capnp_format.specs.Segments.{Segments}
 use Rattle.capnp_making.proofs.BelowElements.{element_within, next_place}
-use Rattle.capnp_making.proofs.Memory.{keeps_both, words_refused_after}
+use Rattle.capnp_making.proofs.Memory.{keeps_both, keeps_itself, words_refused_after}
+use Rattle.capnp_widening.specs.Anew.{WritesAnew}
 use Rattle.capnp_widening.specs.Moved.{rows_of_moves, Moves}
 use Rattle.capnp_widening.specs.Rooms.{GrowsByAtMost}
+use Rattle.capnp_widening.proofs.Movings.{none_moved}
 use Rattle.capnp_widening.proofs.Rooms.{room_left, less_room}
 use Rattle.capnp_widening.proofs.Rows.{rows_moves_next, rows_some}
+use Rattle.capnp_widening.proofs.WrittenAnew.{writes_none, rows_writes_next}
 use Rattle.capnp_widening.proofs.moving.move_rows.Goals as goal
+
+pub loop-i-init : goal.loop-i-init
+loop-i-init g c =
+    let v : View = g.A.BuilderArena.view c.args.arena.now in
+    record {
+      moves = none_moved v.words;
+      written = writes_none v;
+      source_at = omega arith;
+      place_at = omega arith;
+      longer = record { segments = omega arith; words = λ x. omega arith };
+      few = omega arith;
+      memory = keeps_itself v;
+    }
 
 -- One row more.
 pub loop-i-preserved : goal.loop-i-preserved
@@ -19,6 +35,8 @@ loop-i-preserved g c =
     record {
       moves = rows_moves_next S M R c.args.from.segment c.args.from.at c.args.from.step c.args.to.segment c.args.to.at c.args.to.step c.args.pointers c.loop-i.i c.loop-i.invariant.moves
           (rw (c.loop-i.invariant.source_at, c.loop-i.invariant.place_at) at c.in-Ok.ensures.moved);
+      written = rows_writes_next (g.A.BuilderArena.view c.args.arena.now) (g.A.BuilderArena.view c.loop-i.arena) (g.A.BuilderArena.view c.move_row.new.arena) c.args.from.segment c.args.from.at c.args.from.step c.args.to.segment c.args.to.at c.args.to.step c.args.pointers c.loop-i.i c.loop-i.invariant.moves
+          (rw (c.loop-i.invariant.source_at, c.loop-i.invariant.place_at) at c.in-Ok.ensures.moved) c.loop-i.invariant.written (rw (c.loop-i.invariant.source_at, c.loop-i.invariant.place_at) at c.in-Ok.ensures.written);
       source_at = omega (arith, c.loop-i.invariant.source_at, next_place c.args.from.step c.loop-i.i);
       place_at = omega (arith, c.loop-i.invariant.place_at, next_place c.args.to.step c.loop-i.i);
       longer = record { segments = le_trans c.loop-i.invariant.longer.segments longer.segments; words = λ x. le_trans (c.loop-i.invariant.longer.words x) (longer.words x) };
@@ -37,6 +55,13 @@ returns-clause-moved g c =
     subst
     (λ n. Moves (g.A.BuilderArena.view c.args.arena.now).words (g.A.BuilderArena.view c.loop-i.arena).words (rows_of_moves c.args.from.segment c.args.from.at c.args.from.step c.args.to.segment c.args.to.at c.args.to.step c.args.pointers n)) all
     c.loop-i.invariant.moves
+
+pub returns-clause-written : goal.returns-clause-written
+returns-clause-written g c =
+    let all : c.loop-i.i ≡ c.args.count = omega arith in
+    subst
+    (λ n. WritesAnew (g.A.BuilderArena.view c.args.arena.now) (g.A.BuilderArena.view c.loop-i.arena) (rows_of_moves c.args.from.segment c.args.from.at c.args.from.step c.args.to.segment c.args.to.at c.args.to.step c.args.pointers n)) all
+    c.loop-i.invariant.written
 
 pub returns-clause-few : goal.returns-clause-few
 returns-clause-few g c =

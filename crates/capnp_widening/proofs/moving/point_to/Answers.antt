@@ -11,10 +11,14 @@ use Rattle.capnp_making.specs.Memory.{RefusesWords}
 use Rattle.capnp_arena.specs.Written.{extended}
 use Rattle.capnp_widening.specs.Rooms.{all_words}
 use Rattle.capnp_widening.proofs.Refusing.{words_refused}
-use Rattle.capnp_widening.proofs.Rooms.{words_put, words_extended, words_taken, room_still, none_refused}
+use Rattle.capnp_widening.proofs.Rooms.{not_true, words_put, words_extended, words_taken, room_still, none_refused}
 use Rattle.capnp_making.proofs.Memory.{words_in}
 use Rattle.capnp_making.proofs.Shapes.{shape_near}
 use Rattle.capnp_widening.proofs.Pointed.{pointed_near, pointed_single, pointed_double}
+use Rattle.capnp_widening.proofs.PointersWritten.{near_written, far_written}
+use Rattle.capnp_widening.proofs.Single.{same_shape}
+use Rattle.capnp_widening.proofs.TakingWords.{put_writes, took_near, took_far}
+use Rattle.capnp_widening.proofs.WrittenAnew.{writes_both}
 use Rattle.capnp_widening.proofs.moving.point_to.Goals as goal
 
 -- A near pointer.
@@ -184,3 +188,50 @@ returns-in-Err-clause-fits g c = λ h.
     let words : b.words ≡ a.words = ap words_in c.in-Err.ensures.refused ∙ ap words_in (c.in-None.ensures.none refl) in
     let room : b.room ≡ a.room = ap (λ (v : View). v.room) c.in-Err.ensures.refused ∙ ap (λ (v : View). v.room) (c.in-None.ensures.none refl) in
     absurd (none_refused a b 1 c.in-Err.k (returns-in-Err-clause-full g c) (room_still a b 2 words room h)))
+
+-- In the object's segment.
+pub returns-then-object-to-clause-written : goal.returns-then-object-to-clause-written
+returns-then-object-to-clause-written g c =
+    let here : c.args.object.segment ≡ c.args.to.segment = search rules in
+    near_written (g.A.BuilderArena.view c.args.arena.now) (g.A.BuilderArena.view c.set_word.new.self) c.args.shape c.args.object.segment c.args.to.segment c.args.to.at c.near_word-word.result.0 here c.requires.there
+    (g.met.A.BuilderArena.within c.args.arena.now c.args.object.segment) c.requires.to c.set_word.ensures c.near_word-word.ensures.shape c.near_word-word.ensures.empty
+
+-- By a pad behind the words of that segment.
+pub returns-in-Some-clause-written : goal.returns-in-Some-clause-written
+returns-in-Some-clause-written g c = λ x its some.
+    (let a : View = g.A.BuilderArena.view c.args.arena.now in
+    let t : View = g.A.BuilderArena.view c.allocate.new.self in
+    let u : View = g.A.BuilderArena.view c.set_word-in-Some.new.self in
+    let b : View = g.A.BuilderArena.view c.set_word-in-Some-2.new.self in
+    let v : ℕ = c.args.object.segment in
+    let other : v ≢ c.args.to.segment = λ e. search rules in
+    let (at, made) = c.in-Some.ensures.taken in
+    let grown : IsGrown a.words t.words v (length (segment a.words v)) 1 = rw made (extended_grown a.words v 1 c.requires.there) in
+    let first = put_writes t u v c.in-Some.pad c.pointer_to-word.result.0 (omega (arith, grown.room, at)) c.set_word-in-Some.ensures in
+    let place : c.args.to.at < length (segment u.words c.args.to.segment) = omega (arith, c.requires.to, grown.grows.words c.args.to.segment, first.words c.args.to.segment) in
+    let second = put_writes u b c.args.to.segment c.args.to.at c.new_far-far.result.0 place c.set_word-in-Some-2.ensures in
+    let put = word_put u.words b.words c.args.to.segment c.args.to.at c.new_far-far.result.0 place (ap words_in c.set_word-in-Some-2.ensures) in
+    far_written a t b v c.args.to.segment c.args.to.at c.new_far-far.result.0 x other (took_near a t v 1 c.in-Some.pad c.requires.there (c.in-Some.ensures.exactly.0 refl) c.in-Some.ensures.taken) (writes_both t u b first second) put.here
+    c.new_far-far.ensures.kind_of (inl (c.new_far-far.ensures.pads, c.new_far-far.ensures.segment_of)) some (same_shape c.args.shape x x its its).2)
+
+-- By two.
+pub returns-in-Ok-clause-written : goal.returns-in-Ok-clause-written
+returns-in-Ok-clause-written g c = λ x its some.
+    (let a : View = g.A.BuilderArena.view c.args.arena.now in
+    let t : View = g.A.BuilderArena.view c.allocate_anywhere.new.self in
+    let u : View = g.A.BuilderArena.view c.set_word-in-Ok.new.self in
+    let w : View = g.A.BuilderArena.view c.set_word-in-Ok-2.new.self in
+    let b : View = g.A.BuilderArena.view c.set_word-in-Ok-3.new.self in
+    let k : ℕ = c.in-Ok.segment in
+    let q : ℕ = c.in-Ok.pad in
+    let other : c.args.object.segment ≢ c.args.to.segment = λ e. search rules in
+    let before : g.A.BuilderArena.view c.allocate.new.self ≡ a = c.in-None.ensures.none refl in
+    let grown : IsGrown a.words t.words k q 2 = taken_grown a.words t.words 2 k q (rw before at c.in-Ok.ensures.taken) in
+    let first = put_writes t u k q c.new_far-start.result.0 (omega (arith, grown.room)) c.set_word-in-Ok.ensures in
+    let second = put_writes u w k (q + 1) c.tag_of-tag.result.0 (omega (arith, grown.room, first.words k)) c.set_word-in-Ok-2.ensures in
+    let place : c.args.to.at < length (segment w.words c.args.to.segment) = omega (arith, c.requires.to, grown.grows.words c.args.to.segment, first.words c.args.to.segment, second.words c.args.to.segment) in
+    let third = put_writes w b c.args.to.segment c.args.to.at c.new_double_far-far.result.0 place c.set_word-in-Ok-3.ensures in
+    let put = word_put w.words b.words c.args.to.segment c.args.to.at c.new_double_far-far.result.0 place (ap words_in c.set_word-in-Ok-3.ensures) in
+    let took = took_far a (g.A.BuilderArena.view c.allocate.new.self) t c.args.object.segment 1 k q before (λ l. not_true (c.in-None.ensures.exactly.1 l)) c.in-Ok.ensures.first c.in-Ok.ensures.another in
+    far_written a t b c.args.object.segment c.args.to.segment c.args.to.at c.new_double_far-far.result.0 x other took.0 (writes_both t w b (writes_both t u w first second) third) put.here
+    c.new_double_far-far.ensures.kind_of (inr c.new_double_far-far.ensures.pads) some (same_shape c.args.shape x x its its).2)

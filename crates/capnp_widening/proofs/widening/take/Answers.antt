@@ -6,11 +6,12 @@ use Rattle.std.proofs.Common.{◌∙◌, sym}
 use Rattle.std.proofs.lemmas.List.{length-replicate}
 use Rattle.capnp_arena.specs.View.{View}
 use Rattle.capnp_arena.specs.Written.{extended}
-use Rattle.capnp_making.specs.Memory.{RefusesWords}
+use Rattle.capnp_making.specs.Memory.{RefusesWords, StandsBehind}
 use Rattle.capnp_widening.specs.Rooms.{all_words, GrowsByAtMost}
 use Rattle.capnp_widening.proofs.Refusing.{words_refused}
 use Rattle.capnp_widening.proofs.Rooms.{words_extended, words_taken, room_some, room_elsewhere, room_left, room_still, less_room, not_true, not_within, none_refused}
 use Rattle.capnp_making.proofs.Memory.{words_in}
+use Rattle.capnp_widening.proofs.TakingWords.{took_near, took_far, stands_near}
 use Rattle.capnp_widening.proofs.widening.take.Goals as goal
 
 -- A word more is taken, for a landing pad.
@@ -81,3 +82,23 @@ returns-in-Err-clause-fits g c = λ n h.
     let room : b.room ≡ a.room = ap (λ (v : View). v.room) c.in-Err.ensures.refused ∙ ap (λ (v : View). v.room) before in
     let some = room_elsewhere a c.args.id m n (not_within _ _ (λ l. not_true (c.in-None.ensures.exactly.1 l))) h in
     absurd (none_refused a b m c.in-Err.k (returns-in-Err-clause-full g c) (room_still a b (m + 1) words room (less_room a (m + 1 + n) (m + 1) (omega arith) some))))
+
+-- They stand behind all that were there.
+pub returns-in-Some-clause-words : goal.returns-in-Some-clause-words
+returns-in-Some-clause-words g c =
+    took_near (g.A.BuilderArena.view c.args.arena.now) (g.A.BuilderArena.view c.allocate.new.self) c.args.id c.args.amount c.in-Some.at c.requires.there (c.in-Some.ensures.exactly.0 refl) c.in-Some.ensures.taken
+
+pub returns-in-Some-clause-behind : goal.returns-in-Some-clause-behind
+returns-in-Some-clause-behind g c =
+    let h = stands_near (g.A.BuilderArena.view c.args.arena.now) (g.A.BuilderArena.view c.allocate.new.self) c.args.id c.args.amount c.in-Some.at (c.in-Some.ensures.exactly.0 refl) c.in-Some.ensures.taken in
+    subst (λ p. StandsBehind (g.A.BuilderArena.view c.args.arena.now) c.args.id c.args.amount (record { segment = c.args.id; at = p })) (let e : c.in-Some.at ≡ c.in-Some.at + 0 = omega arith in e) h
+
+pub returns-in-Ok-clause-words : goal.returns-in-Ok-clause-words
+returns-in-Ok-clause-words g c =
+    (took_far (g.A.BuilderArena.view c.args.arena.now) (g.A.BuilderArena.view c.allocate.new.self) (g.A.BuilderArena.view c.allocate_anywhere.new.self) c.args.id c.args.amount c.in-Ok.segment c.in-Ok.at (c.in-None.ensures.none refl)
+    (λ l. not_true (c.in-None.ensures.exactly.1 l)) c.in-Ok.ensures.first c.in-Ok.ensures.another).0
+
+pub returns-in-Ok-clause-behind : goal.returns-in-Ok-clause-behind
+returns-in-Ok-clause-behind g c =
+    (took_far (g.A.BuilderArena.view c.args.arena.now) (g.A.BuilderArena.view c.allocate.new.self) (g.A.BuilderArena.view c.allocate_anywhere.new.self) c.args.id c.args.amount c.in-Ok.segment c.in-Ok.at (c.in-None.ensures.none refl)
+    (λ l. not_true (c.in-None.ensures.exactly.1 l)) c.in-Ok.ensures.first c.in-Ok.ensures.another).1

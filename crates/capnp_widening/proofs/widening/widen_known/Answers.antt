@@ -6,9 +6,11 @@ use Rattle.capnp_making.specs.Memory.{HasRoom}
 use Rattle.capnp_making.specs.Near.{HasOwnRoom}
 use Rattle.capnp_making.proofs.Outcomes.{on_made_so, if_ok_so}
 use Rattle.capnp_widening.specs.Rooms.{widened_words}
-use Rattle.capnp_widening.proofs.Filled.{greater_size}
+use Rattle.capnp_widening.proofs.Filled.{greater_size, same_wide}
 use Rattle.capnp_widening.proofs.StructRooms.{wider_words}
 use Rattle.capnp_widening.proofs.StructSteps.{the_struct, same_struct}
+use Rattle.capnp_making.specs.Makes.{call_at}
+use Rattle.capnp_widening.specs.Anew.{BecomesAnew}
 use Rattle.capnp_widening.proofs.widening.widen_known.Goals as goal
 use Rattle.capnp_widening.specs.Widened.{widened}
 
@@ -22,6 +24,18 @@ returns-clause-widened g c =
     let d = ap (λ e. e.size.data_words) same in
     let k = ap (λ e. e.size.pointers) same in
     greater_size S R c.args.id c.args.at c.args.size.data_words c.args.size.pointers c.greater.result c.greater-2.result ws ts (omega (arith, c.greater.ensures, d)) (omega (arith, c.greater-2.ensures, k)) (w ws ts (x, found))))
+
+pub returns-clause-anew : goal.returns-clause-anew
+returns-clause-anew g c =
+    let a : View = g.A.BuilderArena.view c.args.arena.now in
+    let b : View = g.A.BuilderArena.view c.widen_struct.new.arena in
+    on_made_so c.widen_struct.result _ _ c.widen_struct.ensures.anew (λ w. λ ws ts x.
+    (let found = c.requires.known (Struct ws ts) x in
+    let same = same_struct (the_struct a.words c.args.id c.args.at ws ts) c.args.old found in
+    let d = ap (λ e. e.size.data_words) same in
+    let k = ap (λ e. e.size.pointers) same in
+    subst (λ u. BecomesAnew (call_at c.args.id c.args.at a b) (Struct ws ts) u)
+    (same_wide c.args.size.data_words c.args.size.pointers c.greater.result c.greater-2.result ws ts (omega (arith, c.greater.ensures, d)) (omega (arith, c.greater-2.ensures, k))) (w ws ts (x, found))))
 
 pub returns-clause-leads : goal.returns-clause-leads
 returns-clause-leads g c =

@@ -7,7 +7,10 @@ use Rattle.capnp_making.specs.Near.{HasOwnRoom}
 use Rattle.capnp_making.proofs.Memory.{keeps_both, keeps_written, words_refused_after, words_refused_before}
 use Rattle.capnp_widening.specs.Rooms.{HasSomeRoom}
 use Rattle.capnp_widening.proofs.Rooms.{same_words, room_written}
-use Rattle.capnp_widening.proofs.StructSteps.{StructSteps, struct_rehoused, struct_leads, StructUndone, struct_left, nothing_grown}
+use Rattle.capnp_widening.proofs.StructSteps.{StructSteps, struct_rehoused, struct_leads, struct_anew, StructUndone, struct_left, nothing_grown}
+use Rattle.capnp_widening.specs.Anew.{OnlyWrites}
+use Rattle.capnp_widening.proofs.TakingWords.{pruned_writes}
+use Rattle.capnp_widening.proofs.WrittenAnew.{writes_both}
 use Rattle.capnp_widening.proofs.widening.widen_struct.Goals as goal
 
 pub returns-in-Ok-move_row-clause-widened : goal.returns-in-Ok-move_row-clause-widened
@@ -51,6 +54,38 @@ returns-in-Ok-move_row-clause-leads g c =
       wider = (c.requires.data, c.requires.pointers);
     } in
     struct_leads S T D P R Z Q c.args.id c.args.at c.args.old c.args.size c.in-Ok.room steps
+
+pub returns-in-Ok-move_row-clause-anew : goal.returns-in-Ok-move_row-clause-anew
+returns-in-Ok-move_row-clause-anew g c =
+    let s : View = g.A.BuilderArena.view c.args.arena.now in
+    let t : View = g.A.BuilderArena.view c.take.new.arena in
+    let d : View = g.A.BuilderArena.view c.copy_words.new.arena in
+    let p : View = g.A.BuilderArena.view c.move_row.new.arena in
+    let r : View = g.A.BuilderArena.view c.settle.new.arena in
+    let z : View = g.A.BuilderArena.view c.zero_part.new.arena in
+    let q : View = g.A.BuilderArena.view c.zero_pads.new.arena in
+    let (b, settled, shaped, segment_of, start_of) = c.settle.ensures.settled in
+    let set : OnlyWrites p r = record { limits = c.settle.ensures.limits; segments = settled.segments; words = settled.words } in
+    let zeroed = pruned_writes r z c.zero_part.ensures.limits c.zero_part.ensures.pruned in
+    let cleared = pruned_writes z q c.zero_pads.ensures.limits c.zero_pads.ensures.pruned in
+    let steps : StructSteps s.words t.words d.words p.words r.words z.words q.words c.args.id c.args.at c.args.old c.args.size c.in-Ok.room = record {
+      place = c.requires.place;
+      room = rw c.total.ensures at c.in-Ok.ensures.taken;
+      copied = rw (c.data_of.ensures, c.data_of-in-Ok.ensures, c.from.ensures) at c.copy_words.ensures.copied;
+      moves = rw (c.pointers_of-from.ensures, c.pointers_of-to.ensures, c.from-count.ensures) at c.in-Ok-move_row.ensures.moved;
+      settled = c.settle.ensures.settled;
+      object_zeroed = rw (c.from-in-Ok-move_row.ensures ∙ c.total-in-Ok-move_row.ensures) at c.zero_part.ensures.zeroed;
+      pads_zeroed = rw c.word_of-pointer.ensures at c.zero_pads.ensures.zeroed;
+      wider = (c.requires.data, c.requires.pointers);
+    } in
+    struct_anew s t d p r z q c.args.id c.args.at c.args.old c.args.size c.in-Ok.room steps (record {
+      kept = c.in-Ok.ensures.granted;
+      taken = rw c.total.ensures at c.in-Ok.ensures.words;
+      behind = rw c.total.ensures at c.in-Ok.ensures.behind;
+      first = record { limits = c.copy_words.ensures.limits; segments = c.copy_words.ensures.copied.segments; words = c.copy_words.ensures.copied.words };
+      written = rw (c.pointers_of-from.ensures, c.pointers_of-to.ensures, c.from-count.ensures) at c.in-Ok-move_row.ensures.written;
+      last = writes_both p r q set (writes_both r z q zeroed cleared);
+    })
 
 pub returns-in-Err-move_row-clause-refused : goal.returns-in-Err-move_row-clause-refused
 returns-in-Err-move_row-clause-refused g c =

@@ -1,0 +1,110 @@
+-- How pointers are written anew, and the words that this takes ("Inter-Segment Pointers").
+use Rattle.std.specs.Prelude.{◌≡◌, ◌≢◌, ◌⊎◌, ℕ, ◌+◌, ◌-◌, ◌^◌, ◌<◌, ◌≤◌, if◌then◌else◌, nat_eq, nat_lt}
+use Rattle.std.specs.Prelude.{List, [], ◌∷◌, length, ⊤}
+use Rattle.capnp_format.specs.Forest.{target}
+use Rattle.capnp_format.specs.Segments.{Segments, segment, word_at}
+use Rattle.capnp_format.specs.Tree.{Tree, Null, Struct, Pointers, Structs, Trees, count, element_count}
+use Rattle.capnp_words.specs.declared.wire_pointer.StructSize.{StructSize}
+use Rattle.capnp_format.specs.Word.{kind, is_double, struct_word, upper_half}
+use Rattle.capnp_arena.specs.View.{View, KeepsLimits}
+use Rattle.capnp_making.specs.Makes.{CallAt}
+use Rattle.capnp_making.specs.Memory.{KeepsMemory, StandsBehind, TakesWords, start_of}
+use Rattle.capnp_making.specs.declared.making.Start.{Start}
+use Rattle.capnp_widening.specs.Moved.{CanMove, Move, row_of_moves, rows_of_moves}
+use Rattle.capnp_widening.specs.Rooms.{widened_words}
+use Rattle.capnp_widening.specs.Widened.{widened}
+
+-- The pointer x, whose object lies in segment s if it is near, is written anew in segment v as y:
+-- null, a far pointer and a capability as they are; a near one near in its object's segment, where
+-- a struct without sections has the offset -1, and elsewhere far, to a pad in the object's segment
+-- or to two.
+pub record IsWrittenAnew (s v x y : ℕ) : Type 0 where
+  pub copied : (x ≡ 0) ⊎ (2 ≤ kind x) → y ≡ x
+  pub near : x ≢ 0 → kind x < 2 → s ≡ v → kind y < 2
+  pub empty : x ≢ 0 → kind x ≡ 0 → upper_half x ≡ 0 → s ≡ v → y ≡ struct_word (2 ^ 30 - 1) 0 0
+  pub far : x ≢ 0 → kind x < 2 → s ≢ v → (kind y ≡ 2) ×
+      (((is_double y ≡ 0) × (upper_half y ≡ s)) ⊎ (is_double y ≡ 1))
+
+-- How many words of a landing pad it asks for in segment s: one where it becomes far, else none.
+abbrev pub pad_words : ℕ → ℕ → ℕ → ℕ
+pad_words s v x =
+    if nat_eq s v then 0 else if nat_eq x 0 then 0 else if nat_lt (kind x) 2 then 1 else 0
+
+-- A call writes the pointer x, whose object lies in segment s, anew at its place. A landing pad is
+-- one word in that segment where it has room, and else two where the arena has room next.
+pub record WritesPointer (s x : ℕ) (c : CallAt) : Type 0 where
+  pub form : IsWrittenAnew s c.segment x (word_at c.new.words c.segment c.at)
+  pub taken : TakesWords c.old c.new s (pad_words s c.segment x)
+
+-- Words are written over others, and nothing else is changed.
+pub record OnlyWrites (old new : View) : Type 0 where
+  pub limits : KeepsLimits old new
+  pub segments : length new.words ≡ length old.words
+  pub words : (x : ℕ) → length (segment new.words x) ≡ length (segment old.words x)
+
+-- Pointers that stand in S are written anew, as these words of R.
+abbrev pub AreWrittenAnew : Segments → Segments → List Move → Type 0
+AreWrittenAnew S R [] = ⊤
+AreWrittenAnew S R (m ∷ ms) =
+    IsWrittenAnew m.segment m.to_segment (word_at S m.segment m.at) (word_at R m.to_segment m.to_at)
+    × AreWrittenAnew S R ms
+
+-- Words are taken for the landing pads of pointers that stand in S, for one pointer after the other.
+abbrev pub TakesPadsInTurn : Segments → View → View → List Move → Type 0
+TakesPadsInTurn S old new [] = OnlyWrites old new
+TakesPadsInTurn S old new (m ∷ ms) =
+    (next : View) × KeepsMemory old next
+    × TakesWords old next m.segment (pad_words m.segment m.to_segment (word_at S m.segment m.at))
+    × TakesPadsInTurn S next new ms
+
+-- Pointers that stand in S are written anew in turn, in words that are there.
+pub record AreWrittenInTurn (S : Segments) (old new : View) (ms : List Move) : Type 0 where
+  pub forms : AreWrittenAnew S new.words ms
+  pub taken : TakesPadsInTurn S old new ms
+
+-- These pointers are written anew in turn, wherever they mean values.
+abbrev pub WritesAnew : View → View → List Move → Type 0
+WritesAnew old new ms = (S : Segments) → CanMove S old.words ms → AreWrittenInTurn S old new ms
+
+-- A call takes n words for an object, and then words for the landing pads of these pointers in turn.
+pub record TakesObjectAndPads (c : CallAt) (n : ℕ) (ms : List Move) : Type 0 where
+  pub begun : View
+  pub kept : KeepsMemory c.old begun
+  pub object : TakesWords c.old begun c.segment n
+  pub pads : TakesPadsInTurn c.old.words begun c.new ms
+
+-- A call makes an object of n words anew, to which its place leads, behind all words that were
+-- there, and writes these pointers into it. No other words are taken.
+pub record StandsAnew (c : CallAt) (n : ℕ) (ms : List Move) : Type 0 where
+  pub behind : StandsBehind c.old c.segment n (start_of (target c.new.words c.segment c.at))
+  pub forms : AreWrittenAnew c.old.words c.new.words ms
+  pub taken : TakesObjectAndPads c n ms
+
+-- The pointers of an object t at a, as they go into the object at b that it becomes, which is u.
+abbrev pub moves_into : Start → Start → Tree → Tree → List Move
+moves_into a b (Struct ws ts) (Struct vs us) =
+    row_of_moves a.segment (a.at + length ws) b.segment (b.at + length vs) (count ts)
+moves_into a b (Pointers ts) (Structs d q es) =
+    rows_of_moves a.segment a.at 1 b.segment (b.at + 1 + d) (d + q) 1 (count ts)
+moves_into a b (Structs e k es) (Structs d q fs) =
+    rows_of_moves a.segment (a.at + 1 + e) (e + k) b.segment (b.at + 1 + d) (d + q) k (element_count es)
+moves_into a b t u = []
+
+-- A call makes an object anew that was t, and becomes u.
+abbrev pub BecomesAnew : CallAt → Tree → Tree → Type 0
+BecomesAnew c t u =
+    StandsAnew c (widened_words u)
+    (moves_into (start_of (target c.old.words c.segment c.at))
+    (start_of (target c.new.words c.segment c.at)) t u)
+
+-- A struct does so, or a new one in place of null.
+abbrev pub StructBecomesAnew : CallAt → Tree → Tree → Type 0
+StructBecomesAnew c Null u = BecomesAnew c Null u
+StructBecomesAnew c (Struct ws ts) u = BecomesAnew c (Struct ws ts) u
+StructBecomesAnew c t u = ⊤
+
+-- The struct that stands at a place is made anew, as what it becomes where sections of a size are
+-- wanted.
+abbrev pub WidensStructAnew : (Tree → Type 0) → StructSize → CallAt → Type 0
+WidensStructAnew Stands size c =
+    (ws : List ℕ) (ts : Trees) → Stands (Struct ws ts) → BecomesAnew c (Struct ws ts) (widened size ws ts)
