@@ -34,7 +34,7 @@ same_error k l e = cc
 
 opens_as : {A B : Type 0} (size : StructSize) (c : CallAt) (t : Tree) (r : Result Tree ErrorKind) (G : Segments → ℕ → ℕ → Tree → A → Type 0) (H : Segments → ℕ → ℕ → Tree → B → Type 0) (x : A) (y : B) →
     ((u : Tree) → IsStored c.new.words c.segment c.at u → G c.new.words c.segment c.at u x → H c.new.words c.segment c.at u y) → Opens size G c t r (Ok x) → Opens size H c t r (Ok y)
-opens_as size c t (Ok u) G H x y f o = record { replaced = o.replaced; leads = f u o.replaced.stored o.leads; memory = o.memory; taken = o.taken; unchanged = o.unchanged; anew = o.anew }
+opens_as size c t (Ok u) G H x y f o = record { replaced = o.replaced; leads = f u o.replaced.stored o.leads; memory = o.memory; unchanged = o.unchanged; anew = o.anew }
 opens_as size c t (Err k) G H x y f o = absurd (no_error x k o.0)
 
 refused_as : {A B : Type 0} (size : StructSize) (c : CallAt) (t : Tree) (r : Result Tree ErrorKind) (G : Segments → ℕ → ℕ → Tree → A → Type 0) (H : Segments → ℕ → ℕ → Tree → B → Type 0) (k : ErrorKind) →

@@ -4,13 +4,16 @@ use Rattle.capnp_format.specs.Segments.{Segments}
 use Rattle.capnp_format.specs.Tree.{Tree, Null, Capability, Struct, Flat, Pointers, Structs}
 use Rattle.capnp_format.specs.Forest.{target}
 use Rattle.capnp_words.specs.declared.wire_pointer.StructSize.{StructSize}
+use Rattle.capnp_arena.specs.View.{View}
+use Rattle.capnp_making.specs.Makes.{call_at}
 use Rattle.capnp_making.specs.Stored.{IsStored}
+use Rattle.capnp_widening.specs.Anew.{BecomesAnew}
 use Rattle.capnp_widening.specs.declared.remaking.ElementRows.{ElementRows}
 use Rattle.capnp_widening.specs.declared.widening.Room.{Room}
-use Rattle.capnp_widening.specs.RowsRemade.{RowsInside, rows_in, as_structs, StoresRows, BecomesList, RemakesList}
+use Rattle.capnp_widening.specs.RowsRemade.{RowsInside, rows_in, as_structs, StoresRows, BecomesList, RemakesList, RemakesListAnew}
 use Rattle.capnp_widening.specs.Widened.{GrowsByZeros, LeavesAll, rewriting}
-use Rattle.capnp_widening.proofs.ListSteps.{ListSteps, ListUndone, list_at, same_size, struct_rows, structs_stored, structs_become, structs_left}
-use Rattle.capnp_widening.proofs.PointerSteps.{pointer_rows, pointers_stored, pointers_become, pointers_left, void_rows, void_stored, void_become, void_left}
+use Rattle.capnp_widening.proofs.ListSteps.{ListSteps, ListTaken, ListUndone, list_at, same_size, struct_rows, structs_anew, structs_stored, structs_become, structs_left}
+use Rattle.capnp_widening.proofs.PointerSteps.{pointer_rows, pointers_stored, pointers_anew, pointers_become, pointers_left, void_rows, void_stored, void_anew, void_become, void_left}
 
 pub same_rows : (x y : ElementRows) → Some x ≡ Some y → x ≡ y
 same_rows x y e = cc
@@ -38,6 +41,25 @@ rows_remade S T B D P R Z Q id at old size h s = λ t i. go t i.0 i.1
         let same = same_rows (pointer_rows S id at ts) old e in
         subst (λ o. BecomesList (rewriting id at S Q) (list_at h size o.count) (Pointers ts) (as_structs size (Pointers ts))) same
         (pointers_become S T B D P R Z Q id at ts size h x (subst (λ o. ListSteps S T B D P R Z Q id at o size h) (sym same) s))
+
+pub rows_anew : (s b d p r z q : View) (T : Segments) (id at : ℕ) (old : ElementRows) (size : StructSize) (h : Room) → ListSteps s.words T b.words d.words p.words r.words z.words q.words id at old size h → ListTaken s b d p q id old size h →
+    RemakesListAnew (StoresRows s.words id at old) size (call_at id at s q)
+rows_anew s b d p r z q T id at old size h steps t = λ v i. go v i.0 i.1
+  where
+    go : (v : Tree) → IsStored s.words id at v → rows_in (target s.words id at) v ≡ Some old → BecomesAnew (call_at id at s q) v (as_structs size v)
+    go (Structs e k es) x f =
+        let same = sym (same_rows (struct_rows s.words id at e k es) old f) in
+        structs_anew s b d p r z q T id at e k es size h x (subst (λ o. ListSteps s.words T b.words d.words p.words r.words z.words q.words id at o size h) same steps) (subst (λ o. ListTaken s b d p q id o size h) same t)
+    go Null x f = absurd (no_rows old f)
+    go (Capability i) x f = absurd (no_rows old f)
+    go (Struct ws ts) x f = absurd (no_rows old f)
+    go (Flat (suc w) ns) x f = absurd (no_rows old f)
+    go (Flat zero ns) x f =
+        let same = sym (same_rows (void_rows s.words id at ns) old f) in
+        void_anew s b d p r z q T id at ns size h x (subst (λ o. ListSteps s.words T b.words d.words p.words r.words z.words q.words id at o size h) same steps) (subst (λ o. ListTaken s b d p q id o size h) same t)
+    go (Pointers ts) x f =
+        let same = sym (same_rows (pointer_rows s.words id at ts) old f) in
+        pointers_anew s b d p r z q T id at ts size h x (subst (λ o. ListSteps s.words T b.words d.words p.words r.words z.words q.words id at o size h) same steps) (subst (λ o. ListTaken s b d p q id o size h) same t)
 
 pub rows_left : (S T B D P U Z : Segments) (id at : ℕ) (old : ElementRows) (size : StructSize) (h : Room) → ListUndone S T B D P U Z id old size h → LeavesAll (StoresRows S id at old) S Z
 rows_left S T B D P U Z id at old size h s = λ t i. go t i.0 i.1

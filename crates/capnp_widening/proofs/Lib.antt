@@ -8,6 +8,7 @@ pub mod Filled
 pub mod Filling
 pub mod ListRemade
 pub mod ListRooms
+pub mod ListsAnew
 pub mod ListSteps
 pub mod Listed
 pub mod ListsWidened

@@ -24,7 +24,7 @@ use Rattle.capnp_widening.proofs.PlainLists.{are_pointers, pointers_of, has_poin
 use Rattle.capnp_widening.proofs.StructLists.{are_structs, rows_of, has_rows}
 use Rattle.capnp_widening.proofs.Widenings.{count-fill_elements}
 
-limited_to : (n : ℕ) (t u : Tree) → limited n t ≡ Ok u → u ≡ t
+pub limited_to : (n : ℕ) (t u : Tree) → limited n t ≡ Ok u → u ≡ t
 limited_to n t u e = by_test (nat_lt n (2 ^ 29)) e
   where
     by_test : (b : Bool) → cond b (Ok t) (Err (MessageTooLarge n)) ≡ Ok u → u ≡ t

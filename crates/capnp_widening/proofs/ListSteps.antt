@@ -9,6 +9,10 @@ use Rattle.capnp_format.specs.Forest.{Interval, times, pads_of, object_of, targe
 use Rattle.capnp_format.proofs.Frame.{times-append}
 use Rattle.capnp_words.specs.declared.wire_pointer.StructSize.{StructSize}
 use Rattle.capnp_words.specs.declared.wire_pointer.ElementSize.TheVariants.{InlineComposite}
+use Rattle.capnp_arena.specs.View.{View}
+use Rattle.capnp_making.specs.Made.{structs_words}
+use Rattle.capnp_making.specs.Makes.{call_at}
+use Rattle.capnp_making.specs.Memory.{KeepsMemory, StandsBehind, TakesWords, start_of}
 use Rattle.capnp_making.specs.Path.{word_interval}
 use Rattle.capnp_making.specs.Stored.{IsStored}
 use Rattle.capnp_making.specs.Zeroed.{row, IsZeroed, PadsInside}
@@ -20,12 +24,13 @@ use Rattle.capnp_making.proofs.Extents.{times-first, once_held}
 use Rattle.capnp_making.proofs.Zeros.{zeroed_again}
 use Rattle.capnp_widening.specs.declared.remaking.ElementRows.{ElementRows}
 use Rattle.capnp_widening.specs.declared.widening.Room.{Room}
-use Rattle.capnp_widening.specs.Housed.{IsRoom, IsSettled, Settles}
-use Rattle.capnp_widening.specs.Moved.{Move, Moves, MovesSome, Unmoves}
+use Rattle.capnp_widening.specs.Anew.{BecomesAnew, OnlyWrites, StandsAnew, WritesAnew}
+use Rattle.capnp_widening.specs.Housed.{IsRoom, IsSettled, Settles, object_start}
+use Rattle.capnp_widening.specs.Moved.{Move, Moves, MovesSome, Unmoves, rows_of_moves}
 use Rattle.capnp_widening.specs.RowsRemade.{IsTagWritten, CopiesData, element_moves, as_structs, BecomesList}
 use Rattle.capnp_widening.specs.Widened.{fill_elements, GrowsByZeros, rewriting}
 use Rattle.capnp_widening.proofs.ListRemade.{structs_begun, structs_remade}
-use Rattle.capnp_widening.proofs.Remade.{IsBegun, IsRemade, longer, leads_last, undone}
+use Rattle.capnp_widening.proofs.Remade.{IsBegun, IsRemade, longer, leads_last, object_anew, undone}
 use Rattle.capnp_widening.proofs.RowsCopied.{data_copied, tag_copied, list_written}
 use Rattle.capnp_widening.proofs.Widenings.{count-fill_elements}
 
@@ -107,6 +112,25 @@ structs_stored S id at d k es x =
     at_level n c (a, m, l, some, o, claim, tag, fits, all, g) =
         subst (λ b. Leads S id at b × (b.start + (1 + element_count es * (d + k)) ≤ length (segment S b.segment))) (sym (ap target_in o.leads_to.1)) (o.leads_to, omega (arith, claim, fits))
 
+structs_made : (S T B D P R Z Q : Segments) (id at d k : ℕ) (es : Elements) (e f : ℕ) (h : Room) → IsStored S id at (Structs d k es) →
+    (s : ListSteps S T B D P R Z Q id at (struct_rows S id at d k es) (record { data_words = max d e; pointers = max k f }) h) →
+    IsRemade S T D P R Q id at (target S id at) (1 + element_count es * (d + k)) s.settled.0 h.segment h.at h.pads (1 + element_count es * (max d e + max k f))
+    (element_moves (struct_rows S id at d k es) (first_of h) (record { data_words = max d e; pointers = max k f }))
+structs_made S T B D P R Z Q id at d k es e f h x s =
+    let a = target S id at in
+    let n = element_count es in
+    let wd = max d e in
+    let wk = max k f in
+    let size : StructSize = record { data_words = wd; pointers = wk } in
+    let (grown, near) = s.room in
+    let (b, settled, shaped, segment_of, start_of) = s.settled in
+    let stored = structs_stored S id at d k es x in
+    let rows = data_copied S T B D a.segment (a.start + 1) d k n h.segment h.at h.pads size grown s.tagged s.copied (omega (arith, stored.fits)) in
+    let begun = structs_begun S T D id at d k es e f h.segment h.at h.pads x grown (s.copied.segments ∙ s.tagged.segments) (λ y. s.copied.words y ∙ s.tagged.words y)
+    (list_written T B D a.segment (a.start + 1) (d + k) d n h.segment (h.at + h.pads) (wd + wk) size s.tagged s.copied) rows in
+    object_remade S T D P R Z Q id at (Structs d k es) (1 + n * (d + k)) (cover_elements S a.segment (a.start + 1) d k es) b h.segment h.at h.pads (1 + n * (wd + wk)) (element_moves (struct_rows S id at d k es) (first_of h) size) stored begun s.moves settled segment_of
+    start_of s.place s.object_zeroed s.pads_zeroed
+
 wider_structs : (S T B D P R Z Q : Segments) (id at d k : ℕ) (es : Elements) (e f : ℕ) (h : Room) → IsStored S id at (Structs d k es) →
     ListSteps S T B D P R Z Q id at (struct_rows S id at d k es) (record { data_words = max d e; pointers = max k f }) h →
     BecomesList (rewriting id at S Q) (list_at h (record { data_words = max d e; pointers = max k f }) (element_count es)) (Structs d k es) (Structs (max d e) (max k f) (fill_elements e f es))
@@ -123,9 +147,7 @@ wider_structs S T B D P R Z Q id at d k es e f h x s =
     let stored = structs_stored S id at d k es x in
     let rows = data_copied S T B D a.segment (a.start + 1) d k n h.segment h.at h.pads size grown s.tagged s.copied (omega (arith, stored.fits)) in
     let tag = tag_copied T B D a.segment (a.start + 1) (d + k) d n h.segment (h.at + h.pads) (wd + wk) size s.tagged s.copied in
-    let begun = structs_begun S T D id at d k es e f h.segment h.at h.pads x grown (s.copied.segments ∙ s.tagged.segments) (λ y. s.copied.words y ∙ s.tagged.words y)
-    (list_written T B D a.segment (a.start + 1) (d + k) d n h.segment (h.at + h.pads) (wd + wk) size s.tagged s.copied) rows in
-    let made = object_remade S T D P R Z Q id at (Structs d k es) (1 + n * (d + k)) (cover_elements S a.segment (a.start + 1) d k es) b h.segment h.at h.pads wide ms stored begun s.moves settled segment_of start_of s.place s.object_zeroed s.pads_zeroed in
+    let made = structs_made S T B D P R Z Q id at d k es e f h x s in
     record {
       replaced = structs_remade S T D P R Q id at d k es e f b h.segment h.at h.pads x rows tag made shaped.0 shaped.1 shaped.2;
       found = found_there (target Q id at) b wd wk (element_count (fill_elements e f es)) n h.segment (h.at + h.pads) (ap target_in (leads_last S T D P R Q id at a (1 + n * (d + k)) b h.segment h.at h.pads wide ms made).1) segment_of start_of
@@ -147,6 +169,39 @@ structs_become S T B D P R Z Q id at d k es size h x s =
     let same = same_size d k size s.wider.0 s.wider.1 in
     subst (λ z. BecomesList (rewriting id at S Q) (list_at h z (element_count es)) (Structs d k es) (Structs z.data_words z.pointers (fill_elements wd wk es))) same
     (wider_structs S T B D P R Z Q id at d k es wd wk h x (subst (λ z. ListSteps S T B D P R Z Q id at (struct_rows S id at d k es) z h) (sym same) s))
+
+-- where it stands, and what words were taken for it
+pub record ListTaken (s b d p q : View) (id : ℕ) (old : ElementRows) (size : StructSize) (h : Room) : Type 0 where
+  pub kept : KeepsMemory s b
+  pub taken : TakesWords s b id (structs_words old.count size)
+  pub behind : StandsBehind s id (structs_words old.count size) (object_start h)
+  pub first : OnlyWrites b d
+  pub written : WritesAnew d p (element_moves old (first_of h) size)
+  pub last : OnlyWrites p q
+
+structs_anew_at : (s b d p r z q : View) (T : Segments) (id at e k : ℕ) (es : Elements) (f g : ℕ) (h : Room) → IsStored s.words id at (Structs e k es) →
+    ListSteps s.words T b.words d.words p.words r.words z.words q.words id at (struct_rows s.words id at e k es) (record { data_words = max e f; pointers = max k g }) h →
+    ListTaken s b d p q id (struct_rows s.words id at e k es) (record { data_words = max e f; pointers = max k g }) h →
+    BecomesAnew (call_at id at s q) (Structs e k es) (Structs (max e f) (max k g) (fill_elements f g es))
+structs_anew_at s b d p r z q T id at e k es f g h x steps t =
+    let a = target s.words id at in
+    let n = element_count es in
+    let wide = max e f + max k g in
+    let moves : Start → List Move = λ y. rows_of_moves a.segment (a.start + 1 + e) (e + k) y.segment (y.at + 1 + max e f) wide k n in
+    let made = structs_made s.words T b.words d.words p.words r.words z.words q.words id at e k es f g h x steps in
+    subst (λ m. StandsAnew (call_at id at s q) (1 + m * wide) (moves (start_of (target q.words id at)))) (sym (count-fill_elements f g es))
+    (object_anew s b d p r q T id at a (1 + n * (e + k)) steps.settled.0 h.segment h.at h.pads (1 + n * wide) moves made t.kept t.taken t.behind t.first t.written t.last)
+
+pub structs_anew : (s b d p r z q : View) (T : Segments) (id at e k : ℕ) (es : Elements) (size : StructSize) (h : Room) → IsStored s.words id at (Structs e k es) →
+    ListSteps s.words T b.words d.words p.words r.words z.words q.words id at (struct_rows s.words id at e k es) size h → ListTaken s b d p q id (struct_rows s.words id at e k es) size h →
+    BecomesAnew (call_at id at s q) (Structs e k es) (as_structs size (Structs e k es))
+structs_anew s b d p r z q T id at e k es size h x steps t =
+    let same = same_size e k size steps.wider.0 steps.wider.1 in
+    let f = size.data_words in
+    let g = size.pointers in
+    subst (λ y. BecomesAnew (call_at id at s q) (Structs e k es) (Structs y.data_words y.pointers (fill_elements f g es))) same
+    (structs_anew_at s b d p r z q T id at e k es f g h x (subst (λ y. ListSteps s.words T b.words d.words p.words r.words z.words q.words id at (struct_rows s.words id at e k es) y h) (sym same) steps)
+    (subst (λ y. ListTaken s b d p q id (struct_rows s.words id at e k es) y h) (sym same) t))
 
 -- a growth is refused on the way
 pub record ListUndone (S T B D P U Z : Segments) (id : ℕ) (old : ElementRows) (size : StructSize) (h : Room) : Type 0 where

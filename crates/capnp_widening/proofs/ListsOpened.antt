@@ -2,7 +2,7 @@
 use Rattle.std.proofs.Common.{◌≡◌, inl, inr, ℕ, ◌+◌, ◌*◌, ◌^◌, ◌≤◌, max, Bool, true, false, cond, nat_lt, List, length, Option, Some, None, Result, Ok, Err, IfOk, OnOk, OnErr, IfErr, refl, sym, ap, ◌∙◌, subst, arith}
 use Rattle.capnp_words.specs.declared.error.ErrorKind.{ErrorKind}
 use Rattle.capnp_words.specs.declared.error.ErrorKind.TheVariants.{MessageTooLarge}
-use Rattle.capnp_format.specs.Segments.{Segments, Target}
+use Rattle.capnp_format.specs.Segments.{Segments}
 use Rattle.capnp_format.specs.Tree.{Tree, Null, Capability, Struct, Flat, Pointers, Structs, count, element_count}
 use Rattle.capnp_format.specs.Forest.{target}
 use Rattle.capnp_words.specs.Sizes.{size_number}
@@ -15,11 +15,11 @@ use Rattle.capnp_making.specs.Existing.{list_in}
 use Rattle.capnp_making.specs.Memory.{KeepsMemory}
 use Rattle.capnp_making.specs.Stored.{IsStored}
 use Rattle.capnp_making.specs.Makes.{call_at, CallAt}
-use Rattle.capnp_widening.specs.Anew.{StructBecomesAnew}
-use Rattle.capnp_widening.specs.Opening.{Opens, OpensExistingList, HasSections, LeadsToAll, refusal_of_words, refusal_of_elements}
+use Rattle.capnp_widening.specs.Anew.{WidensListAnew}
+use Rattle.capnp_widening.specs.Opening.{Opens, OpensExistingList, LeadsToAll, refusal_of_words, refusal_of_elements}
 use Rattle.capnp_widening.specs.Rooms.{GrowsForList}
 use Rattle.capnp_widening.specs.RowsRemade.{WidensList, LeadsToWiderList, RefusesWider}
-use Rattle.capnp_widening.specs.Widened.{fill_elements, LeavesAll, limited, list_widened, rewriting}
+use Rattle.capnp_widening.specs.Widened.{HasSections, fill_elements, LeavesAll, limited, list_widened, rewriting}
 use Rattle.capnp_widening.proofs.Listed.{same_list, no_list, not_a_list, structs_widen}
 use Rattle.capnp_widening.proofs.PlainLists.{are_numbers, are_pointers}
 use Rattle.capnp_widening.proofs.StructLists.{are_structs}
@@ -104,19 +104,11 @@ sections_wide S s p (Structs d q es) l size found h = subst (λ m. HasWideStruct
 same_result : (k : ErrorKind) (u : Tree) → ◌≡◌ {A = Result Tree ErrorKind} (Ok u) (Err k) → ⊥
 same_result k u e = cc
 
--- it is no struct, nor null
-no_struct_anew : (c : CallAt) (a : Target) (t u : Tree) (l : ExistingList) → list_in a Void t ≡ Ok (Some l) → StructBecomesAnew c t u
-no_struct_anew c a Null u l found = absurd (no_list l found)
-no_struct_anew c a (Capability i) u l found = tt
-no_struct_anew c a (Struct ws ts) u l found = absurd (not_a_list _ l found)
-no_struct_anew c a (Flat w ns) u l found = tt
-no_struct_anew c a (Pointers ts) u l found = tt
-no_struct_anew c a (Structs d q es) u l found = tt
-
 -- What the call that makes it so says.
 pub record Widens (a b : View) (s p : ℕ) (size : StructSize) (r : Result (Option ExistingList) ErrorKind) : Type 0 where
   pub widened : OnOk r (WidensList size (rewriting s p a.words b.words))
   pub leads : IfOk r (LeadsToWiderList size (rewriting s p a.words b.words))
+  pub anew : OnOk r (WidensListAnew (IsStored a.words s p) size (call_at s p a b))
   pub granted : OnOk r (KeepsMemory a b)
   pub refused : OnErr r (LeavesAll (IsStored a.words s p) a.words b.words)
   pub named : IfErr r (RefusesWider (IsStored a.words s p) size a b)
@@ -131,9 +123,8 @@ list_made a b s p t l size (Ok m) stored found narrow none w =
       replaced = made;
       leads = w.leads t u stored e;
       memory = w.granted;
-      taken = w.few t u stored e;
       unchanged = λ h. absurd (narrow (sections_wide a.words s p t l size found h));
-      anew = λ h. no_struct_anew (call_at s p a b) (target a.words s p) t u l found;
+      anew = λ h. w.anew t u stored (not_null l a.words s p t found) e h;
     }))
 list_made a b s p t l size (Err k) stored found narrow none w =
     let (u, e) = subst (λ o. Refuses o (list_widened size.data_words size.pointers t)) (sym none) (refuses a.words s p t l size l.size refl stored found narrow) in

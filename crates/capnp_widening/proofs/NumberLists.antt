@@ -9,15 +9,18 @@ use Rattle.capnp_words.specs.declared.wire_pointer.StructSize.{StructSize}
 use Rattle.capnp_words.specs.declared.wire_pointer.ElementSize.TheVariants.{InlineComposite}
 use Rattle.capnp_making.specs.declared.existing.ExistingList.{ExistingList}
 use Rattle.capnp_making.specs.declared.making.Shape.TheVariants.{List as ListShape}
+use Rattle.capnp_arena.specs.View.{View}
+use Rattle.capnp_making.specs.Makes.{call_at}
 use Rattle.capnp_making.specs.Existing.{plain_list}
+use Rattle.capnp_widening.specs.Anew.{BecomesAnew}
 use Rattle.capnp_making.specs.Stored.{IsStored}
 use Rattle.capnp_making.specs.Zeroed.{row, IsZeroed, PadsInside}
 use Rattle.capnp_widening.specs.declared.widening.Room.{Room}
 use Rattle.capnp_widening.specs.Housed.{IsRoom, Settles}
-use Rattle.capnp_widening.specs.RowsRemade.{IsTagWritten, AreNumbersCopied, BecomesList, RemakesList, as_structs, IsList, NumbersInside}
+use Rattle.capnp_widening.specs.RowsRemade.{IsTagWritten, AreNumbersCopied, BecomesList, RemakesList, RemakesListAnew, as_structs, IsList, NumbersInside}
 use Rattle.capnp_widening.specs.Widened.{struct_for_each, rewriting}
 use Rattle.capnp_widening.proofs.ListSteps.{list_at}
-use Rattle.capnp_widening.proofs.NumberSteps.{NumberSteps, numbers_become}
+use Rattle.capnp_widening.proofs.NumberSteps.{NumberSteps, NumbersTaken, numbers_anew, numbers_become}
 use Rattle.capnp_widening.proofs.PointerSteps.{flat_stored}
 use Rattle.capnp_widening.proofs.PlainLists.{are_numbers, numbers_as_structs}
 
@@ -56,6 +59,31 @@ numbers_made S T B D R Z Q id at old size h two five some s = λ t i.
     let counted : BecomesList (rewriting id at S Q) (list_at h size old.count) (Flat w ns) (as_structs size (Flat w ns)) =
     subst (λ u. BecomesList (rewriting id at S Q) (list_at h size old.count) (Flat w ns) u) (sym (numbers_as_structs size w ns two)) (subst (λ n. BecomesList (rewriting id at S Q) (list_at h size n) (Flat w ns) (Structs size.data_words size.pointers (struct_for_each size.data_words size.pointers ns))) (sym (ap (λ (o : ExistingList). o.count) k.list)) there) in
     subst (λ u. BecomesList (rewriting id at S Q) (list_at h size old.count) u (as_structs size u)) (sym k.tree_of) counted)
+
+pub numbers_made_anew : (s b d r z q : View) (T : Segments) (id at : ℕ) (old : ExistingList) (size : StructSize) (h : Room) → 2 ≤ size_number old.size → size_number old.size ≤ 5 → 0 < size.data_words →
+    NumbersMade s.words T b.words d.words r.words z.words q.words id at old size h → NumbersTaken s b d q id old.count size h → RemakesListAnew (IsList s.words id at old) size (call_at id at s q)
+numbers_made_anew s b d r z q T id at old size h two five some made taken = λ t i.
+    (let k = are_numbers s.words id at t old five i in
+    let w = size_number old.size in
+    let ns = k.numbers in
+    let steps = subst (λ (o : ExistingList). NumbersMade s.words T b.words d.words r.words z.words q.words id at o size h) k.list made in
+    let one : ◌≡◌ {A = StructSize} (record { data_words = max 1 size.data_words; pointers = size.pointers }) size =
+    ap (λ (y : ℕ). record size { data_words = y }) (let e : max 1 size.data_words ≡ size.data_words = omega arith in e) in
+    let plain : NumberSteps s.words T b.words d.words r.words z.words q.words id at w (length ns) size h = record {
+      place = steps.place;
+      room = steps.room;
+      tagged = steps.tagged;
+      copied = steps.copied;
+      settled = steps.settled;
+      object_zeroed = steps.object_zeroed;
+      pads_zeroed = steps.pads_zeroed;
+    } in
+    let counted = subst (λ n. NumbersTaken s b d q id n size h) (ap (λ (o : ExistingList). o.count) k.list) taken in
+    let anew = numbers_anew s b d r z q T id at w ns size.data_words size.pointers h (subst (IsStored s.words id at) k.tree_of i.0) two five
+    (subst (λ y. NumberSteps s.words T b.words d.words r.words z.words q.words id at w (length ns) y h) (sym one) plain) (subst (λ y. NumbersTaken s b d q id (length ns) y h) (sym one) counted) in
+    let there : BecomesAnew (call_at id at s q) (Flat w ns) (Structs size.data_words size.pointers (struct_for_each size.data_words size.pointers ns)) =
+    subst (λ y. BecomesAnew (call_at id at s q) (Flat w ns) (Structs y.data_words y.pointers (struct_for_each size.data_words size.pointers ns))) one anew in
+    subst (λ u. BecomesAnew (call_at id at s q) u (as_structs size u)) (sym k.tree_of) (subst (λ u. BecomesAnew (call_at id at s q) (Flat w ns) u) (sym (numbers_as_structs size w ns two)) there))
 
 -- its words lie in their segment
 pub numbers_inside : (S : Segments) (id at : ℕ) (t : Tree) (l : ExistingList) → size_number l.size ≤ 5 → IsList S id at l t → NumbersInside S l

@@ -10,7 +10,11 @@ use Rattle.capnp_words.specs.declared.wire_pointer.StructSize.{StructSize}
 use Rattle.capnp_words.specs.declared.wire_pointer.ElementSize.TheVariants.{InlineComposite}
 use Rattle.capnp_arena.specs.Written.{with_word}
 use Rattle.capnp_making.specs.Fields.{field_in}
-use Rattle.capnp_making.specs.Made.{IsGrown}
+use Rattle.capnp_arena.specs.View.{View}
+use Rattle.capnp_making.specs.Made.{IsGrown, structs_words}
+use Rattle.capnp_making.specs.Makes.{call_at}
+use Rattle.capnp_making.specs.Memory.{KeepsMemory, StandsBehind, TakesWords, start_of}
+use Rattle.capnp_making.specs.declared.making.Start.{Start}
 use Rattle.capnp_making.specs.Stored.{IsStored}
 use Rattle.capnp_making.specs.Zeroed.{row, IsZeroed, PadsInside}
 use Rattle.capnp_making.specs.declared.making.Shape.TheVariants.{List as ListShape}
@@ -19,8 +23,9 @@ use Rattle.capnp_making.proofs.BelowElements.{element_within, next_place}
 use Rattle.capnp_making.proofs.MadeWords.{word_put, outside}
 use Rattle.capnp_making.proofs.Zeros.{of_row}
 use Rattle.capnp_widening.specs.declared.widening.Room.{Room}
-use Rattle.capnp_widening.specs.Housed.{IsRoom, Settles}
-use Rattle.capnp_widening.specs.Moved.{rows_of_moves, fresh_pads, Moves}
+use Rattle.capnp_widening.specs.Anew.{BecomesAnew, OnlyWrites, StandsAnew, WritesAnew}
+use Rattle.capnp_widening.specs.Housed.{IsRoom, Settles, object_start}
+use Rattle.capnp_widening.specs.Moved.{Move, rows_of_moves, fresh_pads, Moves}
 use Rattle.capnp_widening.specs.RowsRemade.{IsTagWritten, BecomesList, AreNumbersCopied}
 use Rattle.capnp_widening.specs.Widened.{fill_words, struct_for_each, rewriting}
 use Rattle.capnp_widening.proofs.ListSteps.{object_remade, found_there, list_at}
@@ -29,12 +34,13 @@ use Rattle.capnp_widening.proofs.Movings.{none_moved}
 use Rattle.capnp_widening.proofs.NewRows.{list_begun, rows_last, new_rows, rows_rehoused, no_pads, none_stand}
 use Rattle.capnp_widening.proofs.NumbersRead.{in_words, number_there}
 use Rattle.capnp_widening.proofs.PointerSteps.{flat_stored}
-use Rattle.capnp_widening.proofs.Remade.{leads_last}
+use Rattle.capnp_widening.proofs.Remade.{IsRemade, leads_last, object_anew}
 use Rattle.capnp_widening.proofs.Rows.{no_moves}
 use Rattle.capnp_widening.proofs.RowsCopied.{beside_row}
 use Rattle.capnp_widening.proofs.StructRemade.{words_by_each, filled_at, filled_past}
 use Rattle.capnp_widening.proofs.Widenings.{length-fill_words}
 use Rattle.capnp_widening.proofs.NewObjects.{IsRehoused, pads_in_rows}
+use Rattle.capnp_widening.proofs.WrittenAnew.{writes_none}
 
 pub no_numbers_copied : (S : Segments) (s p width v r z : ℕ) → AreNumbersCopied S S s p width v r z 0
 no_numbers_copied S s p width v r z = record { segments = refl; words = λ x. refl; here = λ i l. absurd (omega arith); behind = λ i j l m o. refl; kept = λ x y e. refl }
@@ -95,6 +101,31 @@ numbers_stand S T B D id at width ns v p pads size x two five g t c =
       zero = λ i j l m n. c.behind i j l m n ∙ t.kept v (p + pads + 1 + i * z + j) (outside v (p + pads) v (p + pads + 1 + i * z + j) (λ e f. omega (arith, f))) ∙ g.zero v (p + pads + 1 + i * z + j) (omega (arith, g.behind));
     }
 
+numbers_made_at : (S T B D R Z Q : Segments) (id at width : ℕ) (ns : List ℕ) (d k : ℕ) (h : Room) → IsStored S id at (Flat width ns) → 2 ≤ width → width ≤ 5 →
+    (s : NumberSteps S T B D R Z Q id at width (length ns) (record { data_words = max 1 d; pointers = k }) h) →
+    IsRemade S T D D R Q id at (target S id at) (words_for width (length ns)) s.settled.0 h.segment h.at h.pads (1 + length ns * (max 1 d + k))
+    (rows_of_moves (target S id at).segment (target S id at).start 0 h.segment (h.at + h.pads + 1 + max 1 d) (max 1 d + k) 0 (length ns))
+numbers_made_at S T B D R Z Q id at width ns d k h x two five s =
+    let a = target S id at in
+    let n = length ns in
+    let wd = max 1 d in
+    let z = wd + k in
+    let wide = 1 + n * z in
+    let size : StructSize = record { data_words = wd; pointers = k } in
+    let v = h.segment in
+    let first = h.at + h.pads + 1 in
+    let long = words_for width n in
+    let (grown, near) = s.room in
+    let (b, settled, shaped, segment_of, start_of) = s.settled in
+    let stored = flat_stored S id at width ns x in
+    let stand = numbers_stand S T B D id at width ns v h.at h.pads size x two five grown s.tagged s.copied in
+    let ms = rows_of_moves a.segment a.start 0 v (first + wd) z 0 n in
+    let written = λ (y w : ℕ) (e : times (row v (h.at + h.pads) (1 + n * z) ∷ []) y w ≡ 0). s.copied.kept y w (omega (arith, e, split_row v (h.at + h.pads) 1 (n * z) y w)) ∙ s.tagged.kept y w (omega (arith, e, split_row v (h.at + h.pads) 1 (n * z) y w)) in
+    let begun = list_begun S T D a.segment a.start 0 0 n wd k v h.at h.pads (none_stand S a.segment a.start 0 v (first + wd) z n) (omega arith) grown (s.copied.segments ∙ s.tagged.segments) (λ y. s.copied.words y ∙ s.tagged.words y) written
+    (λ i j l m o. stand.zero i j l (omega arith) o) in
+    let moves : Moves D D ms = subst (λ l. Moves D D l) (sym (no_moves a.segment a.start 0 v (first + wd) z n)) (none_moved D) in
+    object_remade S T D D R Z Q id at (Flat width ns) long [] b v h.at h.pads wide ms stored begun moves settled segment_of start_of s.place s.object_zeroed s.pads_zeroed
+
 pub numbers_become : (S T B D R Z Q : Segments) (id at width : ℕ) (ns : List ℕ) (d k : ℕ) (h : Room) → IsStored S id at (Flat width ns) → 2 ≤ width → width ≤ 5 →
     NumberSteps S T B D R Z Q id at width (length ns) (record { data_words = max 1 d; pointers = k }) h →
     BecomesList (rewriting id at S Q) (list_at h (record { data_words = max 1 d; pointers = k }) (length ns)) (Flat width ns) (Structs (max 1 d) k (struct_for_each d k ns))
@@ -114,11 +145,7 @@ numbers_become S T B D R Z Q id at width ns d k h x two five s =
     let stand = numbers_stand S T B D id at width ns v h.at h.pads size x two five grown s.tagged s.copied in
     let ms = rows_of_moves a.segment a.start 0 v (first + wd) z 0 n in
     let tag : IsTag (word_at D v (h.at + h.pads)) n wd k = subst (λ y. IsTag y n wd k) (sym (s.copied.kept v (h.at + h.pads) (beside_row v first (n * z) v (h.at + h.pads) (λ e f g. omega arith)))) s.tagged.tag in
-    let written = λ (y w : ℕ) (e : times (row v (h.at + h.pads) (1 + n * z) ∷ []) y w ≡ 0). s.copied.kept y w (omega (arith, e, split_row v (h.at + h.pads) 1 (n * z) y w)) ∙ s.tagged.kept y w (omega (arith, e, split_row v (h.at + h.pads) 1 (n * z) y w)) in
-    let begun = list_begun S T D a.segment a.start 0 0 n wd k v h.at h.pads (none_stand S a.segment a.start 0 v (first + wd) z n) (omega arith) grown (s.copied.segments ∙ s.tagged.segments) (λ y. s.copied.words y ∙ s.tagged.words y) written
-    (λ i j l m o. stand.zero i j l (omega arith) o) in
-    let moves : Moves D D ms = subst (λ l. Moves D D l) (sym (no_moves a.segment a.start 0 v (first + wd) z n)) (none_moved D) in
-    let made = object_remade S T D D R Z Q id at (Flat width ns) long [] b v h.at h.pads wide ms stored begun moves settled segment_of start_of s.place s.object_zeroed s.pads_zeroed in
+    let made = numbers_made_at S T B D R Z Q id at width ns d k h x two five s in
     let M = rows_last S T D D R Q id at a long b a.segment a.start 0 0 n wd k v h.at h.pads made in
     let new = new_rows S T D D R Q id at a long b a.segment a.start 0 0 n wd k v h.at h.pads made (omega arith) in
     let fresh = row v h.at (h.pads + wide) ∷ fresh_pads D ms in
@@ -143,3 +170,27 @@ numbers_become S T B D R Z Q id at width ns d k h x two five s =
       });
       found = found_there (target Q id at) b wd k (element_count (struct_for_each d k ns)) n v (h.at + h.pads) (ap target_in last.1) segment_of start_of (count-struct_for_each d k ns);
     }
+
+-- where it stands, and what words were taken for it
+pub record NumbersTaken (s b d q : View) (id n : ℕ) (size : StructSize) (h : Room) : Type 0 where
+  pub kept : KeepsMemory s b
+  pub taken : TakesWords s b id (structs_words n size)
+  pub behind : StandsBehind s id (structs_words n size) (object_start h)
+  pub first : OnlyWrites b d
+  pub last : OnlyWrites d q
+
+pub numbers_anew : (s b d r z q : View) (T : Segments) (id at width : ℕ) (ns : List ℕ) (e k : ℕ) (h : Room) → IsStored s.words id at (Flat width ns) → 2 ≤ width → width ≤ 5 →
+    NumberSteps s.words T b.words d.words r.words z.words q.words id at width (length ns) (record { data_words = max 1 e; pointers = k }) h → NumbersTaken s b d q id (length ns) (record { data_words = max 1 e; pointers = k }) h →
+    BecomesAnew (call_at id at s q) (Flat width ns) (Structs (max 1 e) k (struct_for_each e k ns))
+numbers_anew s b d r z q T id at width ns e k h x two five steps t =
+    let a = target s.words id at in
+    let n = length ns in
+    let wide = max 1 e + k in
+    let moves : Start → List Move = λ y. rows_of_moves a.segment a.start 0 y.segment (y.at + 1 + max 1 e) wide 0 n in
+    let here : Start = object_start h in
+    let y = start_of (target q.words id at) in
+    let made = numbers_made_at s.words T b.words d.words r.words z.words q.words id at width ns e k h x two five steps in
+    let written : WritesAnew d d (moves here) = subst (λ ms. WritesAnew d d ms) (sym (no_moves a.segment a.start 0 here.segment (here.at + 1 + max 1 e) wide n)) (writes_none d) in
+    subst (λ ms. StandsAnew (call_at id at s q) (1 + element_count (struct_for_each e k ns) * wide) ms) (no_moves a.segment a.start 0 y.segment (y.at + 1 + max 1 e) wide n)
+    (subst (λ m. StandsAnew (call_at id at s q) (1 + m * wide) (moves y)) (sym (count-struct_for_each e k ns))
+    (object_anew s b d d r q T id at a (words_for width n) steps.settled.0 h.segment h.at h.pads (1 + n * wide) moves made t.kept t.taken t.behind t.first written t.last))

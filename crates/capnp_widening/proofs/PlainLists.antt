@@ -46,7 +46,7 @@ pointers_of l = record { segment = l.segment; at = l.start; tag = 0; size = reco
 pub has_pointers : (S : Segments) (s p : ℕ) (t : Tree) (l : ExistingList) → ArePointers S s p t l → IsStored S s p t → StoresRows S s p (pointers_of l) t
 has_pointers S s p t l k x = (x, ap (rows_in (target S s p)) k.tree_of ∙ ap Some (sym (ap pointers_of k.list)))
 
-first_pointers : (d k : ℕ) (ts : Trees) → struct_for_each_tree d (max 1 k) ts ≡ struct_for_each_tree d k ts
+pub first_pointers : (d k : ℕ) (ts : Trees) → struct_for_each_tree d (max 1 k) ts ≡ struct_for_each_tree d k ts
 first_pointers d k no_trees = refl
 first_pointers d k (tree t ts) =
     ap₂ (λ us es. element (words_of_zero d) us es) (greater_trees k (tree t no_trees)) (first_pointers d k ts)
@@ -148,7 +148,7 @@ void_refused S s p n l size k is count refused = λ t i.
     ap (list_widened size.data_words size.pointers) c.tree_of
     ∙ refused_for_any _ (as_structs size t) _ k (subst (λ j. limited (j * (size.data_words + size.pointers)) (as_structs size t) ≡ Err k) c.counts (refused t c.has)))
 
-first_numbers : (d k : ℕ) (ns : List ℕ) → struct_for_each (max 1 d) k ns ≡ struct_for_each d k ns
+pub first_numbers : (d k : ℕ) (ns : List ℕ) → struct_for_each (max 1 d) k ns ≡ struct_for_each d k ns
 first_numbers d k [] = refl
 first_numbers d k (x ∷ xs) = ap₂ (λ ws es. element ws (nulls k) es) (greater_words d (x ∷ [])) (first_numbers d k xs)
 

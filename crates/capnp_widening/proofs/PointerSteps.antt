@@ -7,6 +7,10 @@ use Rattle.capnp_format.specs.Means.{Leads, Means, IsTag}
 use Rattle.capnp_format.specs.Forest.{target, target_in, cover, cover_all}
 use Rattle.capnp_words.specs.declared.wire_pointer.StructSize.{StructSize}
 use Rattle.capnp_making.specs.Made.{zero_elements}
+use Rattle.capnp_arena.specs.View.{View}
+use Rattle.capnp_making.specs.Makes.{call_at}
+use Rattle.capnp_making.specs.Memory.{start_of}
+use Rattle.capnp_making.specs.declared.making.Start.{Start}
 use Rattle.capnp_making.specs.Path.{word_interval}
 use Rattle.capnp_making.specs.Stored.{IsStored}
 use Rattle.capnp_making.specs.Zeroed.{row, IsZeroed}
@@ -14,14 +18,16 @@ use Rattle.capnp_making.proofs.BelowElements.{element_within}
 use Rattle.capnp_making.proofs.Extents.{times-first, times-object}
 use Rattle.capnp_widening.specs.declared.remaking.ElementRows.{ElementRows}
 use Rattle.capnp_widening.specs.declared.widening.Room.{Room}
-use Rattle.capnp_widening.specs.Moved.{rows_of_moves, fresh_pads, IsMoved, HaveValuesInside, Moves, MovesSome, Unmoves}
+use Rattle.capnp_widening.specs.Anew.{BecomesAnew, StandsAnew, WritesAnew}
+use Rattle.capnp_widening.specs.Moved.{Move, rows_of_moves, fresh_pads, IsMoved, HaveValuesInside, Moves, MovesSome, Unmoves}
 use Rattle.capnp_widening.specs.RowsRemade.{AreRowsCopied, BecomesList, as_structs}
 use Rattle.capnp_widening.specs.Widened.{struct_for_each_tree, GrowsByZeros, rewriting}
-use Rattle.capnp_widening.proofs.ListSteps.{ListSteps, ListUndone, ObjectStored, object_remade, found_there, list_at}
+use Rattle.capnp_widening.proofs.ListSteps.{ListSteps, ListTaken, ListUndone, ObjectStored, object_remade, found_there, list_at}
 use Rattle.capnp_widening.proofs.ListsWidened.{pointers_widened, void_widened, count-struct_for_each_tree, count-zero_elements}
 use Rattle.capnp_widening.proofs.Movings.{children_stand}
 use Rattle.capnp_widening.proofs.NewRows.{list_begun, rows_last, new_rows, rows_rehoused, zeros_there, pads_in_words, no_pads, stand_in_rows, none_stand}
-use Rattle.capnp_widening.proofs.Remade.{leads_last, undone}
+use Rattle.capnp_widening.proofs.Remade.{IsRemade, leads_last, object_anew, undone}
+use Rattle.capnp_widening.proofs.Rows.{no_moves}
 use Rattle.capnp_widening.proofs.RowsCopied.{data_copied, tag_copied, list_written}
 use Rattle.capnp_widening.proofs.NewObjects.{IsRehoused, pads_in_rows}
 
@@ -49,10 +55,11 @@ pointers_stored S id at ts x = at_level x.means.0 x.means.1 x.means.2
               (λ y w held. x.inside y w (omega (arith, held, parts y w, object y w, times-first (row a.segment a.start (count ts)) (cover_all S a.segment a.start ts) y w))));
         })
 
-wider_pointers : (S T B D P R Z Q : Segments) (id at : ℕ) (ts : Trees) (d k : ℕ) (h : Room) → IsStored S id at (Pointers ts) →
-    ListSteps S T B D P R Z Q id at (pointer_rows S id at ts) (record { data_words = d; pointers = max 1 k }) h →
-    BecomesList (rewriting id at S Q) (list_at h (record { data_words = d; pointers = max 1 k }) (count ts)) (Pointers ts) (Structs d (max 1 k) (struct_for_each_tree d k ts))
-wider_pointers S T B D P R Z Q id at ts d k h x s =
+pointers_made : (S T B D P R Z Q : Segments) (id at : ℕ) (ts : Trees) (d k : ℕ) (h : Room) → IsStored S id at (Pointers ts) →
+    (s : ListSteps S T B D P R Z Q id at (pointer_rows S id at ts) (record { data_words = d; pointers = max 1 k }) h) →
+    IsRemade S T D P R Q id at (target S id at) (count ts) s.settled.0 h.segment h.at h.pads (1 + count ts * (d + max 1 k))
+    (rows_of_moves (target S id at).segment (target S id at).start 1 h.segment (h.at + h.pads + 1 + d) (d + max 1 k) 1 (count ts))
+pointers_made S T B D P R Z Q id at ts d k h x s =
     let a = target S id at in
     let n = count ts in
     let wk = max 1 k in
@@ -70,13 +77,34 @@ wider_pointers S T B D P R Z Q id at ts d k h x s =
     let ms = rows_of_moves a.segment a.start 1 v (first + d) z 1 n in
     let whole : 0 + n * (0 + 1) ≡ n = omega arith in
     let rows = data_copied S T B D a.segment a.start 0 1 n v h.at h.pads size grown s.tagged copied (omega (arith, parts.fits)) in
-    let tag = tag_copied T B D a.segment a.start 1 0 n v (h.at + h.pads) z size s.tagged copied in
     let begun = list_begun S T D a.segment a.start 1 1 n d wk v h.at h.pads (parts.stand v (first + d) z) (omega arith) grown (copied.segments ∙ s.tagged.segments) (λ y. copied.words y ∙ s.tagged.words y)
     (list_written T B D a.segment a.start 1 0 n v (h.at + h.pads) z size s.tagged copied) (λ i j l m o. rows.zero i j l (omega arith) o) in
     let stored : ObjectStored S id at (Pointers ts) n (cover_all S a.segment a.start ts) = record { stored = x; whole = refl; leads_to = parts.leads_to; fits = parts.fits } in
     let moves = subst (λ p. Moves D P (rows_of_moves a.segment p 1 v (first + d) z 1 n)) from_zero s.moves in
-    let made = object_remade S T D P R Z Q id at (Pointers ts) n (cover_all S a.segment a.start ts) b v h.at h.pads wide ms stored begun moves settled segment_of start_of s.place
-    (subst (λ m. a.start + m ≤ length (segment R a.segment) → IsZeroed R Z (row a.segment a.start m ∷ [])) whole s.object_zeroed) s.pads_zeroed in
+    object_remade S T D P R Z Q id at (Pointers ts) n (cover_all S a.segment a.start ts) b v h.at h.pads wide ms stored begun moves settled segment_of start_of s.place
+    (subst (λ m. a.start + m ≤ length (segment R a.segment) → IsZeroed R Z (row a.segment a.start m ∷ [])) whole s.object_zeroed) s.pads_zeroed
+
+wider_pointers : (S T B D P R Z Q : Segments) (id at : ℕ) (ts : Trees) (d k : ℕ) (h : Room) → IsStored S id at (Pointers ts) →
+    ListSteps S T B D P R Z Q id at (pointer_rows S id at ts) (record { data_words = d; pointers = max 1 k }) h →
+    BecomesList (rewriting id at S Q) (list_at h (record { data_words = d; pointers = max 1 k }) (count ts)) (Pointers ts) (Structs d (max 1 k) (struct_for_each_tree d k ts))
+wider_pointers S T B D P R Z Q id at ts d k h x s =
+    let a = target S id at in
+    let n = count ts in
+    let wk = max 1 k in
+    let z = d + wk in
+    let wide = 1 + n * z in
+    let size : StructSize = record { data_words = d; pointers = wk } in
+    let v = h.segment in
+    let first = h.at + h.pads + 1 in
+    let (grown, near) = s.room in
+    let (b, settled, shaped, segment_of, start_of) = s.settled in
+    let parts = pointers_stored S id at ts x in
+    let same_from : a.start + 0 ≡ a.start = omega arith in
+    let copied : AreRowsCopied B D a.segment a.start 1 v first z 0 n = subst (λ p. AreRowsCopied B D a.segment p 1 v first z 0 n) same_from s.copied in
+    let ms = rows_of_moves a.segment a.start 1 v (first + d) z 1 n in
+    let rows = data_copied S T B D a.segment a.start 0 1 n v h.at h.pads size grown s.tagged copied (omega (arith, parts.fits)) in
+    let tag = tag_copied T B D a.segment a.start 1 0 n v (h.at + h.pads) z size s.tagged copied in
+    let made = pointers_made S T B D P R Z Q id at ts d k h x s in
     let M = rows_last S T D P R Q id at a n b a.segment a.start 1 1 n d wk v h.at h.pads made in
     let new = new_rows S T D P R Q id at a n b a.segment a.start 1 1 n d wk v h.at h.pads made (omega arith) in
     let fresh = row v h.at (h.pads + wide) ∷ fresh_pads P ms in
@@ -104,6 +132,30 @@ pointers_become S T B D P R Z Q id at ts size h x s =
     ap (λ (y : ℕ). record size { pointers = y }) (let e : max 1 size.pointers ≡ size.pointers = omega (arith, s.wider.1) in e) in
     subst (λ z. BecomesList (rewriting id at S Q) (list_at h z (count ts)) (Pointers ts) (Structs z.data_words z.pointers (struct_for_each_tree size.data_words size.pointers ts))) one
     (wider_pointers S T B D P R Z Q id at ts size.data_words size.pointers h x (subst (λ z. ListSteps S T B D P R Z Q id at (pointer_rows S id at ts) z h) (sym one) s))
+
+pointers_anew_at : (s b d p r z q : View) (T : Segments) (id at : ℕ) (ts : Trees) (e k : ℕ) (h : Room) → IsStored s.words id at (Pointers ts) →
+    ListSteps s.words T b.words d.words p.words r.words z.words q.words id at (pointer_rows s.words id at ts) (record { data_words = e; pointers = max 1 k }) h →
+    ListTaken s b d p q id (pointer_rows s.words id at ts) (record { data_words = e; pointers = max 1 k }) h → BecomesAnew (call_at id at s q) (Pointers ts) (Structs e (max 1 k) (struct_for_each_tree e k ts))
+pointers_anew_at s b d p r z q T id at ts e k h x steps t =
+    let a = target s.words id at in
+    let n = count ts in
+    let wide = e + max 1 k in
+    let moves : Start → List Move = λ y. rows_of_moves a.segment a.start 1 y.segment (y.at + 1 + e) wide 1 n in
+    let made = pointers_made s.words T b.words d.words p.words r.words z.words q.words id at ts e k h x steps in
+    let from_zero : a.start + 0 + 0 ≡ a.start = omega arith in
+    let written = subst (λ m. WritesAnew d p (rows_of_moves a.segment m 1 h.segment (h.at + h.pads + 1 + e) wide 1 n)) from_zero t.written in
+    subst (λ m. StandsAnew (call_at id at s q) (1 + m * wide) (moves (start_of (target q.words id at)))) (sym (count-struct_for_each_tree e k ts))
+    (object_anew s b d p r q T id at a n steps.settled.0 h.segment h.at h.pads (1 + n * wide) moves made t.kept t.taken t.behind t.first written t.last)
+
+pub pointers_anew : (s b d p r z q : View) (T : Segments) (id at : ℕ) (ts : Trees) (size : StructSize) (h : Room) → IsStored s.words id at (Pointers ts) →
+    ListSteps s.words T b.words d.words p.words r.words z.words q.words id at (pointer_rows s.words id at ts) size h → ListTaken s b d p q id (pointer_rows s.words id at ts) size h →
+    BecomesAnew (call_at id at s q) (Pointers ts) (as_structs size (Pointers ts))
+pointers_anew s b d p r z q T id at ts size h x steps t =
+    let one : ◌≡◌ {A = StructSize} (record { data_words = size.data_words; pointers = max 1 size.pointers }) size =
+    ap (λ (y : ℕ). record size { pointers = y }) (let e : max 1 size.pointers ≡ size.pointers = omega (arith, steps.wider.1) in e) in
+    subst (λ y. BecomesAnew (call_at id at s q) (Pointers ts) (Structs y.data_words y.pointers (struct_for_each_tree size.data_words size.pointers ts))) one
+    (pointers_anew_at s b d p r z q T id at ts size.data_words size.pointers h x (subst (λ y. ListSteps s.words T b.words d.words p.words r.words z.words q.words id at (pointer_rows s.words id at ts) y h) (sym one) steps)
+    (subst (λ y. ListTaken s b d p q id (pointer_rows s.words id at ts) y h) (sym one) t))
 
 pub pointers_left : (S T B D P U Z : Segments) (id at : ℕ) (ts : Trees) (size : StructSize) (h : Room) → IsStored S id at (Pointers ts) → ListUndone S T B D P U Z id (pointer_rows S id at ts) size h → GrowsByZeros S Z
 pointers_left S T B D P U Z id at ts size h x s =
@@ -141,6 +193,29 @@ flat_stored S id at w ns x =
 pub void_stored : (S : Segments) (id at : ℕ) (ns : List ℕ) → IsStored S id at (Flat 0 ns) → ObjectStored S id at (Flat 0 ns) 0 []
 void_stored S id at ns x = subst (λ m. ObjectStored S id at (Flat 0 ns) m []) (let e : words_for 0 (length ns) ≡ 0 = omega arith in e) (flat_stored S id at 0 ns x)
 
+void_made : (S T B D P R Z Q : Segments) (id at : ℕ) (ns : List ℕ) (size : StructSize) (h : Room) → IsStored S id at (Flat 0 ns) → (s : ListSteps S T B D P R Z Q id at (void_rows S id at ns) size h) →
+    IsRemade S T D P R Q id at (target S id at) 0 s.settled.0 h.segment h.at h.pads (1 + length ns * (size.data_words + size.pointers))
+    (rows_of_moves (target S id at).segment ((target S id at).start + 0 + 0) 0 h.segment (h.at + h.pads + 1 + size.data_words) (size.data_words + size.pointers) 0 (length ns))
+void_made S T B D P R Z Q id at ns size h x s =
+    let a = target S id at in
+    let n = length ns in
+    let d = size.data_words in
+    let k = size.pointers in
+    let z = d + k in
+    let wide = 1 + n * z in
+    let v = h.segment in
+    let p = a.start + 0 + 0 in
+    let first = h.at + h.pads + 1 in
+    let (grown, near) = s.room in
+    let (b, settled, shaped, segment_of, start_of) = s.settled in
+    let stored = void_stored S id at ns x in
+    let ms = rows_of_moves a.segment p 0 v (first + d) z 0 n in
+    let rows = data_copied S T B D a.segment (a.start + 0) 0 0 n v h.at h.pads size grown s.tagged s.copied (omega (arith, stored.fits)) in
+    let begun = list_begun S T D a.segment p 0 0 n d k v h.at h.pads (none_stand S a.segment p 0 v (first + d) z n) (omega arith) grown (s.copied.segments ∙ s.tagged.segments) (λ y. s.copied.words y ∙ s.tagged.words y)
+    (list_written T B D a.segment (a.start + 0) 0 0 n v (h.at + h.pads) z size s.tagged s.copied) (λ i j l m o. rows.zero i j l (omega arith) o) in
+    object_remade S T D P R Z Q id at (Flat 0 ns) 0 [] b v h.at h.pads wide ms stored begun s.moves settled segment_of start_of s.place
+    (subst (λ m. a.start + m ≤ length (segment R a.segment) → IsZeroed R Z (row a.segment a.start m ∷ [])) (let e : 0 + n * (0 + 0) ≡ 0 = omega arith in e) s.object_zeroed) s.pads_zeroed
+
 pub void_become : (S T B D P R Z Q : Segments) (id at : ℕ) (ns : List ℕ) (size : StructSize) (h : Room) → IsStored S id at (Flat 0 ns) →
     ListSteps S T B D P R Z Q id at (void_rows S id at ns) size h → BecomesList (rewriting id at S Q) (list_at h size (length ns)) (Flat 0 ns) (as_structs size (Flat 0 ns))
 void_become S T B D P R Z Q id at ns size h x s =
@@ -159,10 +234,7 @@ void_become S T B D P R Z Q id at ns size h x s =
     let ms = rows_of_moves a.segment p 0 v (first + d) z 0 n in
     let rows = data_copied S T B D a.segment (a.start + 0) 0 0 n v h.at h.pads size grown s.tagged s.copied (omega (arith, stored.fits)) in
     let tag = tag_copied T B D a.segment (a.start + 0) 0 0 n v (h.at + h.pads) z size s.tagged s.copied in
-    let begun = list_begun S T D a.segment p 0 0 n d k v h.at h.pads (none_stand S a.segment p 0 v (first + d) z n) (omega arith) grown (s.copied.segments ∙ s.tagged.segments) (λ y. s.copied.words y ∙ s.tagged.words y)
-    (list_written T B D a.segment (a.start + 0) 0 0 n v (h.at + h.pads) z size s.tagged s.copied) (λ i j l m o. rows.zero i j l (omega arith) o) in
-    let made = object_remade S T D P R Z Q id at (Flat 0 ns) 0 [] b v h.at h.pads wide ms stored begun s.moves settled segment_of start_of s.place
-    (subst (λ m. a.start + m ≤ length (segment R a.segment) → IsZeroed R Z (row a.segment a.start m ∷ [])) (let e : 0 + n * (0 + 0) ≡ 0 = omega arith in e) s.object_zeroed) s.pads_zeroed in
+    let made = void_made S T B D P R Z Q id at ns size h x s in
     let M = rows_last S T D P R Q id at a 0 b a.segment p 0 0 n d k v h.at h.pads made in
     let new = new_rows S T D P R Q id at a 0 b a.segment p 0 0 n d k v h.at h.pads made (omega arith) in
     let fresh = row v h.at (h.pads + wide) ∷ fresh_pads P ms in
@@ -180,6 +252,21 @@ void_become S T B D P R Z Q id at ns size h x s =
       });
       found = found_there (target Q id at) b d k (element_count (zero_elements d k n)) n v (h.at + h.pads) (ap target_in last.1) segment_of start_of (count-zero_elements d k n);
     }
+
+pub void_anew : (s b d p r z q : View) (T : Segments) (id at : ℕ) (ns : List ℕ) (size : StructSize) (h : Room) → IsStored s.words id at (Flat 0 ns) →
+    ListSteps s.words T b.words d.words p.words r.words z.words q.words id at (void_rows s.words id at ns) size h → ListTaken s b d p q id (void_rows s.words id at ns) size h →
+    BecomesAnew (call_at id at s q) (Flat 0 ns) (as_structs size (Flat 0 ns))
+void_anew s b d p r z q T id at ns size h x steps t =
+    let a = target s.words id at in
+    let n = length ns in
+    let wide = size.data_words + size.pointers in
+    let from = a.start + 0 + 0 in
+    let moves : Start → List Move = λ y. rows_of_moves a.segment from 0 y.segment (y.at + 1 + size.data_words) wide 0 n in
+    let y = start_of (target q.words id at) in
+    let made = void_made s.words T b.words d.words p.words r.words z.words q.words id at ns size h x steps in
+    subst (λ ms. StandsAnew (call_at id at s q) (1 + element_count (zero_elements size.data_words size.pointers n) * wide) ms) (no_moves a.segment from 0 y.segment (y.at + 1 + size.data_words) wide n)
+    (subst (λ m. StandsAnew (call_at id at s q) (1 + m * wide) (moves y)) (sym (count-zero_elements size.data_words size.pointers n))
+    (object_anew s b d p r q T id at a 0 steps.settled.0 h.segment h.at h.pads (1 + n * wide) moves made t.kept t.taken t.behind t.first t.written t.last))
 
 pub void_left : (S T B D P U Z : Segments) (id at : ℕ) (ns : List ℕ) (size : StructSize) (h : Room) → IsStored S id at (Flat 0 ns) → ListUndone S T B D P U Z id (void_rows S id at ns) size h → GrowsByZeros S Z
 void_left S T B D P U Z id at ns size h x s =

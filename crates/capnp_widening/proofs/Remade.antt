@@ -223,19 +223,21 @@ module _ (S T D P R Q : Segments) (u q : ℕ) (a : Target) (size : ℕ) (b : Tar
       ∙ h.settled.kept x y (outside u q x y (λ f g. omega (arith, h.place, new, ap (λ z. length (segment S z)) f)))
       (omega (arith, h.begun.within x y l, split S T D v at pads wide ms h.begun x y, once_row v at (pads + wide) x y))
 
--- The object stands anew, where its words and those of its pads were taken.
-pub object_anew : (s t d p r q : View) (T : Segments) (u i : ℕ) (a : Target) (size : ℕ) (b : Target) (v at pads wide : ℕ) (ms : List Move) → IsRemade s.words T d.words p.words r.words q.words u i a size b v at pads wide ms →
-    KeepsMemory s t → TakesWords s t u wide → StandsBehind s u wide (record { segment = v; at = at + pads }) → OnlyWrites t d → WritesAnew d p ms → OnlyWrites p q → StandsAnew (call_at u i s q) wide ms
-object_anew s t d p r q T u i a size b v at pads wide ms h kept taken behind first w last =
+-- The object stands anew, where its words and those of its pads were taken; its pointers are moved to where it starts.
+pub object_anew : (s t d p r q : View) (T : Segments) (u i : ℕ) (a : Target) (size : ℕ) (b : Target) (v at pads wide : ℕ) (moves : Start → List Move) →
+    IsRemade s.words T d.words p.words r.words q.words u i a size b v at pads wide (moves (record { segment = v; at = at + pads })) → KeepsMemory s t → TakesWords s t u wide → StandsBehind s u wide (record { segment = v; at = at + pads }) → OnlyWrites t d →
+    WritesAnew d p (moves (record { segment = v; at = at + pads })) → OnlyWrites p q → StandsAnew (call_at u i s q) wide (moves (start_of (target q.words u i)))
+object_anew s t d p r q T u i a size b v at pads wide moves h kept taken behind first w last =
+    let start : ℕ → ℕ → Start = λ x y. record { segment = x; at = y } in
+    let ms = moves (start v (at + pads)) in
     let written = w s.words h.begun.can in
     let goes : target q.words u i ≡ b = ap target_in (leads_last s.words T d.words p.words r.words q.words u i a size b v at pads wide ms h).1 in
-    let start : ℕ → ℕ → Start = λ x y. record { segment = x; at = y } in
     let there : start v (at + pads) ≡ start_of (target q.words u i) = ap₂ start (sym h.segment_of) (sym h.start_of) ∙ ap start_of (sym goes) in
-    record {
+    subst (λ (x : Start). StandsAnew (call_at u i s q) wide (moves x)) there (record {
       behind = subst (λ (x : Start). StandsBehind s u wide x) there behind;
       forms = written_later s.words p.words q.words ms (new_last s.words T d.words p.words r.words q.words u i a size b v at pads wide ms h) written.forms;
       taken = record { begun = t; kept = kept; object = taken; pads = pads_before s.words t d q ms first (pads_after s.words d p q ms written.taken last) };
-    }
+    })
 
 -- a growth is refused: the pads and the new object are made zero again
 pub undone : (S T D P U Z : Segments) (v at pads wide : ℕ) (ms : List Move) → IsBegun S T D v at pads wide ms → MovesSome D P ms → Unmoves P U ms → (at + pads + wide ≤ length (segment U v) → IsZeroed U Z (row v (at + pads) wide ∷ [])) → GrowsByZeros S Z

@@ -7,7 +7,7 @@ use Rattle.capnp_format.specs.Segments.{Segments, Grows, segment}
 use Rattle.capnp_arena.specs.Taking.{IsFirstFit, IsFull, IsTaken, SameRoomBelow, with_another}
 use Rattle.capnp_arena.specs.View.{View, KeepsLimits}
 use Rattle.capnp_arena.specs.Written.{extended, with_word}
-use Rattle.capnp_making.specs.Memory.{HasRoom, Lengthens, RefusesWords, TakesWords}
+use Rattle.capnp_making.specs.Memory.{HasRoom, RefusesWords}
 use Rattle.capnp_widening.specs.Rooms.{all_words, GrowsByAtMost, HasSomeRoom}
 
 -- all words, where none is taken
@@ -40,29 +40,6 @@ words_another (xs ∷ S) n = omega (arith, words_another S n)
 pub words_taken : (S T : Segments) (n s p : ℕ) → IsTaken S T n s p → all_words T ≡ all_words S + n
 words_taken S T n s p (inl (l, e, f)) = ap all_words f ∙ words_extended S s (replicate n 0) l ∙ ap (λ k. all_words S + k) (length-replicate n 0)
 words_taken S T n s p (inr (l, e, f)) = ap all_words f ∙ words_another S n
-
--- where no segment is longer, there are no words more; and where one is longer by n
-no_longer : (S R : Segments) → ((v : ℕ) → length (segment R v) ≤ length (segment S v)) → all_words R ≤ all_words S
-no_longer S [] h = omega arith
-no_longer [] (r ∷ R) h = omega (arith, h 0, no_longer [] R (λ v. h (suc v)))
-no_longer (s ∷ S) (r ∷ R) h = omega (arith, h 0, no_longer S R (λ v. h (suc v)))
-
-one_longer : (S R : Segments) (k n : ℕ) → length (segment R k) ≤ length (segment S k) + n → ((v : ℕ) → v ≢ k → length (segment R v) ≤ length (segment S v)) → GrowsByAtMost S R n
-one_longer S [] k n g h = omega arith
-one_longer [] (r ∷ R) zero n g h = omega (arith, g, no_longer [] R (λ v. h (suc v) (λ e. omega (arith, e))))
-one_longer [] (r ∷ R) (suc k) n g h = omega (arith, h 0 (λ e. omega (arith, e)), one_longer [] R k n g (λ v o. h (suc v) (λ e. o (omega (arith, e)))))
-one_longer (s ∷ S) (r ∷ R) zero n g h = omega (arith, g, no_longer S R (λ v. h (suc v) (λ e. omega (arith, e))))
-one_longer (s ∷ S) (r ∷ R) (suc k) n g h = omega (arith, h 0 (λ e. omega (arith, e)), one_longer S R k n g (λ v o. h (suc v) (λ e. o (omega (arith, e)))))
-
-lengthened : (S R : Segments) (k n : ℕ) → Lengthens S R k n → GrowsByAtMost S R n
-lengthened S R k n x = one_longer S R k n (omega (arith, x.gained)) (λ v other. omega (arith, x.others v other))
-
--- an object of n words is made
-pub takes_words : (a b : View) (id n : ℕ) → TakesWords a b id n → GrowsByAtMost a.words b.words (n + 1)
-takes_words a b id n x = elim (cases_lt (a.room id) (length (segment a.words id) + n)) [
-  | inl full ↦ let (k, next, long) = x.far full in lengthened a.words b.words k (n + 1) long
-  | inr fits ↦ omega (arith, lengthened a.words b.words id n (x.near (omega (arith, fits))))
-]
 
 -- no segment has gained more than were taken
 

@@ -16,12 +16,13 @@ use Rattle.capnp_making.specs.Existing.{struct_in}
 use Rattle.capnp_making.specs.Stored.{IsStored, IsReplaced}
 use Rattle.capnp_making.specs.Zeroed.{row, IsZeroed, PadsInside}
 use Rattle.capnp_making.specs.declared.existing.ExistingStruct.{ExistingStruct}
+use Rattle.capnp_making.specs.declared.making.Start.{Start}
 use Rattle.capnp_making.specs.declared.making.Shape.TheVariants.{Struct as StructShape}
 use Rattle.capnp_making.proofs.Below.{pads_inside}
 use Rattle.capnp_making.proofs.Extents.{times-first, once_held}
 use Rattle.capnp_making.proofs.Zeros.{zeroed_again}
 use Rattle.capnp_widening.specs.declared.widening.Room.{Room}
-use Rattle.capnp_widening.specs.Moved.{Moves, MovesSome, Unmoves, row_of_moves}
+use Rattle.capnp_widening.specs.Moved.{Move, Moves, MovesSome, Unmoves, row_of_moves}
 use Rattle.capnp_widening.specs.Anew.{BecomesAnew, OnlyWrites, StandsAnew, WidensStructAnew, WritesAnew}
 use Rattle.capnp_widening.specs.Housed.{IsRoom, AreWordsCopied, Settles, object_start}
 use Rattle.capnp_widening.specs.Widened.{fill_words, fill_trees, GrowsByZeros, IsStruct, LeadsToWiderStruct, LeavesAll, WidensStruct, rewriting, widened}
@@ -130,18 +131,15 @@ anew_at : (s t d p r z q : View) (id at : ℕ) (size : StructSize) (h : Room) (w
 anew_at s t d p r z q id at size h ws ts x steps k =
     let a = target s.words id at in
     let m = remade_by s.words t.words d.words p.words r.words z.words q.words id at size h ws ts x steps in
-    let w = is_widened s.words t.words d.words p.words r.words z.words q.words id at size h ws ts x steps in
     let n = size.data_words + size.pointers in
     let (ld, lk) = steps.wider in
     let long : length (fill_words size.data_words ws) ≡ size.data_words = omega (arith, length-fill_words size.data_words ws) in
     let full : count (fill_trees size.pointers ts) ≡ size.pointers = omega (arith, count-fill_trees size.pointers ts) in
     let words : n ≡ length (fill_words size.data_words ws) + count (fill_trees size.pointers ts) = omega (arith, long, full) in
     let b = start_of (target q.words id at) in
-    let to : h.at + h.pads + size.data_words ≡ b.at + length (fill_words size.data_words ws) = omega (arith, w.start_of, long) in
-    let made = object_anew s t d p r q t.words id at a (length ws + count ts) m.object h.segment h.at h.pads n (row_of_moves a.segment (a.start + length ws) h.segment (h.at + h.pads + size.data_words) (count ts)) m.made k.kept k.taken k.behind k.first k.written k.last in
-    subst (λ i. StandsAnew (call_at id at s q) i (row_of_moves a.segment (a.start + length ws) b.segment (b.at + length (fill_words size.data_words ws)) (count ts))) words
-    (subst (λ i. StandsAnew (call_at id at s q) n (row_of_moves a.segment (a.start + length ws) i (b.at + length (fill_words size.data_words ws)) (count ts))) w.segment_of
-    (subst (λ i. StandsAnew (call_at id at s q) n (row_of_moves a.segment (a.start + length ws) h.segment i (count ts))) to made))
+    let moves : ℕ → Start → List Move = λ n x. row_of_moves a.segment (a.start + length ws) x.segment (x.at + n) (count ts) in
+    let made = object_anew s t d p r q t.words id at a (length ws + count ts) m.object h.segment h.at h.pads n (moves size.data_words) m.made k.kept k.taken k.behind k.first k.written k.last in
+    subst (λ i. StandsAnew (call_at id at s q) i (moves (length (fill_words size.data_words ws)) b)) words (subst (λ i. StandsAnew (call_at id at s q) n (moves i b)) (sym long) made)
 
 pub struct_anew : (s t d p r z q : View) (id at : ℕ) (old : ExistingStruct) (size : StructSize) (h : Room) → StructSteps s.words t.words d.words p.words r.words z.words q.words id at old size h → StructTaken s t d p q id old size h →
     WidensStructAnew (IsStruct s.words id at old) size (call_at id at s q)

@@ -22,11 +22,10 @@ use Rattle.capnp_making.proofs.Replaced.{grown}
 use Rattle.capnp_making.specs.Makes.{call_at}
 use Rattle.capnp_widening.specs.Anew.{StandsAnew, WidensStructAnew}
 use Rattle.capnp_widening.specs.Opening.{LeadsToOne, OpensStruct, struct_opened}
-use Rattle.capnp_widening.specs.Rooms.{all_words, direct_pointers, GrowsByAtMost, GrowsForStruct, RefusesToBecome, widened_words}
+use Rattle.capnp_widening.specs.Rooms.{all_words, direct_pointers, GrowsForStruct, RefusesToBecome, widened_words}
 use Rattle.capnp_widening.specs.Widened.{fill_words, fill_trees, GrowsByZeros, WidensStruct, LeavesAll, LeadsToWiderStruct, rewriting, widened}
 use Rattle.capnp_widening.proofs.Filled.{already_wide, wide_words, wide_trees}
 use Rattle.capnp_widening.proofs.Refusing.{growth_named}
-use Rattle.capnp_widening.proofs.Rooms.{takes_words}
 use Rattle.capnp_widening.proofs.StructSteps.{the_struct, same_struct}
 use Rattle.capnp_widening.proofs.Widenings.{length-fill_words, count-fill_trees}
 use Rattle.capnp_widening.proofs.WrittenAnew.{writes_nothing}
@@ -67,7 +66,6 @@ struct_wide_at v s p ws ts e size stored is l m =
       replaced = already_wide v.words s p size.data_words size.pointers ws ts stored wide many;
       leads = (found, subst (StructLiesIn v.words) is (struct_lies v.words s p ws ts stored));
       memory = keeps_itself v;
-      taken = omega arith;
       unchanged = λ h. refl;
       anew = λ narrow. absurd (narrow (wide, many));
     }
@@ -93,7 +91,6 @@ pub record Wider (a b : View) (s p : ℕ) (e f : ExistingStruct) (size : StructS
   pub widened : WidensStruct (IsStored a.words s p) size (rewriting s p a.words b.words)
   pub leads : LeadsToWiderStruct (IsStored a.words s p) b.words s p f
   pub memory : KeepsMemory a b
-  pub taken : GrowsForStruct a.words b.words s p size
   pub anew : WidensStructAnew (IsStored a.words s p) size (call_at s p a b)
   pub narrow : size.data_words ≤ e.size.data_words → size.pointers ≤ e.size.pointers → ⊥
 
@@ -115,7 +112,6 @@ struct_wider_at a b s p ws ts e f size greater stored is w l m =
       replaced = made;
       leads = (ap (λ x. Some x) same, subst (StructLiesIn b.words) same (struct_lies b.words s p vs us made.stored));
       memory = w.memory;
-      taken = w.taken ws ts stored;
       unchanged = λ h. absurd (w.narrow (omega (arith, h.0, d)) (omega (arith, h.1, q)));
       anew = λ h. w.anew ws ts stored;
     }
@@ -197,7 +193,6 @@ struct_made a b s p size h made memory taken behind leads =
       replaced = made;
       leads = (ap (λ x. Some x) same, subst (StructLiesIn b.words) same (struct_lies b.words s p vs us made.stored));
       memory = memory;
-      taken = omega (arith, takes_words a b s (size.data_words + size.pointers) taken, long);
       unchanged = λ h. absurd h;
       anew = λ narrow. subst (λ n. StandsAnew (call_at s p a b) n []) long (record {
         behind = behind;

@@ -1,6 +1,6 @@
 -- How pointers are written anew, and the words that this takes ("Inter-Segment Pointers").
 use Rattle.std.specs.Prelude.{◌≡◌, ◌≢◌, ◌⊎◌, ℕ, ◌+◌, ◌-◌, ◌^◌, ◌<◌, ◌≤◌, if◌then◌else◌, nat_eq, nat_lt}
-use Rattle.std.specs.Prelude.{List, [], ◌∷◌, length, ⊤}
+use Rattle.std.specs.Prelude.{List, [], ◌∷◌, length, Ok, ⊤}
 use Rattle.capnp_format.specs.Forest.{target}
 use Rattle.capnp_format.specs.Segments.{Segments, segment, word_at}
 use Rattle.capnp_format.specs.Tree.{Tree, Null, Struct, Pointers, Structs, Trees, count, element_count}
@@ -12,7 +12,7 @@ use Rattle.capnp_making.specs.Memory.{KeepsMemory, StandsBehind, TakesWords, sta
 use Rattle.capnp_making.specs.declared.making.Start.{Start}
 use Rattle.capnp_widening.specs.Moved.{CanMove, Move, row_of_moves, rows_of_moves}
 use Rattle.capnp_widening.specs.Rooms.{widened_words}
-use Rattle.capnp_widening.specs.Widened.{widened}
+use Rattle.capnp_widening.specs.Widened.{HasSections, list_widened, widened}
 
 -- The pointer x, whose object lies in segment s if it is near, is written anew in segment v as y:
 -- null, a far pointer and a capability as they are; a near one near in its object's segment, where
@@ -97,14 +97,13 @@ BecomesAnew c t u =
     (moves_into (start_of (target c.old.words c.segment c.at))
     (start_of (target c.new.words c.segment c.at)) t u)
 
--- A struct does so, or a new one in place of null.
-abbrev pub StructBecomesAnew : CallAt → Tree → Tree → Type 0
-StructBecomesAnew c Null u = BecomesAnew c Null u
-StructBecomesAnew c (Struct ws ts) u = BecomesAnew c (Struct ws ts) u
-StructBecomesAnew c t u = ⊤
-
 -- The struct that stands at a place is made anew, as what it becomes where sections of a size are
--- wanted.
+-- wanted; or the list is, where these are larger than those of its elements.
 abbrev pub WidensStructAnew : (Tree → Type 0) → StructSize → CallAt → Type 0
 WidensStructAnew Stands size c =
     (ws : List ℕ) (ts : Trees) → Stands (Struct ws ts) → BecomesAnew c (Struct ws ts) (widened size ws ts)
+
+abbrev pub WidensListAnew : (Tree → Type 0) → StructSize → CallAt → Type 0
+WidensListAnew Stands size c =
+    (t u : Tree) → Stands t → t ≢ Null → list_widened size.data_words size.pointers t ≡ Ok u →
+    (HasSections size t → ⊥) → BecomesAnew c t u

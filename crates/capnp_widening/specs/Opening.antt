@@ -21,10 +21,10 @@ use Rattle.capnp_making.specs.Made.{zero_struct}
 use Rattle.capnp_making.specs.Makes.{CallAt}
 use Rattle.capnp_making.specs.Memory.{KeepsMemory, SpendsMemory, RefusesGrowth}
 use Rattle.capnp_making.specs.Stored.{IsStored, IsReplaced}
-use Rattle.capnp_widening.specs.Anew.{StructBecomesAnew}
+use Rattle.capnp_widening.specs.Anew.{BecomesAnew}
 use Rattle.capnp_widening.specs.Rooms.{GrowsByAtMost, RefusesToBecome, widened_words, direct_pointers}
 use Rattle.capnp_widening.specs.RowsRemade.{ListLiesIn}
-use Rattle.capnp_widening.specs.Widened.{widened, list_widened}
+use Rattle.capnp_widening.specs.Widened.{HasSections, widened, list_widened}
 
 -- The struct whose sections start at a place.
 abbrev pub existing_struct : Start → StructSize → ExistingStruct
@@ -37,23 +37,14 @@ struct_opened size Null = Ok (zero_struct size)
 struct_opened size (Struct ws ts) = Ok (widened size ws ts)
 struct_opened size t = Err MessageContainsNonStructPointerWhereStructPointerWasExpected
 
--- A struct, or each struct of a list, has sections of at least a size. Null is a list of none,
--- which needs none.
-abbrev pub HasSections : StructSize → Tree → Type 0
-HasSections size (Struct ws ts) = (size.data_words ≤ length ws) × (size.pointers ≤ count ts)
-HasSections size (Structs d q es) = (size.data_words ≤ d) × (size.pointers ≤ q)
-HasSections size t = ⊥
-
--- Where t was stored, u is so in its stead, and what is given leads to it. No more words are taken
--- than u has, with a landing pad and two words for each pointer of t. Where t is large enough,
--- nothing is changed; else a struct stands anew.
+-- Where t was stored, u is so in its stead, and what is given leads to it. Where t is large enough,
+-- nothing is changed; else u stands anew.
 pub record Opened (size : StructSize) (c : CallAt) (t u : Tree) (given : Type 0) : Type 0 where
   pub replaced : IsReplaced c.old.words c.new.words c.segment c.at t u
   pub leads : given
   pub memory : KeepsMemory c.old c.new
-  pub taken : GrowsByAtMost c.old.words c.new.words (widened_words u + 1 + 2 * direct_pointers t)
   pub unchanged : HasSections size t → c.new ≡ c.old
-  pub anew : (HasSections size t → ⊥) → StructBecomesAnew c t u
+  pub anew : (HasSections size t → ⊥) → BecomesAnew c t u
 
 -- Memory is refused by the name k, for a value t that isn't large enough and was to become u: it
 -- stands as it was, and new words are zero, no more than u would have taken. It is its words that

@@ -22,7 +22,8 @@ use Rattle.capnp_making.specs.Path.{word_interval}
 use Rattle.capnp_making.specs.Stored.{IsStored, IsReplaced}
 use Rattle.capnp_making.specs.Zeroed.{row}
 use Rattle.capnp_widening.specs.declared.remaking.ElementRows.{ElementRows}
-use Rattle.capnp_widening.specs.Moved.{Move, rows_of_moves}
+use Rattle.capnp_widening.specs.Anew.{BecomesAnew, OnlyWrites, WritesAnew}
+use Rattle.capnp_widening.specs.Moved.{Move, Moves, rows_of_moves}
 use Rattle.capnp_widening.specs.Rooms.{RefusesToBecome}
 use Rattle.capnp_widening.specs.Widened.{Rewriting, fill_elements, struct_for_each}
 use Rattle.capnp_widening.specs.Widened.{struct_for_each_tree, limited, list_widened}
@@ -65,6 +66,15 @@ element_moves old h size =
     (old.size.data_words + old.size.pointers) h.segment (h.at + size.data_words)
     (size.data_words + size.pointers)
     old.size.pointers old.count
+
+-- From old to new the data words of elements are copied into structs of a size, the first of which
+-- starts at h, and then their pointers are written anew there.
+pub record FillsRows (old new : View) (rows : ElementRows) (h : Start) (size : StructSize) : Type 0 where
+  pub between : View
+  pub copied : CopiesData old.words between.words rows h size
+  pub only : OnlyWrites old between
+  pub moved : Moves between.words new.words (element_moves rows h size)
+  pub written : WritesAnew between new (element_moves rows h size)
 
 -- From S to R each of n numbers of so many bits, one behind the other from the word (s, p) on, is
 -- copied into the first word of a row; the rows are of z words, from (v, r) on. Nothing else is
@@ -139,6 +149,10 @@ pub record BecomesList (c : Rewriting) (l : ExistingList) (t u : Tree) : Type 0 
 -- The place gets, in place of a list that stands there, structs of a size made of its elements, which are l.
 abbrev pub RemakesList : (Tree → Type 0) → StructSize → Rewriting → ExistingList → Type 0
 RemakesList Stands size c l = (t : Tree) → Stands t → BecomesList c l t (as_structs size t)
+
+-- The list that stands at a place is made anew, as structs of a size made of its elements.
+abbrev pub RemakesListAnew : (Tree → Type 0) → StructSize → CallAt → Type 0
+RemakesListAnew Stands size c = (t : Tree) → Stands t → BecomesAnew c t (as_structs size t)
 
 -- A call is refused by the name k: the elements would take too many words, and nothing is changed;
 -- or memory is refused for their list, or for a landing pad of one of their pointers.

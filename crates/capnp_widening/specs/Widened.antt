@@ -84,6 +84,13 @@ LeadsToWiderStruct Stands R s p e =
     (ws : List ℕ) (ts : Trees) → Stands (Struct ws ts) → (e.segment ≡ (target R s p).segment) ×
     (e.start ≡ (target R s p).start) × StructLiesIn R e
 
+-- A struct, or each struct of a list, has sections of at least a size. Null is a list of none,
+-- which needs none.
+abbrev pub HasSections : StructSize → Tree → Type 0
+HasSections size (Struct ws ts) = (size.data_words ≤ length ws) × (size.pointers ≤ count ts)
+HasSections size (Structs d q es) = (size.data_words ≤ d) × (size.pointers ≤ q)
+HasSections size t = ⊥
+
 -- A struct is at least as large as asked for.
 abbrev pub IsAtLeast : StructSize → ExistingStruct → Type 0
 IsAtLeast size e = (size.data_words ≤ e.size.data_words) × (size.pointers ≤ e.size.pointers)

@@ -3,8 +3,10 @@ ghost use Rattle.std.specs.Prelude.{ℕ, ◌⊎◌, ◌≡◌, ◌≤◌, ◌+�
 ghost use Rattle.capnp_format.specs.Segments.{IsPlace, leads, Target};
 ghost use Rattle.capnp_format.specs.Tree.{Elements, Null, Structs};
 ghost use Rattle.capnp_words.specs.Sizes.{size_number};
+ghost use Rattle.capnp_making.specs.Makes.{call_at};
 ghost use Rattle.capnp_making.specs.Memory.{KeepsMemory, SpendsMemory};
 ghost use Rattle.capnp_making.specs.Stored.{IsStored};
+ghost use Rattle.capnp_widening.specs.Anew.{WidensListAnew};
 ghost use Rattle.capnp_widening.specs.Rooms.{WiderListFits, GrowsForList};
 ghost use Rattle.capnp_widening.specs.RowsRemade.{IsList, WidensList, LeadsToWiderList, RefusesWider, WidensTo};
 ghost use Rattle.capnp_widening.specs.Widened.{LeavesAll, rewriting};
@@ -38,6 +40,8 @@ pub fn get_struct_list<A: BuilderArena>(
         (rewriting id at (A.view arena.old).words (A.view arena.new).words)) }
     ensures leads { IfOk result (LeadsToWiderList size
         (rewriting id at (A.view arena.old).words (A.view arena.new).words)) }
+    ensures anew { OnOk result (WidensListAnew (IsStored (A.view arena.old).words id at) size
+        (call_at id at (A.view arena.old) (A.view arena.new))) }
     ensures granted { OnOk result (KeepsMemory (A.view arena.old) (A.view arena.new)) }
     ensures memory { IfErr result (SpendsMemory (A.view arena.old) (A.view arena.new)) }
     ensures refused { OnErr result
@@ -76,6 +80,8 @@ fn widen_list<A: BuilderArena>(
     requires place { IsPlace (A.view arena.old).words id at }
     ensures widened { IfOk result (WidensTo old size
         (rewriting id at (A.view arena.old).words (A.view arena.new).words)) }
+    ensures anew { OnOk result (WidensListAnew (IsList (A.view arena.old).words id at old) size
+        (call_at id at (A.view arena.old) (A.view arena.new))) }
     ensures granted { OnOk result (KeepsMemory (A.view arena.old) (A.view arena.new)) }
     ensures memory { IfErr result (SpendsMemory (A.view arena.old) (A.view arena.new)) }
     ensures refused { OnErr result
@@ -121,6 +127,8 @@ fn widen_structs<A: BuilderArena>(
     requires kind { size_number old.size ≡ 7 }
     ensures widened { IfOk result (WidensTo old size
         (rewriting id at (A.view arena.old).words (A.view arena.new).words)) }
+    ensures anew { OnOk result (WidensListAnew (IsList (A.view arena.old).words id at old) size
+        (call_at id at (A.view arena.old) (A.view arena.new))) }
     ensures granted { OnOk result (KeepsMemory (A.view arena.old) (A.view arena.new)) }
     ensures memory { IfErr result (SpendsMemory (A.view arena.old) (A.view arena.new)) }
     ensures refused { OnErr result
@@ -168,6 +176,8 @@ fn widen_pointers<A: BuilderArena>(
     requires kind { size_number old.size ≡ 6 }
     ensures widened { IfOk result (WidensTo old size
         (rewriting id at (A.view arena.old).words (A.view arena.new).words)) }
+    ensures anew { OnOk result (WidensListAnew (IsList (A.view arena.old).words id at old) size
+        (call_at id at (A.view arena.old) (A.view arena.new))) }
     ensures granted { OnOk result (KeepsMemory (A.view arena.old) (A.view arena.new)) }
     ensures memory { IfErr result (SpendsMemory (A.view arena.old) (A.view arena.new)) }
     ensures refused { OnErr result
@@ -211,6 +221,8 @@ fn widen_void<A: BuilderArena>(
     requires kind { size_number old.size ≡ 0 }
     ensures widened { IfOk result (WidensTo old size
         (rewriting id at (A.view arena.old).words (A.view arena.new).words)) }
+    ensures anew { OnOk result (WidensListAnew (IsList (A.view arena.old).words id at old) size
+        (call_at id at (A.view arena.old) (A.view arena.new))) }
     ensures granted { OnOk result (KeepsMemory (A.view arena.old) (A.view arena.new)) }
     ensures memory { IfErr result (SpendsMemory (A.view arena.old) (A.view arena.new)) }
     ensures refused { OnErr result

@@ -6,9 +6,11 @@ ghost use Rattle.capnp_format.specs.Segments.{segment, IsPlace};
 ghost use Rattle.capnp_words.specs.Sizes.{size_number};
 ghost use Rattle.capnp_making.specs.Made.{structs_words};
 ghost use Rattle.capnp_making.specs.Fields.{field_in};
+ghost use Rattle.capnp_making.specs.Makes.{call_at};
 ghost use Rattle.capnp_making.specs.Memory.{HasRoom, KeepsMemory, SpendsMemory, RefusesWords};
+ghost use Rattle.capnp_widening.specs.Anew.{WidensListAnew};
 ghost use Rattle.capnp_widening.specs.Rooms.{GrowsByAtMost, WiderListFits, GrowsForList};
-ghost use Rattle.capnp_widening.specs.RowsRemade.{AreNumbersCopied, IsList, NumbersInside, RemakesList, WidensTo, RefusesWider};
+ghost use Rattle.capnp_widening.specs.RowsRemade.{AreNumbersCopied, IsList, NumbersInside, RemakesList, RemakesListAnew, WidensTo, RefusesWider};
 ghost use Rattle.capnp_widening.specs.Widened.{LeavesAll, rewriting};
 
 use crate::remaking::begin_list;
@@ -34,6 +36,8 @@ pub(crate) fn widen_numbers<A: BuilderArena>(
     requires kind { (2 ≤ size_number old.size) × (size_number old.size ≤ 5) }
     ensures widened { IfOk result (WidensTo old size
         (rewriting id at (A.view arena.old).words (A.view arena.new).words)) }
+    ensures anew { OnOk result (WidensListAnew (IsList (A.view arena.old).words id at old) size
+        (call_at id at (A.view arena.old) (A.view arena.new))) }
     ensures granted { OnOk result (KeepsMemory (A.view arena.old) (A.view arena.new)) }
     ensures memory { IfErr result (SpendsMemory (A.view arena.old) (A.view arena.new)) }
     ensures refused { OnErr result
@@ -92,6 +96,8 @@ fn remake_numbers<A: BuilderArena>(
     requires small { old.count * (size.data_words + size.pointers) < 2 ^ 29 }
     ensures remade { IfOk result (RemakesList (IsList (A.view arena.old).words id at old)
         size (rewriting id at (A.view arena.old).words (A.view arena.new).words)) }
+    ensures anew { OnOk result (RemakesListAnew (IsList (A.view arena.old).words id at old)
+        size (call_at id at (A.view arena.old) (A.view arena.new))) }
     ensures granted { OnOk result (KeepsMemory (A.view arena.old) (A.view arena.new)) }
     ensures refused { OnErr result ((A.view arena.new).words ≡ (A.view arena.old).words) }
     ensures memory { IfErr result (SpendsMemory (A.view arena.old) (A.view arena.new)) }

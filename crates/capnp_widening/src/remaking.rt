@@ -4,12 +4,12 @@ ghost use Rattle.std.specs.Prelude.{ℕ, ◌≡◌, ◌↔◌, ◌<◌, ◌≤�
 ghost use Rattle.capnp_arena.specs.View.{KeepsLimits};
 ghost use Rattle.capnp_format.specs.Segments.{Segments, segment, IsPlace, Grows};
 ghost use Rattle.capnp_making.specs.Made.{structs_words};
-ghost use Rattle.capnp_making.specs.Memory.{HasRoom, KeepsMemory, SpendsMemory, RefusesGrowth, RefusesWords};
+ghost use Rattle.capnp_making.specs.Memory.{HasRoom, KeepsMemory, SpendsMemory, RefusesGrowth, RefusesWords, StandsBehind, TakesWords};
 ghost use Rattle.capnp_making.specs.Near.{HasOwnRoom};
 ghost use Rattle.capnp_widening.specs.Rooms.{GrowsByAtMost, HasSomeRoom, RemadeRowsFit};
-ghost use Rattle.capnp_widening.specs.Housed.{IsRoom};
-ghost use Rattle.capnp_widening.specs.Moved.{Moves, MovesSome, Unmoves};
-ghost use Rattle.capnp_widening.specs.RowsRemade.{AreRowsCopied, CopiesData, IsTagWritten, RowsInside, RemakesList, RefusesRows, StoresRows, element_moves};
+ghost use Rattle.capnp_widening.specs.Housed.{IsRoom, object_start};
+ghost use Rattle.capnp_widening.specs.Moved.{MovesSome, Unmoves};
+ghost use Rattle.capnp_widening.specs.RowsRemade.{AreRowsCopied, CopiesData, FillsRows, IsTagWritten, RowsInside, RemakesList, RemakesListAnew, RefusesRows, StoresRows, element_moves};
 ghost use Rattle.capnp_widening.specs.Widened.{LeavesAll, rewriting};
 ghost use Rattle.capnp_making.specs.Makes.{call_at};
 
@@ -84,6 +84,10 @@ pub(crate) fn begin_list<A: BuilderArena>(
         × IsRoom (A.view arena.old).words T id (structs_words count size) room
         × IsTagWritten (rewriting room.segment (room.at + room.pads) T
         (A.view arena.new).words) count size) }
+    ensures words { OnOk result
+        (TakesWords (A.view arena.old) (A.view arena.new) id (structs_words count size)) }
+    ensures behind { IfOk result (λ room.
+        StandsBehind (A.view arena.old) id (structs_words count size) (object_start room)) }
     ensures granted { OnOk result (KeepsMemory (A.view arena.old) (A.view arena.new)) }
     ensures memory { IfErr result (SpendsMemory (A.view arena.old) (A.view arena.new)) }
     ensures full { IfErr result
@@ -124,9 +128,8 @@ fn fill_rows<A: BuilderArena>(
         → old.at + (old.tag + old.count * (old.size.data_words + old.size.pointers)) ≤ first.at }
     requires data { old.size.data_words ≤ size.data_words }
     requires pointers { old.size.pointers ≤ size.pointers }
-    ensures filled { OnOk result ((D : Segments)
-        × CopiesData (A.view arena.old).words D old first size
-        × Moves D (A.view arena.new).words (element_moves old first size)) }
+    ensures filled { OnOk result
+        (FillsRows (A.view arena.old) (A.view arena.new) old first size) }
     ensures undone { OnErr result ((D : Segments) × (P : Segments)
         × CopiesData (A.view arena.old).words D old first size
         × MovesSome D P (element_moves old first size)
@@ -199,6 +202,8 @@ pub(crate) fn widen_rows<A: BuilderArena>(
     requires pointers { old.size.pointers ≤ size.pointers }
     ensures remade { IfOk result (RemakesList (StoresRows (A.view arena.old).words id at old)
         size (rewriting id at (A.view arena.old).words (A.view arena.new).words)) }
+    ensures anew { OnOk result (RemakesListAnew (StoresRows (A.view arena.old).words id at old)
+        size (call_at id at (A.view arena.old) (A.view arena.new))) }
     ensures small { OnOk result (old.count * (size.data_words + size.pointers) < 2 ^ 29) }
     ensures granted { OnOk result (KeepsMemory (A.view arena.old) (A.view arena.new)) }
     ensures memory { IfErr result (SpendsMemory (A.view arena.old) (A.view arena.new)) }
@@ -248,6 +253,8 @@ fn remake_rows<A: BuilderArena>(
     requires pointers { old.size.pointers ≤ size.pointers }
     ensures remade { IfOk result (RemakesList (StoresRows (A.view arena.old).words id at old)
         size (rewriting id at (A.view arena.old).words (A.view arena.new).words)) }
+    ensures anew { OnOk result (RemakesListAnew (StoresRows (A.view arena.old).words id at old)
+        size (call_at id at (A.view arena.old) (A.view arena.new))) }
     ensures granted { OnOk result (KeepsMemory (A.view arena.old) (A.view arena.new)) }
     ensures refused { OnErr result
         (LeavesAll (StoresRows (A.view arena.old).words id at old)

@@ -5,7 +5,7 @@ use Rattle.capnp_making.specs.declared.existing.ExistingList.{ExistingList}
 use Rattle.capnp_making.specs.Existing.{struct_list}
 use Rattle.capnp_format.specs.Segments.{Segments}
 use Rattle.capnp_format.specs.Forest.{target}
-use Rattle.capnp_widening.proofs.AnyList.{null_stays, null_leads, list_widens, list_leads, unfound_refused}
+use Rattle.capnp_widening.proofs.AnyList.{none_is_null, null_stays, null_leads, list_widens, list_leads, unfound_refused}
 use Rattle.capnp_widening.proofs.Listed.{same_list}
 use Rattle.capnp_widening.proofs.Rooms.{not_true}
 use Rattle.capnp_widening.proofs.ListRooms.{not_refused, null_found, structs_found, found_none}
@@ -19,6 +19,13 @@ returns-in-Ok-None-clause-widened g c = null_stays (g.A.BuilderArena.view c.args
 
 pub returns-in-Ok-None-clause-leads : goal.returns-in-Ok-None-clause-leads
 returns-in-Ok-None-clause-leads g c = null_leads (g.A.BuilderArena.view c.args.arena.now).words c.args.id c.args.at c.args.size (λ t x. sym (ap Ok c.in-Ok-None.field-0-is) ∙ c.in-Ok-None.ensures.found t x)
+
+pub returns-in-Ok-None-clause-anew : goal.returns-in-Ok-None-clause-anew
+returns-in-Ok-None-clause-anew g c = λ t u x some e narrow.
+    absurd (some (none_is_null (target (g.A.BuilderArena.view c.args.arena.now).words c.args.id c.args.at) t (sym (sym (ap Ok c.in-Ok-None.field-0-is) ∙ c.in-Ok-None.ensures.found t x))))
+
+pub returns-in-Ok-clause-anew : goal.returns-in-Ok-clause-anew
+returns-in-Ok-clause-anew g c = λ t u x some e narrow. c.in-Ok.ensures.anew t u (x, sym (sym (ap Ok c.in-Ok-Some.field-0-is) ∙ c.in-Ok-Some.ensures.found t x)) some e narrow
 
 -- No list is found.
 pub returns-in-Err-clause-named : goal.returns-in-Err-clause-named

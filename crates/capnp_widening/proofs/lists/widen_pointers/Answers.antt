@@ -2,11 +2,12 @@ use Rattle.std.proofs.Common.{inl, inr, refl}
 use Rattle.capnp_format.specs.Segments.{Segments}
 use Rattle.capnp_words.specs.declared.wire_pointer.StructSize.{StructSize}
 use Rattle.capnp_arena.specs.View.{View}
-use Rattle.capnp_making.proofs.Outcomes.{on_err_so}
+use Rattle.capnp_making.proofs.Outcomes.{on_err_so, on_made_so}
 use Rattle.capnp_widening.proofs.Listed.{if_ok_both, if_err_so}
 use Rattle.capnp_widening.proofs.AnyRows.{rows_inside}
 use Rattle.capnp_widening.proofs.ListRooms.{pointers_are, rows_fit, rows_few, rows_refused}
 use Rattle.capnp_widening.proofs.PlainLists.{pointers_widened_to, pointers_left_as, pointers_refused}
+use Rattle.capnp_widening.proofs.ListsAnew.{pointers_anew_to}
 use Rattle.capnp_widening.proofs.lists.widen_pointers.Goals as goal
 
 pub returns-clause-widened : goal.returns-clause-widened
@@ -15,6 +16,12 @@ returns-clause-widened g c =
     let R : Segments = (g.A.BuilderArena.view c.widen_rows.new.arena).words in
     if_ok_both c.widen_rows.result _ _ _ c.widen_rows.ensures.remade c.widen_rows.ensures.small
     (λ m made few. pointers_widened_to S R c.args.id c.args.at c.args.old m c.args.size _ c.requires.kind refl c.greater.ensures few made)
+
+pub returns-clause-anew : goal.returns-clause-anew
+returns-clause-anew g c =
+    let a : View = g.A.BuilderArena.view c.args.arena.now in
+    let b : View = g.A.BuilderArena.view c.widen_rows.new.arena in
+    on_made_so c.widen_rows.result _ _ c.widen_rows.ensures.anew (λ made. pointers_anew_to a b c.args.id c.args.at c.args.old c.args.size _ c.requires.kind refl c.greater.ensures made)
 
 pub returns-clause-refused : goal.returns-clause-refused
 returns-clause-refused g c =

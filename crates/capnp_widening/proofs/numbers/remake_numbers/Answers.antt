@@ -2,9 +2,12 @@ use Rattle.std.proofs.Common.{◌≡◌, ◌∙◌, ◌≤◌, ◌+◌, ◌*◌,
 use Rattle.capnp_arena.specs.View.{View, KeepsLimits}
 use Rattle.capnp_format.specs.Segments.{Segments}
 use Rattle.capnp_making.proofs.Memory.{keeps_both, keeps_written}
-use Rattle.capnp_widening.proofs.NumberLists.{NumbersMade, numbers_made}
+use Rattle.capnp_widening.proofs.NumberLists.{NumbersMade, numbers_made, numbers_made_anew}
 use Rattle.capnp_making.specs.Memory.{HasRoom}
 use Rattle.capnp_widening.proofs.Rooms.{same_words}
+use Rattle.capnp_widening.specs.Anew.{OnlyWrites}
+use Rattle.capnp_widening.proofs.TakingWords.{pruned_writes}
+use Rattle.capnp_widening.proofs.WrittenAnew.{writes_both}
 use Rattle.capnp_widening.proofs.numbers.remake_numbers.Goals as goal
 
 -- The room lies in its segment, which has fewer than 2^29 words.
@@ -56,6 +59,36 @@ returns-in-Ok-clause-remade g c =
       pads_zeroed = rw c.word_of-pointer.ensures at c.zero_pads.ensures.zeroed;
     } in
     numbers_made S T B D R Z Q c.args.id c.args.at c.args.old c.args.size c.in-Ok.room c.requires.kind.0 c.requires.kind.1 c.requires.data steps
+
+pub returns-in-Ok-clause-anew : goal.returns-in-Ok-clause-anew
+returns-in-Ok-clause-anew g c =
+    let s : View = g.A.BuilderArena.view c.args.arena.now in
+    let b : View = g.A.BuilderArena.view c.begin_list.new.arena in
+    let d : View = g.A.BuilderArena.view c.copy_numbers.new.arena in
+    let r : View = g.A.BuilderArena.view c.settle.new.arena in
+    let z : View = g.A.BuilderArena.view c.zero_part.new.arena in
+    let q : View = g.A.BuilderArena.view c.zero_pads.new.arena in
+    let (T, room, tagged) = c.in-Ok.ensures.begun in
+    let (o, settled, shaped, segment_of, start_of) = c.settle.ensures.settled in
+    let set : OnlyWrites d r = record { limits = c.settle.ensures.limits; segments = settled.segments; words = settled.words } in
+    let zeroed = pruned_writes r z c.zero_part.ensures.limits c.zero_part.ensures.pruned in
+    let cleared = pruned_writes z q c.zero_pads.ensures.limits c.zero_pads.ensures.pruned in
+    let steps : NumbersMade s.words T b.words d.words r.words z.words q.words c.args.id c.args.at c.args.old c.args.size c.in-Ok.room = record {
+      place = c.requires.place;
+      room = room;
+      tagged = tagged;
+      copied = rw c.total.ensures at c.copy_numbers.ensures.copied;
+      settled = rw c.total-in-Ok.ensures at c.settle.ensures.settled;
+      object_zeroed = rw c.words_of_numbers.ensures.value at c.zero_part.ensures.zeroed;
+      pads_zeroed = rw c.word_of-pointer.ensures at c.zero_pads.ensures.zeroed;
+    } in
+    numbers_made_anew s b d r z q T c.args.id c.args.at c.args.old c.args.size c.in-Ok.room c.requires.kind.0 c.requires.kind.1 c.requires.data steps (record {
+      kept = c.in-Ok.ensures.granted;
+      taken = c.in-Ok.ensures.words;
+      behind = c.in-Ok.ensures.behind;
+      first = record { limits = c.copy_numbers.ensures.limits; segments = c.copy_numbers.ensures.copied.segments; words = c.copy_numbers.ensures.copied.words };
+      last = writes_both d r q set (writes_both r z q zeroed cleared);
+    })
 
 -- The words of the list are taken, and a pad at most.
 pub returns-in-Ok-clause-few : goal.returns-in-Ok-clause-few

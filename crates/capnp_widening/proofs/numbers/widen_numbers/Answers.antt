@@ -3,7 +3,7 @@ use Rattle.capnp_words.specs.declared.error.ErrorKind.TheVariants.{MessageTooLar
 use Rattle.capnp_words.specs.declared.wire_pointer.StructSize.{StructSize}
 use Rattle.capnp_format.specs.Segments.{Segments}
 use Rattle.capnp_arena.specs.View.{View}
-use Rattle.capnp_making.proofs.Outcomes.{if_ok_so, on_err_so}
+use Rattle.capnp_making.proofs.Outcomes.{if_ok_so, on_err_so, on_made_so}
 use Rattle.capnp_widening.specs.Widened.{limited}
 use Rattle.capnp_widening.proofs.Listed.{if_err_both, too_many}
 use Rattle.capnp_widening.proofs.ListRooms.{numbers_take, numbers_unmade, numbers_fit, numbers_small}
@@ -11,6 +11,7 @@ use Rattle.capnp_widening.proofs.NumberLists.{numbers_inside}
 use Rattle.capnp_widening.proofs.PlainLists.{numbers_widened_to, numbers_refused}
 use Rattle.capnp_widening.proofs.StructSteps.{nothing_grown}
 use Rattle.capnp_widening.proofs.Unspent.{too_large_spent, outside_spent}
+use Rattle.capnp_widening.proofs.ListsAnew.{numbers_anew_to}
 use Rattle.capnp_widening.proofs.numbers.widen_numbers.Goals as goal
 
 -- Too many words.
@@ -39,6 +40,13 @@ returns-clause-widened g c =
     let few : n < 2 ^ 29 = subst (λ x. x < 2 ^ 29) same (omega arith) in
     if_ok_so c.remake_numbers.result _ _ c.remake_numbers.ensures.remade
     (λ m made. numbers_widened_to S R c.args.id c.args.at c.args.old m c.args.size (record { data_words = c.greater.result; pointers = c.args.size.pointers }) c.requires.kind.0 c.requires.kind.1 c.greater.ensures refl few made)
+
+pub returns-clause-anew : goal.returns-clause-anew
+returns-clause-anew g c =
+    let a : View = g.A.BuilderArena.view c.args.arena.now in
+    let b : View = g.A.BuilderArena.view c.remake_numbers.new.arena in
+    on_made_so c.remake_numbers.result _ _ c.remake_numbers.ensures.anew
+    (λ made. numbers_anew_to a b c.args.id c.args.at c.args.old c.args.size (record { data_words = c.greater.result; pointers = c.args.size.pointers }) c.requires.kind.0 c.requires.kind.1 c.greater.ensures refl made)
 
 pub returns-clause-refused : goal.returns-clause-refused
 returns-clause-refused g c =

@@ -14,6 +14,7 @@ returns-in-None-clause-opened g c = λ t stored.
     (record {
       widened = c.get_struct_list.ensures.widened;
       leads = c.get_struct_list.ensures.leads;
+      anew = c.get_struct_list.ensures.anew;
       granted = c.get_struct_list.ensures.granted;
       refused = c.get_struct_list.ensures.refused;
       named = c.get_struct_list.ensures.named;

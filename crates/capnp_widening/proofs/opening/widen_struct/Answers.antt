@@ -6,7 +6,7 @@ use Rattle.capnp_widening.proofs.opening.widen_struct.Goals as goal
 pub returns-in-Ok-clause-opened : goal.returns-in-Ok-clause-opened
 returns-in-Ok-clause-opened g c = λ t stored found.
     struct_wider (g.A.BuilderArena.view c.args.arena.now) (g.A.BuilderArena.view c.widen_known.new.arena) c.args.id c.args.at t (existing_struct c.args.start c.args.narrow) c.in-Ok.wide c.args.size c.greater_size.result stored found
-    (record { widened = c.in-Ok.ensures.widened; leads = c.in-Ok.ensures.leads; memory = c.in-Ok.ensures.granted; taken = c.in-Ok.ensures.few; anew = c.in-Ok.ensures.anew; narrow = c.requires.narrow }) c.greater_size.ensures.data_words c.greater_size.ensures.pointers
+    (record { widened = c.in-Ok.ensures.widened; leads = c.in-Ok.ensures.leads; memory = c.in-Ok.ensures.granted; anew = c.in-Ok.ensures.anew; narrow = c.requires.narrow }) c.greater_size.ensures.data_words c.greater_size.ensures.pointers
 
 pub returns-in-Err-clause-named : goal.returns-in-Err-clause-named
 returns-in-Err-clause-named g c =

@@ -4,9 +4,11 @@ use Rattle.capnp_format.specs.Segments.{Segments, segment}
 use Rattle.capnp_format.specs.Means.{IsTag}
 use Rattle.capnp_making.proofs.MadeWords.{word_put}
 use Rattle.capnp_making.proofs.Memory.{words_in}
-use Rattle.capnp_making.specs.Memory.{HasRoom}
+use Rattle.capnp_making.specs.Memory.{HasRoom, TakesWords}
 use Rattle.capnp_making.specs.Near.{HasOwnRoom}
 use Rattle.capnp_widening.proofs.Rooms.{words_put, room_written, not_true}
+use Rattle.capnp_widening.proofs.TakingWords.{put_writes}
+use Rattle.capnp_widening.proofs.WrittenAnew.{taken_after}
 use Rattle.capnp_widening.proofs.remaking.begin_list.Goals as goal
 
 pub returns-in-Ok-clause-begun : goal.returns-in-Ok-clause-begun
@@ -60,3 +62,18 @@ returns-in-Ok-clause-near g c = λ h.
 pub returns-in-Err-clause-near : goal.returns-in-Err-clause-near
 returns-in-Err-clause-near g c = λ h.
     absurd (not_true (c.in-Err.ensures.near (subst (λ m. HasOwnRoom (g.A.BuilderArena.view c.args.arena.now) c.args.id (1 + c.args.count * m)) (sym c.total.ensures) h)).0)
+
+-- They stand behind all that were there.
+pub returns-in-Ok-clause-words : goal.returns-in-Ok-clause-words
+returns-in-Ok-clause-words g c =
+    let S : View = g.A.BuilderArena.view c.args.arena.now in
+    let T : View = g.A.BuilderArena.view c.take.new.arena in
+    let R : View = g.A.BuilderArena.view c.set_word.new.self in
+    let room = rw c.total.ensures at c.in-Ok.ensures.taken in
+    let inside : c.in-Ok.room.at + c.in-Ok.room.pads < length (segment T.words c.in-Ok.room.segment) = omega (arith, room.0.room) in
+    let n : ℕ = 1 + c.args.count * (c.args.size.data_words + c.args.size.pointers) in
+    let taken : TakesWords S T c.args.id n = rw c.total.ensures at c.in-Ok.ensures.words in
+    taken_after S T R c.args.id n taken (put_writes T R c.in-Ok.room.segment (c.in-Ok.room.at + c.in-Ok.room.pads) c.new_tag-tag.result.0 inside c.set_word.ensures)
+
+pub returns-in-Ok-clause-behind : goal.returns-in-Ok-clause-behind
+returns-in-Ok-clause-behind g c = rw c.total.ensures at c.in-Ok.ensures.behind

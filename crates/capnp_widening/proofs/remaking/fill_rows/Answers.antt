@@ -6,19 +6,30 @@ use Rattle.capnp_widening.proofs.Movings.{none_moved}
 use Rattle.capnp_widening.specs.Rooms.{HasSomeRoom}
 use Rattle.capnp_widening.proofs.Rooms.{same_words, room_written}
 use Rattle.capnp_widening.proofs.Rows.{no_moves}
+use Rattle.capnp_widening.proofs.WrittenAnew.{writes_none}
 use Rattle.capnp_widening.proofs.remaking.fill_rows.Goals as goal
 
 -- There are no pointers.
 pub returns-then-pointers-eq0-clause-filled : goal.returns-then-pointers-eq0-clause-filled
 returns-then-pointers-eq0-clause-filled g c =
-    let D : Segments = (g.A.BuilderArena.view c.copy_rows.new.arena).words in
+    let D : View = g.A.BuilderArena.view c.copy_rows.new.arena in
     let none : c.args.old.size.pointers ≡ 0 = search rules in
-    (D, rw (c.total.ensures, c.total-2.ensures, c.from.ensures) at c.copy_rows.ensures.copied, rw none (rw no_moves (none_moved D)))
+    record {
+      between = D;
+      copied = rw (c.total.ensures, c.total-2.ensures, c.from.ensures) at c.copy_rows.ensures.copied;
+      only = record { limits = c.copy_rows.ensures.limits; segments = c.copy_rows.ensures.copied.segments; words = c.copy_rows.ensures.copied.words };
+      moved = rw none (rw no_moves (none_moved D.words));
+      written = rw none (rw no_moves (writes_none D));
+    }
 
 pub returns-in-Ok-clause-filled : goal.returns-in-Ok-clause-filled
-returns-in-Ok-clause-filled g c =
-    let D : Segments = (g.A.BuilderArena.view c.copy_rows.new.arena).words in
-    (D, rw (c.total.ensures, c.total-2.ensures, c.from.ensures) at c.copy_rows.ensures.copied, rw (c.total.ensures, c.total-2.ensures, c.from-pointers.ensures, c.from-2.ensures, c.from-3.ensures) at c.in-Ok.ensures.moved)
+returns-in-Ok-clause-filled g c = record {
+  between = g.A.BuilderArena.view c.copy_rows.new.arena;
+  copied = rw (c.total.ensures, c.total-2.ensures, c.from.ensures) at c.copy_rows.ensures.copied;
+  only = record { limits = c.copy_rows.ensures.limits; segments = c.copy_rows.ensures.copied.segments; words = c.copy_rows.ensures.copied.words };
+  moved = rw (c.total.ensures, c.total-2.ensures, c.from-pointers.ensures, c.from-2.ensures, c.from-3.ensures) at c.in-Ok.ensures.moved;
+  written = rw (c.total.ensures, c.total-2.ensures, c.from-pointers.ensures, c.from-2.ensures, c.from-3.ensures) at c.in-Ok.ensures.written;
+}
 
 pub returns-in-Err-clause-undone : goal.returns-in-Err-clause-undone
 returns-in-Err-clause-undone g c =

@@ -2,10 +2,13 @@ use Rattle.std.proofs.Common.{◌∙◌, ◌≤◌, ◌*◌, inl, inr, ℕ, leng
 use Rattle.capnp_arena.specs.View.{View, KeepsLimits}
 use Rattle.capnp_format.specs.Segments.{Segments}
 use Rattle.capnp_making.proofs.Memory.{keeps_both, keeps_written, keeps_then_spends, spends_then_limits, words_refused_after, words_refused_before}
-use Rattle.capnp_widening.proofs.AnyRows.{rows_remade, rows_left}
+use Rattle.capnp_widening.proofs.AnyRows.{rows_anew, rows_remade, rows_left}
 use Rattle.capnp_widening.proofs.ListSteps.{ListSteps, ListUndone}
 use Rattle.capnp_widening.proofs.Rooms.{same_words}
 use Rattle.capnp_widening.proofs.StructSteps.{nothing_grown}
+use Rattle.capnp_widening.specs.Anew.{OnlyWrites}
+use Rattle.capnp_widening.proofs.TakingWords.{pruned_writes}
+use Rattle.capnp_widening.proofs.WrittenAnew.{writes_both}
 use Rattle.capnp_widening.proofs.remaking.remake_rows.Goals as goal
 
 -- The room lies in its segment, which has fewer than 2^29 words.
@@ -20,6 +23,19 @@ overflow_add-first g c =
     let (T, room, tagged) = c.in-Ok.ensures.begun in
     let v : ℕ = c.in-Ok.room.segment in
     omega (arith, room.0.room, tagged.words v, g.met.A.BuilderArena.within c.begin_list.new.arena v, g.met.A.BuilderArena.small c.begin_list.new.arena v)
+
+-- No segment has become shorter.
+pub settle-requires-clause-place : goal.settle-requires-clause-place
+settle-requires-clause-place g c =
+    let (T, room, tagged) = c.in-Ok.ensures.begun in
+    let id : ℕ = c.args.id in
+    omega (arith, c.requires.place, room.0.grows.words id, tagged.words id, c.fill_rows.ensures.longer.words id)
+
+pub settle-requires-clause-inside : goal.settle-requires-clause-inside
+settle-requires-clause-inside g c =
+    let (T, room, tagged) = c.in-Ok.ensures.begun in
+    let v : ℕ = c.in-Ok.room.segment in
+    omega (arith, room.0.room, tagged.words v, c.fill_rows.ensures.longer.words v)
 
 limits_both : (x y z : View) → KeepsLimits x y → KeepsLimits y z → KeepsLimits x z
 limits_both x y z e f = f ∙ ap (λ (v : View). record v { words = z.words }) e
@@ -58,19 +74,54 @@ returns-in-Ok-fill_rows-clause-remade g c =
     let Z : Segments = (g.A.BuilderArena.view c.zero_part.new.arena).words in
     let Q : Segments = (g.A.BuilderArena.view c.zero_pads.new.arena).words in
     let (T, room, tagged) = c.in-Ok.ensures.begun in
-    let (D, copied, moves) = c.in-Ok-fill_rows.ensures.filled in
-    let steps : ListSteps S T B D P R Z Q c.args.id c.args.at c.args.old c.args.size c.in-Ok.room = record {
+    let filled = c.in-Ok-fill_rows.ensures.filled in
+    let steps : ListSteps S T B filled.between.words P R Z Q c.args.id c.args.at c.args.old c.args.size c.in-Ok.room = record {
       place = c.requires.place;
       room = room;
       tagged = tagged;
-      copied = copied;
-      moves = moves;
+      copied = filled.copied;
+      moves = filled.moved;
       settled = rw c.total.ensures at c.settle.ensures.settled;
       object_zeroed = rw (c.from.ensures, c.from-in-Ok-fill_rows.ensures, c.from-step.ensures, c.total-in-Ok-fill_rows.ensures) at c.zero_part.ensures.zeroed;
       pads_zeroed = rw c.word_of-pointer.ensures at c.zero_pads.ensures.zeroed;
       wider = (c.requires.data, c.requires.pointers);
     } in
-    rows_remade S T B D P R Z Q c.args.id c.args.at c.args.old c.args.size c.in-Ok.room steps
+    rows_remade S T B filled.between.words P R Z Q c.args.id c.args.at c.args.old c.args.size c.in-Ok.room steps
+
+pub returns-in-Ok-fill_rows-clause-anew : goal.returns-in-Ok-fill_rows-clause-anew
+returns-in-Ok-fill_rows-clause-anew g c =
+    let s : View = g.A.BuilderArena.view c.args.arena.now in
+    let b : View = g.A.BuilderArena.view c.begin_list.new.arena in
+    let p : View = g.A.BuilderArena.view c.fill_rows.new.arena in
+    let r : View = g.A.BuilderArena.view c.settle.new.arena in
+    let z : View = g.A.BuilderArena.view c.zero_part.new.arena in
+    let q : View = g.A.BuilderArena.view c.zero_pads.new.arena in
+    let (T, room, tagged) = c.in-Ok.ensures.begun in
+    let filled = c.in-Ok-fill_rows.ensures.filled in
+    let d : View = filled.between in
+    let (o, settled, shaped, segment_of, start_of) = c.settle.ensures.settled in
+    let set : OnlyWrites p r = record { limits = c.settle.ensures.limits; segments = settled.segments; words = settled.words } in
+    let zeroed = pruned_writes r z c.zero_part.ensures.limits c.zero_part.ensures.pruned in
+    let cleared = pruned_writes z q c.zero_pads.ensures.limits c.zero_pads.ensures.pruned in
+    let steps : ListSteps s.words T b.words d.words p.words r.words z.words q.words c.args.id c.args.at c.args.old c.args.size c.in-Ok.room = record {
+      place = c.requires.place;
+      room = room;
+      tagged = tagged;
+      copied = filled.copied;
+      moves = filled.moved;
+      settled = rw c.total.ensures at c.settle.ensures.settled;
+      object_zeroed = rw (c.from.ensures, c.from-in-Ok-fill_rows.ensures, c.from-step.ensures, c.total-in-Ok-fill_rows.ensures) at c.zero_part.ensures.zeroed;
+      pads_zeroed = rw c.word_of-pointer.ensures at c.zero_pads.ensures.zeroed;
+      wider = (c.requires.data, c.requires.pointers);
+    } in
+    rows_anew s b d p r z q T c.args.id c.args.at c.args.old c.args.size c.in-Ok.room steps (record {
+      kept = c.in-Ok.ensures.granted;
+      taken = c.in-Ok.ensures.words;
+      behind = c.in-Ok.ensures.behind;
+      first = filled.only;
+      written = filled.written;
+      last = writes_both p r q set (writes_both r z q zeroed cleared);
+    })
 
 pub returns-in-Err-fill_rows-clause-refused : goal.returns-in-Err-fill_rows-clause-refused
 returns-in-Err-fill_rows-clause-refused g c =
