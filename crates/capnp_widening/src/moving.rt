@@ -277,10 +277,7 @@ fn move_each<A: BuilderArena>(
             segment: to.segment,
             at: to.at + i,
         };
-        match move_pointer(arena, source, place) {
-            Ok(()) => {}
-            Err(k) => return Err(k),
-        }
+        move_pointer(arena, source, place)?;
     }
     Ok(())
 }
@@ -317,7 +314,7 @@ fn unmove_pointer<A: BuilderArena>(arena: &mut A, id: u32, at: u32, to_id: u32, 
 
 /// Pointers that stand in rows: so many one behind the other, and again every `step` words.
 #[derive(Clone, Copy)]
-pub struct Rows {
+pub struct PointerRows {
     /// The segment.
     pub segment: u32,
     /// Where the first pointer of the first row stands.
@@ -331,8 +328,8 @@ pub struct Rows {
 /// A refusal is that of memory for two words; then some of the first pointers are written.
 pub fn move_rows<A: BuilderArena>(
     arena: &mut A,
-    from: Rows,
-    to: Rows,
+    from: PointerRows,
+    to: PointerRows,
     pointers: u32,
     count: u32,
 ) -> Result<(), ErrorKind>
@@ -369,10 +366,7 @@ pub fn move_rows<A: BuilderArena>(
             segment: to.segment,
             at: place,
         };
-        match move_row(arena, old, new, pointers) {
-            Ok(()) => {}
-            Err(k) => return Err(k),
-        }
+        move_row(arena, old, new, pointers)?;
         source += from.step;
         place += to.step;
     }
@@ -380,7 +374,13 @@ pub fn move_rows<A: BuilderArena>(
 }
 
 /// Makes the landing pads zero that were written for the moved pointers of so many rows.
-pub fn unmove_rows<A: BuilderArena>(arena: &mut A, from: Rows, to: Rows, pointers: u32, count: u32)
+pub fn unmove_rows<A: BuilderArena>(
+    arena: &mut A,
+    from: PointerRows,
+    to: PointerRows,
+    pointers: u32,
+    count: u32,
+)
     requires from { from.at + count * from.step + pointers
         ≤ length (segment (A.view arena.old).words from.segment) + from.step }
     requires to { to.at + count * to.step + pointers

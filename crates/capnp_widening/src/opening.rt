@@ -67,7 +67,7 @@ pub fn open_struct<A: BuilderArena>(
                 segment: old.segment,
                 at: old.start,
             };
-            widen_struct(arena, id, at, start, old.size, size)
+            open_narrow_struct(arena, id, at, start, old.size, size)
         }
         None => {
             if !word_of(arena, id, at).is_null() {
@@ -103,19 +103,17 @@ fn new_struct<A: BuilderArena>(
         (start_of (target (A.view arena.new).words id at))) }
     ensures refused { OnErr result ((A.view arena.new).words ≡ (A.view arena.old).words) }
 {
-    match make_struct(arena, id, at, size) {
-        Ok(start) => Ok(ExistingStruct {
-            segment: start.segment,
-            start: start.at,
-            size,
-        }),
-        Err(k) => Err(k),
-    }
+    let start = make_struct(arena, id, at, size)?;
+    Ok(ExistingStruct {
+        segment: start.segment,
+        start: start.at,
+        size,
+    })
 }
 
 /// A struct that is too small, made wider. It is given by its numbers, which go in registers.
 #[inline(never)]
-fn widen_struct<A: BuilderArena>(
+fn open_narrow_struct<A: BuilderArena>(
     arena: &mut A,
     id: u32,
     at: u32,
@@ -146,14 +144,12 @@ fn widen_struct<A: BuilderArena>(
         start: start.at,
         size: narrow,
     };
-    match widen_known(arena, id, at, old, size) {
-        Ok(wide) => Ok(ExistingStruct {
-            segment: wide.segment,
-            start: wide.start,
-            size: greater_size(narrow, size),
-        }),
-        Err(k) => Err(k),
-    }
+    let wide = widen_known(arena, id, at, old, size)?;
+    Ok(ExistingStruct {
+        segment: wide.segment,
+        start: wide.start,
+        size: greater_size(narrow, size),
+    })
 }
 
 /// Whether both sections are as large as wanted.

@@ -13,7 +13,7 @@ ghost use Rattle.capnp_widening.specs.RowsRemade.{AreRowsCopied, CopiesData, Fil
 ghost use Rattle.capnp_widening.specs.Widened.{LeavesAll, rewriting};
 ghost use Rattle.capnp_making.specs.Makes.{call_at};
 
-use crate::moving::{Rows, move_rows, unmove_rows};
+use crate::moving::{PointerRows, move_rows, unmove_rows};
 use crate::widening::{Room, copy_words, settle, take};
 use capnp_arena::arena::BuilderArena;
 use capnp_making::existing::ExistingList;
@@ -39,7 +39,13 @@ pub struct ElementRows {
 }
 
 /// Copies the first words of each of so many rows over those of other rows.
-fn copy_rows<A: BuilderArena>(arena: &mut A, from: Rows, to: Rows, words: u32, count: u32)
+fn copy_rows<A: BuilderArena>(
+    arena: &mut A,
+    from: PointerRows,
+    to: PointerRows,
+    words: u32,
+    count: u32,
+)
     requires from { from.at + count * from.step ≤ length
         (segment (A.view arena.old).words from.segment) }
     requires to { to.at + count * to.step ≤ length (segment (A.view arena.old).words to.segment) }
@@ -101,14 +107,10 @@ pub(crate) fn begin_list<A: BuilderArena>(
         → IsOk result × IfOk result (λ r. r.segment ≡ id) }
 {
     let words = count * size.total();
-    match take(arena, id, 1 + words) {
-        Ok(room) => {
-            let tag = WirePointer::new_tag(count, size);
-            arena.set_word(room.segment, room.at + room.pads, tag.0);
-            Ok(room)
-        }
-        Err(k) => Err(k),
-    }
+    let room = take(arena, id, 1 + words)?;
+    let tag = WirePointer::new_tag(count, size);
+    arena.set_word(room.segment, room.at + room.pads, tag.0);
+    Ok(room)
 }
 
 /// Copies the data words of elements into structs that are at least as large, all zero, and moves their
@@ -145,12 +147,12 @@ fn fill_rows<A: BuilderArena>(
         → IsOk result }
     ensures near { old.segment ≡ first.segment → IsOk result }
 {
-    let rows = Rows {
+    let rows = PointerRows {
         segment: old.segment,
         at: old.at + old.tag,
         step: old.size.total(),
     };
-    let structs = Rows {
+    let structs = PointerRows {
         segment: first.segment,
         at: first.at,
         step: size.total(),
@@ -166,12 +168,12 @@ fn fill_rows<A: BuilderArena>(
     if pointers == 0 {
         return Ok(());
     }
-    let from = Rows {
+    let from = PointerRows {
         segment: old.segment,
         at: rows.at + u32::from(old.size.data_words),
         step: rows.step,
     };
-    let to = Rows {
+    let to = PointerRows {
         segment: first.segment,
         at: first.at + u32::from(size.data_words),
         step: structs.step,

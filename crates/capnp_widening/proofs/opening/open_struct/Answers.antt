@@ -15,7 +15,7 @@ returns-then-is_wide-clause-opened g c = λ t stored.
 pub returns-else-is_wide-clause-fits : goal.returns-else-is_wide-clause-fits
 returns-else-is_wide-clause-fits g c = λ h. elim h [
   | inl (null, room) ↦ absurd (some_struct _ (c.in-Some.ensures.found Null (null_stored (g.A.BuilderArena.view c.args.arena.now).words c.args.id c.args.at c.requires.place null)))
-  | inr fits ↦ c.widen_struct.ensures.fits fits
+  | inr fits ↦ c.open_narrow_struct.ensures.fits fits
 ]
 
 -- None is found, and the pointer isn't null.

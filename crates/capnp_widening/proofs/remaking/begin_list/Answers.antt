@@ -1,3 +1,4 @@
+use Rattle.std.proofs.lemmas.Result.{err_from_is_err_and}
 use Rattle.std.proofs.Common.{ℕ, ◌+◌, ◌*◌, ◌<◌, length, refl, sym, ap, ◌∙◌, subst, arith}
 use Rattle.capnp_arena.specs.View.{View, KeepsLimits}
 use Rattle.capnp_format.specs.Segments.{Segments, segment}
@@ -11,69 +12,70 @@ use Rattle.capnp_widening.proofs.TakingWords.{put_writes}
 use Rattle.capnp_widening.proofs.WrittenAnew.{taken_after}
 use Rattle.capnp_widening.proofs.remaking.begin_list.Goals as goal
 
-pub returns-in-Ok-clause-begun : goal.returns-in-Ok-clause-begun
-returns-in-Ok-clause-begun g c =
+pub returns-clause-begun : goal.returns-clause-begun
+returns-clause-begun g c =
     let T : Segments = (g.A.BuilderArena.view c.take.new.arena).words in
     let R : Segments = (g.A.BuilderArena.view c.set_word.new.self).words in
-    let room = rw c.total.ensures at c.in-Ok.ensures.taken in
+    let room = rw c.total.ensures at c.in_ok-room.ensures.taken in
     let x : ℕ = c.new_tag-tag.result.0 in
     let tag : IsTag x c.args.count c.args.size.data_words c.args.size.pointers = record { is_struct = c.new_tag-tag.ensures.kind_of; counts = c.new_tag-tag.ensures.count_of; data_of = c.new_tag-tag.ensures.data_of; pointers = c.new_tag-tag.ensures.pointers_of } in
-    let inside : c.in-Ok.room.at + c.in-Ok.room.pads < length (segment T c.in-Ok.room.segment) = omega (arith, room.0.room) in
-    let put = word_put T R c.in-Ok.room.segment (c.in-Ok.room.at + c.in-Ok.room.pads) x inside (ap words_in c.set_word.ensures) in (
+    let inside : c.in_ok-room.room.at + c.in_ok-room.room.pads < length (segment T c.in_ok-room.room.segment) = omega (arith, room.0.room) in
+    let put = word_put T R c.in_ok-room.room.segment (c.in_ok-room.room.at + c.in_ok-room.room.pads) x inside (ap words_in c.set_word.ensures) in (
       T,
       room,
       record { segments = put.segments; words = put.words; tag = subst (λ y. IsTag y c.args.count c.args.size.data_words c.args.size.pointers) (sym put.here) tag; kept = put.kept },
     )
 
-pub returns-in-Err-clause-full : goal.returns-in-Err-clause-full
-returns-in-Err-clause-full g c = rw c.total.ensures at c.in-Err.ensures.full
+pub returns-in_err-room-clause-full : goal.returns-in_err-room-clause-full
+returns-in_err-room-clause-full g c =
+    let p = err_from_is_err_and c.from_residual.result c.from_residual.ensures.1 in rw (p.1, p.2) (rw c.total.ensures at c.in_err-room.ensures.full)
 
 -- The words of the list are taken, and a pad at most.
-pub returns-in-Ok-clause-few : goal.returns-in-Ok-clause-few
-returns-in-Ok-clause-few g c =
+pub returns-clause-few : goal.returns-clause-few
+returns-clause-few g c =
     let T : Segments = (g.A.BuilderArena.view c.take.new.arena).words in
     let R : Segments = (g.A.BuilderArena.view c.set_word.new.self).words in
     let taken = rw c.total.ensures at c.take.ensures.few in
-    omega (arith, taken, words_put T R c.in-Ok.room.segment (c.in-Ok.room.at + c.in-Ok.room.pads) c.new_tag-tag.result.0 (ap words_in c.set_word.ensures))
+    omega (arith, taken, words_put T R c.in_ok-room.room.segment (c.in_ok-room.room.at + c.in_ok-room.room.pads) c.new_tag-tag.result.0 (ap words_in c.set_word.ensures))
 
-pub returns-in-Err-clause-few : goal.returns-in-Err-clause-few
-returns-in-Err-clause-few g c = let taken = rw c.total.ensures at c.take.ensures.few in omega (arith, taken)
+pub returns-in_err-room-clause-few : goal.returns-in_err-room-clause-few
+returns-in_err-room-clause-few g c = let taken = rw c.total.ensures at c.take.ensures.few in omega (arith, taken)
 
-pub returns-in-Ok-clause-fits : goal.returns-in-Ok-clause-fits
-returns-in-Ok-clause-fits g c = λ n h.
+pub returns-clause-fits : goal.returns-clause-fits
+returns-clause-fits g c = λ n h.
     (let T : View = g.A.BuilderArena.view c.take.new.arena in
     let R : View = g.A.BuilderArena.view c.set_word.new.self in
     let x : ℕ = c.new_tag-tag.result.0 in
-    let room = rw c.total.ensures at c.in-Ok.ensures.taken in
-    let inside : c.in-Ok.room.at + c.in-Ok.room.pads < length (segment T.words c.in-Ok.room.segment) = omega (arith, room.0.room) in
-    let put = word_put T.words R.words c.in-Ok.room.segment (c.in-Ok.room.at + c.in-Ok.room.pads) x inside (ap words_in c.set_word.ensures) in
+    let room = rw c.total.ensures at c.in_ok-room.ensures.taken in
+    let inside : c.in_ok-room.room.at + c.in_ok-room.room.pads < length (segment T.words c.in_ok-room.room.segment) = omega (arith, room.0.room) in
+    let put = word_put T.words R.words c.in_ok-room.room.segment (c.in_ok-room.room.at + c.in_ok-room.room.pads) x inside (ap words_in c.set_word.ensures) in
     let limits : KeepsLimits T R = c.set_word.ensures ∙ ap (λ (S : Segments). record T { words = S }) (sym (ap words_in c.set_word.ensures)) in
-    let left = (c.in-Ok.ensures.fits n (subst (λ m. HasRoom (g.A.BuilderArena.view c.args.arena.now) c.args.id (1 + c.args.count * m + n)) (sym c.total.ensures) h)).1 in
+    let left = (c.in_ok-room.ensures.fits n (subst (λ m. HasRoom (g.A.BuilderArena.view c.args.arena.now) c.args.id (1 + c.args.count * m + n)) (sym c.total.ensures) h)).1 in
     (refl, room_written T R n limits put.segments put.words left))
 
-pub returns-in-Err-clause-fits : goal.returns-in-Err-clause-fits
-returns-in-Err-clause-fits g c = λ n h.
-    absurd (not_true (c.in-Err.ensures.fits n (subst (λ m. HasRoom (g.A.BuilderArena.view c.args.arena.now) c.args.id (1 + c.args.count * m + n)) (sym c.total.ensures) h)).0)
+pub returns-in_err-room-clause-fits : goal.returns-in_err-room-clause-fits
+returns-in_err-room-clause-fits g c = λ n h.
+    absurd (not_true (c.in_err-room.ensures.fits n (subst (λ m. HasRoom (g.A.BuilderArena.view c.args.arena.now) c.args.id (1 + c.args.count * m + n)) (sym c.total.ensures) h)).0)
 
-pub returns-in-Ok-clause-near : goal.returns-in-Ok-clause-near
-returns-in-Ok-clause-near g c = λ h.
-    (refl, (c.in-Ok.ensures.near (subst (λ m. HasOwnRoom (g.A.BuilderArena.view c.args.arena.now) c.args.id (1 + c.args.count * m)) (sym c.total.ensures) h)).1)
+pub returns-clause-near : goal.returns-clause-near
+returns-clause-near g c = λ h.
+    (refl, (c.in_ok-room.ensures.near (subst (λ m. HasOwnRoom (g.A.BuilderArena.view c.args.arena.now) c.args.id (1 + c.args.count * m)) (sym c.total.ensures) h)).1)
 
-pub returns-in-Err-clause-near : goal.returns-in-Err-clause-near
-returns-in-Err-clause-near g c = λ h.
-    absurd (not_true (c.in-Err.ensures.near (subst (λ m. HasOwnRoom (g.A.BuilderArena.view c.args.arena.now) c.args.id (1 + c.args.count * m)) (sym c.total.ensures) h)).0)
+pub returns-in_err-room-clause-near : goal.returns-in_err-room-clause-near
+returns-in_err-room-clause-near g c = λ h.
+    absurd (not_true (c.in_err-room.ensures.near (subst (λ m. HasOwnRoom (g.A.BuilderArena.view c.args.arena.now) c.args.id (1 + c.args.count * m)) (sym c.total.ensures) h)).0)
 
 -- They stand behind all that were there.
-pub returns-in-Ok-clause-words : goal.returns-in-Ok-clause-words
-returns-in-Ok-clause-words g c =
+pub returns-clause-words : goal.returns-clause-words
+returns-clause-words g c =
     let S : View = g.A.BuilderArena.view c.args.arena.now in
     let T : View = g.A.BuilderArena.view c.take.new.arena in
     let R : View = g.A.BuilderArena.view c.set_word.new.self in
-    let room = rw c.total.ensures at c.in-Ok.ensures.taken in
-    let inside : c.in-Ok.room.at + c.in-Ok.room.pads < length (segment T.words c.in-Ok.room.segment) = omega (arith, room.0.room) in
+    let room = rw c.total.ensures at c.in_ok-room.ensures.taken in
+    let inside : c.in_ok-room.room.at + c.in_ok-room.room.pads < length (segment T.words c.in_ok-room.room.segment) = omega (arith, room.0.room) in
     let n : ℕ = 1 + c.args.count * (c.args.size.data_words + c.args.size.pointers) in
-    let taken : TakesWords S T c.args.id n = rw c.total.ensures at c.in-Ok.ensures.words in
-    taken_after S T R c.args.id n taken (put_writes T R c.in-Ok.room.segment (c.in-Ok.room.at + c.in-Ok.room.pads) c.new_tag-tag.result.0 inside c.set_word.ensures)
+    let taken : TakesWords S T c.args.id n = rw c.total.ensures at c.in_ok-room.ensures.words in
+    taken_after S T R c.args.id n taken (put_writes T R c.in_ok-room.room.segment (c.in_ok-room.room.at + c.in_ok-room.room.pads) c.new_tag-tag.result.0 inside c.set_word.ensures)
 
-pub returns-in-Ok-clause-behind : goal.returns-in-Ok-clause-behind
-returns-in-Ok-clause-behind g c = rw c.total.ensures at c.in-Ok.ensures.behind
+pub returns-clause-behind : goal.returns-clause-behind
+returns-clause-behind g c = rw c.total.ensures at c.in_ok-room.ensures.behind
