@@ -10,20 +10,23 @@ use Rattle.capnp_arena.specs.Written.{with_segment}
 use Rattle.capnp_making.specs.Filled.{AreFilled}
 use Rattle.capnp_making.specs.Stored.{IsReplaced}
 use Rattle.capnp_making.proofs.FillingChains.{filled_grows, filled_ahead, filled_more}
-use Rattle.capnp_making.proofs.Memory.{keeps_itself, keeps_both, keeps_then_spends, words_refused_after}
+use Rattle.capnp_making.proofs.Memory.{keeps_itself, keeps_both, keeps_then_spends}
 use Rattle.capnp_objects.specs.Outcomes.{Reads}
-use Rattle.capnp_objects.specs.Refusals.{Refused, StopsWithin}
+use Rattle.capnp_objects.specs.Refusals.{Refused}
 use Rattle.capnp_objects.specs.Reading.{Reading, behind}
 use Rattle.capnp_objects.specs.Wanted.{Form}
 use Rattle.capnp_objects.proofs.Copies.{read_none, read_more}
 use Rattle.capnp_copies.specs.Copied.{with_children}
-use Rattle.capnp_copies.specs.Changes.{WantsWords, change, MakesCopy, StopsHalfway, CopiesChildren, StopsAtChildren}
-use Rattle.capnp_copies.specs.Originals.{value_original}
+use Rattle.capnp_copies.specs.Changes.{change, MakesCopy, StopsHalfway, CopiesChildren, StopsAtChildren}
+use Rattle.capnp_copies.specs.Originals.{value_original, children_original}
 use Rattle.capnp_copies.specs.Forms.{kept, kept_each}
 use Rattle.capnp_copies.proofs.ChildrenCopied.{no_children}
 use Rattle.capnp_copies.proofs.SegmentsWritten.{not_written}
 use Rattle.capnp_copies.proofs.TightChildren.{child_tight}
 use Rattle.capnp_copies.proofs.Originals.{refuses_children}
+use Rattle.capnp_copies.proofs.Copying.{there}
+use Rattle.capnp_copies.proofs.NoRoom.{child_comes}
+use Rattle.capnp_copies.proofs.ObjectsMade.{TakesForCopy}
 use Rattle.capnp_copies.proofs.TooLarge.{child_too_large}
 use Rattle.capnp_copies.proofs.KeptChildren.{kept_none, kept_each-count, kept_each-with_last}
 
@@ -65,19 +68,14 @@ child_copied {r} {b} {s} {p} {i} {old} {mid} {new} {m} {m'} {m''} place few firs
       stands = child_tight b place few (children_grow first).segments next.made.segments first next;
     }
 
-pub child_stops : {r : Reading} {b : Form} {s p i n : ℕ} {old mid new : View} {m m' m'' : Meter} {k : ErrorKind} → IsPlace old.words s (p + i) → i < n → CopiesChildren r i (change b s p old mid m m') → StopsHalfway (value_original (behind r i)) (change b s (p + i) mid new m' m'') k →
+pub child_stops : {r : Reading} {b : Form} {s p i n : ℕ} {old mid new : View} {m m' m'' : Meter} {k : ErrorKind} → IsPlace old.words s (p + i) → i < n → CopiesChildren r i (change b s p old mid m m') → TakesForCopy (children_original r i) (change b s p old mid m m') → StopsHalfway (value_original (behind r i)) (change b s (p + i) mid new m' m'') k →
     StopsAtChildren r n (change b s p old new m m'') k
-child_stops {r} {b} {s} {p} {i} {n} {old} {mid} {new} {m} {m'} {m''} {k} place less first (t, stop) =
+child_stops {r} {b} {s} {p} {i} {n} {old} {mid} {new} {m} {m'} {m''} {k} place less first taken (t, stop) =
     let ts : Trees = first.children in
     let fewer : count ts < n = omega (arith, first.counts) in
     record {
       why = refuses_children r n (change b s p old new m m'') k (elim stop.why [
-        | inl x ↦ inl (
-          x.0,
-          words_refused_after old mid new x.0 k first.memory x.1,
-          record { first = ts; fewer = fewer; mid = m'; are_read = first.are_read; stops = (let h : StopsWithin b (WantsWords b x.0) (behind r (count ts)) m' m'' = rw first.counts (elim x.2 [ inl none ↦ absurd none.1 | inr wanted ↦ wanted ]) in h) },
-          child_too_large b place less first x.3,
-        )
+        | inl x ↦ inl (child_comes new (there old.words s (p + i) place) less first.memory taken x.0, child_too_large b place less first x.1)
         | inr y ↦ elim y [ inl x ↦ inr (record { first = ts; fewer = fewer; mid = m'; are_read = first.are_read; stops = (let h : Refused b (behind r (count ts)) m' m'' k = rw first.counts x in h) }) | inr none ↦ absurd none ]
       ]);
       left = with_last (kept_each b ts) t;

@@ -13,16 +13,20 @@ use Rattle.capnp_making.proofs.FillingChains.{element_grows, elements_grow, elem
 use Rattle.capnp_making.proofs.Memory.{keeps_itself, keeps_both, keeps_written, keeps_then_spends, words_refused_after}
 use Rattle.capnp_making.proofs.WordsPut.{words_put}
 use Rattle.capnp_objects.specs.Outcomes.{ReadsAll}
-use Rattle.capnp_objects.specs.Refusals.{RefusedAll, StopsAmong}
+use Rattle.capnp_objects.specs.Refusals.{RefusedAll}
 use Rattle.capnp_objects.specs.Reading.{Reading, behind, segment_read, words_from, pointers_of}
 use Rattle.capnp_objects.specs.Wanted.{Form, canonical}
 use Rattle.capnp_objects.proofs.Copies.{read_no_element, with_last_element}
-use Rattle.capnp_copies.specs.Changes.{WantsWords, change, CopiesChildren, StopsAtChildren, CopiesElement, StopsAtElement, CopiesRows, StopsAtElements}
+use Rattle.capnp_copies.specs.Changes.{change, CopiesChildren, StopsAtChildren, CopiesElement, StopsAtElement, CopiesRows, StopsAtElements}
 use Rattle.capnp_copies.specs.Forms.{kept_each, kept_elements}
 use Rattle.capnp_copies.specs.declared.widths.ElementSizes.{ElementSizes}
 use Rattle.capnp_copies.proofs.TightElements.{element_tight, no_row_tight, no_width_tight, row_tight}
 use Rattle.capnp_copies.proofs.SegmentsWritten.{length-with_words}
 use Rattle.capnp_copies.proofs.Originals.{AreTooLarge, children_refused, refuses_children, elements_large}
+use Rattle.capnp_copies.proofs.Copying.{there}
+use Rattle.capnp_copies.proofs.NoRoom.{row_comes}
+use Rattle.capnp_copies.proofs.ObjectsMade.{TakesForCopy}
+use Rattle.capnp_copies.specs.Originals.{elements_original}
 use Rattle.capnp_copies.proofs.TooLarge.{row_too_large}
 use Rattle.capnp_copies.specs.Copied.{rows_laid}
 use Rattle.capnp_copies.proofs.KeptChildren.{kept_each-count, kept_no_elements, cut_kept-count}
@@ -59,18 +63,25 @@ element_copied {r} {sizes} {b} {s} {p} {old} {mid} {new} put children = record {
   stands = element_tight {r = r} {sizes = sizes} b (record { long = data_long put; room = put.room; writes = put.writes }) children;
 }
 
+data_long_as : {r : Reading} {sizes : ElementSizes} {s p : ℕ} {old mid : View} → DataWritten r sizes old mid s p → length (segment mid.words s) ≡ length (segment old.words s)
+data_long_as {r} {sizes} {s} {p} {old} put =
+    ap (λ (v : View). length (segment v.words s)) put.writes ∙ length-with_words old.words s p (words_from r sizes.kept.data_words) (omega (arith, data_long put, put.room))
+
+data_room_as : {r : Reading} {sizes : ElementSizes} {s p : ℕ} {old mid : View} → DataWritten r sizes old mid s p → mid.room s ≡ old.room s
+data_room_as {s = s} put = ap (λ (v : View). v.room s) put.writes
+
 element_too_large : (b : Form) (from : Reading) (n : ℕ) {r : Reading} {sizes : ElementSizes} {s p : ℕ} {old mid : View} → DataWritten r sizes old mid s p → AreTooLarge b from n (length (segment mid.words s)) (mid.room s) → AreTooLarge b from n (length (segment old.words s)) (old.room s)
 element_too_large b from n {r} {sizes} {s} {p} {old} {mid} put large =
-    let long : length (segment mid.words s) ≡ length (segment old.words s) =
-    ap (λ (v : View). length (segment v.words s)) put.writes ∙ length-with_words old.words s p (words_from r sizes.kept.data_words) (omega (arith, data_long put, put.room)) in
-    let room : mid.room s ≡ old.room s = ap (λ (v : View). v.room s) put.writes in
-    subst (AreTooLarge b from n (length (segment old.words s))) room (subst (λ k. AreTooLarge b from n k (mid.room s)) long large)
+    subst (AreTooLarge b from n (length (segment old.words s))) (data_room_as put) (subst (λ k. AreTooLarge b from n k (mid.room s)) (data_long_as put) large)
 
 pub element_stops : {r : Reading} {sizes : ElementSizes} {b : Form} {s p : ℕ} {old mid new : View} {m m' : Meter} {k : ErrorKind} → DataWritten r sizes old mid s p →
     StopsAtChildren (behind r sizes.source.data_words) sizes.kept.pointers (change b s (p + sizes.kept.data_words) mid new m m') k → StopsAtElement r sizes (change b s p old new m m') k
 element_stops {r} {sizes} {b} {s} {p} {old} {mid} {new} {m} {m'} {k} put stop = record {
   why = refuses_children (behind r sizes.source.data_words) sizes.kept.pointers (change b s p old new m m') k (elim (children_refused (behind r sizes.source.data_words) sizes.kept.pointers (change b s (p + sizes.kept.data_words) mid new m m') k stop.why) [
-    | inl x ↦ inl (x.0, words_refused_after old mid new x.0 k (keeps_written old mid _ put.writes) x.1, x.2, element_too_large b (behind r sizes.source.data_words) sizes.kept.pointers put x.3)
+    | inl x ↦ inl (
+      (x.0.0, x.0.1, (words_refused_after old mid new x.0.0 k (keeps_written old mid _ put.writes) x.0.2.0, omega (arith, x.0.2.1, data_long_as put, data_room_as put))),
+      element_too_large b (behind r sizes.source.data_words) sizes.kept.pointers put x.1,
+    )
     | inr x ↦ inr x
   ]);
   left = stop.left;
@@ -193,23 +204,15 @@ module _ {r : Reading} {sizes : ElementSizes} {n i : ℕ} {b : Form} {s p : ℕ}
         stands = row_tight {r = r} {sizes = sizes} b row_place rows_grow.segments (element_grows mid.words new.words s (p + i * (d + q)) next_words (kept_each b next.children) next.made (omega (arith, next_room, next_long))).segments here.fits here.wide here.more here.rows next a.all shape;
       }
 
-  pub row_stops : {new : View} {m'' : Meter} {k : ErrorKind} → StopsAtElement (behind r (i * (sizes.source.data_words + sizes.source.pointers))) sizes (change b s (p + i * (d + q)) mid new m' m'') k → StopsAtElements r sizes n (change b s p old new m m'') k
-  row_stops {new} {m''} {k} stop =
+  pub row_stops : {new : View} {m'' : Meter} {k : ErrorKind} → TakesForCopy (elements_original r sizes i) (change b s p old mid m m') → StopsAtElement (behind r (i * (sizes.source.data_words + sizes.source.pointers))) sizes (change b s (p + i * (d + q)) mid new m' m'') k → StopsAtElements r sizes n (change b s p old new m m'') k
+  row_stops {new} {m''} {k} taken stop =
       let es : Elements = here.rows.elements in
       let fewer : element_count es < n = omega (arith, here.rows.counts, here.more) in
       record {
         why = elim (children_refused (pointers_of r sizes.source i) q (change b s (p + i * (d + q)) mid new m' m'') k stop.why) [
           | inl x ↦ inl (
-            x.0,
-            words_refused_after old mid new x.0 k here.rows.memory x.1,
-            record {
-              first = es;
-              fewer = fewer;
-              mid = m';
-              are_read = here.rows.are_read;
-              stops = stops_sooner here.fits.less_pointers (let h : StopsAmong b (WantsWords b x.0) (pointers_of r sizes.source (element_count es)) q m' m'' = rw here.rows.counts x.2 in h);
-            },
-            λ last. elements_large b r sizes n (length (segment old.words s)) (old.room s) (row_too_large {new = new} {m'' = m''} b here.fits here.wide here.more here.rows x.3 last),
+            row_comes new here.fits (there old.words s p row_place) here.more here.rows.memory taken x.0,
+            λ last. elements_large b r sizes n (length (segment old.words s)) (old.room s) (row_too_large {new = new} {m'' = m''} b here.fits here.wide here.more here.rows x.1 last),
           )
           | inr x ↦ inr (record {
             first = es;

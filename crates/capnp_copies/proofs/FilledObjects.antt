@@ -10,7 +10,7 @@ use Rattle.capnp_format.specs.Word.{struct_word}
 use Rattle.capnp_format.proofs.Slices.{length_words}
 use Rattle.capnp_arena.specs.View.{View}
 use Rattle.capnp_arena.specs.Written.{with_word, with_words}
-use Rattle.capnp_making.specs.Made.{zero_struct, zero_structs, words_of_zero, nulls}
+use Rattle.capnp_making.specs.Made.{zero_struct, zero_structs, words_of_zero, nulls, structs_words}
 use Rattle.capnp_making.specs.Memory.{HasRoom, KeepsMemory, IsRefusedFor, RefusesWords, StandsBehind, TakesWords}
 use Rattle.capnp_making.specs.Near.{HasOwnRoom, HasStructRoom, StartsBehind, with_struct}
 use Rattle.capnp_making.specs.Stored.{IsReplaced}
@@ -22,13 +22,16 @@ use Rattle.capnp_making.proofs.Memory.{keeps_both, keeps_written, keeps_then_spe
 use Rattle.capnp_making.proofs.WordsPut.{words_put}
 use Rattle.capnp_objects.specs.Reading.{Reading, behind, segment_read, words_from}
 use Rattle.capnp_objects.specs.Wanted.{Form, canonical}
-use Rattle.capnp_copies.specs.Changes.{change, MakesCopy, StopsHalfway, CopiesChildren, StopsAtChildren, CopiesRows, StopsAtElements}
+use Rattle.capnp_copies.specs.Changes.{change, ComesToObject, FindsNoRoom, MakesCopy, StopsHalfway, CopiesChildren, StopsAtChildren, CopiesRows, StopsAtElements}
 use Rattle.capnp_copies.specs.Forms.{kept, kept_each, kept_elements}
-use Rattle.capnp_copies.specs.Originals.{sections_original, pointers_original, structs_original}
+use Rattle.capnp_copies.specs.Originals.{children_original, sections_original, pointers_original, structs_original}
 use Rattle.capnp_copies.specs.Widths.{KeepsPointers}
 use Rattle.capnp_copies.specs.declared.widths.ElementSizes.{ElementSizes}
 use Rattle.capnp_copies.proofs.FilledChildren.{children_grow}
 use Rattle.capnp_copies.proofs.Originals.{LeavesSomeValue, children_refused, elements_beyond, halfway, sections_large, pointers_large, structs_large}
+use Rattle.capnp_copies.proofs.Copying.{there}
+use Rattle.capnp_copies.proofs.NoRoom.{sections_come, pointers_come, structs_come}
+use Rattle.capnp_copies.proofs.ObjectsMade.{Begins, struct_begins}
 use Rattle.capnp_copies.proofs.SegmentsWritten.{length-with_words}
 use Rattle.capnp_copies.proofs.TooLarge.{ObjectMade, struct_too_large, pointers_too_large, structs_too_large}
 use Rattle.capnp_copies.proofs.TightObjects.{StructMade, struct_tight, PointersMade, pointers_tight, StructsMade, ends_in_zeros, structs_tight}
@@ -123,11 +126,22 @@ module _ {b : Form} {r : Reading} {size least : StructSize} {s p : ℕ} {old mad
         stands = struct_tight is_made b (le_trans longer (children_grow children).segments) children (Struct (words_from r size.data_words) f.all) f.form;
       }
 
+  less : least.data_words + least.pointers ≤ length (words_from r size.data_words) + size.pointers
+  less = omega (arith, o.less_data, o.less_pointers, length_words r.segments r.segment r.at size.data_words (omega (arith, o.inside)))
+
+  begins : Begins s h.segment (least.data_words + least.pointers) old made
+  begins = struct_begins s p least old made h o.place o.taken o.memory o.behind o.begun.start o.empty
+
+  -- what finds no room behind its data words finds none behind it
+  before : (new : View) {m m' : Meter} {k : ErrorKind} → ComesToObject (children_original (behind r size.data_words) least.pointers) b m m' (FindsNoRoom (change b h.segment (h.at + least.data_words) mid new m m') k) →
+      ComesToObject (children_original (behind r size.data_words) least.pointers) b m m' (FindsNoRoom (change b h.segment (h.at + least.data_words) made new m m') k)
+  before new {k = k} (w, stops, (refused, full)) = (w, stops, (words_refused_after made mid new w k (keeps_written made mid _ o.writes) refused, omega (arith, full, same_long, same_room)))
+
   pub struct_stops : {new : View} {m m' : Meter} {k : ErrorKind} → StopsAtChildren (behind r size.data_words) least.pointers (change b h.segment (h.at + least.data_words) mid new m m') k → StopsHalfway (sections_original (words_from r size.data_words) (behind r size.data_words) size.pointers) (change b s p old new m m') k
   struct_stops {new} {m} {m'} {k} stop =
       halfway (
       elim (children_refused (behind r size.data_words) least.pointers (change b h.segment (h.at + least.data_words) mid new m m') k stop.why) [
-        | inl x ↦ inl (x.0, words_refused_after old mid new x.0 k keeps x.1, inr (stops_sooner o.less_pointers x.2), sections_large b (words_from r size.data_words) (behind r size.data_words) size.pointers (length (segment old.words s)) (old.room s) (struct_too_large r size least b (record { place = o.place; memory = o.memory; taken = o.taken; behind = o.behind }) o.inside o.sections same_long same_room o.within x.3))
+        | inl x ↦ inl (inr (sections_come (words_from r size.data_words) new o.less_pointers less begins (before new x.0)), sections_large b (words_from r size.data_words) (behind r size.data_words) size.pointers (length (segment old.words s)) (old.room s) (struct_too_large r size least b (record { place = o.place; memory = o.memory; taken = o.taken; behind = o.behind }) o.inside o.sections same_long same_room o.within x.1))
         | inr x ↦ inr (inl (stops_sooner o.less_pointers x))
       ]
       )
@@ -159,9 +173,10 @@ pointers_copied {b} {r} {i} {s} {p} {old} {mid} {new} {h} o near children =
 pub pointers_stop : {b : Form} {r : Reading} {i s p : ℕ} {old mid new : View} {h : Start} {m m' : Meter} {k : ErrorKind} → ObjectBegun s p i old mid h (Pointers (nulls i)) → ObjectMade s p i old mid h → (HasOwnRoom old s i → StartsBehind old.words s h) → StopsAtChildren r i (change b h.segment h.at mid new m m') k →
     StopsHalfway (pointers_original i r) (change b s p old new m m') k
 pointers_stop {b} {r} {i} {s} {p} {old} {mid} {new} {h} {m} {m'} {k} o made at_end stop =
+    let begins : Begins s h.segment i old mid = record { there = there old.words s p made.place; taken = made.taken; memory = o.memory; near = λ room. (at_end room).0; far = λ full. (made.behind.far full).0 } in
     halfway (
     elim (children_refused r i (change b h.segment h.at mid new m m') k stop.why) [
-      | inl x ↦ inl (x.0, words_refused_after old mid new x.0 k o.memory x.1, inr x.2, pointers_large b r i (length (segment old.words s)) (old.room s) (pointers_too_large b r made at_end x.3))
+      | inl x ↦ inl (inr (pointers_come new begins x.0), pointers_large b r i (length (segment old.words s)) (old.room s) (pointers_too_large b r made at_end x.1))
       | inr x ↦ inr (inl x)
     ]
     )
@@ -190,12 +205,13 @@ structs_copied {b} {r} {sizes} {i} {s} {p} {old} {mid} {new} {h} inside widths o
     }
 
 pub structs_stop : {b : Form} {r : Reading} {sizes : ElementSizes} {i s p : ℕ} {old mid new : View} {h : Start} {m m' : Meter} {k : ErrorKind} → r.at + i * (sizes.source.data_words + sizes.source.pointers) ≤ length (segment_read r) → KeepsWidths b r sizes.source i sizes.kept →
-    ObjectBegun s p (1 + i * (sizes.kept.data_words + sizes.kept.pointers)) old mid h (zero_structs i sizes.kept) → StructsMade i s p sizes.kept old mid h →
+    ObjectBegun s p (1 + i * (sizes.kept.data_words + sizes.kept.pointers)) old mid h (zero_structs i sizes.kept) → StructsMade i s p sizes.kept old mid h → 1 + i * (sizes.kept.data_words + sizes.kept.pointers) ≤ structs_words i sizes.source →
     StopsAtElements r sizes i (change b h.segment (h.at + 1) mid new m m') k → StopsHalfway (structs_original sizes.source i r) (change b s p old new m m') k
-structs_stop {b} {r} {sizes} {i} {s} {p} {old} {mid} {new} {h} {m} {m'} {k} inside widths o near stop =
+structs_stop {b} {r} {sizes} {i} {s} {p} {old} {mid} {new} {h} {m} {m'} {k} inside widths o near less stop =
+    let begins : Begins s h.segment (1 + i * (sizes.kept.data_words + sizes.kept.pointers)) old mid = record { there = there old.words s p near.place; taken = near.taken; memory = near.memory; near = λ room. (near.behind.near (omega arith) room).0; far = λ full. (near.behind.far full).0 } in
     halfway (
     elim stop.why [
-      | inl x ↦ inl (x.0, words_refused_after old mid new x.0 k o.memory x.1, inr x.2, structs_large b r sizes.source i (length (segment old.words s)) (old.room s) (structs_too_large r sizes (record { place = near.place; memory = near.memory; taken = near.taken; behind = near.behind }) inside b widths (λ room. elements_beyond b r sizes i (length (segment mid.words h.segment)) (mid.room h.segment) (x.3 (ends_in_zeros {new = new} {m = m} {m' = m'} b near room)))))
+      | inl x ↦ inl (inr (structs_come sizes new less begins x.0), structs_large b r sizes.source i (length (segment old.words s)) (old.room s) (structs_too_large r sizes (record { place = near.place; memory = near.memory; taken = near.taken; behind = near.behind }) inside b widths (λ room. elements_beyond b r sizes i (length (segment mid.words h.segment)) (mid.room h.segment) (x.1 (ends_in_zeros {new = new} {m = m} {m' = m'} b near room)))))
       | inr x ↦ inr (inl x)
     ]
     )

@@ -22,14 +22,16 @@ use Rattle.capnp_objects.specs.Outcomes.{ReadsAll}
 use Rattle.capnp_objects.specs.Reading.{Reading, segment_read, words_from}
 use Rattle.capnp_objects.specs.Spending.{pointers_in_all}
 use Rattle.capnp_objects.specs.Wanted.{Form, canonical}
-use Rattle.capnp_copies.specs.Changes.{change, MakesCopy, StopsHalfway, CopiesChildren, StopsAtChildren}
+use Rattle.capnp_copies.specs.Changes.{change, ComesToObject, FindsNoRoom, MakesCopy, StopsHalfway, CopiesChildren, StopsAtChildren}
 use Rattle.capnp_copies.specs.Forms.{kept, kept_each}
-use Rattle.capnp_copies.specs.Originals.{kept_count, sections_original}
+use Rattle.capnp_copies.specs.Originals.{kept_count, children_original, sections_original}
 use Rattle.capnp_copies.proofs.DataSections.{kept_count-le}
 use Rattle.capnp_copies.proofs.FilledChildren.{children_grow}
 use Rattle.capnp_copies.proofs.KeptChildren.{kept_each-count}
 use Rattle.capnp_copies.proofs.KeptForms.{stops_sooner, SectionsCut, sections_meant}
 use Rattle.capnp_copies.proofs.Originals.{AreTooLarge, AreTooLargeSections, children_refused, sections_large, halfway}
+use Rattle.capnp_copies.proofs.NoRoom.{sections_come}
+use Rattle.capnp_copies.proofs.ObjectsMade.{Begins, struct_begins}
 use Rattle.capnp_copies.proofs.SegmentsWritten.{length-with_words}
 use Rattle.capnp_copies.proofs.TooLarge.{ObjectMade, sections_too_large}
 use Rattle.capnp_copies.proofs.TightObjects.{StructMade, struct_tight}
@@ -149,11 +151,22 @@ module _ {b : Form} {ws : List ℕ} {r : Reading} {q : ℕ} {least : StructSize}
       let object : ObjectMade s p (least.data_words + least.pointers) old made h = record { place = o.place; memory = o.memory; taken = o.taken; behind = o.behind } in
       sections_too_large b least (take_trees least.pointers ts) object same_long same_room o.within k.counts (large (take_trees least.pointers ts) n k.counts k.means) k.words)
 
+  less : least.data_words + least.pointers ≤ length ws + q
+  less = omega (arith, fewer, o.cut.of_data, kept_count-le b ws)
+
+  begins : Begins s h.segment (least.data_words + least.pointers) old made
+  begins = struct_begins s p least old made h o.place o.taken o.memory o.behind o.begun.start o.empty
+
+  -- what finds no room behind its data words finds none behind it
+  before : (new : View) {m m' : Meter} {k : ErrorKind} → ComesToObject (children_original r least.pointers) b m m' (FindsNoRoom (change b h.segment (h.at + least.data_words) mid new m m') k) →
+      ComesToObject (children_original r least.pointers) b m m' (FindsNoRoom (change b h.segment (h.at + least.data_words) made new m m') k)
+  before new {k = k} (w, stops, (refused, full)) = (w, stops, (words_refused_after made mid new w k (keeps_written made mid _ o.writes) refused, omega (arith, full, same_long, same_room)))
+
   pub sections_stop : {new : View} {m m' : Meter} {k : ErrorKind} → StopsAtChildren r least.pointers (change b h.segment (h.at + least.data_words) mid new m m') k → StopsHalfway (sections_original ws r q) (change b s p old new m m') k
   sections_stop {new} {m} {m'} {k} stop =
       halfway (
       elim (children_refused r least.pointers (change b h.segment (h.at + least.data_words) mid new m m') k stop.why) [
-        | inl x ↦ inl (x.0, words_refused_after old mid new x.0 k keeps x.1, inr (stops_sooner fewer x.2), sections_large b ws r q (length (segment old.words s)) (old.room s) (exceeds x.3))
+        | inl x ↦ inl (inr (sections_come ws new fewer less begins (before new x.0)), sections_large b ws r q (length (segment old.words s)) (old.room s) (exceeds x.1))
         | inr x ↦ inr (inl (stops_sooner fewer x))
       ]
       )

@@ -21,7 +21,7 @@ use Rattle.capnp_making.proofs.Memory.{not_the_allocator, keeps_itself, keeps_wr
 use Rattle.capnp_making.proofs.PlacedStructs.{capability_made}
 use Rattle.capnp_objects.specs.Objects.{IsObject}
 use Rattle.capnp_objects.specs.Outcomes.{Reads}
-use Rattle.capnp_objects.specs.Refusals.{Stopped, StopsWithin, here}
+use Rattle.capnp_objects.specs.Refusals.{Stopped, here}
 use Rattle.capnp_objects.specs.Reading.{Reading, behind, words_from}
 use Rattle.capnp_objects.specs.Wanted.{Form, plain, canonical, of_default}
 use Rattle.capnp_objects.specs.declared.object.Place.{Place}
@@ -30,13 +30,15 @@ use Rattle.capnp_objects.specs.declared.object.Purpose.TheVariants.{Value}
 use Rattle.capnp_objects.proofs.Limits.{not_for_memory}
 use Rattle.capnp_objects.proofs.Objects.{read_null, read_flat, read_struct, read_pointers, read_structs}
 use Rattle.capnp_objects.proofs.Refusals.{unreadable, stops_struct, stops_pointers, stops_structs}
-use Rattle.capnp_copies.specs.Changes.{WantsWords, as_struct, as_numbers, as_pointers, as_structs, Change, change, IsCopiedInRoom, StayInSegment, MakesCopy, StopsCopy, StopsHalfway}
+use Rattle.capnp_copies.specs.Changes.{as_numbers, Change, change, IsCopiedInRoom, StayInSegment, MakesCopy, StopsCopy, StopsHalfway}
 use Rattle.capnp_copies.specs.Forms.{kept}
 use Rattle.capnp_copies.proofs.InPlace.{IsCopied}
 use Rattle.capnp_copies.specs.Rooms.{CanBeCopied}
 use Rattle.capnp_copies.specs.Originals.{value_original, sections_original, pointers_original, structs_original}
 use Rattle.capnp_copies.proofs.DataSections.{kept_count-le}
 use Rattle.capnp_copies.proofs.FilledObjects.{nothing_left}
+use Rattle.capnp_copies.proofs.FlatRead.{flat_words}
+use Rattle.capnp_copies.proofs.NoRoom.{entered_comes, struct_value_comes, pointers_value_comes, structs_value_comes}
 use Rattle.capnp_copies.proofs.TooLarge.{struct_value_too_large, pointers_value_too_large, structs_value_too_large, flat_too_large}
 use Rattle.capnp_copies.proofs.Originals.{halfway, refused_rightly, sections_beyond, pointers_beyond, structs_beyond}
 use Rattle.capnp_copies.proofs.StructsCopied.{null_written}
@@ -124,7 +126,7 @@ struct_value {r} {b} {m = m} {m'' = m''} {size = size} start less (a, o, z, (hel
 
 pub struct_value_stops : {r : Reading} {b : Form} {s p levels : ℕ} {old new : View} {m m' m'' : Meter} {size : StructSize} {k : ErrorKind} (start : Place) → (0 < r.levels → levels ≡ pred r.levels) → IsObject Value r m m' (ObjectStruct start size) →
     StopsHalfway (sections_original (words_from (inside r levels start) size.data_words) (behind (inside r levels start) size.data_words) size.pointers) (change b s p old new m' m'') k → StopsHalfway (value_original r) (change b s p old new m m'') k
-struct_value_stops {r} {b} {s} {levels = levels} {old = old} {m = m} {m'' = m''} {size = size} {k = k} start less (a, o, z, (held, es, eb), ed, eq) (t, stop) =
+struct_value_stops {r} {b} {s} {levels = levels} {old = old} {new = new} {m = m} {m'' = m''} {size = size} {k = k} start less (a, o, z, (held, es, eb), ed, eq) (t, stop) =
     let ws : List ℕ = words_from (inside r levels start) size.data_words in
     let en = less o.meets.levels in
     let e : start.at ≡ a.start = omega arith in (
@@ -132,15 +134,8 @@ struct_value_stops {r} {b} {s} {levels = levels} {old = old} {m = m} {m'' = m''}
       record {
         why = elim stop.why [
           | inl x ↦ inl (
-            x.0,
-            x.1,
-            inr (
-                elim x.2 [
-                  | inl y ↦ subst (StopsWithin b (WantsWords b x.0) r m) (sym y.0) (here (a, o, as_struct z (rw (es, e, ed, eq) at y.1)))
-                  | inr y ↦ stops_struct o z (rw (en, es, e, ed, eq) at y)
-                ]
-                ),
-            struct_value_too_large b (length (segment old.words s)) (old.room s) start less (a, o, z, (held, es, eb), ed, eq) (sections_beyond b ws (behind (inside r levels start) size.data_words) size.pointers (length (segment old.words s)) (old.room s) x.3),
+            struct_value_comes old new start less (a, o, z, (held, es, eb), ed, eq) x.0,
+            struct_value_too_large b (length (segment old.words s)) (old.room s) start less (a, o, z, (held, es, eb), ed, eq) (sections_beyond b ws (behind (inside r levels start) size.data_words) size.pointers (length (segment old.words s)) (old.room s) x.1),
           )
           | inr x ↦ elim x [
             | inl refused ↦ inr (inl (stops_struct o z (rw (en, es, e, ed, eq) at refused)))
@@ -164,22 +159,15 @@ pointers_value {r} {b} {m = m} {m'' = m''} start less (a, o, z, six, (held, es, 
 
 pub pointers_value_stops : {r : Reading} {b : Form} {s p levels i : ℕ} {old new : View} {m m' m'' : Meter} {k : ErrorKind} (start : Place) → (0 < r.levels → levels ≡ pred r.levels) → IsObject Value r m m' (ObjectPointers start i) → i < 2 ^ 29 →
     StopsHalfway (pointers_original i (inside r levels start)) (change b s p old new m' m'') k → StopsHalfway (value_original r) (change b s p old new m m'') k
-pointers_value_stops {r} {b} {s} {levels = levels} {i} {old = old} {m = m} start less (a, o, z, six, (held, es, eb), ei) few (t, stop) =
+pointers_value_stops {r} {b} {s} {levels = levels} {i} {old = old} {new = new} {m = m} start less (a, o, z, six, (held, es, eb), ei) few (t, stop) =
     let en = less o.meets.levels in
     let e : start.at ≡ a.start = omega arith in (
       t,
       record {
         why = elim stop.why [
           | inl x ↦ inl (
-            x.0,
-            x.1,
-            inr (
-                elim x.2 [
-                  | inl y ↦ subst (StopsWithin b (WantsWords b x.0) r m) (sym y.0) (here (a, o, as_pointers z six (y.1 ∙ ei)))
-                  | inr y ↦ stops_pointers o z six (rw (en, es, e, ei) at y)
-                ]
-                ),
-            pointers_value_too_large b (length (segment old.words s)) (old.room s) start less (a, o, z, six, (held, es, eb), ei) (pointers_beyond b (inside r levels start) i (length (segment old.words s)) (old.room s) x.3),
+            pointers_value_comes old new start less (a, o, z, six, (held, es, eb), ei) x.0,
+            pointers_value_too_large b (length (segment old.words s)) (old.room s) start less (a, o, z, six, (held, es, eb), ei) (pointers_beyond b (inside r levels start) i (length (segment old.words s)) (old.room s) x.1),
           )
           | inr x ↦ elim x [ inl refused ↦ inr (inl (stops_pointers o z six (rw (en, es, e, ei) at refused))) | inr long ↦ absurd (long.0 few) ]
         ];
@@ -206,22 +194,15 @@ structs_value {r} {b} {m = m} {m'' = m''} {size = size} start less (a, o, z, sev
 
 pub structs_value_stops : {r : Reading} {b : Form} {s p levels i : ℕ} {old new : View} {m m' m'' : Meter} {size : StructSize} {k : ErrorKind} (start : Place) → (0 < r.levels → levels ≡ pred r.levels) → IsObject Value r m m' (ObjectStructs start size i) → (i < 2 ^ 30) × (i * (size.data_words + size.pointers) < 2 ^ 29) →
     StopsHalfway (structs_original size i (inside r levels start)) (change b s p old new m' m'') k → StopsHalfway (value_original r) (change b s p old new m m'') k
-structs_value_stops {r} {b} {s} {levels = levels} {i} {old = old} {m = m} {size = size} start less (a, o, z, seven, (held, eu, eb), ei, ed, eq) few (t, stop) =
+structs_value_stops {r} {b} {s} {levels = levels} {i} {old = old} {new = new} {m = m} {size = size} start less (a, o, z, seven, (held, eu, eb), ei, ed, eq) few (t, stop) =
     let en = less o.meets.levels in
     let e : start.at ≡ a.start + 1 = omega arith in (
       t,
       record {
         why = elim stop.why [
           | inl x ↦ inl (
-            x.0,
-            x.1,
-            inr (
-                elim x.2 [
-                  | inl y ↦ subst (StopsWithin b (WantsWords b x.0) r m) (sym y.0) (here (a, o, as_structs (z, seven) (rw (en, eu, e, ed, eq, ei) at y.1)))
-                  | inr y ↦ stops_structs o z seven (rw (en, eu, e, ed, eq, ei) at y)
-                ]
-                ),
-            structs_value_too_large b (length (segment old.words s)) (old.room s) start less (a, o, z, seven, (held, eu, eb), ei, ed, eq) (structs_beyond b (inside r levels start) size i (length (segment old.words s)) (old.room s) x.3),
+            structs_value_comes old new start less (a, o, z, seven, (held, eu, eb), ei, ed, eq) x.0,
+            structs_value_too_large b (length (segment old.words s)) (old.room s) start less (a, o, z, seven, (held, eu, eb), ei, ed, eq) (structs_beyond b (inside r levels start) size i (length (segment old.words s)) (old.room s) x.1),
           )
           | inr x ↦ elim x [ inl refused ↦ inr (inl (stops_structs o z seven (rw (en, eu, e, ed, eq, ei) at refused))) | inr long ↦ absurd (long.0 few) ]
         ];
@@ -267,13 +248,11 @@ flat_value b (Err k) start size object words part f = tt
 pub flat_stops : {r : Reading} {s p i n : ℕ} {old new : View} {m m' : Meter} {ws : List ℕ} (b : Form) (result : Result (Unit {0}) ErrorKind) (start : Place) (size : ElementSize) → IsObject Value r m m' (ObjectFlat start size i) → n ≡ words_for (size_number size) i →
     ws ≡ take n (drop start.at (words_of start.bytes.now)) → IsPlace old.words s p × (word_at old.words s p ≡ 0) → FlatOutcome result s p (words_for (size_number size) i) old new (Flat (size_number size) (unpacked (size_number size) i ws)) → IfErr result (StopsHalfway (value_original r) (change b s p old new m m'))
 flat_stops b (Ok x) start size object words part (place, null) f = tt
-flat_stops {s = s} {p = p} {i = i} {old = old} {new = new} {ws = ws} b (Err k) start size (a, o, z, small, held, ez, ei) words part (place, null) f =
+flat_stops {s = s} {p = p} {i = i} {old = old} {new = new} {m = m} {m' = m'} {ws = ws} b (Err k) start size (a, o, z, small, held, ez, ei) words part (place, null) f =
+    let full : HasOwnRoom old s (word_count (Flat (size_number size) (unpacked (size_number size) i ws))) → ⊥ = λ room. (let is = f.fits room in cc is) in
     halfway (inl (
-      words_for (size_number size) i,
-      f.refused,
-      inr (here (a, o, as_numbers z small (ap₂ words_for ez ei))),
-      flat_too_large b (length (segment old.words s)) (old.room s) (flat_read_in b start size (a, o, z, small, held, ez, ei) words part)
-          (λ room. (let is = f.fits (omega (arith, room, ap word_count (kept_flat b (size_number size) (unpacked (size_number size) i ws)))) in cc is)),
+      inr (entered_comes {n = words_for (size_number size) i} (change b s p old new m m') k o (as_numbers z small (ap₂ words_for ez ei)) refl (f.refused, omega (arith, full, flat_words (size_number size) i ws))),
+      flat_too_large b (length (segment old.words s)) (old.room s) (flat_read_in b start size (a, o, z, small, held, ez, ei) words part) (λ room. full (omega (arith, room, ap word_count (kept_flat b (size_number size) (unpacked (size_number size) i ws))))),
     )) ((Null, nothing_left old.words new.words s p place null f.kept), f.memory)
 
 -- one that can be copied behind the words of its segment does not stop

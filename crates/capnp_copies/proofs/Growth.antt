@@ -52,6 +52,7 @@ use Rattle.capnp_copies.proofs.Copying.{there}
 use Rattle.capnp_copies.proofs.FilledSections.{sections_kept}
 use Rattle.capnp_copies.proofs.FilledValues.{capability_read, CapabilityCopied}
 use Rattle.capnp_copies.proofs.KeptForms.{SourceKept, one_more as one_row_more, stops_sooner, blank_elements}
+use Rattle.capnp_copies.proofs.ObjectsMade.{TakesForCopy, TakesUntilStop, Begins, made_segments, no_pad}
 use Rattle.capnp_copies.proofs.ObjectsRead.{inside, stopped_in, capability_stopped, default_stopped}
 use Rattle.capnp_copies.proofs.StayingNear.{stay_fewer}
 use Rattle.capnp_objects.proofs.Unreadable.{Spends}
@@ -117,14 +118,6 @@ none_pruned old new limits pruned = record { segments = pruned.segments; words =
 pub none_refused : (old new : View) (n : ℕ) (k : ErrorKind) → IsRefusedFor old new n k → new.words ≡ old.words → TakesNone old new
 none_refused old new n k refused same = record { segments = ap length same; words = λ v. ap (λ (S : Segments). length (segment S v)) same; room = λ j l. ap (λ (v : View). v.room j) refused.1 }
 
--- What a copy takes where all is read, and where it is refused.
-
-abbrev pub TakesForCopy : {V : Type 0} → Original V → Change → Type 0
-TakesForCopy o c = o.takes c.form c.before c.after (MakesAtMost c.segment c.old c.new)
-
-abbrev pub TakesUntilStop : {V : Type 0} → Original V → Change → Type 0
-TakesUntilStop o c = o.takes_until c.form c.before c.after (MakesAtMost c.segment c.old c.new)
-
 -- What is made, at most.
 
 pub made_none : {id : ℕ} {old new : View} → TakesNone old new → MakesAtMost id old new 0 0
@@ -141,31 +134,6 @@ made_within before after x = made_more (omega arith) (omega arith) (made_both (m
 
 pub made_elsewhere : {n p : ℕ} (c d : Change) → TakesNone d.old c.old → TakesNone c.new d.new → d.segment ≡ c.segment → MakesAtMost c.segment c.old c.new n p → MakesAtMost d.segment d.old d.new n p
 made_elsewhere {n} {p} c d before after same made = subst (λ id. MakesAtMost id d.old d.new n p) (sym same) (made_within before after made)
-
--- An object of n words is made for a pointer of segment id, and its own pointers stand in segment k.
-pub record Begins (id k n : ℕ) (old mid : View) : Type 0 where
-  pub there : id < length old.words
-  pub taken : TakesWords old mid id n
-  pub memory : KeepsMemory old mid
-  pub near : HasOwnRoom old id n → k ≡ id
-  pub far : old.room id < length (segment old.words id) + n → IsNextRoom old (n + 1) k
-
--- so a struct, which may have no words
-empty_start : (S R : Segments) (s p : ℕ) (h : Start) → IsPlace S s p → R ≡ with_word S s p (struct_word (2 ^ 30 - 1) 0 0) → LeadsToStart R s p h → h.segment ≡ s
-empty_start S R s p h place writes lead =
-    let x : ℕ = struct_word (2 ^ 30 - 1) 0 0 in
-    let made = empty_made S R s p x place (word_put S R s p x place writes) refl in
-    lead.0 ∙ ap (λ o. (target_in o).segment) made.leads_there.1
-
-pub struct_begins : (s p : ℕ) (least : StructSize) (old made : View) (h : Start) → IsPlace old.words s p → TakesWords old made s (least.data_words + least.pointers) → KeepsMemory old made → StandsBehind old s (least.data_words + least.pointers) h →
-    LeadsToStart made.words s p h → (least.data_words + least.pointers ≡ 0 → made.words ≡ with_word old.words s p (struct_word (2 ^ 30 - 1) 0 0)) → Begins s h.segment (least.data_words + least.pointers) old made
-struct_begins s p least old made h place taken memory behind lead empty = record {
-  there = there old.words s p place;
-  taken = taken;
-  memory = memory;
-  near = λ room. elim (cases_lt 0 (least.data_words + least.pointers)) [ inl some ↦ (behind.near some room).0 | inr none ↦ empty_start old.words made.words s p h place (empty (omega (arith, none))) lead ];
-  far = λ full. (behind.far full).0;
-}
 
 -- there is one next room
 next_room_is : (v : View) (n j k : ℕ) → IsNextRoom v n j → IsNextRoom v n k → j ≡ k
@@ -482,45 +450,6 @@ made_words {old = old} {new} (no_object none) = omega (arith, same_words old.wor
 made_words {id = id} {old = old} (near n mid room takes rest) = omega (arith, lengthened old.words mid.words id n takes.0, made_words rest)
 made_words {old = old} (far n k mid elsewhere full next takes rest) = omega (arith, lengthened old.words mid.words k (n + 1) takes.0, made_words rest)
 made_words (both mid first rest) = omega (arith, made_words first, made_words rest)
-
-made_segments : {id words pads : ℕ} {old new : View} → Makes id old new words pads → length old.words ≤ length new.words
-made_segments (no_object none) = omega (arith, none.segments)
-made_segments (near n mid room takes rest) = omega (arith, takes.0.segments, made_segments rest)
-made_segments (far n k mid elsewhere full next takes rest) = omega (arith, takes.0.segments, made_segments rest)
-made_segments (both mid first rest) = omega (arith, made_segments first, made_segments rest)
-
--- The segment of the pointers has all the words, where there is no pad.
-record HasAll (id words : ℕ) (old new : View) : Type 0 where
-  pub long : length (segment new.words id) ≡ length (segment old.words id) + words
-  pub room : new.room id ≡ old.room id
-
-has_all : {id words pads : ℕ} {old new : View} → Makes id old new words pads → pads ≡ 0 → id < length old.words → HasAll id words old new
-has_all {id = id} (no_object none) e there = record { long = omega (arith, none.words id); room = none.room id there }
-has_all {id = id} (near n mid room takes rest) e there =
-    let x = has_all rest e (omega (arith, there, takes.0.segments)) in
-    record { long = omega (arith, x.long, takes.0.gained); room = x.room ∙ takes.1 id there }
-has_all (far n k mid elsewhere full next takes rest) e there = absurd (omega (arith, e))
-has_all {id = id} (both mid first rest) e there =
-    let x = has_all first (omega (arith, e)) there in
-    let y = has_all rest (omega (arith, e)) (omega (arith, there, made_segments first)) in
-    record { long = omega (arith, x.long, y.long); room = y.room ∙ x.room }
-
-no_pad : {id words pads : ℕ} {old new : View} → Makes id old new words pads → id < length old.words → StayInSegment old new id words → pads ≡ 0
-no_pad (no_object none) there stays = refl
-no_pad {id = id} (near n mid room takes rest) there (inl fits) = no_pad rest (omega (arith, there, takes.0.segments)) (inl (omega (arith, fits, takes.0.gained, takes.1 id there)))
-no_pad (near n mid room takes rest) there (inr one) = no_pad rest (omega (arith, there, takes.0.segments)) (inr one)
-no_pad (far n k mid elsewhere full next takes rest) there (inl fits) = absurd (omega (arith, full, fits))
-no_pad (far n k mid elsewhere full next takes rest) there (inr one) =
-    absurd (elsewhere (omega (arith, takes.0.segments, made_segments rest, one, there)))
-no_pad {id = id} (both mid first rest) there (inl fits) =
-    let e = no_pad first there (inl (omega (arith, fits))) in
-    let x = has_all first e there in
-    omega (arith, e, no_pad rest (omega (arith, there, made_segments first)) (inl (omega (arith, fits, x.long, x.room))))
-no_pad (both mid first rest) there (inr one) = omega (
-  arith,
-  no_pad first there (inr (omega (arith, one, there, made_segments first, made_segments rest))),
-  no_pad rest (omega (arith, there, made_segments first)) (inr one),
-)
 
 pub pads_apart : PadsApart
 pads_apart id words pads old new made = (made_words made, λ there stays. no_pad made there stays)

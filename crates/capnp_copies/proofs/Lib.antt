@@ -39,3 +39,5 @@ pub mod DataSections
 pub mod FilledSections
 pub mod EachCopied
 pub mod Growth
+pub mod NoRoom
+pub mod ObjectsMade

@@ -26,10 +26,10 @@ use Rattle.capnp_copies.specs.Changes.{Change, change, StayInSegment, MakesCopy,
 use Rattle.capnp_copies.proofs.InPlace.{IsCopied}
 use Rattle.capnp_copies.specs.Forms.{kept}
 use Rattle.capnp_copies.specs.Originals.{numbers_original, list_original, FitsListPointer}
-use Rattle.capnp_copies.specs.Rooms.{IsTooLarge}
 use Rattle.capnp_copies.proofs.FilledObjects.{nothing_left}
 use Rattle.capnp_copies.proofs.FilledValues.{FlatOutcome, kept_flat}
-use Rattle.capnp_copies.proofs.Originals.{halfway, list_exceeds}
+use Rattle.capnp_copies.proofs.FlatRead.{flat_words}
+use Rattle.capnp_copies.proofs.Originals.{ExceedsRoom, halfway, list_exceeds}
 use Rattle.capnp_arena.specs.declared.arena.reader_arena.ReaderArena.{Ghosts}
 use Rattle.capnp_readers.specs.declared.readers.list_reader.ListReader.{ListReader}
 
@@ -118,7 +118,7 @@ numbers_copied size n r c bytes (Err k) stand free f = tt
 
 -- where they find no room, they don't fit
 numbers_exceed : (size : ElementSize) (n : ℕ) (r : Reading) (c : Change) (bytes : List ℕ) → words_of bytes ≡ words_from r (words_for (size_number size) n) →
-    (HasOwnRoom c.old c.segment (word_count (Flat (size_number size) (unpacked (size_number size) n (words_of bytes)))) → ⊥) → IsTooLarge c.form (numbers_original size n r) (length (segment c.old.words c.segment)) (c.old.room c.segment)
+    (HasOwnRoom c.old c.segment (word_count (Flat (size_number size) (unpacked (size_number size) n (words_of bytes)))) → ⊥) → ExceedsRoom c.form (numbers_original size n r) (length (segment c.old.words c.segment)) (c.old.room c.segment)
 numbers_exceed size n r c bytes stand full any m m' t is_read =
     let numbers : Tree = Flat (size_number size) (unpacked (size_number size) n (words_of bytes)) in
     let same : numbers ≡ t = ap (λ ws. Flat (size_number size) (unpacked (size_number size) n ws)) stand ∙ sym is_read.0 in
@@ -128,5 +128,6 @@ pub numbers_stop : (size : ElementSize) (n : ℕ) (r : Reading) (c : Change) (by
     FlatOutcome result c.segment c.at (words_for (size_number size) n) c.old c.new (Flat (size_number size) (unpacked (size_number size) n (words_of bytes))) → IfErr result (StopsHalfway (numbers_original size n r) c)
 numbers_stop size n r c bytes (Ok x) stand (place, null) free f = tt
 numbers_stop size n r c bytes (Err k) stand (place, null) free f =
-    halfway (inl (words_for (size_number size) n, f.refused, inl (free, refl), numbers_exceed size n r c bytes stand (λ room. (let is = f.fits room in cc is))))
+    let full : HasOwnRoom c.old c.segment (word_count (Flat (size_number size) (unpacked (size_number size) n (words_of bytes)))) → ⊥ = λ room. (let is = f.fits room in cc is) in
+    halfway (inl (inl (words_for (size_number size) n, free, refl, (f.refused, omega (arith, full, flat_words (size_number size) n (words_of bytes)))), numbers_exceed size n r c bytes stand full))
     ((Null, nothing_left c.old.words c.new.words c.segment c.at place null f.kept), f.memory)

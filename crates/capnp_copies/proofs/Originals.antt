@@ -9,18 +9,19 @@ use Rattle.capnp_words.specs.Meter.{Meter, Affords, unused}
 use Rattle.capnp_format.specs.Tree.{Tree, Null, Struct, Pointers, Structs, Trees, Elements, count, element_count}
 use Rattle.capnp_format.specs.Canonical.{cut_to, word_count, word_count_all, word_count_elements}
 use Rattle.capnp_format.specs.Segments.{segment}
-use Rattle.capnp_making.specs.Memory.{SpendsMemory}
+use Rattle.capnp_arena.specs.View.{View}
+use Rattle.capnp_making.specs.Memory.{SpendsMemory, RefusesWords}
 use Rattle.capnp_making.specs.Stored.{IsReplaced}
 use Rattle.capnp_objects.specs.Outcomes.{MeansThere, MeanThere, ElementsMean, Reads, ReadsAll, ReadsElements}
 use Rattle.capnp_objects.specs.Reading.{Reading, behind, words_from}
-use Rattle.capnp_objects.specs.Refusals.{Stopped, StopsAmong, RefusedAll}
+use Rattle.capnp_objects.specs.Refusals.{Stopped, RefusedAll}
 use Rattle.capnp_objects.specs.Spending.{after, pointers_in, pointers_in_all, pointers_in_elements}
 use Rattle.capnp_objects.specs.Wanted.{Form, plain}
 use Rattle.capnp_objects.specs.declared.object.Purpose.TheVariants.{Value}
-use Rattle.capnp_copies.specs.Changes.{Change, LacksRoom, WantsWords, RefusesToCopy, MakesCopy, StopsCopy, StopsHalfway}
+use Rattle.capnp_copies.specs.Changes.{Change, ComesToObject, FindsNoRoom, LacksRoom, WantsWords, RefusesToCopy, MakesCopy, StopsCopy, StopsHalfway}
 use Rattle.capnp_copies.specs.Forms.{kept, kept_each, kept_elements}
 use Rattle.capnp_copies.specs.Originals.{Original, value_original, children_original, elements_original, sections_original, numbers_original, pointers_original, structs_original, list_original, FitsListPointer}
-use Rattle.capnp_copies.specs.Rooms.{IsTooLarge, CanBeCopied}
+use Rattle.capnp_copies.specs.Rooms.{CanBeCopied}
 use Rattle.capnp_copies.specs.declared.widths.ElementSizes.{ElementSizes}
 
 -- a limiter without a budget lets all be read
@@ -29,12 +30,16 @@ affords_all : (charging : Bool) (n : ℕ) → Affords charging (unused None) n
 affords_all true n = tt
 affords_all false n = tt
 
+-- whatever can be read of it has more words to be kept than fit behind so many words of a segment with this room
+abbrev pub ExceedsRoom : {V : Type 0} → Form → Original V → ℕ → ℕ → Type 0
+ExceedsRoom {V} form o used room = (any : Form) (m m' : Meter) (value : V) → o.reads any m m' value → room < used + o.words form value
+
 -- what a place means is too large
 
-pub value_large : (b : Form) (r : Reading) (used room : ℕ) → ((t : Tree) (c : ℕ) → MeansThere r t c → room < used + word_count (kept b t)) → IsTooLarge b (value_original r) used room
+pub value_large : (b : Form) (r : Reading) (used room : ℕ) → ((t : Tree) (c : ℕ) → MeansThere r t c → room < used + word_count (kept b t)) → ExceedsRoom b (value_original r) used room
 value_large b r used room large any m m' t read = large t read.cost read.means
 
-pub value_beyond : (b : Form) (r : Reading) (used room : ℕ) → IsTooLarge b (value_original r) used room → (t : Tree) (c : ℕ) → MeansThere r t c → room < used + word_count (kept b t)
+pub value_beyond : (b : Form) (r : Reading) (used room : ℕ) → ExceedsRoom b (value_original r) used room → (t : Tree) (c : ℕ) → MeansThere r t c → room < used + word_count (kept b t)
 value_beyond b r used room large t c means =
     let read : Reads plain r (unused None) (after r.charging (unused None) c (pointers_in t)) t = record { cost = c; means = means; takes = λ f. absurd f; covers = affords_all r.charging c; spent = refl } in
     large plain (unused None) (after r.charging (unused None) c (pointers_in t)) t read
@@ -50,10 +55,10 @@ IsTooLargeStruct b r size used room = AreTooLargeSections b (words_from r size.d
 all_read : (r : Reading) (ts : Trees) (c : ℕ) → MeanThere r ts c → ReadsAll plain r (unused None) (after r.charging (unused None) c (pointers_in_all ts)) ts
 all_read r ts c means = record { cost = c; means = means; takes = λ f. absurd f; covers = affords_all r.charging c; spent = refl }
 
-pub sections_large : (b : Form) (ws : List ℕ) (r : Reading) (q used room : ℕ) → AreTooLargeSections b ws r q used room → IsTooLarge b (sections_original ws r q) used room
+pub sections_large : (b : Form) (ws : List ℕ) (r : Reading) (q used room : ℕ) → AreTooLargeSections b ws r q used room → ExceedsRoom b (sections_original ws r q) used room
 sections_large b ws r q used room large any m m' t (ts, is, counts, read) = subst (λ u. room < used + word_count (kept b u)) (sym is) (large ts read.cost counts read.means)
 
-pub sections_beyond : (b : Form) (ws : List ℕ) (r : Reading) (q used room : ℕ) → IsTooLarge b (sections_original ws r q) used room → AreTooLargeSections b ws r q used room
+pub sections_beyond : (b : Form) (ws : List ℕ) (r : Reading) (q used room : ℕ) → ExceedsRoom b (sections_original ws r q) used room → AreTooLargeSections b ws r q used room
 sections_beyond b ws r q used room large ts c counts means = large plain (unused None) (after r.charging (unused None) c (pointers_in_all ts)) (Struct ws ts) (ts, refl, counts, all_read r ts c means)
 
 -- i pointers from a place on
@@ -61,25 +66,44 @@ sections_beyond b ws r q used room large ts c counts means = large plain (unused
 abbrev pub AreTooLarge : Form → Reading → ℕ → ℕ → ℕ → Type 0
 AreTooLarge b r i used room = (ts : Trees) (c : ℕ) → count ts ≡ i → MeanThere r ts c → room < used + word_count_all (kept_each b ts)
 
-pub children_large : (b : Form) (r : Reading) (i used room : ℕ) → AreTooLarge b r i used room → IsTooLarge b (children_original r i) used room
+pub children_large : (b : Form) (r : Reading) (i used room : ℕ) → AreTooLarge b r i used room → ExceedsRoom b (children_original r i) used room
 children_large b r i used room large any m m' ts (counts, read) = large ts read.cost counts read.means
 
-pub children_beyond : (b : Form) (r : Reading) (i used room : ℕ) → IsTooLarge b (children_original r i) used room → AreTooLarge b r i used room
+pub children_beyond : (b : Form) (r : Reading) (i used room : ℕ) → ExceedsRoom b (children_original r i) used room → AreTooLarge b r i used room
 children_beyond b r i used room large ts c counts means = large plain (unused None) (after r.charging (unused None) c (pointers_in_all ts)) ts (counts, all_read r ts c means)
+
+-- words are refused that are wanted
+pub refused_words : {V : Type 0} (o : Original V) (c : Change) (k : ErrorKind) → LacksRoom o c k → (n : ℕ) × RefusesWords c.old c.new n k
+refused_words o c k (inl (n, same, makes, (refused, full))) = (n, refused)
+refused_words o c k (inr (n, stops, (refused, full))) = (n, refused)
+
+-- what finds no room in a message finds none in the one before
+pub lacks_before : {V : Type 0} (o : Original V) (c : Change) (v : View) (k : ErrorKind) → ((n all : ℕ) → FindsNoRoom c k n all → FindsNoRoom (record c { old = v }) k n all) → LacksRoom o c k → LacksRoom o (record c { old = v }) k
+lacks_before o c v k f (inl (n, same, makes, found)) = inl (n, same, makes, f n n found)
+lacks_before o c v k f (inr (n, stops, found)) = inr (n, stops, f n ((o.spent c.form (WantsWords c.form n) c.before c.after stops).words + n) found)
+
+-- and none in the one behind, where the same words are refused
+pub lacks_after : {V : Type 0} (o : Original V) (c : Change) (v : View) (k : ErrorKind) → ((n : ℕ) → RefusesWords c.old c.new n k → RefusesWords c.old v n k) → LacksRoom o c k → LacksRoom o (record c { new = v }) k
+lacks_after o c v k f (inl (n, same, makes, (refused, full))) = inl (n, same, makes, (f n refused, full))
+lacks_after o c v k f (inr (n, stops, (refused, full))) = inr (n, stops, (f n refused, full))
 
 -- why the copy of children is refused
 abbrev pub ChildrenRefused : Reading → ℕ → Change → ErrorKind → Type 0
-ChildrenRefused r i c k = LacksRoom c k (λ n. StopsAmong c.form (WantsWords c.form n) r i c.before c.after) (AreTooLarge c.form r i) ⊎ RefusedAll c.form r i c.before c.after k
+ChildrenRefused r i c k =
+    (ComesToObject (children_original r i) c.form c.before c.after (FindsNoRoom c k) × AreTooLarge c.form r i (length (segment c.old.words c.segment)) (c.old.room c.segment)) ⊎ RefusedAll c.form r i c.before c.after k
 
 pub children_refused : (r : Reading) (i : ℕ) (c : Change) (k : ErrorKind) → RefusesToCopy (children_original r i) c k → ChildrenRefused r i c k
 children_refused r i c k why = elim why [
-  | inl x ↦ inl (x.0, x.1, (let wanted : StopsAmong c.form (WantsWords c.form x.0) r i c.before c.after = elim x.2 [ inl none ↦ absurd none.1 | inr w ↦ w ] in wanted), children_beyond c.form r i (length (segment c.old.words c.segment)) (c.old.room c.segment) x.3)
+  | inl x ↦ inl (
+    (let comes : ComesToObject (children_original r i) c.form c.before c.after (FindsNoRoom c k) = elim x.0 [ inl none ↦ absurd none.2 | inr y ↦ y ] in comes),
+    children_beyond c.form r i (length (segment c.old.words c.segment)) (c.old.room c.segment) x.1,
+  )
   | inr y ↦ elim y [ inl refused ↦ inr refused | inr none ↦ absurd none ]
 ]
 
 pub refuses_children : (r : Reading) (i : ℕ) (c : Change) (k : ErrorKind) → ChildrenRefused r i c k → RefusesToCopy (children_original r i) c k
 refuses_children r i c k why = elim why [
-  | inl x ↦ inl (x.0, x.1, inr x.2, children_large c.form r i (length (segment c.old.words c.segment)) (c.old.room c.segment) x.3)
+  | inl x ↦ inl (inr x.0, children_large c.form r i (length (segment c.old.words c.segment)) (c.old.room c.segment) x.1)
   | inr refused ↦ inr (inl refused)
 ]
 
@@ -88,10 +112,10 @@ refuses_children r i c k why = elim why [
 abbrev pub IsTooLargePointers : Form → Reading → ℕ → ℕ → ℕ → Type 0
 IsTooLargePointers b r i used room = (ts : Trees) (c : ℕ) → count ts ≡ i → MeanThere r ts c → room < used + word_count (kept b (Pointers ts))
 
-pub pointers_large : (b : Form) (r : Reading) (i used room : ℕ) → IsTooLargePointers b r i used room → IsTooLarge b (pointers_original i r) used room
+pub pointers_large : (b : Form) (r : Reading) (i used room : ℕ) → IsTooLargePointers b r i used room → ExceedsRoom b (pointers_original i r) used room
 pointers_large b r i used room large any m m' t (ts, is, counts, read) = subst (λ u. room < used + word_count (kept b u)) (sym is) (large ts read.cost counts read.means)
 
-pub pointers_beyond : (b : Form) (r : Reading) (i used room : ℕ) → IsTooLarge b (pointers_original i r) used room → IsTooLargePointers b r i used room
+pub pointers_beyond : (b : Form) (r : Reading) (i used room : ℕ) → ExceedsRoom b (pointers_original i r) used room → IsTooLargePointers b r i used room
 pointers_beyond b r i used room large ts c counts means = large plain (unused None) (after r.charging (unused None) c (pointers_in_all ts)) (Pointers ts) (ts, refl, counts, all_read r ts c means)
 
 -- i elements, cut to the sections of the copy
@@ -103,10 +127,10 @@ AreTooLargeElements b r sizes i used room =
 elements_read : (r : Reading) (size : StructSize) (es : Elements) (c : ℕ) → ElementsMean r size es c → ReadsElements plain r size (unused None) (after r.charging (unused None) c (pointers_in_elements es)) es
 elements_read r size es c means = record { cost = c; means = means; takes = λ f. absurd f; covers = affords_all r.charging c; spent = refl }
 
-pub elements_large : (b : Form) (r : Reading) (sizes : ElementSizes) (i used room : ℕ) → AreTooLargeElements b r sizes i used room → IsTooLarge b (elements_original r sizes i) used room
+pub elements_large : (b : Form) (r : Reading) (sizes : ElementSizes) (i used room : ℕ) → AreTooLargeElements b r sizes i used room → ExceedsRoom b (elements_original r sizes i) used room
 elements_large b r sizes i used room large any m m' es (counts, read) = large es read.cost counts read.means
 
-pub elements_beyond : (b : Form) (r : Reading) (sizes : ElementSizes) (i used room : ℕ) → IsTooLarge b (elements_original r sizes i) used room → AreTooLargeElements b r sizes i used room
+pub elements_beyond : (b : Form) (r : Reading) (sizes : ElementSizes) (i used room : ℕ) → ExceedsRoom b (elements_original r sizes i) used room → AreTooLargeElements b r sizes i used room
 elements_beyond b r sizes i used room large es c counts means = large plain (unused None) (after r.charging (unused None) c (pointers_in_elements es)) es (counts, elements_read r sizes.source es c means)
 
 -- a list of i structs of this size
@@ -115,10 +139,10 @@ abbrev pub IsTooLargeList : Form → Reading → StructSize → ℕ → ℕ → 
 IsTooLargeList b r size i used room =
     (es : Elements) (c : ℕ) → element_count es ≡ i → ElementsMean r size es c → room < used + word_count (kept b (Structs size.data_words size.pointers es))
 
-pub structs_large : (b : Form) (r : Reading) (size : StructSize) (i used room : ℕ) → IsTooLargeList b r size i used room → IsTooLarge b (structs_original size i r) used room
+pub structs_large : (b : Form) (r : Reading) (size : StructSize) (i used room : ℕ) → IsTooLargeList b r size i used room → ExceedsRoom b (structs_original size i r) used room
 structs_large b r size i used room large any m m' t (es, is, counts, read) = subst (λ u. room < used + word_count (kept b u)) (sym is) (large es read.cost counts read.means)
 
-pub structs_beyond : (b : Form) (r : Reading) (size : StructSize) (i used room : ℕ) → IsTooLarge b (structs_original size i r) used room → IsTooLargeList b r size i used room
+pub structs_beyond : (b : Form) (r : Reading) (size : StructSize) (i used room : ℕ) → ExceedsRoom b (structs_original size i r) used room → IsTooLargeList b r size i used room
 structs_beyond b r size i used room large es c counts means =
     large plain (unused None) (after r.charging (unused None) c (pointers_in_elements es)) (Structs size.data_words size.pointers es) (es, refl, counts, elements_read r size es c means)
 
@@ -198,6 +222,6 @@ halfway why left = (left.0.0, record { why = why; left = left.0.1; memory = left
 pub refused_rightly : {o : Original Tree} {c : Change} {t : Tree} {k : ErrorKind} → ((m : Meter) (u : Tree) → o.stops c.form (λ r i j. Stopped Value c.form r i j k) c.before c.after → o.reads c.form c.before m u → ⊥) → StopsCopy o c t k →
     CanBeCopied o c.form c.before c.old c.segment → ⊥
 refused_rightly {c = c} {k = k} apart stop can = elim stop.why [
-  | inl x ↦ (let beyond = x.3 c.form c.before can.after can.value can.is_read in omega (arith, beyond, can.room))
+  | inl x ↦ (let beyond = x.1 c.form c.before can.after can.value can.is_read in omega (arith, beyond, can.room))
   | inr y ↦ elim y [ inl refused ↦ apart can.after can.value refused can.is_read | inr large ↦ can.small k large ]
 ]

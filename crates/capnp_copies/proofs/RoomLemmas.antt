@@ -9,6 +9,14 @@ use Rattle.capnp_objects.specs.Wanted.{Form}
 use Rattle.capnp_copies.specs.Forms.{kept, kept_each}
 use Rattle.capnp_copies.proofs.KeptChildren.{kept_none, kept_first}
 
+-- so many pointers have one cost
+pub same_cost : (r : Reading) (ts us : Trees) (c e : ℕ) → count ts ≡ count us → MeanThere r ts c → MeanThere r us e → c ≡ e
+same_cost r no_trees no_trees c e len h g = omega (arith, h, g)
+same_cost r no_trees (tree u us) c e len h g = absurd (omega (arith, len))
+same_cost r (tree t ts) no_trees c e len h g = absurd (omega (arith, len))
+same_cost r (tree t ts) (tree u us) c e len (k, x, first, others, f) (j, y, one, rest, g) =
+    omega (arith, (one_value r.segments r.levels r.levels r.segment r.at t u k j first one).1, same_cost (behind r 1) ts us x y (omega (arith, len)) others rest, f, g)
+
 -- the child behind the first ones, in any longer meaning of the same place
 pub next_words : (b : Form) (r : Reading) (ts us : Trees) → (k : ℕ) × MeanThere r ts k → (c : ℕ) × MeanThere r us c → count ts < count us →
     (u : Tree) × (e : ℕ) × MeansThere (behind r (count ts)) u e × (word_count_all (kept_each b ts) + word_count (kept b u) ≤ word_count_all (kept_each b us))

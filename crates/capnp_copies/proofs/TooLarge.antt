@@ -26,8 +26,7 @@ use Rattle.capnp_copies.specs.Changes.{change, EndsInZeros, CopiesChildren, Copi
 use Rattle.capnp_copies.proofs.InPlace.{AreCopied}
 use Rattle.capnp_copies.proofs.CopiesNear.{call_of, CopiesChildren as ChildrenCopied}
 use Rattle.capnp_copies.specs.Originals.{value_original}
-use Rattle.capnp_copies.specs.Rooms.{IsTooLarge}
-use Rattle.capnp_copies.proofs.Originals.{AreTooLarge, AreTooLargeElements, IsTooLargePointers, IsTooLargeStruct, IsTooLargeList, value_large, value_beyond}
+use Rattle.capnp_copies.proofs.Originals.{ExceedsRoom, AreTooLarge, AreTooLargeElements, IsTooLargePointers, IsTooLargeStruct, IsTooLargeList, value_large, value_beyond}
 use Rattle.capnp_copies.specs.declared.widths.ElementSizes.{ElementSizes}
 use Rattle.capnp_copies.proofs.ChildrenSteps.{now, now_long}
 use Rattle.capnp_copies.proofs.ElementsLaid.{next_element_words}
@@ -42,7 +41,7 @@ use Rattle.capnp_objects.proofs.Followed.{entered_leads}
 
 -- a child
 pub child_too_large : {r : Reading} {s p i n : ℕ} {old mid : View} {m m' : Meter} (b : Form) → IsPlace old.words s (p + i) → i < n → (first : CopiesChildren r i (change b s p old mid m m')) →
-    IsTooLarge b (value_original (behind r i)) (length (segment mid.words s)) (mid.room s) → AreTooLarge b r n (length (segment old.words s)) (old.room s)
+    ExceedsRoom b (value_original (behind r i)) (length (segment mid.words s)) (mid.room s) → AreTooLarge b r n (length (segment old.words s)) (old.room s)
 child_too_large {r} {s} {p} {i} {n} {old} {mid} {m} {m'} b place less first large = λ us c len all.
     (let ts : Trees = first.children in
     let x = next_words b r ts us (first.are_read.cost, first.are_read.means) (c, all) (omega (arith, first.counts, len, less)) in
@@ -174,7 +173,7 @@ no_structs_room r size least i s old b in_row widths full = λ es c len all.
 -- what a place means is known by its object
 
 pub struct_value_too_large : {r : Reading} {levels : ℕ} (b : Form) (used room : ℕ) {m m' : Meter} {size : StructSize} (start : Place) → (0 < r.levels → levels ≡ pred r.levels) → IsObject Value r m m' (ObjectStruct start size) →
-    IsTooLargeStruct b (inside r levels start) size used room → IsTooLarge b (value_original r) used room
+    IsTooLargeStruct b (inside r levels start) size used room → ExceedsRoom b (value_original r) used room
 struct_value_too_large {r} {levels} b used room {size = size} start less (a, o, z, (held, es, eb), ed, eq) large = value_large b r used room (λ t c h.
     (let en = less o.meets.levels in
     let e : start.at ≡ a.start = omega arith in
@@ -183,7 +182,7 @@ struct_value_too_large {r} {levels} b used room {size = size} start less (a, o, 
     rw (x.4) (l x.0 x.1 x.2 x.3)))
 
 pub pointers_value_too_large : {r : Reading} {levels i : ℕ} (b : Form) (used room : ℕ) {m m' : Meter} (start : Place) → (0 < r.levels → levels ≡ pred r.levels) → IsObject Value r m m' (ObjectPointers start i) →
-    IsTooLargePointers b (inside r levels start) i used room → IsTooLarge b (value_original r) used room
+    IsTooLargePointers b (inside r levels start) i used room → ExceedsRoom b (value_original r) used room
 pointers_value_too_large {r} {levels} {i} b used room start less (a, o, z, six, (held, es, eb), ei) large = value_large b r used room (λ t c h.
     (let en = less o.meets.levels in
     let e : start.at ≡ a.start = omega arith in
@@ -192,7 +191,7 @@ pointers_value_too_large {r} {levels} {i} b used room start less (a, o, z, six, 
     rw (x.4) (l x.0 x.1 x.2 x.3)))
 
 pub structs_value_too_large : {r : Reading} {levels i : ℕ} (b : Form) (used room : ℕ) {m m' : Meter} {size : StructSize} (start : Place) → (0 < r.levels → levels ≡ pred r.levels) → IsObject Value r m m' (ObjectStructs start size i) →
-    IsTooLargeList b (inside r levels start) size i used room → IsTooLarge b (value_original r) used room
+    IsTooLargeList b (inside r levels start) size i used room → ExceedsRoom b (value_original r) used room
 structs_value_too_large {r} {levels} {i} b used room {size = size} start less (a, o, z, seven, (held, eu, eb), ei, ed, eq) large = value_large b r used room (λ t c h.
     (let en = less o.meets.levels in
     let e : start.at ≡ a.start + 1 = omega arith in
@@ -201,7 +200,7 @@ structs_value_too_large {r} {levels} {i} b used room {size = size} start less (a
     rw (x.4) (l x.0 x.1 x.2 x.3)))
 
 -- a list of numbers, of which so many words find no room
-pub flat_too_large : {r : Reading} {m m' : Meter} {form : Form} {u : Tree} (b : Form) (used room : ℕ) → Reads form r m m' u → (used + word_count (kept b u) ≤ room → ⊥) → IsTooLarge b (value_original r) used room
+pub flat_too_large : {r : Reading} {m m' : Meter} {form : Form} {u : Tree} (b : Form) (used room : ℕ) → Reads form r m m' u → (used + word_count (kept b u) ≤ room → ⊥) → ExceedsRoom b (value_original r) used room
 flat_too_large {r} {u = u} b used room one none = value_large b r used room (λ t c h.
     (let is = ap (λ x. word_count (kept b x)) (one_value r.segments r.levels r.levels r.segment r.at t u c one.cost h one.means).0 in
     omega (arith, is, none)))

@@ -17,14 +17,14 @@ use Rattle.capnp_making.specs.Stored.{IsReplaced}
 use Rattle.capnp_objects.specs.Demands.{IsStructList, tag}
 use Rattle.capnp_objects.specs.Faults.{child_at}
 use Rattle.capnp_objects.specs.Outcomes.{Entered, ReadsAll, ReadsElements}
-use Rattle.capnp_objects.specs.Refusals.{Stopped, StopsWithin, Refused, RefusedElements, StopsAmongElements}
+use Rattle.capnp_objects.specs.Refusals.{Stopped, Refused, RefusedElements}
 use Rattle.capnp_objects.specs.Reading.{Reading, behind, tag_size, words_from}
-use Rattle.capnp_objects.specs.Wanted.{Form, plain}
+use Rattle.capnp_objects.specs.Wanted.{Form}
 use Rattle.capnp_objects.specs.declared.object.Purpose.TheVariants.{Value}
 use Rattle.capnp_copies.specs.Forms.{kept, kept_each, kept_elements}
 use Rattle.capnp_copies.specs.Copied.{copied, with_children, rows_laid}
-use Rattle.capnp_copies.specs.Originals.{Original, children_original, elements_original, kept_count}
-use Rattle.capnp_copies.specs.Rooms.{IsTooLarge}
+use Rattle.capnp_copies.specs.Originals.{Original, value_original, children_original}
+use Rattle.capnp_copies.specs.Originals.{elements_original, kept_count}
 use Rattle.capnp_copies.specs.Widths.{widths_kept}
 use Rattle.capnp_copies.specs.declared.widths.ElementSizes.{ElementSizes}
 
@@ -86,19 +86,40 @@ pub data IsMadeOf (form : Form) (r : Reading) (a : Target) (n : ℕ) : Type 0 wh
 abbrev pub WantsWords : Form → ℕ → Reading → Meter → Meter → Type 0
 WantsWords form n r m m' = (a : Target) × Entered Value r m m' a × IsMadeOf form r a n
 
--- The arena has no room, by the name k, for words of which Q says where they are wanted. What is
--- copied is then too large for its segment, as P says of the words in use and the room.
-abbrev pub LacksRoom : Change → ErrorKind → (ℕ → Type 0) → (ℕ → ℕ → Type 0) → Type 0
-LacksRoom c k Q P = (n : ℕ) × RefusesWords c.old c.new n k × Q n ×
-    P (length (segment c.old.words c.segment)) (c.old.room c.segment)
+-- So many words more are more than the segment of the place has room for.
+abbrev pub Overflows : Change → ℕ → Type 0
+Overflows c n = c.old.room c.segment < length (segment c.old.words c.segment) + n
 
--- Why a copy is refused by the name k: the arena has no room for an object of words that are at
--- hand, before anything is read, or for one that reading leads to; reading is refused; or what is
--- copied is larger than an object can be.
+-- Reading comes to an object of which words are to be made: P says of how many, and of how many
+-- they are with all those that were spent before.
+abbrev pub ComesToObject : {V : Type 0} → Original V → Form → Meter → Meter → (ℕ → ℕ → Type 0) → Type 0
+ComesToObject o form m m' P =
+    (n : ℕ) × (x : o.stops form (WantsWords form n) m m') ×
+    P n ((o.spent form (WantsWords form n) m m' x).words + n)
+
+-- The arena refuses n words by the name k, and the segment of the place has no room for so many in all.
+abbrev pub FindsNoRoom : Change → ErrorKind → ℕ → ℕ → Type 0
+FindsNoRoom c k n all = RefusesWords c.old c.new n k × Overflows c all
+
+-- The arena has no room, by the name k, for an object of words that are at hand, before anything is
+-- read, or for one that reading leads to: with what was spent until then it is more than the segment
+-- of the place has room for.
+abbrev pub LacksRoom : {V : Type 0} → Original V → Change → ErrorKind → Type 0
+LacksRoom o c k =
+    ((n : ℕ) × (c.after ≡ c.before) × o.makes c.form n × FindsNoRoom c k n n) ⊎
+    ComesToObject o c.form c.before c.after (FindsNoRoom c k)
+
+-- Whatever can be read of it, by any meter, has more words to be kept than the segment has room for.
+abbrev pub IsTooLarge : {V : Type 0} → Original V → Change → Type 0
+IsTooLarge {V} o c =
+    (any : Form) (m m' : Meter) (value : V) → o.reads any m m' value →
+    Overflows c (o.words c.form value)
+
+-- Why a copy is refused by the name k: the arena has no room for an object, and what is copied is
+-- too large; reading is refused; or what is copied is larger than an object can be.
 abbrev pub RefusesToCopy : {V : Type 0} → Original V → Change → ErrorKind → Type 0
 RefusesToCopy o c k =
-    LacksRoom c k (λ n. ((c.after ≡ c.before) × o.makes c.form n) ⊎
-    o.stops c.form (WantsWords c.form n) c.before c.after) (IsTooLarge c.form o)
+    (LacksRoom o c k × IsTooLarge o c)
     ⊎ o.stops c.form (λ r m m'. Stopped Value c.form r m m' k) c.before c.after ⊎ o.exceeds c.form k
 
 -- The last n words of the segment stand from the place on, and are zero.
@@ -149,14 +170,14 @@ pub record CopiesFirst (r : Reading) (i : ℕ) (c : Change) (k : ErrorKind) : Ty
   pub first : Trees
   pub fewer : count first < i
   pub between : Meter
-  pub are_read : ReadsAll plain r c.before between first
+  pub are_read : ReadsAll c.form r c.before between first
   pub filled : Segments
   pub made : AreFilled c.old.words filled c.segment c.at first
   pub cleared : IsReplaced filled c.new.words c.segment (c.at + count first) Null Null
   pub why :
-      LacksRoom c k (λ n. StopsWithin plain (WantsWords plain n)
-      (behind r (count first)) between c.after) (IsTooLarge plain (children_original r i))
-      ⊎ Refused plain (behind r (count first)) between c.after k
+      (ComesToObject (value_original (behind r (count first))) c.form between c.after
+      (λ n all. FindsNoRoom c k n (are_read.cost + all)) × IsTooLarge (children_original r i) c)
+      ⊎ Refused c.form (behind r (count first)) between c.after k
   pub memory : SpendsMemory c.old c.new k
 
 -- A call copies i elements of a list of structs, cut to the sections that are kept, where the rows
@@ -183,9 +204,9 @@ pub record CopiesRows (r : Reading) (sizes : ElementSizes) (i left : ℕ) (c : C
 pub record StopsAtElements (r : Reading) (sizes : ElementSizes) (i : ℕ) (c : Change) (k : ErrorKind)
     : Type 0 where
   pub why :
-      LacksRoom c k (λ n. StopsAmongElements c.form (WantsWords c.form n) r sizes.source i c.before c.after)
-      (λ used room. EndsInZeros c (i * (sizes.kept.data_words + sizes.kept.pointers)) →
-      IsTooLarge c.form (elements_original r sizes i) used room)
+      (ComesToObject (elements_original r sizes i) c.form c.before c.after (FindsNoRoom c k) ×
+      (EndsInZeros c (i * (sizes.kept.data_words + sizes.kept.pointers)) →
+      IsTooLarge (elements_original r sizes i) c))
       ⊎ RefusedElements c.form r sizes.source i c.before c.after k
   pub left : ArePartlyFilled c.old.words c.new.words c.segment c.at sizes.kept.data_words
       sizes.kept.pointers i

@@ -56,3 +56,7 @@ spent_among_elements x =
       words = x.are_read.cost + (spent_among x.stops).words;
       pointers = pointers_in_elements x.first + (spent_among x.stops).pointers;
     }
+
+-- What is spent behind an object of so many words, which is itself for one pointer.
+abbrev pub spent_behind : ℕ → Spent → Spent
+spent_behind n rest = record { words = n + rest.words; pointers = 1 + rest.pointers }

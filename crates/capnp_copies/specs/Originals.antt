@@ -19,7 +19,7 @@ use Rattle.capnp_objects.specs.Refusals.{StopsWithin, StopsAmong, StopsAmongElem
 use Rattle.capnp_objects.specs.Refusals.{BreaksOffAmong, BreaksOffAmongElements}
 use Rattle.capnp_objects.specs.Spending.{pointers_in, pointers_in_all, pointers_in_elements}
 use Rattle.capnp_objects.specs.Wanted.{Form, canonical}
-use Rattle.capnp_copies.specs.Costs.{spent_until, spent_among, spent_among_elements}
+use Rattle.capnp_copies.specs.Costs.{Spent, spent_until, spent_among, spent_among_elements, spent_behind}
 use Rattle.capnp_copies.specs.Forms.{kept, kept_each, kept_elements}
 use Rattle.capnp_copies.specs.Widths.{widths_kept}
 use Rattle.capnp_copies.specs.declared.widths.ElementSizes.{ElementSizes}
@@ -32,6 +32,8 @@ pub record Original (V : Type 0) : Type 1 where
   pub reads : Form → Meter → Meter → V → Type 0
   -- From one meter to another reading it in a form stops, at an object of which a predicate says so.
   pub stops : Form → (Reading → Meter → Meter → Type 0) → Meter → Meter → Type 0
+  -- What was spent before that object.
+  pub spent : (form : Form) (P : Reading → Meter → Meter → Type 0) (m m' : Meter) → stops form P m m' → Spent
   -- Of words that are at hand a copy in a form makes an object of so many words.
   pub makes : Form → ℕ → Type 0
   -- A copy in a form has no pointer for so large an object, and is refused by this name.
@@ -51,6 +53,7 @@ abbrev pub value_original : Reading → Original Tree
 value_original r = record {
   reads = λ form m m' t. Reads form r m m' t;
   stops = λ form P m m'. StopsWithin form P r m m';
+  spent = λ form P m m' x. spent_until x;
   makes = λ form n. ⊥;
   exceeds = λ form k. ⊥;
   words = λ form t. word_count (kept form t);
@@ -63,6 +66,7 @@ abbrev pub children_original : Reading → ℕ → Original Trees
 children_original r n = record {
   reads = λ form m m' ts. (count ts ≡ n) × ReadsAll form r m m' ts;
   stops = λ form P m m'. StopsAmong form P r n m m';
+  spent = λ form P m m' x. spent_among x;
   makes = λ form i. ⊥;
   exceeds = λ form k. ⊥;
   words = λ form ts. word_count_all (kept_each form ts);
@@ -78,6 +82,7 @@ abbrev pub elements_original : Reading → ElementSizes → ℕ → Original Ele
 elements_original r sizes n = record {
   reads = λ form m m' es. (element_count es ≡ n) × ReadsElements form r sizes.source m m' es;
   stops = λ form P m m'. StopsAmongElements form P r sizes.source n m m';
+  spent = λ form P m m' x. spent_among_elements x;
   makes = λ form i. ⊥;
   exceeds = λ form k. ⊥;
   words = λ form es. word_count_elements
@@ -103,6 +108,7 @@ abbrev pub sections_original : List ℕ → Reading → ℕ → Original Tree
 sections_original ws r q = record {
   reads = λ form m m' t. (ts : Trees) × (t ≡ Struct ws ts) × (count ts ≡ q) × ReadsAll form r m m' ts;
   stops = λ form P m m'. StopsAmong form P r q m m';
+  spent = λ form P m m' x. spent_behind (length ws + q) (spent_among x);
   makes = λ form n. n ≡ kept_count form ws + kept_count form (words_from r q);
   exceeds = λ form k. IsTooWide (kept_count form ws) k;
   words = λ form t. word_count (kept form t);
@@ -130,6 +136,7 @@ numbers_original size n r = record {
   reads = λ form m m' t. (t ≡ Flat (size_number size)
       (unpacked (size_number size) n (words_from r (words_for (size_number size) n)))) × (m' ≡ m);
   stops = λ form P m m'. ⊥;
+  spent = λ form P m m' none. absurd none;
   makes = λ form i. i ≡ words_for (size_number size) n;
   exceeds = λ form k. IsTooLong size n 0 k;
   words = λ form t. word_count (kept form t);
@@ -141,6 +148,7 @@ abbrev pub pointers_original : ℕ → Reading → Original Tree
 pointers_original n r = record {
   reads = λ form m m' t. (ts : Trees) × (t ≡ Pointers ts) × (count ts ≡ n) × ReadsAll form r m m' ts;
   stops = λ form P m m'. StopsAmong form P r n m m';
+  spent = λ form P m m' x. spent_behind n (spent_among x);
   makes = λ form i. i ≡ n;
   exceeds = λ form k. IsTooLong Pointer n 0 k;
   words = λ form t. word_count (kept form t);
@@ -156,6 +164,7 @@ structs_original size n r = record {
   reads = λ form m m' t. (es : Elements) × (t ≡ Structs size.data_words size.pointers es) ×
       (element_count es ≡ n) × ReadsElements form r size m m' es;
   stops = λ form P m m'. StopsAmongElements form P r size n m m';
+  spent = λ form P m m' x. spent_behind (structs_words n size) (spent_among_elements x);
   makes = λ form i. i ≡ structs_words n (widths_kept form r size n);
   exceeds = λ form k. IsTooLong InlineComposite n (size.data_words + size.pointers) k;
   words = λ form t. word_count (kept form t);

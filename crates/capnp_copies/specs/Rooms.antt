@@ -1,18 +1,11 @@
--- When a copy has room in a segment, and when it has not.
-use Rattle.std.specs.Prelude.{ℕ, ◌+◌, ◌<◌}
+-- When a copy has room in a segment.
+use Rattle.std.specs.Prelude.{ℕ}
 use Rattle.capnp_words.specs.declared.error.ErrorKind.{ErrorKind}
 use Rattle.capnp_words.specs.Meter.{Meter}
 use Rattle.capnp_arena.specs.View.{View}
 use Rattle.capnp_making.specs.Near.{HasOwnRoom}
 use Rattle.capnp_objects.specs.Wanted.{Form}
 use Rattle.capnp_copies.specs.Originals.{Original}
-
--- Whatever can be read of it, by any meter, has more words to be kept than fit behind so many words
--- of a segment with this room.
-abbrev pub IsTooLarge : {V : Type 0} → Form → Original V → ℕ → ℕ → Type 0
-IsTooLarge {V} form o used room =
-    (any : Form) (m m' : Meter) (value : V) → o.reads any m m' value →
-    room < used + o.words form value
 
 -- It is no larger than an object can be, a limiter lets it be read in the form, and the words to be
 -- kept of it fit behind those of segment id.

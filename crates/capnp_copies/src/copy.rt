@@ -82,8 +82,9 @@ pub fn copy_value<A: BuilderArena, B: ReaderArena>(
 /// segment of its pointer has no room. So it is without a budget too, and where nothing is charged.
 ///
 /// A refusal of the arena is `AllocationFailed` or `MessageTooLarge`, and comes only where the words
-/// don't fit behind those of the pointer's segment; a capability that the form doesn't take is refused
-/// by the name that `CopyForm` says; a refusal to read keeps its name.
+/// don't fit behind those of the pointer's segment, and at an object whose words, with all that was read
+/// before it, don't; a capability that the form doesn't take is refused by the name that `CopyForm` says;
+/// a refusal to read keeps its name.
 /// Then the pointer is null and the words that were allocated are zero; the limiter keeps what was
 /// charged.
 pub fn copy_in_form<A: BuilderArena, B: ReaderArena>(

@@ -28,7 +28,8 @@ use Rattle.capnp_copies.proofs.FilledElements.{DataWritten, element_copied, elem
 use Rattle.capnp_copies.proofs.FilledObjects.{nothing_made, StructBegun, struct_fits, struct_null, struct_copied, struct_stops, ObjectBegun, pointers_copied, pointers_stop, widths_keep, structs_copied, structs_stop}
 use Rattle.capnp_copies.proofs.FilledValues.{read_stops, null_copied, CapabilityCopied, capability_value, capability_value_stops, struct_value, struct_value_stops, pointers_value, pointers_value_stops, structs_value, structs_value_stops, FlatOutcome, flat_value, flat_stops}
 use Rattle.capnp_copies.proofs.Copying.{there}
-use Rattle.capnp_copies.proofs.Growth.{none_itself, none_refused, Begins, struct_begins, taken_so, none_taken, one_taken, stop_taken, all_taken, no_row_taken, blank_taken, row_taken, row_stop_taken, rows_taken, all_within, among_within, no_wider, read_stop_taken, null_takes, capability_value_takes, struct_takes, struct_stop_takes, flat_takes, flat_stop_takes, pointers_take, pointers_stop_take, structs_take, structs_stop_take, made_none, pointers_behind, pointers_stop_behind, structs_behind, structs_stop_behind, sections_behind, sections_stop_behind}
+use Rattle.capnp_copies.proofs.Growth.{none_itself, none_refused, taken_so, none_taken, one_taken, stop_taken, all_taken, no_row_taken, blank_taken, row_taken, row_stop_taken, rows_taken, all_within, among_within, no_wider, read_stop_taken, null_takes, capability_value_takes, struct_takes, struct_stop_takes, flat_takes, flat_stop_takes, pointers_take, pointers_stop_take, structs_take, structs_stop_take, made_none, pointers_behind, pointers_stop_behind, structs_behind, structs_stop_behind, sections_behind, sections_stop_behind}
+use Rattle.capnp_copies.proofs.ObjectsMade.{Begins, struct_begins, no_own_room}
 use Rattle.capnp_copies.proofs.KeptForms.{keeps_sections, SourceKept, sections_cut}
 use Rattle.capnp_copies.proofs.Originals.{halfway, sections_large, pointers_large, structs_large}
 use Rattle.capnp_copies.proofs.TightElements.{all_rows}
@@ -51,7 +52,7 @@ children::copy_in_line-copy_child-requires g t c κs within =
 pub children::copy_in_line-returns-in-Err-clause-refused : goal.children::copy_in_line-returns-in-Err-clause-refused
 children::copy_in_line-returns-in-Err-clause-refused g t c =
     let nl = to_z-of_z w32 c.args.from.nesting_limit (search rules) in
-    child_stops (omega (arith, c.requires.room, c.loop-i-test.true)) c.loop-i-test.true c.loop-i.invariant.0 (rw nl at c.in-Err.ensures.refused)
+    child_stops (omega (arith, c.requires.room, c.loop-i-test.true)) c.loop-i-test.true c.loop-i.invariant.0 c.loop-i.invariant.1 (rw nl at c.in-Err.ensures.refused)
 
 pub children::copy_in_line-loop-i-preserved : goal.children::copy_in_line-loop-i-preserved
 children::copy_in_line-loop-i-preserved g t c =
@@ -375,7 +376,7 @@ elements::copy_elements-returns-in-Err-clause-refused g t c =
       more = c.loop-i-test.true;
       rows = c.loop-i.invariant.0;
     } in
-    row_stops here (rw (c.total-source_words.ensures, c.total-kept_words.ensures, nl) at c.in-Err.ensures.refused)
+    row_stops here c.loop-i.invariant.1 (rw (c.total-source_words.ensures, c.total-kept_words.ensures, nl) at c.in-Err.ensures.refused)
 
 pub elements::copy_elements-loop-i-preserved : goal.elements::copy_elements-loop-i-preserved
 elements::copy_elements-loop-i-preserved g t c =
@@ -446,7 +447,7 @@ lists::copy_pointers-returns-in-Err-clause-refused g t c =
     let full : HasRoom (g.A.BuilderArena.view c.args.arena.now) c.args.id c.args.count → ⊥ = λ room. absurd (false≢true (c.in-Err.ensures.memory.fits room)) in
     let none = nothing_made (form_in c.args.form) c.args.id c.args.at c.args.count (g.A.BuilderArena.view c.args.arena.now) (g.A.BuilderArena.view c.make_list.new.arena) c.args.lim.now c.args.lim.now c.in-Err.k c.requires.place c.requires.null
     c.in-Err.ensures.memory.named c.in-Err.ensures.refused full in
-    halfway (inl (c.args.count, none.0, inl (refl, refl), pointers_large (form_in c.args.form) (reading g.B.ReaderArena c.args.from) c.args.count (length (segment (g.A.BuilderArena.view c.args.arena.now).words c.args.id)) ((g.A.BuilderArena.view c.args.arena.now).room c.args.id) (no_pointers_room (form_in c.args.form) (reading g.B.ReaderArena c.args.from) c.args.count c.args.id (g.A.BuilderArena.view c.args.arena.now) full))) none.1
+    halfway (inl (inl (c.args.count, refl, refl, (none.0, no_own_room (g.A.BuilderArena.view c.args.arena.now) c.args.id c.args.count full)), pointers_large (form_in c.args.form) (reading g.B.ReaderArena c.args.from) c.args.count (length (segment (g.A.BuilderArena.view c.args.arena.now).words c.args.id)) ((g.A.BuilderArena.view c.args.arena.now).room c.args.id) (no_pointers_room (form_in c.args.form) (reading g.B.ReaderArena c.args.from) c.args.count c.args.id (g.A.BuilderArena.view c.args.arena.now) full))) none.1
 
 -- Lists of structs.
 
@@ -476,9 +477,10 @@ lists::copy_structs-returns-in-Ok-clause-copied g t c =
 pub lists::copy_structs-returns-in-Ok-clause-refused : goal.lists::copy_structs-returns-in-Ok-clause-refused
 lists::copy_structs-returns-in-Ok-clause-refused g t c =
     let least = c.kept_widths-kept.result in
+    let less = no_wider c.args.count least.data_words least.pointers c.args.size.data_words c.args.size.pointers c.kept_widths-kept.ensures.less_data c.kept_widths-kept.ensures.less_pointers in
     let begun : ObjectBegun c.args.id c.args.at (1 + c.args.count * (least.data_words + least.pointers)) (g.A.BuilderArena.view c.args.arena.now) (g.A.BuilderArena.view c.make_struct_list.new.arena) c.in-Ok.list (zero_structs c.args.count least) =
     record { begun = record { made = c.in-Ok.ensures.made; start = c.in-Ok.ensures.start.leads; inside = c.in-Ok.ensures.start.inside }; memory = c.in-Ok.ensures.memory.granted } in
-    err_so c.copy_elements.result _ _ c.copy_elements.ensures.refused (λ k stop. structs_stop c.requires.inside c.kept_widths-kept.ensures.kept begun (record { place = c.requires.place; memory = c.in-Ok.ensures.memory.granted; taken = c.in-Ok.ensures.memory.taken; behind = c.in-Ok.ensures.start.behind; near = c.in-Ok.ensures.near }) stop)
+    err_so c.copy_elements.result _ _ c.copy_elements.ensures.refused (λ k stop. structs_stop c.requires.inside c.kept_widths-kept.ensures.kept begun (record { place = c.requires.place; memory = c.in-Ok.ensures.memory.granted; taken = c.in-Ok.ensures.memory.taken; behind = c.in-Ok.ensures.start.behind; near = c.in-Ok.ensures.near }) (omega (arith, less)) stop)
 
 pub lists::copy_structs-returns-in-Ok-clause-taken : goal.lists::copy_structs-returns-in-Ok-clause-taken
 lists::copy_structs-returns-in-Ok-clause-taken g t c =
@@ -494,7 +496,7 @@ lists::copy_structs-returns-in-Err-clause-refused g t c =
     let full : HasRoom (g.A.BuilderArena.view c.args.arena.now) c.args.id (1 + c.args.count * (least.data_words + least.pointers)) → ⊥ = λ room. absurd (false≢true (c.in-Err.ensures.memory.fits room)) in
     let none = nothing_made (form_in c.args.form) c.args.id c.args.at (1 + c.args.count * (least.data_words + least.pointers)) (g.A.BuilderArena.view c.args.arena.now) (g.A.BuilderArena.view c.make_struct_list.new.arena) c.args.lim.now c.args.lim.now c.in-Err.k c.requires.place c.requires.null
     c.in-Err.ensures.memory.named c.in-Err.ensures.refused full in
-    halfway (inl (1 + c.args.count * (least.data_words + least.pointers), none.0, inl (refl, ap (structs_words c.args.count) c.kept_widths-kept.ensures.kept), structs_large (form_in c.args.form) (reading g.B.ReaderArena c.args.from) c.args.size c.args.count (length (segment (g.A.BuilderArena.view c.args.arena.now).words c.args.id)) ((g.A.BuilderArena.view c.args.arena.now).room c.args.id) (no_structs_room (reading g.B.ReaderArena c.args.from) c.args.size least c.args.count c.args.id (g.A.BuilderArena.view c.args.arena.now) (form_in c.args.form) c.requires.inside c.kept_widths-kept.ensures.kept full)))
+    halfway (inl (inl (1 + c.args.count * (least.data_words + least.pointers), refl, ap (structs_words c.args.count) c.kept_widths-kept.ensures.kept, (none.0, no_own_room (g.A.BuilderArena.view c.args.arena.now) c.args.id (1 + c.args.count * (least.data_words + least.pointers)) full)), structs_large (form_in c.args.form) (reading g.B.ReaderArena c.args.from) c.args.size c.args.count (length (segment (g.A.BuilderArena.view c.args.arena.now).words c.args.id)) ((g.A.BuilderArena.view c.args.arena.now).room c.args.id) (no_structs_room (reading g.B.ReaderArena c.args.from) c.args.size least c.args.count c.args.id (g.A.BuilderArena.view c.args.arena.now) (form_in c.args.form) c.requires.inside c.kept_widths-kept.ensures.kept full)))
     none.1
 
 -- Structs.
@@ -512,7 +514,7 @@ structs::copy_struct-returns-in-Err-clause-refused g t c =
     c.in-Err.ensures.memory.named c.in-Err.ensures.refused full in
     let cut = sections_cut (form_in c.args.form) (reading g.B.ReaderArena c.args.from) c.args.size least c.requires.inside (keeps_sections (form_in c.args.form) (reading g.B.ReaderArena c.args.from) c.args.size c.kept_sections-kept.result c.requires.inside c.kept_sections-kept.ensures.data c.kept_sections-kept.ensures.pointers c.kept_sections-kept.ensures.less_data c.kept_sections-kept.ensures.less_pointers) in
     let makes = ap₂ (λ i j. i + j) cut.of_data cut.of_pointers in
-    halfway (inl (least.data_words + least.pointers, none.0, inl (refl, makes), sections_large (form_in c.args.form) (words_from (reading g.B.ReaderArena c.args.from) c.args.size.data_words) (behind (reading g.B.ReaderArena c.args.from) c.args.size.data_words) c.args.size.pointers (length (segment (g.A.BuilderArena.view c.args.arena.now).words c.args.id)) ((g.A.BuilderArena.view c.args.arena.now).room c.args.id) (no_struct_room (reading g.B.ReaderArena c.args.from) c.args.size least c.args.id (g.A.BuilderArena.view c.args.arena.now) (form_in c.args.form) c.requires.inside (keeps_sections (form_in c.args.form) (reading g.B.ReaderArena c.args.from) c.args.size c.kept_sections-kept.result c.requires.inside c.kept_sections-kept.ensures.data c.kept_sections-kept.ensures.pointers c.kept_sections-kept.ensures.less_data c.kept_sections-kept.ensures.less_pointers) full)))
+    halfway (inl (inl (least.data_words + least.pointers, refl, makes, (none.0, no_own_room (g.A.BuilderArena.view c.args.arena.now) c.args.id (least.data_words + least.pointers) full)), sections_large (form_in c.args.form) (words_from (reading g.B.ReaderArena c.args.from) c.args.size.data_words) (behind (reading g.B.ReaderArena c.args.from) c.args.size.data_words) c.args.size.pointers (length (segment (g.A.BuilderArena.view c.args.arena.now).words c.args.id)) ((g.A.BuilderArena.view c.args.arena.now).room c.args.id) (no_struct_room (reading g.B.ReaderArena c.args.from) c.args.size least c.args.id (g.A.BuilderArena.view c.args.arena.now) (form_in c.args.form) c.requires.inside (keeps_sections (form_in c.args.form) (reading g.B.ReaderArena c.args.from) c.args.size c.kept_sections-kept.result c.requires.inside c.kept_sections-kept.ensures.data c.kept_sections-kept.ensures.pointers c.kept_sections-kept.ensures.less_data c.kept_sections-kept.ensures.less_pointers) full)))
     none.1
 
 pub structs::copy_struct-returns-in-Err-clause-taken : goal.structs::copy_struct-returns-in-Err-clause-taken

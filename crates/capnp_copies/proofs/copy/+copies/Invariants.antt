@@ -4,7 +4,7 @@ use Rattle.capnp_readers.specs.Readers.{reading}
 use Rattle.capnp_copies.specs.Changes.{change, CopiesChildren, CopiesRows}
 use Rattle.capnp_copies.specs.Forms.{form_in}
 use Rattle.capnp_copies.specs.Originals.{children_original, elements_original}
-use Rattle.capnp_copies.proofs.Growth.{TakesForCopy}
+use Rattle.capnp_copies.proofs.ObjectsMade.{TakesForCopy}
 use Rattle.capnp_copies.proofs.copy.+copies.Given as goal
 
 abbrev pub decreases-copy_object : goal.decreases-copy_object

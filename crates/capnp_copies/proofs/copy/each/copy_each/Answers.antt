@@ -22,7 +22,7 @@ copy_value-requires g c =
 pub returns-in-Err-clause-refused : goal.returns-in-Err-clause-refused
 returns-in-Err-clause-refused g c =
     let nl = to_z-of_z w32 c.args.from.nesting_limit (search rules) in
-    each_stops (omega (arith, c.requires.room, c.loop-i-test.true)) c.loop-i-test.true c.loop-i.invariant.0 (rw nl at c.in-Err.ensures.refused)
+    each_stops (omega (arith, c.requires.room, c.loop-i-test.true)) c.loop-i-test.true c.loop-i.invariant.0 c.loop-i.invariant.1 (rw nl at c.in-Err.ensures.refused)
 
 pub loop-i-preserved : goal.loop-i-preserved
 loop-i-preserved g c =
@@ -44,4 +44,4 @@ returns-clause-taken g c = all_taken (omega arith) c.loop-i.invariant.1
 pub returns-in-Err-clause-fits : goal.returns-in-Err-clause-fits
 returns-in-Err-clause-fits g c =
     let nl = to_z-of_z w32 c.args.from.nesting_limit (search rules) in
-    λ fits. absurd (each_refused_rightly (each_stops (omega (arith, c.requires.room, c.loop-i-test.true)) c.loop-i-test.true c.loop-i.invariant.0 (rw nl at c.in-Err.ensures.refused)) fits)
+    λ fits. absurd (each_refused_rightly (each_stops (omega (arith, c.requires.room, c.loop-i-test.true)) c.loop-i-test.true c.loop-i.invariant.0 c.loop-i.invariant.1 (rw nl at c.in-Err.ensures.refused)) fits)

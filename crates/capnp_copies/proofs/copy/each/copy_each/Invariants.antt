@@ -2,7 +2,7 @@ use Rattle.capnp_objects.specs.Wanted.{plain}
 use Rattle.capnp_readers.specs.Readers.{reading}
 use Rattle.capnp_copies.specs.Changes.{change, CopiesChildren}
 use Rattle.capnp_copies.specs.Originals.{children_original}
-use Rattle.capnp_copies.proofs.Growth.{TakesForCopy}
+use Rattle.capnp_copies.proofs.ObjectsMade.{TakesForCopy}
 use Rattle.capnp_copies.proofs.copy.each.copy_each.Given as goal
 
 abbrev pub invariant-loop-i : goal.invariant-loop-i

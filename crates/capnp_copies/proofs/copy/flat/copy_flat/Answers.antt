@@ -18,7 +18,8 @@ use Rattle.capnp_words.specs.Sizes.{size_number}
 use Rattle.capnp_format.specs.Word.{list_word}
 use Rattle.capnp_making.specs.Near.{HasOwnRoom, offset_behind, with_object}
 use Rattle.capnp_copies.proofs.Copying.{there}
-use Rattle.capnp_copies.proofs.Growth.{none_written, none_refused, Begins, made_none, made_more, made_object}
+use Rattle.capnp_copies.proofs.ObjectsMade.{Begins}
+use Rattle.capnp_copies.proofs.Growth.{none_written, none_refused, made_none, made_more, made_object}
 use Rattle.capnp_copies.proofs.StayingNear.{stay_fewer, own_room}
 use Rattle.capnp_copies.proofs.TightFlat.{flat_near}
 use Rattle.capnp_copies.proofs.Padding.{packed_again}

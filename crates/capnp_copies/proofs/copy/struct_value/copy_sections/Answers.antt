@@ -13,13 +13,14 @@ use Rattle.capnp_copies.proofs.DataSections.{kept_count-le}
 use Rattle.capnp_copies.proofs.FilledObjects.{nothing_made, nothing_left}
 use Rattle.capnp_copies.proofs.FilledSections.{SectionsBegun, sections_fit, sections_null, sections_inside, sections_copied, sections_stop}
 use Rattle.capnp_copies.proofs.KeptForms.{SectionsCut}
+use Rattle.capnp_copies.proofs.ObjectsMade.{struct_begins, no_own_room}
 use Rattle.capnp_copies.proofs.Originals.{halfway, sections_large}
 use Rattle.capnp_copies.proofs.TooLarge.{no_sections_room}
 use Rattle.capnp_making.specs.Memory.{HasRoom, refusals_for}
 use Rattle.capnp_copies.proofs.FlatRead.{ok_so, err_so}
 use Rattle.capnp_making.proofs.Memory.{keeps_itself, spends_nothing}
 use Rattle.capnp_format.specs.Tree.{Null}
-use Rattle.capnp_copies.proofs.Growth.{none_itself, none_written, none_refused, struct_begins, taken_so, made_none, all_within, among_within, sections_behind, sections_stop_behind}
+use Rattle.capnp_copies.proofs.Growth.{none_itself, none_written, none_refused, taken_so, made_none, all_within, among_within, sections_behind, sections_stop_behind}
 use Rattle.capnp_copies.proofs.copy.struct_value.copy_sections.Goals as goal
 
 -- A struct of more data words than a struct can have, and one that the arena refuses.
@@ -39,9 +40,7 @@ returns-in-Err-make_struct-clause-refused g c =
     let cut : SectionsCut (form_of c.args.canonicalize) (data_of g.B.ReaderArena c.args.value) (pointers_read g.B.ReaderArena c.args.value) c.args.value.pointer_count least = record { inside = c.args.value.inside; of_data = c.in-Ok.ensures.data; of_pointers = c.in-Ok.ensures.pointers } in
     let makes = ap₂ (λ i j. i + j) c.in-Ok.ensures.data c.in-Ok.ensures.pointers in
     halfway (inl (
-      least.data_words + least.pointers,
-      none.0,
-      inl (refl, makes),
+      inl (least.data_words + least.pointers, refl, makes, (none.0, no_own_room (g.A.BuilderArena.view c.args.arena.now) c.args.id (least.data_words + least.pointers) full)),
       sections_large (form_of c.args.canonicalize) (data_of g.B.ReaderArena c.args.value) (pointers_read g.B.ReaderArena c.args.value) c.args.value.pointer_count (length (segment (g.A.BuilderArena.view c.args.arena.now).words c.args.id)) ((g.A.BuilderArena.view c.args.arena.now).room c.args.id)
           (no_sections_room c.args.id (g.A.BuilderArena.view c.args.arena.now) (form_of c.args.canonicalize) cut full),
     )) none.1
