@@ -22,6 +22,7 @@ use Rattle.capnp_copies.specs.Forms.{kept}
 use Rattle.capnp_copies.specs.Originals.{Original, value_original}
 use Rattle.capnp_builders.specs.Kept.{PutsCopy, LeavesCleared, FillsSegment, FillsMessage}
 use Rattle.capnp_copies.proofs.Copying.{fresh_made}
+use Rattle.capnp_copies.proofs.Originals.{lacks_before}
 
 -- a null pointer stores nothing else
 pub null_replaced : (S R : Segments) (s p : ℕ) (t : Tree) → IsPlace S s p → word_at S s p ≡ 0 → IsReplaced S R s p Null t → Puts S R s p t
@@ -97,9 +98,12 @@ put_copied c mid limits only null made = record {
 }
 
 pub put_stopped : {o : Original Tree} {k : ErrorKind} (c : Change) (mid : View) → KeepsLimits c.old mid → IsPruned c.old.words mid.words → Puts c.old.words mid.words c.segment c.at Null → StopsCopy o (record c { old = mid }) Null k → LeavesCleared o c k
-put_stopped {k = k} c mid limits only null stop = record {
+put_stopped {o = o} {k = k} c mid limits only null stop = record {
   why = elim stop.why [
-    | inl x ↦ inl (x.0, words_refused_later c.old mid c.new x.0 k limits x.1, x.2, λ any m m' t read. exceeds_before _ c.old mid c.segment limits only (x.3 any m m' t read))
+    | inl x ↦ inl (
+      lacks_before o (record c { old = mid }) c.old k (λ n all found. (words_refused_later c.old mid c.new n k limits found.0, exceeds_before all c.old mid c.segment limits only found.1)) x.0,
+      λ any m m' t read. exceeds_before _ c.old mid c.segment limits only (x.1 any m m' t read),
+    )
     | inr x ↦ inr x
   ];
   cleared = λ u stored. replaced_again c.old.words mid.words c.new.words c.segment c.at u Null Null (null u stored) stop.left;

@@ -35,7 +35,7 @@ puts_default (Err k) bytes id at old new made taken = tt
 
 refuses_default : (bytes : List ℕ) (id at : ℕ) (old new : View) (k : ErrorKind) → StopsCopy (value_original (default_root bytes)) (default_copy id at old new) Null k → RefusesDefault bytes (default_copy id at old new) k
 refuses_default bytes id at old new k stop = elim stop.why [
-  | inl x ↦ inr (x.0, x.1, elim x.2 [ inl none ↦ absurd none.1 | inr wanted ↦ wanted ], x.3)
+  | inl x ↦ inr x
   | inr y ↦ elim y [ inl read ↦ inl (unlimited_refusal (λ x. tt) (unreadable read)) | inr none ↦ absurd none ]
 ]
 

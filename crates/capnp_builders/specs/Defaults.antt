@@ -15,13 +15,12 @@ use Rattle.capnp_making.specs.Stored.{IsReplaced}
 use Rattle.capnp_objects.specs.Faults.{HasFault}
 use Rattle.capnp_objects.specs.Outcomes.{MeansThere}
 use Rattle.capnp_objects.specs.Reading.{Reading}
-use Rattle.capnp_objects.specs.Refusals.{StopsWithin}
 use Rattle.capnp_objects.specs.Source.{default_segment, default_segments}
 use Rattle.capnp_objects.specs.Wanted.{of_default}
-use Rattle.capnp_copies.specs.Changes.{Change, IsCopiedInRoom, LacksRoom, WantsWords, change}
+use Rattle.capnp_copies.specs.Changes.{Change, IsCopiedInRoom, IsTooLarge, LacksRoom, change}
 use Rattle.capnp_copies.specs.Growth.{MakesAtMost}
 use Rattle.capnp_copies.specs.Originals.{value_original}
-use Rattle.capnp_copies.specs.Rooms.{IsTooLarge, CanBeCopied}
+use Rattle.capnp_copies.specs.Rooms.{CanBeCopied}
 use Rattle.capnp_making.specs.Makes.{CallAt, call_at}
 
 -- The first word of a default, whose bytes are one segment. Nothing is charged there, and as many
@@ -46,9 +45,7 @@ default_copy id at old new = change of_default id at old new (unused None) (unus
 abbrev pub RefusesDefault : List ℕ → Change → ErrorKind → Type 0
 RefusesDefault bytes c k =
     HasFault of_default (default_root bytes) k
-    ⊎ LacksRoom c k (λ n. StopsWithin c.form (WantsWords c.form n)
-    (default_root bytes) c.before c.after) (IsTooLarge c.form
-    (value_original (default_root bytes)))
+    ⊎ (LacksRoom (value_original (default_root bytes)) c k × IsTooLarge (value_original (default_root bytes)) c)
 
 -- A default is of fewer than 2^32 words.
 abbrev pub IsShortDefault : Option (Bor (List ℕ)) → Type 0
