@@ -36,7 +36,7 @@ use Rattle.capnp_copies.specs.Changes.{Change, RefusesToCopy, change}
 use Rattle.capnp_copies.specs.Forms.{form_of, kept}
 use Rattle.capnp_copies.specs.Growth.{TakesAtMost}
 use Rattle.capnp_copies.specs.Originals.{value_original, sections_original, list_original}
-use Rattle.capnp_copies.proofs.Originals.{value_beyond}
+use Rattle.capnp_copies.proofs.Originals.{value_beyond, refused_words}
 use Rattle.capnp_making.specs.Makes.{CallAt}
 use Rattle.capnp_copies.specs.ListValues.{list_read}
 use Rattle.capnp_copies.specs.StructValues.{data_of, struct_read}
@@ -65,7 +65,9 @@ IsDone c after S R place =
 -- A copy is refused for want of memory, or its value can't be read; and never for a place.
 
 value_refused : (b : Bool) (id at : ℕ) (old new : View) (r : Reading) (m m' : Meter) (k : ErrorKind) → RefusesToCopy (value_original r) (change (form_of b) id at old new m m') k → IsOfMemory k ⊎ Refused (form_of b) r m m' k
-value_refused b id at old new r m m' k (inl (n, (refuses, none), wanted, large)) = inl (of_allocation old new (length new.words) (n + 1) k refuses)
+value_refused b id at old new r m m' k (inl (lacks, large)) =
+    let x = refused_words (value_original r) (change (form_of b) id at old new m m') k lacks in
+    inl (of_allocation old new (length new.words) (x.0 + 1) k x.1.0)
 value_refused b id at old new r m m' k (inr (inl refused)) = inr refused
 value_refused b id at old new r m m' k (inr (inr none)) = absurd none
 
@@ -83,7 +85,7 @@ copy_nowhere_as w b id at old new r m m' k refuses e = elim (copy_refused_as w b
 
 copy_fits_as : (w : Wanted) (c : Copying) (id at : ℕ) (old new : View) (r : Reading) (m m' : Meter) (k : ErrorKind) → c.wanted ≡ w → (c.wanted ≡ AList → AreWords r.segments) →
     CanBeCopiedAs c r m (length (segment old.words id)) (old.room id) → OfWanted w r (change (form_of c.canonicalize) id at old new m m') (λ o d. RefusesToCopy o d k) → ⊥
-copy_fits_as Value c id at old new r m m' k is small can (inl (n, why, wanted, large)) =
+copy_fits_as Value c id at old new r m m' k is small can (inl (lacks, large)) =
     let same : can.value ≡ can.copied = same_some can.value can.copied (subst (λ w. as_wanted w can.value ≡ Some can.copied) is can.is_wanted) in
     omega (arith, can.fits, value_beyond (form_of c.canonicalize) r (length (segment old.words id)) (old.room id) large can.value can.cost can.means, ap (λ t. word_count (kept (form_of c.canonicalize) t)) same)
 copy_fits_as Value c id at old new r m m' k is small can (inr (inl refused)) = (unreadable refused).only can.value can.cost can.means can.takes can.covers

@@ -41,7 +41,7 @@ use Rattle.capnp_copies.specs.Changes.{RefusesToCopy, change}
 use Rattle.capnp_copies.specs.Forms.{form_of}
 use Rattle.capnp_copies.proofs.ListValues.{first_read}
 use Rattle.capnp_copies.specs.Originals.{FitsListPointer, list_original}
-use Rattle.capnp_copies.proofs.Originals.{exceeding, list_words}
+use Rattle.capnp_copies.proofs.Originals.{exceeding, list_words, refused_words}
 use Rattle.capnp_edits.specs.declared.edit.copying.Copying.{Copying}
 use Rattle.capnp_edits.specs.declared.edit.copying.Wanted.TheVariants.{List as AList}
 use Rattle.capnp_edits.specs.Edits.{IsOfMemory}
@@ -142,7 +142,9 @@ list_stops form r m n m' l k (a_struct_list a o z s sections first counts) (inr 
 -- or there is no room
 pub list_refused : (b : Bool) (id at : ℕ) (old new : View) (r : Reading) (m n m' : Meter) (l : ListElements) (k : ErrorKind) → LeadsToList r m n l →
     RefusesToCopy (list_original l.size l.sections l.count l.first) (change (form_of b) id at old new n m') k → IsOfMemory k ⊎ Refused (form_of b) r m m' k
-list_refused b id at old new r m n m' l k leads (inl (i, (refuses, none), wanted, exceeds)) = inl (of_allocation old new (length new.words) (i + 1) k refuses)
+list_refused b id at old new r m n m' l k leads (inl (lacks, exceeds)) =
+    let x = refused_words (list_original l.size l.sections l.count l.first) (change (form_of b) id at old new n m') k lacks in
+    inl (of_allocation old new (length new.words) (x.0 + 1) k x.1.0)
 list_refused b id at old new r m n m' l k leads (inr (inl refused)) = inr (list_stops (form_of b) r m n m' l k leads (list_refused_as (form_of b) l l.size n m' k refl refused))
 list_refused b id at old new r m n m' l k leads (inr (inr large)) = inl (inr (_, (exceeding l.size l.sections l.count l.first (form_of b) k large).1))
 
@@ -380,7 +382,7 @@ pub list_fits : (c : Copying) (r : Reading) (m n m' : Meter) (l : ListElements) 
 list_fits c r m n m' l id at old new k is leads small can refuses =
     let x = list_matches (form_of c.canonicalize) r m n l can.value can.cost can.copied leads can.means can.takes can.covers (subst (λ w. as_wanted w can.value ≡ Some can.copied) is can.is_wanted) in
     elim refuses [
-      | inl (i, why, wanted, exceeds) ↦ omega (arith, can.fits, exceeds (form_of c.canonicalize) n x.0 can.copied (as_list_read (form_of c.canonicalize) l l.size n x.0 can.copied refl x.1), list_words l.size l.sections l.count l.first (form_of c.canonicalize) can.copied)
+      | inl (lacks, exceeds) ↦ omega (arith, can.fits, exceeds (form_of c.canonicalize) n x.0 can.copied (as_list_read (form_of c.canonicalize) l l.size n x.0 can.copied refl x.1), list_words l.size l.sections l.count l.first (form_of c.canonicalize) can.copied)
       | inr (inl refused) ↦ (unreadable (list_stops (form_of c.canonicalize) r m n m' l k leads (list_refused_as (form_of c.canonicalize) l l.size n m' k refl refused))).only can.value can.cost can.means can.takes can.covers
       | inr (inr large) ↦ (exceeding l.size l.sections l.count l.first (form_of c.canonicalize) k large).0 small
     ]

@@ -41,6 +41,7 @@ use Rattle.capnp_copies.specs.StructValues.{section_words, data_of}
 use Rattle.capnp_format.specs.Bytes.{words_of}
 use Rattle.capnp_objects.specs.declared.object.Purpose.TheVariants.{Value}
 use Rattle.capnp_format.proofs.WordsOf.{words}
+use Rattle.capnp_copies.proofs.Originals.{refused_words}
 use Rattle.capnp_copies.proofs.DataSections.{whole_section, kept_count-le}
 use Rattle.capnp_edits.specs.declared.edit.copying.Copying.{Copying}
 use Rattle.capnp_edits.specs.declared.edit.copying.Wanted.TheVariants.{Struct as AStruct}
@@ -106,7 +107,9 @@ struct_stops form r m m' s k (a_struct a o z ws first q) refused =
 -- or there is no room
 pub struct_refused : (b : Bool) (id at : ℕ) (old new : View) (r : Reading) (m m' : Meter) (s : Sections) (k : ErrorKind) → LeadsToStruct r m s → RefusesToCopy (sections_original s.words s.first s.pointers) (change (form_of b) id at old new s.limiter m') k →
     IsOfMemory k ⊎ Refused (form_of b) r m m' k
-struct_refused b id at old new r m m' s k leads (inl (n, (refuses, none), wanted, exceeds)) = inl (of_allocation old new (length new.words) (n + 1) k refuses)
+struct_refused b id at old new r m m' s k leads (inl (lacks, exceeds)) =
+    let x = refused_words (sections_original s.words s.first s.pointers) (change (form_of b) id at old new s.limiter m') k lacks in
+    inl (of_allocation old new (length new.words) (x.0 + 1) k x.1.0)
 struct_refused b id at old new r m m' s k leads (inr (inl refused)) = inr (struct_stops (form_of b) r m m' s k leads refused)
 struct_refused b id at old new r m m' s k leads (inr (inr (wide, named))) = inl (inr (_, named))
 
@@ -193,7 +196,7 @@ pub struct_fits : (c : Copying) (r : Reading) (m m' : Meter) (s : Sections) (id 
 struct_fits c r m m' s id at old new k is leads can refuses =
     let x = struct_matches (form_of c.canonicalize) r m s can.value can.cost can.copied leads can.means can.takes can.covers (subst (λ w. as_wanted w can.value ≡ Some can.copied) is can.is_wanted) in
     elim refuses [
-      | inl (n, why, wanted, exceeds) ↦ omega (arith, can.fits, exceeds (form_of c.canonicalize) s.limiter x.end (Struct s.words x.children) (x.children, refl, x.counts, x.are_read), ap (λ t. word_count (kept (form_of c.canonicalize) t)) x.is_struct)
+      | inl (lacks, exceeds) ↦ omega (arith, can.fits, exceeds (form_of c.canonicalize) s.limiter x.end (Struct s.words x.children) (x.children, refl, x.counts, x.are_read), ap (λ t. word_count (kept (form_of c.canonicalize) t)) x.is_struct)
       | inr (inl refused) ↦ (unreadable (struct_stops (form_of c.canonicalize) r m m' s k leads refused)).only can.value can.cost can.means can.takes can.covers
       | inr (inr (wide, named)) ↦ omega (arith, wide, kept_count-le (form_of c.canonicalize) s.words, x.narrow)
     ]

@@ -120,7 +120,7 @@ fill_done (Err k) g source from v m n m' old new place opened long read copied (
       filled = stops.filled;
       fills_first = stops.made;
     }) k stops.fewer stops.cleared (elim stops.why [
-      | inl h ↦ inl (of_allocation mid new (length new.words) (h.0 + 1) k h.1.0)
+      | inl h ↦ inl (of_allocation mid new (length new.words) (h.0.0 + 1) k h.0.2.0.0)
       | inr h ↦ inr (m', h)
     ]) refl
 
@@ -164,7 +164,7 @@ fill_nowhere (Err k) old new place source (inl h) e = h.1
 fill_nowhere (Err k) old new place source (inr stops) e =
     let nowhere : k ≡ NoSuchPlace = same_some k NoSuchPlace e in
     absurd (elim stops.why [
-      | inl h ↦ of_no_place k (of_allocation stops.taken new (length new.words) (h.0 + 1) k h.1.0) nowhere
+      | inl h ↦ of_no_place k (of_allocation stops.taken new (length new.words) (h.0.0 + 1) k h.0.2.0.0) nowhere
       | inr refused ↦ not_for_place (subst (λ y. Refused plain (behind stops.content.from.first (count stops.content.children)) stops.content.after stops.after y) nowhere refused)
     ])
 

@@ -30,6 +30,7 @@ use Rattle.capnp_objects.specs.Wanted.{of_default}
 use Rattle.capnp_objects.proofs.Faultless.{no_fault}
 use Rattle.capnp_copies.specs.Rooms.{CanBeCopied}
 use Rattle.capnp_copies.specs.Originals.{value_original}
+use Rattle.capnp_copies.proofs.Originals.{refused_words}
 use Rattle.capnp_readers.specs.declared.readers.PointerPlace.{PointerPlace}
 use Rattle.capnp_readers.specs.declared.readers.list_reader.ListPlace.{ListPlace}
 use Rattle.capnp_readers.specs.declared.readers.struct_reader.StructPlace.{StructPlace}
@@ -146,7 +147,9 @@ replaced_if S M R place d None put same = subst (λ Q. IsReplaced S Q place.segm
 
 dropped_name : (bytes : List ℕ) (id at : ℕ) (old new : View) (k : ErrorKind) → RefusesDefault bytes (default_copy id at old new) k → IsOfMemory k ⊎ HasFault of_default (default_root bytes) k
 dropped_name bytes id at old new k (inl fault) = inr fault
-dropped_name bytes id at old new k (inr (n, (why, none), wanted, large)) = inl (of_allocation old new (length new.words) (n + 1) k why)
+dropped_name bytes id at old new k (inr (lacks, large)) =
+    let x = refused_words (value_original (default_root bytes)) (default_copy id at old new) k lacks in
+    inl (of_allocation old new (length new.words) (x.0 + 1) k x.1.0)
 
 null_does : {B : Type 0} (result : Result B ErrorKind) (used : DefaultUse) (made_of : Tree → Making) (P : CallAt → Tree → Type 0) (c : CallAt) → IsStored c.old.words c.segment c.at Null → DoesSo P made_of result → WithDefault used c Null P result →
     DoesAt c.old.words c.new.words (place_in c) (with_default used made_of Null) Null (refusal_of result)
@@ -355,7 +358,7 @@ unfound_place k e = e
 -- its copy isn't refused
 never_dropped : (bytes : List ℕ) (id at : ℕ) (old new : View) (k : ErrorKind) → CanBeCopied (value_original (default_root bytes)) of_default (unused None) old id → RefusesDefault bytes (default_copy id at old new) k → ⊥
 never_dropped bytes id at old new k can (inl fault) = no_fault of_default k fault (capabilities can.value) can.is_read.takes (can.value, can.is_read.cost, can.is_read.means, omega arith)
-never_dropped bytes id at old new k can (inr (m, why, wanted, large)) = let more = large of_default (unused None) can.after can.value can.is_read in omega (arith, more, can.room)
+never_dropped bytes id at old new k can (inr (lacks, large)) = let more = large of_default (unused None) can.after can.value can.is_read in omega (arith, more, can.room)
 
 abbrev IsDenied : DefaultUse → Type 0
 IsDenied ignored = Unit {0}

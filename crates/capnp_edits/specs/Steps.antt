@@ -1,5 +1,5 @@
 -- Steps: what one edit does with a message and the arena that holds it, and edits in order.
-use Rattle.std.specs.Prelude.{◌≡◌, ◌⊎◌, ⊤, ℕ, min, ◌*◌, ◌<◌, true, false, List, [], ◌∷◌, length}
+use Rattle.std.specs.Prelude.{◌≡◌, ◌⊎◌, ⊤, ℕ, min, ◌+◌, ◌*◌, ◌<◌, true, false, List, [], ◌∷◌, length}
 use Rattle.std.specs.Prelude.{Option, Some, None, IfSome, IsSomeAnd, Result, Ok, Err}
 use Rattle.std.specs.Borrow.{Bor}
 use Rattle.capnp_words.specs.Meter.{Meter}
@@ -18,15 +18,15 @@ use Rattle.capnp_making.specs.Zeroed.{IsPruned}
 use Rattle.capnp_making.specs.declared.existing.ExistingBytes.{ExistingBytes}
 use Rattle.capnp_making.specs.declared.existing.ExistingStruct.{ExistingStruct}
 use Rattle.capnp_objects.specs.Reading.{behind}
-use Rattle.capnp_objects.specs.Refusals.{Refused, StopsWithin}
+use Rattle.capnp_objects.specs.Refusals.{Refused}
 use Rattle.capnp_objects.specs.Wanted.{plain}
 use Rattle.capnp_readers.specs.declared.readers.PointerPlace.{PointerPlace}
 use Rattle.capnp_readers.specs.declared.readers.list_reader.ListPlace.{ListPlace}
 use Rattle.capnp_readers.specs.declared.readers.struct_reader.StructPlace.{StructPlace}
-use Rattle.capnp_copies.specs.Changes.{LacksRoom, RefusesToCopy, WantsWords, change}
+use Rattle.capnp_copies.specs.Changes.{ComesToObject, FindsNoRoom, IsTooLarge, RefusesToCopy, change}
 use Rattle.capnp_copies.specs.Growth.{TakesAtMost}
-use Rattle.capnp_copies.specs.Originals.{children_original}
-use Rattle.capnp_copies.specs.Rooms.{IsTooLarge}
+use Rattle.capnp_copies.specs.Originals.{children_original, value_original}
+use Rattle.capnp_builders.specs.Content.{pointers_copied}
 use Rattle.capnp_making.specs.Makes.{CallAt, call_at}
 use Rattle.capnp_widening.specs.Opening.{struct_opened}
 use Rattle.capnp_widening.specs.Rooms.{RefusesToBecome}
@@ -137,10 +137,12 @@ pub record StopsFilling (old new : View) (place : StructPlace) (source : Source)
   pub takes : TakesBytes old.words taken.words place (64 * length content.from.words) content.bytes
   pub after : Meter
   pub why :
-      LacksRoom (change plain place.segment place.pointers_at taken new content.from.limiter after) k
-      (λ n. StopsWithin plain (WantsWords plain n)
-      (behind content.from.first (count content.children)) content.after after)
-      (IsTooLarge plain (children_original content.from.first (min place.pointers content.from.pointers)))
+      (ComesToObject (value_original (behind content.from.first (count content.children))) plain
+      content.after after
+      (λ n all. FindsNoRoom (pointers_copied place taken new content.from.limiter after) k n
+      (content.are_read.cost + all))
+      × IsTooLarge (children_original content.from.first (min place.pointers content.from.pointers))
+      (pointers_copied place taken new content.from.limiter after))
       ⊎ Refused plain (behind content.from.first (count content.children)) content.after after k
 
 -- Content isn't copied over a struct, or not all of it.
