@@ -4,7 +4,7 @@ use Rattle.capnp_words.specs.declared.error.ErrorKind.{ErrorKind}
 use Rattle.capnp_words.specs.declared.error.ErrorKind.TheVariants.{AllocationFailed, MessageTooLarge}
 use Rattle.capnp_format.specs.Segments.{Segments, segment}
 use Rattle.capnp_words.specs.Meter.{Meter, unused, less, FitsIn}
-use Rattle.capnp_objects.specs.Refusals.{BreaksOff, Refused, StopsWithin}
+use Rattle.capnp_objects.specs.Refusals.{Refused}
 use Rattle.capnp_objects.specs.Reading.{Reading}
 use Rattle.capnp_objects.specs.Wanted.{canonical}
 use Rattle.capnp_objects.proofs.Limits.{not_for_memory, not_for_size}
@@ -13,12 +13,8 @@ use Rattle.capnp_format.specs.Tree.{Tree}
 use Rattle.capnp_format.proofs.Levels.{one_value}
 use Rattle.capnp_objects.specs.Outcomes.{Reads}
 use Rattle.std.proofs.lemmas.Bool.{cases_lt}
-use Rattle.std.proofs.lemmas.List.Sums.{sum_by-cons}
-use Rattle.capnp_making.specs.Memory.{KeepsMemory, RefusesWords, SpendsMemory}
-use Rattle.capnp_copies.specs.Changes.{IsCopiedInRoom, MakesCopy, WantsWords, change}
-use Rattle.capnp_copies.specs.Costs.{spent_until}
-use Rattle.capnp_copies.specs.Growth.{MakesAtMost, message_words}
-use Rattle.capnp_copies.proofs.Growth.{pads_apart}
+use Rattle.capnp_making.specs.Memory.{KeepsMemory, RefusesWords}
+use Rattle.capnp_copies.specs.Changes.{ComesToObject, IsCopiedInRoom, MakesCopy, change}
 use Rattle.capnp_copies.specs.Originals.{value_original}
 use Rattle.capnp_copies.proofs.Originals.{value_beyond}
 use Rattle.capnp_builders.specs.Building.{Building, IsNull, built}
@@ -86,43 +82,19 @@ want_of_words old new n k (inl memory, none) = ap wants_room memory.0
 want_of_words old new n k (inr (inl large), none) = ap wants_room large.0
 want_of_words old new n k (inr (inr many), none) = ap wants_room many.0
 
--- a segment has no more words than the message
-first_within : (S : Segments) → length (segment S 0) ≤ message_words S
-first_within [] = omega arith
-first_within (s ∷ S) = omega (arith, sum_by-cons length s S)
-
-some_segment : (S : Segments) → 0 < message_words S → 0 < length S
-some_segment [] h = absurd (omega (arith, h))
-some_segment (s ∷ S) h = omega arith
-
--- an object that finds no room is as large as what is left of the room
-outgrown : {room : ℕ} (r : Reading) (left : Option ℕ) (s p : ℕ) (old new : View) (l m : Meter) (k : ErrorKind) (n : ℕ) → l ≡ unused left →
-    IsFreshPlace (record { segments = old.words; segment = s; at = p; room = old.room s }) room → RefusesWords old new n k → SpendsMemory old new k →
-    StopsWithin canonical (WantsWords canonical n) r l m → (x : BreaksOff canonical r l m) × MakesAtMost s old new (spent_until x).words (spent_until x).pointers → OutgrowsRoom r left room
-outgrown {room} r left s p old new l m k n begun fresh refuses memory stops (x, made) =
-    let one : message_words old.words ≡ 1 = ap message_words fresh.null in
-    let grown = (pads_apart s made.words made.pads old new made.made).0 in
-    let within = first_within new.words in
-    let there : 0 < length new.words = some_segment new.words (omega (arith, grown, one)) in
-    let first : 0 < length old.words = omega (arith, ap length fresh.null) in
-    let same : new.room 0 ≡ room = memory.1 0 first ∙ ap old.room (sym fresh.first) ∙ fresh.holds in
-    let full : new.room 0 < length (segment new.words 0) + (n + 1) = elim (cases_lt (new.room 0) (length (segment new.words 0) + (n + 1))) [
-      | inl beyond ↦ beyond
-      | inr fits ↦ absurd (refuses.1 0 (there, fits, λ j h. absurd (omega (arith, h))))
-    ] in
-    let bound : room ≤ 1 + (spent_until x).words + (spent_until x).pointers + n = omega (arith, one, grown, within, same, full, made.less, made.few) in
-    let Begun : Meter → Type 0 = λ y. StopsWithin canonical (WantsWords canonical n) r y m × ((z : BreaksOff canonical r y m) × (room ≤ 1 + (spent_until z).words + (spent_until z).pointers + n)) in
-    let begins = subst Begun begun (stops, (x, bound)) in
-    record { after = m; words = n; reached = begins.0; broken = begins.1.0; many = begins.1.1 }
-
 -- what refuses a copy to the root of a fresh message
 pub refused_copy : {room : ℕ} (r : Reading) (left : Option ℕ) (s p : ℕ) (old new : View) (l m : Meter) (k : ErrorKind) → l ≡ unused left → IsFreshPlace (record { segments = old.words; segment = s; at = p; room = old.room s }) room →
-    LeavesCleared (value_original r) (change canonical s p old new l m) k → (x : BreaksOff canonical r l m) × MakesAtMost s old new (spent_until x).words (spent_until x).pointers → RefusesCopyAnywhere r left room k
-refused_copy r left s p old new l m k begun fresh stop taken = elim stop.why [
-  | inl x ↦
+    LeavesCleared (value_original r) (change canonical s p old new l m) k → RefusesCopyAnywhere r left room k
+refused_copy {room} r left s p old new l m k begun fresh stop = elim stop.why [
+  | inl (inl none, large) ↦ absurd none.2
+  | inl (inr (n, stops, (refused, full)), large) ↦
       let used : length (segment old.words s) ≡ 1 = ap length (only_null fresh) in
-      let reached : StopsWithin canonical (WantsWords canonical x.0) r l m = elim x.2 [ inl made ↦ absurd made.1 | inr stops ↦ stops ] in
-      inl (want_of_words old new x.0 k x.1, λ t c means. (let beyond = value_beyond canonical r (length (segment old.words s)) (old.room s) x.3 t c means in omega (arith, beyond, used, fresh.holds)), outgrown r left s p old new l m k x.0 begun fresh x.1 stop.memory reached taken)
+      let out : ComesToObject (value_original r) canonical l m (λ i all. room < 1 + all) = (n, stops, omega (arith, full, used, fresh.holds)) in
+      inl (
+        want_of_words old new n k refused,
+        λ t c means. (let beyond = value_beyond canonical r (length (segment old.words s)) (old.room s) large t c means in omega (arith, beyond, used, fresh.holds)),
+        (m, subst (λ (x : Meter). ComesToObject (value_original r) canonical x m (λ i all. room < 1 + all)) begun out),
+      )
   | inr y ↦ elim y [ inl refused ↦ inr (m, subst (λ (x : Meter). Refused canonical r x m k) begun refused) | inr none ↦ absurd none ]
 ]
 
@@ -154,7 +126,7 @@ large_wants _ large = absurd (cc)
 
 -- a room that is outgrown is outgrown if it is less
 less_outgrown : {r : Reading} {left : Option ℕ} (more room : ℕ) → room ≤ more → OutgrowsRoom r left more → OutgrowsRoom r left room
-less_outgrown more room least out = record { after = out.after; words = out.words; reached = out.reached; broken = out.broken; many = omega (arith, out.many, least) }
+less_outgrown more room least (m, (n, stops, full)) = (m, (n, stops, omega (arith, full, least)))
 
 -- a copy that finds no room anywhere needs more words than fewer than there are in its segment
 pub refused_try : {r : Reading} {left : Option ℕ} {k : ErrorKind} (more room : ℕ) → room ≤ more → wants_room k ≡ true → RefusesCopyAnywhere r left more k → RefusesCopy r left room (MessageTooLarge room)

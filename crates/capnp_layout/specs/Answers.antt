@@ -1,5 +1,5 @@
 -- What the program says of a message, and the line that it then prints.
-use Rattle.std.specs.Prelude.{◌≡◌, ◌⊎◌, ℕ, ◌+◌, ◌-◌, ◌^◌, ◌≤◌, List, [], ◌∷◌, ◌++◌, Bool, true}
+use Rattle.std.specs.Prelude.{◌≡◌, ◌⊎◌, ℕ, ◌+◌, ◌-◌, ◌^◌, ◌<◌, ◌≤◌, List, [], ◌∷◌, ◌++◌, Bool, true}
 use Rattle.std.specs.Prelude.{false, codes, length, Option, Some, None}
 use Rattle.std.specs.Fmt.{decimal}
 use Rattle.std.specs.Int.{to_le_bytes, w64}
@@ -28,9 +28,9 @@ use Rattle.capnp_layout.specs.declared.tool.engine.Outcome.TheVariants.{Refused 
 use Rattle.capnp_layout.specs.declared.tool.engine.Outcome.TheVariants.{WriteFailed}
 use Rattle.capnp_objects.specs.Source.{levels}
 use Rattle.capnp_objects.specs.Outcomes.{Reads}
-use Rattle.capnp_objects.specs.Refusals.{BreaksOff, Refused, StopsWithin}
-use Rattle.capnp_copies.specs.Changes.{WantsWords}
-use Rattle.capnp_copies.specs.Costs.{spent_until}
+use Rattle.capnp_objects.specs.Refusals.{Refused}
+use Rattle.capnp_copies.specs.Changes.{ComesToObject}
+use Rattle.capnp_copies.specs.Originals.{value_original}
 use Rattle.capnp_objects.specs.Reading.{Reading}
 use Rattle.capnp_objects.specs.Sizing.{Totals, HasSize, SizeRefused}
 use Rattle.capnp_objects.specs.Wanted.{canonical}
@@ -79,15 +79,11 @@ abbrev pub wants_room : ErrorKind → Bool
 wants_room AllocationFailed = true
 wants_room k = is_message_too_large k
 
--- An object is reached for which there is no room: its words, that of the root, those that reading
--- cost until the copy broke off, and one for each pointer that was followed are as many as this
--- room, or more.
-pub record OutgrowsRoom (r : Reading) (left : Option ℕ) (room : ℕ) : Type 0 where
-  pub after : Meter
-  pub words : ℕ
-  pub reached : StopsWithin canonical (WantsWords canonical words) r (unused left) after
-  pub broken : BreaksOff canonical r (unused left) after
-  pub many : room ≤ 1 + (spent_until broken).words + (spent_until broken).pointers + words
+-- Reading comes to an object for which there is no room: its words, that of the root, and those that
+-- reading cost until then are more than this room.
+abbrev pub OutgrowsRoom : Reading → Option ℕ → ℕ → Type 0
+OutgrowsRoom r left room =
+    (m : Meter) × ComesToObject (value_original r) canonical (unused left) m (λ n all. room < 1 + all)
 
 -- A place means a value that the budget lets be read, whose canonical words are more than the room;
 -- or an object is reached for which there is no room.

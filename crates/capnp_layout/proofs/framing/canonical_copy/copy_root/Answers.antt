@@ -40,4 +40,4 @@ returns-in-Err-clause-refused g c =
     let view = g.A.BuilderArena.view in
     let root = c.get_root-root.result in
     let fresh = fresh_root view root c.args.arena.now c.get_root-root.ensures.now c.get_root-root.ensures.place.0 c.requires.root in
-    refused_copy (reading g.B.ReaderArena c.args.from) c.args.left root.segment root.at (view root.arena.now) (view c.copy_from.new.self.arena.now) _ _ c.in-Err.kind c.new-lim.ensures fresh c.in-Err.ensures.refused c.in-Err.ensures.taken
+    refused_copy (reading g.B.ReaderArena c.args.from) c.args.left root.segment root.at (view root.arena.now) (view c.copy_from.new.self.arena.now) _ _ c.in-Err.kind c.new-lim.ensures fresh c.in-Err.ensures.refused
