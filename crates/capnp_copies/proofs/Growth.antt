@@ -1,15 +1,14 @@
 -- How many words a message gains where objects are made, and where they are copied one after another.
-use Rattle.std.proofs.Common.{◌≡◌, ◌≢◌, inl, inr, ℕ, zero, suc, pred, ◌+◌, ◌-◌, ◌*◌, ◌^◌, ◌<◌, ◌≤◌, Bool, true, Some, Result, Ok, Err, MatchResult, List, [], ◌∷◌, length, length-take, drop, set, refl, sym, ap, ◌∙◌, subst, arith, mul-le-mul_left}
+use Rattle.std.proofs.Common.{◌≡◌, ◌≢◌, inl, inr, ℕ, zero, suc, pred, ◌+◌, ◌*◌, ◌<◌, ◌≤◌, Bool, true, Some, Result, Ok, Err, MatchResult, List, [], ◌∷◌, length, length-take, drop, set, refl, sym, ap, ◌∙◌, subst, arith, mul-le-mul_left}
 use Rattle.std.proofs.lemmas.Bool.{cases_lt}
 use Rattle.std.proofs.lemmas.List.{length-set}
 use Rattle.std.proofs.lemmas.List.Sums.{sum_by-cons}
 use Rattle.capnp_words.specs.declared.error.ErrorKind.{ErrorKind}
 use Rattle.capnp_words.specs.declared.error.ErrorKind.TheVariants.{CannotCreateACanonicalMessageWithACapability, UnknownPointerType}
 use Rattle.capnp_words.specs.Meter.{Meter, Affords}
-use Rattle.capnp_format.specs.Forest.{target_in}
-use Rattle.capnp_format.specs.Segments.{Segments, Target, segment, words_at, IsPlace}
+use Rattle.capnp_format.specs.Segments.{Segments, Target, segment, words_at}
 use Rattle.capnp_format.specs.Tree.{Null, Capability, Struct, Flat, Pointers, Structs, no_trees, no_elements, count, element_count}
-use Rattle.capnp_format.specs.Word.{capability_word, offset_bits, data_words, pointer_count, element_size, list_count, struct_word}
+use Rattle.capnp_format.specs.Word.{capability_word, offset_bits, data_words, pointer_count, element_size, list_count}
 use Rattle.capnp_format.proofs.Children.{with_last, count-with_last}
 use Rattle.capnp_arena.specs.View.{View, KeepsLimits}
 use Rattle.capnp_arena.specs.Written.{with_words, with_word}
@@ -19,13 +18,10 @@ use Rattle.capnp_words.specs.declared.wire_pointer.ElementSize.{ElementSize}
 use Rattle.capnp_words.specs.declared.wire_pointer.ElementSize.TheVariants.{Void, Bit, Byte, TwoBytes, FourBytes, EightBytes, Pointer, InlineComposite}
 use Rattle.capnp_words.specs.Sizes.{size_number}
 use Rattle.capnp_format.specs.Numbers.{words_for, unpacked}
-use Rattle.capnp_making.specs.Made.{LeadsToStart, structs_words}
-use Rattle.capnp_making.specs.Memory.{Lengthens, IsNextRoom, TakesWords, StandsBehind, KeepsMemory, IsRefusedFor}
+use Rattle.capnp_making.specs.Made.{structs_words}
+use Rattle.capnp_making.specs.Memory.{Lengthens, IsNextRoom, IsRefusedFor}
 use Rattle.capnp_making.specs.Near.{HasOwnRoom}
 use Rattle.capnp_making.specs.Zeroed.{IsPruned}
-use Rattle.capnp_making.specs.declared.making.Start.{Start}
-use Rattle.capnp_making.proofs.MadeWords.{word_put}
-use Rattle.capnp_making.proofs.Placed.{empty_made}
 use Rattle.capnp_making.proofs.WordsPut.{words_put}
 use Rattle.capnp_objects.specs.Demands.{own, tag}
 use Rattle.capnp_objects.specs.Faults.{child_at}
@@ -43,16 +39,16 @@ use Rattle.capnp_objects.proofs.Copies.{read_none, read_more, read_no_element, p
 use Rattle.capnp_objects.proofs.Objects.{own_struct, own_flat, own_pointers, own_structs, read_null, read_flat, read_struct, read_pointers, read_structs}
 use Rattle.capnp_objects.proofs.Refusals.{breaks_off_spends, stops_struct, stops_pointers, stops_structs}
 use Rattle.capnp_objects.proofs.Truths.{few_followed, reading_spends}
-use Rattle.capnp_copies.specs.Changes.{Change, change, StayInSegment}
+use Rattle.capnp_copies.specs.Changes.{Change, change}
 use Rattle.capnp_copies.specs.Costs.{spent_before, spent_until, spent_among, spent_among_elements}
-use Rattle.capnp_copies.specs.Originals.{Original, value_original, children_original, elements_original, sections_original, numbers_original, pointers_original, structs_original, list_original, kept_count}
+use Rattle.capnp_copies.specs.Originals.{value_original, children_original, elements_original, sections_original, numbers_original, pointers_original, structs_original, list_original, kept_count}
 use Rattle.capnp_copies.specs.Growth.{message_words, TakesNone, Makes, no_object, near, far, both, MakesAtMost, TakesAtMost, PadsApart, TakesFew, FewTaken}
 use Rattle.capnp_copies.specs.declared.widths.ElementSizes.{ElementSizes}
 use Rattle.capnp_copies.proofs.Copying.{there}
 use Rattle.capnp_copies.proofs.FilledSections.{sections_kept}
 use Rattle.capnp_copies.proofs.FilledValues.{capability_read, CapabilityCopied}
 use Rattle.capnp_copies.proofs.KeptForms.{SourceKept, one_more as one_row_more, stops_sooner, blank_elements}
-use Rattle.capnp_copies.proofs.ObjectsMade.{TakesForCopy, TakesUntilStop, Begins, made_segments, no_pad}
+use Rattle.capnp_copies.proofs.ObjectsMade.{TakesForCopy, TakesUntilStop, Begins, no_pad}
 use Rattle.capnp_copies.proofs.ObjectsRead.{inside, stopped_in, capability_stopped, default_stopped}
 use Rattle.capnp_copies.proofs.StayingNear.{stay_fewer}
 use Rattle.capnp_objects.proofs.Unreadable.{Spends}
@@ -457,10 +453,10 @@ pads_apart id words pads old new made = (made_words made, λ there stays. no_pad
 -- The law of what a budget covers. Before the object where reading breaks off at most one pointer more is followed than words were
 -- granted.
 
-abbrev Covered : Bool → Meter → ℕ → ℕ → Type 0
+abbrev pub Covered : Bool → Meter → ℕ → ℕ → Type 0
 Covered charging m g f = Affords charging m g × (f ≤ g + 1)
 
-covered_below : {form : Form} {r : Reading} {m first mid : Meter} {q : ℕ} {a : Target} (g f : ℕ) → Entered Value r m first a → (before : ReadsBefore form r a q first mid) → Covered r.charging mid g f →
+pub covered_below : {form : Form} {r : Reading} {m first mid : Meter} {q : ℕ} {a : Target} (g f : ℕ) → Entered Value r m first a → (before : ReadsBefore form r a q first mid) → Covered r.charging mid g f →
     Covered r.charging m (own Value r.segments a + ((spent_before before).words + g)) (1 + ((spent_before before).pointers + f))
 covered_below {r = r} {a = a} g f o (in_struct ts z fewer e all) (covers, few) =
     let own_words = own_struct r.segments a z in
@@ -488,7 +484,7 @@ covered_until {r = r} {m} (here stops) = (affords_none r.charging m, omega arith
 covered_until (below a q o before rest) = covered_below (spent_until rest).words (spent_until rest).pointers o before (covered_until rest)
 
 -- where it is charged, of a budget of x words
-covered_by : (charging : Bool) (m : Meter) (g x : ℕ) → charging ≡ true → m.left ≡ Some x → Affords charging m g → g ≤ x
+pub covered_by : (charging : Bool) (m : Meter) (g x : ℕ) → charging ≡ true → m.left ≡ Some x → Affords charging m g → g ≤ x
 covered_by charging m g x charged budget covers = let all : Affords true m g = subst (λ b. Affords b m g) charged covers in rw budget at all
 
 few_of : (c : Change) (x : ℕ) → MakesAtMost c.segment c.old c.new x (x + 1) → c.after.followed ≤ c.before.followed + (x + 1) → TakesFew c x

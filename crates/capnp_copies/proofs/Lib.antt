@@ -39,5 +39,6 @@ pub mod DataSections
 pub mod FilledSections
 pub mod EachCopied
 pub mod Growth
+pub mod BudgetRoom
 pub mod NoRoom
 pub mod ObjectsMade

@@ -15,7 +15,7 @@ use Rattle.capnp_making.specs.declared.making.Start.{Start}
 use Rattle.capnp_making.proofs.MadeWords.{word_put}
 use Rattle.capnp_making.proofs.Placed.{empty_made}
 use Rattle.capnp_copies.specs.Changes.{Change, StayInSegment}
-use Rattle.capnp_copies.specs.Growth.{TakesNone, Makes, no_object, near, far, both, MakesAtMost}
+use Rattle.capnp_copies.specs.Growth.{Makes, no_object, near, far, both, MakesAtMost}
 use Rattle.capnp_copies.specs.Originals.{Original}
 use Rattle.capnp_copies.proofs.Copying.{there}
 

@@ -1,6 +1,7 @@
 //! What follows of the contracts of this crate. The functions do nothing: each contract is a law,
 //! proved for all readers and all arenas.
 ghost use Rattle.capnp_copies.specs.Growth.{PadsApart, FewTaken};
+ghost use Rattle.capnp_copies.specs.Rooms.{BudgetHasRoom};
 ghost use Rattle.capnp_copies.specs.StructValues.{WholeSections};
 
 /// A data section of whole words has the words of its bytes ("Structs").
@@ -20,4 +21,10 @@ pub fn pads_apart()
 /// and follows at most x + 1 pointers.
 pub fn few_taken()
     ensures { FewTaken }
+{}
+
+/// Under a budget of x words, with room for x words behind those of the segment of its pointer, a copy
+/// is refused by nothing but reading, whether its source can be read or not.
+pub fn budget_has_room()
+    ensures { BudgetHasRoom }
 {}
