@@ -56,14 +56,15 @@ fn pack_more(packed: &mut Vec<u8>, words: &[u8]) -> Result<usize, PackingError>
 }
 
 /// Unpacks packed bytes, where they stand for at most so many bytes ("Packing"). `TooLong` where
-/// they stand for more; `Truncated` where they end within a word or before a number;
-/// `AllocationFailed` where there is no memory.
+/// they stand for more, be they whole or not; else `Truncated` where they end within a word or before
+/// a number; `AllocationFailed` where there is no memory.
 pub fn unpack(alloc: Global, packed: &[u8], max_bytes: usize) -> Result<Vec<u8>, PackingError>
     ensures bytes { IfOk result (λ bytes. Packs packed.now bytes.items) }
     ensures most { IfOk result (λ bytes. length bytes.items ≤ max_bytes) }
     ensures refused { IfErr result (λ e. (e ≡ AllocationFailed)
         ⊎ ((e ≡ TooLong) × (max_bytes < length (unpacked_bytes Place.Tag packed.now)))
-        ⊎ ((e ≡ Truncated) × (IsWhole Place.Tag packed.now → ⊥))) }
+        ⊎ ((e ≡ Truncated) × (IsWhole Place.Tag packed.now → ⊥)
+        × (length (unpacked_bytes Place.Tag packed.now) ≤ max_bytes))) }
 {
     let mut input = UnpackingInput::new(MemoryInput::new(packed));
     let mut bytes = Vec::new(alloc);

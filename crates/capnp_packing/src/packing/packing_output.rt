@@ -1,6 +1,6 @@
 //! An output of words, as an output of packed bytes.
-ghost use Rattle.std.specs.Prelude.{◌≡◌, ◌≤◌, ◌+◌, false, true, OnOk, OnErr, length, slice_range};
-ghost use Rattle.std.specs.Io.KnownBytes.{Keeps, append_known};
+ghost use Rattle.std.specs.Prelude.{◌≡◌, ◌<◌, ◌≤◌, ◌+◌, false, true, IfOk, OnOk, OnErr, length, slice_range};
+ghost use Rattle.std.specs.Io.KnownBytes.{Keeps, WriteAppends, append_known};
 ghost use Rattle.capnp_packing.specs.Packing.{unpacked_known};
 
 use super::words::{MOST_BYTES, pack_front};
@@ -10,7 +10,7 @@ use capnp_framing::devices::{DeviceFault, Output};
 const CAPACITY: usize = 8192;
 
 /// An output of whole words, which packs them. It keeps packed bytes until there are many, or it is
-/// flushed. Fewer bytes than a word fail.
+/// flushed. Fewer bytes than a word fail, and else a write fails only where the packed output has.
 #[derive(Drop)]
 pub struct PackingOutput<W> {
     packed: W,
@@ -52,6 +52,7 @@ impl<W: Output> PackingOutput<W> {
         ensures none { OnOk result ((self.new.sent ≡ 0) × (self.new.end ≡ 0)) }
         ensures works { OnOk result (self.new.failed ≡ self.old.failed) }
         ensures fails { OnErr result (self.new.failed ≡ true) }
+        ensures cause { OnErr result (W.has_failed self.new.packed ≡ true) }
     {
         while self.sent < self.end {
             match self.packed.write(part(&self.pending, self.sent, self.end)) {
@@ -85,6 +86,7 @@ impl<W: Output> PackingOutput<W> {
         ensures none { OnOk result (self.new.sent ≡ 0) }
         ensures works { OnOk result (self.new.failed ≡ self.old.failed) }
         ensures fails { OnErr result (self.new.failed ≡ true) }
+        ensures cause { OnErr result (W.has_failed self.new.packed ≡ true) }
     {
         if self.sent == 0 && CAPACITY - self.end >= MOST_BYTES {
             return Ok(());
@@ -108,7 +110,16 @@ impl<W: Output> Output for PackingOutput<W> {
 
     ghost has_failed = { λ p. p.failed };
 
-    fn write(&mut self, from: &[u8]) -> Result<usize, DeviceFault> {
+    fn write(&mut self, from: &[u8]) -> Result<usize, DeviceFault>
+        ensures bound { IfOk result (λ n. n ≤ length from.now) }
+        ensures some { 0 < length from.now → IfOk result (λ n. 0 < n) }
+        ensures bytes { WriteAppends (⟦<Self as Output>⟧.contents self.old)
+            (⟦<Self as Output>⟧.contents self.new) result from.now }
+        ensures works { OnOk result (self.new.failed ≡ self.old.failed) }
+        ensures fails { OnErr result (self.new.failed ≡ true) }
+        ensures cause { OnErr result (8 ≤ length from.now
+            → W.has_failed self.new.packed ≡ true) }
+    {
         if from.is_empty() {
             return Ok(0);
         }

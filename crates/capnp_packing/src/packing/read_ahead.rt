@@ -1,5 +1,5 @@
 //! Packed bytes that are read ahead, many at a time.
-ghost use Rattle.std.specs.Prelude.{◌≡◌, ◌≤◌, ◌<◌, ◌+◌, ◌∷◌, [], true, false, IfOk, OnErr, IsTrue, length, take, slice_range};
+ghost use Rattle.std.specs.Prelude.{◌≡◌, ◌≤◌, ◌<◌, ◌+◌, ◌∷◌, [], true, false, IfOk, OnOk, OnErr, IsTrue, length, take, slice_range};
 ghost use Rattle.std.specs.Io.KnownBytes.{Consumes, IsAtEnd, Keeps, prepend_known};
 
 use capnp_framing::devices::{DeviceFault, Input};
@@ -46,6 +46,8 @@ impl<R: Input> ReadAhead<R> {
         ensures some { IfOk result (λ b. b ≡ true → self.new.at < self.new.end) }
         ensures end { IfOk result (λ b. b ≡ false
             → IsAtEnd (⟦<Self as Input>⟧.remaining self.new)) }
+        ensures works { OnOk result (R.has_failed self.new.input ≡ R.has_failed self.old.input) }
+        ensures fails { OnErr result (R.has_failed self.new.input ≡ true) }
     {
         if self.at < self.end {
             return Ok(true);
@@ -60,8 +62,9 @@ impl<R: Input> ReadAhead<R> {
     /// Takes a byte that is ahead.
     pub(super) fn next(&mut self) -> u8
         requires { self.old.at < self.old.end }
-        ensures { Consumes (⟦<Self as Input>⟧.remaining self.old)
+        ensures byte { Consumes (⟦<Self as Input>⟧.remaining self.old)
             (⟦<Self as Input>⟧.remaining self.new) (result ∷ []) }
+        ensures input { self.new.input ≡ self.old.input }
     {
         let byte = self.bytes[self.at];
         self.at += 1;
@@ -71,9 +74,10 @@ impl<R: Input> ReadAhead<R> {
     /// Takes so many of the bytes that are ahead.
     pub(super) fn consume(&mut self, n: usize)
         requires { self.old.at + n ≤ self.old.end }
-        ensures { Consumes (⟦<Self as Input>⟧.remaining self.old)
+        ensures bytes { Consumes (⟦<Self as Input>⟧.remaining self.old)
             (⟦<Self as Input>⟧.remaining self.new)
             (take n (slice_range self.old.bytes self.old.at self.old.end)) }
+        ensures input { self.new.input ≡ self.old.input }
     {
         self.at += n;
     }

@@ -1,5 +1,5 @@
 //! An input of packed bytes, as an input of what they stand for.
-ghost use Rattle.std.specs.Prelude.{Some, ℕ, List, ◌≡◌, ◌≤◌, ◌<◌, ◌+◌, ◌-◌, ◌∷◌, ◌↔◌, [], IsTrue, false, true, IfOk, OnOk, OnErr, length, take, slice_range};
+ghost use Rattle.std.specs.Prelude.{Some, ℕ, List, ◌&&◌, ◌≡◌, ◌≤◌, ◌<◌, ◌+◌, ◌-◌, ◌∷◌, ◌↔◌, [], IsTrue, false, true, IfOk, OnOk, OnErr, length, take, slice_range};
 ghost use Rattle.std.specs.Io.KnownBytes.{Consumes, IsAtEnd, ReadConsumes};
 ghost use Rattle.std.specs.Option.{option_map};
 ghost use Rattle.capnp_framing.specs.Wholeness.{KeepsWhole};
@@ -17,9 +17,8 @@ pub struct UnpackingInput<R> {
     place: Place,
     // How many bytes of zero are given before the next packed byte is taken.
     zeros: u16,
-    // The packed input failed behind bytes that were given: the next read fails.
-    broken: bool,
-    failed: bool,
+    // Whether a read has said that the packed input failed. Bytes that came before that are given first.
+    told: bool,
 }
 
 impl<R: Input> UnpackingInput<R> {
@@ -27,7 +26,7 @@ impl<R: Input> UnpackingInput<R> {
     pub fn new(packed: R) -> Self
         ensures place { result.place ≡ Place.Tag }
         ensures zeros { result.zeros ≡ 0 }
-        ensures works { result.failed ≡ false }
+        ensures works { result.told ≡ false }
         ensures packed { ⟦<ReadAhead<R> as Input>⟧.remaining result.packed ≡ R.remaining packed }
         ensures remaining { ⟦<Self as Input>⟧.remaining result
             ≡ option_map (unpacked_bytes Place.Tag) (R.remaining packed) }
@@ -38,21 +37,23 @@ impl<R: Input> UnpackingInput<R> {
             packed: ReadAhead::new(packed),
             place: Place::Tag,
             zeros: 0,
-            broken: false,
-            failed: false,
+            told: false,
         }
     }
 
-    /// Whether the packed bytes are whole, where nothing of what they stand for is left: reads on
+    /// Whether the packed bytes are whole, and nothing of what they stand for is left: reads on
     /// to their end. It takes at most a byte of what is left.
     pub fn finish(&mut self) -> Result<bool, DeviceFault>
         ensures whole { IsAtEnd (⟦<Self as Input>⟧.remaining self.old) → IfOk result
             (λ whole. KeepsWhole (⟦<Self as Input>⟧.ends_whole self.old) (Some whole)) }
+        ensures end { IfOk result
+            (λ whole. IsTrue whole → IsAtEnd (⟦<Self as Input>⟧.remaining self.old)) }
         ensures bytes { (bytes : List ℕ) × (length bytes ≤ 1)
             × Consumes (⟦<Self as Input>⟧.remaining self.old)
             (⟦<Self as Input>⟧.remaining self.new) bytes }
-        ensures works { OnOk result (self.new.failed ≡ self.old.failed) }
-        ensures fails { OnErr result (self.new.failed ≡ true) }
+        ensures works { OnOk result
+            (⟦<Self as Input>⟧.has_failed self.new ≡ ⟦<Self as Input>⟧.has_failed self.old) }
+        ensures fails { OnErr result (⟦<Self as Input>⟧.has_failed self.new ≡ true) }
     {
         match self.unpack(&mut [0]) {
             Ok(0) => Ok(self.is_whole()),
@@ -80,11 +81,12 @@ impl<R: Input> UnpackingInput<R> {
             self.new.place (⟦<ReadAhead<R> as Input>⟧.remaining self.new.packed) }
         ensures end { IfOk result (λ n. n ≡ 0 → 0 < length to.new → (self.new.zeros ≡ 0)
             × IsAtEnd (⟦<ReadAhead<R> as Input>⟧.remaining self.new.packed)) }
-        ensures works { OnOk result (self.new.failed ≡ self.old.failed) }
-        ensures fails { OnErr result (self.new.failed ≡ true) }
+        ensures works { OnOk result
+            (⟦<Self as Input>⟧.has_failed self.new ≡ ⟦<Self as Input>⟧.has_failed self.old) }
+        ensures fails { OnErr result (⟦<Self as Input>⟧.has_failed self.new ≡ true) }
     {
-        if self.broken {
-            self.failed = true;
+        if self.packed.failed() {
+            self.told = true;
             return Err(DeviceFault);
         }
         let mut given = 0;
@@ -93,12 +95,12 @@ impl<R: Input> UnpackingInput<R> {
                 Ok(0) => return Ok(given),
                 Ok(n) => given += n,
                 Err(DeviceFault) => {
-                    self.broken = true;
-                    if given > 0 {
-                        return Ok(given);
-                    }
-                    self.failed = true;
-                    return Err(DeviceFault);
+                    self.told = given == 0;
+                    return if self.told {
+                        Err(DeviceFault)
+                    } else {
+                        Ok(given)
+                    };
                 }
             }
         }
@@ -118,7 +120,10 @@ impl<R: Input> UnpackingInput<R> {
             self.new.place (⟦<ReadAhead<R> as Input>⟧.remaining self.new.packed) }
         ensures end { IfOk result (λ n. n ≡ 0 → (self.new.zeros ≡ 0)
             × IsAtEnd (⟦<ReadAhead<R> as Input>⟧.remaining self.new.packed)) }
-        ensures failed { self.new.failed ≡ self.old.failed }
+        ensures works { OnOk result (R.has_failed self.new.packed.input
+            ≡ R.has_failed self.old.packed.input) }
+        ensures fails { OnErr result (R.has_failed self.new.packed.input ≡ true) }
+        ensures told { self.new.told ≡ self.old.told }
     {
         while self.zeros == 0 {
             if let Place::Raw(left) = self.place {
@@ -154,7 +159,8 @@ impl<R: Input> UnpackingInput<R> {
         ensures place { KeepsEnd
             self.old.place (⟦<ReadAhead<R> as Input>⟧.remaining self.old.packed)
             self.new.place (⟦<ReadAhead<R> as Input>⟧.remaining self.new.packed) }
-        ensures failed { self.new.failed ≡ self.old.failed }
+        ensures input { self.new.packed.input ≡ self.old.packed.input }
+        ensures told { self.new.told ≡ self.old.told }
     {
         let progress = unpack_words(self.packed.ahead(), to);
         self.packed.consume(progress.taken);
@@ -174,7 +180,8 @@ impl<R: Input> UnpackingInput<R> {
         ensures place { KeepsEnd
             self.old.place (⟦<ReadAhead<R> as Input>⟧.remaining self.old.packed)
             self.new.place (⟦<ReadAhead<R> as Input>⟧.remaining self.new.packed) }
-        ensures failed { self.new.failed ≡ self.old.failed }
+        ensures input { self.new.packed.input ≡ self.old.packed.input }
+        ensures told { self.new.told ≡ self.old.told }
     {
         let n = to.len().min(self.zeros as usize);
         put_zeros(&mut to[..n]);
@@ -198,7 +205,10 @@ impl<R: Input> UnpackingInput<R> {
             self.new.place (⟦<ReadAhead<R> as Input>⟧.remaining self.new.packed) }
         ensures end { IfOk result (λ n. n ≡ 0 → (self.new.zeros ≡ 0)
             × IsAtEnd (⟦<ReadAhead<R> as Input>⟧.remaining self.new.packed)) }
-        ensures failed { self.new.failed ≡ self.old.failed }
+        ensures works { OnOk result (R.has_failed self.new.packed.input
+            ≡ R.has_failed self.old.packed.input) }
+        ensures fails { OnErr result (R.has_failed self.new.packed.input ≡ true) }
+        ensures told { self.new.told ≡ self.old.told }
     {
         let most = to.len().min(left as usize + 1);
         let n = self.packed.read(&mut to[..most])?;
@@ -227,7 +237,7 @@ impl<R: Input> Input for UnpackingInput<R> {
     ghost remaining = { λ u. bytes_behind u.zeros u.place
         (⟦<ReadAhead<R> as Input>⟧.remaining u.packed) };
 
-    ghost has_failed = { λ u. u.failed };
+    ghost has_failed = { λ u. u.told && R.has_failed u.packed.input };
 
     ghost ends_whole = { λ u. whole_behind u.place (⟦<ReadAhead<R> as Input>⟧.remaining u.packed) };
 
@@ -236,6 +246,6 @@ impl<R: Input> Input for UnpackingInput<R> {
     }
 
     fn failed(&self) -> bool {
-        self.failed
+        self.told && self.packed.failed()
     }
 }

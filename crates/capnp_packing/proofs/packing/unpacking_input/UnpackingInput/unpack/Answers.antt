@@ -17,5 +17,6 @@ loop-given-preserved g c = record {
   bytes = rw (written c.loop-given.given c.in-Ok.n _ c.loop-given.to c.unpack_some.new.to c.loop-given.invariant.within c.in-Ok.ensures.bound) (then_takes _ _ _ _ _ _ _ _ _ _ _ c.loop-given.invariant.bytes
       (c.in-Ok.ensures.bytes, c.in-Ok.ensures.place));
   within = search rules;
-  failed = search rules;
+  works = search rules;
+  told = search rules;
 }

@@ -14,7 +14,8 @@ invariant-loop-given g l = record {
       (g.R.Input.remaining l.self.packed.input))
       (take l.given l.to);
   within : l.given ≤ length l.to;
-  failed : l.self.failed ≡ l.fn.self.failed;
+  works : g.R.Input.has_failed l.self.packed.input ≡ g.R.Input.has_failed l.fn.self.packed.input;
+  told : l.self.told ≡ l.fn.self.told;
 }
 
 abbrev pub decreases-loop-given : goal.decreases-loop-given

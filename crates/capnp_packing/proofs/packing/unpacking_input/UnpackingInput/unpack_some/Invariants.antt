@@ -13,7 +13,8 @@ invariant-loop-self g l = record {
       (prepend_known (slice_range l.self.packed.bytes l.self.packed.at l.self.packed.end)
       (g.R.Input.remaining l.self.packed.input))
       [];
-  failed : l.self.failed ≡ l.fn.self.failed;
+  works : g.R.Input.has_failed l.self.packed.input ≡ g.R.Input.has_failed l.fn.self.packed.input;
+  told : l.self.told ≡ l.fn.self.told;
 }
 
 abbrev pub decreases-loop-self : goal.decreases-loop-self
