@@ -13,7 +13,10 @@ mod writing;
 pub use canonical_copy::{CanonicalCopy, copy_canonical, copy_canonical_with};
 pub use canonical_error::CanonicalError;
 pub use canonical_message::is_canonical_message;
-pub use capnp_framing::framing::{FrameError, MAX_SEGMENTS, OwnedSegments, read, read_into, write};
+pub use capnp_framing::framing::{
+    FrameError, FrameSegments, MAX_SEGMENTS, OwnedSegments, read, read_from_flat_slice, read_into,
+    write,
+};
 pub use capnp_readers::readers::{CanonicalFault, CanonicalFaultReason};
 pub use copy_memory::CopyMemory;
 pub use message_fault::canonical_fault;
