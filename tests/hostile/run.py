@@ -6,8 +6,8 @@
 LAYOUT_RUNS and LAYOUT_ROWS are the built programs of these names. Each message of the worked vectors and of messages.txt is
 cut behind every byte and has every bit turned, and so has each frame; its runs meet a reader, a writer and an allocator that
 fail at each call in turn. The lists of edits and of builder calls of tests/rows are done again with segments refused from
-every one on, until none is refused, and with the first segment in scratch space; the segments of a message are asked for
-with little memory. What is wanted of each run is said beside it; values are read back by trees.py, and frames by frames.py,
+every one on, until none is refused, and with the first segment in scratch space; the segments of a message are asked for,
+written as a frame and read back with little memory. What is wanted of each run is said beside it; values are read back by trees.py, and frames by frames.py,
 apart from the crates."""
 import argparse
 import pathlib
@@ -44,6 +44,7 @@ def main():
         ('levels', lambda: growth.deep([options.rows], total)),
         ('builder calls with segments refused', lambda: growth.built([options.rows], builds, total)),
         ('segments asked for with little memory', lambda: scarce.output([options.runs], [options.rows], total)),
+        ('segments written as a frame and read back', lambda: scarce.written([options.runs], total)),
     ):
         before = total.passed + total.failed
         part()

@@ -1,28 +1,33 @@
-"""Messages of many segments that are built, and whose segments are asked for, under a limit on a process's address space:
-the memory of `get_segments_for_output` is the global allocator's, which no program can refuse."""
+"""Messages of many segments that are built, asked for, written and read under a limit on a process's address space:
+the memory of these calls is the global allocator's, which no program can refuse."""
 import resource
 import subprocess
 
+import frames
 from growth import audited
-from program import LIMIT
+from program import LIMIT, answers
 from trees import segments_of, value
 
-# The list of segments takes 16 bytes for each, so a step is sure to end where it alone is refused. What is held until
-# then has room for the answer.
-COUNT = 1 << 15
-HELD = 1 << 24
-STEP = 1 << 18
 REFUSED = 'AllocationFailed'
+UNWRITTEN = 'WriteFailed'
+# How many bytes are held until all is asked for, so that the answer has room.
+HELD = 1 << 24
+# The list of segments takes 16 bytes for each, so a step is sure to end where it alone is refused.
+COUNT = 1 << 15
+STEP = 1 << 18
+# A message of so many objects of so many bytes is written and read in pieces that are larger than these steps.
+OBJECTS, SIZE = 3, 1 << 19
+SMALL_STEP = 1 << 17
+# How many words may be read of a message that is written as a frame.
+BUDGET = 1 << 23
 
 
-def answered(program, most):
-    """How many pointers were set, how many requests were refused, what the call answered, and the words, where the
-    address space is so many bytes; or None where the program itself has no room."""
-    line = f'segments {COUNT} {HELD}\n'
+def answered(program, line, most):
+    """The words of the answer to a line, where the address space is so many bytes; None where the program itself has no room."""
     try:
         run = subprocess.run(
             program,
-            input=line,
+            input=line + '\n',
             stdout=subprocess.PIPE,
             stderr=subprocess.DEVNULL,
             timeout=LIMIT,
@@ -31,10 +36,7 @@ def answered(program, most):
         )
     except (OSError, subprocess.SubprocessError):
         return None
-    if run.returncode:
-        return None
-    set_, refused, answer, words = run.stdout.rstrip('\n').split(' ')
-    return int(set_), int(refused), answer, words
+    return None if run.returncode else run.stdout.rstrip('\n').split(' ')
 
 
 def is_built(set_, refused, words):
@@ -51,13 +53,76 @@ def output(runs, rows, counts):
     most = HELD
     while (COUNT, 'ok') not in found and most < 4 * HELD:
         most += STEP
-        run = answered(runs, most)
+        run = answered(runs, f'segments {COUNT} {HELD}', most)
         if run is None:
             continue
-        set_, refused, answer, words = run
+        set_, refused, answer, words = int(run[0]), int(run[1]), run[2], run[3]
         found.add((set_, answer))
         counts.told(answer in ('ok', REFUSED) and is_built(set_, refused, words), 'with little memory', most, set_, refused, answer)
         if words:
             audited(rows, [(f'{most} bytes of memory', words)], counts)
     counts.told((COUNT, REFUSED) in found, 'the list of segments alone was never refused', found)
     counts.told((COUNT, 'ok') in found, 'all was refused', found)
+
+
+def data_of(i, size):
+    return i.to_bytes(8, 'little')[:size] + bytes(max(size - 8, 0))
+
+
+def canonical(count, set_, size):
+    """The canonical words of a list of pointers, so many of which lead to data of this size."""
+    words = (size + 7) // 8
+    pointers = [(count - 1 - i + i * words) << 2 | 1 | (2 | size << 3) << 32 if i < set_ else 0 for i in range(count)]
+    table = b''.join(it.to_bytes(8, 'little') for it in [1 | (6 | count << 3) << 32, *pointers])
+    return table + b''.join(data_of(i, size).ljust(8 * words, b'\0') for i in range(set_))
+
+
+def is_framed(frame, count, set_, size):
+    """Whether a frame is one of a list of pointers, so many of which lead to data of this size."""
+    data = [('list', 2, size, data_of(i, size)) if i < set_ else None for i in range(count)]
+    segments = frames.parted(bytes.fromhex(frame))
+    return frames.framed(segments) == frame and value(segments) == ('pointers', data)
+
+
+def cost(count, set_, size):
+    """How many words it costs to read the root pointer, the list behind its landing pad, and each of the data behind its own."""
+    return 1 + (count + 1 if count else 0) + set_ * ((size + 7) // 8 + 1)
+
+
+def is_handled(run, count, size):
+    """Whether an answer to a message that is written as a frame, read back and made canonical is right: up to the first step
+    that is refused for want of memory all is as it is to be, and nothing stands of those behind."""
+    set_, refused, written, flat, read, copied, left, frame, copy = run
+    set_, left, frame, copy = int(set_), int(left), frame[1:], copy[1:]
+    if (set_ == count) != (refused == '0') or written not in ('ok', UNWRITTEN, REFUSED):
+        return False
+    if written != 'ok':
+        return (flat, read, copied, left, copy) == ('-', '-', '-', BUDGET, '')
+    if flat != 'ok' or not is_framed(frame, count, set_, size) or read not in ('ok', REFUSED):
+        return False
+    if read != 'ok':
+        return (copied, left, copy) == ('-', BUDGET, '')
+    if copied == REFUSED:
+        return (left, copy) == (BUDGET - 1, '')
+    whole = frames.framed([canonical(count, set_, size)])
+    return left == BUDGET - cost(count, set_, size) and (copied == UNWRITTEN and whole.startswith(copy) or (copied, copy) == ('ok', whole))
+
+
+def written(runs, counts):
+    """Whether the segments of a message that is built, written as a frame and read back, mean what they did, and the canonical
+    copy is right: with ample memory for each number of segments up to one too many, and with little memory."""
+    lines = [(count, size) for count in (0, 1, 2, 3, 31, 32, 509, 510) for size in (8, 20)]
+    for (count, size), answer in zip(lines, answers(runs, [f'framed {count} {size} 0' for count, size in lines])):
+        run = answer.split(' ')
+        counts.told(run[2:6] == ['ok'] * 4 and is_handled(run, count, size), 'another frame', count, size, answer)
+    for answer in answers(runs, ['framed 511 8 0']):
+        counts.told(answer == f'511 0 TooManySegments - - - {BUDGET} - -', 'a frame of 513 segments', answer)
+    found = set()
+    for most in range(HELD, 3 * HELD, SMALL_STEP):
+        run = answered(runs, f'framed {OBJECTS} {SIZE} {HELD}', most)
+        if run is None or run[0] != str(OBJECTS):
+            continue
+        found.add((run[2], run[4], run[5]))
+        counts.told(is_handled(run, OBJECTS, SIZE), 'with little memory', most, *run)
+    for steps in ((UNWRITTEN, '-', '-'), ('ok', REFUSED, '-'), ('ok', 'ok', REFUSED), ('ok', 'ok', UNWRITTEN), ('ok', 'ok', 'ok')):
+        counts.told(steps in found, 'never so with little memory', steps, found)

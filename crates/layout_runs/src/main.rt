@@ -4,6 +4,7 @@
 #![tactic(auto)]
 
 mod devices;
+mod frames;
 mod run;
 mod segments;
 

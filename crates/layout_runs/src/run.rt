@@ -1,7 +1,7 @@
 //! One run, as a line of text asks for it.
 
 use crate::devices::{Dripping, Narrow};
-use crate::segments;
+use crate::{frames, segments};
 use capnp_arena::arena::{Allocator, HeapAllocator};
 use capnp_layout::tool::{self, Args, Outcome};
 use std::alloc::{AllocError, Global};
@@ -15,6 +15,8 @@ enum Asked<'l> {
     Run(Run<'l>),
     /// A message of a list of so many pointers, while so many bytes are held.
     Segments(u32, usize),
+    /// The same of pointers to so many bytes each, written as a frame.
+    Framed(u32, usize, usize),
 }
 
 /// A run of the tool.
@@ -36,6 +38,7 @@ pub fn answer(alloc: Global, line: &str) -> Result<String, AllocError> {
     match read_line(alloc, line)? {
         Some(Asked::Run(run)) => run_once(alloc, &run),
         Some(Asked::Segments(count, held)) => segments::answer(alloc, count, held),
+        Some(Asked::Framed(count, size, held)) => frames::answer(alloc, count, size, held),
         None => String::from_str(alloc, "malformed"),
     }
 }
@@ -48,6 +51,7 @@ fn read_line(alloc: Global, line: &str) -> Result<Option<Asked<'_>>, AllocError>
     }
     match words.as_slice() {
         ["segments", count, held] => Ok(read_segments(*count, *held)),
+        ["framed", count, size, held] => Ok(read_framed(*count, *size, *held)),
         [args, reads, writes, requests, input] => {
             let run = read_run(alloc, *args, (*reads, *writes, *requests), *input)?;
             Ok(run.map(Asked::Run))
@@ -60,6 +64,14 @@ fn read_line(alloc: Global, line: &str) -> Result<Option<Asked<'_>>, AllocError>
 fn read_segments<'l>(count: &str, held: &str) -> Option<Asked<'l>> {
     match (count.parse(), held.parse()) {
         (Ok(count), Ok(held)) => Some(Asked::Segments(count, held)),
+        _ => None,
+    }
+}
+
+/// The three numbers of a message that is written as a frame.
+fn read_framed<'l>(count: &str, size: &str, held: &str) -> Option<Asked<'l>> {
+    match (count.parse(), size.parse(), held.parse()) {
+        (Ok(count), Ok(size), Ok(held)) => Some(Asked::Framed(count, size, held)),
         _ => None,
     }
 }

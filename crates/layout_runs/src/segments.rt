@@ -1,7 +1,7 @@
 //! A message of many segments, which is built, and of which the segments are asked for, while memory is scarce.
 
 use capnp_layout::arena::{
-    BuilderArena, BuilderArenaImpl, HeapAllocator, OutputSegments, ReaderArena, ReaderSegments,
+    BuilderArena, BuilderArenaImpl, HeapAllocator, ReaderArena, ReaderSegments,
 };
 use capnp_layout::edit::{Edit, Op, Step, apply};
 use capnp_layout::error::ErrorKind;
@@ -13,7 +13,7 @@ use std::alloc::{AllocError, Global};
 pub fn answer(alloc: Global, count: u32, held: usize) -> Result<String, AllocError> {
     let held = Vec::from_elem(alloc, 0u8, held)?;
     let mut arena = BuilderArenaImpl::new(alloc, HeapAllocator::new(alloc, 1));
-    let set = build(&mut arena, count);
+    let set = build(&mut arena, count, &mut [0; 8]);
     let answered = output_of(&arena);
     drop(held);
     let refused = arena.refused();
@@ -22,9 +22,9 @@ pub fn answer(alloc: Global, count: u32, held: usize) -> Result<String, AllocErr
     Ok(text)
 }
 
-/// Makes a list of so many pointers, and sets them to data of eight bytes, their number, until one is refused. Gives
-/// how many were set. Each object has a segment of its own.
-fn build(arena: &mut BuilderArenaImpl<HeapAllocator>, count: u32) -> u32 {
+/// Makes a list of so many pointers, and sets them to these data, of which the first eight bytes are made their number,
+/// until one is refused. Gives how many were set. Each object has a segment of its own.
+pub fn build(arena: &mut BuilderArenaImpl<HeapAllocator>, count: u32, data: &mut [u8]) -> u32 {
     if arena.allocate_segment(1).is_err() {
         return 0;
     }
@@ -33,7 +33,10 @@ fn build(arena: &mut BuilderArenaImpl<HeapAllocator>, count: u32) -> u32 {
         return 0;
     }
     for i in 0..count {
-        if !set_element(arena, i, &u64::from(i).to_le_bytes()) {
+        for (byte, digit) in data.iter_mut().zip(&u64::from(i).to_le_bytes()) {
+            *byte = *digit;
+        }
+        if !set_element(arena, i, data) {
             return i;
         }
     }
@@ -66,9 +69,9 @@ fn output_of(arena: &BuilderArenaImpl<HeapAllocator>) -> &'static str {
 }
 
 /// Whether these are the segments of a message.
-fn are_all(output: &OutputSegments<'_>, arena: &BuilderArenaImpl<HeapAllocator>) -> bool {
+pub fn are_all<S: ReaderSegments>(found: &S, arena: &BuilderArenaImpl<HeapAllocator>) -> bool {
     for id in 0..u32::MAX {
-        match (output.get_segment(id), arena.get_segment(id)) {
+        match (found.get_segment(id), arena.get_segment(id)) {
             (Some(one), Ok(other)) => {
                 if one != other {
                     return false;

@@ -1,0 +1,129 @@
+//! A message of many segments, which is written as a frame, read back from it and made canonical, while memory is scarce.
+ghost use Rattle.std.specs.Prelude.{◌≡◌, false};
+ghost use Rattle.capnp_arena.specs.Limits.{IsSmall};
+
+use crate::segments::{are_all, build};
+use capnp_layout::arena::{
+    BuilderArena, BuilderArenaImpl, HeapAllocator, ReaderArenaImpl, ReaderOptions, ReaderSegments,
+};
+use capnp_layout::devices::{MemoryInput, MemoryOutput, Output};
+use capnp_layout::framing::{
+    OwnedSegments, read, read_from_flat_slice, read_root, write, write_canonical,
+};
+use capnp_layout::read_limiter::ReadLimiter;
+use std::alloc::{AllocError, Global};
+
+/// How many words may be read.
+const BUDGET: usize = 1 << 23;
+
+/// The answer to a line: how many pointers of a list were set, each to so many bytes; how many requests were refused;
+/// what became of the frame that is written, of those bytes read in place, and read as an input, and of the canonical copy
+/// of what was read; how many words may still be read then; and both frames. So many bytes are held until all is done.
+pub fn answer(alloc: Global, count: u32, size: usize, held: usize) -> Result<String, AllocError> {
+    let held = Vec::from_elem(alloc, 0u8, held)?;
+    let mut data = Vec::from_elem(alloc, 0u8, size)?;
+    let mut arena = BuilderArenaImpl::new(alloc, HeapAllocator::new(alloc, 1));
+    let set = build(&mut arena, count, data.as_mut_slice());
+    let refused = arena.refused();
+    let mut frame = MemoryOutput::new(alloc);
+    let mut copy = MemoryOutput::new(alloc);
+    let mut lim = ReadLimiter::new(Some(BUDGET));
+    let [written, flat, read, copied] = steps(alloc, &arena, &mut lim, &mut frame, &mut copy);
+    drop(arena);
+    drop(held);
+    let left = lim.left().unwrap_or(0);
+    let mut text = format!(in alloc; "{set} {refused} {written} {flat} {read} {copied} {left} -")?;
+    text.push_str(hex::encode(alloc, frame.bytes())?.as_str())?;
+    text.push_str(" -")?;
+    text.push_str(hex::encode(alloc, copy.bytes())?.as_str())?;
+    Ok(text)
+}
+
+/// Writes a message as a frame, reads it back where it stands and as an input, and makes a canonical copy of what was read:
+/// what becomes of each, `-` where it isn't tried.
+fn steps(
+    alloc: Global,
+    arena: &BuilderArenaImpl<HeapAllocator>,
+    lim: &mut ReadLimiter,
+    frame: &mut MemoryOutput,
+    copy: &mut MemoryOutput,
+) -> [&'static str; 4]
+    requires frame { ⟦<MemoryOutput as Output>⟧.has_failed frame.old ≡ false }
+    requires copy { ⟦<MemoryOutput as Output>⟧.has_failed copy.old ≡ false }
+{
+    let written = written(arena, frame);
+    if written != "ok" {
+        return [written, "-", "-", "-"];
+    }
+    let flat = read_in_place(arena, frame.bytes());
+    let (read, copied) = read_and_copied(alloc, arena, frame.bytes(), lim, copy);
+    [written, flat, read, copied]
+}
+
+/// Writes a message as a frame: `ok`, or the name of the refusal.
+fn written(arena: &BuilderArenaImpl<HeapAllocator>, to: &mut MemoryOutput) -> &'static str
+    requires { ⟦<MemoryOutput as Output>⟧.has_failed to.old ≡ false }
+{
+    match arena.get_segments_for_output() {
+        Ok(output) => match write(to, &output) {
+            Ok(()) => "ok",
+            Err(error) => error.name(),
+        },
+        Err(kind) => kind.name(),
+    }
+}
+
+/// Reads a frame where it stands: `ok`, `other` where it isn't that of a message, or the name of the refusal.
+fn read_in_place(arena: &BuilderArenaImpl<HeapAllocator>, frame: &[u8]) -> &'static str {
+    match read_from_flat_slice(frame, BUDGET as u64) {
+        Ok(Some(found)) => compared(&found, arena),
+        Ok(None) => "none",
+        Err(error) => error.name(),
+    }
+}
+
+/// Reads a frame as an input, and makes a canonical copy of what was read.
+fn read_and_copied(
+    alloc: Global,
+    arena: &BuilderArenaImpl<HeapAllocator>,
+    frame: &[u8],
+    lim: &mut ReadLimiter,
+    copy: &mut MemoryOutput,
+) -> (&'static str, &'static str)
+    requires { ⟦<MemoryOutput as Output>⟧.has_failed copy.old ≡ false }
+{
+    let mut input = MemoryInput::new(frame);
+    match read(alloc, &mut input, BUDGET as u64) {
+        Ok(Some(found)) => {
+            let same = compared(&found, arena);
+            (same, copied(alloc, found, lim, copy))
+        }
+        Ok(None) => ("none", "-"),
+        Err(error) => (error.name(), "-"),
+    }
+}
+
+/// `ok` where segments are those of a message, else `other`.
+fn compared<S: ReaderSegments>(found: &S, arena: &BuilderArenaImpl<HeapAllocator>) -> &'static str {
+    if are_all(found, arena) { "ok" } else { "other" }
+}
+
+/// Writes the canonical copy of a message as a frame: `ok`, or the name of the refusal.
+fn copied(
+    alloc: Global,
+    segments: OwnedSegments,
+    lim: &mut ReadLimiter,
+    to: &mut MemoryOutput,
+) -> &'static str
+    requires small { IsSmall (⟦<OwnedSegments as ReaderSegments>⟧.segments segments) }
+    requires works { ⟦<MemoryOutput as Output>⟧.has_failed to.old ≡ false }
+{
+    let source = ReaderArenaImpl::new(segments, ReaderOptions::default());
+    match read_root(&source, lim) {
+        Ok(root) => match write_canonical(alloc, to, root, lim) {
+            Ok(()) => "ok",
+            Err(error) => error.name(),
+        },
+        Err(kind) => kind.name(),
+    }
+}
