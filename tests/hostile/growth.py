@@ -23,7 +23,7 @@ ALONE = {
 MAKING = {'is', 'il', 'isl', 'it', 'id', 'st', 'sd', 'cf', 'ss', 'sl'}
 MAKING_CALLS = {
     'put_struct', 'init_struct', 'put_list', 'init_list', 'put_struct_list', 'init_struct_list', 'init_text', 'init_data',
-    'set_text', 'set_data', 'put_default', 'copy', 'set_struct', 'set_list',
+    'set_text', 'set_data', 'put_default', 'copy', 'set_struct', 'set_list', 'set_struct_element', 'set_section',
 }
 # Those that open a struct or a list of structs, whose last argument may be a default.
 OPENING_CALLS = {'find_struct', 'get_struct', 'find_struct_list', 'get_struct_list'}
@@ -68,12 +68,18 @@ def run_edits(program, lines):
 
 def lent(program, command, calls, counts):
     """Whether the same is answered, refusals too, where the first segment is in memory that the caller lends, whatever that
-    memory held."""
+    memory held; and where not a segment is refused but the row of one."""
     runs = [(words, segments, it) for it in calls for words in WORDS for segments in (*SEGMENTS, 'none')]
     heap = answers([*program, command], [f'{words} {segments} {it}' for words, segments, it in runs])
     scratch = answers([*program, command], [f'{words}/{words} {segments} {it}' for words, segments, it in runs])
     for run, wanted, got in zip(runs, heap, scratch):
         counts.told(got == wanted, 'other answers in scratch space', run, wanted, got)
+    # on the heap each segment has a row that is asked for, in scratch space each but the first
+    refused = [(run, wanted) for run, wanted in zip(runs, heap) if REFUSED in wanted]
+    lines = [(f'{words} none/{rows} {it}', wanted) for (words, rows, it), wanted in refused]
+    lines += [(f'{words}/{words} none/{segments - 1} {it}', wanted) for (words, segments, it), wanted in refused if segments]
+    for (line, wanted), got in zip(lines, answers([*program, command], [line for line, _ in lines])):
+        counts.told(got == wanted, 'other answers where rows are refused', line, wanted, got)
 
 
 def is_large(call):

@@ -5,8 +5,8 @@ ghost use Rattle.capnp_arena.specs.Allocations.{max_segment_words};
 use crate::output::Output;
 use crate::parse::{self, Fault};
 use capnp_arena::arena::{
-    Allocator, BuilderArena, BuilderArenaImpl, MAX_SEGMENT_WORDS, ReaderArena, ScratchSegment,
-    ScratchSpaceHeapAllocator,
+    Allocator, BuilderArena, BuilderArenaImpl, HeapSegment, MAX_SEGMENT_WORDS, ReaderArena,
+    ScratchSegment, ScratchSpaceHeapAllocator,
 };
 use capnp_words::error::ErrorKind;
 use layout_vectors::vectors::LimitedAllocator;
@@ -17,13 +17,15 @@ use std::alloc::Global;
 pub struct Memory {
     words: u32,
     segments: u32,
+    rows: u32,
     scratch_words: Option<u32>,
     ghost small: { words ≤ max_segment_words },
 }
 
 impl Memory {
     /// Segments of at least `words` words, of which `segments` are granted, or any number where that is `none`.
-    /// Behind a `/` in `words` stand the words of a scratch space, if there is one.
+    /// Behind a `/` in `words` stand the words of a scratch space, if there is one; behind one in `segments` how many rows
+    /// of segments are kept, if not any number.
     pub fn new(words: &str, segments: &str) -> Result<Self, Fault> {
         let (words, scratch_words) = match words.split_once('/') {
             Some((words, scratch)) => (words, Some(parse::number(scratch)?)),
@@ -33,14 +35,14 @@ impl Memory {
         if words > MAX_SEGMENT_WORDS {
             return Err(Fault::Unfit);
         }
-        let segments = if segments == "none" {
-            u32::MAX
-        } else {
-            parse::number(segments)?
+        let (segments, rows) = match segments.split_once('/') {
+            Some((segments, rows)) => (count(segments)?, count(rows)?),
+            None => (count(segments)?, u32::MAX),
         };
         Ok(Memory {
             words,
             segments,
+            rows,
             scratch_words,
         })
     }
@@ -54,8 +56,12 @@ impl Memory {
     }
 
     /// The allocator where there is no scratch space.
-    pub fn limited(&self, alloc: Global) -> LimitedAllocator {
-        LimitedAllocator::new(alloc, self.words, self.segments)
+    pub fn limited(&self, alloc: Global) -> LimitedRows {
+        LimitedRows {
+            inner: LimitedAllocator::new(alloc, self.words, self.segments),
+            rows: self.rows,
+            refused: 0,
+        }
     }
 
     /// The allocator over a scratch space.
@@ -63,17 +69,81 @@ impl Memory {
         LimitedScratch {
             inner: ScratchSpaceHeapAllocator::new(alloc, scratch, self.words),
             left: self.segments,
+            rows: self.rows,
             refused: 0,
         }
     }
 }
 
-/// Makes segments over a scratch space, but no more than so many. It isn't generic over the other allocator: a call of
+/// So many, or any number for `none`.
+fn count(text: &str) -> Result<u32, Fault> {
+    if text == "none" {
+        Ok(u32::MAX)
+    } else {
+        parse::number(text)
+    }
+}
+
+/// Makes segments as `LimitedAllocator` does, and keeps no more than so many rows.
+#[derive(Drop)]
+pub struct LimitedRows {
+    inner: LimitedAllocator,
+    rows: u32,
+    refused: u64,
+}
+
+impl Allocator for LimitedRows {
+    type Segment = HeapSegment;
+
+    fn keeps_first_in_arena() -> bool {
+        false
+    }
+
+    ghost refusals = { λ a. a.refused };
+
+    ghost offers = { λ a. ⟦<LimitedAllocator as Allocator>⟧.offers a.inner };
+
+    fn allocate_segment(&mut self, min_words: u32) -> Result<HeapSegment, ErrorKind> {
+        if min_words > MAX_SEGMENT_WORDS {
+            return Err(ErrorKind::MessageTooLarge(min_words as usize));
+        }
+        if let Ok(segment) = self.inner.allocate_segment(min_words) {
+            return Ok(segment);
+        }
+        self.refused = self.refused.saturating_add(1);
+        Err(ErrorKind::AllocationFailed)
+    }
+
+    fn deallocate_segment(&mut self, segment: HeapSegment, used_words: u32) {
+        self.inner.deallocate_segment(segment, used_words);
+    }
+
+    fn keep<T>(&mut self, list: &mut Vec<T>, row: T) -> Option<T> {
+        if self.rows == 0 {
+            self.refused = self.refused.saturating_add(1);
+            return Some(row);
+        }
+        let returned = self.inner.keep(list, row);
+        if returned.is_some() {
+            self.refused = self.refused.saturating_add(1);
+        } else {
+            self.rows -= 1;
+        }
+        returned
+    }
+
+    fn refused(&self) -> u64 {
+        self.refused
+    }
+}
+
+/// Makes segments over a scratch space, but no more than so many, and keeps no more than so many rows. It isn't generic over the other allocator: a call of
 /// a function that is generic over allocators would have no generated proof then, since that one names a lifetime.
 #[derive(Drop)]
 pub struct LimitedScratch<'a> {
     inner: ScratchSpaceHeapAllocator<'a>,
     left: u32,
+    rows: u32,
     refused: u64,
 }
 
@@ -114,9 +184,15 @@ impl<'a> Allocator for LimitedScratch<'a> {
     }
 
     fn keep<T>(&mut self, list: &mut Vec<T>, row: T) -> Option<T> {
+        if self.rows == 0 {
+            self.refused = self.refused.saturating_add(1);
+            return Some(row);
+        }
         let returned = self.inner.keep(list, row);
         if returned.is_some() {
             self.refused = self.refused.saturating_add(1);
+        } else {
+            self.rows -= 1;
         }
         returned
     }

@@ -110,6 +110,10 @@ pub enum Copying {
     Struct,
     /// The list that its root leads to, of elements of a size.
     List(ElementSize),
+    /// An element of the list that its root leads to, as a struct.
+    Element(u32),
+    /// The pointers of the struct that its root leads to, as a list.
+    Section,
 }
 
 /// A call of a struct. Numbers are decimal, and a mask may be missing.
@@ -297,6 +301,10 @@ fn copy_call<'a>(name: &str, arguments: &[&'a str]) -> Result<Option<PointerCall
         ("set_list", [size, source @ .., canonical]) => {
             (Copying::List(parse::element_size(size)?), source, canonical)
         }
+        ("set_struct_element", [index, source @ .., canonical]) => {
+            (Copying::Element(parse::number(index)?), source, canonical)
+        }
+        ("set_section", [source @ .., canonical]) => (Copying::Section, source, canonical),
         _ => return Ok(None),
     };
     Ok(Some(PointerCall::Copy(copying, source_of(source)?, parse::flag(canonical)?)))

@@ -3,6 +3,7 @@ ghost use Rattle.capnp_builders.specs.Building.{built, IsThere};
 
 use super::call::Copying;
 use super::place::{Place, pointer, structure};
+use crate::elements::struct_at;
 use crate::output::Output;
 use crate::parse::{self, Fault};
 use crate::source::SourceText;
@@ -117,6 +118,8 @@ fn copy_value<A: BuilderArena, B: ReaderArena>(
         Copying::Value => Outcome::Copied(pointer.copy_from(root, lim, canonical)),
         Copying::Struct => copy_struct(pointer, canonical, root, lim),
         Copying::List(size) => copy_list(pointer, size, canonical, root, lim),
+        Copying::Element(index) => return copy_element(pointer, index, canonical, root, lim),
+        Copying::Section => copy_section(pointer, canonical, root, lim),
     })
 }
 
@@ -147,6 +150,46 @@ fn copy_list<A: BuilderArena, B: ReaderArena>(
 {
     match root.get_list(lim, size, None) {
         Ok(value) => Outcome::Copied(pointer.set_list(&value, lim, canonical)),
+        Err(kind) => Outcome::NoSource(kind),
+    }
+}
+
+// Makes a pointer a copy of an element of the list that another one leads to, as a struct.
+fn copy_element<A: BuilderArena, B: ReaderArena>(
+    mut pointer: PointerBuilder<'_, A>,
+    index: u32,
+    canonical: bool,
+    root: PointerReader<'_, B>,
+    lim: &mut ReadLimiter,
+) -> Result<Outcome, Fault>
+    requires { IsThere (built A.view pointer) }
+{
+    match root.get_list(lim, ElementSize::InlineComposite, None) {
+        Ok(list) => match struct_at(&list, index) {
+            Some(value) => {
+                let copied = pointer.set_struct(&value, lim, canonical);
+                Ok(Outcome::Copied(copied))
+            }
+            None => Err(Fault::Unfit),
+        },
+        Err(kind) => Ok(Outcome::NoSource(kind)),
+    }
+}
+
+// Makes a pointer a copy of the pointers of the struct that another one leads to, as a list.
+fn copy_section<A: BuilderArena, B: ReaderArena>(
+    mut pointer: PointerBuilder<'_, A>,
+    canonical: bool,
+    root: PointerReader<'_, B>,
+    lim: &mut ReadLimiter,
+) -> Outcome
+    requires { IsThere (built A.view pointer) }
+{
+    match root.get_struct(lim, None) {
+        Ok(value) => {
+            let section = value.get_pointer_section_as_list();
+            Outcome::Copied(pointer.set_list(&section, lim, canonical))
+        }
         Err(kind) => Outcome::NoSource(kind),
     }
 }
