@@ -7,7 +7,7 @@ LAYOUT_RUNS and LAYOUT_ROWS are the built programs of these names. Each message 
 cut behind every byte and has every bit turned, and so has each frame; its runs meet a reader, a writer and an allocator that
 fail at each call in turn. The lists of edits and of builder calls of tests/rows are done again with segments refused from
 every one on, until none is refused, and with the first segment in scratch space; the segments of a message are asked for,
-written as a frame and read back with little memory. What is wanted of each run is said beside it; values are read back by trees.py, and frames by frames.py,
+written as a frame and read back with little memory, and one is audited. What is wanted of each run is said beside it; values are read back by trees.py, and frames by frames.py,
 apart from the crates."""
 import argparse
 import pathlib
@@ -45,6 +45,7 @@ def main():
         ('builder calls with segments refused', lambda: growth.built([options.rows], builds, total)),
         ('segments asked for with little memory', lambda: scarce.output([options.runs], [options.rows], total)),
         ('segments written as a frame and read back', lambda: scarce.written([options.runs], total)),
+        ('audits with little memory', lambda: scarce.audits([options.rows], total)),
     ):
         before = total.passed + total.failed
         part()

@@ -1,4 +1,4 @@
-"""Messages of many segments that are built, asked for, written and read under a limit on a process's address space:
+"""Messages of many segments that are built, asked for, written, read and audited under a limit on a process's address space:
 the memory of these calls is the global allocator's, which no program can refuse."""
 import resource
 import subprocess
@@ -20,6 +20,8 @@ OBJECTS, SIZE = 3, 1 << 19
 SMALL_STEP = 1 << 17
 # How many words may be read of a message that is written as a frame.
 BUDGET = 1 << 23
+# The audit takes a byte for each of so many words, and eight for each as a pointer.
+AUDITED = 1 << 19
 
 
 def answered(program, line, most):
@@ -126,3 +128,17 @@ def written(runs, counts):
         counts.told(is_handled(run, OBJECTS, SIZE), 'with little memory', most, *run)
     for steps in ((UNWRITTEN, '-', '-'), ('ok', REFUSED, '-'), ('ok', 'ok', REFUSED), ('ok', 'ok', UNWRITTEN), ('ok', 'ok', 'ok')):
         counts.told(steps in found, 'never so with little memory', steps, found)
+
+
+def audits(rows, counts):
+    """Whether the audit of a long list of null pointers is refused by its name where there is little memory, else passes."""
+    line = (1 | (6 | AUDITED << 3) << 32).to_bytes(8, 'little').hex() + '00' * 8 * AUDITED
+    found = set()
+    most = HELD
+    while '1' not in found and most < 8 * HELD:
+        most += STEP
+        run = answered([*rows, 'audits'], line, most)
+        if run is not None:
+            found.add(run[0])
+            counts.told(run in (['1'], [REFUSED]), 'audited with little memory', most, *run)
+    counts.told(found == {'1', REFUSED}, 'never so with little memory', found)
