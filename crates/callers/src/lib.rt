@@ -4,4 +4,5 @@
 pub mod arena;
 pub mod builders;
 pub mod edits;
+pub mod frames;
 pub mod theorem;

@@ -1,0 +1,63 @@
+//! Callers of frames that know their contracts alone.
+ghost use Rattle.std.specs.Prelude.{◌≡◌, ◌⊎◌, [], Some, false, length, IfOk, IfErr, IsOkAnd, OnOk};
+ghost use Rattle.capnp_format.specs.Bytes.{message};
+ghost use Rattle.capnp_format.specs.Segments.{Segments};
+ghost use Rattle.capnp_framing.specs.Frames.{CanBeFramed, IsFrameOf, frame};
+ghost use Rattle.capnp_framing.specs.Reading.{IsRefusedNumber};
+ghost use Rattle.capnp_framing.specs.declared.framing.frame_error.FrameError.TheVariants.{AllocationFailed, WriteFailed};
+ghost use Rattle.callers.specs.Meaning.{MeansTheSame};
+
+use capnp_arena::arena::{Allocator, BuilderArena, BuilderArenaImpl, ReaderArena, ReaderSegments};
+use capnp_framing::devices::{MemoryOutput, Output};
+use capnp_framing::framing::{FrameError, FrameSegments, read_from_flat_slice, write};
+
+/// Reads the frame of a message that stands in memory with nothing behind it. However large the message is, it is read,
+/// and is that one.
+pub fn read_frame(bytes: &[u8]) -> Result<FrameSegments<'_>, FrameError>
+    ensures { (S : Segments) → IsFrameOf S bytes.now → IsOkAnd result
+        (λ f. message (⟦<FrameSegments<'static> as ReaderSegments>⟧.segments f) ≡ S) }
+{
+    match read_from_flat_slice(bytes, u64::MAX) {
+        Ok(Some(segments)) => Ok(segments),
+        Ok(None) => Err(FrameError::Truncated),
+        Err(error) => Err(error),
+    }
+}
+
+/// Writes a message that was built as a frame, to where nothing was written yet.
+fn write_frame<L: Allocator>(
+    built: &BuilderArenaImpl<L>,
+    to: &mut MemoryOutput,
+) -> Result<(), FrameError>
+    requires works { ⟦<MemoryOutput as Output>⟧.has_failed to.old ≡ false }
+    requires empty { ⟦<MemoryOutput as Output>⟧.contents to.old ≡ Some [] }
+    ensures written { OnOk result (⟦<MemoryOutput as Output>⟧.contents to.new
+        ≡ Some (frame (⟦<BuilderArenaImpl<L> as BuilderArena>⟧.view built.now).words)) }
+    ensures framed { OnOk result
+        (CanBeFramed (⟦<BuilderArenaImpl<L> as BuilderArena>⟧.view built.now).words) }
+    ensures refused { IfErr result (λ e. (e ≡ AllocationFailed) ⊎ (e ≡ WriteFailed)
+        ⊎ IsRefusedNumber (length (⟦<BuilderArenaImpl<L> as ReaderArena>⟧.segments built.now)) e) }
+{
+    match built.get_segments_for_output() {
+        Ok(output) => write(to, &output),
+        Err(_) => Err(FrameError::AllocationFailed),
+    }
+}
+
+/// A message that was built, written as a frame and read from those bytes: each place means there what it means in the
+/// message. It is refused for want of memory, and where it has no segment or more than 512; what was written is read.
+pub fn framed<'a, L: Allocator>(
+    built: &BuilderArenaImpl<L>,
+    to: &'a mut MemoryOutput,
+) -> Result<FrameSegments<'a>, FrameError>
+    requires works { ⟦<MemoryOutput as Output>⟧.has_failed to.old ≡ false }
+    requires empty { ⟦<MemoryOutput as Output>⟧.contents to.old ≡ Some [] }
+    ensures same { IfOk result (λ f.
+        MeansTheSame (⟦<BuilderArenaImpl<L> as BuilderArena>⟧.view built.now).words
+        (message (⟦<FrameSegments<'static> as ReaderSegments>⟧.segments f))) }
+    ensures refused { IfErr result (λ e. (e ≡ AllocationFailed) ⊎ (e ≡ WriteFailed)
+        ⊎ IsRefusedNumber (length (⟦<BuilderArenaImpl<L> as ReaderArena>⟧.segments built.now)) e) }
+{
+    write_frame(built, &mut *to)?;
+    read_frame(to.bytes())
+}
