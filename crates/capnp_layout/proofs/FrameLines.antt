@@ -6,7 +6,6 @@ use Rattle.std.proofs.lemmas.List.{drop_more, drop_all}
 use Rattle.hex.specs.Hex.{encode_lower, encode_with, lower_digits}
 use Rattle.capnp_format.specs.Segments.{Segments, segment}
 use Rattle.capnp_framing.specs.Frames.{bytes_of_words, contents, lengths, padding_size}
-use Rattle.capnp_framing.proofs.WritingLemmas.{IsLeftOver}
 use Rattle.capnp_framing.proofs.WritingLemmas.{appends_both}
 use Rattle.capnp_layout.specs.Answers.{digits_of, word_digits}
 use Rattle.capnp_layout.specs.Commands.{frame_line, segment_lines}
@@ -48,12 +47,6 @@ lines-drop S i h = ap segment_lines (drop_more S i [] h)
 
 pub lines-end : (S : Segments) (i : ℕ) → length S ≤ i → segment_lines (drop i S) ≡ []
 lines-end S i h = ap segment_lines (drop_all i S h)
-
--- all is written
-pub left_over_end : (a c : Option (List ℕ)) (all rest : List ℕ) → IsLeftOver a c all rest → rest ≡ [] → Appends a c all
-left_over_end None c all rest w e = tt
-left_over_end (Some x) None all rest w e = absurd w
-left_over_end (Some x) (Some y) all rest w e = sym (append-nil y) ∙ ap (λ (zs : List ℕ). y ++ zs) (sym e) ∙ w
 
 -- nothing is written for no padding
 pub no_padding : (a : Option (List ℕ)) (n : ℕ) → 0 < n % 2 → Appends a a (encode_lower (replicate (padding_size n) 0))

@@ -1,5 +1,5 @@
 -- How much room a try asks for, and when there is another.
-use Rattle.std.proofs.Common.{◌≡◌, inl, inr, ℕ, ◌+◌, ◌*◌, ◌/◌, ◌<◌, suc, min, Bool, true, false, IsTrue, List, [], ◌∷◌, length, Option, refl, ap, sym, ◌∙◌, subst, arith}
+use Rattle.std.proofs.Common.{◌≡◌, inl, inr, ℕ, ◌+◌, ◌*◌, ◌/◌, ◌<◌, suc, min, Bool, true, false, List, [], ◌∷◌, length, Option, refl, ap, sym, ◌∙◌, subst, arith}
 use Rattle.std.proofs.lemmas.Bool.{cases_lt}
 use Rattle.capnp_words.specs.declared.error.ErrorKind.{ErrorKind}
 use Rattle.capnp_format.specs.Bytes.{message, words_of}
@@ -19,9 +19,6 @@ pub record ComesTo (r : Reading) (room : ℕ) : Type 0 where
   pub asks : room ≡ room_of_try (words_read r) try
   pub before : (j : ℕ) → j < try → NeedsMoreRoom r (room_of_try (words_read r) j)
 
-pub first_comes : (r : Reading) {words room : ℕ} → room ≡ room_of_try words 0 → words ≡ words_read r → ComesTo r room
-first_comes r asks same = record { try = 0; asks = asks ∙ ap (λ n. room_of_try n 0) same; before = λ j below. absurd (omega arith) }
-
 pub next_comes : {r : Reading} {room next : ℕ} → ComesTo r room → next ≡ min (2 * room) max_segment_words → NeedsMoreRoom r room → ComesTo r next
 next_comes {r} come doubled little = record {
   try = suc come.try;
@@ -32,14 +29,6 @@ next_comes {r} come doubled little = record {
         let same : come.try ≡ j = omega (arith, below, least) in
         subst (λ i. NeedsMoreRoom r (room_of_try (words_read r) i)) same (subst (NeedsMoreRoom r) come.asks little)
   ];
-}
-
--- where it makes the words, they are made by the first try with enough room
-pub made_by_try : {r : Reading} {room : ℕ} (offers : ℕ → ℕ → Bool) (there : ℕ) → ComesTo r room → IsTrue (offers room there) → IsMadeByFirstTry r offers there
-made_by_try offers there come asked = record {
-  try = come.try;
-  asked = subst (λ n. IsTrue (offers n there)) come.asks asked;
-  before = come.before;
 }
 
 -- the same, where the place is written otherwise

@@ -55,10 +55,8 @@ fn copy_root<A: BuilderArena, B: ReaderArena>(
 {
     let mut lim = ReadLimiter::new(left);
     let mut root = PointerBuilder::get_root(arena);
-    match root.copy_from(from, &mut lim, true) {
-        Ok(()) => Ok(lim),
-        Err(kind) => Err(kind),
-    }
+    root.copy_from(from, &mut lim, true)?;
+    Ok(lim)
 }
 
 /// The same into its only segment, which has room for so many words. What doesn't fit there is

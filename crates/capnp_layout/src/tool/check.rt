@@ -21,10 +21,7 @@ pub(crate) fn is_canonical(source: Message, options: ReaderOptions) -> Result<bo
         → IsOk result }
     ensures refused { IfErr result (RefusesMessage (segments_in source) (Args.Check options)) }
 {
-    let arena = match open(source, options) {
-        Ok(arena) => arena,
-        Err(kind) => return Err(kind),
-    };
+    let arena = open(source, options)?;
     let mut lim = ReadLimiter::new(options.traversal_limit_in_words);
     let root = read_root(&arena, &mut lim)?;
     let mut head = 1;

@@ -2,7 +2,7 @@
 ghost use Rattle.std.specs.Prelude.{◌≡◌, ◌≢◌, ◌⊎◌, ◌≤◌, ℕ, length, true, false, IsOk, IfOk, IfErr, OnErr, OnOk};
 ghost use Rattle.capnp_format.specs.Bytes.{message};
 ghost use Rattle.capnp_arena.specs.Limits.{IsSmall};
-ghost use Rattle.capnp_framing.specs.Writing.{Prints};
+ghost use Rattle.capnp_framing.specs.Writing.{Prints, Writes};
 ghost use Rattle.capnp_layout.specs.Answers.{IsDone, IsDoneOr};
 ghost use Rattle.capnp_layout.specs.Commands.{Answers, AnswersFrame, AnswersRefusal, HasAnswer, HoldsFrame, NamesRefusal, RefusesFrame, TellsCanonical, WantsMemory, WhereAnswered, WhyRefused, frame_line};
 ghost use Rattle.capnp_layout.specs.Messages.{segments_in};
@@ -55,10 +55,7 @@ fn is_canonical_frame(lines: &Message, options: ReaderOptions) -> Result<bool, R
     ensures answered { HasAnswer (segments_in lines.now) (Args.FramedCheck options) → IsOk result }
     ensures refused { IfErr result (WhyRefused (segments_in lines.now) (Args.FramedCheck options)) }
 {
-    let frame = match frame_in(lines) {
-        Ok(frame) => frame,
-        Err(refusal) => return Err(refusal),
-    };
+    let frame = frame_in(lines)?;
     let arena = ReaderArenaImpl::new(frame, options);
     let mut lim = ReadLimiter::new(options.traversal_limit_in_words);
     match is_canonical_message(&arena, &mut lim) {
@@ -143,10 +140,8 @@ fn write_made<A: Allocator, W: Output>(
 ) -> Result<(), DeviceFault>
     requires works { W.has_failed output.old ≡ false }
     requires single { length (⟦<BuilderArenaImpl<A> as ReaderArena>⟧.segments made.now) ≡ 1 }
-    ensures written { OnOk result (Prints W.Output output.old output.new
-        (frame_line (⟦<BuilderArenaImpl<A> as BuilderArena>⟧.view made.now).words)) }
-    ensures works { OnOk result (W.has_failed output.new ≡ false) }
-    ensures fails { OnErr result (W.has_failed output.new ≡ true) }
+    ensures { Writes W.Output result output.old output.new
+        (frame_line (⟦<BuilderArenaImpl<A> as BuilderArena>⟧.view made.now).words) }
 {
     match made.get_segments_for_output() {
         Ok(segments) => write_frame(output, &segments),

@@ -6,7 +6,7 @@ ghost use Rattle.capnp_format.specs.Bytes.{message, words_of};
 ghost use Rattle.capnp_format.specs.Segments.{segment};
 ghost use Rattle.capnp_arena.specs.Limits.{IsSmall};
 ghost use Rattle.capnp_framing.specs.Frames.{contents, lengths, max_frame_segments, padding_size};
-ghost use Rattle.capnp_framing.specs.Writing.{Prints};
+ghost use Rattle.capnp_framing.specs.Writing.{Writes};
 ghost use Rattle.capnp_layout.specs.Commands.{frame_line, segment_lines};
 
 use super::writing::{write_digits, write_words};
@@ -29,10 +29,8 @@ fn segment_at<S: ReaderSegments>(segments: &S, id: u32) -> &[u8]
 /// Writes the bytes of a number, the lowest first, as eight hex digits.
 fn write_number<W: Output>(output: &mut W, number: u32) -> Result<(), DeviceFault>
     requires { W.has_failed output.old ≡ false }
-    ensures written { OnOk result (Prints W.Output output.old output.new
-        (encode_lower (to_le_bytes w32 number))) }
-    ensures works { OnOk result (W.has_failed output.new ≡ false) }
-    ensures fails { OnErr result (W.has_failed output.new ≡ true) }
+    ensures { Writes W.Output result output.old output.new
+        (encode_lower (to_le_bytes w32 number)) }
 {
     let mut digits = [0u8; 8];
     let _ = hex::encode_to_slice(number.to_le_bytes().as_slice(), &mut digits);
@@ -48,10 +46,8 @@ fn write_lengths<W: Output, S: ReaderSegments>(
     requires works { W.has_failed output.old ≡ false }
     requires small { IsSmall (S.segments segments.now) }
     requires count { count ≡ length (S.segments segments.now) }
-    ensures written { OnOk result (Prints W.Output output.old output.new
-        (encode_lower (lengths (message (S.segments segments.now))))) }
-    ensures works { OnOk result (W.has_failed output.new ≡ false) }
-    ensures fails { OnErr result (W.has_failed output.new ≡ true) }
+    ensures { Writes W.Output result output.old output.new
+        (encode_lower (lengths (message (S.segments segments.now)))) }
 {
     for i in 0..count {
         let words = segment_at(segments, i).len() / 8;
@@ -64,10 +60,8 @@ fn write_lengths<W: Output, S: ReaderSegments>(
 fn write_padding<W: Output>(output: &mut W, count: u32) -> Result<(), DeviceFault>
     requires works { W.has_failed output.old ≡ false }
     requires few { count ≤ max_frame_segments }
-    ensures written { OnOk result (Prints W.Output output.old output.new
-        (encode_lower (replicate (padding_size count) 0))) }
-    ensures works { OnOk result (W.has_failed output.new ≡ false) }
-    ensures fails { OnErr result (W.has_failed output.new ≡ true) }
+    ensures { Writes W.Output result output.old output.new
+        (encode_lower (replicate (padding_size count) 0)) }
 {
     if count % 2 == 0 {
         write_number(output, 0)
@@ -85,10 +79,8 @@ fn write_contents<W: Output, S: ReaderSegments>(
     requires works { W.has_failed output.old ≡ false }
     requires small { IsSmall (S.segments segments.now) }
     requires count { count ≡ length (S.segments segments.now) }
-    ensures written { OnOk result (Prints W.Output output.old output.new
-        (encode_lower (contents (message (S.segments segments.now))))) }
-    ensures works { OnOk result (W.has_failed output.new ≡ false) }
-    ensures fails { OnErr result (W.has_failed output.new ≡ true) }
+    ensures { Writes W.Output result output.old output.new
+        (encode_lower (contents (message (S.segments segments.now)))) }
 {
     for i in 0..count {
         write_digits(output, segment_at(segments, i))?;
@@ -105,10 +97,8 @@ pub(crate) fn write_frame<W: Output, S: ReaderSegments>(
     requires small { IsSmall (S.segments segments.now) }
     requires some { 1 ≤ length (S.segments segments.now) }
     requires few { length (S.segments segments.now) ≤ max_frame_segments }
-    ensures written { OnOk result (Prints W.Output output.old output.new
-        (frame_line (message (S.segments segments.now)))) }
-    ensures works { OnOk result (W.has_failed output.new ≡ false) }
-    ensures fails { OnErr result (W.has_failed output.new ≡ true) }
+    ensures { Writes W.Output result output.old output.new
+        (frame_line (message (S.segments segments.now))) }
 {
     let count = segments.len() as u32;
     write_number(output, count - 1)?;
@@ -125,10 +115,8 @@ pub(crate) fn write_segments<W: Output, S: ReaderSegments>(
 ) -> Result<(), DeviceFault>
     requires works { W.has_failed output.old ≡ false }
     requires small { IsSmall (S.segments segments.now) }
-    ensures written { OnOk result (Prints W.Output output.old output.new
-        (segment_lines (message (S.segments segments.now)))) }
-    ensures works { OnOk result (W.has_failed output.new ≡ false) }
-    ensures fails { OnErr result (W.has_failed output.new ≡ true) }
+    ensures { Writes W.Output result output.old output.new
+        (segment_lines (message (S.segments segments.now))) }
 {
     for i in 0..segments.len() as u32 {
         write_words(output, segment_at(segments, i))?;

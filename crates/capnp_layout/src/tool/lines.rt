@@ -156,13 +156,9 @@ pub fn read_lines<A: Allocator>(
     let mut rest = text;
     while !rest.is_empty() {
         let (line, behind) = first_line(rest);
-        match read_line(alloc, allocator, line) {
-            Ok(segment) => {
-                if allocator.keep(&mut segments, segment).is_some() {
-                    return Err(InputFault::NoMemory);
-                }
-            }
-            Err(fault) => return Err(fault),
+        let segment = read_line(alloc, allocator, line)?;
+        if allocator.keep(&mut segments, segment).is_some() {
+            return Err(InputFault::NoMemory);
         }
         rest = behind;
     }

@@ -20,10 +20,7 @@ pub(crate) fn size_of(source: Message, options: ReaderOptions) -> Result<Message
     ensures size { IfOk result (λ z. SizeOf (segments_in source) options z.word_count z.cap_count) }
     ensures refused { IfErr result (RefusesMessage (segments_in source) (Args.Size options)) }
 {
-    let arena = match open(source, options) {
-        Ok(arena) => arena,
-        Err(kind) => return Err(kind),
-    };
+    let arena = open(source, options)?;
     let mut lim = ReadLimiter::new(options.traversal_limit_in_words);
     let root = read_root(&arena, &mut lim)?;
     root.total_size(&mut lim)

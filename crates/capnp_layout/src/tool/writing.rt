@@ -5,7 +5,7 @@ ghost use Rattle.std.specs.Fmt.{decimal};
 ghost use Rattle.capnp_layout.specs.Answers.{check_line, word_digits, digits_of, size_line};
 ghost use Rattle.capnp_layout.specs.Commands.{message_line};
 ghost use Rattle.capnp_layout.specs.Refusals.{refusal_line};
-ghost use Rattle.capnp_framing.specs.Writing.{Prints};
+ghost use Rattle.capnp_framing.specs.Writing.{Writes};
 
 use super::refusal::Refusal;
 use crate::devices::{DeviceFault, Output, write_all};
@@ -15,9 +15,7 @@ use capnp_words::words::word_at;
 /// Writes the bytes of a word, the lowest first, as 16 hex digits.
 fn write_word<W: Output>(output: &mut W, word: u64) -> Result<(), DeviceFault>
     requires { W.has_failed output.old ≡ false }
-    ensures written { OnOk result (Prints W.Output output.old output.new (word_digits word)) }
-    ensures works { OnOk result (W.has_failed output.new ≡ false) }
-    ensures fails { OnErr result (W.has_failed output.new ≡ true) }
+    ensures { Writes W.Output result output.old output.new (word_digits word) }
 {
     let mut digits = [0u8; 16];
     let _ = hex::encode_to_slice(word.to_le_bytes().as_slice(), &mut digits);
@@ -27,10 +25,8 @@ fn write_word<W: Output>(output: &mut W, word: u64) -> Result<(), DeviceFault>
 /// Writes all whole words of a segment as hex digits.
 pub(crate) fn write_digits<W: Output>(output: &mut W, segment: &[u8]) -> Result<(), DeviceFault>
     requires { W.has_failed output.old ≡ false }
-    ensures written { OnOk result (Prints W.Output output.old output.new
-        (digits_of (words_of segment.now))) }
-    ensures works { OnOk result (W.has_failed output.new ≡ false) }
-    ensures fails { OnErr result (W.has_failed output.new ≡ true) }
+    ensures { Writes W.Output result output.old output.new
+        (digits_of (words_of segment.now)) }
 {
     for at in 0..segment.len() / 8 {
         write_word(output, word_at(segment, at))?;
@@ -41,10 +37,8 @@ pub(crate) fn write_digits<W: Output>(output: &mut W, segment: &[u8]) -> Result<
 /// Writes all whole words of a segment as one line of hex digits.
 pub(crate) fn write_words<W: Output>(output: &mut W, segment: &[u8]) -> Result<(), DeviceFault>
     requires { W.has_failed output.old ≡ false }
-    ensures written { OnOk result (Prints W.Output output.old output.new
-        (digits_of (words_of segment.now) ++ 10 ∷ [])) }
-    ensures works { OnOk result (W.has_failed output.new ≡ false) }
-    ensures fails { OnErr result (W.has_failed output.new ≡ true) }
+    ensures { Writes W.Output result output.old output.new
+        (digits_of (words_of segment.now) ++ 10 ∷ []) }
 {
     write_digits(output, segment)?;
     write_all(output, b"\n")
@@ -53,10 +47,8 @@ pub(crate) fn write_words<W: Output>(output: &mut W, segment: &[u8]) -> Result<(
 /// Writes the line that says whether a message is canonical.
 pub(crate) fn write_check<W: Output>(output: &mut W, is_canonical: bool) -> Result<(), DeviceFault>
     requires { W.has_failed output.old ≡ false }
-    ensures written { OnOk result (Prints W.Output output.old output.new
-        (check_line is_canonical)) }
-    ensures works { OnOk result (W.has_failed output.new ≡ false) }
-    ensures fails { OnErr result (W.has_failed output.new ≡ true) }
+    ensures { Writes W.Output result output.old output.new
+        (check_line is_canonical) }
 {
     if is_canonical {
         write_all(output, b"canonical\n")
@@ -71,10 +63,8 @@ pub(crate) fn write_message_check<W: Output>(
     is_canonical: bool,
 ) -> Result<(), DeviceFault>
     requires { W.has_failed output.old ≡ false }
-    ensures written { OnOk result (Prints W.Output output.old output.new
-        (message_line is_canonical)) }
-    ensures works { OnOk result (W.has_failed output.new ≡ false) }
-    ensures fails { OnErr result (W.has_failed output.new ≡ true) }
+    ensures { Writes W.Output result output.old output.new
+        (message_line is_canonical) }
 {
     if is_canonical {
         write_all(output, b"canonical message\n")
@@ -86,9 +76,7 @@ pub(crate) fn write_message_check<W: Output>(
 /// Writes a number in decimal digits.
 pub fn write_number<W: Output>(output: &mut W, n: u64) -> Result<(), DeviceFault>
     requires { W.has_failed output.old ≡ false }
-    ensures written { OnOk result (Prints W.Output output.old output.new (decimal n)) }
-    ensures works { OnOk result (W.has_failed output.new ≡ false) }
-    ensures fails { OnErr result (W.has_failed output.new ≡ true) }
+    ensures { Writes W.Output result output.old output.new (decimal n) }
 {
     if n >= 10 {
         write_number(output, n / 10)?;
@@ -99,10 +87,8 @@ pub fn write_number<W: Output>(output: &mut W, n: u64) -> Result<(), DeviceFault
 /// Writes the line of a size, `words N caps M`.
 pub fn write_size<W: Output>(output: &mut W, size: MessageSize) -> Result<(), DeviceFault>
     requires { W.has_failed output.old ≡ false }
-    ensures written { OnOk result (Prints W.Output output.old output.new
-        (size_line size.word_count size.cap_count)) }
-    ensures works { OnOk result (W.has_failed output.new ≡ false) }
-    ensures fails { OnErr result (W.has_failed output.new ≡ true) }
+    ensures { Writes W.Output result output.old output.new
+        (size_line size.word_count size.cap_count) }
 {
     write_all(output, b"words ")?;
     write_number(output, size.word_count)?;
@@ -114,9 +100,7 @@ pub fn write_size<W: Output>(output: &mut W, size: MessageSize) -> Result<(), De
 /// Writes the line that names a refusal.
 pub(crate) fn write_refusal<W: Output>(output: &mut W, refusal: Refusal) -> Result<(), DeviceFault>
     requires { W.has_failed output.old ≡ false }
-    ensures written { OnOk result (Prints W.Output output.old output.new (refusal_line refusal)) }
-    ensures works { OnOk result (W.has_failed output.new ≡ false) }
-    ensures fails { OnErr result (W.has_failed output.new ≡ true) }
+    ensures { Writes W.Output result output.old output.new (refusal_line refusal) }
 {
     write_all(output, b"refused ")?;
     write_all(output, refusal.name().as_bytes())?;

@@ -1,4 +1,5 @@
 use Rattle.std.proofs.Common.{rules, ◌≡◌, ◌⊎◌, length, subst}
+use Rattle.std.proofs.lemmas.Result.{err_from_is_err_and}
 use Rattle.capnp_words.specs.Meter.{unused}
 use Rattle.capnp_format.specs.Tree.{Tree}
 use Rattle.capnp_objects.specs.Outcomes.{Reads}
@@ -9,35 +10,36 @@ use Rattle.capnp_layout.specs.Tries.{NeedsMoreRoom}
 use Rattle.capnp_layout.proofs.CanonLemmas.{fresh_root, null_root, made_copy, kept_room, refused_copy, spread_copy}
 use Rattle.capnp_layout.proofs.framing.canonical_copy.copy_root.Goals as goal
 
-pub returns-in-Ok-clause-copied : goal.returns-in-Ok-clause-copied
-returns-in-Ok-clause-copied g c =
+pub returns-clause-copied : goal.returns-clause-copied
+returns-clause-copied g c =
     let view = g.A.BuilderArena.view in
     let r = reading g.B.ReaderArena c.args.from in
     let root = c.get_root-root.result in
     let fresh = fresh_root view root c.args.arena.now c.get_root-root.ensures.now c.get_root-root.ensures.place.0 c.requires.root in
-    let made = made_copy r c.args.left root.segment root.at (view root.arena.now) (view c.copy_from.new.self.arena.now) _ _ c.new-lim.ensures (c.in-Ok.ensures.alone fresh.null) in
+    let made = made_copy r c.args.left root.segment root.at (view root.arena.now) (view c.copy_from.new.self.arena.now) _ _ c.new-lim.ensures (c.in_ok-copy_from.ensures.alone fresh.null) in
     subst (λ (a : g.row.A.Denot). (t : Tree) × Reads canonical r (unused c.args.left) c.copy_from.new.lim t × IsMadeWhereAlone (view a) t) (search rules) made
 
-pub returns-in-Ok-clause-room : goal.returns-in-Ok-clause-room
-returns-in-Ok-clause-room g c =
+pub returns-clause-room : goal.returns-clause-room
+returns-clause-room g c =
     let view = g.A.BuilderArena.view in
     let root = c.get_root-root.result in
     let fresh = fresh_root view root c.args.arena.now c.get_root-root.ensures.now c.get_root-root.ensures.place.0 c.requires.root in
-    let kept = kept_room (view root.arena.now) (view c.copy_from.new.self.arena.now) root.segment root.at fresh c.in-Ok.ensures.copied.memory in
+    let kept = kept_room (view root.arena.now) (view c.copy_from.new.self.arena.now) root.segment root.at fresh c.in_ok-copy_from.ensures.copied.memory in
     subst (λ (a : g.row.A.Denot). (view a).room 0 ≡ (view c.args.arena.now).room 0) (search rules) kept
 
-pub returns-in-Ok-clause-alone : goal.returns-in-Ok-clause-alone
-returns-in-Ok-clause-alone g c =
+pub returns-clause-alone : goal.returns-clause-alone
+returns-clause-alone g c =
     let view = g.A.BuilderArena.view in
     let r = reading g.B.ReaderArena c.args.from in
     let root = c.get_root-root.result in
     let fresh = fresh_root view root c.args.arena.now c.get_root-root.ensures.now c.get_root-root.ensures.place.0 c.requires.root in
-    let spread = spread_copy r root.segment root.at (view root.arena.now) (view c.copy_from.new.self.arena.now) _ _ fresh (c.in-Ok.ensures.near (null_root fresh c.get_root-root.ensures.place.1)) in
+    let spread = spread_copy r root.segment root.at (view root.arena.now) (view c.copy_from.new.self.arena.now) _ _ fresh (c.in_ok-copy_from.ensures.near (null_root fresh c.get_root-root.ensures.place.1)) in
     subst (λ (a : g.row.A.Denot). (length (view a).words ≡ 1) ⊎ NeedsMoreRoom r ((view c.args.arena.now).room 0)) (search rules) spread
 
-pub returns-in-Err-clause-refused : goal.returns-in-Err-clause-refused
-returns-in-Err-clause-refused g c =
+pub returns-in_err-copy_from-clause-refused : goal.returns-in_err-copy_from-clause-refused
+returns-in_err-copy_from-clause-refused g c =
     let view = g.A.BuilderArena.view in
     let root = c.get_root-root.result in
     let fresh = fresh_root view root c.args.arena.now c.get_root-root.ensures.now c.get_root-root.ensures.place.0 c.requires.root in
-    refused_copy (reading g.B.ReaderArena c.args.from) c.args.left root.segment root.at (view root.arena.now) (view c.copy_from.new.self.arena.now) _ _ c.in-Err.kind c.new-lim.ensures fresh c.in-Err.ensures.refused
+    let p = err_from_is_err_and c.from_residual.result c.from_residual.ensures.1 in
+    rw (p.1, p.2) (refused_copy (reading g.B.ReaderArena c.args.from) c.args.left root.segment root.at (view root.arena.now) (view c.copy_from.new.self.arena.now) _ _ _ c.new-lim.ensures fresh c.in_err-copy_from.ensures.refused)

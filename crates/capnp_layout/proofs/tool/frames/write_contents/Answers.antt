@@ -5,8 +5,8 @@ use Rattle.capnp_layout.specs.Answers.{digits_of}
 use Rattle.capnp_format.specs.Bytes.{message, words_of}
 use Rattle.capnp_format.specs.Segments.{Segments, segment}
 use Rattle.capnp_arena.proofs.MessageLemmas.{length-message}
-use Rattle.capnp_framing.proofs.WritingLemmas.{left_over_less}
-use Rattle.capnp_layout.proofs.FrameLines.{left_over_end, contents-drop, contents-end}
+use Rattle.capnp_framing.proofs.WritingLemmas.{left_over_less, left_over_end}
+use Rattle.capnp_layout.proofs.FrameLines.{contents-drop, contents-end}
 use Rattle.capnp_layout.proofs.tool.frames.write_contents.Goals as goal
 
 pub loop-i-preserved : goal.loop-i-preserved
@@ -21,8 +21,13 @@ loop-i-preserved g c =
       works = search rules;
     }
 
-pub returns-clause-written : goal.returns-clause-written
-returns-clause-written g c =
+pub returns : goal.returns
+returns g c =
     let bytes : List (List ℕ) = g.S.ReaderSegments.segments c.args.segments.now in
-    left_over_end (g.W.Output.contents c.args.output.now) (g.W.Output.contents c.loop-i.output) _ _ c.loop-i.invariant.left_over
-    (contents-end (message bytes) c.loop-i.i (omega (arith, length-message bytes)))
+    record {
+      written =
+          left_over_end (g.W.Output.contents c.args.output.now) (g.W.Output.contents c.loop-i.output) _ _ c.loop-i.invariant.left_over
+          (contents-end (message bytes) c.loop-i.i (omega (arith, length-message bytes)));
+      works = search rules;
+      fails = search rules;
+    }

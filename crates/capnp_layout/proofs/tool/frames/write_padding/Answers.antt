@@ -1,6 +1,10 @@
-use Rattle.std.proofs.Common.{arith}
+use Rattle.std.proofs.Common.{arith, rules}
 use Rattle.capnp_layout.proofs.FrameLines.{no_padding}
 use Rattle.capnp_layout.proofs.tool.frames.write_padding.Goals as goal
 
-pub returns-else-count-eq0-clause-written : goal.returns-else-count-eq0-clause-written
-returns-else-count-eq0-clause-written g c = no_padding (g.W.Output.contents c.args.output.now) c.args.count (omega arith)
+pub returns-else-count-eq0 : goal.returns-else-count-eq0
+returns-else-count-eq0 g c = record {
+  written = no_padding (g.W.Output.contents c.args.output.now) c.args.count (omega arith);
+  works = c.requires.works;
+  fails = search rules;
+}

@@ -5,9 +5,13 @@ use Rattle.capnp_layout.proofs.NumberLemmas.{last_digit, only_digit}
 use Rattle.capnp_layout.proofs.tool.writing.+write_number.Goals as goal
 use Rattle.capnp_layout.proofs.tool.writing.+write_number.Goals.{then-n-ge10+in_ok-write_number, else-n-ge10}
 
-pub returns-clause-written : goal.returns-clause-written
-returns-clause-written g t c = elim c.if-n-ge10.branch [
-  | then-n-ge10+in_ok-write_number w ↦ on_ok_weaker c.write_all.result (λ last. last_digit c.args.n (omega arith) (omega arith) (record { first = rw w.output-is w.in_ok-write_number.ensures.written; more = last })) c.write_all.ensures.written
-  | else-n-ge10 w ↦
-      on_ok_weaker c.write_all.result (λ only. subst (λ (ds : List ℕ). Appends (g.W.Output.contents c.args.output.now) (g.W.Output.contents c.write_all.new.output) ds) (only_digit c.args.n (omega arith)) only) (rw w.output-is at c.write_all.ensures.written)
-]
+pub returns : goal.returns
+returns g t c = record {
+  written = elim c.if-n-ge10.branch [
+    | then-n-ge10+in_ok-write_number w ↦ on_ok_weaker c.write_all.result (λ last. last_digit c.args.n (omega arith) (omega arith) (record { first = rw w.output-is w.in_ok-write_number.ensures.written; more = last })) c.write_all.ensures.written
+    | else-n-ge10 w ↦
+        on_ok_weaker c.write_all.result (λ only. subst (λ (ds : List ℕ). Appends (g.W.Output.contents c.args.output.now) (g.W.Output.contents c.write_all.new.output) ds) (only_digit c.args.n (omega arith)) only) (rw w.output-is at c.write_all.ensures.written)
+  ];
+  works = c.write_all.ensures.works;
+  fails = c.write_all.ensures.fails;
+}

@@ -2,8 +2,7 @@ use Rattle.std.proofs.Common.{rules, ◌+◌, ℕ, ◌<◌, ◌≤◌, length, a
 use Rattle.capnp_format.specs.Bytes.{words_of}
 use Rattle.capnp_format.proofs.WordsOf.{words}
 use Rattle.capnp_layout.specs.Answers.{word_digits, digits_of}
-use Rattle.capnp_framing.proofs.WritingLemmas.{left_over_less}
-use Rattle.capnp_layout.proofs.FrameLines.{left_over_end}
+use Rattle.capnp_framing.proofs.WritingLemmas.{left_over_less, left_over_end}
 use Rattle.capnp_layout.proofs.WritingLemmas.{digits-drop, digits-end}
 use Rattle.capnp_layout.proofs.tool.writing.write_digits.Goals as goal
 
@@ -16,7 +15,11 @@ loop-at-preserved g c =
       works = search rules;
     }
 
-pub returns-clause-written : goal.returns-clause-written
-returns-clause-written g c =
+pub returns : goal.returns
+returns g c =
     let all : length (words_of c.args.segment.now) ≤ c.loop-at.at = omega (arith, words c.args.segment.now) in
-    left_over_end (g.W.Output.contents c.args.output.now) (g.W.Output.contents c.loop-at.output) _ _ c.loop-at.invariant.left_over (digits-end (words_of c.args.segment.now) c.loop-at.at all)
+    record {
+      written = left_over_end (g.W.Output.contents c.args.output.now) (g.W.Output.contents c.loop-at.output) _ _ c.loop-at.invariant.left_over (digits-end (words_of c.args.segment.now) c.loop-at.at all);
+      works = search rules;
+      fails = search rules;
+    }
