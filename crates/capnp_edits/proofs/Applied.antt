@@ -28,7 +28,7 @@ use Rattle.capnp_edits.specs.declared.edit.Edit.{Edit}
 use Rattle.capnp_edits.specs.Paths.{EndValue, PointerTo, ElementOf, path_of, found, IsPointerFound, IsElementFound, IsPathFound}
 use Rattle.capnp_edits.specs.declared.edit.tasks.Task.{Task}
 use Rattle.capnp_edits.specs.declared.edit.tasks.Task.TheVariants.{Make, Point, InStruct, Write, Search, CopyRoot}
-use Rattle.capnp_edits.specs.declared.edit.tasks.Object.{Object}
+use Rattle.capnp_edits.specs.declared.edit.tasks.NewObject.{NewObject}
 use Rattle.capnp_edits.specs.declared.edit.tasks.Number.{Number}
 use Rattle.capnp_edits.specs.declared.edit.tasks.Part.{Part}
 use Rattle.capnp_edits.specs.declared.edit.tasks.StructChange.{StructChange}
@@ -103,7 +103,7 @@ named_refusal (Ok x) P k why e = absurd (cc)
 named_refusal (Err j) P k why e = subst P (same_some j k e) why
 
 -- a call that makes an object
-pub object_made : {A : Type 0} (result : Result A ErrorKind) (old new : View) (place : PointerPlace) (object : Object) → MakesObject result (call_at place.segment place.word old new) (value_of object) (words_made object) →
+pub object_made : {A : Type 0} (result : Result A ErrorKind) (old new : View) (place : PointerPlace) (object : NewObject) → MakesObject result (call_at place.segment place.word old new) (value_of object) (words_made object) →
     IsDoneAt old new place (Make object) (refusal_of result)
 object_made (Ok x) old new place object made = record {
   done = λ t stored. record { left = Some (value_of object); leaves = as_it_stands (is_allocated Null (value_of object) refl refl refl); stands = made.made t stored };

@@ -32,7 +32,7 @@ use Rattle.capnp_objects.proofs.Budgets.{affords_rest, paid_own}
 use Rattle.capnp_objects.proofs.Faultless.{same_target}
 use Rattle.capnp_objects.proofs.Objects.{read_null, read_flat, read_pointers, read_structs, own_flat, own_pointers, own_structs}
 use Rattle.capnp_objects.proofs.Parts.{claim_list, claim_flat}
-use Rattle.capnp_objects.proofs.Refusals.{stops_pointers, stops_structs, unreadable}
+use Rattle.capnp_objects.proofs.Refusals.{stops_pointers, stops_structs, unreadable, affords_less}
 use Rattle.capnp_readers.specs.Calls.{IsListRead}
 use Rattle.capnp_readers.specs.Readers.{reading, IsTargetList, ShowsList}
 use Rattle.capnp_readers.specs.declared.readers.PointerReader.{PointerReader}
@@ -47,7 +47,7 @@ use Rattle.capnp_edits.specs.declared.edit.copying.Wanted.TheVariants.{List as A
 use Rattle.capnp_edits.specs.Edits.{IsOfMemory}
 use Rattle.capnp_edits.specs.Sources.{as_wanted, CanBeCopiedAs, ListElements, LeadsToList, no_list, a_plain_list, a_struct_list}
 use Rattle.capnp_edits.proofs.Applied.{of_allocation}
-use Rattle.capnp_edits.proofs.CopiedStruct.{level_less, own_covered}
+use Rattle.capnp_edits.proofs.CopiedStruct.{level_less}
 use Rattle.capnp_edits.proofs.ListReads.{ReadsList, RefusedList, as_list_read, list_refused_as}
 use Rattle.capnp_edits.proofs.Steps.{same_some}
 use Rattle.capnp_objects.proofs.Followed.{leads_to, entered_leads}
@@ -247,7 +247,7 @@ given_there r m c x covers =
     (record {
       follows = leads_to r x.target x.leads_to;
       meets = x.meets;
-      covers = own_covered r.charging m (own Value r.segments x.target) c x.cost covers;
+      covers = affords_less r.charging m (own Value r.segments x.target) c x.cost covers;
       spent = refl;
     })
     x.wide

@@ -22,12 +22,12 @@ use Rattle.capnp_objects.specs.Refusals.{Refused, RefusedAll}
 use Rattle.capnp_objects.specs.Source.{levels}
 use Rattle.capnp_objects.specs.Spending.{after, pointers_in_all}
 use Rattle.capnp_objects.specs.Wanted.{Form, AllowsCapabilities}
-use Rattle.capnp_objects.proofs.Budgets.{after_none, affords_none, affords_rest, paid_own}
+use Rattle.capnp_objects.proofs.Budgets.{after_none, affords_rest, paid_own}
 use Rattle.capnp_objects.proofs.Copies.{read_none}
 use Rattle.capnp_objects.proofs.Faultless.{same_target}
 use Rattle.capnp_objects.proofs.Objects.{read_null, read_struct, own_struct}
 use Rattle.capnp_objects.proofs.Parts.{claim_struct}
-use Rattle.capnp_objects.proofs.Refusals.{stops_struct, unreadable}
+use Rattle.capnp_objects.proofs.Refusals.{stops_struct, unreadable, affords_less}
 use Rattle.capnp_readers.specs.Calls.{IsStructRead}
 use Rattle.capnp_readers.specs.Readers.{reading}
 use Rattle.capnp_readers.specs.Sections.{bytes_for}
@@ -121,9 +121,6 @@ struct_meets S n s p ws ts c (a, k, some, o, claims, words, all, g) =
 level_there : (n : ℕ) → 0 < n → struct_expected.too_deep n ≡ None
 level_there n l = ap (λ b. cond b (Some MessageIsTooDeeplyNestedOrContainsCycles) None) (ne_eqb n 0 (λ e. omega (arith, e, l)))
 
-pub own_covered : (charging : Bool) (m : Meter) (n c : ℕ) → n ≤ c → Affords charging m c → Affords charging m n
-own_covered charging m n c le covers = affords_rest {r = 0} n c (record { covers = affords_none charging m; spent = sym (after_none charging m) }) (omega arith) covers
-
 pub struct_suits : (r : Reading) (m : Meter) (a : Target) → LeadsTo r a → kind a.word ≡ 0 → 0 < r.levels → Claims r.segments a (claim a.word) → Affords r.charging m (own Value r.segments a) → CanBeGiven struct_expected r m
 struct_suits r m a leads z some claims covers =
     fitting {m' = after r.charging m (own Value r.segments a) 1} a (level_there r.levels some)
@@ -140,7 +137,7 @@ struct_suited : (r : Reading) (m : Meter) (t : Tree) (c : ℕ) (copied : Tree) �
 struct_suited r m Null c copied means covers e = null_pointer means.0
 struct_suited r m (Struct ws ts) c copied means covers e =
     let (a, leads, z, some, claims, paid) = struct_meets r.segments r.levels r.segment r.at ws ts c means in
-    struct_suits r m a leads z some claims (own_covered r.charging m (own Value r.segments a) c paid covers)
+    struct_suits r m a leads z some claims (affords_less r.charging m (own Value r.segments a) c paid covers)
 struct_suited r m (Capability i) c copied means covers e = absurd (cc)
 struct_suited r m (Flat size ns) c copied means covers e = absurd (cc)
 struct_suited r m (Pointers ts) c copied means covers e = absurd (cc)

@@ -1,8 +1,8 @@
 -- Edits whose words fit the first segment.
-use Rattle.std.proofs.Common.{◌≡◌, ◌≢◌, ◌⊎◌, inl, inr, ℕ, ◌+◌, ◌<◌, ◌≤◌, true, List, [], ◌∷◌, length, Option, Some, None, IfSome, IsSomeAnd, refl, sym, ap, ◌∙◌, subst, arith}
+use Rattle.std.proofs.Common.{◌≡◌, ◌⊎◌, inl, inr, ℕ, ◌+◌, ◌<◌, ◌≤◌, true, [], ◌∷◌, length, Option, Some, None, IfSome, IsSomeAnd, refl, sym, ap, ◌∙◌, subst, arith}
 use Rattle.std.proofs.lemmas.Bool.{cases_eq}
 use Rattle.capnp_words.specs.declared.error.ErrorKind.{ErrorKind}
-use Rattle.capnp_words.specs.declared.error.ErrorKind.TheVariants.{AllocationFailed, MessageTooLarge, NoSuchPlace}
+use Rattle.capnp_words.specs.declared.error.ErrorKind.TheVariants.{NoSuchPlace}
 use Rattle.capnp_arena.specs.View.{View}
 use Rattle.capnp_format.specs.Forest.{IsForest, cover}
 use Rattle.capnp_format.specs.Segments.{Segments, segment}
@@ -15,14 +15,14 @@ use Rattle.capnp_readers.specs.declared.readers.PointerPlace.{PointerPlace}
 use Rattle.capnp_edits.specs.declared.edit.Edit.{Edit}
 use Rattle.capnp_edits.specs.declared.edit.path.PathEnd.{PathEnd}
 use Rattle.capnp_edits.specs.declared.edit.path.PathEnd.TheVariants.{Pointer as AtPointer, Element as AtElement}
-use Rattle.capnp_edits.specs.declared.edit.tasks.Object.{Object}
+use Rattle.capnp_edits.specs.declared.edit.tasks.NewObject.{NewObject}
 use Rattle.capnp_edits.specs.declared.edit.tasks.Task.{Task}
 use Rattle.capnp_edits.specs.declared.edit.tasks.Task.TheVariants.{Make, Point, InStruct, Write, Search, CopyRoot}
 use Rattle.capnp_edits.specs.declared.edit.tasks.StructChange.TheVariants.{Bits, Content}
 use Rattle.capnp_edits.specs.Edits.{IsOfMemory, is_of_path, words_made}
-use Rattle.capnp_edits.specs.Fitting.{words_asked, all_asked, AsksNoMore, AllAskNoMore, AreInFirst, IsNoneOfMemory, NoneOfMemory, StaysInFirst, FittingEdits}
+use Rattle.capnp_edits.specs.Fitting.{words_asked, AsksNoMore, AreInFirst, IsNoneOfMemory, StaysInFirst, FittingEdits}
 use Rattle.capnp_edits.specs.Paths.{path_of, IsPathFound}
-use Rattle.capnp_edits.specs.Steps.{FitsAt, IsOfPath, IsRefusedAt, IsStep, AreSteps, TakesAt, TakesForObject, TakesNoWords}
+use Rattle.capnp_edits.specs.Steps.{FitsAt, IsOfPath, IsRefusedAt, IsStep, TakesAt, TakesForObject, TakesNoWords}
 use Rattle.capnp_edits.specs.Tasks.{task_of}
 use Rattle.capnp_edits.proofs.Applied.{of_memory}
 
@@ -85,7 +85,7 @@ unrefused old new k (inr none) = absurd none
 without_words : (old new : View) (n : ℕ) (r : Option ErrorKind) → AreInFirst old.words → IsNoneOfMemory r → ((k : ErrorKind) → r ≡ Some k → new ≡ old) → ((r ≡ Some NoSuchPlace → ⊥) → TakesNoWords old new) → IsNoneOfMemory r × StaysInFirst old new n
 without_words old new n r first none kept taken = by_outcome old new n r first none kept (λ e. kept_first old new n first (taken (not_missing r e)))
 
-with_object : (old new : View) (place : PointerPlace) (object : Object) (r : Option ErrorKind) → 0 < length old.words → AreInFirst old.words → place.segment ≡ 0 → length (segment old.words 0) + words_made object ≤ old.room 0 → Fact old new (AtPointer place) (Make object) r →
+with_object : (old new : View) (place : PointerPlace) (object : NewObject) (r : Option ErrorKind) → 0 < length old.words → AreInFirst old.words → place.segment ≡ 0 → length (segment old.words 0) + words_made object ≤ old.room 0 → Fact old new (AtPointer place) (Make object) r →
     IsNoneOfMemory r × StaysInFirst old new (words_made object)
 with_object old new place object r there first here fits f =
     let none = f.fits (inl (subst (λ s. length (segment old.words s) + words_made object ≤ old.room s) (sym here) fits)) in

@@ -1,5 +1,5 @@
 -- One step more of a path.
-use Rattle.std.proofs.Common.{◌≡◌, inl, inr, ℕ, zero, suc, ◌+◌, ◌*◌, ◌<◌, ◌≤◌, false, ◌&&◌, cond, nat_lt, List, [], ◌∷◌, ◌++◌, length, get_or, take, drop, Option, Some, None, IfSome, Result, Ok, Err, refl, sym, ap, ◌∙◌, subst, arith, lt-ltb}
+use Rattle.std.proofs.Common.{◌≡◌, inl, inr, ℕ, zero, suc, ◌+◌, ◌*◌, ◌<◌, ◌≤◌, false, ◌&&◌, cond, nat_lt, List, [], ◌∷◌, ◌++◌, length, get_or, take, drop, Option, Some, None, IfSome, Ok, Err, refl, sym, ap, ◌∙◌, subst, arith, lt-ltb}
 use Rattle.std.proofs.lemmas.Bool.{cases_lt}
 use Rattle.std.proofs.lemmas.Bool.Decides.{nat_tests}
 use Rattle.std.proofs.lemmas.List.{append_assoc, take_more, take-append-drop}
@@ -21,6 +21,7 @@ use Rattle.capnp_edits.specs.declared.edit.path.PathEnd.{PathEnd}
 use Rattle.capnp_edits.specs.declared.edit.path.PathEnd.TheVariants.{Pointer as AtPointer, Element as AtElement}
 use Rattle.capnp_edits.specs.Paths.{step_of, path_of, found, IsPointerFound, IsElementFound, IsPathFound, EndLiesIn, child_in, element_in, Steps}
 use Rattle.capnp_edits.proofs.Walks.{leads_further, found-append}
+use Rattle.capnp_widening.proofs.Listed.{same_list}
 
 -- a place of a value lies in the message
 pub place_inside : (S : Segments) (s p : ℕ) (t : Tree) (path : List Step) (u q : ℕ) (x : Tree) → PathLeads S s p t path u q x → IsStored S s p t → IsPlace S u q
@@ -38,9 +39,6 @@ second i n x y l = ap (λ b. cond b x y) (past i n l)
 
 pub same_some : {A : Type 0} (x y : A) → Some x ≡ Some y → x ≡ y
 same_some x y h = cc
-
-same_list : (x y : ExistingList) → ◌≡◌ {A = Result (Option ExistingList) ErrorKind} (Ok (Some x)) (Ok (Some y)) → x ≡ y
-same_list x y h = cc
 
 -- where a child of a struct is that starts at b of segment u
 abbrev pub struct_of : ℕ → ℕ → ℕ → ℕ → ExistingStruct
@@ -142,27 +140,6 @@ list_element S s p i (Structs d q es) l r is_l stored few exactly =
       segment_is = refl;
       start_is = refl;
     })
-
--- an index past the elements
-past_behind : (d q : ℕ) (es : Elements) (i : ℕ) (more : List Step) → element_count es ≤ i → found (Structs d q es) (Element i ∷ more) ≡ None
-past_behind d q es i [] l = second i (element_count es) _ _ l
-past_behind d q es i (Child j ∷ more) l = ap (λ b. cond (b && nat_lt j q) (found (next (struct_at es i) (Child j)) more) None) (past i (element_count es) l)
-  where
-    past : (i n : ℕ) → n ≤ i → nat_lt i n ≡ false
-    past i n l = grind (arith, nat_tests)
-past_behind d q es i (Element j ∷ more) l = refl
-
-pub past_list : (S : Segments) (s p i : ℕ) (t : Tree) (l : ExistingList) → Ok (Some l) ≡ list_in (target S s p) Void t → l.count ≤ i → IsPathFound S s p t (Element i ∷ []) None
-past_list S s p i Null l is_l many = λ more. refl
-past_list S s p i (Capability j) l is_l many = λ more. refl
-past_list S s p i (Struct ws ts) l is_l many = λ more. refl
-past_list S s p i (Flat size ns) l is_l many = λ more. refl
-past_list S s p i (Pointers ts) l is_l many =
-    let same = same_list l (plain_list (target S s p) Pointer (count ts)) is_l in
-    λ more. second i (count ts) _ _ (subst (λ x. x.count ≤ i) same many)
-past_list S s p i (Structs d q es) l is_l many =
-    let same = same_list l (struct_list (target S s p) d q (element_count es)) is_l in
-    λ more. past_behind d q es i more (subst (λ x. x.count ≤ i) same many)
 
 -- what isn't a list
 pub null_list : (S : Segments) (s p i : ℕ) (t : Tree) → Ok None ≡ list_in (target S s p) Void t → IsPathFound S s p t (Element i ∷ []) None

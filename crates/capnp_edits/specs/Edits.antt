@@ -47,10 +47,10 @@ use Rattle.capnp_edits.specs.declared.edit.copying.Wanted.TheVariants.{Struct as
 use Rattle.capnp_edits.specs.declared.edit.tasks.Task.{Task}
 use Rattle.capnp_edits.specs.declared.edit.tasks.Task.TheVariants.{Make, Point, InStruct, Write}
 use Rattle.capnp_edits.specs.declared.edit.tasks.Task.TheVariants.{Search, CopyRoot}
-use Rattle.capnp_edits.specs.declared.edit.tasks.Object.{Object}
-use Rattle.capnp_edits.specs.declared.edit.tasks.Object.TheVariants.{ZeroStruct, ZeroList}
-use Rattle.capnp_edits.specs.declared.edit.tasks.Object.TheVariants.{ZeroStructs, ZeroText, Text}
-use Rattle.capnp_edits.specs.declared.edit.tasks.Object.TheVariants.{Data}
+use Rattle.capnp_edits.specs.declared.edit.tasks.NewObject.{NewObject}
+use Rattle.capnp_edits.specs.declared.edit.tasks.NewObject.TheVariants.{ZeroStruct, ZeroList}
+use Rattle.capnp_edits.specs.declared.edit.tasks.NewObject.TheVariants.{ZeroStructs, ZeroText, Text}
+use Rattle.capnp_edits.specs.declared.edit.tasks.NewObject.TheVariants.{Data}
 use Rattle.capnp_edits.specs.declared.edit.tasks.Number.{Number}
 use Rattle.capnp_edits.specs.declared.edit.tasks.StructChange.{StructChange}
 use Rattle.capnp_edits.specs.declared.edit.tasks.StructChange.TheVariants.{Bits, Content}
@@ -156,7 +156,7 @@ part_written (TextByte i b) t = if_reached (λ x. x.length) i (with_lowest i 8 b
 part_written (DataByte i b) t = if_reached (λ x. x.length) i (with_lowest i 8 b t) (data_in nowhere t)
 
 -- The value of an object that is made, and how many words it takes, its landing pad aside.
-abbrev pub value_of : Object → Tree
+abbrev pub value_of : NewObject → Tree
 value_of (ZeroStruct size) = zero_struct size
 value_of (ZeroList size n) = zero_list (size_number size) n
 value_of (ZeroStructs n size) = zero_structs n size
@@ -165,7 +165,7 @@ value_of (Text bytes) = Flat 2 (bytes.now ++ 0 ∷ [])
 value_of (Data bytes) = Flat 2 bytes.now
 
 -- How many words an object takes that is made, its landing pad aside.
-abbrev pub words_made : Object → ℕ
+abbrev pub words_made : NewObject → ℕ
 words_made (ZeroStruct size) = size.data_words + size.pointers
 words_made (ZeroList size n) = list_words (size_number size) n
 words_made (ZeroStructs n size) = 1 + n * (size.data_words + size.pointers)

@@ -19,9 +19,9 @@ use Rattle.capnp_edits.specs.declared.edit.copying.Wanted.TheVariants.{List as A
 use Rattle.capnp_edits.specs.declared.edit.tasks.Task.{Task}
 use Rattle.capnp_edits.specs.declared.edit.tasks.Task.TheVariants.{Make, Point, InStruct, Write}
 use Rattle.capnp_edits.specs.declared.edit.tasks.Task.TheVariants.{Search, CopyRoot}
-use Rattle.capnp_edits.specs.declared.edit.tasks.Object.TheVariants.{ZeroStruct, ZeroList}
-use Rattle.capnp_edits.specs.declared.edit.tasks.Object.TheVariants.{ZeroStructs, ZeroText, Text}
-use Rattle.capnp_edits.specs.declared.edit.tasks.Object.TheVariants.{Data}
+use Rattle.capnp_edits.specs.declared.edit.tasks.NewObject.TheVariants.{ZeroStruct, ZeroList}
+use Rattle.capnp_edits.specs.declared.edit.tasks.NewObject.TheVariants.{ZeroStructs, ZeroText, Text}
+use Rattle.capnp_edits.specs.declared.edit.tasks.NewObject.TheVariants.{Data}
 use Rattle.capnp_edits.specs.declared.edit.tasks.StructChange.TheVariants.{Bits, Content}
 use Rattle.capnp_edits.specs.declared.edit.tasks.Part.TheVariants.{ListElement, TextByte, DataByte}
 use Rattle.capnp_edits.specs.declared.edit.tasks.Sought.TheVariants.{Struct as ForStruct}

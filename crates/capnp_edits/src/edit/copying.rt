@@ -1,15 +1,14 @@
 //! Edits that copy from another message.
 ghost use Rattle.std.specs.Prelude.{◌≡◌, IsOk, IfOk, IfErr};
-ghost use Rattle.capnp_format.specs.Segments.{IsPlace};
 ghost use Rattle.capnp_builders.specs.Building.{built, calling, IsThere};
 ghost use Rattle.capnp_edits.specs.Sources.{FitsBehind, IsRootReader, IsRootless};
 ghost use Rattle.capnp_edits.specs.Edits.{refusal_of, place_of, refusals_after, CopiesRoot};
-ghost use Rattle.capnp_edits.specs.Steps.{call_to, IsWholeRefused, TakesForWhole};
+ghost use Rattle.capnp_edits.specs.Steps.{IsWholeRefused, TakesForWhole};
 
 use crate::edit::Source;
 use capnp_arena::arena::{BuilderArena, ReaderArena, ReaderArenaImpl, SegmentArray};
 use capnp_builders::builders::PointerBuilder;
-use capnp_readers::readers::{PointerPlace, PointerReader};
+use capnp_readers::readers::PointerReader;
 use capnp_words::error::ErrorKind;
 use capnp_words::read_limiter::ReadLimiter;
 use capnp_words::wire_pointer::ElementSize;
@@ -48,14 +47,12 @@ pub(crate) fn open_source<'a>(
     ensures refused { IfErr result (IsRootless source.entry) }
 {
     let mut lim = ReadLimiter::new(source.budget);
-    match PointerReader::get_root_from_arena(source.arena, &mut lim) {
-        Ok(root) => Ok((root, lim)),
-        Err(k) => Err(k),
-    }
+    let root = PointerReader::get_root_from_arena(source.arena, &mut lim)?;
+    Ok((root, lim))
 }
 
 /// Makes of a pointer a copy of what the root of another message leads to.
-fn copy_root<A: BuilderArena>(
+pub(crate) fn copy_root<A: BuilderArena>(
     pointer: &mut PointerBuilder<'_, A>,
     copying: Copying<'_>,
 ) -> Result<(), ErrorKind>
@@ -73,44 +70,16 @@ fn copy_root<A: BuilderArena>(
         → IsOk result }
     ensures same { pointer.new.arena.ghost_name ≡ pointer.old.arena.ghost_name }
 {
-    let (root, mut lim) = match open_source(copying.source) {
-        Ok(opened) => opened,
-        Err(k) => return Err(k),
-    };
+    let (root, mut lim) = open_source(copying.source)?;
     match copying.wanted {
         Wanted::Value => pointer.copy_from(root, &mut lim, copying.canonicalize),
-        Wanted::Struct => match root.get_struct(&mut lim, None) {
-            Ok(value) => pointer.set_struct(&value, &mut lim, copying.canonicalize),
-            Err(k) => Err(k),
-        },
-        Wanted::List => match root.get_list(&mut lim, ElementSize::Void, None) {
-            Ok(value) => pointer.set_list(&value, &mut lim, copying.canonicalize),
-            Err(k) => Err(k),
-        },
+        Wanted::Struct => {
+            let value = root.get_struct(&mut lim, None)?;
+            pointer.set_struct(&value, &mut lim, copying.canonicalize)
+        }
+        Wanted::List => {
+            let list = root.get_list(&mut lim, ElementSize::Void, None)?;
+            pointer.set_list(&list, &mut lim, copying.canonicalize)
+        }
     }
-}
-
-/// Does so at a place of a message.
-pub(crate) fn edit_source<A: BuilderArena>(
-    arena: &mut A,
-    place: PointerPlace,
-    copying: Copying<'_>,
-) -> Result<(), ErrorKind>
-    requires { IsPlace (A.view arena.old).words place.segment place.word }
-    ensures done { CopiesRoot (A.view arena.old).words (A.view arena.new).words place copying.entry
-        (refusal_of result) }
-    ensures counted { (A.view arena.new).refusals ≡ refusals_after (refusal_of result)
-        (A.view arena.old).refusals }
-    ensures named { IfErr result
-        (IsWholeRefused (call_to place (A.view arena.old) (A.view arena.new)) copying.entry) }
-    ensures taken { TakesForWhole (call_to place (A.view arena.old) (A.view arena.new))
-        copying.entry (refusal_of result) }
-    ensures fits { FitsBehind (A.view arena.old) place.segment copying.entry → IsOk result }
-{
-    let mut pointer = PointerBuilder {
-        arena,
-        segment: place.segment,
-        at: place.word,
-    };
-    copy_root(&mut pointer, copying)
 }

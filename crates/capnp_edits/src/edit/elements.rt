@@ -22,7 +22,7 @@ use capnp_builders::builders::{ListBuilder, PrimitiveElement};
 use capnp_making::existing;
 use capnp_making::existing::{ExistingBytes, ExistingList};
 use capnp_making::numbers::set_number;
-use capnp_readers::readers::{ListPlace, PointerPlace};
+use capnp_readers::readers::PointerPlace;
 use capnp_words::error::ErrorKind;
 use capnp_words::wire_pointer::{ElementSize, data_bits_per_element};
 
@@ -96,24 +96,6 @@ fn put_element<A: BuilderArena>(
     }
 }
 
-/// Does so in the list at a place.
-fn put_element_at<A: BuilderArena>(
-    arena: &mut A,
-    place: ListPlace,
-    size: ElementSize,
-    index: u32,
-    value: u64,
-)
-    requires inside { IsListPlace (A.view arena.old).words place }
-    requires there { index < place.count }
-    requires wide { element_bits (size_number size) ≤ data_bits place.size place.struct_size }
-    requires number { is_number size value ≡ true }
-    ensures { WritesField (A.view arena.old) (A.view arena.new) place.segment place.byte
-        (lowest_bits place index (element_bits (size_number size)) value) }
-{
-    put_element(&mut ListBuilder { arena, place }, size, index, value);
-}
-
 /// Writes the lowest bits of an element of a list that was looked for, if it is there.
 fn set_element<A: BuilderArena>(
     arena: &mut A,
@@ -130,13 +112,13 @@ fn set_element<A: BuilderArena>(
     ensures named { IfErr result (λ k. is_of_path k ≡ true) }
     ensures kept { OnErr result (A.view arena.new ≡ A.view arena.old) }
 {
-    match found {
-        Ok(Some(list)) if has_element(&*arena, list, size, index) => {
-            put_element_at(arena, list_place(list), size, index, value);
+    match found? {
+        Some(list) if has_element(&*arena, list, size, index) => {
+            let place = list_place(list);
+            put_element(&mut ListBuilder { arena, place }, size, index, value);
             Ok(())
         }
-        Ok(_) => Err(ErrorKind::NoSuchPlace),
-        Err(k) => Err(k),
+        _ => Err(ErrorKind::NoSuchPlace),
     }
 }
 
@@ -155,14 +137,13 @@ fn write_byte<A: BuilderArena>(
     ensures named { IfErr result (λ k. is_of_path k ≡ true) }
     ensures kept { OnErr result (A.view arena.new ≡ A.view arena.old) }
 {
-    match found {
-        Ok(Some(bytes)) if index < bytes.length && existing::are_inside(&*arena, bytes) => {
+    match found? {
+        Some(bytes) if index < bytes.length && existing::are_inside(&*arena, bytes) => {
             let byte = 8 * u64::from(bytes.start) + u64::from(index);
             set_number(arena, bytes.segment, byte, value);
             Ok(())
         }
-        Ok(_) => Err(ErrorKind::NoSuchPlace),
-        Err(k) => Err(k),
+        _ => Err(ErrorKind::NoSuchPlace),
     }
 }
 

@@ -80,14 +80,8 @@ pub(crate) fn fill<A: BuilderArena>(
     ensures fits { ContentFitsBehind (A.view arena.old) parent.segment source.entry
         parent.size.pointers → IsOk result }
 {
-    let (root, mut lim) = match open_source(source) {
-        Ok(opened) => opened,
-        Err(k) => return Err(k),
-    };
-    let value = match root.get_struct(&mut lim, None) {
-        Ok(value) => value,
-        Err(k) => return Err(k),
-    };
+    let (root, mut lim) = open_source(source)?;
+    let value = root.get_struct(&mut lim, None)?;
     match place_in(&*arena, parent) {
         Some(place) => copy_over(arena, place, &value, &mut lim),
         None => Ok(()),

@@ -1,6 +1,5 @@
 //! Tasks that look for a struct, a list, a text or data.
 ghost use Rattle.std.specs.Prelude.{◌≡◌, true};
-ghost use Rattle.capnp_format.specs.Segments.{IsPlace};
 ghost use Rattle.capnp_builders.specs.Building.{built, IsThere};
 ghost use Rattle.capnp_edits.specs.declared.edit.tasks.Task.TheVariants.{Search};
 ghost use Rattle.capnp_edits.specs.Tasks.{is_in_range};
@@ -11,11 +10,10 @@ use crate::edit::pointer::done;
 use crate::edit::tasks::Sought;
 use capnp_arena::arena::BuilderArena;
 use capnp_builders::builders::PointerBuilder;
-use capnp_readers::readers::PointerPlace;
 use capnp_words::error::ErrorKind;
 
 /// Looks for something, as a builder call does.
-fn look<A: BuilderArena>(
+pub(crate) fn look<A: BuilderArena>(
     pointer: &mut PointerBuilder<'_, A>,
     sought: Sought,
     default: Option<&[u8]>,
@@ -33,24 +31,4 @@ fn look<A: BuilderArena>(
         Sought::Text => done(pointer.find_text(default)),
         Sought::Data => done(pointer.find_data(default)),
     }
-}
-
-/// Does so at a place of a message.
-pub(crate) fn edit_search<A: BuilderArena>(
-    arena: &mut A,
-    place: PointerPlace,
-    sought: Sought,
-    default: Option<&[u8]>,
-) -> Result<(), ErrorKind>
-    requires there { IsPlace (A.view arena.old).words place.segment place.word }
-    requires range { is_in_range (Search sought default) ≡ true }
-    ensures { IsDoneAt (A.view arena.old) (A.view arena.new) place (Search sought default.entry)
-        (refusal_of result) }
-{
-    let mut pointer = PointerBuilder {
-        arena,
-        segment: place.segment,
-        at: place.word,
-    };
-    look(&mut pointer, sought, default)
 }

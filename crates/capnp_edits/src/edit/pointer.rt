@@ -7,11 +7,11 @@ ghost use Rattle.capnp_edits.specs.Tasks.{is_in_range};
 ghost use Rattle.capnp_edits.specs.Edits.{refusal_of, place_of};
 ghost use Rattle.capnp_edits.specs.Steps.{IsDoneAt};
 
-use crate::edit::copying::edit_source;
+use crate::edit::copying::copy_root;
 use crate::edit::elements::edit_part;
 use crate::edit::filling::change_struct;
-use crate::edit::found::edit_search;
-use crate::edit::tasks::{Object, Task};
+use crate::edit::found::look;
+use crate::edit::tasks::{NewObject, Task};
 use capnp_arena::arena::BuilderArena;
 use capnp_builders::builders::PointerBuilder;
 use capnp_making::existing;
@@ -23,16 +23,14 @@ use capnp_words::wire_pointer::ElementSize;
 pub(crate) fn done<T: Drop>(outcome: Result<T, ErrorKind>) -> Result<(), ErrorKind>
     ensures { refusal_of result ≡ refusal_of outcome }
 {
-    match outcome {
-        Ok(_) => Ok(()),
-        Err(k) => Err(k),
-    }
+    outcome?;
+    Ok(())
 }
 
 /// Makes an object that a pointer leads to.
 fn make<A: BuilderArena>(
     pointer: &mut PointerBuilder<'_, A>,
-    object: Object<'_>,
+    object: NewObject<'_>,
 ) -> Result<(), ErrorKind>
     requires there { IsThere (built A.view pointer.old) }
     requires range { is_in_range (Make object) ≡ true }
@@ -41,32 +39,13 @@ fn make<A: BuilderArena>(
     ensures same { pointer.new.arena.ghost_name ≡ pointer.old.arena.ghost_name }
 {
     match object {
-        Object::ZeroStruct(size) => done(pointer.put_struct(size)),
-        Object::ZeroList(size, count) => done(pointer.put_list(size, count)),
-        Object::ZeroStructs(count, size) => done(pointer.put_struct_list(count, size)),
-        Object::ZeroText(size) => done(pointer.put_list(ElementSize::Byte, size + 1)),
-        Object::Text(bytes) => pointer.set_text(bytes),
-        Object::Data(bytes) => pointer.set_data(bytes),
+        NewObject::ZeroStruct(size) => done(pointer.put_struct(size)),
+        NewObject::ZeroList(size, count) => done(pointer.put_list(size, count)),
+        NewObject::ZeroStructs(count, size) => done(pointer.put_struct_list(count, size)),
+        NewObject::ZeroText(size) => done(pointer.put_list(ElementSize::Byte, size + 1)),
+        NewObject::Text(bytes) => pointer.set_text(bytes),
+        NewObject::Data(bytes) => pointer.set_data(bytes),
     }
-}
-
-/// Does so at a place of a message.
-fn make_at<A: BuilderArena>(
-    arena: &mut A,
-    place: PointerPlace,
-    object: Object<'_>,
-) -> Result<(), ErrorKind>
-    requires there { IsPlace (A.view arena.old).words place.segment place.word }
-    requires range { is_in_range (Make object) ≡ true }
-    ensures { IsDoneAt (A.view arena.old) (A.view arena.new) place (Make object.entry)
-        (refusal_of result) }
-{
-    let mut pointer = PointerBuilder {
-        arena,
-        segment: place.segment,
-        at: place.word,
-    };
-    make(&mut pointer, object)
 }
 
 /// Makes of a pointer the capability by an index, or null.
@@ -82,19 +61,6 @@ fn point<A: BuilderArena>(pointer: &mut PointerBuilder<'_, A>, capability: Optio
     }
 }
 
-/// Does so at a place of a message.
-fn point_at<A: BuilderArena>(arena: &mut A, place: PointerPlace, capability: Option<u32>)
-    requires { IsPlace (A.view arena.old).words place.segment place.word }
-    ensures { IsDoneAt (A.view arena.old) (A.view arena.new) place (Point capability) None }
-{
-    let mut pointer = PointerBuilder {
-        arena,
-        segment: place.segment,
-        at: place.word,
-    };
-    point(&mut pointer, capability);
-}
-
 /// Does a task at a pointer of a message.
 pub(crate) fn edit_pointer<A: BuilderArena>(
     arena: &mut A,
@@ -105,20 +71,25 @@ pub(crate) fn edit_pointer<A: BuilderArena>(
     requires range { is_in_range task ≡ true }
     ensures { IsDoneAt (A.view arena.old) (A.view arena.new) place task.entry (refusal_of result) }
 {
+    let mut pointer = PointerBuilder {
+        arena,
+        segment: place.segment,
+        at: place.word,
+    };
     match task {
-        Task::Make(object) => make_at(arena, place, object),
+        Task::Make(object) => make(&mut pointer, object),
         Task::Point(capability) => {
-            point_at(arena, place, capability);
+            point(&mut pointer, capability);
             Ok(())
         }
         Task::InStruct(change) => {
-            match existing::get_struct(&*arena, place.segment, place.word) {
-                Some(parent) => change_struct(arena, parent, change),
+            match existing::get_struct(&*pointer.arena, place.segment, place.word) {
+                Some(parent) => change_struct(pointer.arena, parent, change),
                 None => Err(ErrorKind::NoSuchPlace),
             }
         }
-        Task::Write(part) => edit_part(arena, place, part),
-        Task::Search(sought, default) => edit_search(arena, place, sought, default),
-        Task::CopyRoot(copying) => edit_source(arena, place, copying),
+        Task::Write(part) => edit_part(pointer.arena, place, part),
+        Task::Search(sought, default) => look(&mut pointer, sought, default),
+        Task::CopyRoot(copying) => copy_root(&mut pointer, copying),
     }
 }

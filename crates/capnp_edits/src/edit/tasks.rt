@@ -12,7 +12,7 @@ use capnp_words::wire_pointer::{ElementSize, StructSize};
 
 /// An object that is made.
 #[derive(Clone, Copy)]
-pub(crate) enum Object<'a> {
+pub(crate) enum NewObject<'a> {
     /// A struct, all zero.
     ZeroStruct(StructSize),
     /// A list of so many elements that are no structs, all zero or null.
@@ -77,7 +77,7 @@ pub(crate) enum Sought {
 #[derive(Clone, Copy)]
 pub(crate) enum Task<'a> {
     /// The pointer leads to a new object.
-    Make(Object<'a>),
+    Make(NewObject<'a>),
     /// The pointer becomes the capability by this index, or null.
     Point(Option<u32>),
     /// A struct is changed.
@@ -121,21 +121,21 @@ fn is_small_default(default: Option<&[u8]>) -> bool
 }
 
 /// Whether a pointer can lead to an object.
-fn is_object(object: Object<'_>) -> bool
+fn is_object(object: NewObject<'_>) -> bool
     ensures { result ≡ is_in_range (Make object.entry) }
 {
     match object {
-        Object::ZeroStruct(_) => true,
-        Object::ZeroList(size, count) => {
+        NewObject::ZeroStruct(_) => true,
+        NewObject::ZeroList(size, count) => {
             size != ElementSize::InlineComposite && count < LIST_LIMIT
         }
-        Object::ZeroStructs(count, size) => {
+        NewObject::ZeroStructs(count, size) => {
             count < 2 * LIST_LIMIT
                 && u64::from(count) * u64::from(size.total()) < u64::from(LIST_LIMIT)
         }
-        Object::ZeroText(size) => size < LIST_LIMIT - 1,
-        Object::Text(bytes) => bytes.len() < LIST_LIMIT as usize - 1,
-        Object::Data(bytes) => bytes.len() < LIST_LIMIT as usize,
+        NewObject::ZeroText(size) => size < LIST_LIMIT - 1,
+        NewObject::Text(bytes) => bytes.len() < LIST_LIMIT as usize - 1,
+        NewObject::Data(bytes) => bytes.len() < LIST_LIMIT as usize,
     }
 }
 
@@ -208,15 +208,15 @@ pub(crate) fn task_of(op: Op<'_>) -> Option<Task<'_>>
     ensures { result ≡ task_of op.entry }
 {
     match op {
-        Op::InitStruct(size) => if_in_range(Task::Make(Object::ZeroStruct(size))),
-        Op::InitList(size, count) => if_in_range(Task::Make(Object::ZeroList(size, count))),
-        Op::InitStructList(count, size) => if_in_range(Task::Make(Object::ZeroStructs(
+        Op::InitStruct(size) => if_in_range(Task::Make(NewObject::ZeroStruct(size))),
+        Op::InitList(size, count) => if_in_range(Task::Make(NewObject::ZeroList(size, count))),
+        Op::InitStructList(count, size) => if_in_range(Task::Make(NewObject::ZeroStructs(
             count, size,
         ))),
-        Op::InitText(size) => if_in_range(Task::Make(Object::ZeroText(size))),
-        Op::InitData(size) => if_in_range(Task::Make(Object::ZeroList(ElementSize::Byte, size))),
-        Op::SetText(bytes) => if_in_range(Task::Make(Object::Text(bytes))),
-        Op::SetData(bytes) => if_in_range(Task::Make(Object::Data(bytes))),
+        Op::InitText(size) => if_in_range(Task::Make(NewObject::ZeroText(size))),
+        Op::InitData(size) => if_in_range(Task::Make(NewObject::ZeroList(ElementSize::Byte, size))),
+        Op::SetText(bytes) => if_in_range(Task::Make(NewObject::Text(bytes))),
+        Op::SetData(bytes) => if_in_range(Task::Make(NewObject::Data(bytes))),
         Op::SetCapability(index) => if_in_range(Task::Point(Some(index))),
         Op::Clear => if_in_range(Task::Point(None)),
         Op::SetField(size, index, value) => field(size, index, value),

@@ -1,6 +1,6 @@
 use Rattle.std.proofs.Common.{sym, subst}
 use Rattle.capnp_edits.specs.declared.edit.tasks.Task.TheVariants.{Make}
-use Rattle.capnp_edits.specs.declared.edit.tasks.Object.TheVariants.{ZeroStruct, ZeroList, ZeroStructs, ZeroText, Text, Data}
+use Rattle.capnp_edits.specs.declared.edit.tasks.NewObject.TheVariants.{ZeroStruct, ZeroList, ZeroStructs, ZeroText, Text, Data}
 use Rattle.capnp_edits.specs.Edits.{refusal_of, place_of}
 use Rattle.capnp_edits.specs.Steps.{IsDoneAt}
 use Rattle.capnp_edits.proofs.Applied.{object_made}
