@@ -1,13 +1,17 @@
 -- What a run over what packed bytes stand for says of the packed bytes.
-use Rattle.std.proofs.Common.{◌≡◌, ◌∙◌, ℕ, List, Bool, true, false, Option, Some, None, ap, subst}
+use Rattle.std.proofs.Common.{◌≡◌, ◌∙◌, ◌⊎◌, inl, inr, ℕ, List, Bool, true, false, ◌&&◌, Option, Some, None, IfSome, ap, refl, sym, subst}
 use Rattle.std.specs.Option.{option_map}
+use Rattle.std.specs.Io.KnownBytes.{Consumes}
+use Rattle.capnp_framing.specs.Reading.{NoFrame}
+use Rattle.capnp_framing.specs.Reading.NoFrame.{count_cut, table_cut, too_long, too_many, words_cut}
 use Rattle.capnp_framing.specs.Wholeness.{KeepsWhole}
 use Rattle.capnp_packing.specs.Packing.{is_tag, place_at_end, unpacked_bytes, whole_behind}
 use Rattle.capnp_packing.specs.declared.packing.place.Place.TheVariants.{Tag}
 use Rattle.capnp_framing.proofs.WholenessLemmas.{keeps_whole_both}
-use Rattle.capnp_framing.specs.declared.framing.frame_error.FrameError.TheVariants.{Truncated}
+use Rattle.capnp_framing.specs.declared.framing.frame_error.FrameError.TheVariants.{ReadFailed, Truncated, WriteFailed}
 use Rattle.capnp_streams.specs.Packed.{AreCut, IsCutBehind}
-use Rattle.capnp_streams.specs.Streams.{AllAreDone}
+use Rattle.capnp_streams.specs.Streams.{AllAreDone, StopsAt, StopsBehind}
+use Rattle.capnp_streams.specs.declared.streams.fault.Fault.{Fault}
 use Rattle.capnp_streams.specs.declared.streams.fault.Fault.TheVariants.{Frame}
 use Rattle.capnp_streams.specs.declared.streams.runs.Stop.{Stop}
 use Rattle.capnp_streams.specs.declared.streams.runs.Summary.{Summary}
@@ -34,3 +38,54 @@ cut_behind {task} packed given output after before behind summary stop same whol
     (record { messages = summary.messages; holds = summary.holds }) =
     subst (λ (i : Option (List ℕ)). AllAreDone task (record { input = i; output = output }) after summary) same done in
     (fault, cut, (summary.holds, rw answered there))
+
+-- no bytes are refused by the name of a failed read
+bytes_are_read : {bytes : List ℕ} {most : ℕ} → NoFrame bytes most ReadFailed → ⊥
+bytes_are_read (count_cut some cut is) = cc
+bytes_are_read (too_many long many is) = cc
+bytes_are_read (table_cut long few cut is) = cc
+bytes_are_read (too_long there many is) = cc
+bytes_are_read (words_cut there few cut is) = cc
+
+stop_failed : (task : Task) (left : Option (List ℕ)) (failed : Bool) (answered : ℕ) → (left ≡ None → ⊥) →
+    StopsAt task left failed answered (Frame ReadFailed) → failed ≡ true
+stop_failed task left failed answered known (inl memory) = cc
+stop_failed task left failed answered known (inr (inl (same, is))) = is
+stop_failed task None failed answered known (inr (inr none)) = absurd (known refl)
+stop_failed task (Some bytes) failed answered known (inr (inr none)) = absurd (bytes_are_read none)
+
+-- what is left of known bytes is known
+left_known : (old left : Option (List ℕ)) (xs taken : List ℕ) → old ≡ Some xs → Consumes old left taken →
+    left ≡ None → ⊥
+left_known old left xs taken some takes none =
+    subst (λ (l : Option (List ℕ)). Consumes (Some xs) l taken) none
+    (subst (λ (o : Option (List ℕ)). Consumes o left taken) some takes)
+
+-- an input over packed bytes has failed where the packed input has
+failed_below : (told failed : Bool) → (told && failed) ≡ true → failed ≡ true
+failed_below true failed is = is
+failed_below false failed is = cc
+
+pub device_failed : {R : Type 0} (has_failed : R → Bool) (told : Bool) (device : R) (packed : Option (List ℕ)) →
+    (told && has_failed device) ≡ true → IfSome packed (λ bytes. (d : R) × (has_failed d ≡ true))
+device_failed has_failed told device None is = tt
+device_failed has_failed told device (Some bytes) is = (device, failed_below told (has_failed device) is)
+
+-- where a run over known packed bytes stops by the name of a failed read, the packed input has failed
+pub read_failed : {P R : Type 0} {task : Task} (has_failed : R → Bool) (told : Bool) (device : R)
+    (packed given output after : Option (List ℕ)) (stop : Stop) → given ≡ option_map (unpacked_bytes Tag) packed →
+    ((stop.fault ≡ Frame WriteFailed) × P) ⊎
+    StopsBehind task (record { input = given; output = output }) after (told && has_failed device) stop →
+    stop.fault ≡ Frame ReadFailed → IfSome packed (λ bytes. (d : R) × (has_failed d ≡ true))
+read_failed has_failed told device packed given output after stop same (inl (written, such)) is =
+    let wrong : Frame WriteFailed ≡ Frame ReadFailed = sym written ∙ is in absurd (cc)
+read_failed has_failed told device None given output after stop same (inr stops) is = tt
+read_failed {task = task} has_failed told device (Some bytes) given output after stop same (inr (left, holds, done, stops)) is =
+    let known = left_known given left (unpacked_bytes Tag bytes) done.bytes same done.consumed in
+    let failed = stop_failed task left (told && has_failed device) stop.answered known
+    (subst (λ (f : Fault). StopsAt task left (told && has_failed device) stop.answered f) is stops) in
+    device_failed has_failed told device (Some bytes) failed
+
+-- a cut is no failed read
+pub cut_not_failed : {f : Fault} → f ≡ Frame Truncated → f ≡ Frame ReadFailed → ⊥
+cut_not_failed cut failed = let wrong : Frame Truncated ≡ Frame ReadFailed = sym cut ∙ failed in cc

@@ -1,5 +1,6 @@
 //! A task done with each message of a packed stream.
-ghost use Rattle.std.specs.Prelude.{◌≡◌, ◌⊎◌, false, true, OnOk, IfOk, IfErr};
+ghost use Rattle.std.specs.Prelude.{◌≡◌, ◌⊎◌, false, true, OnOk, IfOk, IfErr, IfSome};
+ghost use Rattle.capnp_framing.specs.declared.framing.frame_error.FrameError.TheVariants.{ReadFailed};
 ghost use Rattle.capnp_streams.specs.Packed.{AllPackedAreDone, IsCutBehind, WherePackedAnswerable, unpacked_stage};
 ghost use Rattle.capnp_streams.specs.Streams.{IsWriteFault, StopsBehind, stage_of};
 
@@ -16,7 +17,7 @@ use std::alloc::Global;
 ///
 /// Packed bytes that are cut short, within a word or before a number, are no end: they are
 /// `Truncated`, behind the answers to all messages whose frames they give, and with nothing of the
-/// one that they are cut in.
+/// one that they are cut in. `ReadFailed` is the packed input's: it has failed then.
 pub fn run_packed<R: Input + Drop, W: Output>(
     alloc: Global,
     task: Task,
@@ -32,6 +33,8 @@ pub fn run_packed<R: Input + Drop, W: Output>(
         (W.contents output.new) true s
         ⊎ IsCutBehind task (stage_of R.Input W.Output packed output.old)
         (W.contents output.new) s) }
+    ensures failed { IfErr result (λ s. s.fault ≡ Fault.Frame ReadFailed
+        → IfSome (R.remaining packed) (λ _. (device : R) × (R.has_failed device ≡ true))) }
     ensures exactly { IfErr result (λ s. WherePackedAnswerable task (R.remaining packed) s.fault) }
     ensures works { OnOk result (W.has_failed output.new ≡ false) }
 {
