@@ -14,6 +14,9 @@ const NULL: &[u8] = b"0000000000000000\n";
 const DOUBLED: &[u8] =
     b"00000000000002000400000000000200000000000000020004000000000002000000000000000200040000000100000000000000010000000900000000000000\n";
 
+/// One word: a pointer to a struct of one word, behind the end of the segment.
+const BEYOND: &[u8] = b"0000000001000000\n";
+
 /// What an allocator is asked for, behind the input's rows, where these are the rooms of the tries.
 fn asked(alloc: Global, rooms: &[u32]) -> Result<Vec<Request>, AllocError> {
     let mut requests = Vec::new(alloc);
@@ -25,24 +28,42 @@ fn asked(alloc: Global, rooms: &[u32]) -> Result<Vec<Request>, AllocError> {
 }
 
 /// The first try asks for the words of the input and one more, each further one for twice as many as
-/// the one before, and nothing else is asked for: no segment for a check, a size or a frame.
+/// the one before, and nothing else is asked for: no segment for a check, a size or a frame. A message
+/// that can't be read is asked for once.
 #[test]
 fn rooms(rt: HostRuntime) -> Result<(), AllocError> {
     let options = ReaderOptions::default();
-    for (args, message, rooms) in [
-        (Args::Canon(options), NULL, &[2u32][..]),
-        (Args::Canon(options), DOUBLED, &[9, 18, 36][..]),
-        (Args::Check(options), DOUBLED, &[][..]),
-        (Args::Size(options), DOUBLED, &[][..]),
-        (Args::Frame, DOUBLED, &[][..]),
-        (Args::FramedCanon(options), DOUBLED, &[9, 18, 36][..]),
+    for (args, message, end, rooms) in [
+        (Args::Canon(options), NULL, Outcome::Done, &[2u32][..]),
+        (
+            Args::Canon(options),
+            DOUBLED,
+            Outcome::Done,
+            &[9, 18, 36][..],
+        ),
+        (Args::Check(options), DOUBLED, Outcome::Done, &[][..]),
+        (Args::Size(options), DOUBLED, Outcome::Done, &[][..]),
+        (Args::Frame, DOUBLED, Outcome::Done, &[][..]),
+        (
+            Args::FramedCanon(options),
+            DOUBLED,
+            Outcome::Done,
+            &[9, 18, 36][..],
+        ),
+        (Args::Canon(options), BEYOND, Outcome::Refused, &[2][..]),
+        (
+            Args::FramedCanon(options),
+            BEYOND,
+            Outcome::Refused,
+            &[2][..],
+        ),
     ] {
         let heap = HeapAllocator::new(rt.alloc(), 0);
         let allocator = NotingAllocator::new(rt.alloc(), heap);
         let mut from = MemoryInput::new(message);
         let mut to = MemoryOutput::new(rt.alloc());
         let (outcome, allocator) = run_with(rt.alloc(), allocator, &args, &mut from, &mut to);
-        assert!(rt; outcome == Outcome::Done);
+        assert!(rt; outcome == end);
         let want = asked(rt.alloc(), rooms)?;
         let requests = allocator.requests();
         let (rows, tries) = requests.split_at(requests.len().saturating_sub(want.len()));
