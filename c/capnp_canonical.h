@@ -142,7 +142,7 @@ struct capnp_canonical_segment {
  *
  * CAPNP_CANONICAL_NO_ROOM says that it takes more than `room` bytes, and `*written` how many; so null and 0 ask for the
  * size. 16 bytes and 8 for each word that capnp_canonical_size gives are always enough. For any other refusal `*written` is
- * 0. Where the call is refused nothing is written to `to`. */
+ * 0. What stands in `to` behind the bytes written stays, and where the call is refused all of it. */
 uint32_t capnp_canonical_copy(const uint8_t *frame, size_t frame_size, int32_t nesting, uint64_t words, uint8_t *to, size_t room, size_t *written);
 
 /* The same, as bare words, without the table of a frame: these are the bytes to be hashed or signed. 8 bytes and 8 for each

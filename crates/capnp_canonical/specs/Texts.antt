@@ -1,5 +1,5 @@
 -- The texts that C gets of numbers.
-use Rattle.std.specs.Prelude.{◌≡◌, ℕ, ◌+◌, ◌-◌, ◌<◌, List, [], ◌∷◌, ◌++◌, length, min, take}
+use Rattle.std.specs.Prelude.{◌≡◌, ℕ, ◌+◌, ◌-◌, ◌<◌, List, [], ◌∷◌, ◌++◌, length, min, take, drop}
 use Rattle.capnp_readers.specs.Faults.{fault_reason_text}
 use Rattle.capnp_readers.specs.declared.readers.canonical_fault.CanonicalFaultReason.{CanonicalFaultReason}
 use Rattle.capnp_canonical.specs.Numbers.{reason_number, answer_name, answer_number}
@@ -21,8 +21,8 @@ IsReasonText number text =
 abbrev pub fitting : List ℕ → ℕ → ℕ
 fitting text room = min (length text) (room - 1)
 
--- A text stands at the front of bytes, as far as there is room, with a zero behind it.
-abbrev pub HoldsText : List ℕ → List ℕ → Type 0
-HoldsText text bytes =
-    0 < length bytes → take (1 + fitting text (length bytes)) bytes
-    ≡ take (fitting text (length bytes)) text ++ 0 ∷ []
+-- A text is put over the front of bytes, as far as there is room, with a zero behind it.
+abbrev pub PutsText : List ℕ → List ℕ → List ℕ → Type 0
+PutsText text old new =
+    let n = fitting text (length old) in
+    0 < length old → new ≡ take n text ++ (0 ∷ drop (1 + n) old)

@@ -1,5 +1,5 @@
 //! What is done with a message, whatever holds its segments.
-ghost use Rattle.std.specs.Prelude.{◌≡◌, ◌≢◌, ◌⊎◌, ◌≤◌, ◌<◌, ◌+◌, ◌*◌, ◌/◌, ◌^◌, ◌∷◌, [], ℕ, List, length, take, Some, IfOk, IfErr, OnErr};
+ghost use Rattle.std.specs.Prelude.{◌≡◌, ◌≢◌, ◌⊎◌, ◌≤◌, ◌<◌, ◌+◌, ◌*◌, ◌/◌, ◌^◌, ◌∷◌, [], ℕ, List, length, take, drop, Some, IfOk, IfErr, OnErr};
 ghost use Rattle.std.specs.Int.{to_le_bytes, w32};
 ghost use Rattle.capnp_format.specs.Bytes.{message};
 ghost use Rattle.capnp_format.specs.Canonical.{encoding, trim};
@@ -43,6 +43,7 @@ fn put_frame(segment: &[u8], to: &mut [u8]) -> Result<usize, Refusal>
     ensures put { IfOk result (λ n. (words : List ℕ) → segment.now ≡ bytes_of_words words
         → take n to.new ≡ frame (words ∷ [])) }
     ensures within { IfOk result (λ n. n ≤ length to.new) }
+    ensures behind { IfOk result (λ n. drop n to.new ≡ drop n to.old) }
     ensures refused { IfErr result (λ r. (r ≡ Refusal.NoRoom (8 + length segment.now))
         × (to.new ≡ to.old) × (length to.old < 8 + length segment.now)) }
 {
@@ -59,6 +60,7 @@ fn put_frame(segment: &[u8], to: &mut [u8]) -> Result<usize, Refusal>
 fn put_flat(segment: &[u8], to: &mut [u8]) -> Result<usize, Refusal>
     ensures put { IfOk result (λ n. take n to.new ≡ segment.now) }
     ensures within { IfOk result (λ n. n ≤ length to.new) }
+    ensures behind { IfOk result (λ n. drop n to.new ≡ drop n to.old) }
     ensures refused { IfErr result (λ r. (r ≡ Refusal.NoRoom (length segment.now))
         × (to.new ≡ to.old) × (length to.old < length segment.now)) }
 {
@@ -76,6 +78,7 @@ fn put(form: Form, segment: &[u8], to: &mut [u8]) -> Result<usize, Refusal>
     ensures put { IfOk result (λ n. (words : List ℕ) → segment.now ≡ bytes_of_words words
         → take n to.new ≡ form_bytes form words) }
     ensures within { IfOk result (λ n. n ≤ length to.new) }
+    ensures behind { IfOk result (λ n. drop n to.new ≡ drop n to.old) }
     ensures refused { IfErr result (λ r.
         (r ≡ Refusal.NoRoom (table_bytes form + length segment.now))
         × (length to.old < table_bytes form + length segment.now)) }
@@ -100,6 +103,7 @@ pub fn copy<S: ReaderSegments + Drop>(
     ensures copied { IfOk result (λ n.
         IsCopyOf form limits (message (S.segments segments)) (take n to.new)) }
     ensures within { IfOk result (λ n. n ≤ length to.new) }
+    ensures behind { IfOk result (λ n. drop n to.new ≡ drop n to.old) }
     ensures refused { IfErr result
         (RefusesRoom form limits (length to.old) (message (S.segments segments))) }
     ensures kept { OnErr result (to.new ≡ to.old) }

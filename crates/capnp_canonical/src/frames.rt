@@ -1,6 +1,6 @@
 //! What is done with the message whose frame stands at the front of a buffer ("Serialization Over a
 //! Stream").
-ghost use Rattle.std.specs.Prelude.{◌≡◌, ◌⊎◌, ◌≤◌, length, take, IfOk, IfErr, OnErr};
+ghost use Rattle.std.specs.Prelude.{◌≡◌, ◌⊎◌, ◌≤◌, length, take, drop, IfOk, IfErr, OnErr};
 ghost use Rattle.capnp_format.specs.Bytes.{message};
 ghost use Rattle.capnp_arena.specs.Limits.{IsSmall};
 ghost use Rattle.capnp_framing.specs.Flat.{BeginsWithFrame};
@@ -48,6 +48,7 @@ pub fn copy_frame(
     ensures copied { IfOk result (λ n. InFrame frame.now words
         (λ S. IsCopyOf form (limits_of nesting words) S (take n to.new))) }
     ensures within { IfOk result (λ n. n ≤ length to.new) }
+    ensures behind { IfOk result (λ n. drop n to.new ≡ drop n to.old) }
     ensures refused { IfErr result (λ r. RefusesBytes frame.now words r
         ⊎ InFrame frame.now words
         (λ S. RefusesRoom form (limits_of nesting words) (length to.old) S r)) }

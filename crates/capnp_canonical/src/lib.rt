@@ -4,7 +4,7 @@
 //! `c/capnp_canonical.h` says how each is called. The answer is 0, or the number of a refusal.
 #![tactic(auto)]
 
-ghost use Rattle.std.specs.Prelude.{◌≡◌, ◌≢◌, ◌⊎◌, ◌≤◌, ⊤, ◌+◌, ◌*◌, ◌++◌, ℕ, List, codes, false, length, take};
+ghost use Rattle.std.specs.Prelude.{◌≡◌, ◌≢◌, ◌⊎◌, ◌≤◌, ⊤, ◌+◌, ◌*◌, ◌++◌, ℕ, List, codes, false, length, take, drop};
 ghost use Rattle.capnp_format.specs.Segments.{Segments};
 ghost use Rattle.capnp_framing.specs.Frames.{IsFrameOf};
 ghost use Rattle.capnp_framing.specs.Reading.{total};
@@ -14,7 +14,7 @@ ghost use Rattle.capnp_streams.specs.declared.streams.task.Command.{Command};
 ghost use Rattle.capnp_streams.specs.declared.streams.task.Form.{Form};
 ghost use Rattle.capnp_canonical.specs.Calls.{InFrame, InSegments, IsCopyOf, IsGranted, IsNumberWhere, RefusesBytes, RefusesMeaning, RefusesRoom, RefusesSegments, TestIs, limits_of, no_fault};
 ghost use Rattle.capnp_canonical.specs.Numbers.{wanted_room};
-ghost use Rattle.capnp_canonical.specs.Texts.{HoldsText, IsNameOf, IsReasonText};
+ghost use Rattle.capnp_canonical.specs.Texts.{PutsText, IsNameOf, IsReasonText};
 
 mod calls;
 mod fault;
@@ -32,7 +32,7 @@ use std::alloc::Global;
 
 /// Writes the canonical message of what a frame means, as a frame of one segment, to the front of a
 /// buffer, and gives its size in bytes. Where there is too little room the size that is wanted is given.
-/// Where it is refused nothing is written to the buffer.
+/// What stands behind it in the buffer stays, and where it is refused all of the buffer.
 #[unsafe(no_mangle)]
 pub extern "C" fn capnp_canonical_copy(
     alloc: Global,
@@ -49,6 +49,7 @@ pub extern "C" fn capnp_canonical_copy(
         × (RefusesBytes frame.now words r ⊎ InFrame frame.now words
         (λ S. RefusesRoom Form.Framed (limits_of nesting words) (length to.old) S r))) }
     ensures kept { result ≢ 0 → to.new ≡ to.old }
+    ensures behind { result ≡ 0 → drop written.new to.new ≡ drop written.new to.old }
     ensures granted { InFrame frame.now words
         (HasAnswerWithin (Command.Canon Form.Framed) (limits_of nesting words))
         → IsGranted result }
@@ -85,6 +86,7 @@ pub extern "C" fn capnp_canonical_copy_flat(
         × (RefusesBytes frame.now words r ⊎ InFrame frame.now words
         (λ S. RefusesRoom Form.Flat (limits_of nesting words) (length to.old) S r))) }
     ensures kept { result ≢ 0 → to.new ≡ to.old }
+    ensures behind { result ≡ 0 → drop written.new to.new ≡ drop written.new to.old }
     ensures granted { InFrame frame.now words
         (HasAnswerWithin (Command.Canon Form.Flat) (limits_of nesting words))
         → IsGranted result }
@@ -205,6 +207,7 @@ pub extern "C" fn capnp_canonical_segments_copy(
         × (RefusesSegments segments.now r ⊎ InSegments segments.now
         (λ S. RefusesRoom Form.Framed (limits_of nesting words) (length to.old) S r))) }
     ensures kept { result ≢ 0 → to.new ≡ to.old }
+    ensures behind { result ≡ 0 → drop written.new to.new ≡ drop written.new to.old }
     ensures granted { InSegments segments.now
         (HasAnswerWithin (Command.Canon Form.Framed) (limits_of nesting words))
         → IsGranted result }
@@ -238,6 +241,7 @@ pub extern "C" fn capnp_canonical_segments_copy_flat(
         × (RefusesSegments segments.now r ⊎ InSegments segments.now
         (λ S. RefusesRoom Form.Flat (limits_of nesting words) (length to.old) S r))) }
     ensures kept { result ≢ 0 → to.new ≡ to.old }
+    ensures behind { result ≡ 0 → drop written.new to.new ≡ drop written.new to.old }
     ensures granted { InSegments segments.now
         (HasAnswerWithin (Command.Canon Form.Flat) (limits_of nesting words))
         → IsGranted result }
@@ -320,7 +324,8 @@ pub extern "C" fn capnp_canonical_segments_size(
 /// length in bytes: 0 where the number has none.
 #[unsafe(no_mangle)]
 pub extern "C" fn capnp_canonical_name(answer: u32, to: &mut [u8]) -> usize
-    ensures { (text : List ℕ) × IsNameOf answer text × (result ≡ length text) × HoldsText text to.new }
+    ensures { (text : List ℕ) × IsNameOf answer text × (result ≡ length text)
+        × PutsText text to.old to.new }
 {
     put_text(name_of_number(answer), to)
 }
@@ -329,7 +334,7 @@ pub extern "C" fn capnp_canonical_name(answer: u32, to: &mut [u8]) -> usize
 #[unsafe(no_mangle)]
 pub extern "C" fn capnp_canonical_reason_text(reason: u32, to: &mut [u8]) -> usize
     ensures { (text : List ℕ) × IsReasonText reason text × (result ≡ length text)
-        × HoldsText text to.new }
+        × PutsText text to.old to.new }
 {
     put_text(text_of_reason(reason), to)
 }
@@ -346,7 +351,7 @@ pub extern "C" fn capnp_canonical_version() -> u32
 #[unsafe(no_mangle)]
 pub extern "C" fn capnp_canonical_version_text(to: &mut [u8]) -> usize
     ensures length { result ≡ length (codes "1.0.0") }
-    ensures text { HoldsText (codes "1.0.0") to.new }
+    ensures text { PutsText (codes "1.0.0") to.old to.new }
 {
     put_text("1.0.0", to)
 }

@@ -1,7 +1,7 @@
 //! The texts of numbers.
 ghost use Rattle.std.specs.Prelude.{◌≡◌, IfSome, IsNone, length};
 ghost use Rattle.capnp_canonical.specs.Numbers.{answer_name, answer_number};
-ghost use Rattle.capnp_canonical.specs.Texts.{HoldsText, IsNameOf, IsReasonText};
+ghost use Rattle.capnp_canonical.specs.Texts.{PutsText, IsNameOf, IsReasonText};
 ghost use Rattle.capnp_canonical.specs.declared.refusal.Refusal.{Refusal};
 
 use crate::refusal::Refusal;
@@ -113,11 +113,11 @@ pub fn text_of_reason(number: u32) -> &'static str
     }
 }
 
-/// Puts a text to the front of a buffer, and a byte of zero behind it, as far as there is room. Gives
-/// the length of the text in bytes.
+/// Puts a text to the front of a buffer, and a byte of zero behind it, as far as there is room. The
+/// bytes behind that stay. Gives the length of the text in bytes.
 pub fn put_text(text: &str, to: &mut [u8]) -> usize
     ensures length { result ≡ length text.now }
-    ensures text { HoldsText text.now to.new }
+    ensures text { PutsText text.now to.old to.new }
 {
     let bytes = text.as_bytes();
     if !to.is_empty() {

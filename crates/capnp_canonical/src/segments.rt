@@ -1,5 +1,5 @@
 //! A message whose segments the caller has.
-ghost use Rattle.std.specs.Prelude.{◌≡◌, ◌⊎◌, ◌≤◌, map, length, take, IfOk, IfErr, OnErr};
+ghost use Rattle.std.specs.Prelude.{◌≡◌, ◌⊎◌, ◌≤◌, map, length, take, drop, IfOk, IfErr, OnErr};
 ghost use Rattle.capnp_arena.specs.Limits.{AreSmall, IsSmall};
 ghost use Rattle.capnp_layout.specs.CanonicalMessages.{IsCanonicalMessage};
 ghost use Rattle.capnp_streams.specs.Messages.{HasSizeOf};
@@ -81,6 +81,7 @@ pub fn copy_segments(
     ensures copied { IfOk result (λ n. InSegments segments.now
         (λ S. IsCopyOf form (limits_of nesting words) S (take n to.new))) }
     ensures within { IfOk result (λ n. n ≤ length to.new) }
+    ensures behind { IfOk result (λ n. drop n to.new ≡ drop n to.old) }
     ensures refused { IfErr result (λ r. RefusesSegments segments.now r
         ⊎ InSegments segments.now
         (λ S. RefusesRoom form (limits_of nesting words) (length to.old) S r)) }
