@@ -45,7 +45,8 @@ default_copy id at old new = change of_default id at old new (unused None) (unus
 abbrev pub RefusesDefault : List ℕ → Change → ErrorKind → Type 0
 RefusesDefault bytes c k =
     HasFault of_default (default_root bytes) k
-    ⊎ (LacksRoom (value_original (default_root bytes)) c k × IsTooLarge (value_original (default_root bytes)) c)
+    ⊎ (LacksRoom (value_original (default_root bytes)) c k ×
+    IsTooLarge (value_original (default_root bytes)) c)
 
 -- A default is of fewer than 2^32 words.
 abbrev pub IsShortDefault : Option (Bor (List ℕ)) → Type 0
