@@ -136,6 +136,15 @@ impl<'a, A: BuilderArena> PointerBuilder<'a, A> {
             → IfOk result
             (λ b. TakesWords (A.view self.entry.arena.now) (A.view b.arena.now)
             self.entry.segment (size.data_words + size.pointers)) }
+        ensures empty { IsNull (built A.view self.entry) → IsIgnoredDefault default.entry
+            → size.data_words + size.pointers ≡ 0
+            → IfOk result (λ b.
+            word_at (A.view b.arena.now).words self.entry.segment self.entry.at
+            ≡ struct_word (2 ^ 30 - 1) 0 0) }
+        ensures behind { IsNull (built A.view self.entry) → IsIgnoredDefault default.entry
+            → IfOk result (λ b. StandsBehind (A.view self.entry.arena.now) self.entry.segment
+            (size.data_words + size.pointers) (start_of
+            (target (A.view b.arena.now).words self.entry.segment self.entry.at))) }
         ensures wide { IfOk result (λ b.
             (64 * size.data_words ≤ b.place.bits) × (size.pointers ≤ b.place.pointers)) }
         ensures granted { IfOk result (λ b. KeepsMemory (A.view self.entry.arena.now)
