@@ -9,6 +9,7 @@ ghost use Rattle.capnp_objects.specs.Source.{levels};
 ghost use Rattle.capnp_readers.specs.Readers.{reading};
 ghost use Rattle.capnp_layout.specs.Answers.{CoversRoot, message_root};
 ghost use Rattle.capnp_format.specs.Tree.{Tree};
+ghost use Rattle.capnp_arena.specs.Allocations.{one_more};
 ghost use Rattle.capnp_arena.specs.Limits.{IsSmall};
 ghost use Rattle.capnp_edits.specs.Edits.{IsApplied, TakesAll};
 ghost use Rattle.capnp_layout.specs.CanonicalMessages.{IsCanonicalMessage};
@@ -16,35 +17,38 @@ ghost use Rattle.capnp_streams.specs.Messages.{IsReadable, IsValueOf};
 ghost use Rattle.callers.specs.Copied.{HasCanonicalCopy};
 
 use capnp_arena::arena::{
-    BuilderArena, BuilderArenaImpl, HeapAllocator, ReaderArena, ReaderArenaImpl, ReaderOptions,
+    Allocator, BuilderArena, BuilderArenaImpl, ReaderArena, ReaderArenaImpl, ReaderOptions,
     ReaderSegments,
 };
 use capnp_builders::builders::PointerBuilder;
 use capnp_edits::edit::{Edit, apply_all};
 use capnp_readers::readers::PointerReader;
-use capnp_streams::messages::{canonical_of, is_canonical};
+use capnp_streams::messages::{canonical_with, is_canonical};
 use capnp_words::error::ErrorKind;
 use capnp_words::read_limiter::ReadLimiter;
 use std::alloc::Global;
 
-/// The canonical copy of a message ("Canonicalization").
+/// The canonical copy of a message ("Canonicalization"), with memory of an allocator.
 ///
-/// Want of memory aside, it succeeds where, and only where, the message has a value without capabilities
-/// within both limits. What it makes is one segment of exactly that value's canonical words.
-pub fn canonical_copy<S: ReaderSegments + Drop>(
+/// It succeeds where, and only where, the message has a value without capabilities within both limits,
+/// unless the allocator refuses memory, which it counts. What it makes is one segment of exactly that
+/// value's canonical words.
+pub fn canonical_copy<A: Allocator, S: ReaderSegments + Drop>(
     alloc: Global,
+    allocator: A,
     segments: S,
     limits: ReaderOptions,
-) -> Result<BuilderArenaImpl<HeapAllocator>, ErrorKind>
+) -> Result<BuilderArenaImpl<A>, (ErrorKind, A)>
     requires { IsSmall (S.segments segments) }
     ensures exactly_where { HasCanonicalCopy (message (S.segments segments)) limits
-        → IfErr result (λ k. k ≡ AllocationFailed) }
+        → IfErr result (λ e. (e.0 ≡ AllocationFailed)
+        × (A.refusals e.1 ≡ one_more (A.refusals allocator))) }
     ensures exactly_what { IfOk result (λ made. (t : Tree)
         × IsValueOf (message (S.segments segments)) limits t
-        × ((⟦<BuilderArenaImpl<HeapAllocator> as BuilderArena>⟧.view made).words
+        × ((⟦<BuilderArenaImpl<A> as BuilderArena>⟧.view made).words
         ≡ encoding (trim t) ∷ [])) }
 {
-    canonical_of(alloc, segments, limits)
+    canonical_with(alloc, allocator, segments, limits)
 }
 
 /// A reader of the root of a message, after its word is charged.
