@@ -44,7 +44,7 @@ WORDS = (
     ('ℤ', 'ℤ, `pos n`, `negsuc n`', 'whole numbers with a sign: n, and -(n + 1)'),
     ('Bool', '`true`, `false`, `&&`, <code>&#124;&#124;</code>, `not`', 'the two truth values; both, either, not'),
     ('nat_eq', '`nat_eq`, `nat_lt`, `nat_le`, `==`', 'whether two numbers are equal, the first is less, or at most the second'),
-    ('cond', '`cond b x y`, `if b then x else y`', 'x where b is true, else y'),
+    ('if◌then◌else◌', '`if b then x else y`', 'x where b is true, else y'),
     ('List', '`[]`, `x ∷ xs`, `xs ++ ys`', 'the empty list; x before xs; one list behind the other'),
     ('length', '`length`, `take n`, `drop n`, `map f`, `replicate n x`', 'of lists: the length, the first n, all but the first n, f of each, n times x'),
     ('get_or', '`get_or xs i d`', 'the element at index i, d where there is none'),
@@ -63,7 +63,7 @@ WORDS = (
     ('◌≡◌', '`≡`, `≢`, `<`, `≤`', 'equal, not equal, less, at most'),
     ('◌⊎◌', '`P × Q`, `P ⊎ Q`, `P → Q`, `P ↔ Q`', 'both; one of them; Q follows from P; each from the other'),
     ('', '`(x : A) → P`, `(x : A) × P`', 'P for every x; there is an x with P'),
-    ('', '`Unit {0}`, `⊤`, `⊥`, `Type 0`', 'what always holds, and what never does; `Type 0` as a result says that a definition is a statement'),
+    ('', '`⊤`, `⊥`, `Type 0`', 'what always holds, and what never does; `Type 0` as a result says that a definition is a statement'),
     ('', '`λ x. e`, `f x y`', 'the function that gives e for x; f called with x and y'),
     ('', '`record`, `data`', 'facts or values by name, all of which hold; the forms that a value, or the ways in which a statement, can have'),
     ('', '`abbrev`, `pub`, `unfoldable`, `mutual`', 'change nothing in the meaning'),
@@ -71,7 +71,7 @@ WORDS = (
 # Words that stand in a line of another one.
 BESIDE = {
     'zero', 'suc', 'pred', 'min', 'pos', 'negsuc', 'true', 'false', 'not', 'nat_lt', 'nat_le', '[]', 'take', 'drop', 'map', 'replicate', 'slice_range', 'Some',
-    'None', 'is_some', 'unwrap_or', 'ok_or', 'MatchOption', 'Ok', 'Err', 'result_ok', 'IfErr', 'IsTrue', 'All', 'w64', 'if◌then◌else◌', '⊤', 'to_le_bytes', 'IfSome', 'OnErr', 'IsSome',
+    'None', 'is_some', 'unwrap_or', 'ok_or', 'MatchOption', 'Ok', 'Err', 'result_ok', 'IfErr', 'IsTrue', 'All', 'w64', '⊤', 'to_le_bytes', 'IfSome', 'OnErr', 'IsSome',
 }
 MARK = re.compile(r'<!-- (clauses|function|item|definitions|definition|notation|count|tries)\b ?(.*?) ?-->')
 END = '<!-- end -->'
