@@ -389,6 +389,36 @@ impl<A: Allocator> BuilderArenaImpl<A> {
         (segments, allocator)
     }
 
+    /// Puts a segment behind the others, with none of its words allocated. Where there is no memory for
+    /// its row, it goes back to the allocator; a first that is kept in the arena needs none.
+    #[inline(always)]
+    #[tactic(auto, using(crate::proofs::KeptLemmas::keeping))]
+    fn put_last(&mut self, segment: A::Segment) -> Result<(), ErrorKind>
+        requires few { length (⟦<Self as ReaderArena>⟧.segments self.old) < max_segments }
+        requires fresh { IsFresh 0 (A.Segment.content segment) }
+        ensures put { OnOk result (GainsRow A.Segment.Segment
+            (arena_rows A.Segment.Segment A.first_in_arena self.old.listed self.old.apart)
+            (arena_rows A.Segment.Segment A.first_in_arena self.new.listed self.new.apart)
+            segment) }
+        ensures first { length (⟦<Self as ReaderArena>⟧.segments self.old) ≡ 0
+            → IsTrue A.first_in_arena → IsOk result }
+        ensures granted { OnOk result
+            (A.refusals self.new.allocator ≡ A.refusals self.old.allocator) }
+        ensures named { IfErr result (λ e. e ≡ AllocationFailed) }
+        ensures refused { OnErr result
+            (arena_rows A.Segment.Segment A.first_in_arena self.new.listed self.new.apart
+            ≡ arena_rows A.Segment.Segment A.first_in_arena self.old.listed self.old.apart) }
+        ensures counted { OnErr result
+            (A.refusals self.new.allocator ≡ one_more (A.refusals self.old.allocator)) }
+        ensures offers { A.offers self.new.allocator ≡ A.offers self.old.allocator }
+    {
+        if A::keeps_first_in_arena() {
+            put_behind(&mut self.allocator, &mut self.apart, segment)
+        } else {
+            put_in_list(&mut self.allocator, &mut self.listed, segment)
+        }
+    }
+
     /// Puts a segment of at least `min` words behind the others, with none of its words allocated.
     ///
     /// `MessageTooLarge(usize::MAX)` says that there are 4,294,967,295 segments, else
@@ -433,11 +463,7 @@ impl<A: Allocator> BuilderArenaImpl<A> {
             return Err(ErrorKind::MessageTooLarge(usize::MAX));
         }
         let segment = self.allocator.allocate_segment(min)?;
-        if A::keeps_first_in_arena() {
-            put_behind(&mut self.allocator, &mut self.apart, segment)
-        } else {
-            put_in_list(&mut self.allocator, &mut self.listed, segment)
-        }
+        self.put_last(segment)
     }
 
     /// The allocated words of each segment, within the limits of a reader. It takes memory where there is not exactly one segment, and want of it is `AllocationFailed`.
