@@ -243,10 +243,8 @@ fn output_apart<S: Segment>(alloc: Global, rows: &Rows<S>) -> Result<OutputSegme
     if rows.len() == 1 {
         return Ok(OutputSegments::SingleSegment(rows.first.allocated()));
     }
-    match allocated_of_each(alloc, rows) {
-        Ok(segments) => Ok(OutputSegments::MultiSegment(segments)),
-        Err(k) => Err(k),
-    }
+    let segments = allocated_of_each(alloc, rows)?;
+    Ok(OutputSegments::MultiSegment(segments))
 }
 
 /// What goes out of rows in a list.
@@ -264,10 +262,8 @@ fn output_of_list<S: Segment>(
     if list.rows.len() == 1 {
         return Ok(OutputSegments::SingleSegment(list.rows[0].allocated()));
     }
-    match allocated_of_list(alloc, list) {
-        Ok(segments) => Ok(OutputSegments::MultiSegment(segments)),
-        Err(k) => Err(k),
-    }
+    let segments = allocated_of_list(alloc, list)?;
+    Ok(OutputSegments::MultiSegment(segments))
 }
 
 /// How many words of rows are allocated.

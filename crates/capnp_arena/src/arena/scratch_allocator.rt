@@ -292,10 +292,8 @@ impl<'a> Allocator for ScratchSpaceHeapAllocator<'a> {
         if let Some(bytes) = self.lend(min_words) {
             return Ok(ScratchSegment::Borrowed(bytes));
         }
-        match self.heap.allocate_segment(min_words) {
-            Ok(segment) => Ok(ScratchSegment::Owned(segment)),
-            Err(kind) => Err(kind),
-        }
+        let segment = self.heap.allocate_segment(min_words)?;
+        Ok(ScratchSegment::Owned(segment))
     }
 
     fn deallocate_segment(&mut self, segment: ScratchSegment<&'a mut [u8]>, used_words: u32)

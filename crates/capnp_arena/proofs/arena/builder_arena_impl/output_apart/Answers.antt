@@ -5,7 +5,7 @@ use Rattle.capnp_arena.proofs.RowsLemmas.{shown_small}
 use Rattle.capnp_arena.proofs.ListedLemmas.{listed_few}
 use Rattle.capnp_arena.proofs.arena.builder_arena_impl.output_apart.Goals as goal
 
-pub returns-in-Ok-clause-small : goal.returns-in-Ok-clause-small
-returns-in-Ok-clause-small g c =
+pub returns-clause-small : goal.returns-clause-small
+returns-clause-small g c =
     let b = c.args.rows.now in
-    subst IsSmall (sym c.in-Ok.ensures.bytes) (shown_small g.S.Segment (all g.S.Segment b) (listed_few g.S.Segment b.there b.first b.others.items b.few))
+    subst IsSmall (sym c.in_ok-segments.ensures.bytes) (shown_small g.S.Segment (all g.S.Segment b) (listed_few g.S.Segment b.there b.first b.others.items b.few))
