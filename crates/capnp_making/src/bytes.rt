@@ -84,13 +84,9 @@ fn set_bytes<A: BuilderArena>(
     ensures at_end { OnOk result (LeadsToEnd (call_at id at (A.view arena.old) (A.view arena.new))
         (words_for 2 count)) }
 {
-    match init_list(arena, id, at, ElementSize::Byte, count) {
-        Ok(start) => {
-            write_bytes(arena, start, from);
-            Ok(())
-        }
-        Err(kind) => Err(kind),
-    }
+    let start = init_list(arena, id, at, ElementSize::Byte, count)?;
+    write_bytes(arena, start, from);
+    Ok(())
 }
 
 /// Writes bytes from a word on, which lie in its segment.

@@ -172,8 +172,8 @@ pub fn get_list<A: BuilderArena>(
         → result ≡ list_in (target (A.view arena.now).words id at) expected t }
     ensures named { IfErr result (λ k. is_unfound k ≡ true) }
 {
-    match follow_list(arena, id, at) {
-        Ok(Some(landing)) => {
+    match follow_list(arena, id, at)? {
+        Some(landing) => {
             let size = landing.word.list_element_size();
             if size == ElementSize::InlineComposite {
                 struct_list_at(arena, landing, expected)
@@ -181,8 +181,7 @@ pub fn get_list<A: BuilderArena>(
                 plain_list_at(landing, size, expected)
             }
         }
-        Ok(None) => Ok(None),
-        Err(k) => Err(k),
+        None => Ok(None),
     }
 }
 
@@ -321,8 +320,8 @@ pub fn get_data<A: BuilderArena>(
         → result ≡ data_in (target (A.view arena.now).words id at) t }
     ensures named { IfErr result (λ k. is_unfound k ≡ true) }
 {
-    match follow_list(arena, id, at) {
-        Ok(Some(landing)) => {
+    match follow_list(arena, id, at)? {
+        Some(landing) => {
             if landing.word.list_element_size() != ElementSize::Byte {
                 return Err(ErrorKind::ExistingListPointerIsNotByteSized);
             }
@@ -332,8 +331,7 @@ pub fn get_data<A: BuilderArena>(
                 length: landing.word.list_element_count(),
             }))
         }
-        Ok(None) => Ok(None),
-        Err(k) => Err(k),
+        None => Ok(None),
     }
 }
 
@@ -351,8 +349,8 @@ pub fn get_text<A: BuilderArena>(
         → result ≡ text_in (target (A.view arena.now).words id at) t }
     ensures named { IfErr result (λ k. is_unfound k ≡ true) }
 {
-    match get_data(arena, id, at) {
-        Ok(Some(bytes)) => {
+    match get_data(arena, id, at)? {
+        Some(bytes) => {
             if !is_terminated(arena, bytes) {
                 return Err(ErrorKind::TextBlobMissingNULTerminator);
             }
@@ -362,8 +360,7 @@ pub fn get_text<A: BuilderArena>(
                 length: bytes.length - 1,
             }))
         }
-        Ok(None) => Ok(None),
-        Err(k) => Err(k),
+        None => Ok(None),
     }
 }
 

@@ -112,15 +112,11 @@ fn init_bytes<A: BuilderArena>(
         (λ now r. MakesBytes r (call_at id at (A.view arena.old) (A.view now)) count size)
         result }
 {
-    match init_list(arena, id, at, ElementSize::Byte, count) {
-        Ok(start) => {
-            let bytes = ExistingBytes {
-                segment: start.segment,
-                start: start.at,
-                length: size,
-            };
-            Ok(bytes_mut(arena, bytes))
-        }
-        Err(kind) => Err(kind),
-    }
+    let start = init_list(arena, id, at, ElementSize::Byte, count)?;
+    let bytes = ExistingBytes {
+        segment: start.segment,
+        start: start.at,
+        length: size,
+    };
+    Ok(bytes_mut(arena, bytes))
 }

@@ -130,18 +130,14 @@ fn put_far<A: BuilderArena>(
     ensures named { IfErr result (IsRefusedFor (A.view arena.old) (A.view arena.new) amount) }
     ensures refused { OnErr result ((A.view arena.new).words ≡ (A.view arena.old).words) }
 {
-    match arena.allocate_anywhere(amount + 1) {
-        Ok((segment, pad)) => {
-            let word = pointer_to(shape, pad, pad + 1);
-            arena.set_word(segment, pad, word.0);
-            arena.set_word(id, at, WirePointer::new_far(pad, segment).0);
-            Ok(Start {
-                segment,
-                at: pad + 1,
-            })
-        }
-        Err(k) => Err(k),
-    }
+    let (segment, pad) = arena.allocate_anywhere(amount + 1)?;
+    let word = pointer_to(shape, pad, pad + 1);
+    arena.set_word(segment, pad, word.0);
+    arena.set_word(id, at, WirePointer::new_far(pad, segment).0);
+    Ok(Start {
+        segment,
+        at: pad + 1,
+    })
 }
 
 /// Makes the pointer at a place null, and zero what it held: its object, all below it, and its
@@ -333,14 +329,10 @@ pub fn make_struct_list<A: BuilderArena>(
 {
     let words = count * size.total();
     let shape = Shape::List(ElementSize::InlineComposite, words);
-    match put_object(arena, id, at, shape, 1 + words) {
-        Ok(start) => {
-            let tag = WirePointer::new_tag(count, size);
-            arena.set_word(start.segment, start.at, tag.0);
-            Ok(start)
-        }
-        Err(k) => Err(k),
-    }
+    let start = put_object(arena, id, at, shape, 1 + words)?;
+    let tag = WirePointer::new_tag(count, size);
+    arena.set_word(start.segment, start.at, tag.0);
+    Ok(start)
 }
 
 /// Makes a list of structs, all zero, where the pointer at a place leads; its first word is the tag.

@@ -10,7 +10,7 @@ use Rattle.capnp_making.proofs.Taken.{leads_behind, leads_to_end, takes_written}
 use Rattle.capnp_making.proofs.bytes.set_bytes.Goals as goal
 
 -- The bytes are written from where the list starts.
-writes : (g : _) (c : goal.After-write_bytes g) → WritesBytes (g.A.BuilderArena.view c.init_list.new.arena).words (g.A.BuilderArena.view c.write_bytes.new.arena).words c.in-Ok.start c.args.from.now
+writes : (g : _) (c : goal.After-write_bytes g) → WritesBytes (g.A.BuilderArena.view c.init_list.new.arena).words (g.A.BuilderArena.view c.write_bytes.new.arena).words c.in_ok-start.start c.args.from.now
 writes g c = record {
   old = g.A.ReaderArena.segments c.init_list.new.arena;
   new = g.A.ReaderArena.segments c.write_bytes.new.arena;
@@ -22,29 +22,29 @@ writes g c = record {
 }
 
 -- And the pointer still leads to the list.
-leads : (g : _) (c : goal.After-write_bytes g) → LeadsToStart (g.A.BuilderArena.view c.write_bytes.new.arena).words c.args.id c.args.at c.in-Ok.start
+leads : (g : _) (c : goal.After-write_bytes g) → LeadsToStart (g.A.BuilderArena.view c.write_bytes.new.arena).words c.args.id c.args.at c.in_ok-start.start
 leads g c =
     let M : Segments = (g.A.BuilderArena.view c.init_list.new.arena).words in
     let R : Segments = (g.A.BuilderArena.view c.write_bytes.new.arena).words in
-    let (N, pruned, made) = c.in-Ok.ensures.once_zeroed in
-    bytes_target M R c.args.id c.args.at c.args.count c.in-Ok.start c.args.from.now (writes g c) made.stored c.in-Ok.ensures.start.leads c.requires.enough
+    let (N, pruned, made) = c.in_ok-start.ensures.once_zeroed in
+    bytes_target M R c.args.id c.args.at c.args.count c.in_ok-start.start c.args.from.now (writes g c) made.stored c.in_ok-start.ensures.start.leads c.requires.enough
 
 -- The list is made of zero bytes, and then its first ones are written: no segment is longer or shorter for these.
-pub returns-in-Ok-clause-object : goal.returns-in-Ok-clause-object
-returns-in-Ok-clause-object g c =
+pub returns-clause-object : goal.returns-clause-object
+returns-clause-object g c =
     let old : View = g.A.BuilderArena.view c.args.arena.now in
     let mid : View = g.A.BuilderArena.view c.init_list.new.arena in
     let new : View = g.A.BuilderArena.view c.write_bytes.new.arena in
     let id : ℕ = c.args.id in
     let at : ℕ = c.args.at in
     let k : ℕ = words_for 2 c.args.count in
-    let e = c.in-Ok.ensures in
+    let e = c.in_ok-start.ensures in
     let enough : length c.args.from.now ≤ 8 * k = omega (arith, c.requires.enough) in
-    let long = written_lengths mid.words new.words c.in-Ok.start c.args.from.now k (writes g c) enough e.start.inside.1 in
+    let long = written_lengths mid.words new.words c.in_ok-start.start c.args.from.now k (writes g c) enough e.start.inside.1 in
     record {
-      made = λ t stored. bytes_written old.words mid.words new.words id at c.args.count t c.in-Ok.start c.args.from.now (writes g c) (e.object.made t stored) e.start.leads c.requires.enough;
-      behind = leads_behind old new id at k c.in-Ok.start (leads g c) e.start.behind;
-      zeroed = old_beside old mid.words new.words id at k c.in-Ok.start c.args.from.now e.object.zeroed e.start.behind (writes g c) enough e.start.inside.1;
+      made = λ t stored. bytes_written old.words mid.words new.words id at c.args.count t c.in_ok-start.start c.args.from.now (writes g c) (e.object.made t stored) e.start.leads c.requires.enough;
+      behind = leads_behind old new id at k c.in_ok-start.start (leads g c) e.start.behind;
+      zeroed = old_beside old mid.words new.words id at k c.in_ok-start.start c.args.from.now e.object.zeroed e.start.behind (writes g c) enough e.start.inside.1;
       memory = record {
         fits = λ room. refl;
         granted = search rules;
@@ -55,13 +55,13 @@ returns-in-Ok-clause-object g c =
       only = tt;
     }
 
-pub returns-in-Ok-clause-once_zeroed : goal.returns-in-Ok-clause-once_zeroed
-returns-in-Ok-clause-once_zeroed g c =
+pub returns-clause-once_zeroed : goal.returns-clause-once_zeroed
+returns-clause-once_zeroed g c =
     let M : Segments = (g.A.BuilderArena.view c.init_list.new.arena).words in
     let R : Segments = (g.A.BuilderArena.view c.write_bytes.new.arena).words in
-    let (N, pruned, made) = c.in-Ok.ensures.once_zeroed in
-    (N, pruned, bytes_written N M R c.args.id c.args.at c.args.count Null c.in-Ok.start c.args.from.now (writes g c) made c.in-Ok.ensures.start.leads c.requires.enough)
+    let (N, pruned, made) = c.in_ok-start.ensures.once_zeroed in
+    (N, pruned, bytes_written N M R c.args.id c.args.at c.args.count Null c.in_ok-start.start c.args.from.now (writes g c) made c.in_ok-start.ensures.start.leads c.requires.enough)
 
-pub returns-in-Ok-clause-at_end : goal.returns-in-Ok-clause-at_end
-returns-in-Ok-clause-at_end g c =
-    leads_to_end (g.A.BuilderArena.view c.args.arena.now) (g.A.BuilderArena.view c.write_bytes.new.arena) c.args.id c.args.at _ c.in-Ok.start (leads g c) c.in-Ok.ensures.at_end
+pub returns-clause-at_end : goal.returns-clause-at_end
+returns-clause-at_end g c =
+    leads_to_end (g.A.BuilderArena.view c.args.arena.now) (g.A.BuilderArena.view c.write_bytes.new.arena) c.args.id c.args.at _ c.in_ok-start.start (leads g c) c.in_ok-start.ensures.at_end

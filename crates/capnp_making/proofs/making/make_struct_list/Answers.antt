@@ -12,12 +12,12 @@ use Rattle.capnp_making.proofs.Taken.{takes_written}
 use Rattle.capnp_making.proofs.making.make_struct_list.Goals as goal
 
 -- The words of the list are taken, and its tag is written.
-pub returns-in-Ok-clause-made : goal.returns-in-Ok-clause-made
-returns-in-Ok-clause-made g c =
+pub returns-clause-made : goal.returns-clause-made
+returns-clause-made g c =
     let S : Segments = (g.A.BuilderArena.view c.args.arena.now).words in
     let M : Segments = (g.A.BuilderArena.view c.put_object.new.arena).words in
     let R : Segments = (g.A.BuilderArena.view c.set_word.new.self).words in
-    let (a, m, shape, is_segment, is_start) = c.in-Ok.ensures.made in
+    let (a, m, shape, is_segment, is_start) = c.in_ok-start.ensures.made in
     let x : ℕ = c.new_tag-tag.result.0 in
     let list : IsListMade S M c.args.id c.args.at a (c.args.count * (c.args.size.data_words + c.args.size.pointers)) =
     rw (sym c.total.ensures) (record { made = m; is_list = shape.0; is_size = shape.1; counts = shape.2 }) in
@@ -25,43 +25,43 @@ returns-in-Ok-clause-made g c =
     let written : R ≡ with_word M a.segment a.start x = ap words_in c.set_word.ensures ∙ ap₂ (λ u b. with_word M u b x) is_segment is_start in
     structs_made S M R c.args.id c.args.at c.args.size.data_words c.args.size.pointers c.args.count x a c.requires.place list tag written
 
-pub returns-in-Ok-clause-start : goal.returns-in-Ok-clause-start
-returns-in-Ok-clause-start g c =
+pub returns-clause-start : goal.returns-clause-start
+returns-clause-start g c =
     let S : Segments = (g.A.BuilderArena.view c.args.arena.now).words in
     let M : Segments = (g.A.BuilderArena.view c.put_object.new.arena).words in
-    let (a, m, shape, is_segment, is_start) = c.in-Ok.ensures.made in
+    let (a, m, shape, is_segment, is_start) = c.in_ok-start.ensures.made in
     let written = ap words_in c.set_word.ensures ∙ ap₂ (λ u b. with_word M u b c.new_tag-tag.result.0) is_segment is_start in
     let there = structs_lead S M _ c.args.id c.args.at (c.args.count * c.total.result) c.new_tag-tag.result.0 a c.requires.place m written in
     record {
       leads = (is_segment ∙ sym (ap (λ b. b.segment) there), is_start ∙ sym (ap (λ b. b.start) there));
       inside = search rules;
-      behind = rw c.total.ensures at c.in-Ok.ensures.behind;
+      behind = rw c.total.ensures at c.in_ok-start.ensures.behind;
     }
 
-pub returns-in-Ok-clause-memory : goal.returns-in-Ok-clause-memory
-returns-in-Ok-clause-memory g c =
-    let (a, m, shape, is_segment, is_start) = c.in-Ok.ensures.made in
+pub returns-clause-memory : goal.returns-clause-memory
+returns-clause-memory g c =
+    let (a, m, shape, is_segment, is_start) = c.in_ok-start.ensures.made in
     let M : Segments = (g.A.BuilderArena.view c.put_object.new.arena).words in
-    let put = word_put M (g.A.BuilderArena.view c.set_word.new.self).words c.in-Ok.start.segment c.in-Ok.start.at c.new_tag-tag.result.0 (rw (is_segment, is_start) (omega (arith, m.claims))) (ap words_in c.set_word.ensures) in
+    let put = word_put M (g.A.BuilderArena.view c.set_word.new.self).words c.in_ok-start.start.segment c.in_ok-start.start.at c.new_tag-tag.result.0 (rw (is_segment, is_start) (omega (arith, m.claims))) (ap words_in c.set_word.ensures) in
     record {
       fits = λ room. refl;
       granted = search rules;
-      taken = takes_written _ _ _ c.args.id _ (rw c.total.ensures at c.in-Ok.ensures.memory.taken) put.segments put.words;
+      taken = takes_written _ _ _ c.args.id _ (rw c.total.ensures at c.in_ok-start.ensures.memory.taken) put.segments put.words;
       named = tt;
     }
 
-pub returns-in-Ok-clause-near : goal.returns-in-Ok-clause-near
-returns-in-Ok-clause-near g c = λ room.
+pub returns-clause-near : goal.returns-clause-near
+returns-clause-near g c = λ room.
     (let S : Segments = (g.A.BuilderArena.view c.args.arena.now).words in
     let id : ℕ = c.args.id in
     let w : ℕ = c.args.size.data_words + c.args.size.pointers in
     let n : ℕ = c.args.count * c.total.result in
     let same : n ≡ c.args.count * w = ap (λ i. c.args.count * i) c.total.ensures in
     let fits : HasOwnRoom (g.A.BuilderArena.view c.args.arena.now) id (1 + n) = omega (arith, room, same) in
-    let start : StartsBehind S id c.in-Ok.start = c.in-Ok.ensures.at_end fits in
+    let start : StartsBehind S id c.in_ok-start.start = c.in_ok-start.ensures.at_end fits in
     let tag : ℕ = c.new_tag-tag.result.0 in
     let x : ℕ = list_word (offset_behind S id c.args.at) 7 n in
     let T : Segments = with_word S id c.args.at x in
-    ap words_in c.set_word.ensures ∙ ap₂ (λ M b. with_word M b c.in-Ok.start.at tag) (c.in-Ok.ensures.near fits) start.0
+    ap words_in c.set_word.ensures ∙ ap₂ (λ M b. with_word M b c.in_ok-start.start.at tag) (c.in_ok-start.ensures.near fits) start.0
     ∙ first_put T id n tag (start.1 ∙ sym (long_as S id c.args.at x))
     ∙ ap₂ (λ y m. with_object S id c.args.at (list_word (offset_behind S id c.args.at) 7 m) (y ∷ replicate m 0)) c.new_tag-tag.ensures.word same)
