@@ -1,6 +1,6 @@
 -- Bytes written over those of a segment, and the list of bytes that its words then are.
-use Rattle.std.proofs.Common.{◌≡◌, inl, inr, ◌⊎◌, ℕ, zero, suc, ◌+◌, ◌-◌, ◌*◌, ◌^◌, ◌<◌, ◌≤◌, List, [], ◌∷◌, ◌++◌, length, take, drop, get_or, slice_get, slice_set, slice_index_or, Some, refl, sym, ap, ap₂, ◌∙◌, subst, arith, length-take, length-drop, append_assoc, take-append-drop, take_at, drop_at}
-use Rattle.std.proofs.lemmas.List.{length-append, length-replicate, drop-append-le, get_or_append_left, get_or-append_right, length-set}
+use Rattle.std.proofs.Common.{◌≡◌, inl, inr, ℕ, zero, suc, ◌+◌, ◌-◌, ◌*◌, ◌^◌, ◌<◌, ◌≤◌, List, [], ◌∷◌, ◌++◌, length, take, drop, get_or, slice_get, slice_set, slice_index_or, Some, refl, sym, ap, ap₂, ◌∙◌, subst, arith, length-take, length-drop, append_assoc, take-append-drop}
+use Rattle.std.proofs.lemmas.List.{length-append, length-replicate, drop-append-le, get_or_append_left, get_or-append_right}
 use Rattle.std.proofs.lemmas.Bool.{cases_lt, cases_eq}
 use borrow.Rule.Slice.PartMut.{put_mid}
 use Rattle.capnp_format.specs.Bytes.{words_of, message}
@@ -10,6 +10,7 @@ use Rattle.capnp_format.specs.Segments.{Segments, segment, word_at, words_at}
 use Rattle.capnp_format.specs.Tree.{Tree, Flat}
 use Rattle.capnp_format.specs.Means.{Means}
 use Rattle.capnp_format.specs.Forest.{times, target, target_in}
+use Rattle.capnp_format.proofs.Bounds.{below_each}
 use Rattle.capnp_format.proofs.BytesLemmas.{words_are_bytes}
 use Rattle.capnp_format.proofs.Digits.{digits_again}
 use Rattle.capnp_format.proofs.WordsOf.{words, length-words_of, words_of-put_mid, words_of-part, small_word}
@@ -19,9 +20,11 @@ use Rattle.capnp_making.specs.declared.making.Start.{Start}
 use Rattle.capnp_making.specs.Made.{words_of_zero, LeadsToStart}
 use Rattle.capnp_making.specs.Zeroed.{row}
 use Rattle.capnp_making.specs.Stored.{IsStored, IsReplaced}
+use Rattle.capnp_making.proofs.PlacedLists.{from_zeros, packed_zeros}
 use Rattle.capnp_making.proofs.Replaced.{replaced_again}
+use Rattle.capnp_making.proofs.WordsPut.{words_put}
 use Rattle.capnp_making.proofs.Written.{SameLengths, SameBut, flat_written, flat_target}
-use Rattle.capnp_making.proofs.Zeros.{there, segment_here, word_here, word_other, lengths_kept, length-over, over_beside, in_row, of_row}
+use Rattle.capnp_making.proofs.Zeros.{there, in_row}
 
 -- a segment has the bytes of its words
 pub bytes_room : (S : Segments) (B : List (List ℕ)) (id : ℕ) (bs : List ℕ) → S ≡ message B → slice_get B id ≡ Some bs → 8 * length (segment S id) ≤ length bs
@@ -73,17 +76,9 @@ words_over bs a k xs l m =
     let count : k ≡ length (words_of N) = sym (length-words_of k N (omega (arith, long)) (omega (arith, long))) in
     ap words_of (over_words bs a k xs l m) ∙ words_of-put_mid a k bs N m long ∙ ap (λ j. take a (words_of bs) ++ (words_of N ++ drop j (drop a (words_of bs)))) count
 
--- numbers of zeros
-pub from_zeros : (n : ℕ) → from_digits 256 (words_of_zero n) ≡ 0
-from_zeros zero = refl
-from_zeros (suc n) = omega (arith, from_zeros n)
-
-no_words : (n : ℕ) → from_digits (2 ^ 64) (digits (2 ^ 64) n 0) ≡ 0
-no_words zero = refl
-no_words (suc n) = omega (arith, no_words n)
-
+-- the number of zero bytes in words
 pub zeros_packed : (n : ℕ) → from_digits (2 ^ 64) (packed 2 (words_of_zero n)) ≡ 0
-zeros_packed n = ap (λ x. from_digits (2 ^ 64) (digits (2 ^ 64) (words_for 2 (length (words_of_zero n))) x)) (from_zeros n) ∙ no_words (words_for 2 (length (words_of_zero n)))
+zeros_packed n = ap (from_digits (2 ^ 64)) (packed_zeros 2 n) ∙ from_zeros (2 ^ 64) (words_for 2 n)
 
 -- bytes whose number is zero
 zero_byte : (xs : List ℕ) (i : ℕ) → from_digits 256 xs ≡ 0 → get_or xs i 0 ≡ 0
@@ -107,43 +102,16 @@ small_bytes xs ys h e i = elim (cases_lt i (length xs)) [
   | inr l ↦ omega (arith, get_or-append_right xs ys (length xs) i 0 refl l, zero_byte ys (i - length xs) e)
 ]
 
-pub all_below : (limit : ℕ) (xs : List ℕ) → ((i : ℕ) → get_or xs i 0 < limit) → AreBelow limit xs
-all_below limit [] h = tt
-all_below limit (x ∷ xs) h = (h zero, all_below limit xs (λ i. h (suc i)))
-
 -- words written over others
 pub record AreWritten (S R : Segments) (s p n : ℕ) (ws : List ℕ) : Type 0 where
   pub long : SameLengths S R
   pub but : SameBut S R (row s p n)
   pub here : words_at R s p n ≡ ws
 
-pub words_written : (S R : Segments) (s p n : ℕ) (ws : List ℕ) → 0 < n → length ws ≡ n → p + n ≤ length (segment S s) → R ≡ with_words S s p ws → AreWritten S R s p n ws
-words_written S R s p n ws some long l e =
-    let W = segment S s in
-    let fits : p + length ws ≤ length W = omega arith in
-    let ok : s < length S = there S s p (omega arith) in
-    let made : List ℕ = overwritten W p ws in
-    let same : (v : ℕ) → length (segment (with_words S s p ws) v) ≡ length (segment S v) = lengths_kept S s made (length-over W p ws fits) in
-    subst (λ T. AreWritten S T s p n ws) (sym e) (record {
-      long = record { segments = length-set S s made; words = same };
-      but = λ v r h. elim (cases_eq v s) [
-        | inl f ↦ ap (λ u. word_at (with_words S s p ws) u r) f ∙ word_here S s r made ok ∙ over_beside W p ws r fits (beside r (rw f at h)) ∙ ap (λ u. word_at S u r) (sym f)
-        | inr f ↦ word_other S s v r made f
-      ];
-      here =
-          ap (λ xs. take n (drop p xs)) (segment_here S s made ok)
-          ∙ ap (take n) (drop_at (take p W) (ws ++ drop (length ws) (drop p W)) p (omega (arith, length-take p W)))
-          ∙ take_at ws (drop (length ws) (drop p W)) n long;
-    })
-  where
-    beside : (r : ℕ) → times (row s p n ∷ []) s r ≡ 0 → (r < p) ⊎ (p + length ws ≤ r)
-    beside r h = elim (cases_lt r p) [
-      | inl m ↦ inl m
-      | inr m ↦ elim (cases_lt r (p + n)) [
-        | inl k ↦ absurd (omega (arith, of_row s p n r m k))
-        | inr k ↦ inr (omega arith)
-      ]
-    ]
+pub words_written : (S R : Segments) (s p n : ℕ) (ws : List ℕ) → length ws ≡ n → p + n ≤ length (segment S s) → R ≡ with_words S s p ws → AreWritten S R s p n ws
+words_written S R s p n ws long l e =
+    let put = words_put S R s p ws (omega arith) e in
+    record { long = put.long; but = subst (λ m. SameBut S R (row s p m)) long put.kept; here = subst (λ m. words_at R s p m ≡ ws) long put.here }
 
 -- the words that a list of numbers takes lie in their segment
 pub flat_claims : (S : Segments) (s p size : ℕ) (ns : List ℕ) → IsStored S s p (Flat size ns) → (target S s p).start + words_for size (length ns) ≤ length (segment S (target S s p).segment)
@@ -167,8 +135,8 @@ packed_over bs a k n xs few wide room small zero_words =
     let nothing : from_digits 256 old ≡ 0 = sym (words_are_bytes k old (omega (arith, length-take (8 * k) (drop (8 * a) bs), length-drop (8 * a) bs))) ∙ ap (from_digits (2 ^ 64)) shows ∙ zeros_packed n in
     let rest : from_digits 256 (drop (length xs) old) ≡ 0 = zero_rest (length xs) old nothing in
     let number : from_digits 256 ms ≡ from_digits (2 ^ 64) (words_of new) =
-    same_number xs (words_of_zero (n - length xs)) (from_zeros (n - length xs)) ∙ sym (same_number xs (drop (length xs) old) rest) ∙ sym (words_are_bytes k new long) in
-    let below : AreBelow (2 ^ 64) (words_of new) = all_below (2 ^ 64) (words_of new) (small_word new (small_bytes xs (drop (length xs) old) small rest)) in
+    same_number xs (words_of_zero (n - length xs)) (from_zeros 256 (n - length xs)) ∙ sym (same_number xs (drop (length xs) old) rest) ∙ sym (words_are_bytes k new long) in
+    let below : AreBelow (2 ^ 64) (words_of new) = below_each (2 ^ 64) (words_of new) (small_word new (small_bytes xs (drop (length xs) old) small rest)) in
     let all : length ms ≡ n = omega (arith, few, length-append xs (words_of_zero (n - length xs)), length-replicate {A = ℕ} (n - length xs) 0) in
     (count, sym (ap₂ (λ j y. digits (2 ^ 64) j y) (ap (words_for 2) all ∙ wide) number ∙ digits_again (2 ^ 64) k (words_of new) below count))
 
@@ -204,7 +172,7 @@ words_there S R h xs k w some enough claim =
     let (shown, room, whole) = whole_words S R h xs h.segment h.at k w refl refl some enough claim in
     let new : List ℕ = over_front bs h.at k xs in
     let long : length new ≡ 8 * k = length-front bs h.at k xs enough room in
-    words_written S R h.segment h.at k (words_of new) (omega (arith, some, enough)) (length-words_of k new (omega (arith, long)) (omega (arith, long))) claim whole
+    words_written S R h.segment h.at k (words_of new) (length-words_of k new (omega (arith, long)) (omega (arith, long))) claim whole
 
 -- and no segment is longer or shorter
 pub written_lengths : (S R : Segments) (h : Start) (xs : List ℕ) (k : ℕ) → WritesBytes S R h xs → length xs ≤ 8 * k → h.at + k ≤ length (segment S h.segment) → SameLengths S R
@@ -241,8 +209,8 @@ some_bytes S R s p n h xs w x lead some few =
     let bs : List ℕ = slice_index_or w.old u [] in
     let (shown, room, whole) = whole_words S R h xs u a k w lead.0 lead.1 some (omega (arith, ln)) claim in
     let list = packed_over bs a k n xs few (ap (words_for 2) (sym ln)) room w.small (ap (λ ws. take k (drop a ws)) (sym shown) ∙ x.tidy) in
-    let done = words_written S R u a k (words_of (over_front bs a k xs)) (omega (arith, ln)) list.0 claim whole in
-    flat_written S R s p 2 (words_of_zero n) ms done.long x same_length (all_below 256 ms (small_bytes xs (words_of_zero (n - length xs)) w.small (from_zeros (n - length xs)))) done.but (done.here ∙ list.1)
+    let done = words_written S R u a k (words_of (over_front bs a k xs)) list.0 claim whole in
+    flat_written S R s p 2 (words_of_zero n) ms done.long x same_length (below_each 256 ms (small_bytes xs (words_of_zero (n - length xs)) w.small (from_zeros 256 (n - length xs)))) done.but (done.here ∙ list.1)
 
 -- no bytes over them
 no_bytes : (n : ℕ) (xs : List ℕ) → length xs ≡ 0 → Flat 2 (words_of_zero n) ≡ Flat 2 (xs ++ words_of_zero (n - length xs))

@@ -7,6 +7,7 @@ use borrow.Rule.Slice.PartMut.{put_mid}
 use Rattle.capnp_format.specs.Bytes.{words_of, message}
 use Rattle.capnp_format.specs.Numbers.{from_digits}
 use Rattle.capnp_format.specs.Value.{AreBelow}
+use Rattle.capnp_format.proofs.Bounds.{below_take}
 use Rattle.capnp_format.proofs.Digits.{from_digits-below}
 use Rattle.capnp_format.proofs.Lies.{pow_pow}
 use Rattle.capnp_format.proofs.WordsOf.{words, words_of-append}
@@ -30,11 +31,6 @@ low b d x l = ap (λ y. y % b) (add_comm d (b * x) ∙ ap (λ y. y + d) (mul_com
 
 pub high : (b d x : ℕ) → d < b → (d + b * x) / b ≡ x
 high b d x l = ap (λ y. y / b) (add_comm d (b * x) ∙ ap (λ y. y + d) (mul_comm b x)) ∙ div-mul-add x b d l
-
-below_take : (b k : ℕ) (ds : List ℕ) → AreBelow b ds → AreBelow b (take k ds)
-below_take b zero ds h = tt
-below_take b (suc k) [] h = tt
-below_take b (suc k) (d ∷ ds) h = (h.0, below_take b k ds h.1)
 
 pub below_drop : (b k : ℕ) (ds : List ℕ) → AreBelow b ds → AreBelow b (drop k ds)
 below_drop b zero ds h = h

@@ -1,5 +1,5 @@
 -- Values whose pointers are filled one after the other: at each moment the place means a value.
-use Rattle.std.proofs.Common.{◌≡◌, ℕ, zero, suc, ◌+◌, ◌<◌, ◌≤◌, List, [], ◌∷◌, ◌++◌, length, refl, sym, ap, ◌∙◌, subst, le_of_eq, arith}
+use Rattle.std.proofs.Common.{◌≡◌, ℕ, zero, suc, ◌+◌, ◌<◌, ◌≤◌, List, [], ◌∷◌, ◌++◌, length, refl, sym, ap, ◌∙◌, subst, arith}
 use Rattle.std.proofs.lemmas.List.{get_or_past}
 use Rattle.capnp_format.specs.Segments.{Segments, Grows, segment, word_at, Target}
 use Rattle.capnp_format.specs.Tree.{Tree, Null, Struct, Pointers, Trees, no_trees, tree, count}
@@ -106,16 +106,11 @@ filled_from F path S R s p q a b n X (tree u us) i h y len fits null (M, one, re
     (subst (λ z. AreFilled M R a.segment z us) (let e : b + i + 1 ≡ b + (i + 1) = omega arith in e) rest) in
     (replaced_again S M R s p (F X) (F (put_tree X i u)) _ first others.0, others.1)
 
--- the pointers of an object that has nulls are filled, the first ones or all
+-- the first pointers of an object that has nulls are filled
 pub holder_filled : (F : Trees → Tree) (path : ℕ → List Step) (S R : Segments) (s p q : ℕ) (a : Target) (b n : ℕ) (ts : Trees) → IsHolder F path s p q a b n → Holds F S s p a (nulls q) → count ts ≤ q → AreFilled S R a.segment b ts →
     IsReplaced S R s p (F (nulls q)) (F (put_from (nulls q) 0 ts)) × Leads R s p a
 holder_filled F path S R s p q a b n ts h y fits f =
     filled_from F path S R s p q a b n (nulls q) ts 0 h y (count-nulls q) (omega arith) (λ j l. null_at q j) (subst (λ z. AreFilled S R a.segment z ts) (let e : b ≡ b + 0 = omega arith in e) f)
-
-pub holder_full : (F : Trees → Tree) (path : ℕ → List Step) (S R : Segments) (s p q : ℕ) (a : Target) (b n : ℕ) (ts : Trees) → IsHolder F path s p q a b n → Holds F S s p a (nulls q) → count ts ≡ q → AreFilled S R a.segment b ts →
-    IsReplaced S R s p (F (nulls q)) (F ts) × Leads R s p a
-holder_full F path S R s p q a b n ts h y full f =
-    subst (λ X. IsReplaced S R s p (F (nulls q)) (F X) × Leads R s p a) (ap (λ k. put_from (nulls k) 0 ts) (sym full) ∙ put_all ts) (holder_filled F path S R s p q a b n ts h y (le_of_eq full) f)
 
 -- structs, and lists of pointers
 

@@ -1,16 +1,13 @@
 -- Pointers that are filled one after the other: one more, and what is kept ahead.
-use Rattle.std.proofs.Common.{◌≡◌, ℕ, suc, ◌+◌, ◌*◌, ◌<◌, ◌≤◌, List, [], ◌∷◌, length, refl, sym, ap, ◌∙◌, subst, le_trans, arith}
-use Rattle.std.proofs.lemmas.Bool.Decides.{nat_tests}
+use Rattle.std.proofs.Common.{◌≡◌, ℕ, suc, ◌+◌, ◌*◌, ◌<◌, ◌≤◌, List, length, refl, sym, ap, ◌∙◌, subst, le_trans, arith}
 use Rattle.capnp_format.specs.Segments.{Segments, Grows, segment, word_at}
 use Rattle.capnp_format.specs.Tree.{Tree, Null, Trees, no_trees, tree, Elements, no_elements, element, count, element_count}
-use Rattle.capnp_format.specs.Forest.{times}
 use Rattle.capnp_format.proofs.Children.{with_last}
 use Rattle.capnp_making.specs.Filled.{AreFilled, IsElementFilled, AreElementsFilled}
 use Rattle.capnp_making.specs.Stored.{IsReplaced}
-use Rattle.capnp_making.specs.Zeroed.{row}
 use Rattle.capnp_making.proofs.Extents.{not_held}
 use Rattle.capnp_making.proofs.WordsPut.{words_put}
-use Rattle.capnp_making.proofs.Written.{same_grows}
+use Rattle.capnp_making.proofs.Written.{past_row, same_grows}
 
 no_growth : (S : Segments) → Grows S S
 no_growth S = record { segments = omega arith; words = λ v. omega arith }
@@ -38,9 +35,6 @@ filled_more S R Q s p (tree t ts) u (M, first, rest) one =
 
 pub element_grows : (S R : Segments) (s p : ℕ) (ws : List ℕ) (ts : Trees) → IsElementFilled S R s p ws ts → p + length ws ≤ length (segment S s) → Grows S R
 element_grows S R s p ws ts f room = let laid = words_put S f.written s p ws room f.writes in grows_on (same_grows S f.written laid.long) (filled_grows f.written R s (p + length ws) ts f.filled)
-
-past_row : (s p n r : ℕ) → p + n ≤ r → times (row s p n ∷ []) s r ≡ 0
-past_row s p n r l = grind (arith, nat_tests)
 
 pub element_ahead : (S R : Segments) (s p : ℕ) (ws : List ℕ) (ts : Trees) (j : ℕ) → IsElementFilled S R s p ws ts → p + length ws ≤ length (segment S s) → p + length ws + count ts ≤ j → j < length (segment S s) → word_at R s j ≡ word_at S s j
 element_ahead S R s p ws ts j f room l place =

@@ -24,7 +24,7 @@ no_digits : (b n : ℕ) → digits b n 0 ≡ words_of_zero n
 no_digits b zero = refl
 no_digits b (suc n) = ap₂ (λ x xs. x ∷ xs) (zero_rest b) (ap (digits b n) (zero_part b) ∙ no_digits b n)
 
-from_zeros : (b n : ℕ) → from_digits b (words_of_zero n) ≡ 0
+pub from_zeros : (b n : ℕ) → from_digits b (words_of_zero n) ≡ 0
 from_zeros b zero = refl
 from_zeros b (suc n) = ap (λ x. 0 + b * x) (from_zeros b n) ∙ nothing b
   where
@@ -34,7 +34,7 @@ from_zeros b (suc n) = ap (λ x. 0 + b * x) (from_zeros b n) ∙ nothing b
 unpacked_zeros : (size n w : ℕ) → unpacked size n (words_of_zero w) ≡ words_of_zero n
 unpacked_zeros size n w = ap (digits (2 ^ element_bits size) n) (from_zeros (2 ^ 64) w) ∙ no_digits (2 ^ element_bits size) n
 
-packed_zeros : (size n : ℕ) → packed size (words_of_zero n) ≡ words_of_zero (words_for size n)
+pub packed_zeros : (size n : ℕ) → packed size (words_of_zero n) ≡ words_of_zero (words_for size n)
 packed_zeros size n =
     ap (digits (2 ^ 64) (words_for size (length (words_of_zero n)))) (from_zeros (2 ^ element_bits size) n) ∙ no_digits (2 ^ 64) (words_for size (length (words_of_zero n))) ∙ ap (λ k. words_of_zero (words_for size k)) (length-replicate {A = ℕ} n 0)
 

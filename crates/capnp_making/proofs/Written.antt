@@ -8,7 +8,7 @@ use Rattle.capnp_format.specs.Segments.{Segments, segment, word_at, words_at, Ha
 use Rattle.capnp_format.specs.Tree.{Tree, Struct, Flat, Structs, Trees, Elements, no_elements, element, count, element_count}
 use Rattle.capnp_format.specs.Word.{list_count}
 use Rattle.capnp_format.specs.Means.{Leads, IsTag, count_cost, Means, MeansAll, MeansElements}
-use Rattle.capnp_format.specs.Forest.{Interval, times, pads_of, object_of, target, target_in, cover, cover_all, cover_elements, IsTidy, AreTidy, AreTidyElements}
+use Rattle.capnp_format.specs.Forest.{Interval, times, pads_of, object_of, target, row, target_in, cover, cover_all, cover_elements, IsTidy, AreTidy, AreTidyElements}
 use Rattle.capnp_making.specs.Path.{struct_at, put_struct, word_interval, extent}
 use Rattle.capnp_making.specs.Stored.{IsStored, IsReplaced}
 use Rattle.capnp_format.specs.Segments.{Grows}
@@ -54,8 +54,8 @@ same_extent S R s p t u n c long a same m e y =
 shorter_object : (a : Target) (n m v r : ℕ) → n ≤ m → times (object_of a n ∷ []) v r ≤ times (object_of a m ∷ []) v r
 shorter_object a n m v r l = grind (arith, nat_tests)
 
-past_object : (a : Target) (n q : ℕ) → a.start + n ≤ q → times (object_of a n ∷ []) a.segment q ≡ 0
-past_object a n q l = grind (arith, nat_tests)
+pub past_row : (s p n r : ℕ) → p + n ≤ r → times (row s p n ∷ []) s r ≡ 0
+past_row s p n r l = grind (arith, nat_tests)
 
 -- what stays of an object that is written only in some of its words
 record Stays (S R : Segments) (s p : ℕ) (a : Target) (rest : List Interval) : Type 0 where
@@ -90,7 +90,7 @@ data_written S R s p ws vs ts long a len but here =
         let but_a = subst (λ b. SameBut S R (object_of b (length ws))) to_a but in
         let here_a = subst (λ b. HasWords R b.segment b.start vs) to_a here in
         let w = stays S R s p (length ws + count ts) a (object_of a (length ws)) (λ b. cover_all S b.segment (b.start + length ws) ts) grows o.leads_to (λ v r. shorter_object a (length ws) (length ws + count ts) v r (omega arith)) but_a x.apart in
-        let pointers_same : SameWords S R a.segment (a.start + length ws) (count ts) = λ q f h. but_a a.segment q (past_object a (length ws) q f) in
+        let pointers_same : SameWords S R a.segment (a.start + length ws) (count ts) = λ q f h. but_a a.segment q (past_row a.segment a.start (length ws) q f) in
         let kept = frame_all ts grows pointers_same w.rest_agrees (record { means = all }) in
         let moved : a.start + length vs ≡ a.start + length ws = omega arith in
         same_extent S R s p (Struct ws ts) (Struct vs ts) n c long x
