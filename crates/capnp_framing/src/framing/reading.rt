@@ -34,11 +34,11 @@ fn read_up_to<R: Input>(input: &mut R, to: &mut [u8]) -> Result<usize, DeviceFau
 {
     let mut n = 0;
     while n < to.len() {
-        match input.read(&mut to[n..]) {
-            Ok(0) => return Ok(n),
-            Ok(more) => n += more,
-            Err(fault) => return Err(fault),
+        let more = input.read(&mut to[n..])?;
+        if more == 0 {
+            return Ok(n);
         }
+        n += more;
     }
     Ok(n)
 }
@@ -118,15 +118,10 @@ fn read_front<R: Input>(input: &mut R, to: &mut Vec<u8>, size: usize) -> Result<
 {
     let mut n = 0;
     while n < size {
-        match make_room(to, n, size - n) {
-            Ok(()) => {}
-            Err(e) => return Err(e),
-        }
+        make_room(to, n, size - n)?;
         let end = size.min(to.len());
-        match fill_between(input, to.as_mut_slice(), n, end) {
-            Ok(()) => n = end,
-            Err(e) => return Err(e),
-        }
+        fill_between(input, to.as_mut_slice(), n, end)?;
+        n = end;
     }
     Ok(())
 }
@@ -227,21 +222,12 @@ pub fn read_into<R: Input>(
     }
     let count = told as usize;
     let size = 4 * count + 4 * ((count + 1) % 2);
-    match read_front(input, &mut into.table, size) {
-        Ok(()) => {}
-        Err(e) => return Err(e),
-    }
-    let words = match ends_of(into.table.as_slice(), count, &mut into.ends) {
-        Ok(words) => words,
-        Err(e) => return Err(e),
-    };
+    read_front(input, &mut into.table, size)?;
+    let words = ends_of(into.table.as_slice(), count, &mut into.ends)?;
     if words as u64 > max_words {
         return Err(FrameError::MessageTooLong(words as u64));
     }
-    match read_front(input, &mut into.words, 8 * words) {
-        Ok(()) => {}
-        Err(e) => return Err(e),
-    }
+    read_front(input, &mut into.words, 8 * words)?;
     are_bytes(into.table.as_slice());
     are_bytes(into.words.as_slice());
     into.count = count;
@@ -276,9 +262,9 @@ pub fn read<R: Input>(
     ensures taken { IfErr result (HasTaken R.Input input.old input.new) }
 {
     let mut owned = OwnedSegments::new(alloc);
-    match read_into(input, max_words, &mut owned) {
-        Ok(true) => Ok(Some(owned)),
-        Ok(false) => Ok(None),
-        Err(e) => Err(e),
+    if read_into(input, max_words, &mut owned)? {
+        Ok(Some(owned))
+    } else {
+        Ok(None)
     }
 }

@@ -1,5 +1,6 @@
 use Rattle.std.proofs.Common.{◌≡◌, ◌+◌, ◌*◌, ◌%◌, ◌++◌, ◌<◌, ℕ, List, rules, inl, inr, get_or, take, drop, sym, ap, subst, arith, take_all, ◌∙◌, take-append-drop}
 use Rattle.std.specs.Io.KnownBytes.{Consumes}
+use Rattle.std.proofs.lemmas.Result.{err_from_is_err_and}
 use Rattle.capnp_format.specs.Bytes.{message}
 use Rattle.capnp_format.specs.Segments.{Segments}
 use Rattle.capnp_framing.specs.Flat.{parts}
@@ -22,12 +23,12 @@ returns-then-words-max_words-clause-refused g c =
       four = omega (arith, c.read_up_to.auto.to);
       told = omega (arith, c.from-told.ensures, c.from_le_bytes.ensures);
       few = omega (arith, c.if-told.false);
-      room = c.in-Ok-read_front.ensures.long;
+      room = c.in_ok-read_front.ensures.long;
     } in
     let f = subst (λ (xs : List ℕ). Consumes (g.R.Input.remaining c.args.input.now) (g.R.Input.remaining c.read_up_to.new.input) xs) (take_all c.in-Ok-eq4.field-0 first (omega (arith, c.in-Ok-eq4.field-0-is, c.read_up_to.auto.to))) c.in-Ok-eq4.ensures.bytes in
-    let sum : c.in-Ok-ends_of.words ≡ words_told n (take size table ++ drop size table) = c.in-Ok-ends_of.ensures.sum ∙ ap (words_told n) (c.as_slice.ensures.value ∙ sym (take-append-drop size table)) in
-    inr (inr (read_so _ _ _ first (take size table) (λ _. Unit {0}) (λ bytes. NoFrame bytes c.args.max_words (MessageTooLong c.in-Ok-ends_of.words)) f c.in-Ok-read_front.ensures.bytes (whatever _)
-    (λ rest _. long_table rest (drop size table) c.in-Ok-ends_of.words c.args.max_words (front at) sum c.if-words-max_words.true)))
+    let sum : c.in_ok-words.words ≡ words_told n (take size table ++ drop size table) = c.in_ok-words.ensures.sum ∙ ap (words_told n) (c.as_slice.ensures.value ∙ sym (take-append-drop size table)) in
+    inr (inr (read_so _ _ _ first (take size table) (λ _. Unit {0}) (λ bytes. NoFrame bytes c.args.max_words (MessageTooLong c.in_ok-words.words)) f c.in_ok-read_front.ensures.bytes (whatever _)
+    (λ rest _. long_table rest (drop size table) c.in_ok-words.words c.args.max_words (front at) sum c.if-words-max_words.true)))
 
 pub returns-then-words-max_words-clause-taken : goal.returns-then-words-max_words-clause-taken
 returns-then-words-max_words-clause-taken g c =
@@ -39,16 +40,16 @@ returns-then-words-max_words-clause-taken g c =
       four = omega (arith, c.read_up_to.auto.to);
       told = omega (arith, c.from-told.ensures, c.from_le_bytes.ensures);
       few = omega (arith, c.if-told.false);
-      room = c.in-Ok-read_front.ensures.long;
+      room = c.in_ok-read_front.ensures.long;
     } in
     let f = subst (λ (xs : List ℕ). Consumes (g.R.Input.remaining c.args.input.now) (g.R.Input.remaining c.read_up_to.new.input) xs) (take_all c.in-Ok-eq4.field-0 first (omega (arith, c.in-Ok-eq4.field-0-is, c.read_up_to.auto.to))) c.in-Ok-eq4.ensures.bytes in
-    (first ++ take size table, table_long (front at), consumes_both _ _ _ first (take size table) f c.in-Ok-read_front.ensures.bytes)
+    (first ++ take size table, table_long (front at), consumes_both _ _ _ first (take size table) f c.in_ok-read_front.ensures.bytes)
 
 pub overflow_mul-words : goal.overflow_mul-words
-overflow_mul-words g c = omega (arith, c.in-Ok-ends_of.ensures.small, c.if-told.false)
+overflow_mul-words g c = omega (arith, c.in_ok-words.ensures.small, c.if-told.false)
 
-pub returns-in-Err-read_front-2-clause-refused : goal.returns-in-Err-read_front-2-clause-refused
-returns-in-Err-read_front-2-clause-refused g c =
+pub returns-in_err-read_front-2-clause-refused : goal.returns-in_err-read_front-2-clause-refused
+returns-in_err-read_front-2-clause-refused g c =
     let first : List ℕ = c.read_up_to.new.to in
     let n : ℕ = c.from-told.result + 1 in
     let size : ℕ = 4 * n + 4 * ((n + 1) % 2) in
@@ -57,18 +58,19 @@ returns-in-Err-read_front-2-clause-refused g c =
       four = omega (arith, c.read_up_to.auto.to);
       told = omega (arith, c.from-told.ensures, c.from_le_bytes.ensures);
       few = omega (arith, c.if-told.false);
-      room = c.in-Ok-read_front.ensures.long;
+      room = c.in_ok-read_front.ensures.long;
     } in
     let f = subst (λ (xs : List ℕ). Consumes (g.R.Input.remaining c.args.input.now) (g.R.Input.remaining c.read_up_to.new.input) xs) (take_all c.in-Ok-eq4.field-0 first (omega (arith, c.in-Ok-eq4.field-0-is, c.read_up_to.auto.to))) c.in-Ok-eq4.ensures.bytes in
-    let sum : c.in-Ok-ends_of.words ≡ words_told n (take size table ++ drop size table) = c.in-Ok-ends_of.ensures.sum ∙ ap (words_told n) (c.as_slice.ensures.value ∙ sym (take-append-drop size table)) in
-    elim c.in-Err-read_front-2.ensures.refused [
+    let sum : c.in_ok-words.words ≡ words_told n (take size table ++ drop size table) = c.in_ok-words.ensures.sum ∙ ap (words_told n) (c.as_slice.ensures.value ∙ sym (take-append-drop size table)) in
+    let p = err_from_is_err_and c.from_residual-in_err-read_front-2.result c.from_residual-in_err-read_front-2.ensures.1 in
+    rw (p.1, p.2) (elim c.in_err-read_front-2.ensures.refused [
       | inl a ↦ inl a
       | inr u ↦ elim u [
-        | inl cut ↦ inr (inr (read_so _ _ _ first (take size table) _ (λ bytes. NoFrame bytes c.args.max_words c.in-Err-read_front-2.e) f c.in-Ok-read_front.ensures.bytes cut.1
-            (λ rest less. subst (λ e. NoFrame (first ++ (take size table ++ rest)) c.args.max_words e) (sym cut.0) (cut_table rest (drop size table) c.in-Ok-ends_of.words c.args.max_words (front at) sum (omega (arith, c.if-words-max_words.false)) less))))
+        | inl cut ↦ inr (inr (read_so _ _ _ first (take size table) _ _ f c.in_ok-read_front.ensures.bytes cut.1
+            (λ rest less. subst (λ e. NoFrame (first ++ (take size table ++ rest)) c.args.max_words e) (sym cut.0) (cut_table rest (drop size table) c.in_ok-words.words c.args.max_words (front at) sum (omega (arith, c.if-words-max_words.false)) less))))
         | inr failed ↦ inr (inl failed)
       ]
-    ]
+    ])
 
 pub returns : goal.returns
 returns g c =
@@ -82,25 +84,25 @@ returns g c =
       four = omega (arith, c.read_up_to.auto.to);
       told = omega (arith, c.from-told.ensures, c.from_le_bytes.ensures);
       few = omega (arith, c.if-told.false);
-      room = c.in-Ok-read_front.ensures.long;
+      room = c.in_ok-read_front.ensures.long;
     } in
     let f = subst (λ (xs : List ℕ). Consumes (g.R.Input.remaining c.args.input.now) (g.R.Input.remaining c.read_up_to.new.input) xs) (take_all c.in-Ok-eq4.field-0 first (omega (arith, c.in-Ok-eq4.field-0-is, c.read_up_to.auto.to))) c.in-Ok-eq4.ensures.bytes in
-    let sum : c.in-Ok-ends_of.words ≡ words_told n table = c.in-Ok-ends_of.ensures.sum ∙ ap (words_told n) c.as_slice.ensures.value in
+    let sum : c.in_ok-words.words ≡ words_told n table = c.in_ok-words.ensures.sum ∙ ap (words_told n) c.as_slice.ensures.value in
     let below = subst (λ (bs : List ℕ). (i : ℕ) → get_or bs i 0 < 256) c.as_slice-2.ensures.value c.are_bytes-2.ensures in
     let behind = subst (λ (bs : List ℕ). (i : ℕ) → get_or bs i 0 < 256) c.as_slice-3.ensures.value c.are_bytes-3.ensures in
-    let cut : AreParts n table words S = are_parts n table words below behind (omega (arith, c.in-Ok-read_front.ensures.long)) (omega (arith, sum, c.in-Ok-read_front-2.ensures.long)) in
-    let whole : take (8 * c.in-Ok-ends_of.words) words ≡ contents S = ap (λ k. take (8 * k) words) sum ∙ sym cut.is in
+    let cut : AreParts n table words S = are_parts n table words below behind (omega (arith, c.in_ok-read_front.ensures.long)) (omega (arith, sum, c.in_ok-read_front-2.ensures.long)) in
+    let whole : take (8 * c.in_ok-words.words) words ≡ contents S = ap (λ k. take (8 * k) words) sum ∙ sym cut.is in
     record {
       end = search rules;
       read = λ _. record {
         bytes = first ++ (take size table ++ contents S);
-        consumed = consumes_both _ _ _ first (take size table ++ contents S) f (consumes_both _ _ _ (take size table) (contents S) c.in-Ok-read_front.ensures.bytes
-            (subst (λ (xs : List ℕ). Consumes (g.R.Input.remaining c.read_front.new.input) (g.R.Input.remaining c.read_front-2.new.input) xs) whole c.in-Ok-read_front-2.ensures.bytes));
+        consumed = consumes_both _ _ _ first (take size table ++ contents S) f (consumes_both _ _ _ (take size table) (contents S) c.in_ok-read_front.ensures.bytes
+            (subst (λ (xs : List ℕ). Consumes (g.R.Input.remaining c.read_front.new.input) (g.R.Input.remaining c.read_front-2.new.input) xs) whole c.in_ok-read_front-2.ensures.bytes));
         framed = owned_frame at c.are_bytes.ensures cut;
       };
       most = λ _. omega (arith, cut.sum, sum, c.if-words-max_words.false);
       small = owned_small at cut;
-      whole = keeps_whole_both _ _ _ (keeps_whole_both _ _ _ c.in-Ok-eq4.ensures.whole c.in-Ok-read_front.ensures.whole) c.in-Ok-read_front-2.ensures.whole;
+      whole = keeps_whole_both _ _ _ (keeps_whole_both _ _ _ c.in-Ok-eq4.ensures.whole c.in_ok-read_front.ensures.whole) c.in_ok-read_front-2.ensures.whole;
       works = search rules;
       refused = search rules;
       failed = search rules;
