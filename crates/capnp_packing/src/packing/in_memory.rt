@@ -29,10 +29,7 @@ pub fn pack(alloc: Global, words: &[u8]) -> Result<Vec<u8>, PackingError>
     let mut packed = Vec::new(alloc);
     let mut taken = 0;
     while taken < words.len() {
-        match pack_more(&mut packed, &words[taken..]) {
-            Ok(n) => taken += n,
-            Err(error) => return Err(error),
-        }
+        taken += pack_more(&mut packed, &words[taken..])?;
     }
     Ok(packed)
 }
@@ -70,11 +67,12 @@ pub fn unpack(alloc: Global, packed: &[u8], max_bytes: usize) -> Result<Vec<u8>,
     let mut bytes = Vec::new(alloc);
     while bytes.len() <= max_bytes {
         let most = (STEP - 1).min(max_bytes - bytes.len()) + 1;
-        match unpack_more(&mut input, &mut bytes, most) {
-            Ok(0) if input.is_whole() => return Ok(bytes),
-            Ok(0) => return Err(PackingError::Truncated),
-            Ok(_) => {}
-            Err(error) => return Err(error),
+        let n = unpack_more(&mut input, &mut bytes, most)?;
+        if n == 0 {
+            if input.is_whole() {
+                return Ok(bytes);
+            }
+            return Err(PackingError::Truncated);
         }
     }
     Err(PackingError::TooLong)

@@ -55,11 +55,8 @@ impl<R: Input> UnpackingInput<R> {
             (⟦<Self as Input>⟧.has_failed self.new ≡ ⟦<Self as Input>⟧.has_failed self.old) }
         ensures fails { OnErr result (⟦<Self as Input>⟧.has_failed self.new ≡ true) }
     {
-        match self.unpack(&mut [0]) {
-            Ok(0) => Ok(self.is_whole()),
-            Ok(_) => Ok(false),
-            Err(fault) => Err(fault),
-        }
+        let n = self.unpack(&mut [0])?;
+        Ok(n == 0 && self.is_whole())
     }
 
     /// Whether what was read so far ends before a tag, with no byte due: not within a word or

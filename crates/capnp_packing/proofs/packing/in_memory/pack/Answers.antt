@@ -12,7 +12,7 @@ loop-taken-init c = record {
 
 pub loop-taken-preserved : goal.loop-taken-preserved
 loop-taken-preserved c = record {
-  packed = part_packed c.loop-taken.packed.items _ c.in-Ok.ensures.packed.0 c.args.words.now c.loop-taken.taken c.in-Ok.n c.in-Ok.ensures.packed.1 c.loop-taken.invariant.packed c.in-Ok.ensures.packed.2;
+  packed = part_packed c.loop-taken.packed.items _ c.in_ok-taken.ensures.packed.0 c.args.words.now c.loop-taken.taken c.in_ok-taken.field-0 c.in_ok-taken.ensures.packed.1 c.loop-taken.invariant.packed c.in_ok-taken.ensures.packed.2;
   words = search rules;
   within = search rules;
 }
