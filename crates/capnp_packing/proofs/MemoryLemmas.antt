@@ -1,5 +1,5 @@
 -- Words packed and packed bytes unpacked in memory, part by part.
-use Rattle.std.proofs.Common.{◌≡◌, ℕ, ◌+◌, ◌-◌, ◌≤◌, List, ◌++◌, replicate, length, take, drop, take-add, take_all, Option, Some, None, sym, ap, ◌∙◌, arith, append-nil, length-append}
+use Rattle.std.proofs.Common.{◌≡◌, ℕ, ◌+◌, ◌-◌, ◌≤◌, List, ◌++◌, length, take, drop, take-add, take_all, Option, Some, None, sym, ◌∙◌, append-nil}
 use Rattle.std.specs.Io.KnownBytes.{IsAtEnd}
 use Rattle.std.proofs.lemmas.List.{take_rest}
 use Rattle.capnp_packing.specs.Packing.{Packs, place_at_end, unpacked_bytes}
@@ -24,12 +24,6 @@ unfolding unpacked_bytes place_at_end
 all_unpacked packed bytes due place None none end h = absurd h.0
 all_unpacked packed bytes due place (Some rest) none end h =
     let last = rw (none, end) at h in (last.0 ∙ append-nil bytes, sym last.1)
-
-pub some_unpacked : (packed bytes : List ℕ) (due : ℕ) (place : Place) (known : Option (List ℕ))
-    → Unpacks 0 Tag (Some packed) due place known bytes → length bytes ≤ length (unpacked_bytes Tag packed)
-some_unpacked packed bytes due place None h = absurd h.0
-some_unpacked packed bytes due place (Some rest) h =
-    omega (arith, ap length h.0, length-append bytes (replicate due 0 ++ unpacked_bytes place rest))
 
 pub more_unpacked : (packed old new : List ℕ) (due tail : ℕ) (place next : Place) (known rest : Option (List ℕ))
     (more : List ℕ) → new ≡ old ++ more → Unpacks 0 Tag (Some packed) due place known old

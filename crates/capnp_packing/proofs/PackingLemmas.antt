@@ -1,54 +1,13 @@
 -- Packed bytes unpack to what was packed, also behind what was packed before.
-use Rattle.std.proofs.Common.{
-  ◌≡◌,
-  ℕ,
-  zero,
-  suc,
-  ◌+◌,
-  ◌-◌,
-  ◌*◌,
-  ◌/◌,
-  ◌%◌,
-  ◌<◌,
-  ◌≤◌,
-  ◌≢◌,
-  List,
-  [],
-  ◌∷◌,
-  ◌++◌,
-  replicate,
-  length,
-  take,
-  drop,
-  set,
-  take-add,
-  take_all,
-  drop-cons,
-  ap₂,
-  Option,
-  Some,
-  None,
-  refl,
-  sym,
-  ap,
-  ◌∙◌,
-  arith,
-  add-one,
-  append_assoc,
-  append-nil,
-  length-append,
-  length-drop,
-  length-set,
-  length-take,
-}
-use Rattle.std.specs.Prelude.{cond, nat_eq, slice_index, slice_range}
+use Rattle.std.proofs.Common.{◌≡◌, ℕ, zero, suc, ◌+◌, ◌-◌, ◌*◌, ◌/◌, ◌%◌, ◌<◌, ◌≤◌, ◌≢◌, List, [], ◌∷◌, ◌++◌, replicate, length, take, drop, set, take-add, take_all, ap₂, Option, Some, None, refl, sym, ap, ◌∙◌, arith, add-one, append_assoc, append-nil, length-append, length-drop, length-set, length-take}
+use Rattle.std.specs.Prelude.{cond, if◌then◌else◌, nat_eq, slice_range}
 use Rattle.std.specs.Io.KnownBytes.{Appends, Keeps, append_known}
 use Rattle.std.proofs.KnownBytes.{Keeps-refl, Keeps-trans, append_known-moved}
 use Rattle.std.proofs.Math.Dec.{eqb-suc-zero}
 use Rattle.std.proofs.lemmas.Bool.{ne_eqb}
-use Rattle.std.proofs.lemmas.List.{nil_from_length, replicate-append-replicate, take-set, take_more_set, take_rest}
+use Rattle.std.proofs.lemmas.List.{nil_from_length, replicate-append-replicate, take_more_set, take_rest}
 use borrow.Rule.Slice.PartMut.{put_mid, post_of}
-use Rattle.capnp_packing.specs.Packing.{IsWhole, Packs, known_at, lead, nonzero_bytes, place_at_end, place_within, tag_of_word, unpacked_bytes, unpacked_known}
+use Rattle.capnp_packing.specs.Packing.{IsWhole, Packs, is_tag, lead, nonzero_bytes, place_at_end, place_within, tag_of_word, unpacked_bytes, unpacked_known}
 use Rattle.capnp_packing.proofs.UnitLemmas.{length_front, parts_of, written}
 use Rattle.capnp_packing.proofs.UnpackingLemmas.{
   leads_full,
@@ -123,7 +82,7 @@ gives_full word run n l m = let leads = leads_full word run n l m in (leads.0 �
 -- ---- behind what was packed before
 
 grown : (place : Place) (old more bytes : List ℕ) → place_at_end Tag old ≡ place → Packs more bytes
-    → Appends (known_at place (unpacked_bytes Tag old)) (unpacked_known (Some (old ++ more))) bytes
+    → Appends (if is_tag place then Some (unpacked_bytes Tag old) else None) (unpacked_known (Some (old ++ more))) bytes
 grown Tag old more bytes e g =
     rw (place_at_end-append Tag old more, e, g.1) (unpacked-append Tag old more ∙ rw (e, g.0) refl)
 grown (Kept bits left) old more bytes e g = tt
@@ -253,24 +212,7 @@ word_packed to from new n t k room l is some few inside there =
     ∙ ap (λ x. x ∷ nonzero_bytes (take 8 from)) is in
     rw packed (gives_word (take 8 from) (length_front 8 from l) (λ h. some (is ∙ h)) (λ h. few (is ∙ h)))
 
--- the bytes of a word that aren't zero, one by one
-pub byte_kept : (to word : List ℕ) (i n b : ℕ) → i < length word → n < length to → b ≡ slice_index word i → b ≢ 0
-    → take n to ++ nonzero_bytes (drop i word) ≡ nonzero_bytes word → take (n + 1) (set to n b) ++ nonzero_bytes (drop (i + 1) word) ≡ nonzero_bytes word
-byte_kept to word i n b h room is some before =
-    let next : nonzero_bytes (drop i word) ≡ b ∷ nonzero_bytes (drop (i + 1) word) =
-    ap nonzero_bytes (drop-cons word i 0 h)
-    ∙ rw (← is, ne_eqb b 0 some, add-one i) refl in
-    ap (λ l. l ++ nonzero_bytes (drop (i + 1) word)) (take_more_set to n b room)
-    ∙ append_assoc (take n to) (b ∷ []) (nonzero_bytes (drop (i + 1) word))
-    ∙ ap (λ l. take n to ++ l) (sym next) ∙ before
-
-pub zero_kept : (to word : List ℕ) (i n b : ℕ) → i < length word → b ≡ slice_index word i → b ≡ 0
-    → take n to ++ nonzero_bytes (drop i word) ≡ nonzero_bytes word → take n (set to n b) ++ nonzero_bytes (drop (i + 1) word) ≡ nonzero_bytes word
-zero_kept to word i n b h is none before =
-    let next : nonzero_bytes (drop i word) ≡ nonzero_bytes (drop (i + 1) word) =
-    ap nonzero_bytes (drop-cons word i 0 h) ∙ rw (← is, none, add-one i) refl in
-    ap (λ l. l ++ nonzero_bytes (drop (i + 1) word)) (take-set to n b) ∙ ap (λ l. take n to ++ l) (sym next) ∙ before
-
+-- the bytes of a word that aren't zero, behind its last one
 pub all_kept : (to word : List ℕ) (i n : ℕ) → length word ≤ i → take n to ++ nonzero_bytes (drop i word) ≡ nonzero_bytes word
     → take n to ≡ nonzero_bytes word
 all_kept to word i n h before =

@@ -1,12 +1,12 @@
 -- What packed bytes give is the front of what is to come.
 use Rattle.std.proofs.Common.{◌≡◌, ℕ, zero, suc, ◌+◌, ◌-◌, ◌*◌, ◌/◌, ◌%◌, ◌<◌, ◌≤◌, ◌≢◌, List, [], ◌∷◌, ◌++◌, replicate, length, take, Option, Some, None, refl, sym, ap, ◌∙◌, subst, arith, add-one, set, append_assoc, append-nil}
-use Rattle.std.specs.Prelude.{cond, nat_eq, slice_index}
+use Rattle.std.specs.Prelude.{cond, nat_eq, option_to_list, slice_index}
 use Rattle.std.proofs.Math.Dec.{eqb-suc-zero}
 use Rattle.std.specs.Io.KnownBytes.{Consumes, IsAtEnd, Keeps}
 use Rattle.std.proofs.lemmas.Bool.{ne_eqb}
 use Rattle.std.proofs.lemmas.Bool.Decides.{nat_tests}
 use Rattle.std.proofs.lemmas.List.{replicate-append-replicate}
-use Rattle.capnp_packing.specs.Packing.{GivesAndLeads, KeepsEnd, all_given, byte_given, byte_of_option, bytes_behind, expanded, lead, ones, place_after, place_at_end, place_behind, place_within, unpacked_bytes, zeros_given}
+use Rattle.capnp_packing.specs.Packing.{GivesAndLeads, KeepsEnd, all_given, byte_given, bytes_behind, expanded, lead, ones, place_after, place_at_end, place_behind, place_within, unpacked_bytes, zeros_given}
 use Rattle.capnp_packing.specs.declared.packing.place.Place.{Place}
 use Rattle.capnp_packing.specs.declared.packing.place.Place.TheVariants.{Tag, Kept, Zeros, Whole, Count, Raw}
 
@@ -114,32 +114,23 @@ then_none due more last place next end a b c xs p q =
 -- ---- one packed byte
 
 pub leads_byte : (place : Place) (b : ℕ)
-    → GivesAndLeads place (b ∷ []) (byte_of_option (byte_given place b)) (zeros_given place b) (place_after place b)
+    → GivesAndLeads place (b ∷ []) (option_to_list (byte_given place b)) (zeros_given place b) (place_after place b)
 unfolding unpacked_bytes place_at_end
 leads_byte place b = (append-nil (all_given place b), refl)
 
 pub byte_taken : (due more tail : ℕ) (first place next : Place) (all old mid new : Option (List ℕ)) (b : ℕ)
     (itself : Option ℕ) → more ≡ 0 → itself ≡ byte_given place b → tail ≡ zeros_given place b → next ≡ place_after place b
     → Unpacks due first all more place old [] → Keeps old mid → Consumes mid new (b ∷ [])
-    → Unpacks due first all tail next new (byte_of_option itself)
+    → Unpacks due first all tail next new (option_to_list itself)
 byte_taken due more tail first place next all old mid new b itself none i t n before kept taken =
     rw (i, t, n)
-    (then_takes due 0 (zeros_given place b) first place (place_after place b) all mid new [] (byte_of_option (byte_given place b))
+    (then_takes due 0 (zeros_given place b) first place (place_after place b) all mid new [] (option_to_list (byte_given place b))
     (then_none due 0 0 first place place all old mid [] (rw none at before) (takes_none 0 place old mid kept))
     (takes place (place_after place b) (b ∷ []) _ _ mid new (leads_byte place b) taken))
 
 -- How many packed bytes give nothing at most, where so many zeros are due.
 abbrev pub idle : ℕ → Place → ℕ
 idle due place = cond (nat_eq due 0) (suc (rank place)) 0
-
-pub idle_less : (place : Place) (b : ℕ) → byte_given place b ≡ None
-    → idle (zeros_given place b) (place_after place b) < suc (rank place)
-idle_less Tag b h = grind (arith, nat_tests)
-idle_less (Kept bits left) b h = absurd (cc)
-idle_less Zeros b h = grind (arith, nat_tests)
-idle_less (Whole left) b h = absurd (cc)
-idle_less Count b h = grind (arith, nat_tests)
-idle_less (Raw left) b h = absurd (cc)
 
 pub take_one : (xs : List ℕ) (b : ℕ) → 0 < length xs → take 1 (set xs 0 b) ≡ b ∷ []
 take_one [] b h = absurd (omega (arith, h))

@@ -10,12 +10,6 @@ pub end_kept : (place : Place) (known : Option (List ℕ)) → KeepsEnd place kn
 end_kept place None = tt
 end_kept place (Some packed) = refl
 
-pub end_keeps_whole : (place next : Place) (old new : Option (List ℕ)) → KeepsEnd place old next new →
-    KeepsWhole (whole_behind place old) (whole_behind next new)
-end_keeps_whole place next None new kept = tt
-end_keeps_whole place next (Some packed) None kept = absurd kept
-end_keeps_whole place next (Some packed) (Some rest) kept = ap (λ (p : Place). Some (is_tag p)) kept
-
 -- a test of a place
 tag_tested : (whole : Bool) (place : Place) → IsTrue whole ↔ (place ≡ Tag) → whole ≡ is_tag place
 tag_tested true place same = ap is_tag (sym (same.0 refl))

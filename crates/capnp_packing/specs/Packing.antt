@@ -4,7 +4,8 @@
 -- word's eight bytes stands how many words follow as they are.
 use Rattle.std.specs.Prelude.{◌≡◌, ℕ, zero, suc, ◌+◌, ◌-◌, ◌*◌, ◌/◌, ◌%◌, Bool, true, false}
 use Rattle.std.specs.Prelude.{if◌then◌else◌, nat_eq, nat_lt}
-use Rattle.std.specs.Prelude.{List, [], ◌∷◌, ◌++◌, drop, slice_index, replicate, Option, Some, None, ⊤}
+use Rattle.std.specs.Prelude.{List, [], ◌∷◌, ◌++◌, drop, slice_index, replicate, ⊤}
+use Rattle.std.specs.Prelude.{Option, Some, None, option_to_list}
 use Rattle.capnp_packing.specs.declared.packing.place.Place.{Place}
 use Rattle.capnp_packing.specs.declared.packing.place.Place.TheVariants.{Tag, Kept, Zeros, Whole, Count, Raw}
 
@@ -46,12 +47,8 @@ abbrev pub place_behind : ℕ → ℕ → Place
 place_behind left taken = if nat_lt left taken then Tag else Raw (left - taken)
 
 -- All that it gives.
-abbrev pub byte_of_option : Option ℕ → List ℕ
-byte_of_option (Some b) = b ∷ []
-byte_of_option None = []
-
 abbrev pub all_given : Place → ℕ → List ℕ
-all_given place b = byte_of_option (byte_given place b) ++ replicate (zeros_given place b) 0
+all_given place b = option_to_list (byte_given place b) ++ replicate (zeros_given place b) 0
 
 -- What packed bytes give from a place on, as far as they go.
 unfoldable pub unpacked_bytes : Place → List ℕ → List ℕ
@@ -105,13 +102,10 @@ ones zero bits = 0
 ones (suc n) bits = bits % 2 + ones n (bits / 2)
 
 -- What all packed bytes of an output stand for, where these are known and whole.
-abbrev pub known_at : Place → List ℕ → Option (List ℕ)
-known_at Tag bytes = Some bytes
-known_at _ bytes = None
-
 abbrev pub unpacked_known : Option (List ℕ) → Option (List ℕ)
 unpacked_known None = None
-unpacked_known (Some packed) = known_at (place_at_end Tag packed) (unpacked_bytes Tag packed)
+unpacked_known (Some packed) =
+    if is_tag (place_at_end Tag packed) then Some (unpacked_bytes Tag packed) else None
 
 -- The tag of some bytes of a word, and those of them that are packed behind it.
 abbrev pub tag_of_word : List ℕ → ℕ
