@@ -14,7 +14,8 @@ use Rattle.capnp_framing.specs.Flat.{BeginsWithFrame, first_told, part_at, parts
 use Rattle.capnp_framing.specs.Frames.{AreSegmentWords, contents, frame, lengths, padding_size}
 use Rattle.capnp_framing.specs.Reading.{max_length, table_size, total, words_told}
 use Rattle.capnp_framing.proofs.ReadingLemmas.{AtTable, frame_read, length-frame_with, small_from_short}
-use Rattle.capnp_framing.proofs.TableLemmas.{as_many, below_take, bytes-words}
+use Rattle.capnp_arena.proofs.MessageLemmas.{length-message}
+use Rattle.capnp_framing.proofs.TableLemmas.{below_take, bytes-words}
 
 pub length-parts : (n : ℕ) (table bytes : List ℕ) → length (parts n table bytes) ≡ n
 length-parts zero table bytes = refl
@@ -166,6 +167,6 @@ total-parts (suc n) table bytes whole =
 pub length-frame_of_parts : (n : ℕ) (table bytes : List ℕ) → 8 * words_told n table ≤ length bytes → length (frame (message (parts n table bytes))) ≡ table_size n + 8 * words_told n table
 length-frame_of_parts n table bytes whole =
     let S : Segments = message (parts n table bytes) in
-    let count : length S ≡ n = as_many (parts n table bytes) ∙ length-parts n table bytes in
+    let count : length S ≡ n = length-message (parts n table bytes) ∙ length-parts n table bytes in
     length-frame_with (replicate (padding_size (length S)) 0) S (length-replicate (padding_size (length S)) 0)
     ∙ ap₂ (λ k m. table_size k + 8 * m) count (total-parts n table bytes whole)

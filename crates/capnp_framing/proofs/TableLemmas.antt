@@ -2,7 +2,7 @@
 use Rattle.std.proofs.Common.{◌≡◌, ℕ, zero, suc, ◌+◌, ◌-◌, ◌*◌, ◌/◌, ◌%◌, ◌^◌, ◌<◌, ◌≤◌, List, [], ◌∷◌, ◌++◌, length, get_or, take, drop, replicate, refl, sym, ap, ap₂, ◌∙◌, arith, length-append, append-nil, append_assoc, take_at, drop_at, Some}
 use Rattle.std.specs.List.{All, slice_get}
 use Rattle.std.specs.Int.{to_le_bytes, w32}
-use Rattle.std.proofs.lemmas.List.{length-map, drop_more, drop_all, drop-replicate}
+use Rattle.std.proofs.lemmas.List.{drop_more, drop_all, drop-replicate}
 use Rattle.std.proofs.lemmas.Nat.{le_bytes_8}
 use Rattle.capnp_format.specs.Bytes.{message, words_of}
 use Rattle.capnp_format.specs.Segments.{Segments, segment}
@@ -79,10 +79,6 @@ bytes-words (suc n) (a ∷ b ∷ c ∷ d ∷ f ∷ g ∷ h ∷ i ∷ rest) e l =
     (bytes-words n rest (omega arith) (λ j. l (suc (suc (suc (suc (suc (suc (suc (suc j))))))))))
 bytes-words zero (a ∷ xs) e l = absurd (omega arith)
 bytes-words (suc n) _ e l = absurd (omega arith)
-
--- as many segments of words as of bytes
-pub as_many : (bytes : List (List ℕ)) → length (message bytes) ≡ length bytes
-as_many bytes = length-map bytes words_of
 
 -- segments of fewer than 2^32 words
 pub short_segments : (bytes : List (List ℕ)) → ((k : ℕ) (s : List ℕ) → slice_get bytes k ≡ Some s → length s / 8 < 2 ^ 32) → All (λ ws. length ws < 2 ^ 32) (message bytes)

@@ -1,5 +1,5 @@
 -- What is known of where bytes end stays so, over several reads too.
-use Rattle.std.proofs.Common.{◌≡◌, ◌∙◌, Bool, Option, Some, None, ap, refl, subst, sym}
+use Rattle.std.proofs.Common.{Bool, Option, Some, None, refl, subst}
 use Rattle.capnp_framing.specs.Wholeness.{KeepsWhole}
 
 pub keeps_whole : (a : Option Bool) → KeepsWhole a a

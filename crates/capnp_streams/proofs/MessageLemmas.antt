@@ -16,7 +16,7 @@ use Rattle.capnp_layout.specs.Answers.{CoversRoot, LacksMemoryOr, RefusesCopy, m
 use Rattle.capnp_layout.proofs.CanonLemmas.{covers_root}
 use Rattle.capnp_layout.specs.CanonicalMessages.{IsMessageFault, RefusesTest}
 use Rattle.capnp_format.specs.Bytes.{message}
-use Rattle.capnp_framing.proofs.TableLemmas.{as_many}
+use Rattle.capnp_arena.proofs.MessageLemmas.{length-message}
 use Rattle.capnp_readers.specs.declared.readers.canonical_fault.CanonicalFault.{CanonicalFault}
 use Rattle.capnp_streams.specs.Messages.{IsFaultOf, IsValueOf, RefusesCanon, RefusesCheck, left_of, root_within}
 
@@ -102,4 +102,4 @@ check_of_message {S} {limits} {z} {old} (Err k) segments new same nesting begun 
     let there = subst (λ (x : Meter). RefusesTest T (levels z) x new k) begun refused in
     let within = subst (λ (x : ℤ). RefusesTest T (levels x) m new k) nesting there in
     let here = subst (λ (X : Segments). RefusesTest X (levels limits.nesting_limit) m new k) same within in
-    (ap length (sym same) ∙ as_many segments ∙ alone, (new, here))
+    (ap length (sym same) ∙ length-message segments ∙ alone, (new, here))

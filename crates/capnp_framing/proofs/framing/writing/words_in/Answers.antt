@@ -1,10 +1,9 @@
 use Rattle.std.proofs.Common.{List, ℕ, [], sym, ◌∙◌, arith, take_all}
 use Rattle.std.proofs.lemmas.List.{get_or_past}
 use Rattle.capnp_format.specs.Bytes.{message}
-use Rattle.capnp_framing.proofs.TableLemmas.{as_many}
+use Rattle.capnp_arena.proofs.MessageLemmas.{length-message, segment-message}
 use Rattle.capnp_format.specs.Bytes.{words_of}
 use Rattle.capnp_format.proofs.WordsOf.{words}
-use Rattle.capnp_arena.proofs.MessageLemmas.{segment-message}
 use Rattle.capnp_framing.proofs.framing.writing.words_in.Goals as goal
 
 pub part-requires : goal.part-requires
@@ -19,7 +18,7 @@ returns-in-Some-clause-words g c =
 pub returns-in-None-clause-words : goal.returns-in-None-clause-words
 returns-in-None-clause-words g c =
     let bytes : List (List ℕ) = g.S.ReaderSegments.segments c.args.segments.now in
-    sym (get_or_past (message bytes) c.args.id [] (grind (arith, as_many bytes, c.in-None.ensures.there)))
+    sym (get_or_past (message bytes) c.args.id [] (grind (arith, length-message bytes, c.in-None.ensures.there)))
 
 pub returns-in-Some-clause-short : goal.returns-in-Some-clause-short
 returns-in-Some-clause-short g c =

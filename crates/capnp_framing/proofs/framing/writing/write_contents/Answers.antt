@@ -4,7 +4,8 @@ use Rattle.std.proofs.lemmas.List.Elements.{All-more}
 use Rattle.capnp_format.specs.Bytes.{message}
 use Rattle.capnp_format.specs.Segments.{Segments}
 use Rattle.capnp_framing.specs.Frames.{AreSegmentWords, bytes_of_words, contents}
-use Rattle.capnp_framing.proofs.TableLemmas.{as_many, contents-drop}
+use Rattle.capnp_arena.proofs.MessageLemmas.{length-message}
+use Rattle.capnp_framing.proofs.TableLemmas.{contents-drop}
 use Rattle.capnp_framing.proofs.WritingLemmas.{left_over_less}
 use Rattle.capnp_framing.proofs.framing.writing.write_contents.Goals as goal
 
@@ -12,7 +13,7 @@ pub loop-i-preserved : goal.loop-i-preserved
 loop-i-preserved g c =
     let bytes : List (List ℕ) = g.S.ReaderSegments.segments c.args.segments.now in
     let S : Segments = message bytes in
-    let inside : c.loop-i.i < length S = omega (arith, as_many bytes, c.requires.count, c.loop-i-test.true) in
+    let inside : c.loop-i.i < length S = omega (arith, length-message bytes, c.requires.count, c.loop-i-test.true) in
     let same = c.words_in.ensures.words in
     record {
       left_over = left_over_less (contents (drop (c.loop-i.i + 1) S)) (record { left_over = c.loop-i.invariant.left_over; appended = c.in_ok-write_words.ensures.writes.written })
@@ -24,4 +25,4 @@ loop-i-preserved g c =
 pub returns-clause-words : goal.returns-clause-words
 returns-clause-words g c =
     let bytes : List (List ℕ) = g.S.ReaderSegments.segments c.args.segments.now in
-    subst (λ (S : Segments). All AreSegmentWords S) (take_all c.loop-i.i (message bytes) (omega (arith, as_many bytes, c.requires.count, c.loop-i-test.false))) c.loop-i.invariant.small
+    subst (λ (S : Segments). All AreSegmentWords S) (take_all c.loop-i.i (message bytes) (omega (arith, length-message bytes, c.requires.count, c.loop-i-test.false))) c.loop-i.invariant.small
