@@ -38,10 +38,7 @@ pub(crate) fn put_pointers(
     ensures named { IfErr result (λ e. e ≡ AllocationFailed) }
 {
     for i in 0..count {
-        match put(pending, segment, start + i) {
-            Ok(()) => {}
-            Err(k) => return Err(k),
-        }
+        put(pending, segment, start + i)?;
     }
     Ok(())
 }
@@ -66,10 +63,7 @@ pub(crate) fn put_elements(
     let mut at = start;
     for _i in 0..count {
         at += u32::from(size.data_words);
-        match put_pointers(pending, segment, at, u32::from(size.pointers)) {
-            Ok(()) => {}
-            Err(k) => return Err(k),
-        }
+        put_pointers(pending, segment, at, u32::from(size.pointers))?;
         at += u32::from(size.pointers);
     }
     Ok(())

@@ -21,7 +21,7 @@ loop-i-preserved c =
     record {
       place = omega (arith, is_d, is_q, here, next_place (d + q) i);
       put =
-          c.in-Ok.ensures.pushed ∙ ap₂ (λ x y. c.loop-i.pending.items ++ spots s x y) (ap₂ (λ x y. x + y) here is_d) c.from.ensures
+          c.in_ok-put_pointers.ensures.pushed ∙ ap₂ (λ x y. c.loop-i.pending.items ++ spots s x y) (ap₂ (λ x y. x + y) here is_d) c.from.ensures
           ∙ ap (λ J. J ++ spots s (p + i * (d + q) + d) q) c.loop-i.invariant.put
           ∙ append_assoc c.args.pending.now.items (element_spots s p d q i) (spots s (p + i * (d + q) + d) q)
           ∙ ap (λ J. c.args.pending.now.items ++ J) (sym (element_spots_more s p d q i));
