@@ -6,7 +6,7 @@ use Rattle.capnp_format.specs.Forest.{times, cover, cover_all, cover_elements}
 use Rattle.capnp_format.proofs.Frame.{times-append}
 use Rattle.capnp_format.proofs.Slices.{length_words}
 use Rattle.layout_vectors.specs.Counts.{Counting, plus, Counts, AreRead, AreElementsRead}
-use Rattle.layout_vectors.specs.Spots.{spot, spots, element_spots}
+use Rattle.layout_vectors.specs.Spots.{spots, element_spots}
 use Rattle.layout_vectors.specs.declared.vectors.pending.Spot.{Spot}
 
 pub counts_same : (S : Segments) (M N : Counting) (J : List Spot) (F : Counting) → ((u q : ℕ) → N u q ≡ M u q) → Counts S M J F → Counts S N J F
@@ -51,9 +51,9 @@ pushed_read S M J s p zero F h = record {
   counts = counts_same S M (plus M (times [])) J F (λ u q. omega arith) (subst (λ K. Counts S M K F) (append-nil J) h);
 }
 pushed_read S M J s p (suc n) F h =
-    let r = pushed_read S M (J ++ spot s p ∷ []) s (p + 1) n F (subst (λ K. Counts S M K F) (sym (append_assoc J (spot s p ∷ []) (spots s (p + 1) n))) h) in
+    let r = pushed_read S M (J ++ spots s p 1) s (p + 1) n F (subst (λ K. Counts S M K F) (sym (append_assoc J (spots s p 1) (spots s (p + 1) n))) h) in
     let rest = cover_all S s (p + 1) r.children in
-    let (t, k, g) = last_first S (plus M (times rest)) J (spot s p) F r.counts in
+    let (t, k, g) = last_first S (plus M (times rest)) J (record { segment = s; at = p }) F r.counts in
     record {
       children = tree t r.children;
       number = ap suc r.number;
@@ -65,9 +65,9 @@ pub read_pushed : (S : Segments) (M : Counting) (J : List Spot) (s p : ℕ) (F :
 read_pushed S M J s p F no_trees k h = subst (λ K. Counts S M K F) (sym (append-nil J)) (counts_same S (plus M (times [])) M J F (λ u q. omega arith) h)
 read_pushed S M J s p F (tree t ts) (k, ks) h =
     let rest = cover_all S s (p + 1) ts in
-    subst (λ K. Counts S M K F) (append_assoc J (spot s p ∷ []) (spots s (p + 1) (count ts)))
-    (read_pushed S M (J ++ spot s p ∷ []) s (p + 1) F ts ks
-    (first_last S (plus M (times rest)) J (spot s p) F
+    subst (λ K. Counts S M K F) (append_assoc J (spots s p 1) (spots s (p + 1) (count ts)))
+    (read_pushed S M (J ++ spots s p 1) s (p + 1) F ts ks
+    (first_last S (plus M (times rest)) J (record { segment = s; at = p }) F
     (t, k, counts_same S (plus M (times (cover S s p t ++ rest))) (plus (plus M (times rest)) (times (cover S s p t))) J F (λ u q. omega (arith, times-append (cover S s p t) rest u q)) h)))
 
 -- elements one behind the other, whose words lie in their segment

@@ -1,9 +1,11 @@
 -- Marks that are set: which, and how many.
 use Rattle.std.proofs.Common.{◌≡◌, ◌≢◌, ◌⊎◌, inl, inr, ℕ, zero, suc, ◌+◌, ◌-◌, ◌/◌, ◌^◌, ◌<◌, ◌≤◌, List, [], ◌∷◌, ◌++◌, length, map, take, drop, set, replicate, get_or, refl, sym, ap, ◌∙◌, subst, arith, vec_items, length-take, length-drop, take-append-drop}
 use Rattle.std.proofs.lemmas.List.{length-set, length-replicate, get_or-replicate, get_or-take, get_or-drop, get_or-map, length-map, map-set, with_items_is}
+use Rattle.std.proofs.lemmas.List.Sums.{sum_by-append, sum_by-cons, sum_by-set}
 use Rattle.std.proofs.lemmas.Bool.{cases_lt, cases_eq}
 use Rattle.std.proofs.lemmas.Bool.Decides.{nat_tests}
 use Rattle.std.specs.Borrow.{Bor}
+use Rattle.std.specs.Prelude.{cond, count_by, nat_eq}
 use Rattle.std.specs.Global.{Vec}
 use Rattle.std.specs.Vec.{with_item, with_items}
 use borrow.Rule.Slice.PartMut.{put_mid}
@@ -18,24 +20,30 @@ use Rattle.capnp_format.specs.Forest.{row}
 use Rattle.capnp_format.proofs.Frame.{of_row}
 use Rattle.capnp_format.proofs.Slices.{there}
 use Rattle.capnp_arena.proofs.WordsOver.{word_here, word_other, lengths_kept, length-over, over_within, over_beside}
-use Rattle.layout_vectors.specs.Marks.{AreFreeWithin, free_words, free, AreMarks, KeepsRows, TakesRow, blank_rows}
+use Rattle.layout_vectors.specs.Counts.{IsOnce}
+use Rattle.layout_vectors.specs.Marks.{AreFreeWithin, free, KeepsRows, TakesRow, blank_rows}
 use Rattle.layout_vectors.specs.Walks.{FitsRows}
 
 -- how many words of a row are free
+abbrev free_words : List ℕ → ℕ
+free_words xs = count_by (λ mark. nat_eq mark 0) xs
+
+free_words-cons : (x : ℕ) (xs : List ℕ) → free_words (x ∷ xs) ≡ cond (nat_eq x 0) 1 0 + free_words xs
+free_words-cons x xs = sum_by-cons (λ mark. cond (nat_eq mark 0) 1 0) x xs
+
 free_words-append : (xs ys : List ℕ) → free_words (xs ++ ys) ≡ free_words xs + free_words ys
-free_words-append [] ys = omega arith
-free_words-append (x ∷ xs) ys = omega (arith, free_words-append xs ys)
+free_words-append xs ys = sum_by-append (λ mark. cond (nat_eq mark 0) 1 0) xs ys
 
 none_free : (n : ℕ) → free_words (replicate n 1) ≡ 0
 none_free zero = refl
-none_free (suc n) = omega (arith, none_free n)
+none_free (suc n) = omega (arith, none_free n, free_words-cons 1 (replicate n 1))
 
 all_free : (xs : List ℕ) → ((q : ℕ) → q < length xs → get_or xs q 0 ≡ 0) → free_words xs ≡ length xs
 all_free [] h = refl
 all_free (x ∷ xs) h =
     let e : x ≡ 0 = h 0 (omega arith) in
     let f : free_words xs ≡ length xs = all_free xs (λ q l. h (suc q) (omega arith)) in
-    grind (arith, nat_tests)
+    rw (free_words-cons x xs, e) (omega (arith, f))
 
 middle : (xs : List ℕ) (p n : ℕ) → xs ≡ take p xs ++ (take n (drop p xs) ++ drop n (drop p xs))
 middle xs p n = sym (take-append-drop p xs) ∙ ap (λ ys. take p xs ++ ys) (sym (take-append-drop n (drop p xs)))
@@ -58,9 +66,7 @@ fewer_words xs p n fits empty =
     middle_at xs p n q l = get_or-take n (drop p xs) q 0 l ∙ get_or-drop p xs q 0
 
 fewer_rows : (M : Segments) (s : ℕ) (ws : List ℕ) → s < length M → free (with_segment M s ws) + free_words (segment M s) ≡ free M + free_words ws
-fewer_rows [] s ws l = absurd (omega arith)
-fewer_rows (xs ∷ M) zero ws l = omega arith
-fewer_rows (xs ∷ M) (suc s) ws l = omega (arith, fewer_rows M s ws (omega arith))
+fewer_rows M s ws l = sum_by-set (λ marks. free_words marks) M s ws [] l
 
 row_once : (s p n u q : ℕ) → times (row s p n ∷ []) u q ≤ 1
 row_once s p n u q = grind (arith, nat_tests)
@@ -110,7 +116,7 @@ taken M N s p n some fits empty e = subst (λ T. TakesRow M T s p n) (sym e) (re
       | inr f ↦ word_other M s u q (overwritten (segment M s) p (replicate n 1)) f ∙ omega (arith, row_elsewhere s p n u q f)
     ]
 
-    once : (u q : ℕ) → AreMarks M → word_at (with_words M s p (replicate n 1)) u q ≡ word_at M u q + times (row s p n ∷ []) u q → word_at (with_words M s p (replicate n 1)) u q ≤ 1
+    once : (u q : ℕ) → IsOnce (word_at M) → word_at (with_words M s p (replicate n 1)) u q ≡ word_at M u q + times (row s p n ∷ []) u q → word_at (with_words M s p (replicate n 1)) u q ≤ 1
     once u q h f = elim (cases_eq u s) [
       | inl g ↦ elim (among p n q) [
         | within l m ↦ omega (arith, f, row_once s p n u q, ap (λ v. word_at M v q) g, empty q l m)

@@ -1,11 +1,12 @@
 -- Marks of words that are taken: for each segment a row of numbers, one for each word, of which
 -- those that aren't 0 are taken.
-use Rattle.std.specs.Prelude.{◌≡◌, ◌≢◌, ℕ, ◌+◌, ◌/◌, ◌<◌, ◌≤◌, if◌then◌else◌, nat_eq, Bool, true}
+use Rattle.std.specs.Prelude.{◌≡◌, ◌≢◌, ℕ, ◌+◌, ◌/◌, ◌<◌, ◌≤◌, count_by, nat_eq, sum_by, Bool, true}
 use Rattle.std.specs.Prelude.{false, List, [], ◌∷◌, length, map, replicate, slice_index, vec_items}
 use Rattle.std.specs.Borrow.{Bor}
 use Rattle.capnp_format.specs.Segments.{Segments, segment, word_at}
 use Rattle.capnp_format.specs.Forest.{times, pads_of}
 use Rattle.capnp_format.specs.Forest.{row, PadsInside}
+use Rattle.layout_vectors.specs.Counts.{IsOnce}
 use Rattle.layout_vectors.specs.declared.vectors.marks.Marks.{Marks}
 
 abbrev pub rows_of : Marks → Segments
@@ -23,24 +24,15 @@ abbrev pub IsMarkedWithin : List ℕ → ℕ → ℕ → Type 0
 IsMarkedWithin xs p n = (q : ℕ) × (p ≤ q) × (q < p + n) × (slice_index xs q ≢ 0)
 
 -- How many words are free.
-abbrev pub free_words : List ℕ → ℕ
-free_words [] = 0
-free_words (x ∷ xs) = (if nat_eq x 0 then 1 else 0) + free_words xs
-
 abbrev pub free : Segments → ℕ
-free [] = 0
-free (xs ∷ M) = free_words xs + free M
-
--- No word is marked by more than 1.
-abbrev pub AreMarks : Segments → Type 0
-AreMarks M = (u q : ℕ) → word_at M u q ≤ 1
+free M = sum_by (λ marks. count_by (λ mark. nat_eq mark 0) marks) M
 
 -- From M to N as many words are marked, of as many segments, and none more often than once; and so
 -- many more may be.
 pub record KeepsRows (M N : Segments) : Type 0 where
   pub segments : length N ≡ length M
   pub words : (u : ℕ) → length (segment N u) ≡ length (segment M u)
-  pub once : AreMarks M → AreMarks N
+  pub once : IsOnce (word_at M) → IsOnce (word_at N)
 
 -- From M to N the n words from a place on are taken, of which none was.
 pub record TakesRow (M N : Segments) (s p n : ℕ) : Type 0 where
@@ -48,8 +40,7 @@ pub record TakesRow (M N : Segments) (s p n : ℕ) : Type 0 where
   pub marks : (u q : ℕ) → word_at N u q ≡ word_at M u q + times (row s p n ∷ []) u q
   pub fewer : free N + n ≡ free M
 
--- The landing pads of the word x are taken from M to N, if it is a far pointer; or they aren't
--- there, or one of their words is taken already.
+-- From M to N words are taken, each as often as this says.
 pub record TakesEach (M N : Segments) (is : ℕ → ℕ → ℕ) : Type 0 where
   pub keeps : KeepsRows M N
   pub marks : (u q : ℕ) → word_at N u q ≡ word_at M u q + is u q
@@ -59,6 +50,8 @@ pub record TakesEach (M N : Segments) (is : ℕ → ℕ → ℕ) : Type 0 where
 abbrev pub IsTakenAlready : Segments → (ℕ → ℕ → ℕ) → Type 0
 IsTakenAlready M is = (u : ℕ) × (q : ℕ) × (0 < is u q) × (0 < word_at M u q)
 
+-- The landing pads of the word x are taken from M to N, if it is a far pointer; or they aren't
+-- there, or one of their words is taken already.
 abbrev pub TakesPads : Segments → Segments → ℕ → Bool → Type 0
 TakesPads M N x true = TakesEach M N (times (pads_of x))
 TakesPads M N x false = PadsInside M x → IsTakenAlready M (times (pads_of x))

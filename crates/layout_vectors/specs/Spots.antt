@@ -2,12 +2,9 @@
 use Rattle.std.specs.Prelude.{ℕ, zero, suc, ◌+◌, List, [], ◌∷◌, ◌++◌}
 use Rattle.layout_vectors.specs.declared.vectors.pending.Spot.{Spot}
 
-abbrev pub spot : ℕ → ℕ → Spot
-spot s p = record { segment = s; at = p }
-
 abbrev pub spots : ℕ → ℕ → ℕ → List Spot
 spots s p zero = []
-spots s p (suc n) = spot s p ∷ spots s (p + 1) n
+spots s p (suc n) = record { segment = s; at = p } ∷ spots s (p + 1) n
 
 abbrev pub element_spots : ℕ → ℕ → ℕ → ℕ → ℕ → List Spot
 element_spots s p d q zero = []

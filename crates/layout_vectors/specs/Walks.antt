@@ -22,9 +22,6 @@ pub record FitsRows (S M : Segments) : Type 0 where
   pub segments : length M ≡ length S
   pub words : (u : ℕ) → length (segment M u) ≡ length (segment S u)
 
-abbrev pub FitsMarks : Segments → Marks → Type 0
-FitsMarks S m = FitsRows S (rows_of m)
-
 -- From w to v marks are only set, at least one for each place more.
 pub record Proceeds (w v : Walk) : Type 0 where
   pub keeps : KeepsRows w.marks v.marks

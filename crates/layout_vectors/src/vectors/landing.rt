@@ -1,9 +1,9 @@
 //! Where the pointers of a message lead ("Inter-Segment Pointers").
-ghost use Rattle.std.specs.Prelude.{◌≡◌, ◌<◌, ◌^◌, IsTrue, ◌↔◌, length};
+ghost use Rattle.std.specs.Prelude.{◌≡◌, ◌<◌, ◌^◌, IsTrue, ◌↔◌, length, option_map};
 ghost use Rattle.capnp_format.specs.Bytes.{message};
 ghost use Rattle.capnp_format.specs.Segments.{segment, word_at, leads, near, far};
 ghost use Rattle.capnp_format.specs.Word.{is_double};
-ghost use Rattle.layout_vectors.specs.Landings.{target_reached};
+ghost use Rattle.layout_vectors.specs.Landings.{target_at};
 
 use capnp_arena::arena::ReaderArena;
 use capnp_words::wire_pointer::{WirePointer, WirePointerKind};
@@ -58,7 +58,7 @@ fn exists<A: ReaderArena>(arena: &A, id: u32) -> bool
 
 /// Where the pointer at a place leads, which is not zero.
 pub(crate) fn follow<A: ReaderArena>(arena: &A, id: u32, at: u32) -> Option<PointerTarget>
-    ensures { target_reached result ≡ leads (message (A.segments arena.now)) id at }
+    ensures { option_map target_at result ≡ leads (message (A.segments arena.now)) id at }
 {
     let word = word_of(arena, id, at);
     if word.kind() == WirePointerKind::Far {
@@ -76,7 +76,7 @@ fn follow_near<A: ReaderArena>(
     word: WirePointer,
     pads: u32,
 ) -> Option<PointerTarget>
-    ensures { target_reached result ≡ near (message (A.segments arena.now)) id at word.0 pads }
+    ensures { option_map target_at result ≡ near (message (A.segments arena.now)) id at word.0 pads }
 {
     match word.target(at, length_of(arena, id)) {
         Some(start) => Some(PointerTarget {
@@ -91,7 +91,7 @@ fn follow_near<A: ReaderArena>(
 
 /// Where a far pointer leads.
 fn follow_far<A: ReaderArena>(arena: &A, word: WirePointer) -> Option<PointerTarget>
-    ensures { target_reached result
+    ensures { option_map target_at result
         ≡ far (message (A.segments arena.now)) word.0 (is_double word.0) }
 {
     if word.is_double_far() {
@@ -103,7 +103,7 @@ fn follow_far<A: ReaderArena>(arena: &A, word: WirePointer) -> Option<PointerTar
 
 /// Where a far pointer of one landing pad leads.
 fn follow_single<A: ReaderArena>(arena: &A, word: WirePointer) -> Option<PointerTarget>
-    ensures { target_reached result ≡ far (message (A.segments arena.now)) word.0 0 }
+    ensures { option_map target_at result ≡ far (message (A.segments arena.now)) word.0 0 }
 {
     let id = word.far_segment_id();
     let at = word.far_position_in_segment();
@@ -119,7 +119,7 @@ fn follow_single<A: ReaderArena>(arena: &A, word: WirePointer) -> Option<Pointer
 
 /// Where a far pointer of two landing pads leads.
 fn follow_double<A: ReaderArena>(arena: &A, word: WirePointer) -> Option<PointerTarget>
-    ensures { target_reached result ≡ far (message (A.segments arena.now)) word.0 1 }
+    ensures { option_map target_at result ≡ far (message (A.segments arena.now)) word.0 1 }
 {
     let id = word.far_segment_id();
     let at = word.far_position_in_segment();

@@ -9,7 +9,8 @@ ghost use Rattle.capnp_words.specs.Sizes.{size_number};
 ghost use Rattle.capnp_format.specs.Padding.{IsPadded};
 ghost use Rattle.capnp_words.specs.declared.error.ErrorKind.TheVariants.{AllocationFailed};
 ghost use Rattle.layout_vectors.specs.Landings.{target_at};
-ghost use Rattle.layout_vectors.specs.Walks.{walk, Goes, FailsWalk, TakesTarget, HasNoObject, FitsMarks};
+ghost use Rattle.layout_vectors.specs.Marks.{rows_of};
+ghost use Rattle.layout_vectors.specs.Walks.{walk, Goes, FailsWalk, TakesTarget, HasNoObject, FitsRows};
 
 use crate::vectors::landing::{PointerTarget, word_of};
 use crate::vectors::marks::Marks;
@@ -28,7 +29,7 @@ pub(crate) fn take_object<A: ReaderArena>(
     pending: &mut Vec<Spot>,
     landing: PointerTarget,
 ) -> Result<bool, ErrorKind>
-    requires { FitsMarks (message (A.segments arena.now)) marks.old }
+    requires { FitsRows (message (A.segments arena.now)) (rows_of marks.old) }
     ensures goes { IfOk result (λ b. IsTrue b
         → TakesTarget (message (A.segments arena.now)) (target_at landing)
         (walk marks.old pending.old) (walk marks.new pending.new)) }
@@ -56,7 +57,7 @@ fn take_struct<A: ReaderArena>(
     pending: &mut Vec<Spot>,
     landing: PointerTarget,
 ) -> Result<bool, ErrorKind>
-    requires fits { FitsMarks (message (A.segments arena.now)) marks.old }
+    requires fits { FitsRows (message (A.segments arena.now)) (rows_of marks.old) }
     requires is_struct { kind landing.word.0 ≡ 0 }
     ensures goes { IfOk result (λ b. IsTrue b
         → TakesTarget (message (A.segments arena.now)) (target_at landing)
@@ -82,7 +83,7 @@ fn take_pointers<A: ReaderArena>(
     pending: &mut Vec<Spot>,
     landing: PointerTarget,
 ) -> Result<bool, ErrorKind>
-    requires fits { FitsMarks (message (A.segments arena.now)) marks.old }
+    requires fits { FitsRows (message (A.segments arena.now)) (rows_of marks.old) }
     requires is_list { kind landing.word.0 ≡ 1 }
     requires of_pointers { element_size landing.word.0 ≡ 6 }
     ensures goes { IfOk result (λ b. IsTrue b
@@ -109,7 +110,7 @@ fn take_flat<A: ReaderArena>(
     landing: PointerTarget,
     size: ElementSize,
 ) -> bool
-    requires fits { FitsMarks (message (A.segments arena.now)) marks.old }
+    requires fits { FitsRows (message (A.segments arena.now)) (rows_of marks.old) }
     requires is_list { kind landing.word.0 ≡ 1 }
     requires is_size { size_number size ≡ element_size landing.word.0 }
     requires is_flat { size_number size ≤ 5 }
@@ -196,7 +197,7 @@ fn take_structs<A: ReaderArena>(
     pending: &mut Vec<Spot>,
     landing: PointerTarget,
 ) -> Result<bool, ErrorKind>
-    requires fits { FitsMarks (message (A.segments arena.now)) marks.old }
+    requires fits { FitsRows (message (A.segments arena.now)) (rows_of marks.old) }
     requires is_list { kind landing.word.0 ≡ 1 }
     requires of_structs { element_size landing.word.0 ≡ 7 }
     ensures goes { IfOk result (λ b. IsTrue b

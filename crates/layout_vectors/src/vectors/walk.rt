@@ -7,7 +7,7 @@ ghost use Rattle.capnp_format.specs.Segments.{IsPlace, segment, word_at};
 ghost use Rattle.capnp_format.specs.Tree.{Tree};
 ghost use Rattle.capnp_words.specs.declared.error.ErrorKind.TheVariants.{AllocationFailed};
 ghost use Rattle.layout_vectors.specs.Marks.{rows_of, TakesPads};
-ghost use Rattle.layout_vectors.specs.Walks.{walk, Goes, FailsWalk, FitsMarks, IsZeroWhereFree, IsZeroBehind};
+ghost use Rattle.layout_vectors.specs.Walks.{walk, Goes, FailsWalk, FitsRows, IsZeroWhereFree, IsZeroBehind};
 
 use crate::vectors::landing::{follow, word_of};
 use crate::vectors::marks::Marks;
@@ -51,7 +51,7 @@ fn walk_from_root<A: ReaderArena>(
     arena: &A,
     mut marks: Marks,
 ) -> Result<bool, ErrorKind>
-    requires fits { FitsMarks (message (A.segments arena.now)) marks }
+    requires fits { FitsRows (message (A.segments arena.now)) (rows_of marks) }
     requires blank { (u q : ℕ) → word_at (rows_of marks) u q ≡ 0 }
     ensures exactly { IfOk result (λ b. IsTrue b
         ↔ ((t : Tree) × IsForest (message (A.segments arena.now)) t)) }
@@ -78,7 +78,7 @@ fn walk_pointer<A: ReaderArena>(
     pending: &mut Vec<Spot>,
     spot: Spot,
 ) -> Result<bool, ErrorKind>
-    requires { FitsMarks (message (A.segments arena.now)) marks.old }
+    requires { FitsRows (message (A.segments arena.now)) (rows_of marks.old) }
     ensures goes { IfOk result (λ b. IsTrue b
         → Goes (message (A.segments arena.now)) spot (walk marks.old pending.old)
         (walk marks.new pending.new)) }
@@ -116,7 +116,7 @@ fn take_pads(marks: &mut Marks, word: WirePointer) -> bool
 
 /// Whether each word that isn't taken is zero.
 fn rest_is_zero<A: ReaderArena>(arena: &A, marks: &Marks) -> bool
-    requires { FitsMarks (message (A.segments arena.now)) marks.now }
+    requires { FitsRows (message (A.segments arena.now)) (rows_of marks.now) }
     ensures { IsTrue result ↔ IsZeroWhereFree (message (A.segments arena.now)) (rows_of marks.now) }
 {
     for (id, row) in marks.rows.iter().enumerate() {
