@@ -98,10 +98,8 @@ pub fn is_canonical<S: ReaderSegments + Drop>(
         ↔ IsCanonicalMessage (message (S.segments segments))) }
     ensures refused { IfErr result (RefusesCheck (message (S.segments segments)) limits) }
 {
-    match canonical_fault_of(segments, limits) {
-        Ok(fault) => Ok(fault.is_none()),
-        Err(kind) => Err(kind),
-    }
+    let fault = canonical_fault_of(segments, limits)?;
+    Ok(fault.is_none())
 }
 
 /// How many words and capabilities the root of a message leads to, without landing pads ("Structs",
@@ -117,8 +115,6 @@ pub fn size_of<S: ReaderSegments + Drop>(
 {
     let arena = ReaderArenaImpl::new(segments, limits);
     let mut lim = ReadLimiter::new(limits.traversal_limit_in_words);
-    match read_root(&arena, &mut lim) {
-        Ok(root) => root.total_size(&mut lim),
-        Err(kind) => Err(kind),
-    }
+    let root = read_root(&arena, &mut lim)?;
+    root.total_size(&mut lim)
 }

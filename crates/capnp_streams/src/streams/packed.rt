@@ -39,10 +39,7 @@ pub fn run_packed<R: Input + Drop, W: Output>(
     ensures works { OnOk result (W.has_failed output.new ≡ false) }
 {
     let mut input = UnpackingInput::new(packed);
-    let summary = match run(alloc, task, &mut input, output) {
-        Ok(summary) => summary,
-        Err(stop) => return Err(stop),
-    };
+    let summary = run(alloc, task, &mut input, output)?;
     match input.finish() {
         Ok(true) => Ok(summary),
         Ok(false) => Err(behind(summary, FrameError::Truncated)),

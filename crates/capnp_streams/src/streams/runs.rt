@@ -72,10 +72,7 @@ fn step<R: Input, W: Output>(
 {
     match read_into(input, words_of(task.limits), segments) {
         Ok(false) => Ok(None),
-        Ok(true) => match answer(memory, task, &*segments, output) {
-            Ok(holds) => Ok(Some(holds)),
-            Err(fault) => Err(fault),
-        },
+        Ok(true) => Ok(Some(answer(memory, task, &*segments, output)?)),
         Err(error) => Err(Fault::Frame(error)),
     }
 }

@@ -5,10 +5,10 @@ use Rattle.capnp_layout.proofs.SizeLemmas.{totals_read}
 use Rattle.capnp_streams.proofs.MessageLemmas.{AtRoot, at_root}
 use Rattle.capnp_streams.proofs.messages.size_of.Goals as goal
 
-pub returns-in-Ok-clause-size : goal.returns-in-Ok-clause-size
-returns-in-Ok-clause-size g c =
+pub returns-clause-size : goal.returns-clause-size
+returns-clause-size g c =
     let read : IsOk c.read_root.result = search rules in
     let at : AtRoot (message (g.S.ReaderSegments.segments c.args.segments)) c.args.limits _ c.read_root.new.lim =
-    at_root c.new-arena.ensures.words c.new-arena.ensures.nesting c.new-lim.ensures c.in-Ok.ensures.place
-    c.in-Ok.ensures.charged (c.read_root.ensures.exactly.0 read) in
+    at_root c.new-arena.ensures.words c.new-arena.ensures.nesting c.new-lim.ensures c.in_ok-root.ensures.place
+    c.in_ok-root.ensures.charged (c.read_root.ensures.exactly.0 read) in
     IfOk-weaker c.total_size.result _ _ (λ z. totals_read at.place at.left at.covers) c.total_size.ensures.sized
