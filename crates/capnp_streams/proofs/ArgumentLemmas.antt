@@ -4,7 +4,7 @@ use Rattle.std.proofs.Common.{String, Global, codes, length, map, slice_index, s
 use Rattle.std.proofs.Common.{ap, sym, subst, refl, arith}
 use Rattle.std.specs.Str.Parse.{IsNumeral}
 use Rattle.capnp_layout.specs.Arguments.{IsBudget}
-use Rattle.capnp_streams.specs.Arguments.{AreOptions, IsFlag, IsSetting, limited_task, nested_task}
+use Rattle.capnp_streams.specs.Arguments.{AreOptions, IsFlag, IsSetting}
 use Rattle.capnp_streams.specs.declared.streams.task.Task.{Task}
 
 -- the third byte of a text
@@ -46,11 +46,11 @@ budget_one text (Some a) None (n, same, f) is = absurd (no_numeral (subst (IsNum
 -- an option with a value makes one task of another
 setting_one : (name value : List ℕ) (from a b : Task) → IsSetting name value from a → IsSetting name value from b → a ≡ b
 setting_one name value from a b (inl (n, (x, text, is))) (inl (m, (y, other, same))) =
-    is ∙ ap (λ (z : ℤ). nested_task z from) (text.1 ∙ sym other.1) ∙ sym same
+    is ∙ ap (λ (z : ℤ). record from { limits = record from.limits { nesting_limit = z } }) (text.1 ∙ sym other.1) ∙ sym same
 setting_one name value from a b (inl (n, is)) (inr (m, same)) = absurd (omega (arith, ap length (sym n ∙ m)))
 setting_one name value from a b (inr (n, is)) (inl (m, same)) = absurd (omega (arith, ap length (sym n ∙ m)))
 setting_one name value from a b (inr (n, (x, text, is))) (inr (m, (y, other, same))) =
-    is ∙ ap (λ (z : Option ℕ). limited_task z from) (budget_one value x y text other) ∙ sym same
+    is ∙ ap (λ (z : Option ℕ). record from { limits = record from.limits { traversal_limit_in_words = z } }) (budget_one value x y text other) ∙ sym same
 
 -- the texts of a word and of those behind it
 pub texts : {words more : List (String Global)} {word : String Global} {name : List ℕ} →

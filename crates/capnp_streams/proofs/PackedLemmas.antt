@@ -5,11 +5,11 @@ use Rattle.std.specs.Io.KnownBytes.{Consumes}
 use Rattle.capnp_framing.specs.Reading.{NoFrame}
 use Rattle.capnp_framing.specs.Reading.NoFrame.{count_cut, table_cut, too_long, too_many, words_cut}
 use Rattle.capnp_framing.specs.Wholeness.{KeepsWhole}
-use Rattle.capnp_packing.specs.Packing.{is_tag, place_at_end, unpacked_bytes, whole_behind}
+use Rattle.capnp_packing.specs.Packing.{IsWhole, is_tag, place_at_end, unpacked_bytes, whole_behind}
 use Rattle.capnp_packing.specs.declared.packing.place.Place.TheVariants.{Tag}
 use Rattle.capnp_framing.proofs.WholenessLemmas.{keeps_whole_both}
 use Rattle.capnp_framing.specs.declared.framing.frame_error.FrameError.TheVariants.{ReadFailed, Truncated, WriteFailed}
-use Rattle.capnp_streams.specs.Packed.{AreCut, IsCutBehind}
+use Rattle.capnp_streams.specs.Packed.{IsCutBehind}
 use Rattle.capnp_streams.specs.Streams.{AllAreDone, StopsAt, StopsBehind}
 use Rattle.capnp_streams.specs.declared.streams.fault.Fault.{Fault}
 use Rattle.capnp_streams.specs.declared.streams.fault.Fault.TheVariants.{Frame}
@@ -17,7 +17,8 @@ use Rattle.capnp_streams.specs.declared.streams.runs.Stop.{Stop}
 use Rattle.capnp_streams.specs.declared.streams.runs.Summary.{Summary}
 use Rattle.capnp_streams.specs.declared.streams.task.Task.{Task}
 
-are_cut : (packed : Option (List ℕ)) → KeepsWhole (whole_behind Tag packed) (Some false) → AreCut packed
+are_cut : (packed : Option (List ℕ)) → KeepsWhole (whole_behind Tag packed) (Some false) →
+    IfSome packed (λ bytes. IsWhole Tag bytes → ⊥)
 are_cut None kept = tt
 are_cut (Some bytes) kept = λ whole.
     let same : false ≡ is_tag (place_at_end Tag bytes) = cc in

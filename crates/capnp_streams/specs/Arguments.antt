@@ -1,9 +1,9 @@
 -- The words behind the program's name: a command, and options in any order.
-use Rattle.std.specs.Prelude.{◌≡◌, ◌⊎◌, ℕ, ℤ, pos, List, [], ◌∷◌, codes, Option, Some, true, false, ⊤}
-use Rattle.capnp_arena.specs.declared.arena.reader_arena_impl.ReaderOptions.{ReaderOptions}
+use Rattle.std.specs.Prelude.{◌≡◌, ◌⊎◌, ℕ, ℤ, pos, List, [], ◌∷◌, codes, Option, Some, true, false}
 use Rattle.capnp_layout.specs.Arguments.{IsBudget, IsNesting}
 use Rattle.capnp_streams.specs.declared.streams.task.Command.{Command}
 use Rattle.capnp_streams.specs.declared.streams.task.Command.TheVariants.{Canon, Check, Size}
+use Rattle.capnp_streams.specs.declared.streams.task.Form.{Form}
 use Rattle.capnp_streams.specs.declared.streams.task.Form.TheVariants.{Framed, Flat}
 use Rattle.capnp_streams.specs.declared.streams.task.Request.{Request}
 use Rattle.capnp_streams.specs.declared.streams.task.Request.TheVariants.{Help, Version, Run}
@@ -15,29 +15,22 @@ NamesCommand name (Canon form) = (name ≡ codes "canon") × (form ≡ Framed)
 NamesCommand name Check = name ≡ codes "check"
 NamesCommand name Size = name ≡ codes "size"
 
-abbrev pub IsCanon : Command → Type 0
-IsCanon (Canon form) = ⊤
-IsCanon _ = ⊥
-
 -- An option without a value makes one task of another.
 abbrev pub IsFlag : List ℕ → Task → Task → Type 0
 IsFlag name from to =
     ((name ≡ codes "--packed") × (to ≡ record from { unpack = true }))
-    ⊎ ((name ≡ codes "--flat") × IsCanon from.command × (to ≡ record from { command = Canon Flat }))
-    ⊎ ((name ≡ codes "--pack") × IsCanon from.command × (to ≡ record from { pack = true }))
+    ⊎ ((name ≡ codes "--flat") × ((form : Form) × (from.command ≡ Canon form))
+    × (to ≡ record from { command = Canon Flat }))
+    ⊎ ((name ≡ codes "--pack") × ((form : Form) × (from.command ≡ Canon form))
+    × (to ≡ record from { pack = true }))
 
 -- An option with a value makes one task of another.
-abbrev pub nested_task : ℤ → Task → Task
-nested_task n task = record task { limits = record task.limits { nesting_limit = n } }
-
-abbrev pub limited_task : Option ℕ → Task → Task
-limited_task limit task = record task { limits = record task.limits { traversal_limit_in_words = limit } }
-
 abbrev pub IsSetting : List ℕ → List ℕ → Task → Task → Type 0
 IsSetting name value from to =
-    ((name ≡ codes "--nesting") × ((n : ℤ) × IsNesting value n × (to ≡ nested_task n from)))
-    ⊎ ((name ≡ codes "--words") × ((limit : Option ℕ) × IsBudget value limit ×
-    (to ≡ limited_task limit from)))
+    ((name ≡ codes "--nesting") × ((n : ℤ) × IsNesting value n
+    × (to ≡ record from { limits = record from.limits { nesting_limit = n } })))
+    ⊎ ((name ≡ codes "--words") × ((limit : Option ℕ) × IsBudget value limit
+    × (to ≡ record from { limits = record from.limits { traversal_limit_in_words = limit } })))
 
 -- Options make one task of another, each in turn.
 abbrev pub AreOptions : List (List ℕ) → Task → Task → Type 0
@@ -47,13 +40,14 @@ AreOptions (name ∷ value ∷ more) from to =
     ((next : Task) × IsFlag name from next × AreOptions (value ∷ more) next to)
     ⊎ ((next : Task) × IsSetting name value from next × AreOptions more next to)
 
--- a nesting limit of 64, and a traversal limit of 8,388,608 words
-abbrev pub default_limits : ReaderOptions
-default_limits = record { traversal_limit_in_words = Some 8388608; nesting_limit = pos 64 }
-
--- a command without options
+-- a command without options: a nesting limit of 64, and a traversal limit of 8,388,608 words
 abbrev pub plain_task : Command → Task
-plain_task command = record { command = command; limits = default_limits; unpack = false; pack = false }
+plain_task command = record {
+  command = command;
+  limits = record { traversal_limit_in_words = Some 8388608; nesting_limit = pos 64 };
+  unpack = false;
+  pack = false;
+}
 
 -- `--help` or `--version` alone, or a command's name and options
 abbrev pub AsksFor : List (List ℕ) → Request → Type 0

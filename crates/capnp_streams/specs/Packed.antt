@@ -15,22 +15,16 @@ use Rattle.capnp_streams.specs.declared.streams.task.Task.{Task}
 abbrev pub unpacked_stage : Stage → Stage
 unpacked_stage stage = record stage { input = option_map (unpacked_bytes Tag) stage.input }
 
--- Packed bytes that are known are whole; or they are cut short, within a word or before a number.
-abbrev pub AreWhole : Option (List ℕ) → Type 0
-AreWhole packed = IfSome packed (λ bytes. IsWhole Tag bytes)
-
-abbrev pub AreCut : Option (List ℕ) → Type 0
-AreCut packed = IfSome packed (λ bytes. IsWhole Tag bytes → ⊥)
-
 -- All messages of a packed input are answered, and it was whole.
 abbrev pub AllPackedAreDone : Task → Stage → Option (List ℕ) → Summary → Type 0
 AllPackedAreDone task old output summary =
-    AreWhole old.input × AllAreDone task (unpacked_stage old) output summary
+    IfSome old.input (λ bytes. IsWhole Tag bytes) × AllAreDone task (unpacked_stage old) output summary
 
--- So many are answered, and behind them the packed input is cut short, where no frame has begun.
+-- So many are answered, and behind them the packed input is cut short, within a word or before a number,
+-- where no frame has begun.
 abbrev pub IsCutBehind : Task → Stage → Option (List ℕ) → Stop → Type 0
 IsCutBehind task old output stop =
-    (stop.fault ≡ Frame Truncated) × AreCut old.input
+    (stop.fault ≡ Frame Truncated) × IfSome old.input (λ bytes. IsWhole Tag bytes → ⊥)
     × ((holds : Bool)
     × AllAreDone task (unpacked_stage old) output (record { messages = stop.answered; holds = holds }))
 

@@ -1,6 +1,6 @@
 -- The messages that stand in a stream, one frame behind the other, and what a task answers to them.
 use Rattle.std.specs.Prelude.{◌≡◌, ◌⊎◌, ℕ, ◌+◌, ◌-◌, ◌^◌, ◌≤◌, List, [], ◌∷◌, ◌++◌, All, length, codes, ⊤}
-use Rattle.std.specs.Prelude.{Bool, true, false, ◌&&◌, Option, Some, None, IfSome, IsSomeAnd}
+use Rattle.std.specs.Prelude.{Bool, true, false, ◌&&◌, Option, IfSome, IsSomeAnd, unwrap_or}
 use Rattle.std.specs.Fmt.{decimal}
 use Rattle.std.specs.Io.KnownBytes.{Appends, Consumes, IsAtEnd}
 use Rattle.capnp_words.specs.Meter.{unused}
@@ -45,12 +45,8 @@ fault_name (Layout k) = name_of k
 fault_name TooManyMessages = codes "TooManyMessages"
 
 -- How many words a message may have of which the frame is read: those of the traversal limit.
-abbrev pub words_within : Option ℕ → ℕ
-words_within (Some n) = n
-words_within None = 2 ^ 64 - 1
-
 abbrev pub most_words : ReaderOptions → ℕ
-most_words limits = words_within limits.traversal_limit_in_words
+most_words limits = unwrap_or limits.traversal_limit_in_words (2 ^ 64 - 1)
 
 -- The bytes of a canonical message in a form.
 abbrev pub form_bytes : Form → List ℕ → List ℕ
@@ -74,18 +70,14 @@ word_text word = codes ", word " ++ decimal word ++ 10 ∷ []
 abbrev pub fault_line : CanonicalFault → List ℕ
 fault_line f = no_text ++ fault_reason_text f.reason ++ segment_text f.segment ++ word_text f.word
 
--- The line that says whether a message is canonical, and if not why: the reason is true of the word that it
--- names.
-abbrev pub ChecksAs : Segments → ReaderOptions → Bool → List ℕ → Type 0
-ChecksAs S limits true bytes = IsCanonicalMessage S × (bytes ≡ check_line true)
-ChecksAs S limits false bytes =
-    (IsCanonicalMessage S → ⊥) × ((f : CanonicalFault) × IsFaultOf S limits f × (bytes ≡ fault_line f))
-
--- What a command answers to a message: yes or no, and these bytes.
+-- What a command answers to a message: yes or no, and these bytes. The line that says that a message isn't
+-- canonical says why: the reason is true of the word that it names.
 abbrev pub AnswerIs : Command → ReaderOptions → Segments → Bool → List ℕ → Type 0
 AnswerIs (Canon form) limits S holds bytes =
     (holds ≡ true) × ((t : Tree) × IsValueOf S limits t × (bytes ≡ form_bytes form (encoding (trim t))))
-AnswerIs Check limits S holds bytes = ChecksAs S limits holds bytes
+AnswerIs Check limits S true bytes = IsCanonicalMessage S × (bytes ≡ check_line true)
+AnswerIs Check limits S false bytes =
+    (IsCanonicalMessage S → ⊥) × ((f : CanonicalFault) × IsFaultOf S limits f × (bytes ≡ fault_line f))
 AnswerIs Size limits S holds bytes =
     (holds ≡ true) × ((words : ℕ) × (caps : ℕ) × HasSizeOf S limits words caps ×
     (bytes ≡ size_line words caps))
