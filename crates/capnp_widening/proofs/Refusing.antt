@@ -1,33 +1,20 @@
 -- Growths that are refused.
-use Rattle.std.proofs.Common.{◌≡◌, inl, inr, true, ℕ, ◌+◌, length, sym, ap, ◌∙◌, subst, arith}
+use Rattle.std.proofs.Common.{◌≡◌, inl, inr, true, ℕ, ◌+◌, ◌≤◌, length, sym, ap, ◌∙◌, subst}
 use Rattle.capnp_words.specs.declared.error.ErrorKind.{ErrorKind}
-use Rattle.capnp_format.specs.Segments.{segment}
+use Rattle.capnp_format.specs.Segments.{Segments, segment}
 use Rattle.capnp_arena.specs.Taking.{IsAllocationRefusal, IsFirstFit}
 use Rattle.capnp_arena.specs.View.{View}
-use Rattle.capnp_making.specs.Memory.{refusals_for, SpendsMemory, IsRefusedFor, RefusesGrowth, RefusesWords}
+use Rattle.capnp_making.specs.Memory.{RefusesGrowth, RefusesWords}
+use Rattle.capnp_making.proofs.Memory.{made_refused, words_in}
 use Rattle.capnp_widening.specs.Rooms.{is_allocation_name}
 
--- n words and one more are refused where no segment has room
-pub words_refused : (a b : View) (n : ℕ) (k : ErrorKind) → IsRefusedFor a b n k → b.words ≡ a.words → ((j : ℕ) → IsFirstFit a (n + 1) j → ⊥) → RefusesWords a b n k × SpendsMemory a b k
-words_refused a b n k (r, e) words full =
-    let room : b.room ≡ a.room = ap (λ (v : View). v.room) e in
-    let same : (j : ℕ) → b.room j ≡ a.room j = λ j. ap (λ (f : ℕ → ℕ). f j) room in
-    let segments : length b.words ≡ length a.words = ap length words in
-    let lengths : (j : ℕ) → length (segment b.words j) ≡ length (segment a.words j) = λ j. ap (λ S. length (segment S j)) words in (
-      (
-        subst (λ i. IsAllocationRefusal a b i (n + 1) k) (sym segments) r,
-        λ j fit. full j (omega (arith, fit.0, segments), omega (arith, fit.1, lengths j, same j), λ i less. omega (arith, fit.2 i less, lengths i, same i)),
-      ),
-      (
-        e ∙ ap (λ (f : ℕ → ℕ). record a { words = b.words; room = f; refusals = b.refusals }) (sym room),
-        λ j l. same j,
-        elim r [
-          | inl (x, f, g, h) ↦ h ∙ sym (ap (λ i. refusals_for i a.refusals) x)
-          | inr (inl (x, f, g, h)) ↦ h ∙ sym (ap (λ i. refusals_for i a.refusals) x)
-          | inr (inr (x, f, h)) ↦ h ∙ sym (ap (λ i. refusals_for i a.refusals) x)
-        ],
-      ),
-    )
+-- n words are refused where segment id has no room for them, and no segment has it for one more
+pub anywhere_refused : (a mid b : View) (id n : ℕ) (k : ErrorKind) → mid ≡ a → (length (segment a.words id) + n ≤ a.room id → ⊥) → IsAllocationRefusal mid b (length mid.words) (n + 1) k → b ≡ record mid { refusals = b.refusals } →
+    ((j : ℕ) → IsFirstFit mid (n + 1) j → ⊥) → RefusesWords a b n k
+anywhere_refused a mid b id n k same full named e none =
+    let all : b ≡ record mid { words = b.words; refusals = b.refusals } = e ∙ ap (λ (S : Segments). record mid { words = S; refusals = b.refusals }) (sym (ap words_in e)) in
+    subst (λ v. (length (segment v.words id) + n ≤ v.room id → ⊥) → RefusesWords v b n k) same
+    (λ closed. (made_refused mid b id n k (named, all) (ap words_in e) (λ room. elim room [ inl fits ↦ closed fits | inr (j, fit) ↦ none j fit ])).0) full
 
 -- by what names they are
 words_named : (a b : View) (n : ℕ) (k : ErrorKind) → RefusesWords a b n k → is_allocation_name k ≡ true

@@ -59,13 +59,12 @@ pub fn get_struct_list<A: BuilderArena>(
     ensures few { GrowsForList (IsStored (A.view arena.old).words id at)
         (A.view arena.old).words (A.view arena.new).words size }
 {
-    match existing::get_list(arena, id, at, ElementSize::Void) {
-        Ok(Some(old)) => match widen_list(arena, id, at, old, size) {
-            Ok(list) => Ok(Some(list)),
-            Err(k) => Err(k),
-        },
-        Ok(None) => Ok(None),
-        Err(k) => Err(k),
+    match existing::get_list(arena, id, at, ElementSize::Void)? {
+        Some(old) => {
+            let list = widen_list(arena, id, at, old, size)?;
+            Ok(Some(list))
+        }
+        None => Ok(None),
     }
 }
 

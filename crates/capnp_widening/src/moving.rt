@@ -121,18 +121,16 @@ fn point_to<A: BuilderArena>(
             arena.set_word(to.segment, to.at, far.0);
             Ok(())
         }
-        None => match arena.allocate_anywhere(2) {
-            Ok((segment, pad)) => {
-                let start = WirePointer::new_far(object.at, object.segment);
-                arena.set_word(segment, pad, start.0);
-                let tag = tag_of(shape);
-                arena.set_word(segment, pad + 1, tag.0);
-                let far = WirePointer::new_double_far(pad, segment);
-                arena.set_word(to.segment, to.at, far.0);
-                Ok(())
-            }
-            Err(k) => Err(k),
-        },
+        None => {
+            let (segment, pad) = arena.allocate_anywhere(2)?;
+            let start = WirePointer::new_far(object.at, object.segment);
+            arena.set_word(segment, pad, start.0);
+            let tag = tag_of(shape);
+            arena.set_word(segment, pad + 1, tag.0);
+            let far = WirePointer::new_double_far(pad, segment);
+            arena.set_word(to.segment, to.at, far.0);
+            Ok(())
+        }
     }
 }
 

@@ -108,27 +108,23 @@ fn remake_numbers<A: BuilderArena>(
     ensures fits { HasRoom (A.view arena.old) id (structs_words old.count size) → IsOk result }
 {
     let pointer = word_of(arena, id, at);
-    match begin_list(arena, id, old.count, size) {
-        Ok(room) => {
-            let first = Start {
-                segment: room.segment,
-                at: room.at + room.pads + 1,
-            };
-            copy_numbers(arena, old, first, size.total());
-            let shape = Shape::List(ElementSize::InlineComposite, old.count * size.total());
-            settle(arena, id, at, room, shape);
-            zero_part(arena, old.segment, old.start, words_of_numbers(old));
-            zero_pads(arena, pointer);
-            Ok(ExistingList {
-                segment: first.segment,
-                start: first.at,
-                size: ElementSize::InlineComposite,
-                struct_size: size,
-                count: old.count,
-            })
-        }
-        Err(k) => Err(k),
-    }
+    let room = begin_list(arena, id, old.count, size)?;
+    let first = Start {
+        segment: room.segment,
+        at: room.at + room.pads + 1,
+    };
+    copy_numbers(arena, old, first, size.total());
+    let shape = Shape::List(ElementSize::InlineComposite, old.count * size.total());
+    settle(arena, id, at, room, shape);
+    zero_part(arena, old.segment, old.start, words_of_numbers(old));
+    zero_pads(arena, pointer);
+    Ok(ExistingList {
+        segment: first.segment,
+        start: first.at,
+        size: ElementSize::InlineComposite,
+        struct_size: size,
+        count: old.count,
+    })
 }
 
 /// Copies the numbers of a list into the first words of rows of so many words.

@@ -194,8 +194,8 @@ pub fn open_struct_list<A: BuilderArena>(
     ensures fits { WiderListFits (IsStored (A.view arena.old).words id at)
         (A.view arena.old) id at size → IsOk result }
 {
-    match existing::get_list(arena, id, at, ElementSize::Void) {
-        Ok(Some(old)) => {
+    match existing::get_list(arena, id, at, ElementSize::Void)? {
+        Some(old) => {
             if is_wide_list(old, size) {
                 return Ok(Some(old));
             }
@@ -204,8 +204,7 @@ pub fn open_struct_list<A: BuilderArena>(
                 None => get_struct_list(arena, id, at, size),
             }
         }
-        Ok(None) => Ok(None),
-        Err(k) => Err(k),
+        None => Ok(None),
     }
 }
 

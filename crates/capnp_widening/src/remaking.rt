@@ -270,35 +270,31 @@ fn remake_rows<A: BuilderArena>(
 {
     let pointer = word_of(arena, id, at);
     let words = old.count * size.total();
-    match begin_list(arena, id, old.count, size) {
-        Ok(room) => {
-            let tag = room.at + room.pads;
-            let first = Start {
-                segment: room.segment,
-                at: tag + 1,
-            };
-            match fill_rows(arena, old, first, size) {
-                Ok(()) => {
-                    let shape = Shape::List(ElementSize::InlineComposite, words);
-                    settle(arena, id, at, room, shape);
-                    let step = u64::from(old.size.total());
-                    let length = u64::from(old.tag) + u64::from(old.count) * step;
-                    zero_part(arena, old.segment, old.at, length);
-                    zero_pads(arena, pointer);
-                    Ok(ExistingList {
-                        segment: first.segment,
-                        start: first.at,
-                        size: ElementSize::InlineComposite,
-                        struct_size: size,
-                        count: old.count,
-                    })
-                }
-                Err(k) => {
-                    zero_part(arena, room.segment, tag, 1 + u64::from(words));
-                    Err(k)
-                }
-            }
+    let room = begin_list(arena, id, old.count, size)?;
+    let tag = room.at + room.pads;
+    let first = Start {
+        segment: room.segment,
+        at: tag + 1,
+    };
+    match fill_rows(arena, old, first, size) {
+        Ok(()) => {
+            let shape = Shape::List(ElementSize::InlineComposite, words);
+            settle(arena, id, at, room, shape);
+            let step = u64::from(old.size.total());
+            let length = u64::from(old.tag) + u64::from(old.count) * step;
+            zero_part(arena, old.segment, old.at, length);
+            zero_pads(arena, pointer);
+            Ok(ExistingList {
+                segment: first.segment,
+                start: first.at,
+                size: ElementSize::InlineComposite,
+                struct_size: size,
+                count: old.count,
+            })
         }
-        Err(k) => Err(k),
+        Err(k) => {
+            zero_part(arena, room.segment, tag, 1 + u64::from(words));
+            Err(k)
+        }
     }
 }

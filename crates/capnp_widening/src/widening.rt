@@ -65,14 +65,14 @@ pub(crate) fn take<A: BuilderArena>(arena: &mut A, id: u32, amount: u32) -> Resu
             at,
             pads: 0,
         }),
-        None => match arena.allocate_anywhere(amount + 1) {
-            Ok((segment, at)) => Ok(Room {
+        None => {
+            let (segment, at) = arena.allocate_anywhere(amount + 1)?;
+            Ok(Room {
                 segment,
                 at,
                 pads: 1,
-            }),
-            Err(k) => Err(k),
-        },
+            })
+        }
     }
 }
 
@@ -239,36 +239,32 @@ fn widen_struct<A: BuilderArena>(
         → HasOwnRoom (A.view arena.old) id (size.data_words + size.pointers) → IsOk result }
 {
     let pointer = word_of(arena, id, at);
-    match take(arena, id, size.total()) {
-        Ok(room) => {
-            let made = ExistingStruct {
-                segment: room.segment,
-                start: room.at + room.pads,
-                size,
-            };
-            copy_words(
-                arena,
-                data_of(old),
-                data_of(made),
-                u32::from(old.size.data_words),
-            );
-            let from = pointers_of(old);
-            let to = pointers_of(made);
-            let count = u32::from(old.size.pointers);
-            match move_row(arena, from, to, count) {
-                Ok(()) => {
-                    settle(arena, id, at, room, Shape::Struct(size));
-                    zero_part(arena, old.segment, old.start, u64::from(old.size.total()));
-                    zero_pads(arena, pointer);
-                    Ok(made)
-                }
-                Err(k) => {
-                    unmove_row(arena, from, to, count);
-                    zero_part(arena, made.segment, made.start, u64::from(size.total()));
-                    Err(k)
-                }
-            }
+    let room = take(arena, id, size.total())?;
+    let made = ExistingStruct {
+        segment: room.segment,
+        start: room.at + room.pads,
+        size,
+    };
+    copy_words(
+        arena,
+        data_of(old),
+        data_of(made),
+        u32::from(old.size.data_words),
+    );
+    let from = pointers_of(old);
+    let to = pointers_of(made);
+    let count = u32::from(old.size.pointers);
+    match move_row(arena, from, to, count) {
+        Ok(()) => {
+            settle(arena, id, at, room, Shape::Struct(size));
+            zero_part(arena, old.segment, old.start, u64::from(old.size.total()));
+            zero_pads(arena, pointer);
+            Ok(made)
         }
-        Err(k) => Err(k),
+        Err(k) => {
+            unmove_row(arena, from, to, count);
+            zero_part(arena, made.segment, made.start, u64::from(size.total()));
+            Err(k)
+        }
     }
 }

@@ -1,3 +1,4 @@
+use Rattle.std.proofs.lemmas.Result.{err_from_is_err_and}
 use Rattle.std.proofs.Common.{◌≡◌, ◌≢◌, inl, inr, ℕ, ◌+◌, ◌^◌, ◌<◌, ◌≤◌, length, replicate, refl, sym, ap, subst, arith, rules}
 use Rattle.capnp_format.specs.Segments.{Segments, segment}
 use Rattle.capnp_format.specs.Word.{kind, offset_bits}
@@ -7,10 +8,9 @@ use Rattle.capnp_making.specs.Made.{IsShape, IsGrown}
 use Rattle.capnp_making.proofs.MadeWords.{word_put, taken_grown, extended_grown}
 use Rattle.std.proofs.Common.{◌∙◌}
 use Rattle.capnp_arena.specs.View.{View}
-use Rattle.capnp_making.specs.Memory.{RefusesWords}
 use Rattle.capnp_arena.specs.Written.{extended}
 use Rattle.capnp_widening.specs.Rooms.{all_words}
-use Rattle.capnp_widening.proofs.Refusing.{words_refused}
+use Rattle.capnp_widening.proofs.Refusing.{anywhere_refused}
 use Rattle.capnp_widening.proofs.Rooms.{not_true, words_put, words_extended, words_taken, room_still, none_refused}
 use Rattle.capnp_making.proofs.Memory.{words_in}
 use Rattle.capnp_making.proofs.Shapes.{shape_near}
@@ -76,70 +76,70 @@ returns-in-Some-clause-points g c =
     )
 
 -- A far pointer to two pads, in words that the arena gave.
-pub set_word-requires-in-Ok : goal.set_word-requires-in-Ok
-set_word-requires-in-Ok g c =
+pub set_word-requires-in-None : goal.set_word-requires-in-None
+set_word-requires-in-None g c =
     let S : Segments = (g.A.BuilderArena.view c.args.arena.now).words in
     let T : Segments = (g.A.BuilderArena.view c.allocate_anywhere.new.self).words in
     let same : (g.A.BuilderArena.view c.allocate.new.self).words ≡ S = ap words_in (c.in-None.ensures.none refl) in
-    let grown : IsGrown S T c.in-Ok.segment c.in-Ok.pad 2 = taken_grown S T 2 c.in-Ok.segment c.in-Ok.pad (rw same at c.in-Ok.ensures.taken) in
+    let grown : IsGrown S T c.in_ok-segment-in-None.segment c.in_ok-segment-in-None.pad 2 = taken_grown S T 2 c.in_ok-segment-in-None.segment c.in_ok-segment-in-None.pad (rw same at c.in_ok-segment-in-None.ensures.taken) in
     omega (arith, grown.room)
 
-pub set_word-requires-in-Ok-2 : goal.set_word-requires-in-Ok-2
-set_word-requires-in-Ok-2 g c =
+pub set_word-requires-in-None-2 : goal.set_word-requires-in-None-2
+set_word-requires-in-None-2 g c =
     let S : Segments = (g.A.BuilderArena.view c.args.arena.now).words in
     let T : Segments = (g.A.BuilderArena.view c.allocate_anywhere.new.self).words in
     let same : (g.A.BuilderArena.view c.allocate.new.self).words ≡ S = ap words_in (c.in-None.ensures.none refl) in
-    let grown : IsGrown S T c.in-Ok.segment c.in-Ok.pad 2 = taken_grown S T 2 c.in-Ok.segment c.in-Ok.pad (rw same at c.in-Ok.ensures.taken) in
-    let first = word_put T _ c.in-Ok.segment c.in-Ok.pad c.new_far-start.result.0 (omega (arith, grown.room)) (ap words_in c.set_word-in-Ok.ensures) in
-    omega (arith, grown.room, first.words c.in-Ok.segment)
+    let grown : IsGrown S T c.in_ok-segment-in-None.segment c.in_ok-segment-in-None.pad 2 = taken_grown S T 2 c.in_ok-segment-in-None.segment c.in_ok-segment-in-None.pad (rw same at c.in_ok-segment-in-None.ensures.taken) in
+    let first = word_put T _ c.in_ok-segment-in-None.segment c.in_ok-segment-in-None.pad c.new_far-start.result.0 (omega (arith, grown.room)) (ap words_in c.set_word-in-None.ensures) in
+    omega (arith, grown.room, first.words c.in_ok-segment-in-None.segment)
 
-pub set_word-requires-in-Ok-3 : goal.set_word-requires-in-Ok-3
-set_word-requires-in-Ok-3 g c =
+pub set_word-requires-in-None-3 : goal.set_word-requires-in-None-3
+set_word-requires-in-None-3 g c =
     let S : Segments = (g.A.BuilderArena.view c.args.arena.now).words in
     let T : Segments = (g.A.BuilderArena.view c.allocate_anywhere.new.self).words in
-    let U : Segments = (g.A.BuilderArena.view c.set_word-in-Ok.new.self).words in
-    let k : ℕ = c.in-Ok.segment in
-    let q : ℕ = c.in-Ok.pad in
+    let U : Segments = (g.A.BuilderArena.view c.set_word-in-None.new.self).words in
+    let k : ℕ = c.in_ok-segment-in-None.segment in
+    let q : ℕ = c.in_ok-segment-in-None.pad in
     let same : (g.A.BuilderArena.view c.allocate.new.self).words ≡ S = ap words_in (c.in-None.ensures.none refl) in
-    let grown : IsGrown S T k q 2 = taken_grown S T 2 k q (rw same at c.in-Ok.ensures.taken) in
-    let first = word_put T U k q c.new_far-start.result.0 (omega (arith, grown.room)) (ap words_in c.set_word-in-Ok.ensures) in
-    let second = word_put U _ k (q + 1) c.tag_of-tag.result.0 (omega (arith, grown.room, first.words k)) (ap words_in c.set_word-in-Ok-2.ensures) in
+    let grown : IsGrown S T k q 2 = taken_grown S T 2 k q (rw same at c.in_ok-segment-in-None.ensures.taken) in
+    let first = word_put T U k q c.new_far-start.result.0 (omega (arith, grown.room)) (ap words_in c.set_word-in-None.ensures) in
+    let second = word_put U _ k (q + 1) c.tag_of-tag.result.0 (omega (arith, grown.room, first.words k)) (ap words_in c.set_word-in-None-2.ensures) in
     omega (arith, c.requires.to, grown.grows.words c.args.to.segment, first.words c.args.to.segment, second.words c.args.to.segment)
 
-pub returns-in-Ok-clause-points : goal.returns-in-Ok-clause-points
-returns-in-Ok-clause-points g c =
+pub returns-in_ok-segment-in-None-clause-points : goal.returns-in_ok-segment-in-None-clause-points
+returns-in_ok-segment-in-None-clause-points g c =
     let S : Segments = (g.A.BuilderArena.view c.args.arena.now).words in
     let T : Segments = (g.A.BuilderArena.view c.allocate_anywhere.new.self).words in
-    let U : Segments = (g.A.BuilderArena.view c.set_word-in-Ok.new.self).words in
-    let V : Segments = (g.A.BuilderArena.view c.set_word-in-Ok-2.new.self).words in
-    let R : Segments = (g.A.BuilderArena.view c.set_word-in-Ok-3.new.self).words in
+    let U : Segments = (g.A.BuilderArena.view c.set_word-in-None.new.self).words in
+    let V : Segments = (g.A.BuilderArena.view c.set_word-in-None-2.new.self).words in
+    let R : Segments = (g.A.BuilderArena.view c.set_word-in-None-3.new.self).words in
     let v : ℕ = c.args.object.segment in
     let b : ℕ = c.args.object.at in
-    let k : ℕ = c.in-Ok.segment in
-    let q : ℕ = c.in-Ok.pad in
+    let k : ℕ = c.in_ok-segment-in-None.segment in
+    let q : ℕ = c.in_ok-segment-in-None.pad in
     let x : ℕ = c.tag_of-tag.result.0 in
     let shaped : IsShape c.args.shape x = c.tag_of-tag.ensures in
     let same : (g.A.BuilderArena.view c.allocate.new.self).words ≡ S = ap words_in (c.in-None.ensures.none refl) in
-    let grown : IsGrown S T k q 2 = taken_grown S T 2 k q (rw same at c.in-Ok.ensures.taken) in (
+    let grown : IsGrown S T k q 2 = taken_grown S T 2 k q (rw same at c.in_ok-segment-in-None.ensures.taken) in (
       record { word = x; segment = v; start = b; pads = 2 },
-      pointed_double S T U V R c.args.to.segment c.args.to.at v b k q c.new_far-start.result.0 x c.new_double_far-far.result.0 c.requires.to c.requires.there c.requires.inside grown (ap words_in c.set_word-in-Ok.ensures)
-          (ap words_in c.set_word-in-Ok-2.ensures) (ap words_in c.set_word-in-Ok-3.ensures) c.new_far-start.ensures.segment_of c.new_far-start.ensures.position_of (shape_near c.args.shape x shaped)
+      pointed_double S T U V R c.args.to.segment c.args.to.at v b k q c.new_far-start.result.0 x c.new_double_far-far.result.0 c.requires.to c.requires.there c.requires.inside grown (ap words_in c.set_word-in-None.ensures)
+          (ap words_in c.set_word-in-None-2.ensures) (ap words_in c.set_word-in-None-3.ensures) c.new_far-start.ensures.segment_of c.new_far-start.ensures.position_of (shape_near c.args.shape x shaped)
           c.new_double_far-far.ensures.kind_of c.new_double_far-far.ensures.pads c.new_double_far-far.ensures.position_of c.new_double_far-far.ensures.segment_of,
       shaped,
       inl (refl, refl),
     )
 
-pub returns-in-Ok-clause-longer : goal.returns-in-Ok-clause-longer
-returns-in-Ok-clause-longer g c = let (a, w, shaped, lies) = returns-in-Ok-clause-points g c in w.grows
+pub returns-in_ok-segment-in-None-clause-longer : goal.returns-in_ok-segment-in-None-clause-longer
+returns-in_ok-segment-in-None-clause-longer g c = let (a, w, shaped, lies) = returns-in_ok-segment-in-None-clause-points g c in w.grows
 
 -- No segment has room for two words more.
-pub returns-in-Err-clause-full : goal.returns-in-Err-clause-full
-returns-in-Err-clause-full g c =
+pub returns-in_err-segment-in-None-clause-full : goal.returns-in_err-segment-in-None-clause-full
+returns-in_err-segment-in-None-clause-full g c =
     let mid : View = g.A.BuilderArena.view c.allocate.new.self in
     let b : View = g.A.BuilderArena.view c.allocate_anywhere.new.self in
-    let e = c.in-Err.ensures.refused in
-    let all : b ≡ record mid { words = b.words; refusals = b.refusals } = e ∙ ap (λ (S : Segments). record mid { words = S; refusals = b.refusals }) (sym (ap words_in e)) in
-    subst (λ v. RefusesWords v b 1 c.in-Err.k) (c.in-None.ensures.none refl) (words_refused mid b 1 c.in-Err.k (c.in-Err.ensures.named, all) (ap words_in e) (λ j fit. c.in-Err.ensures.first j fit)).0
+    let e = c.in_err-segment-in-None.ensures in
+    let p = err_from_is_err_and c.from_residual.result c.from_residual.ensures.1 in
+    rw (p.1, p.2) (anywhere_refused (g.A.BuilderArena.view c.args.arena.now) mid b c.args.object.segment 1 _ (c.in-None.ensures.none refl) (λ l. not_true (c.in-None.ensures.exactly.1 l)) e.named e.refused (λ j fit. e.first j fit))
 
 -- No words are taken for a near pointer, one for a pad, or two.
 pub returns-then-object-to-clause-few : goal.returns-then-object-to-clause-few
@@ -161,33 +161,35 @@ returns-in-Some-clause-few g c =
     let second = words_put U R c.args.to.segment c.args.to.at c.new_far-far.result.0 (ap words_in c.set_word-in-Some-2.ensures) in
     omega (arith, ap all_words taken, one, first, second)
 
-pub returns-in-Ok-clause-few : goal.returns-in-Ok-clause-few
-returns-in-Ok-clause-few g c =
+pub returns-in_ok-segment-in-None-clause-few : goal.returns-in_ok-segment-in-None-clause-few
+returns-in_ok-segment-in-None-clause-few g c =
     let S : Segments = (g.A.BuilderArena.view c.args.arena.now).words in
     let T : Segments = (g.A.BuilderArena.view c.allocate_anywhere.new.self).words in
-    let U : Segments = (g.A.BuilderArena.view c.set_word-in-Ok.new.self).words in
-    let V : Segments = (g.A.BuilderArena.view c.set_word-in-Ok-2.new.self).words in
-    let R : Segments = (g.A.BuilderArena.view c.set_word-in-Ok-3.new.self).words in
-    let k : ℕ = c.in-Ok.segment in
-    let q : ℕ = c.in-Ok.pad in
+    let U : Segments = (g.A.BuilderArena.view c.set_word-in-None.new.self).words in
+    let V : Segments = (g.A.BuilderArena.view c.set_word-in-None-2.new.self).words in
+    let R : Segments = (g.A.BuilderArena.view c.set_word-in-None-3.new.self).words in
+    let k : ℕ = c.in_ok-segment-in-None.segment in
+    let q : ℕ = c.in_ok-segment-in-None.pad in
     let same : (g.A.BuilderArena.view c.allocate.new.self).words ≡ S = ap words_in (c.in-None.ensures.none refl) in
-    let two = words_taken S T 2 k q (rw same at c.in-Ok.ensures.taken) in
-    let first = words_put T U k q c.new_far-start.result.0 (ap words_in c.set_word-in-Ok.ensures) in
-    let second = words_put U V k (q + 1) c.tag_of-tag.result.0 (ap words_in c.set_word-in-Ok-2.ensures) in
-    let third = words_put V R c.args.to.segment c.args.to.at c.new_double_far-far.result.0 (ap words_in c.set_word-in-Ok-3.ensures) in
+    let two = words_taken S T 2 k q (rw same at c.in_ok-segment-in-None.ensures.taken) in
+    let first = words_put T U k q c.new_far-start.result.0 (ap words_in c.set_word-in-None.ensures) in
+    let second = words_put U V k (q + 1) c.tag_of-tag.result.0 (ap words_in c.set_word-in-None-2.ensures) in
+    let third = words_put V R c.args.to.segment c.args.to.at c.new_double_far-far.result.0 (ap words_in c.set_word-in-None-3.ensures) in
     omega (arith, two, first, second, third)
 
-pub returns-in-Err-clause-few : goal.returns-in-Err-clause-few
-returns-in-Err-clause-few g c = omega (arith, ap all_words (ap words_in c.in-Err.ensures.refused ∙ ap words_in (c.in-None.ensures.none refl)))
+pub returns-in_err-segment-in-None-clause-few : goal.returns-in_err-segment-in-None-clause-few
+returns-in_err-segment-in-None-clause-few g c = omega (arith, ap all_words (ap words_in c.in_err-segment-in-None.ensures.refused ∙ ap words_in (c.in-None.ensures.none refl)))
 
 -- Where words are refused, no segment has room for two.
-pub returns-in-Err-clause-fits : goal.returns-in-Err-clause-fits
-returns-in-Err-clause-fits g c = λ h.
+pub returns-in_err-segment-in-None-clause-fits : goal.returns-in_err-segment-in-None-clause-fits
+returns-in_err-segment-in-None-clause-fits g c = λ h.
     (let a : View = g.A.BuilderArena.view c.args.arena.now in
     let b : View = g.A.BuilderArena.view c.allocate_anywhere.new.self in
-    let words : b.words ≡ a.words = ap words_in c.in-Err.ensures.refused ∙ ap words_in (c.in-None.ensures.none refl) in
-    let room : b.room ≡ a.room = ap (λ (v : View). v.room) c.in-Err.ensures.refused ∙ ap (λ (v : View). v.room) (c.in-None.ensures.none refl) in
-    absurd (none_refused a b 1 c.in-Err.k (returns-in-Err-clause-full g c) (room_still a b 2 words room h)))
+    let words : b.words ≡ a.words = ap words_in c.in_err-segment-in-None.ensures.refused ∙ ap words_in (c.in-None.ensures.none refl) in
+    let room : b.room ≡ a.room = ap (λ (v : View). v.room) c.in_err-segment-in-None.ensures.refused ∙ ap (λ (v : View). v.room) (c.in-None.ensures.none refl) in
+    let e = c.in_err-segment-in-None.ensures in
+    let refused = anywhere_refused a (g.A.BuilderArena.view c.allocate.new.self) b c.args.object.segment 1 _ (c.in-None.ensures.none refl) (λ l. not_true (c.in-None.ensures.exactly.1 l)) e.named e.refused (λ j fit. e.first j fit) in
+    absurd (none_refused a b 1 _ refused (room_still a b 2 words room h)))
 
 -- In the object's segment.
 pub returns-then-object-to-clause-written : goal.returns-then-object-to-clause-written
@@ -215,23 +217,23 @@ returns-in-Some-clause-written g c = λ x its some.
     c.new_far-far.ensures.kind_of (inl (c.new_far-far.ensures.pads, c.new_far-far.ensures.segment_of)) some (same_shape c.args.shape x x its its).2)
 
 -- By two.
-pub returns-in-Ok-clause-written : goal.returns-in-Ok-clause-written
-returns-in-Ok-clause-written g c = λ x its some.
+pub returns-in_ok-segment-in-None-clause-written : goal.returns-in_ok-segment-in-None-clause-written
+returns-in_ok-segment-in-None-clause-written g c = λ x its some.
     (let a : View = g.A.BuilderArena.view c.args.arena.now in
     let t : View = g.A.BuilderArena.view c.allocate_anywhere.new.self in
-    let u : View = g.A.BuilderArena.view c.set_word-in-Ok.new.self in
-    let w : View = g.A.BuilderArena.view c.set_word-in-Ok-2.new.self in
-    let b : View = g.A.BuilderArena.view c.set_word-in-Ok-3.new.self in
-    let k : ℕ = c.in-Ok.segment in
-    let q : ℕ = c.in-Ok.pad in
+    let u : View = g.A.BuilderArena.view c.set_word-in-None.new.self in
+    let w : View = g.A.BuilderArena.view c.set_word-in-None-2.new.self in
+    let b : View = g.A.BuilderArena.view c.set_word-in-None-3.new.self in
+    let k : ℕ = c.in_ok-segment-in-None.segment in
+    let q : ℕ = c.in_ok-segment-in-None.pad in
     let other : c.args.object.segment ≢ c.args.to.segment = λ e. search rules in
     let before : g.A.BuilderArena.view c.allocate.new.self ≡ a = c.in-None.ensures.none refl in
-    let grown : IsGrown a.words t.words k q 2 = taken_grown a.words t.words 2 k q (rw before at c.in-Ok.ensures.taken) in
-    let first = put_writes t u k q c.new_far-start.result.0 (omega (arith, grown.room)) c.set_word-in-Ok.ensures in
-    let second = put_writes u w k (q + 1) c.tag_of-tag.result.0 (omega (arith, grown.room, first.words k)) c.set_word-in-Ok-2.ensures in
+    let grown : IsGrown a.words t.words k q 2 = taken_grown a.words t.words 2 k q (rw before at c.in_ok-segment-in-None.ensures.taken) in
+    let first = put_writes t u k q c.new_far-start.result.0 (omega (arith, grown.room)) c.set_word-in-None.ensures in
+    let second = put_writes u w k (q + 1) c.tag_of-tag.result.0 (omega (arith, grown.room, first.words k)) c.set_word-in-None-2.ensures in
     let place : c.args.to.at < length (segment w.words c.args.to.segment) = omega (arith, c.requires.to, grown.grows.words c.args.to.segment, first.words c.args.to.segment, second.words c.args.to.segment) in
-    let third = put_writes w b c.args.to.segment c.args.to.at c.new_double_far-far.result.0 place c.set_word-in-Ok-3.ensures in
-    let put = word_put w.words b.words c.args.to.segment c.args.to.at c.new_double_far-far.result.0 place (ap words_in c.set_word-in-Ok-3.ensures) in
-    let took = took_far a (g.A.BuilderArena.view c.allocate.new.self) t c.args.object.segment 1 k q before (λ l. not_true (c.in-None.ensures.exactly.1 l)) c.in-Ok.ensures.first c.in-Ok.ensures.another in
+    let third = put_writes w b c.args.to.segment c.args.to.at c.new_double_far-far.result.0 place c.set_word-in-None-3.ensures in
+    let put = word_put w.words b.words c.args.to.segment c.args.to.at c.new_double_far-far.result.0 place (ap words_in c.set_word-in-None-3.ensures) in
+    let took = took_far a (g.A.BuilderArena.view c.allocate.new.self) t c.args.object.segment 1 k q before (λ l. not_true (c.in-None.ensures.exactly.1 l)) c.in_ok-segment-in-None.ensures.first c.in_ok-segment-in-None.ensures.another in
     far_written a t b c.args.object.segment c.args.to.segment c.args.to.at c.new_double_far-far.result.0 x other took.0 (writes_both t w b (writes_both t u w first second) third) put.here
     c.new_double_far-far.ensures.kind_of (inr c.new_double_far-far.ensures.pads) some (same_shape c.args.shape x x its its).2)

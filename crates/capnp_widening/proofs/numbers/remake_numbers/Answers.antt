@@ -1,3 +1,4 @@
+use Rattle.std.proofs.lemmas.Result.{err_from_is_err_and}
 use Rattle.std.proofs.Common.{◌≡◌, ◌∙◌, ◌≤◌, ◌+◌, ◌*◌, ℕ, length, ap, subst, arith}
 use Rattle.capnp_arena.specs.View.{View, KeepsLimits}
 use Rattle.capnp_format.specs.Segments.{Segments}
@@ -13,86 +14,86 @@ use Rattle.capnp_widening.proofs.numbers.remake_numbers.Goals as goal
 -- The room lies in its segment, which has fewer than 2^29 words.
 pub overflow_add-first : goal.overflow_add-first
 overflow_add-first g c =
-    let (T, room, tagged) = c.in-Ok.ensures.begun in
-    let v : ℕ = c.in-Ok.room.segment in
+    let (T, room, tagged) = c.in_ok-room.ensures.begun in
+    let v : ℕ = c.in_ok-room.room.segment in
     omega (arith, room.0.room, tagged.words v, g.met.A.BuilderArena.within c.begin_list.new.arena v, g.met.A.BuilderArena.small c.begin_list.new.arena v)
 
-pub overflow_add-first-in-Ok : goal.overflow_add-first-in-Ok
-overflow_add-first-in-Ok g c =
-    let (T, room, tagged) = c.in-Ok.ensures.begun in
-    let v : ℕ = c.in-Ok.room.segment in
+pub overflow_add-first-2 : goal.overflow_add-first-2
+overflow_add-first-2 g c =
+    let (T, room, tagged) = c.in_ok-room.ensures.begun in
+    let v : ℕ = c.in_ok-room.room.segment in
     omega (arith, room.0.room, tagged.words v, g.met.A.BuilderArena.within c.begin_list.new.arena v, g.met.A.BuilderArena.small c.begin_list.new.arena v)
 
 limits_both : (x y z : View) → KeepsLimits x y → KeepsLimits y z → KeepsLimits x z
 limits_both x y z e f = f ∙ ap (λ (v : View). record v { words = z.words }) e
 
-pub returns-in-Ok-clause-granted : goal.returns-in-Ok-clause-granted
-returns-in-Ok-clause-granted g c =
+pub returns-clause-granted : goal.returns-clause-granted
+returns-clause-granted g c =
     let S : View = g.A.BuilderArena.view c.args.arena.now in
     let B : View = g.A.BuilderArena.view c.begin_list.new.arena in
     let D : View = g.A.BuilderArena.view c.copy_numbers.new.arena in
     let R : View = g.A.BuilderArena.view c.settle.new.arena in
     let Z : View = g.A.BuilderArena.view c.zero_part.new.arena in
     let Q : View = g.A.BuilderArena.view c.zero_pads.new.arena in
-    let (T, room, tagged) = c.in-Ok.ensures.begun in
+    let (T, room, tagged) = c.in_ok-room.ensures.begun in
     let begun : length S.words ≤ length B.words = omega (arith, room.0.grows.segments, tagged.segments) in
     let settled : KeepsLimits B R = limits_both B D R c.copy_numbers.ensures.limits c.settle.ensures.limits in
     let limits : KeepsLimits B Q = limits_both B Z Q (limits_both B R Z settled c.zero_part.ensures.limits) c.zero_pads.ensures.limits in
-    keeps_both S B Q begun c.in-Ok.ensures.granted (keeps_written B Q Q.words limits)
+    keeps_both S B Q begun c.in_ok-room.ensures.granted (keeps_written B Q Q.words limits)
 
-pub returns-in-Ok-clause-remade : goal.returns-in-Ok-clause-remade
-returns-in-Ok-clause-remade g c =
+pub returns-clause-remade : goal.returns-clause-remade
+returns-clause-remade g c =
     let S : Segments = (g.A.BuilderArena.view c.args.arena.now).words in
     let B : Segments = (g.A.BuilderArena.view c.begin_list.new.arena).words in
     let D : Segments = (g.A.BuilderArena.view c.copy_numbers.new.arena).words in
     let R : Segments = (g.A.BuilderArena.view c.settle.new.arena).words in
     let Z : Segments = (g.A.BuilderArena.view c.zero_part.new.arena).words in
     let Q : Segments = (g.A.BuilderArena.view c.zero_pads.new.arena).words in
-    let (T, room, tagged) = c.in-Ok.ensures.begun in
-    let steps : NumbersMade S T B D R Z Q c.args.id c.args.at c.args.old c.args.size c.in-Ok.room = record {
+    let (T, room, tagged) = c.in_ok-room.ensures.begun in
+    let steps : NumbersMade S T B D R Z Q c.args.id c.args.at c.args.old c.args.size c.in_ok-room.room = record {
       place = c.requires.place;
       room = room;
       tagged = tagged;
       copied = rw c.total.ensures at c.copy_numbers.ensures.copied;
-      settled = rw c.total-in-Ok.ensures at c.settle.ensures.settled;
+      settled = rw c.total-2.ensures at c.settle.ensures.settled;
       object_zeroed = rw c.words_of_numbers.ensures.value at c.zero_part.ensures.zeroed;
       pads_zeroed = rw c.word_of-pointer.ensures at c.zero_pads.ensures.zeroed;
     } in
-    numbers_made S T B D R Z Q c.args.id c.args.at c.args.old c.args.size c.in-Ok.room c.requires.kind.0 c.requires.kind.1 c.requires.data steps
+    numbers_made S T B D R Z Q c.args.id c.args.at c.args.old c.args.size c.in_ok-room.room c.requires.kind.0 c.requires.kind.1 c.requires.data steps
 
-pub returns-in-Ok-clause-anew : goal.returns-in-Ok-clause-anew
-returns-in-Ok-clause-anew g c =
+pub returns-clause-anew : goal.returns-clause-anew
+returns-clause-anew g c =
     let s : View = g.A.BuilderArena.view c.args.arena.now in
     let b : View = g.A.BuilderArena.view c.begin_list.new.arena in
     let d : View = g.A.BuilderArena.view c.copy_numbers.new.arena in
     let r : View = g.A.BuilderArena.view c.settle.new.arena in
     let z : View = g.A.BuilderArena.view c.zero_part.new.arena in
     let q : View = g.A.BuilderArena.view c.zero_pads.new.arena in
-    let (T, room, tagged) = c.in-Ok.ensures.begun in
+    let (T, room, tagged) = c.in_ok-room.ensures.begun in
     let (o, settled, shaped, segment_of, start_of) = c.settle.ensures.settled in
     let set : OnlyWrites d r = record { limits = c.settle.ensures.limits; segments = settled.segments; words = settled.words } in
     let zeroed = pruned_writes r z c.zero_part.ensures.limits c.zero_part.ensures.pruned in
     let cleared = pruned_writes z q c.zero_pads.ensures.limits c.zero_pads.ensures.pruned in
-    let steps : NumbersMade s.words T b.words d.words r.words z.words q.words c.args.id c.args.at c.args.old c.args.size c.in-Ok.room = record {
+    let steps : NumbersMade s.words T b.words d.words r.words z.words q.words c.args.id c.args.at c.args.old c.args.size c.in_ok-room.room = record {
       place = c.requires.place;
       room = room;
       tagged = tagged;
       copied = rw c.total.ensures at c.copy_numbers.ensures.copied;
-      settled = rw c.total-in-Ok.ensures at c.settle.ensures.settled;
+      settled = rw c.total-2.ensures at c.settle.ensures.settled;
       object_zeroed = rw c.words_of_numbers.ensures.value at c.zero_part.ensures.zeroed;
       pads_zeroed = rw c.word_of-pointer.ensures at c.zero_pads.ensures.zeroed;
     } in
-    numbers_made_anew s b d r z q T c.args.id c.args.at c.args.old c.args.size c.in-Ok.room c.requires.kind.0 c.requires.kind.1 c.requires.data steps (record {
-      kept = c.in-Ok.ensures.granted;
-      taken = c.in-Ok.ensures.words;
-      behind = c.in-Ok.ensures.behind;
+    numbers_made_anew s b d r z q T c.args.id c.args.at c.args.old c.args.size c.in_ok-room.room c.requires.kind.0 c.requires.kind.1 c.requires.data steps (record {
+      kept = c.in_ok-room.ensures.granted;
+      taken = c.in_ok-room.ensures.words;
+      behind = c.in_ok-room.ensures.behind;
       first = record { limits = c.copy_numbers.ensures.limits; segments = c.copy_numbers.ensures.copied.segments; words = c.copy_numbers.ensures.copied.words };
       last = writes_both d r q set (writes_both r z q zeroed cleared);
     })
 
 -- The words of the list are taken, and a pad at most.
-pub returns-in-Ok-clause-few : goal.returns-in-Ok-clause-few
-returns-in-Ok-clause-few g c =
+pub returns-clause-few : goal.returns-clause-few
+returns-clause-few g c =
     let B : Segments = (g.A.BuilderArena.view c.begin_list.new.arena).words in
     let D : Segments = (g.A.BuilderArena.view c.copy_numbers.new.arena).words in
     let R : Segments = (g.A.BuilderArena.view c.settle.new.arena).words in
@@ -105,7 +106,8 @@ returns-in-Ok-clause-few g c =
     let cleared = same_words Z Q c.zero_pads.ensures.pruned.segments c.zero_pads.ensures.pruned.words in
     omega (arith, c.begin_list.ensures.few, copied, set, zeroed, cleared)
 
-pub returns-in-Err-clause-fits : goal.returns-in-Err-clause-fits
-returns-in-Err-clause-fits g c = λ h.
+pub returns-in_err-room-clause-fits : goal.returns-in_err-room-clause-fits
+returns-in_err-room-clause-fits g c =
+    let p = err_from_is_err_and c.from_residual.result c.from_residual.ensures.1 in rw p.1 (λ h.
     (let n : ℕ = 1 + c.args.old.count * (c.args.size.data_words + c.args.size.pointers) in
-    (c.in-Err.ensures.fits 0 (subst (λ m. HasRoom (g.A.BuilderArena.view c.args.arena.now) c.args.id m) (let e : n ≡ n + 0 = omega arith in e) h)).0)
+    (c.in_err-room.ensures.fits 0 (subst (λ m. HasRoom (g.A.BuilderArena.view c.args.arena.now) c.args.id m) (let e : n ≡ n + 0 = omega arith in e) h)).0))

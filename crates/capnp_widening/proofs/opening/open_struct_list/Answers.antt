@@ -1,3 +1,4 @@
+use Rattle.std.proofs.lemmas.Result.{err_from_is_err_and}
 use Rattle.std.proofs.Common.{sym, ap, ◌∙◌, Ok}
 use Rattle.capnp_widening.proofs.ListsOpened.{HasWideStructs}
 use Rattle.capnp_widening.proofs.ListsOpened.{list_made}
@@ -6,11 +7,11 @@ use Rattle.capnp_widening.proofs.Unspent.{unfound_spent}
 use Rattle.capnp_widening.proofs.opening.open_struct_list.Goals as goal
 
 -- It is made one of larger structs.
-pub returns-in-None-clause-opened : goal.returns-in-None-clause-opened
-returns-in-None-clause-opened g c = λ t stored.
-    (let narrow : HasWideStructs c.args.size c.in-Ok-Some.old → ⊥ = λ wide. no_truth c.is_wide_list.result c.if-is_wide_list.false (c.is_wide_list.ensures.1 wide) in
-    list_made (g.A.BuilderArena.view c.args.arena.now) (g.A.BuilderArena.view c.get_struct_list.new.arena) c.args.id c.args.at t c.in-Ok-Some.old c.args.size c.get_struct_list.result stored
-    (sym (c.in-Ok-Some.ensures.found t stored) ∙ ap Ok c.in-Ok-Some.field-0-is) narrow c.in-None.ensures.found
+pub returns-in-None-refusal_of_list-clause-opened : goal.returns-in-None-refusal_of_list-clause-opened
+returns-in-None-refusal_of_list-clause-opened g c = λ t stored.
+    (let narrow : HasWideStructs c.args.size c.in-Some.old → ⊥ = λ wide. no_truth c.is_wide_list.result c.if-is_wide_list.false (c.is_wide_list.ensures.1 wide) in
+    list_made (g.A.BuilderArena.view c.args.arena.now) (g.A.BuilderArena.view c.get_struct_list.new.arena) c.args.id c.args.at t c.in-Some.old c.args.size c.get_struct_list.result stored
+    (sym (c.in_ok-old.ensures.found t stored) ∙ ap Ok c.in-Some.is) narrow c.in-None-refusal_of_list.ensures.found
     (record {
       widened = c.get_struct_list.ensures.widened;
       leads = c.get_struct_list.ensures.leads;
@@ -22,8 +23,9 @@ returns-in-None-clause-opened g c = λ t stored.
     }))
 
 -- No refusal before memory is asked for is the allocator's.
-pub returns-in-Some-clause-memory : goal.returns-in-Some-clause-memory
-returns-in-Some-clause-memory g c = nothing_spent (g.A.BuilderArena.view c.args.arena.now) c.in-Some.k c.in-Some.ensures.named
+pub returns-in-Some-refusal_of_list-clause-memory : goal.returns-in-Some-refusal_of_list-clause-memory
+returns-in-Some-refusal_of_list-clause-memory g c = nothing_spent (g.A.BuilderArena.view c.args.arena.now) c.in-Some-refusal_of_list.k c.in-Some-refusal_of_list.ensures.named
 
-pub returns-in-Err-clause-memory : goal.returns-in-Err-clause-memory
-returns-in-Err-clause-memory g c = unfound_spent (g.A.BuilderArena.view c.args.arena.now) c.in-Err.k c.in-Err.ensures.named
+pub returns-in_err-old-clause-memory : goal.returns-in_err-old-clause-memory
+returns-in_err-old-clause-memory g c =
+    let p = err_from_is_err_and c.from_residual.result c.from_residual.ensures.1 in rw (p.1, p.2) (unfound_spent (g.A.BuilderArena.view c.args.arena.now) _ c.in_err-old.ensures.named)

@@ -1,3 +1,4 @@
+use Rattle.std.proofs.lemmas.Result.{err_from_is_err_and}
 use Rattle.std.proofs.Common.{◌∙◌, ◌≤◌, ◌*◌, inl, inr, ℕ, length, sym, ap, arith}
 use Rattle.capnp_arena.specs.View.{View, KeepsLimits}
 use Rattle.capnp_format.specs.Segments.{Segments}
@@ -14,150 +15,151 @@ use Rattle.capnp_widening.proofs.remaking.remake_rows.Goals as goal
 -- The room lies in its segment, which has fewer than 2^29 words.
 pub overflow_add-tag : goal.overflow_add-tag
 overflow_add-tag g c =
-    let (T, room, tagged) = c.in-Ok.ensures.begun in
-    let v : ℕ = c.in-Ok.room.segment in
+    let (T, room, tagged) = c.in_ok-room.ensures.begun in
+    let v : ℕ = c.in_ok-room.room.segment in
     omega (arith, room.0.room, tagged.words v, g.met.A.BuilderArena.within c.begin_list.new.arena v, g.met.A.BuilderArena.small c.begin_list.new.arena v)
 
 pub overflow_add-first : goal.overflow_add-first
 overflow_add-first g c =
-    let (T, room, tagged) = c.in-Ok.ensures.begun in
-    let v : ℕ = c.in-Ok.room.segment in
+    let (T, room, tagged) = c.in_ok-room.ensures.begun in
+    let v : ℕ = c.in_ok-room.room.segment in
     omega (arith, room.0.room, tagged.words v, g.met.A.BuilderArena.within c.begin_list.new.arena v, g.met.A.BuilderArena.small c.begin_list.new.arena v)
 
 -- No segment has become shorter.
 pub settle-requires-clause-place : goal.settle-requires-clause-place
 settle-requires-clause-place g c =
-    let (T, room, tagged) = c.in-Ok.ensures.begun in
+    let (T, room, tagged) = c.in_ok-room.ensures.begun in
     let id : ℕ = c.args.id in
     omega (arith, c.requires.place, room.0.grows.words id, tagged.words id, c.fill_rows.ensures.longer.words id)
 
 pub settle-requires-clause-inside : goal.settle-requires-clause-inside
 settle-requires-clause-inside g c =
-    let (T, room, tagged) = c.in-Ok.ensures.begun in
-    let v : ℕ = c.in-Ok.room.segment in
+    let (T, room, tagged) = c.in_ok-room.ensures.begun in
+    let v : ℕ = c.in_ok-room.room.segment in
     omega (arith, room.0.room, tagged.words v, c.fill_rows.ensures.longer.words v)
 
 limits_both : (x y z : View) → KeepsLimits x y → KeepsLimits y z → KeepsLimits x z
 limits_both x y z e f = f ∙ ap (λ (v : View). record v { words = z.words }) e
 
-pub returns-in-Ok-fill_rows-clause-granted : goal.returns-in-Ok-fill_rows-clause-granted
-returns-in-Ok-fill_rows-clause-granted g c =
+pub returns-in-Ok-clause-granted : goal.returns-in-Ok-clause-granted
+returns-in-Ok-clause-granted g c =
     let S : View = g.A.BuilderArena.view c.args.arena.now in
     let B : View = g.A.BuilderArena.view c.begin_list.new.arena in
     let P : View = g.A.BuilderArena.view c.fill_rows.new.arena in
     let R : View = g.A.BuilderArena.view c.settle.new.arena in
     let Z : View = g.A.BuilderArena.view c.zero_part.new.arena in
     let Q : View = g.A.BuilderArena.view c.zero_pads.new.arena in
-    let (T, room, tagged) = c.in-Ok.ensures.begun in
+    let (T, room, tagged) = c.in_ok-room.ensures.begun in
     let begun : length S.words ≤ length B.words = omega (arith, room.0.grows.segments, tagged.segments) in
     let filled : length S.words ≤ length P.words = omega (arith, begun, c.fill_rows.ensures.longer.segments) in
     let limits : KeepsLimits P Q = limits_both P Z Q (limits_both P R Z c.settle.ensures.limits c.zero_part.ensures.limits) c.zero_pads.ensures.limits in
-    keeps_both S P Q filled (keeps_both S B P begun c.in-Ok.ensures.granted c.in-Ok-fill_rows.ensures.granted) (keeps_written P Q Q.words limits)
+    keeps_both S P Q filled (keeps_both S B P begun c.in_ok-room.ensures.granted c.in-Ok.ensures.granted) (keeps_written P Q Q.words limits)
 
-pub returns-in-Err-fill_rows-clause-memory : goal.returns-in-Err-fill_rows-clause-memory
-returns-in-Err-fill_rows-clause-memory g c =
+pub returns-in-Err-clause-memory : goal.returns-in-Err-clause-memory
+returns-in-Err-clause-memory g c =
     let S : View = g.A.BuilderArena.view c.args.arena.now in
     let B : View = g.A.BuilderArena.view c.begin_list.new.arena in
     let U : View = g.A.BuilderArena.view c.fill_rows.new.arena in
-    let Z : View = g.A.BuilderArena.view c.zero_part-in-Err-fill_rows.new.arena in
-    let (T, room, tagged) = c.in-Ok.ensures.begun in
+    let Z : View = g.A.BuilderArena.view c.zero_part-in-Err.new.arena in
+    let (T, room, tagged) = c.in_ok-room.ensures.begun in
     let begun : length S.words ≤ length B.words = omega (arith, room.0.grows.segments, tagged.segments) in
-    let k = c.in-Err-fill_rows.k in
-    spends_then_limits S U Z k (keeps_then_spends S B U k begun c.in-Ok.ensures.granted c.in-Err-fill_rows.ensures.memory) c.zero_part-in-Err-fill_rows.ensures.limits
+    let k = c.in-Err.k in
+    spends_then_limits S U Z k (keeps_then_spends S B U k begun c.in_ok-room.ensures.granted c.in-Err.ensures.memory) c.zero_part-in-Err.ensures.limits
 
-pub returns-in-Ok-fill_rows-clause-remade : goal.returns-in-Ok-fill_rows-clause-remade
-returns-in-Ok-fill_rows-clause-remade g c =
+pub returns-in-Ok-clause-remade : goal.returns-in-Ok-clause-remade
+returns-in-Ok-clause-remade g c =
     let S : Segments = (g.A.BuilderArena.view c.args.arena.now).words in
     let B : Segments = (g.A.BuilderArena.view c.begin_list.new.arena).words in
     let P : Segments = (g.A.BuilderArena.view c.fill_rows.new.arena).words in
     let R : Segments = (g.A.BuilderArena.view c.settle.new.arena).words in
     let Z : Segments = (g.A.BuilderArena.view c.zero_part.new.arena).words in
     let Q : Segments = (g.A.BuilderArena.view c.zero_pads.new.arena).words in
-    let (T, room, tagged) = c.in-Ok.ensures.begun in
-    let filled = c.in-Ok-fill_rows.ensures.filled in
-    let steps : ListSteps S T B filled.between.words P R Z Q c.args.id c.args.at c.args.old c.args.size c.in-Ok.room = record {
+    let (T, room, tagged) = c.in_ok-room.ensures.begun in
+    let filled = c.in-Ok.ensures.filled in
+    let steps : ListSteps S T B filled.between.words P R Z Q c.args.id c.args.at c.args.old c.args.size c.in_ok-room.room = record {
       place = c.requires.place;
       room = room;
       tagged = tagged;
       copied = filled.copied;
       moves = filled.moved;
       settled = rw c.total.ensures at c.settle.ensures.settled;
-      object_zeroed = rw (c.from.ensures, c.from-in-Ok-fill_rows.ensures, c.from-step.ensures, c.total-in-Ok-fill_rows.ensures) at c.zero_part.ensures.zeroed;
+      object_zeroed = rw (c.from.ensures, c.from-in-Ok.ensures, c.from-step.ensures, c.total-in-Ok.ensures) at c.zero_part.ensures.zeroed;
       pads_zeroed = rw c.word_of-pointer.ensures at c.zero_pads.ensures.zeroed;
       wider = (c.requires.data, c.requires.pointers);
     } in
-    rows_remade S T B filled.between.words P R Z Q c.args.id c.args.at c.args.old c.args.size c.in-Ok.room steps
+    rows_remade S T B filled.between.words P R Z Q c.args.id c.args.at c.args.old c.args.size c.in_ok-room.room steps
 
-pub returns-in-Ok-fill_rows-clause-anew : goal.returns-in-Ok-fill_rows-clause-anew
-returns-in-Ok-fill_rows-clause-anew g c =
+pub returns-in-Ok-clause-anew : goal.returns-in-Ok-clause-anew
+returns-in-Ok-clause-anew g c =
     let s : View = g.A.BuilderArena.view c.args.arena.now in
     let b : View = g.A.BuilderArena.view c.begin_list.new.arena in
     let p : View = g.A.BuilderArena.view c.fill_rows.new.arena in
     let r : View = g.A.BuilderArena.view c.settle.new.arena in
     let z : View = g.A.BuilderArena.view c.zero_part.new.arena in
     let q : View = g.A.BuilderArena.view c.zero_pads.new.arena in
-    let (T, room, tagged) = c.in-Ok.ensures.begun in
-    let filled = c.in-Ok-fill_rows.ensures.filled in
+    let (T, room, tagged) = c.in_ok-room.ensures.begun in
+    let filled = c.in-Ok.ensures.filled in
     let d : View = filled.between in
     let (o, settled, shaped, segment_of, start_of) = c.settle.ensures.settled in
     let set : OnlyWrites p r = record { limits = c.settle.ensures.limits; segments = settled.segments; words = settled.words } in
     let zeroed = pruned_writes r z c.zero_part.ensures.limits c.zero_part.ensures.pruned in
     let cleared = pruned_writes z q c.zero_pads.ensures.limits c.zero_pads.ensures.pruned in
-    let steps : ListSteps s.words T b.words d.words p.words r.words z.words q.words c.args.id c.args.at c.args.old c.args.size c.in-Ok.room = record {
+    let steps : ListSteps s.words T b.words d.words p.words r.words z.words q.words c.args.id c.args.at c.args.old c.args.size c.in_ok-room.room = record {
       place = c.requires.place;
       room = room;
       tagged = tagged;
       copied = filled.copied;
       moves = filled.moved;
       settled = rw c.total.ensures at c.settle.ensures.settled;
-      object_zeroed = rw (c.from.ensures, c.from-in-Ok-fill_rows.ensures, c.from-step.ensures, c.total-in-Ok-fill_rows.ensures) at c.zero_part.ensures.zeroed;
+      object_zeroed = rw (c.from.ensures, c.from-in-Ok.ensures, c.from-step.ensures, c.total-in-Ok.ensures) at c.zero_part.ensures.zeroed;
       pads_zeroed = rw c.word_of-pointer.ensures at c.zero_pads.ensures.zeroed;
       wider = (c.requires.data, c.requires.pointers);
     } in
-    rows_anew s b d p r z q T c.args.id c.args.at c.args.old c.args.size c.in-Ok.room steps (record {
-      kept = c.in-Ok.ensures.granted;
-      taken = c.in-Ok.ensures.words;
-      behind = c.in-Ok.ensures.behind;
+    rows_anew s b d p r z q T c.args.id c.args.at c.args.old c.args.size c.in_ok-room.room steps (record {
+      kept = c.in_ok-room.ensures.granted;
+      taken = c.in_ok-room.ensures.words;
+      behind = c.in_ok-room.ensures.behind;
       first = filled.only;
       written = filled.written;
       last = writes_both p r q set (writes_both r z q zeroed cleared);
     })
 
-pub returns-in-Err-fill_rows-clause-refused : goal.returns-in-Err-fill_rows-clause-refused
-returns-in-Err-fill_rows-clause-refused g c =
+pub returns-in-Err-clause-refused : goal.returns-in-Err-clause-refused
+returns-in-Err-clause-refused g c =
     let S : Segments = (g.A.BuilderArena.view c.args.arena.now).words in
     let B : Segments = (g.A.BuilderArena.view c.begin_list.new.arena).words in
     let U : Segments = (g.A.BuilderArena.view c.fill_rows.new.arena).words in
-    let Z : Segments = (g.A.BuilderArena.view c.zero_part-in-Err-fill_rows.new.arena).words in
-    let (T, room, tagged) = c.in-Ok.ensures.begun in
-    let (D, P, copied, some, unmoves) = c.in-Err-fill_rows.ensures.undone in
-    let steps : ListUndone S T B D P U Z c.args.id c.args.old c.args.size c.in-Ok.room = record {
+    let Z : Segments = (g.A.BuilderArena.view c.zero_part-in-Err.new.arena).words in
+    let (T, room, tagged) = c.in_ok-room.ensures.begun in
+    let (D, P, copied, some, unmoves) = c.in-Err.ensures.undone in
+    let steps : ListUndone S T B D P U Z c.args.id c.args.old c.args.size c.in_ok-room.room = record {
       room = room;
       tagged = tagged;
       copied = copied;
       some = some;
       unmoves = unmoves;
-      zeroed = rw (c.from-in-Err-fill_rows.ensures, c.total.ensures) at c.zero_part-in-Err-fill_rows.ensures.zeroed;
+      zeroed = rw (c.from-in-Err.ensures, c.total.ensures) at c.zero_part-in-Err.ensures.zeroed;
       wider = (c.requires.data, c.requires.pointers);
     } in
-    rows_left S T B D P U Z c.args.id c.args.at c.args.old c.args.size c.in-Ok.room steps
+    rows_left S T B D P U Z c.args.id c.args.at c.args.old c.args.size c.in_ok-room.room steps
 
-pub returns-in-Err-clause-refused : goal.returns-in-Err-clause-refused
-returns-in-Err-clause-refused g c = λ t i. nothing_grown (g.A.BuilderArena.view c.args.arena.now).words (g.A.BuilderArena.view c.begin_list.new.arena).words c.in-Err.ensures.refused
+pub returns-in_err-room-clause-refused : goal.returns-in_err-room-clause-refused
+returns-in_err-room-clause-refused g c =
+    let p = err_from_is_err_and c.from_residual.result c.from_residual.ensures.1 in rw p.1 (λ t i. nothing_grown (g.A.BuilderArena.view c.args.arena.now).words (g.A.BuilderArena.view c.begin_list.new.arena).words c.in_err-room.ensures.refused)
 
-pub returns-in-Err-fill_rows-clause-full : goal.returns-in-Err-fill_rows-clause-full
-returns-in-Err-fill_rows-clause-full g c =
+pub returns-in-Err-clause-full : goal.returns-in-Err-clause-full
+returns-in-Err-clause-full g c =
     let S : View = g.A.BuilderArena.view c.args.arena.now in
     let B : View = g.A.BuilderArena.view c.begin_list.new.arena in
     let U : View = g.A.BuilderArena.view c.fill_rows.new.arena in
-    let Z : View = g.A.BuilderArena.view c.zero_part-in-Err-fill_rows.new.arena in
-    let k = c.in-Err-fill_rows.k in
-    let (some, refused) = c.in-Err-fill_rows.ensures.full in
-    inr (some, words_refused_before S U Z 1 k (words_refused_after S B U 1 k c.in-Ok.ensures.granted refused) c.zero_part-in-Err-fill_rows.ensures.limits c.zero_part-in-Err-fill_rows.ensures.pruned)
+    let Z : View = g.A.BuilderArena.view c.zero_part-in-Err.new.arena in
+    let k = c.in-Err.k in
+    let (some, refused) = c.in-Err.ensures.full in
+    inr (some, words_refused_before S U Z 1 k (words_refused_after S B U 1 k c.in_ok-room.ensures.granted refused) c.zero_part-in-Err.ensures.limits c.zero_part-in-Err.ensures.pruned)
 
 -- The words of the list are taken, a pad at most, and two words for a pointer at most.
-pub returns-in-Ok-fill_rows-clause-few : goal.returns-in-Ok-fill_rows-clause-few
-returns-in-Ok-fill_rows-clause-few g c =
+pub returns-in-Ok-clause-few : goal.returns-in-Ok-clause-few
+returns-in-Ok-clause-few g c =
     let P : Segments = (g.A.BuilderArena.view c.fill_rows.new.arena).words in
     let R : Segments = (g.A.BuilderArena.view c.settle.new.arena).words in
     let Z : Segments = (g.A.BuilderArena.view c.zero_part.new.arena).words in
@@ -168,24 +170,25 @@ returns-in-Ok-fill_rows-clause-few g c =
     let cleared = same_words Z Q c.zero_pads.ensures.pruned.segments c.zero_pads.ensures.pruned.words in
     omega (arith, c.begin_list.ensures.few, c.fill_rows.ensures.few, set, zeroed, cleared)
 
-pub returns-in-Err-fill_rows-clause-few : goal.returns-in-Err-fill_rows-clause-few
-returns-in-Err-fill_rows-clause-few g c =
-    let U : Segments = (g.A.BuilderArena.view c.fill_rows.new.arena).words in
-    let Z : Segments = (g.A.BuilderArena.view c.zero_part-in-Err-fill_rows.new.arena).words in
-    omega (arith, c.begin_list.ensures.few, c.fill_rows.ensures.few, same_words U Z c.zero_part-in-Err-fill_rows.ensures.pruned.segments c.zero_part-in-Err-fill_rows.ensures.pruned.words)
-
 pub returns-in-Err-clause-few : goal.returns-in-Err-clause-few
-returns-in-Err-clause-few g c = omega (arith, c.begin_list.ensures.few)
+returns-in-Err-clause-few g c =
+    let U : Segments = (g.A.BuilderArena.view c.fill_rows.new.arena).words in
+    let Z : Segments = (g.A.BuilderArena.view c.zero_part-in-Err.new.arena).words in
+    omega (arith, c.begin_list.ensures.few, c.fill_rows.ensures.few, same_words U Z c.zero_part-in-Err.ensures.pruned.segments c.zero_part-in-Err.ensures.pruned.words)
+
+pub returns-in_err-room-clause-few : goal.returns-in_err-room-clause-few
+returns-in_err-room-clause-few g c = omega (arith, c.begin_list.ensures.few)
 
 -- Where there is room for all of that, nothing is refused.
+pub returns-in_err-room-clause-fits : goal.returns-in_err-room-clause-fits
+returns-in_err-room-clause-fits g c =
+    let p = err_from_is_err_and c.from_residual.result c.from_residual.ensures.1 in rw p.1 (λ h. elim h [
+      | inl fits ↦ (c.in_err-room.ensures.fits (2 * (c.args.old.count * c.args.old.size.pointers)) fits).0
+      | inr (here, fits) ↦ (c.in_err-room.ensures.near fits).0
+    ])
+
 pub returns-in-Err-clause-fits : goal.returns-in-Err-clause-fits
 returns-in-Err-clause-fits g c = λ h. elim h [
-  | inl fits ↦ (c.in-Err.ensures.fits (2 * (c.args.old.count * c.args.old.size.pointers)) fits).0
-  | inr (here, fits) ↦ (c.in-Err.ensures.near fits).0
-]
-
-pub returns-in-Err-fill_rows-clause-fits : goal.returns-in-Err-fill_rows-clause-fits
-returns-in-Err-fill_rows-clause-fits g c = λ h. elim h [
-  | inl fits ↦ c.in-Err-fill_rows.ensures.fits (c.in-Ok.ensures.fits (2 * (c.args.old.count * c.args.old.size.pointers)) fits).1
-  | inr (here, fits) ↦ c.in-Err-fill_rows.ensures.near (here ∙ sym (c.in-Ok.ensures.near fits).1)
+  | inl fits ↦ c.in-Err.ensures.fits (c.in_ok-room.ensures.fits (2 * (c.args.old.count * c.args.old.size.pointers)) fits).1
+  | inr (here, fits) ↦ c.in-Err.ensures.near (here ∙ sym (c.in_ok-room.ensures.near fits).1)
 ]

@@ -1,3 +1,4 @@
+use Rattle.std.proofs.lemmas.Result.{err_from_is_err_and}
 use Rattle.std.proofs.Common.{◌≡◌, ℕ, ◌+◌, inr, length, replicate, refl, ap, subst, arith}
 use Rattle.capnp_format.specs.Segments.{Segments, segment}
 use Rattle.capnp_making.specs.Made.{IsGrown}
@@ -6,32 +7,32 @@ use Rattle.std.proofs.Common.{◌∙◌, sym}
 use Rattle.std.proofs.lemmas.List.{length-replicate}
 use Rattle.capnp_arena.specs.View.{View}
 use Rattle.capnp_arena.specs.Written.{extended}
-use Rattle.capnp_making.specs.Memory.{RefusesWords, StandsBehind}
+use Rattle.capnp_making.specs.Memory.{StandsBehind}
 use Rattle.capnp_widening.specs.Rooms.{all_words, GrowsByAtMost}
-use Rattle.capnp_widening.proofs.Refusing.{words_refused}
+use Rattle.capnp_widening.proofs.Refusing.{anywhere_refused}
 use Rattle.capnp_widening.proofs.Rooms.{words_extended, words_taken, room_some, room_elsewhere, room_left, room_still, less_room, not_true, not_within, none_refused}
 use Rattle.capnp_making.proofs.Memory.{words_in}
 use Rattle.capnp_widening.proofs.TakingWords.{took_near, took_far, stands_near}
 use Rattle.capnp_widening.proofs.widening.take.Goals as goal
 
 -- A word more is taken, for a landing pad.
-pub returns-in-Ok-clause-taken : goal.returns-in-Ok-clause-taken
-returns-in-Ok-clause-taken g c =
+pub returns-in_ok-segment-in-None-clause-taken : goal.returns-in_ok-segment-in-None-clause-taken
+returns-in_ok-segment-in-None-clause-taken g c =
     let S : Segments = (g.A.BuilderArena.view c.args.arena.now).words in
     let T : Segments = (g.A.BuilderArena.view c.allocate_anywhere.new.self).words in
     let n : ℕ = c.args.amount in
     let same : (g.A.BuilderArena.view c.allocate.new.self).words ≡ S = ap words_in (c.in-None.ensures.none refl) in
-    let grown : IsGrown S T c.in-Ok.segment c.in-Ok.at (n + 1) = taken_grown S T (n + 1) c.in-Ok.segment c.in-Ok.at (rw same at c.in-Ok.ensures.taken) in
-    (subst (λ m. IsGrown S T c.in-Ok.segment c.in-Ok.at m) (let e : n + 1 ≡ 1 + n = omega arith in e) grown, inr refl)
+    let grown : IsGrown S T c.in_ok-segment-in-None.segment c.in_ok-segment-in-None.at (n + 1) = taken_grown S T (n + 1) c.in_ok-segment-in-None.segment c.in_ok-segment-in-None.at (rw same at c.in_ok-segment-in-None.ensures.taken) in
+    (subst (λ m. IsGrown S T c.in_ok-segment-in-None.segment c.in_ok-segment-in-None.at m) (let e : n + 1 ≡ 1 + n = omega arith in e) grown, inr refl)
 
 -- No segment has room for the words and a pad.
-pub returns-in-Err-clause-full : goal.returns-in-Err-clause-full
-returns-in-Err-clause-full g c =
+pub returns-in_err-segment-in-None-clause-full : goal.returns-in_err-segment-in-None-clause-full
+returns-in_err-segment-in-None-clause-full g c =
     let mid : View = g.A.BuilderArena.view c.allocate.new.self in
     let b : View = g.A.BuilderArena.view c.allocate_anywhere.new.self in
-    let e = c.in-Err.ensures.refused in
-    let all : b ≡ record mid { words = b.words; refusals = b.refusals } = e ∙ ap (λ (S : Segments). record mid { words = S; refusals = b.refusals }) (sym (ap words_in e)) in
-    subst (λ v. RefusesWords v b c.args.amount c.in-Err.k) (c.in-None.ensures.none refl) (words_refused mid b c.args.amount c.in-Err.k (c.in-Err.ensures.named, all) (ap words_in e) (λ j fit. c.in-Err.ensures.first j fit)).0
+    let e = c.in_err-segment-in-None.ensures in
+    let p = err_from_is_err_and c.from_residual.result c.from_residual.ensures.1 in
+    rw (p.1, p.2) (anywhere_refused (g.A.BuilderArena.view c.args.arena.now) mid b c.args.id c.args.amount _ (c.in-None.ensures.none refl) (λ l. not_true (c.in-None.ensures.exactly.1 l)) e.named e.refused (λ j fit. e.first j fit))
 
 -- Words are taken in the segment of the pointer.
 pub returns-in-Some-clause-few : goal.returns-in-Some-clause-few
@@ -52,36 +53,38 @@ returns-in-Some-clause-fits g c = λ n h.
     (refl, room_left a b m n grown.grows few (λ k l. ap (λ (f : ℕ → ℕ). f k) room) (room_some a c.args.id (m + n) c.requires.there h)))
 
 -- Words and a pad are taken elsewhere.
-pub returns-in-Ok-clause-few : goal.returns-in-Ok-clause-few
-returns-in-Ok-clause-few g c =
+pub returns-in_ok-segment-in-None-clause-few : goal.returns-in_ok-segment-in-None-clause-few
+returns-in_ok-segment-in-None-clause-few g c =
     let S : Segments = (g.A.BuilderArena.view c.args.arena.now).words in
     let T : Segments = (g.A.BuilderArena.view c.allocate_anywhere.new.self).words in
     let same : (g.A.BuilderArena.view c.allocate.new.self).words ≡ S = ap words_in (c.in-None.ensures.none refl) in
-    omega (arith, words_taken S T (c.args.amount + 1) c.in-Ok.segment c.in-Ok.at (rw same at c.in-Ok.ensures.taken))
+    omega (arith, words_taken S T (c.args.amount + 1) c.in_ok-segment-in-None.segment c.in_ok-segment-in-None.at (rw same at c.in_ok-segment-in-None.ensures.taken))
 
-pub returns-in-Ok-clause-fits : goal.returns-in-Ok-clause-fits
-returns-in-Ok-clause-fits g c = λ n h.
+pub returns-in_ok-segment-in-None-clause-fits : goal.returns-in_ok-segment-in-None-clause-fits
+returns-in_ok-segment-in-None-clause-fits g c = λ n h.
     (let a : View = g.A.BuilderArena.view c.args.arena.now in
     let b : View = g.A.BuilderArena.view c.allocate_anywhere.new.self in
     let m : ℕ = c.args.amount in
     let before : g.A.BuilderArena.view c.allocate.new.self ≡ a = c.in-None.ensures.none refl in
-    let grown : IsGrown a.words b.words c.in-Ok.segment c.in-Ok.at (m + 1) = taken_grown a.words b.words (m + 1) c.in-Ok.segment c.in-Ok.at (rw before at c.in-Ok.ensures.taken) in
-    (refl, room_left a b (m + 1) n grown.grows (returns-in-Ok-clause-few g c) (rw before at c.in-Ok.ensures.room) (room_elsewhere a c.args.id m n (not_within _ _ (λ l. not_true (c.in-None.ensures.exactly.1 l))) h)))
+    let grown : IsGrown a.words b.words c.in_ok-segment-in-None.segment c.in_ok-segment-in-None.at (m + 1) = taken_grown a.words b.words (m + 1) c.in_ok-segment-in-None.segment c.in_ok-segment-in-None.at (rw before at c.in_ok-segment-in-None.ensures.taken) in
+    (refl, room_left a b (m + 1) n grown.grows (returns-in_ok-segment-in-None-clause-few g c) (rw before at c.in_ok-segment-in-None.ensures.room) (room_elsewhere a c.args.id m n (not_within _ _ (λ l. not_true (c.in-None.ensures.exactly.1 l))) h)))
 
 -- No segment has room for them.
-pub returns-in-Err-clause-few : goal.returns-in-Err-clause-few
-returns-in-Err-clause-few g c = omega (arith, ap all_words (ap words_in c.in-Err.ensures.refused ∙ ap words_in (c.in-None.ensures.none refl)))
+pub returns-in_err-segment-in-None-clause-few : goal.returns-in_err-segment-in-None-clause-few
+returns-in_err-segment-in-None-clause-few g c = omega (arith, ap all_words (ap words_in c.in_err-segment-in-None.ensures.refused ∙ ap words_in (c.in-None.ensures.none refl)))
 
-pub returns-in-Err-clause-fits : goal.returns-in-Err-clause-fits
-returns-in-Err-clause-fits g c = λ n h.
+pub returns-in_err-segment-in-None-clause-fits : goal.returns-in_err-segment-in-None-clause-fits
+returns-in_err-segment-in-None-clause-fits g c = λ n h.
     (let a : View = g.A.BuilderArena.view c.args.arena.now in
     let b : View = g.A.BuilderArena.view c.allocate_anywhere.new.self in
     let m : ℕ = c.args.amount in
     let before : g.A.BuilderArena.view c.allocate.new.self ≡ a = c.in-None.ensures.none refl in
-    let words : b.words ≡ a.words = ap words_in c.in-Err.ensures.refused ∙ ap words_in before in
-    let room : b.room ≡ a.room = ap (λ (v : View). v.room) c.in-Err.ensures.refused ∙ ap (λ (v : View). v.room) before in
+    let words : b.words ≡ a.words = ap words_in c.in_err-segment-in-None.ensures.refused ∙ ap words_in before in
+    let room : b.room ≡ a.room = ap (λ (v : View). v.room) c.in_err-segment-in-None.ensures.refused ∙ ap (λ (v : View). v.room) before in
     let some = room_elsewhere a c.args.id m n (not_within _ _ (λ l. not_true (c.in-None.ensures.exactly.1 l))) h in
-    absurd (none_refused a b m c.in-Err.k (returns-in-Err-clause-full g c) (room_still a b (m + 1) words room (less_room a (m + 1 + n) (m + 1) (omega arith) some))))
+    let e = c.in_err-segment-in-None.ensures in
+    let refused = anywhere_refused a (g.A.BuilderArena.view c.allocate.new.self) b c.args.id m _ before (λ l. not_true (c.in-None.ensures.exactly.1 l)) e.named e.refused (λ j fit. e.first j fit) in
+    absurd (none_refused a b m _ refused (room_still a b (m + 1) words room (less_room a (m + 1 + n) (m + 1) (omega arith) some))))
 
 -- They stand behind all that were there.
 pub returns-in-Some-clause-words : goal.returns-in-Some-clause-words
@@ -93,12 +96,12 @@ returns-in-Some-clause-behind g c =
     let h = stands_near (g.A.BuilderArena.view c.args.arena.now) (g.A.BuilderArena.view c.allocate.new.self) c.args.id c.args.amount c.in-Some.at (c.in-Some.ensures.exactly.0 refl) c.in-Some.ensures.taken in
     subst (λ p. StandsBehind (g.A.BuilderArena.view c.args.arena.now) c.args.id c.args.amount (record { segment = c.args.id; at = p })) (let e : c.in-Some.at ≡ c.in-Some.at + 0 = omega arith in e) h
 
-pub returns-in-Ok-clause-words : goal.returns-in-Ok-clause-words
-returns-in-Ok-clause-words g c =
-    (took_far (g.A.BuilderArena.view c.args.arena.now) (g.A.BuilderArena.view c.allocate.new.self) (g.A.BuilderArena.view c.allocate_anywhere.new.self) c.args.id c.args.amount c.in-Ok.segment c.in-Ok.at (c.in-None.ensures.none refl)
-    (λ l. not_true (c.in-None.ensures.exactly.1 l)) c.in-Ok.ensures.first c.in-Ok.ensures.another).0
+pub returns-in_ok-segment-in-None-clause-words : goal.returns-in_ok-segment-in-None-clause-words
+returns-in_ok-segment-in-None-clause-words g c =
+    (took_far (g.A.BuilderArena.view c.args.arena.now) (g.A.BuilderArena.view c.allocate.new.self) (g.A.BuilderArena.view c.allocate_anywhere.new.self) c.args.id c.args.amount c.in_ok-segment-in-None.segment c.in_ok-segment-in-None.at (c.in-None.ensures.none refl)
+    (λ l. not_true (c.in-None.ensures.exactly.1 l)) c.in_ok-segment-in-None.ensures.first c.in_ok-segment-in-None.ensures.another).0
 
-pub returns-in-Ok-clause-behind : goal.returns-in-Ok-clause-behind
-returns-in-Ok-clause-behind g c =
-    (took_far (g.A.BuilderArena.view c.args.arena.now) (g.A.BuilderArena.view c.allocate.new.self) (g.A.BuilderArena.view c.allocate_anywhere.new.self) c.args.id c.args.amount c.in-Ok.segment c.in-Ok.at (c.in-None.ensures.none refl)
-    (λ l. not_true (c.in-None.ensures.exactly.1 l)) c.in-Ok.ensures.first c.in-Ok.ensures.another).1
+pub returns-in_ok-segment-in-None-clause-behind : goal.returns-in_ok-segment-in-None-clause-behind
+returns-in_ok-segment-in-None-clause-behind g c =
+    (took_far (g.A.BuilderArena.view c.args.arena.now) (g.A.BuilderArena.view c.allocate.new.self) (g.A.BuilderArena.view c.allocate_anywhere.new.self) c.args.id c.args.amount c.in_ok-segment-in-None.segment c.in_ok-segment-in-None.at (c.in-None.ensures.none refl)
+    (λ l. not_true (c.in-None.ensures.exactly.1 l)) c.in_ok-segment-in-None.ensures.first c.in_ok-segment-in-None.ensures.another).1

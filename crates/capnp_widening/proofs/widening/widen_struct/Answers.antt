@@ -1,3 +1,4 @@
+use Rattle.std.proofs.lemmas.Result.{err_from_is_err_and}
 use Rattle.std.proofs.Common.{inl, inr, ◌+◌, ◌*◌, ℕ, sym, ap, subst, ◌∙◌, arith}
 use Rattle.capnp_arena.specs.View.{View}
 use Rattle.capnp_format.specs.Segments.{Segments}
@@ -13,8 +14,8 @@ use Rattle.capnp_widening.proofs.TakingWords.{pruned_writes}
 use Rattle.capnp_widening.proofs.WrittenAnew.{writes_both}
 use Rattle.capnp_widening.proofs.widening.widen_struct.Goals as goal
 
-pub returns-in-Ok-move_row-clause-widened : goal.returns-in-Ok-move_row-clause-widened
-returns-in-Ok-move_row-clause-widened g c =
+pub returns-in-Ok-clause-widened : goal.returns-in-Ok-clause-widened
+returns-in-Ok-clause-widened g c =
     let S : Segments = (g.A.BuilderArena.view c.args.arena.now).words in
     let T : Segments = (g.A.BuilderArena.view c.take.new.arena).words in
     let D : Segments = (g.A.BuilderArena.view c.copy_words.new.arena).words in
@@ -22,20 +23,20 @@ returns-in-Ok-move_row-clause-widened g c =
     let R : Segments = (g.A.BuilderArena.view c.settle.new.arena).words in
     let Z : Segments = (g.A.BuilderArena.view c.zero_part.new.arena).words in
     let Q : Segments = (g.A.BuilderArena.view c.zero_pads.new.arena).words in
-    let steps : StructSteps S T D P R Z Q c.args.id c.args.at c.args.old c.args.size c.in-Ok.room = record {
+    let steps : StructSteps S T D P R Z Q c.args.id c.args.at c.args.old c.args.size c.in_ok-room.room = record {
       place = c.requires.place;
-      room = rw c.total.ensures at c.in-Ok.ensures.taken;
-      copied = rw (c.data_of.ensures, c.data_of-in-Ok.ensures, c.from.ensures) at c.copy_words.ensures.copied;
-      moves = rw (c.pointers_of-from.ensures, c.pointers_of-to.ensures, c.from-count.ensures) at c.in-Ok-move_row.ensures.moved;
+      room = rw c.total.ensures at c.in_ok-room.ensures.taken;
+      copied = rw (c.data_of.ensures, c.data_of-2.ensures, c.from.ensures) at c.copy_words.ensures.copied;
+      moves = rw (c.pointers_of-from.ensures, c.pointers_of-to.ensures, c.from-count.ensures) at c.in-Ok.ensures.moved;
       settled = c.settle.ensures.settled;
-      object_zeroed = rw (c.from-in-Ok-move_row.ensures ∙ c.total-in-Ok-move_row.ensures) at c.zero_part.ensures.zeroed;
+      object_zeroed = rw (c.from-in-Ok.ensures ∙ c.total-in-Ok.ensures) at c.zero_part.ensures.zeroed;
       pads_zeroed = rw c.word_of-pointer.ensures at c.zero_pads.ensures.zeroed;
       wider = (c.requires.data, c.requires.pointers);
     } in
-    struct_rehoused S T D P R Z Q c.args.id c.args.at c.args.old c.args.size c.in-Ok.room steps
+    struct_rehoused S T D P R Z Q c.args.id c.args.at c.args.old c.args.size c.in_ok-room.room steps
 
-pub returns-in-Ok-move_row-clause-leads : goal.returns-in-Ok-move_row-clause-leads
-returns-in-Ok-move_row-clause-leads g c =
+pub returns-in-Ok-clause-leads : goal.returns-in-Ok-clause-leads
+returns-in-Ok-clause-leads g c =
     let S : Segments = (g.A.BuilderArena.view c.args.arena.now).words in
     let T : Segments = (g.A.BuilderArena.view c.take.new.arena).words in
     let D : Segments = (g.A.BuilderArena.view c.copy_words.new.arena).words in
@@ -43,20 +44,20 @@ returns-in-Ok-move_row-clause-leads g c =
     let R : Segments = (g.A.BuilderArena.view c.settle.new.arena).words in
     let Z : Segments = (g.A.BuilderArena.view c.zero_part.new.arena).words in
     let Q : Segments = (g.A.BuilderArena.view c.zero_pads.new.arena).words in
-    let steps : StructSteps S T D P R Z Q c.args.id c.args.at c.args.old c.args.size c.in-Ok.room = record {
+    let steps : StructSteps S T D P R Z Q c.args.id c.args.at c.args.old c.args.size c.in_ok-room.room = record {
       place = c.requires.place;
-      room = rw c.total.ensures at c.in-Ok.ensures.taken;
-      copied = rw (c.data_of.ensures, c.data_of-in-Ok.ensures, c.from.ensures) at c.copy_words.ensures.copied;
-      moves = rw (c.pointers_of-from.ensures, c.pointers_of-to.ensures, c.from-count.ensures) at c.in-Ok-move_row.ensures.moved;
+      room = rw c.total.ensures at c.in_ok-room.ensures.taken;
+      copied = rw (c.data_of.ensures, c.data_of-2.ensures, c.from.ensures) at c.copy_words.ensures.copied;
+      moves = rw (c.pointers_of-from.ensures, c.pointers_of-to.ensures, c.from-count.ensures) at c.in-Ok.ensures.moved;
       settled = c.settle.ensures.settled;
-      object_zeroed = rw (c.from-in-Ok-move_row.ensures ∙ c.total-in-Ok-move_row.ensures) at c.zero_part.ensures.zeroed;
+      object_zeroed = rw (c.from-in-Ok.ensures ∙ c.total-in-Ok.ensures) at c.zero_part.ensures.zeroed;
       pads_zeroed = rw c.word_of-pointer.ensures at c.zero_pads.ensures.zeroed;
       wider = (c.requires.data, c.requires.pointers);
     } in
-    struct_leads S T D P R Z Q c.args.id c.args.at c.args.old c.args.size c.in-Ok.room steps
+    struct_leads S T D P R Z Q c.args.id c.args.at c.args.old c.args.size c.in_ok-room.room steps
 
-pub returns-in-Ok-move_row-clause-anew : goal.returns-in-Ok-move_row-clause-anew
-returns-in-Ok-move_row-clause-anew g c =
+pub returns-in-Ok-clause-anew : goal.returns-in-Ok-clause-anew
+returns-in-Ok-clause-anew g c =
     let s : View = g.A.BuilderArena.view c.args.arena.now in
     let t : View = g.A.BuilderArena.view c.take.new.arena in
     let d : View = g.A.BuilderArena.view c.copy_words.new.arena in
@@ -68,67 +69,69 @@ returns-in-Ok-move_row-clause-anew g c =
     let set : OnlyWrites p r = record { limits = c.settle.ensures.limits; segments = settled.segments; words = settled.words } in
     let zeroed = pruned_writes r z c.zero_part.ensures.limits c.zero_part.ensures.pruned in
     let cleared = pruned_writes z q c.zero_pads.ensures.limits c.zero_pads.ensures.pruned in
-    let steps : StructSteps s.words t.words d.words p.words r.words z.words q.words c.args.id c.args.at c.args.old c.args.size c.in-Ok.room = record {
+    let steps : StructSteps s.words t.words d.words p.words r.words z.words q.words c.args.id c.args.at c.args.old c.args.size c.in_ok-room.room = record {
       place = c.requires.place;
-      room = rw c.total.ensures at c.in-Ok.ensures.taken;
-      copied = rw (c.data_of.ensures, c.data_of-in-Ok.ensures, c.from.ensures) at c.copy_words.ensures.copied;
-      moves = rw (c.pointers_of-from.ensures, c.pointers_of-to.ensures, c.from-count.ensures) at c.in-Ok-move_row.ensures.moved;
+      room = rw c.total.ensures at c.in_ok-room.ensures.taken;
+      copied = rw (c.data_of.ensures, c.data_of-2.ensures, c.from.ensures) at c.copy_words.ensures.copied;
+      moves = rw (c.pointers_of-from.ensures, c.pointers_of-to.ensures, c.from-count.ensures) at c.in-Ok.ensures.moved;
       settled = c.settle.ensures.settled;
-      object_zeroed = rw (c.from-in-Ok-move_row.ensures ∙ c.total-in-Ok-move_row.ensures) at c.zero_part.ensures.zeroed;
+      object_zeroed = rw (c.from-in-Ok.ensures ∙ c.total-in-Ok.ensures) at c.zero_part.ensures.zeroed;
       pads_zeroed = rw c.word_of-pointer.ensures at c.zero_pads.ensures.zeroed;
       wider = (c.requires.data, c.requires.pointers);
     } in
-    struct_anew s t d p r z q c.args.id c.args.at c.args.old c.args.size c.in-Ok.room steps (record {
-      kept = c.in-Ok.ensures.granted;
-      taken = rw c.total.ensures at c.in-Ok.ensures.words;
-      behind = rw c.total.ensures at c.in-Ok.ensures.behind;
+    struct_anew s t d p r z q c.args.id c.args.at c.args.old c.args.size c.in_ok-room.room steps (record {
+      kept = c.in_ok-room.ensures.granted;
+      taken = rw c.total.ensures at c.in_ok-room.ensures.words;
+      behind = rw c.total.ensures at c.in_ok-room.ensures.behind;
       first = record { limits = c.copy_words.ensures.limits; segments = c.copy_words.ensures.copied.segments; words = c.copy_words.ensures.copied.words };
-      written = rw (c.pointers_of-from.ensures, c.pointers_of-to.ensures, c.from-count.ensures) at c.in-Ok-move_row.ensures.written;
+      written = rw (c.pointers_of-from.ensures, c.pointers_of-to.ensures, c.from-count.ensures) at c.in-Ok.ensures.written;
       last = writes_both p r q set (writes_both r z q zeroed cleared);
     })
 
-pub returns-in-Err-move_row-clause-refused : goal.returns-in-Err-move_row-clause-refused
-returns-in-Err-move_row-clause-refused g c =
+pub returns-in-Err-clause-refused : goal.returns-in-Err-clause-refused
+returns-in-Err-clause-refused g c =
     let S : Segments = (g.A.BuilderArena.view c.args.arena.now).words in
     let T : Segments = (g.A.BuilderArena.view c.take.new.arena).words in
     let D : Segments = (g.A.BuilderArena.view c.copy_words.new.arena).words in
     let P : Segments = (g.A.BuilderArena.view c.move_row.new.arena).words in
     let U : Segments = (g.A.BuilderArena.view c.unmove_row.new.arena).words in
-    let Z : Segments = (g.A.BuilderArena.view c.zero_part-in-Err-move_row.new.arena).words in
-    let steps : StructUndone S T D P U Z c.args.id c.args.old c.args.size c.in-Ok.room = record {
-      room = rw c.total.ensures at c.in-Ok.ensures.taken;
-      copied = rw (c.data_of.ensures, c.data_of-in-Ok.ensures, c.from.ensures) at c.copy_words.ensures.copied;
-      some = rw (c.pointers_of-from.ensures, c.pointers_of-to.ensures, c.from-count.ensures) at c.in-Err-move_row.ensures.some;
+    let Z : Segments = (g.A.BuilderArena.view c.zero_part-in-Err.new.arena).words in
+    let steps : StructUndone S T D P U Z c.args.id c.args.old c.args.size c.in_ok-room.room = record {
+      room = rw c.total.ensures at c.in_ok-room.ensures.taken;
+      copied = rw (c.data_of.ensures, c.data_of-2.ensures, c.from.ensures) at c.copy_words.ensures.copied;
+      some = rw (c.pointers_of-from.ensures, c.pointers_of-to.ensures, c.from-count.ensures) at c.in-Err.ensures.some;
       unmoves = rw (c.pointers_of-from.ensures, c.pointers_of-to.ensures, c.from-count.ensures) at c.unmove_row.ensures.zeroed;
-      zeroed = rw (c.from-in-Err-move_row.ensures ∙ c.total-in-Err-move_row.ensures) at c.zero_part-in-Err-move_row.ensures.zeroed;
+      zeroed = rw (c.from-in-Err.ensures ∙ c.total-in-Err.ensures) at c.zero_part-in-Err.ensures.zeroed;
       wider = (c.requires.data, c.requires.pointers);
     } in
-    struct_left S T D P U Z c.args.id c.args.at c.args.old c.args.size c.in-Ok.room steps
+    struct_left S T D P U Z c.args.id c.args.at c.args.old c.args.size c.in_ok-room.room steps
 
-pub returns-in-Err-clause-refused : goal.returns-in-Err-clause-refused
-returns-in-Err-clause-refused g c = λ t i. nothing_grown (g.A.BuilderArena.view c.args.arena.now).words (g.A.BuilderArena.view c.take.new.arena).words c.in-Err.ensures.refused
+pub returns-in_err-room-clause-refused : goal.returns-in_err-room-clause-refused
+returns-in_err-room-clause-refused g c =
+    let p = err_from_is_err_and c.from_residual.result c.from_residual.ensures.1 in rw p.1 (λ t i. nothing_grown (g.A.BuilderArena.view c.args.arena.now).words (g.A.BuilderArena.view c.take.new.arena).words c.in_err-room.ensures.refused)
+
+pub returns-in_err-room-clause-full : goal.returns-in_err-room-clause-full
+returns-in_err-room-clause-full g c =
+    let p = err_from_is_err_and c.from_residual.result c.from_residual.ensures.1 in rw (p.1, p.2) (inl (rw c.total.ensures at c.in_err-room.ensures.full))
 
 pub returns-in-Err-clause-full : goal.returns-in-Err-clause-full
-returns-in-Err-clause-full g c = inl (rw c.total.ensures at c.in-Err.ensures.full)
-
-pub returns-in-Err-move_row-clause-full : goal.returns-in-Err-move_row-clause-full
-returns-in-Err-move_row-clause-full g c =
+returns-in-Err-clause-full g c =
     let old : View = g.A.BuilderArena.view c.args.arena.now in
     let T : View = g.A.BuilderArena.view c.take.new.arena in
     let D : View = g.A.BuilderArena.view c.copy_words.new.arena in
     let P : View = g.A.BuilderArena.view c.move_row.new.arena in
     let U : View = g.A.BuilderArena.view c.unmove_row.new.arena in
-    let Z : View = g.A.BuilderArena.view c.zero_part-in-Err-move_row.new.arena in
-    let k = c.in-Err-move_row.k in
-    let (some, refused) = c.in-Err-move_row.ensures.full in
-    let (grown, near) = c.in-Ok.ensures.taken in
-    let keeps = keeps_both old T D grown.grows.segments c.in-Ok.ensures.granted (keeps_written T D D.words c.copy_words.ensures.limits) in
+    let Z : View = g.A.BuilderArena.view c.zero_part-in-Err.new.arena in
+    let k = c.in-Err.k in
+    let (some, refused) = c.in-Err.ensures.full in
+    let (grown, near) = c.in_ok-room.ensures.taken in
+    let keeps = keeps_both old T D grown.grows.segments c.in_ok-room.ensures.granted (keeps_written T D D.words c.copy_words.ensures.limits) in
     let undone = words_refused_before old P U 1 k (words_refused_after old D P 1 k keeps refused) c.unmove_row.ensures.limits c.unmove_row.ensures.pruned in
-    inr (rw c.from-count.ensures at some, words_refused_before old U Z 1 k undone c.zero_part-in-Err-move_row.ensures.limits c.zero_part-in-Err-move_row.ensures.pruned)
+    inr (rw c.from-count.ensures at some, words_refused_before old U Z 1 k undone c.zero_part-in-Err.ensures.limits c.zero_part-in-Err.ensures.pruned)
 
 -- Words are taken for the struct, and then two for a pointer at most.
-pub returns-in-Ok-move_row-clause-few : goal.returns-in-Ok-move_row-clause-few
-returns-in-Ok-move_row-clause-few g c =
+pub returns-in-Ok-clause-few : goal.returns-in-Ok-clause-few
+returns-in-Ok-clause-few g c =
     let T : Segments = (g.A.BuilderArena.view c.take.new.arena).words in
     let D : Segments = (g.A.BuilderArena.view c.copy_words.new.arena).words in
     let P : Segments = (g.A.BuilderArena.view c.move_row.new.arena).words in
@@ -144,44 +147,46 @@ returns-in-Ok-move_row-clause-few g c =
     let cleared = same_words Z Q c.zero_pads.ensures.pruned.segments c.zero_pads.ensures.pruned.words in
     omega (arith, taken, copied, moved, set, zeroed, cleared)
 
-pub returns-in-Err-move_row-clause-few : goal.returns-in-Err-move_row-clause-few
-returns-in-Err-move_row-clause-few g c =
+pub returns-in-Err-clause-few : goal.returns-in-Err-clause-few
+returns-in-Err-clause-few g c =
     let T : Segments = (g.A.BuilderArena.view c.take.new.arena).words in
     let D : Segments = (g.A.BuilderArena.view c.copy_words.new.arena).words in
     let P : Segments = (g.A.BuilderArena.view c.move_row.new.arena).words in
     let U : Segments = (g.A.BuilderArena.view c.unmove_row.new.arena).words in
-    let Z : Segments = (g.A.BuilderArena.view c.zero_part-in-Err-move_row.new.arena).words in
+    let Z : Segments = (g.A.BuilderArena.view c.zero_part-in-Err.new.arena).words in
     let taken = rw c.total.ensures at c.take.ensures.few in
     let moved = rw c.from-count.ensures at c.move_row.ensures.few in
     let copied = same_words T D c.copy_words.ensures.copied.segments c.copy_words.ensures.copied.words in
     let undone = same_words P U c.unmove_row.ensures.pruned.segments c.unmove_row.ensures.pruned.words in
-    let zeroed = same_words U Z c.zero_part-in-Err-move_row.ensures.pruned.segments c.zero_part-in-Err-move_row.ensures.pruned.words in
+    let zeroed = same_words U Z c.zero_part-in-Err.ensures.pruned.segments c.zero_part-in-Err.ensures.pruned.words in
     omega (arith, taken, copied, moved, undone, zeroed)
 
-pub returns-in-Err-clause-few : goal.returns-in-Err-clause-few
-returns-in-Err-clause-few g c = let taken = rw c.total.ensures at c.take.ensures.few in omega (arith, taken)
+pub returns-in_err-room-clause-few : goal.returns-in_err-room-clause-few
+returns-in_err-room-clause-few g c = let taken = rw c.total.ensures at c.take.ensures.few in omega (arith, taken)
 
 -- Where there is room for the struct and for all that its pointers can take, neither is refused.
+pub returns-in_err-room-clause-fits : goal.returns-in_err-room-clause-fits
+returns-in_err-room-clause-fits g c =
+    let p = err_from_is_err_and c.from_residual.result c.from_residual.ensures.1 in rw p.1 (λ h.
+    (let n : ℕ = 2 * c.args.old.size.pointers in
+    (c.in_err-room.ensures.fits n (subst (λ m. HasRoom (g.A.BuilderArena.view c.args.arena.now) c.args.id (m + n)) (sym c.total.ensures) h)).0))
+
 pub returns-in-Err-clause-fits : goal.returns-in-Err-clause-fits
 returns-in-Err-clause-fits g c = λ h.
     (let n : ℕ = 2 * c.args.old.size.pointers in
-    (c.in-Err.ensures.fits n (subst (λ m. HasRoom (g.A.BuilderArena.view c.args.arena.now) c.args.id (m + n)) (sym c.total.ensures) h)).0)
-
-pub returns-in-Err-move_row-clause-fits : goal.returns-in-Err-move_row-clause-fits
-returns-in-Err-move_row-clause-fits g c = λ h.
-    (let n : ℕ = 2 * c.args.old.size.pointers in
     let T : View = g.A.BuilderArena.view c.take.new.arena in
     let D : View = g.A.BuilderArena.view c.copy_words.new.arena in
-    let left = (c.in-Ok.ensures.fits n (subst (λ m. HasRoom (g.A.BuilderArena.view c.args.arena.now) c.args.id (m + n)) (sym c.total.ensures) h)).1 in
-    c.in-Err-move_row.ensures.fits (subst (λ m. HasSomeRoom D (2 * m)) (sym c.from-count.ensures) (room_written T D n c.copy_words.ensures.limits c.copy_words.ensures.copied.segments c.copy_words.ensures.copied.words left)))
+    let left = (c.in_ok-room.ensures.fits n (subst (λ m. HasRoom (g.A.BuilderArena.view c.args.arena.now) c.args.id (m + n)) (sym c.total.ensures) h)).1 in
+    c.in-Err.ensures.fits (subst (λ m. HasSomeRoom D (2 * m)) (sym c.from-count.ensures) (room_written T D n c.copy_words.ensures.limits c.copy_words.ensures.copied.segments c.copy_words.ensures.copied.words left)))
 
 -- In the segment of the old struct no pointer takes any.
-pub returns-in-Err-clause-near : goal.returns-in-Err-clause-near
-returns-in-Err-clause-near g c = λ here h. (c.in-Err.ensures.near (subst (λ m. HasOwnRoom (g.A.BuilderArena.view c.args.arena.now) c.args.id m) (sym c.total.ensures) h)).0
+pub returns-in_err-room-clause-near : goal.returns-in_err-room-clause-near
+returns-in_err-room-clause-near g c =
+    let p = err_from_is_err_and c.from_residual.result c.from_residual.ensures.1 in rw p.1 (λ here h. (c.in_err-room.ensures.near (subst (λ m. HasOwnRoom (g.A.BuilderArena.view c.args.arena.now) c.args.id m) (sym c.total.ensures) h)).0)
 
-pub returns-in-Err-move_row-clause-near : goal.returns-in-Err-move_row-clause-near
-returns-in-Err-move_row-clause-near g c = λ here h.
-    (let there = (c.in-Ok.ensures.near (subst (λ m. HasOwnRoom (g.A.BuilderArena.view c.args.arena.now) c.args.id m) (sym c.total.ensures) h)).1 in
+pub returns-in-Err-clause-near : goal.returns-in-Err-clause-near
+returns-in-Err-clause-near g c = λ here h.
+    (let there = (c.in_ok-room.ensures.near (subst (λ m. HasOwnRoom (g.A.BuilderArena.view c.args.arena.now) c.args.id m) (sym c.total.ensures) h)).1 in
     let from = ap (λ (x : Start). x.segment) c.pointers_of-from.ensures in
     let to = ap (λ (x : Start). x.segment) c.pointers_of-to.ensures in
-    c.in-Err-move_row.ensures.near (from ∙ (here ∙ (sym there ∙ sym to))))
+    c.in-Err.ensures.near (from ∙ (here ∙ (sym there ∙ sym to))))
