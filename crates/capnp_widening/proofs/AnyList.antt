@@ -15,7 +15,7 @@ use Rattle.capnp_making.proofs.Filling.{unchanged}
 use Rattle.capnp_widening.specs.RowsRemade.{ListLiesIn, BecomesList, IsList, WidensTo, WidensList, LeadsToWiderList}
 use Rattle.capnp_widening.specs.Widened.{list_widened, rewriting}
 use Rattle.capnp_widening.proofs.ListSteps.{structs_stored}
-use Rattle.capnp_widening.proofs.Listed.{same_list, no_list, not_a_list, flat_found, void_fits}
+use Rattle.capnp_widening.proofs.Listed.{same_list, same_tree, no_list, not_a_list, flat_found, void_fits}
 use Rattle.capnp_widening.proofs.PlainLists.{are_numbers}
 use Rattle.capnp_widening.proofs.PointerSteps.{flat_stored, pointers_stored}
 
@@ -50,9 +50,6 @@ pub null_stays : (S : Segments) (s p : ℕ) (size : StructSize) → ((t : Tree) 
 null_stays S s p size found = λ t x.
     (let null : t ≡ Null = none_is_null (target S s p) t (sym (found t x)) in
     (t, ap (list_widened size.data_words size.pointers) null ∙ ap (λ u. Ok u) (sym null), unchanged S s p t x))
-
-same_tree : (x y : Tree) → ◌≡◌ {A = Result Tree ErrorKind} (Ok x) (Ok y) → x ≡ y
-same_tree x y e = cc
 
 pub null_leads : (S : Segments) (s p : ℕ) (size : StructSize) → ((t : Tree) → IsStored S s p t → Ok None ≡ list_in (target S s p) Void t) → LeadsToWiderList size (rewriting s p S S) None
 null_leads S s p size found = λ t u x e.

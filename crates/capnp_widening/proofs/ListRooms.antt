@@ -13,12 +13,13 @@ use Rattle.capnp_making.specs.declared.existing.ExistingList.{ExistingList}
 use Rattle.capnp_making.specs.Memory.{HasRoom, SpendsMemory, RefusesGrowth, RefusesWords}
 use Rattle.capnp_making.specs.Near.{HasOwnRoom}
 use Rattle.capnp_making.specs.Made.{structs_words, zero_elements}
+use Rattle.capnp_making.proofs.PlacedStructs.{count-zero_elements}
 use Rattle.capnp_widening.specs.declared.remaking.ElementRows.{ElementRows}
 use Rattle.capnp_widening.specs.Rooms.{GrowsByAtMost, RefusesToBecome, widened_words, direct_pointers, HasRoomFor, RemadeRowsFit}
 use Rattle.capnp_widening.specs.RowsRemade.{StoresRows, IsList}
 use Rattle.capnp_widening.specs.Widened.{fill_elements, struct_for_each, struct_for_each_tree, limited, list_widened}
 use Rattle.capnp_widening.proofs.Listed.{structs_widen}
-use Rattle.capnp_widening.proofs.ListsWidened.{count-struct_for_each, count-struct_for_each_tree, count-zero_elements}
+use Rattle.capnp_widening.proofs.ListsWidened.{count-struct_for_each, count-struct_for_each_tree}
 use Rattle.capnp_widening.proofs.Refusing.{growth_named}
 use Rattle.capnp_widening.proofs.PlainLists.{are_pointers, pointers_of, has_pointers, are_numbers, void_of, are_void, numbers_limited}
 use Rattle.capnp_widening.proofs.StructLists.{are_structs, rows_of, has_rows}
@@ -150,9 +151,6 @@ not_refused r k u e f = cc
 
 pub null_found : (k : ErrorKind) → ◌≡◌ {A = Result (Option ExistingList) ErrorKind} (Err k) (Ok None) → ⊥
 null_found k e = cc
-
-pub structs_found : (k : ErrorKind) (l : ExistingList) → ◌≡◌ {A = Result (Option ExistingList) ErrorKind} (Err k) (Ok (Some l)) → ⊥
-structs_found k l e = cc
 
 pub found_none : (l : ExistingList) → ◌≡◌ {A = Result (Option ExistingList) ErrorKind} (Ok (Some l)) (Ok None) → ⊥
 found_none l e = cc

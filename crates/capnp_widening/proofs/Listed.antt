@@ -19,6 +19,9 @@ use Rattle.capnp_widening.proofs.Filled.{greater_words, greater_trees}
 pub same_list : (x y : ExistingList) → ◌≡◌ {A = Result (Option ExistingList) ErrorKind} (Ok (Some x)) (Ok (Some y)) → x ≡ y
 same_list x y e = cc
 
+pub same_tree : (x y : Tree) → ◌≡◌ {A = Result Tree ErrorKind} (Ok x) (Ok y) → x ≡ y
+same_tree x y e = cc
+
 pub no_list : (y : ExistingList) → ◌≡◌ {A = Result (Option ExistingList) ErrorKind} (Ok None) (Ok (Some y)) → ⊥
 no_list y e = cc
 

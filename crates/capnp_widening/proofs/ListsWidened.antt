@@ -13,11 +13,14 @@ use Rattle.capnp_widening.specs.Moved.{IsMoved}
 use Rattle.capnp_making.specs.Made.{nulls, words_of_zero, zero_elements}
 use Rattle.capnp_widening.specs.Widened.{fill_words, fill_trees, struct_for_each, struct_for_each_tree}
 use Rattle.capnp_format.proofs.Frame.{SameWords, times-append, frame_all, frame_elements}
+use Rattle.capnp_format.proofs.Slices.{moved}
 use Rattle.capnp_making.proofs.Extents.{times-first, times-object}
+use Rattle.capnp_making.proofs.Placed.{count-nulls}
+use Rattle.capnp_making.proofs.PlacedStructs.{count-zero_elements}
 use Rattle.capnp_making.proofs.Tidy.{tidy_kept_all, tidy_kept_elements}
 use Rattle.capnp_widening.proofs.SameObjects.{moved_mean}
 use Rattle.capnp_widening.proofs.Rehoused.{Parts, grows_first, grows_last, inner_agrees, object_stands, reached_stands, rehoused}
-use Rattle.capnp_widening.proofs.Widenings.{count-nulls, count-fill_trees, length-fill_words, nulls_mean, filled, at_position, moved_at}
+use Rattle.capnp_widening.proofs.Widenings.{count-fill_trees, length-fill_words, nulls_mean, filled, moved_at}
 use Rattle.capnp_widening.proofs.NewObjects.{IsRehoused, pads_from, pads_in_rows, struct_data_words}
 
 -- elements that stand in M; what their pointers reach is what the old ones reached, but for the pads
@@ -83,7 +86,7 @@ record RowsMeanToo (M : Segments) (n s p v r d k : ℕ) (ts : Trees) : Type 0 wh
 
 next_rows : (M : Segments) (s p v r d k : ℕ) (t : Tree) (ts : Trees) → PointersInRows M s p v r d k (tree t ts) → PointersInRows M s (p + 1) v (r + d + max 1 k) d k ts
 next_rows M s p v r d k t ts h = record {
-  words = λ i l. at_position M v _ _ (words_of_zero d) (let z : r + suc i * (d + max 1 k) ≡ r + d + max 1 k + i * (d + max 1 k) = omega arith in z) (h.words (suc i) (omega arith));
+  words = λ i l. moved M v _ _ (words_of_zero d) (let z : r + suc i * (d + max 1 k) ≡ r + d + max 1 k + i * (d + max 1 k) = omega arith in z) (h.words (suc i) (omega arith));
   moved = λ i l. moved_at M s _ _ v _ _ (let z : p + suc i ≡ p + 1 + i = omega arith in z) (let z : r + suc i * (d + max 1 k) + d ≡ r + d + max 1 k + i * (d + max 1 k) + d = omega arith in z) (h.moved (suc i) (omega arith));
   nulls_behind = λ i j l m f. subst (λ z. word_at M v z ≡ 0) (let z : r + suc i * (d + max 1 k) + d + j ≡ r + d + max 1 k + i * (d + max 1 k) + d + j = omega arith in z) (h.nulls_behind (suc i) j (omega arith) m f);
 }
@@ -109,7 +112,7 @@ rows_mean M n s p v r d k (tree t ts) c h (a, b, one, rest, g) =
         others.cost,
         length-replicate d 0,
         omega (arith, count-fill_trees k first),
-        at_position M v _ _ (words_of_zero d) (let z : r + 0 * (d + w) ≡ r = omega arith in z) (h.words 0 (omega arith)),
+        moved M v _ _ (words_of_zero d) (let z : r + 0 * (d + w) ≡ r = omega arith in z) (h.words 0 (omega arith)),
         full.means,
         others.means,
         refl,
@@ -178,7 +181,7 @@ pub record BlankRows (M : Segments) (v r d k : ℕ) (es : Elements) : Type 0 whe
 
 next_blank : (M : Segments) (v r d k : ℕ) (ws : List ℕ) (ts : Trees) (es : Elements) → BlankRows M v r d k (element ws ts es) → BlankRows M v (r + d + k) d k es
 next_blank M v r d k ws ts es h = record {
-  words = λ i l. at_position M v _ _ (struct_data_words (struct_at es i)) (let z : r + suc i * (d + k) ≡ r + d + k + i * (d + k) = omega arith in z) (h.words (suc i) (omega arith));
+  words = λ i l. moved M v _ _ (struct_data_words (struct_at es i)) (let z : r + suc i * (d + k) ≡ r + d + k + i * (d + k) = omega arith in z) (h.words (suc i) (omega arith));
   nulls_behind = λ i j l m. subst (λ z. word_at M v z ≡ 0) (let z : r + suc i * (d + k) + d + j ≡ r + d + k + i * (d + k) + d + j = omega arith in z) (h.nulls_behind (suc i) j (omega arith) m);
 }
 
@@ -194,7 +197,7 @@ blank_mean M n v r d k (element ws ts es) (long, none, blank) h =
         others.cost,
         long,
         ap count none ∙ count-nulls k,
-        at_position M v _ _ ws (let z : r + 0 * (d + k) ≡ r = omega arith in z) (h.words 0 (omega arith)),
+        moved M v _ _ ws (let z : r + 0 * (d + k) ≡ r = omega arith in z) (h.words 0 (omega arith)),
         subst (λ us. MeansAll M n v (r + d) us 0) (sym none) here.0,
         others.means,
         omega arith,
@@ -246,10 +249,6 @@ struct_of_number d k (suc i) (x ∷ xs) l = struct_of_number d k i xs (omega ari
 blank_zeros : (d k n : ℕ) → AreBlank d k (zero_elements d k n)
 blank_zeros d k zero = tt
 blank_zeros d k (suc n) = (length-replicate d 0, refl, blank_zeros d k n)
-
-pub count-zero_elements : (d k n : ℕ) → element_count (zero_elements d k n) ≡ n
-count-zero_elements d k zero = refl
-count-zero_elements d k (suc n) = ap suc (count-zero_elements d k n)
 
 struct_of_zeros : (d k i n : ℕ) → i < n → struct_data_words (struct_at (zero_elements d k n) i) ≡ words_of_zero d
 struct_of_zeros d k i zero l = absurd (omega arith)

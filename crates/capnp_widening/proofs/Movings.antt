@@ -297,16 +297,6 @@ row_new_places s p v r (suc k) x y = omega (arith, row_new_places s (p + 1) v (r
     first_word : (v r n x y : ℕ) → times (row v r (suc n) ∷ []) x y ≡ times (word_interval v r ∷ []) x y + times (row v (r + 1) n ∷ []) x y
     first_word v r n x y = grind (arith, nat_tests)
 
-pub row_old_places : (s p v r k x y : ℕ) → times (old_places (row_of_moves s p v r k)) x y ≡ times (row s p k ∷ []) x y
-row_old_places s p v r zero x y = empty s p x y
-  where
-    empty : (v r x y : ℕ) → 0 ≡ times (row v r 0 ∷ []) x y
-    empty v r x y = grind (arith, nat_tests)
-row_old_places s p v r (suc k) x y = omega (arith, row_old_places s (p + 1) v (r + 1) k x y, first_word s p k x y)
-  where
-    first_word : (v r n x y : ℕ) → times (row v r (suc n) ∷ []) x y ≡ times (word_interval v r ∷ []) x y + times (row v (r + 1) n ∷ []) x y
-    first_word v r n x y = grind (arith, nat_tests)
-
 -- old places lie in B
 pub old_place_inside : (B : Segments) (ms : List Move) → HaveValuesInside B ms → (x y : ℕ) → 0 < times (old_places ms) x y → y < length (segment B x)
 old_place_inside B [] a x y l = absurd (omega arith)

@@ -16,6 +16,7 @@ use Rattle.capnp_making.specs.Stored.{IsStored}
 use Rattle.capnp_making.specs.Zeroed.{row, IsZeroed}
 use Rattle.capnp_making.proofs.BelowElements.{element_within}
 use Rattle.capnp_making.proofs.Extents.{times-first, times-object}
+use Rattle.capnp_making.proofs.PlacedStructs.{count-zero_elements}
 use Rattle.capnp_widening.specs.declared.remaking.ElementRows.{ElementRows}
 use Rattle.capnp_widening.specs.declared.widening.Room.{Room}
 use Rattle.capnp_widening.specs.Anew.{BecomesAnew, StandsAnew, WritesAnew}
@@ -23,7 +24,7 @@ use Rattle.capnp_widening.specs.Moved.{Move, rows_of_moves, fresh_pads, IsMoved,
 use Rattle.capnp_widening.specs.RowsRemade.{AreRowsCopied, BecomesList, as_structs}
 use Rattle.capnp_widening.specs.Widened.{struct_for_each_tree, GrowsByZeros, rewriting}
 use Rattle.capnp_widening.proofs.ListSteps.{ListSteps, ListTaken, ListUndone, ObjectStored, object_remade, found_there, list_at}
-use Rattle.capnp_widening.proofs.ListsWidened.{pointers_widened, void_widened, count-struct_for_each_tree, count-zero_elements}
+use Rattle.capnp_widening.proofs.ListsWidened.{pointers_widened, void_widened, count-struct_for_each_tree}
 use Rattle.capnp_widening.proofs.Movings.{children_stand}
 use Rattle.capnp_widening.proofs.NewRows.{list_begun, rows_last, new_rows, rows_rehoused, zeros_there, pads_in_words, no_pads, stand_in_rows, none_stand}
 use Rattle.capnp_widening.proofs.Remade.{IsRemade, leads_last, object_anew, undone}

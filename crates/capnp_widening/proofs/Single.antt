@@ -1,5 +1,5 @@
 -- One pointer moved.
-use Rattle.std.proofs.Common.{◌≡◌, ◌≢◌, ◌⊎◌, inl, inr, ℕ, ◌+◌, ◌*◌, ◌%◌, ◌^◌, ◌<◌, ◌≤◌, cond, [], ◌∷◌, ◌++◌, List, length, Some, None, refl, sym, ap, ◌∙◌, subst, le_of_eq, arith, eq-eqb, ne_eqb}
+use Rattle.std.proofs.Common.{◌≡◌, ◌≢◌, ◌⊎◌, inl, inr, ℕ, ◌+◌, ◌*◌, ◌%◌, ◌^◌, ◌<◌, ◌≤◌, cond, [], ◌∷◌, ◌++◌, List, length, Some, None, sym, ap, ◌∙◌, subst, le_of_eq, arith, eq-eqb, ne_eqb}
 use Rattle.std.proofs.lemmas.Bool.{cases_eq}
 use Rattle.std.proofs.lemmas.List.{get_or_past}
 use Rattle.capnp_format.specs.Word.{kind, offset_bits, upper_half, is_double, far_position}
@@ -22,7 +22,7 @@ use Rattle.capnp_widening.proofs.Basics.{is_far, once_row}
 use Rattle.capnp_widening.specs.Moved.{SameObject, same_place, of_no_words, IsMoved, Extends, HasValueInside, a_move, fresh_pads, CanMove, AreMoved}
 use Rattle.capnp_widening.specs.Pointed.{IsPointed, PointsTo}
 use Rattle.capnp_widening.proofs.SameObjects.{near_leads, near_found}
-use Rattle.capnp_widening.proofs.Moves.{moved_null, moved_far, moved_capability}
+use Rattle.capnp_widening.proofs.Moves.{moved_far, moved_capability}
 use Rattle.capnp_widening.proofs.NewObjects.{own_pads}
 
 -- what stands in B stands in what extends it
@@ -92,24 +92,6 @@ place_there B S s p v r c =
     let (t, n, k, m, inside) = c.stand.0 in
     let b = c.behind v r (omega (arith, once_held v r)) in
     (inside s p (omega (arith, times-first (word_interval s p) (cover B s p t) s p, once_held s p)), b.1, b.2)
-
--- a null pointer, whose new place is null already
-pub null_moves : (B S : Segments) (s p v r : ℕ) → word_at S s p ≡ 0 → CanMove B S (a_move s p v r ∷ []) → AreMoved S S (a_move s p v r ∷ [])
-null_moves B S s p v r none c =
-    let here = place_there B S s p v r c in
-    let old : pads_of (word_at S s p) ≡ [] = ap pads_of none in
-    let new : pads_of (word_at S v r) ≡ [] = ap pads_of here.2 in
-    let own : own_pads S (a_move s p v r) ≡ [] = own_of_near S s p v r (λ e. omega (arith, none)) ∙ new in
-    let no_fresh = λ (x y : ℕ). (let e : times (fresh_pads S (a_move s p v r ∷ [])) x y ≡ 0 = omega (arith, alone (own_pads S (a_move s p v r)) x y, ap (λ js. times js x y) own) in e) in
-    record {
-      grows = record { segments = omega arith; words = λ x. omega arith };
-      moved = (moved_null S s p v r none here.2, tt);
-      kept = λ x y h l. refl;
-      sums = λ x y. omega (arith, no_fresh x y, alone (pads_of (word_at S v r)) x y, alone (pads_of (word_at S s p)) x y, ap (λ js. times js x y) old, ap (λ js. times js x y) new);
-      fresh = λ x y l. absurd (omega (arith, no_fresh x y));
-      once = λ x y. omega (arith, no_fresh x y);
-      zero = λ x y h l. get_or_past (segment S x) y 0 l;
-    }
 
 -- a far pointer or a capability, copied as it is
 pub copied_moves : (B S R : Segments) (s p v r : ℕ) → word_at S s p ≢ 0 → 2 ≤ kind (word_at S s p) → R ≡ with_word S v r (word_at S s p) → CanMove B S (a_move s p v r ∷ []) → AreMoved S R (a_move s p v r ∷ [])

@@ -1,5 +1,5 @@
 -- Structs that are opened for writing.
-use Rattle.std.proofs.Common.{[], ◌≡◌, inl, Bool, true, false, ℕ, zero, suc, ◌+◌, ◌≤◌, max, List, length, Some, None, Result, Ok, Err, refl, sym, ap, ap₂, ◌∙◌, subst, arith}
+use Rattle.std.proofs.Common.{[], ◌≡◌, inl, Bool, true, false, ℕ, zero, ◌+◌, ◌≤◌, max, List, length, Some, None, Ok, Err, refl, sym, ap, ap₂, ◌∙◌, subst, arith}
 use Rattle.std.proofs.lemmas.Grind.{common_steps}
 use Rattle.capnp_words.specs.declared.error.ErrorKind.{ErrorKind}
 use Rattle.capnp_words.specs.declared.error.ErrorKind.TheVariants.{AllocationFailed}
@@ -18,6 +18,7 @@ use Rattle.capnp_making.specs.Stored.{IsStored, IsReplaced}
 use Rattle.capnp_making.proofs.Filling.{unchanged}
 use Rattle.capnp_making.proofs.FillingMade.{null_stored}
 use Rattle.capnp_making.proofs.Memory.{keeps_itself, spends_nothing, not_the_allocator, made_refused}
+use Rattle.capnp_making.proofs.Placed.{count-nulls}
 use Rattle.capnp_making.proofs.Replaced.{grown}
 use Rattle.capnp_making.specs.Makes.{call_at}
 use Rattle.capnp_widening.specs.Anew.{StandsAnew, WidensStructAnew}
@@ -25,7 +26,9 @@ use Rattle.capnp_widening.specs.Opening.{LeadsToOne, OpensStruct, struct_opened}
 use Rattle.capnp_widening.specs.Rooms.{all_words, direct_pointers, GrowsForStruct, RefusesToBecome, widened_words}
 use Rattle.capnp_widening.specs.Widened.{fill_words, fill_trees, GrowsByZeros, WidensStruct, LeavesAll, LeadsToWiderStruct, rewriting, widened}
 use Rattle.capnp_widening.proofs.Filled.{already_wide, wide_words, wide_trees}
+use Rattle.capnp_widening.proofs.Listed.{same_tree}
 use Rattle.capnp_widening.proofs.Refusing.{growth_named}
+use Rattle.capnp_widening.proofs.StructRooms.{no_struct}
 use Rattle.capnp_widening.proofs.StructSteps.{the_struct, same_struct}
 use Rattle.capnp_widening.proofs.Widenings.{length-fill_words, count-fill_trees}
 use Rattle.capnp_widening.proofs.WrittenAnew.{writes_nothing}
@@ -48,9 +51,6 @@ struct_lies S s p ws ts stored = at_level stored.means.0 stored.means.1 stored.m
     at_level : (n c : ℕ) → Means S n s p (Struct ws ts) c → StructLiesIn S (the_struct S s p ws ts)
     at_level n c (a, k, some, o, claim, words, all, g) =
         subst (λ (b : Target). b.start + length ws + count ts ≤ length (segment S b.segment)) (sym (ap target_in o.leads_to.1)) (omega (arith, claim))
-
-no_struct : (e : ExistingStruct) → None ≡ Some e → ⊥
-no_struct e x = cc
 
 -- a struct that is large enough
 struct_wide_at : (v : View) (s p : ℕ) (ws : List ℕ) (ts : Trees) (e : ExistingStruct) (size : StructSize) → IsStored v.words s p (Struct ws ts) → the_struct v.words s p ws ts ≡ e →
@@ -127,9 +127,6 @@ struct_wider a b s p (Pointers ts) e f size greater stored found w l m = absurd 
 struct_wider a b s p (Structs d q es) e f size greater stored found w l m = absurd (no_struct e found)
 
 -- or for which there is no memory
-same_ok : (t u : Tree) → ◌≡◌ {A = Result Tree ErrorKind} (Ok t) (Ok u) → t ≡ u
-same_ok t u e = cc
-
 pub struct_unwidened : (a b : View) (s p : ℕ) (e : ExistingStruct) (size : StructSize) (k : ErrorKind) → ((t : Tree) → IsStored a.words s p t → struct_in (target a.words s p) t ≡ Some e) → SpendsMemory a b k →
     RefusesGrowth a b (max e.size.data_words size.data_words + max e.size.pointers size.pointers) e.size.pointers k → RefusesToBecome (IsStored a.words s p) (struct_opened size) a b k
 struct_unwidened a b s p e size k known memory full = record { name = growth_named a b _ _ k full; memory = memory; full = λ t u stored opened. of_value t u (known t stored) opened }
@@ -143,7 +140,7 @@ struct_unwidened a b s p e size k known memory full = record { name = growth_nam
         let q : count ts ≡ e.size.pointers = ap (λ (x : ExistingStruct). x.size.pointers) is in
         let words : max e.size.data_words size.data_words + max e.size.pointers size.pointers ≡ widened_words (widened size ws ts) =
         omega (arith, d, q, length-fill_words size.data_words ws, count-fill_trees size.pointers ts) in
-        subst (λ x. RefusesGrowth a b (widened_words x) (count ts) k) (same_ok (widened size ws ts) u opened)
+        subst (λ x. RefusesGrowth a b (widened_words x) (count ts) k) (same_tree (widened size ws ts) u opened)
         (subst (λ n. RefusesGrowth a b n (count ts) k) words (subst (λ n. RefusesGrowth a b (max e.size.data_words size.data_words + max e.size.pointers size.pointers) n k) (sym q) full))
     of_value (Flat n ns) u found opened = absurd (no_struct e found)
     of_value (Pointers ts) u found opened = absurd (no_struct e found)
@@ -176,19 +173,15 @@ some_struct e x = cc
 zero_count : (n : ℕ) → length (words_of_zero n) ≡ n
 zero_count n = grind (arith, common_steps)
 
-null_count : (n : ℕ) → count (nulls n) ≡ n
-null_count zero = refl
-null_count (suc n) = ap (λ k. suc k) (null_count n)
-
 pub struct_made : (a b : View) (s p : ℕ) (size : StructSize) (h : Start) → IsReplaced a.words b.words s p Null (zero_struct size) → KeepsMemory a b → TakesWords a b s (size.data_words + size.pointers) →
     StandsBehind a s (size.data_words + size.pointers) (start_of (target b.words s p)) → LeadsToStart b.words s p h →
     OpensStruct LeadsToOne size (Ok (struct_at h.segment h.at size.data_words size.pointers)) (call_at s p a b) Null
 struct_made a b s p size h made memory taken behind leads =
     let vs : List ℕ = words_of_zero size.data_words in
     let us : Trees = nulls size.pointers in
-    let long : size.data_words + size.pointers ≡ widened_words (zero_struct size) = ap₂ (λ x y. x + y) (sym (zero_count size.data_words)) (sym (null_count size.pointers)) in
+    let long : size.data_words + size.pointers ≡ widened_words (zero_struct size) = ap₂ (λ x y. x + y) (sym (zero_count size.data_words)) (sym (count-nulls size.pointers)) in
     let same : the_struct b.words s p vs us ≡ struct_at h.segment h.at size.data_words size.pointers =
-    same_place (target b.words s p).segment (target b.words s p).start (length vs) (count us) h.segment h.at size.data_words size.pointers (sym leads.0) (sym leads.1) (zero_count size.data_words) (null_count size.pointers) in
+    same_place (target b.words s p).segment (target b.words s p).start (length vs) (count us) h.segment h.at size.data_words size.pointers (sym leads.0) (sym leads.1) (zero_count size.data_words) (count-nulls size.pointers) in
     record {
       replaced = made;
       leads = (ap (λ x. Some x) same, subst (StructLiesIn b.words) same (struct_lies b.words s p vs us made.stored));
@@ -205,7 +198,7 @@ pub struct_unmade : (a b : View) (s p : ℕ) (size : StructSize) (k : ErrorKind)
     (HasRoom a s (size.data_words + size.pointers) → ⊥) → OpensStruct LeadsToOne size (Err k) (call_at s p a b) Null
 struct_unmade a b s p size k place null same named full =
     let refused = made_refused a b s (size.data_words + size.pointers) k named same full in
-    let words : size.data_words + size.pointers ≡ widened_words (zero_struct size) = ap₂ (λ x y. x + y) (sym (zero_count size.data_words)) (sym (null_count size.pointers)) in
+    let words : size.data_words + size.pointers ≡ widened_words (zero_struct size) = ap₂ (λ x y. x + y) (sym (zero_count size.data_words)) (sym (count-nulls size.pointers)) in
     record {
       stands = subst (λ R. IsReplaced a.words R s p Null Null) (sym same) (unchanged a.words s p Null (null_stored a.words s p place null));
       narrow = λ h. h;

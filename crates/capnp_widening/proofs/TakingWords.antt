@@ -1,5 +1,5 @@
 -- Words that are taken in a segment, or where the arena has room next.
-use Rattle.std.proofs.Common.{◌≡◌, ℕ, ◌+◌, ◌<◌, ◌≤◌, length, replicate, refl, sym, ap, ◌∙◌, subst, arith}
+use Rattle.std.proofs.Common.{◌≡◌, ℕ, ◌+◌, ◌<◌, ◌≤◌, length, refl, sym, ap, ◌∙◌, subst, arith}
 use Rattle.capnp_format.specs.Segments.{Segments, segment}
 use Rattle.capnp_arena.specs.Taking.{IsFirstFit, IsFull, GrowsSegment, GainsSegment}
 use Rattle.capnp_arena.specs.View.{View, KeepsLimits}

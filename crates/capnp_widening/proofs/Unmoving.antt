@@ -1,24 +1,20 @@
 -- The landing pads of moved pointers made zero.
-use Rattle.std.proofs.Common.{◌≡◌, ◌≢◌, ◌⊎◌, inl, inr, ℕ, suc, ◌+◌, ◌<◌, cond, List, [], ◌∷◌, ◌++◌, sym, ap, ◌∙◌, subst, arith, eq-eqb, ne_eqb}
+use Rattle.std.proofs.Common.{◌≡◌, ◌≢◌, ◌⊎◌, inl, inr, ℕ, suc, ◌+◌, ◌<◌, cond, List, [], ◌∷◌, ◌++◌, sym, ap, ◌∙◌, subst, arith, ne_eqb}
 use Rattle.capnp_format.specs.Word.{kind, is_double, far_position, upper_half}
 use Rattle.capnp_format.specs.Segments.{Segments, word_at}
 use Rattle.capnp_format.specs.Forest.{times, pads_of}
 use Rattle.capnp_format.proofs.Frame.{times-append}
 use Rattle.capnp_making.specs.Zeroed.{IsZeroed, PadsInside}
 use Rattle.capnp_widening.proofs.Basics.{is_far}
-use Rattle.capnp_making.proofs.Zeros.{of_row, zeroed_again, nothing_zeroed}
+use Rattle.capnp_making.proofs.Zeros.{of_row, zeroed_again}
 use Rattle.capnp_making.proofs.Extents.{once_held}
 use Rattle.capnp_widening.specs.Moved.{Move, a_move, row_of_moves, old_places, new_places, fresh_pads, Unmoves}
-use Rattle.capnp_widening.proofs.Movings.{SameMoves, same_fresh, fresh_pads-append, row_next}
+use Rattle.capnp_widening.proofs.Movings.{SameMoves, same_fresh, fresh_pads-append, new_places-append, row_next}
 use Rattle.capnp_widening.proofs.NewObjects.{own_pads}
 
 old_places-append : (ms ns : List Move) (x y : ℕ) → times (old_places (ms ++ ns)) x y ≡ times (old_places ms) x y + times (old_places ns) x y
 old_places-append [] ns x y = omega arith
 old_places-append (m ∷ ms) ns x y = omega (arith, old_places-append ms ns x y)
-
-new_places-append : (ms ns : List Move) (x y : ℕ) → times (new_places (ms ++ ns)) x y ≡ times (new_places ms) x y + times (new_places ns) x y
-new_places-append [] ns x y = omega arith
-new_places-append (m ∷ ms) ns x y = omega (arith, new_places-append ms ns x y)
 
 -- words that a zeroing leaves
 same_left : (S M : Segments) (ms : List Move) → ((x y : ℕ) → (0 < times (old_places ms) x y) ⊎ (0 < times (new_places ms) x y) → word_at M x y ≡ word_at S x y) → SameMoves S M ms
@@ -28,9 +24,6 @@ same_left S M (m ∷ ms) h = (
   h m.to_segment m.to_at (inr (omega (arith, once_held m.to_segment m.to_at))),
   same_left S M ms (λ x y e. elim e [ inl l ↦ h x y (inl (omega arith)) | inr l ↦ h x y (inr (omega arith)) ]),
 )
-
-pub none_unmoved : (S : Segments) → Unmoves S S []
-none_unmoved S = λ c. nothing_zeroed S
 
 pub unmoves_both : (S M R : Segments) (ms ns : List Move) → Unmoves S M ms → Unmoves M R ns → Unmoves S R (ms ++ ns)
 unmoves_both S M R ms ns f g = λ c.
@@ -61,11 +54,6 @@ unmoves_next S M R s p v r k f g =
     (subst (λ ms. Unmoves S R ms) (sym (row_next s p v r k)) (unmoves_both S M R (row_of_moves s p v r k) (a_move s (p + k) v (r + k) ∷ []) f g))
 
 -- the pads of one pointer
-pub far_unmoved : (S : Segments) (s p v r : ℕ) → kind (word_at S s p) ≡ 2 → Unmoves S S (a_move s p v r ∷ [])
-far_unmoved S s p v r far = λ c.
-    (let none : own_pads S (a_move s p v r) ≡ [] = ap (λ b. cond b [] (pads_of (word_at S v r))) (eq-eqb (kind (word_at S s p)) 2 far) in
-    subst (λ is. IsZeroed S S (is ++ [])) (sym none) (nothing_zeroed S))
-
 pub near_unmoved : (S R : Segments) (s p v r : ℕ) → kind (word_at S s p) ≢ 2 → (PadsInside S (word_at S v r) → IsZeroed S R (pads_of (word_at S v r))) → Unmoves S R (a_move s p v r ∷ [])
 near_unmoved S R s p v r near f = λ c.
     (let x = word_at S v r in

@@ -12,7 +12,9 @@ use Rattle.capnp_widening.specs.Moved.{IsMoved}
 use Rattle.capnp_making.specs.Made.{nulls, words_of_zero}
 use Rattle.capnp_widening.specs.Widened.{fill_words, fill_trees, fill_elements}
 use Rattle.capnp_format.proofs.Frame.{SameWords, times-append, frame_all, frame_elements, has_words_kept}
+use Rattle.capnp_format.proofs.Slices.{moved}
 use Rattle.capnp_making.proofs.Extents.{times-first, times-object}
+use Rattle.capnp_making.proofs.Placed.{count-nulls}
 use Rattle.capnp_making.proofs.Tidy.{tidy_kept_all, tidy_kept_elements}
 use Rattle.capnp_widening.proofs.SameObjects.{moved_mean}
 use Rattle.capnp_widening.proofs.Rehoused.{grows_first, grows_last, inner_agrees, object_stands, reached_stands, rehoused}
@@ -20,10 +22,6 @@ use Rattle.capnp_widening.proofs.NewObjects.{IsRehoused, pads_from, pads_in_rows
 
 pub length-fill_words : (d : ℕ) (ws : List ℕ) → length (fill_words d ws) ≡ max (length ws) d
 length-fill_words d ws = omega (arith, length-append ws (words_of_zero (d - length ws)), length-replicate {A = ℕ} (d - length ws) 0)
-
-pub count-nulls : (k : ℕ) → count (nulls k) ≡ k
-count-nulls zero = refl
-count-nulls (suc k) = ap suc (count-nulls k)
 
 pub count-fill_trees : (k : ℕ) (ts : Trees) → count (fill_trees k ts) ≡ max (count ts) k
 count-fill_trees k no_trees = omega (arith, count-nulls k)
@@ -133,15 +131,12 @@ record RowsMeanToo (S : Segments) (n s p d q v r e k : ℕ) (es : Elements) : Ty
       ≡ times (cover_elements S s p d q es) x y + times (pads_in_rows S v (r + max d e) (max d e + max q k) q (element_count es)) x y
   tidy : AreTidyElements S s p d q es → AreTidyElements S v r (max d e) (max q k) (fill_elements e k es)
 
-pub at_position : (S : Segments) (v z y : ℕ) (ws : List ℕ) → z ≡ y → HasWords S v z ws → HasWords S v y ws
-at_position S v z y ws e h = subst (λ x. HasWords S v x ws) e h
-
 pub moved_at : (S : Segments) (s p o v r w : ℕ) → p ≡ o → r ≡ w → IsMoved S s p v r → IsMoved S s o v w
 moved_at S s p o v r w e f h = subst (λ x. IsMoved S s x v w) e (subst (λ x. IsMoved S s p v x) f h)
 
 next_rows : (M : Segments) (s p d q v r e k : ℕ) (ws : List ℕ) (ts : Trees) (es : Elements) → RowsWritten M s p d q v r e k (element ws ts es) → RowsWritten M s (p + d + q) d q v (r + max d e + max q k) e k es
 next_rows M s p d q v r e k ws ts es h = record {
-  words = λ i l. at_position M v _ _ (fill_words e (struct_data_words (struct_at es i))) (let z : r + suc i * (max d e + max q k) ≡ r + max d e + max q k + i * (max d e + max q k) = omega arith in z) (h.words (suc i) (omega arith));
+  words = λ i l. moved M v _ _ (fill_words e (struct_data_words (struct_at es i))) (let z : r + suc i * (max d e + max q k) ≡ r + max d e + max q k + i * (max d e + max q k) = omega arith in z) (h.words (suc i) (omega arith));
   moved = λ i j l m. moved_at M s _ _ v _ _ (let z : p + suc i * (d + q) + d + j ≡ p + d + q + i * (d + q) + d + j = omega arith in z)
       (let z : r + suc i * (max d e + max q k) + max d e + j ≡ r + max d e + max q k + i * (max d e + max q k) + max d e + j = omega arith in z) (h.moved (suc i) j (omega arith) m);
   nulls_behind = λ i j l m f. subst (λ z. word_at M v z ≡ 0) (let z : r + suc i * (max d e + max q k) + max d e + j ≡ r + max d e + max q k + i * (max d e + max q k) + max d e + j = omega arith in z) (h.nulls_behind (suc i) j (omega arith) m f);
@@ -165,7 +160,7 @@ rows_mean S n s p d q v r e k (element ws ts es) c h (a, b, long, len, words, al
         others.cost,
         omega (arith, length-fill_words e ws),
         omega (arith, count-fill_trees k ts),
-        at_position S v _ _ (fill_words e ws) (let z : r + 0 * (wd + wq) ≡ r = omega arith in z) (h.words 0 (omega arith)),
+        moved S v _ _ (fill_words e ws) (let z : r + 0 * (wd + wq) ≡ r = omega arith in z) (h.words 0 (omega arith)),
         full.means,
         others.means,
         refl,

@@ -1,22 +1,21 @@
 -- Pointers written anew one after the other, and the words that their landing pads take.
-use Rattle.std.proofs.Common.{◌≡◌, ◌≢◌, ◌⊎◌, inl, inr, ℕ, suc, ◌+◌, ◌*◌, ◌-◌, ◌^◌, ◌<◌, ◌≤◌, max, cond, nat_eq, nat_lt, List, [], ◌∷◌, ◌++◌, length, refl, sym, ap, ◌∙◌, subst, arith}
-use Rattle.std.proofs.lemmas.Bool.{cases_eq, cases_lt}
-use Rattle.capnp_format.specs.Word.{kind, is_double, struct_word, upper_half}
-use Rattle.capnp_format.specs.Segments.{Segments, Grows, segment, word_at}
+use Rattle.std.proofs.Common.{◌≡◌, inl, inr, ℕ, suc, ◌+◌, ◌*◌, ◌<◌, ◌≤◌, max, List, [], ◌∷◌, ◌++◌, length, refl, sym, ap, ◌∙◌, subst, arith}
+use Rattle.capnp_format.specs.Segments.{Segments, segment, word_at}
 use Rattle.capnp_format.specs.Forest.{times}
-use Rattle.capnp_format.proofs.Frame.{times-append}
-use Rattle.capnp_arena.specs.Taking.{IsFirstFit, IsFull}
 use Rattle.capnp_arena.specs.View.{View, KeepsLimits}
 use Rattle.capnp_making.specs.Makes.{call_at}
 use Rattle.capnp_making.specs.Memory.{KeepsMemory, IsNextRoom, Lengthens, TakesWords}
-use Rattle.capnp_making.specs.Path.{word_interval}
 use Rattle.capnp_making.proofs.Extents.{once_held}
-use Rattle.capnp_making.proofs.Memory.{keeps_both, keeps_itself}
-use Rattle.capnp_widening.specs.Moved.{Move, a_move, row_of_moves, rows_of_moves, old_places, new_places, CanMove, AreMoved, Moves}
-use Rattle.capnp_widening.specs.Anew.{IsWrittenAnew, pad_words, WritesPointer, OnlyWrites, AreWrittenAnew, TakesPadsInTurn, AreWrittenInTurn, WritesAnew}
+use Rattle.capnp_making.proofs.Memory.{keeps_both}
+use Rattle.capnp_widening.specs.Moved.{Move, a_move, row_of_moves, rows_of_moves, new_places, Moves}
+use Rattle.capnp_widening.specs.Anew.{IsWrittenAnew, pad_words, WritesPointer, OnlyWrites, AreWrittenAnew, TakesPadsInTurn, WritesAnew}
 use Rattle.capnp_widening.proofs.Movings.{can_left, can_right, new_places-append, row_next}
 use Rattle.capnp_widening.proofs.Rows.{rows_next}
 use Rattle.capnp_widening.proofs.Single.{place_there}
+
+-- what nothing but words is changed by, and then again
+pub limits_both : (a b c : View) → KeepsLimits a b → KeepsLimits b c → KeepsLimits a c
+limits_both a b c x y = y ∙ ap (λ (v : View). record v { words = c.words }) x
 
 -- nothing is written, and one write after another
 
@@ -25,7 +24,7 @@ writes_nothing v = record { limits = refl; segments = refl; words = λ x. refl }
 
 pub writes_both : (a b c : View) → OnlyWrites a b → OnlyWrites b c → OnlyWrites a c
 writes_both a b c x y = record {
-  limits = y.limits ∙ ap (λ (v : View). record v { words = c.words }) x.limits;
+  limits = limits_both a b c x.limits y.limits;
   segments = y.segments ∙ x.segments;
   words = λ v. y.words v ∙ x.words v;
 }

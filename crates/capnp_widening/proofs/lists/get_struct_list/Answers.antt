@@ -7,9 +7,9 @@ use Rattle.capnp_making.specs.Existing.{struct_list}
 use Rattle.capnp_format.specs.Segments.{Segments}
 use Rattle.capnp_format.specs.Forest.{target}
 use Rattle.capnp_widening.proofs.AnyList.{none_is_null, null_stays, null_leads, list_widens, list_leads, unfound_refused}
-use Rattle.capnp_widening.proofs.Listed.{same_list}
+use Rattle.capnp_widening.proofs.Listed.{same_list, not_a_list}
 use Rattle.capnp_widening.proofs.Rooms.{not_true}
-use Rattle.capnp_widening.proofs.ListRooms.{not_refused, null_found, structs_found, found_none}
+use Rattle.capnp_widening.proofs.ListRooms.{not_refused, null_found, found_none}
 use Rattle.capnp_widening.proofs.StructSteps.{nothing_grown}
 use Rattle.capnp_widening.proofs.Unspent.{unfound_spent}
 use Rattle.capnp_widening.proofs.lists.get_struct_list.Goals as goal
@@ -71,7 +71,7 @@ pub returns-in_err-old-clause-stays : goal.returns-in_err-old-clause-stays
 returns-in_err-old-clause-stays g c =
     let p = err_from_is_err_and c.from_residual.result c.from_residual.ensures.1 in rw p.1 (λ h. absurd (elim h [
       | inl x ↦ null_found _ (c.in_err-old.ensures.found Null x)
-      | inr (d, q, es, x, l, m) ↦ structs_found _ _ (c.in_err-old.ensures.found (Structs d q es) x)
+      | inr (d, q, es, x, l, m) ↦ not_a_list _ _ (c.in_err-old.ensures.found (Structs d q es) x)
     ]))
 
 pub returns-in_err-old-clause-fits : goal.returns-in_err-old-clause-fits

@@ -1,5 +1,5 @@
 use Rattle.std.proofs.lemmas.Result.{err_from_is_err_and}
-use Rattle.std.proofs.Common.{◌≡◌, ◌∙◌, ◌≤◌, ◌+◌, ◌*◌, ℕ, length, ap, subst, arith}
+use Rattle.std.proofs.Common.{◌≡◌, ◌≤◌, ◌+◌, ◌*◌, ℕ, length, subst, arith}
 use Rattle.capnp_arena.specs.View.{View, KeepsLimits}
 use Rattle.capnp_format.specs.Segments.{Segments}
 use Rattle.capnp_making.proofs.Memory.{keeps_both, keeps_written}
@@ -8,7 +8,7 @@ use Rattle.capnp_making.specs.Memory.{HasRoom}
 use Rattle.capnp_widening.proofs.Rooms.{same_words}
 use Rattle.capnp_widening.specs.Anew.{OnlyWrites}
 use Rattle.capnp_widening.proofs.TakingWords.{pruned_writes}
-use Rattle.capnp_widening.proofs.WrittenAnew.{writes_both}
+use Rattle.capnp_widening.proofs.WrittenAnew.{limits_both, writes_both}
 use Rattle.capnp_widening.proofs.numbers.remake_numbers.Goals as goal
 
 -- The room lies in its segment, which has fewer than 2^29 words.
@@ -23,9 +23,6 @@ overflow_add-first-2 g c =
     let (T, room, tagged) = c.in_ok-room.ensures.begun in
     let v : ℕ = c.in_ok-room.room.segment in
     omega (arith, room.0.room, tagged.words v, g.met.A.BuilderArena.within c.begin_list.new.arena v, g.met.A.BuilderArena.small c.begin_list.new.arena v)
-
-limits_both : (x y z : View) → KeepsLimits x y → KeepsLimits y z → KeepsLimits x z
-limits_both x y z e f = f ∙ ap (λ (v : View). record v { words = z.words }) e
 
 pub returns-clause-granted : goal.returns-clause-granted
 returns-clause-granted g c =

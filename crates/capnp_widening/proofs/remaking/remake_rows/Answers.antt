@@ -1,5 +1,5 @@
 use Rattle.std.proofs.lemmas.Result.{err_from_is_err_and}
-use Rattle.std.proofs.Common.{◌∙◌, ◌≤◌, ◌*◌, inl, inr, ℕ, length, sym, ap, arith}
+use Rattle.std.proofs.Common.{◌∙◌, ◌≤◌, ◌*◌, inl, inr, ℕ, length, sym, arith}
 use Rattle.capnp_arena.specs.View.{View, KeepsLimits}
 use Rattle.capnp_format.specs.Segments.{Segments}
 use Rattle.capnp_making.proofs.Memory.{keeps_both, keeps_written, keeps_then_spends, spends_then_limits, words_refused_after, words_refused_before}
@@ -9,7 +9,7 @@ use Rattle.capnp_widening.proofs.Rooms.{same_words}
 use Rattle.capnp_widening.proofs.StructSteps.{nothing_grown}
 use Rattle.capnp_widening.specs.Anew.{OnlyWrites}
 use Rattle.capnp_widening.proofs.TakingWords.{pruned_writes}
-use Rattle.capnp_widening.proofs.WrittenAnew.{writes_both}
+use Rattle.capnp_widening.proofs.WrittenAnew.{limits_both, writes_both}
 use Rattle.capnp_widening.proofs.remaking.remake_rows.Goals as goal
 
 -- The room lies in its segment, which has fewer than 2^29 words.
@@ -37,9 +37,6 @@ settle-requires-clause-inside g c =
     let (T, room, tagged) = c.in_ok-room.ensures.begun in
     let v : ℕ = c.in_ok-room.room.segment in
     omega (arith, room.0.room, tagged.words v, c.fill_rows.ensures.longer.words v)
-
-limits_both : (x y z : View) → KeepsLimits x y → KeepsLimits y z → KeepsLimits x z
-limits_both x y z e f = f ∙ ap (λ (v : View). record v { words = z.words }) e
 
 pub returns-in-Ok-clause-granted : goal.returns-in-Ok-clause-granted
 returns-in-Ok-clause-granted g c =
