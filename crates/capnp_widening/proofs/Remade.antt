@@ -235,8 +235,11 @@ object_anew s t d p r q T u i a size b v at pads wide moves h kept taken behind 
     let there : start v (at + pads) ≡ start_of (target q.words u i) = ap₂ start (sym h.segment_of) (sym h.start_of) ∙ ap start_of (sym goes) in
     subst (λ (x : Start). StandsAnew (call_at u i s q) wide (moves x)) there (record {
       behind = subst (λ (x : Start). StandsBehind s u wide x) there behind;
-      forms = written_later s.words p.words q.words ms (new_last s.words T d.words p.words r.words q.words u i a size b v at pads wide ms h) written.forms;
-      taken = record { begun = t; kept = kept; object = taken; pads = pads_before s.words t d q ms first (pads_after s.words d p q ms written.taken last) };
+      forms = written_later s.words p.words q.words ms (new_last s.words T d.words p.words r.words q.words u i a size b v at pads wide ms h) written.0;
+      begun = t;
+      kept = kept;
+      object = taken;
+      pads = pads_before s.words t d q ms first (pads_after s.words d p q ms written.1 last);
     })
 
 -- a growth is refused: the pads and the new object are made zero again

@@ -23,11 +23,12 @@ use Rattle.capnp_making.proofs.Replaced.{grown}
 use Rattle.capnp_making.specs.Makes.{call_at}
 use Rattle.capnp_widening.specs.Anew.{StandsAnew, WidensStructAnew}
 use Rattle.capnp_widening.specs.Opening.{LeadsToOne, OpensStruct, struct_opened}
-use Rattle.capnp_widening.specs.Rooms.{all_words, direct_pointers, GrowsForStruct, RefusesToBecome, widened_words}
+use Rattle.capnp_widening.specs.Rooms.{direct_pointers, GrowsForStruct, RefusesToBecome, widened_words}
 use Rattle.capnp_widening.specs.Widened.{fill_words, fill_trees, GrowsByZeros, WidensStruct, LeavesAll, LeadsToWiderStruct, rewriting, widened}
 use Rattle.capnp_widening.proofs.Filled.{already_wide, wide_words, wide_trees}
 use Rattle.capnp_widening.proofs.Listed.{same_tree}
 use Rattle.capnp_widening.proofs.Refusing.{growth_named}
+use Rattle.capnp_widening.proofs.Rooms.{all_words}
 use Rattle.capnp_widening.proofs.StructRooms.{no_struct}
 use Rattle.capnp_widening.proofs.StructSteps.{the_struct, same_struct}
 use Rattle.capnp_widening.proofs.Widenings.{length-fill_words, count-fill_trees}
@@ -190,7 +191,10 @@ struct_made a b s p size h made memory taken behind leads =
       anew = λ narrow. subst (λ n. StandsAnew (call_at s p a b) n []) long (record {
         behind = behind;
         forms = tt;
-        taken = record { begun = b; kept = memory; object = taken; pads = writes_nothing b };
+        begun = b;
+        kept = memory;
+        object = taken;
+        pads = writes_nothing b;
       });
     }
 

@@ -121,15 +121,14 @@ writes_more a b c ms ns f g v w = λ S k.
     let two = g S second in
     let x = v S first in
     let y = w S second in
-    let split = new_places-append ms ns in
-    record {
-      forms = written_append S c.words ms ns
-          (written_later S b.words c.words ms (λ u z l. two.kept u z (omega (arith, k.once u z, split u z)) (omega (arith, (first.behind u z l).1, one.grows.words u))) x.forms) y.forms;
-      taken = pads_both S a b c ms ns x.taken y.taken;
-    })
+    let split = new_places-append ms ns in (
+      written_append S c.words ms ns
+          (written_later S b.words c.words ms (λ u z l. two.kept u z (omega (arith, k.once u z, split u z)) (omega (arith, (first.behind u z l).1, one.grows.words u))) x.0) y.0,
+      pads_both S a b c ms ns x.1 y.1,
+    ))
 
 pub writes_none : (v : View) → WritesAnew v v []
-writes_none v = λ S k. record { forms = tt; taken = writes_nothing v }
+writes_none v = λ S k. (tt, writes_nothing v)
 
 -- one pointer
 pub writes_one : (a b : View) (s p v r : ℕ) → KeepsMemory a b → (word_at a.words v r ≡ 0 → WritesPointer s (word_at a.words s p) (call_at v r a b)) → WritesAnew a b (a_move s p v r ∷ [])
@@ -137,7 +136,7 @@ writes_one a b s p v r kept w = λ S k.
     (let here = place_there S a.words s p v r k in
     let old : word_at a.words s p ≡ word_at S s p = k.extends.kept s p here.0 in
     let one = subst (λ x. WritesPointer s x (call_at v r a b)) old (w here.2) in
-    record { forms = (one.form, tt); taken = (b, kept, one.taken, writes_nothing b) })
+    ((one.form, tt), (b, kept, one.taken, writes_nothing b)))
 
 -- a row of pointers, and rows of them
 

@@ -1,17 +1,18 @@
 -- How pointers are written anew, and the words that this takes ("Inter-Segment Pointers").
 use Rattle.std.specs.Prelude.{◌≡◌, ◌≢◌, ◌⊎◌, ℕ, ◌+◌, ◌-◌, ◌^◌, ◌<◌, ◌≤◌, if◌then◌else◌, nat_eq, nat_lt}
-use Rattle.std.specs.Prelude.{List, [], ◌∷◌, length, Ok, ⊤}
+use Rattle.std.specs.Prelude.{◌*◌, IfErr, IsOk, List, [], ◌∷◌, length, Ok, OnErr, OnOk, Result, ⊤}
+use Rattle.capnp_words.specs.declared.error.ErrorKind.{ErrorKind}
 use Rattle.capnp_format.specs.Forest.{target}
-use Rattle.capnp_format.specs.Segments.{Segments, segment, word_at}
+use Rattle.capnp_format.specs.Segments.{Segments, Grows, segment, word_at}
 use Rattle.capnp_format.specs.Tree.{Tree, Null, Struct, Pointers, Structs, Trees, count, element_count}
 use Rattle.capnp_words.specs.declared.wire_pointer.StructSize.{StructSize}
 use Rattle.capnp_format.specs.Word.{kind, is_double, struct_word, upper_half}
 use Rattle.capnp_arena.specs.View.{View, KeepsLimits}
 use Rattle.capnp_making.specs.Makes.{CallAt}
-use Rattle.capnp_making.specs.Memory.{KeepsMemory, StandsBehind, TakesWords, start_of}
+use Rattle.capnp_making.specs.Memory.{KeepsMemory, SpendsMemory, RefusesWords, StandsBehind, TakesWords, start_of}
 use Rattle.capnp_making.specs.declared.making.Start.{Start}
-use Rattle.capnp_widening.specs.Moved.{CanMove, Move, row_of_moves, rows_of_moves}
-use Rattle.capnp_widening.specs.Rooms.{widened_words}
+use Rattle.capnp_widening.specs.Moved.{CanMove, Move, Moves, MovesSome, row_of_moves, rows_of_moves}
+use Rattle.capnp_widening.specs.Rooms.{GrowsByAtMost, HasSomeRoom, widened_words}
 use Rattle.capnp_widening.specs.Widened.{HasSections, list_widened, widened}
 
 -- The pointer x, whose object lies in segment s if it is near, is written anew in segment v as y:
@@ -57,28 +58,36 @@ TakesPadsInTurn S old new (m ∷ ms) =
     × TakesWords old next m.segment (pad_words m.segment m.to_segment (word_at S m.segment m.at))
     × TakesPadsInTurn S next new ms
 
--- Pointers that stand in S are written anew in turn, in words that are there.
-pub record AreWrittenInTurn (S : Segments) (old new : View) (ms : List Move) : Type 0 where
-  pub forms : AreWrittenAnew S new.words ms
-  pub taken : TakesPadsInTurn S old new ms
-
--- These pointers are written anew in turn, wherever they mean values.
+-- These pointers are written anew in turn, in words that are there, wherever they mean values.
 abbrev pub WritesAnew : View → View → List Move → Type 0
-WritesAnew old new ms = (S : Segments) → CanMove S old.words ms → AreWrittenInTurn S old new ms
+WritesAnew old new ms =
+    (S : Segments) → CanMove S old.words ms →
+    AreWrittenAnew S new.words ms × TakesPadsInTurn S old new ms
 
--- A call takes n words for an object, and then words for the landing pads of these pointers in turn.
-pub record TakesObjectAndPads (c : CallAt) (n : ℕ) (ms : List Move) : Type 0 where
+-- A call moves n pointers in turn, and takes at most two words for each. Or two words are refused,
+-- which they never are where there is room for all: then some of the first pointers are moved.
+pub record MovesInTurn {A : Type 0} (result : Result A ErrorKind) (old new : View) (ms : List Move)
+    (n : ℕ) : Type 0 where
+  pub moved : OnOk result (Moves old.words new.words ms)
+  pub written : OnOk result (WritesAnew old new ms)
+  pub some : OnErr result (MovesSome old.words new.words ms)
+  pub longer : Grows old.words new.words
+  pub granted : OnOk result (KeepsMemory old new)
+  pub memory : IfErr result (SpendsMemory old new)
+  pub full : IfErr result (λ k. (0 < n) × RefusesWords old new 1 k)
+  pub few : GrowsByAtMost old.words new.words (2 * n)
+  pub fits : HasSomeRoom old (2 * n) → IsOk result
+
+-- A call makes an object of n words anew, to which its place leads, behind all words that were
+-- there, and writes these pointers into it. Its words are taken first, then those of the landing
+-- pads of these pointers in turn, and no others.
+pub record StandsAnew (c : CallAt) (n : ℕ) (ms : List Move) : Type 0 where
+  pub behind : StandsBehind c.old c.segment n (start_of (target c.new.words c.segment c.at))
+  pub forms : AreWrittenAnew c.old.words c.new.words ms
   pub begun : View
   pub kept : KeepsMemory c.old begun
   pub object : TakesWords c.old begun c.segment n
   pub pads : TakesPadsInTurn c.old.words begun c.new ms
-
--- A call makes an object of n words anew, to which its place leads, behind all words that were
--- there, and writes these pointers into it. No other words are taken.
-pub record StandsAnew (c : CallAt) (n : ℕ) (ms : List Move) : Type 0 where
-  pub behind : StandsBehind c.old c.segment n (start_of (target c.new.words c.segment c.at))
-  pub forms : AreWrittenAnew c.old.words c.new.words ms
-  pub taken : TakesObjectAndPads c n ms
 
 -- The pointers of an object t at a, as they go into the object at b that it becomes, which is u.
 abbrev pub moves_into : Start → Start → Tree → Tree → List Move

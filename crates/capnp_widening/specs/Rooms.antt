@@ -1,6 +1,6 @@
 -- The words that making an object wider takes, and the room for them.
 use Rattle.std.specs.Prelude.{◌≡◌, ◌⊎◌, ℕ, ◌+◌, ◌*◌, ◌<◌, ◌≤◌, Bool, true, false, Result, Ok, List}
-use Rattle.std.specs.Prelude.{[], ◌∷◌, length}
+use Rattle.std.specs.Prelude.{length, sum_by}
 use Rattle.capnp_words.specs.declared.error.ErrorKind.{ErrorKind}
 use Rattle.capnp_words.specs.declared.error.ErrorKind.TheVariants.{AllocationFailed, MessageTooLarge}
 use Rattle.capnp_format.specs.Segments.{Segments, word_at}
@@ -15,14 +15,9 @@ use Rattle.capnp_making.specs.Stored.{IsStored}
 use Rattle.capnp_widening.specs.declared.remaking.ElementRows.{ElementRows}
 use Rattle.capnp_widening.specs.Widened.{widened, list_widened}
 
--- How many words the segments have together.
-abbrev pub all_words : Segments → ℕ
-all_words [] = 0
-all_words (ws ∷ S) = length ws + all_words S
-
 -- From S to R at most n words are taken.
 abbrev pub GrowsByAtMost : Segments → Segments → ℕ → Type 0
-GrowsByAtMost S R n = all_words R ≤ all_words S + n
+GrowsByAtMost S R n = sum_by length R ≤ sum_by length S + n
 
 -- Some segment has room for n words more.
 abbrev pub HasSomeRoom : View → ℕ → Type 0

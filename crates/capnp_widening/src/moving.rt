@@ -15,8 +15,8 @@ ghost use Rattle.capnp_making.specs.Makes.{call_at};
 ghost use Rattle.capnp_making.specs.Memory.{KeepsMemory, SpendsMemory, RefusesWords};
 ghost use Rattle.capnp_making.specs.Path.{word_interval};
 ghost use Rattle.capnp_making.specs.Zeroed.{IsPruned};
-ghost use Rattle.capnp_widening.specs.Anew.{WritesAnew, WritesPointer};
-ghost use Rattle.capnp_widening.specs.Moved.{a_move, row_of_moves, Moves, MovesSome, Unmoves, rows_of_moves};
+ghost use Rattle.capnp_widening.specs.Anew.{MovesInTurn, WritesAnew, WritesPointer};
+ghost use Rattle.capnp_widening.specs.Moved.{a_move, row_of_moves, Moves, Unmoves, rows_of_moves};
 ghost use Rattle.capnp_widening.specs.Pointed.{PointsTo};
 ghost use Rattle.capnp_widening.specs.Rooms.{GrowsByAtMost, HasSomeRoom};
 
@@ -187,20 +187,8 @@ pub fn move_row<A: BuilderArena>(
 ) -> Result<(), ErrorKind>
     requires from { from.at + count ≤ length (segment (A.view arena.old).words from.segment) }
     requires to { to.at + count ≤ length (segment (A.view arena.old).words to.segment) }
-    ensures moved { OnOk result (Moves (A.view arena.old).words (A.view arena.new).words
-        (row_of_moves from.segment from.at to.segment to.at count)) }
-    ensures written { OnOk result (WritesAnew (A.view arena.old) (A.view arena.new)
-        (row_of_moves from.segment from.at to.segment to.at count)) }
-    ensures some { OnErr result
-        (MovesSome (A.view arena.old).words (A.view arena.new).words
-        (row_of_moves from.segment from.at to.segment to.at count)) }
-    ensures longer { Grows (A.view arena.old).words (A.view arena.new).words }
-    ensures granted { OnOk result (KeepsMemory (A.view arena.old) (A.view arena.new)) }
-    ensures memory { IfErr result (SpendsMemory (A.view arena.old) (A.view arena.new)) }
-    ensures full { IfErr result (λ k. (0 < count)
-        × RefusesWords (A.view arena.old) (A.view arena.new) 1 k) }
-    ensures few { GrowsByAtMost (A.view arena.old).words (A.view arena.new).words (2 * count) }
-    ensures fits { HasSomeRoom (A.view arena.old) (2 * count) → IsOk result }
+    ensures moves { MovesInTurn result (A.view arena.old) (A.view arena.new)
+        (row_of_moves from.segment from.at to.segment to.at count) count }
     ensures near { from.segment ≡ to.segment → IsOk result }
 {
     if from.segment == to.segment {
@@ -221,20 +209,8 @@ fn move_row_apart<A: BuilderArena>(
 ) -> Result<(), ErrorKind>
     requires from { from.at + count ≤ length (segment (A.view arena.old).words from.segment) }
     requires to { to.at + count ≤ length (segment (A.view arena.old).words to.segment) }
-    ensures moved { OnOk result (Moves (A.view arena.old).words (A.view arena.new).words
-        (row_of_moves from.segment from.at to.segment to.at count)) }
-    ensures written { OnOk result (WritesAnew (A.view arena.old) (A.view arena.new)
-        (row_of_moves from.segment from.at to.segment to.at count)) }
-    ensures some { OnErr result
-        (MovesSome (A.view arena.old).words (A.view arena.new).words
-        (row_of_moves from.segment from.at to.segment to.at count)) }
-    ensures longer { Grows (A.view arena.old).words (A.view arena.new).words }
-    ensures granted { OnOk result (KeepsMemory (A.view arena.old) (A.view arena.new)) }
-    ensures memory { IfErr result (SpendsMemory (A.view arena.old) (A.view arena.new)) }
-    ensures full { IfErr result (λ k. (0 < count)
-        × RefusesWords (A.view arena.old) (A.view arena.new) 1 k) }
-    ensures few { GrowsByAtMost (A.view arena.old).words (A.view arena.new).words (2 * count) }
-    ensures fits { HasSomeRoom (A.view arena.old) (2 * count) → IsOk result }
+    ensures moves { MovesInTurn result (A.view arena.old) (A.view arena.new)
+        (row_of_moves from.segment from.at to.segment to.at count) count }
     ensures near { from.segment ≡ to.segment → IsOk result }
 {
     move_each(arena, from, to, count)
@@ -250,20 +226,8 @@ fn move_each<A: BuilderArena>(
 ) -> Result<(), ErrorKind>
     requires from { from.at + count ≤ length (segment (A.view arena.old).words from.segment) }
     requires to { to.at + count ≤ length (segment (A.view arena.old).words to.segment) }
-    ensures moved { OnOk result (Moves (A.view arena.old).words (A.view arena.new).words
-        (row_of_moves from.segment from.at to.segment to.at count)) }
-    ensures written { OnOk result (WritesAnew (A.view arena.old) (A.view arena.new)
-        (row_of_moves from.segment from.at to.segment to.at count)) }
-    ensures some { OnErr result
-        (MovesSome (A.view arena.old).words (A.view arena.new).words
-        (row_of_moves from.segment from.at to.segment to.at count)) }
-    ensures longer { Grows (A.view arena.old).words (A.view arena.new).words }
-    ensures granted { OnOk result (KeepsMemory (A.view arena.old) (A.view arena.new)) }
-    ensures memory { IfErr result (SpendsMemory (A.view arena.old) (A.view arena.new)) }
-    ensures full { IfErr result (λ k. (0 < count)
-        × RefusesWords (A.view arena.old) (A.view arena.new) 1 k) }
-    ensures few { GrowsByAtMost (A.view arena.old).words (A.view arena.new).words (2 * count) }
-    ensures fits { HasSomeRoom (A.view arena.old) (2 * count) → IsOk result }
+    ensures moves { MovesInTurn result (A.view arena.old) (A.view arena.new)
+        (row_of_moves from.segment from.at to.segment to.at count) count }
     ensures near { from.segment ≡ to.segment → IsOk result }
 {
     for i in 0..count {
@@ -336,21 +300,9 @@ pub fn move_rows<A: BuilderArena>(
     requires to { to.at + count * to.step + pointers
         ≤ length (segment (A.view arena.old).words to.segment) + to.step }
     requires small { (from.step < 2 ^ 18) × (to.step < 2 ^ 18) }
-    ensures moved { OnOk result (Moves (A.view arena.old).words (A.view arena.new).words
-        (rows_of_moves from.segment from.at from.step to.segment to.at to.step pointers count)) }
-    ensures written { OnOk result (WritesAnew (A.view arena.old) (A.view arena.new)
-        (rows_of_moves from.segment from.at from.step to.segment to.at to.step pointers count)) }
-    ensures some { OnErr result
-        (MovesSome (A.view arena.old).words (A.view arena.new).words
-        (rows_of_moves from.segment from.at from.step to.segment to.at to.step pointers count)) }
-    ensures longer { Grows (A.view arena.old).words (A.view arena.new).words }
-    ensures granted { OnOk result (KeepsMemory (A.view arena.old) (A.view arena.new)) }
-    ensures memory { IfErr result (SpendsMemory (A.view arena.old) (A.view arena.new)) }
-    ensures full { IfErr result (λ k. (0 < count * pointers)
-        × RefusesWords (A.view arena.old) (A.view arena.new) 1 k) }
-    ensures few { GrowsByAtMost (A.view arena.old).words (A.view arena.new).words
-        (2 * (count * pointers)) }
-    ensures fits { HasSomeRoom (A.view arena.old) (2 * (count * pointers)) → IsOk result }
+    ensures moves { MovesInTurn result (A.view arena.old) (A.view arena.new)
+        (rows_of_moves from.segment from.at from.step to.segment to.at to.step pointers count)
+        (count * pointers) }
     ensures near { from.segment ≡ to.segment → IsOk result }
 {
     let mut source = from.at;

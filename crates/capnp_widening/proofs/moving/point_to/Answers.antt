@@ -9,9 +9,8 @@ use Rattle.capnp_making.proofs.MadeWords.{word_put, taken_grown, extended_grown}
 use Rattle.std.proofs.Common.{◌∙◌}
 use Rattle.capnp_arena.specs.View.{View}
 use Rattle.capnp_arena.specs.Written.{extended}
-use Rattle.capnp_widening.specs.Rooms.{all_words}
 use Rattle.capnp_widening.proofs.Refusing.{anywhere_refused}
-use Rattle.capnp_widening.proofs.Rooms.{not_true, words_put, words_extended, words_taken, room_still, none_refused}
+use Rattle.capnp_widening.proofs.Rooms.{all_words, not_true, words_put, words_extended, words_taken, room_still, none_refused}
 use Rattle.capnp_making.proofs.Memory.{words_in}
 use Rattle.capnp_making.proofs.Shapes.{shape_near}
 use Rattle.capnp_widening.proofs.Pointed.{pointed_near, pointed_single, pointed_double}

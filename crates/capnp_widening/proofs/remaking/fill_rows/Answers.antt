@@ -27,8 +27,8 @@ returns-in-Ok-clause-filled g c = record {
   between = g.A.BuilderArena.view c.copy_rows.new.arena;
   copied = rw (c.total.ensures, c.total-2.ensures, c.from.ensures) at c.copy_rows.ensures.copied;
   only = record { limits = c.copy_rows.ensures.limits; segments = c.copy_rows.ensures.copied.segments; words = c.copy_rows.ensures.copied.words };
-  moved = rw (c.total.ensures, c.total-2.ensures, c.from-pointers.ensures, c.from-2.ensures, c.from-3.ensures) at c.in-Ok.ensures.moved;
-  written = rw (c.total.ensures, c.total-2.ensures, c.from-pointers.ensures, c.from-2.ensures, c.from-3.ensures) at c.in-Ok.ensures.written;
+  moved = rw (c.total.ensures, c.total-2.ensures, c.from-pointers.ensures, c.from-2.ensures, c.from-3.ensures) at c.in-Ok.ensures.moves.moved;
+  written = rw (c.total.ensures, c.total-2.ensures, c.from-pointers.ensures, c.from-2.ensures, c.from-3.ensures) at c.in-Ok.ensures.moves.written;
 }
 
 pub returns-in-Err-clause-undone : goal.returns-in-Err-clause-undone
@@ -38,7 +38,7 @@ returns-in-Err-clause-undone g c =
       D,
       P,
       rw (c.total.ensures, c.total-2.ensures, c.from.ensures) at c.copy_rows.ensures.copied,
-      rw (c.total.ensures, c.total-2.ensures, c.from-pointers.ensures, c.from-2.ensures, c.from-3.ensures) at c.in-Err.ensures.some,
+      rw (c.total.ensures, c.total-2.ensures, c.from-pointers.ensures, c.from-2.ensures, c.from-3.ensures) at c.in-Err.ensures.moves.some,
       rw (c.total.ensures, c.total-2.ensures, c.from-pointers.ensures, c.from-2.ensures, c.from-3.ensures) at c.unmove_rows.ensures.zeroed,
     )
 
@@ -49,7 +49,7 @@ returns-in-Err-clause-full g c =
     let P : View = g.A.BuilderArena.view c.move_rows.new.arena in
     let R : View = g.A.BuilderArena.view c.unmove_rows.new.arena in
     let k = c.in-Err.k in
-    let (some, refused) = c.in-Err.ensures.full in
+    let (some, refused) = c.in-Err.ensures.moves.full in
     let moved = words_refused_after S D P 1 k (keeps_written S D D.words c.copy_rows.ensures.limits) refused in
     (rw c.from-pointers.ensures at some, words_refused_before S P R 1 k moved c.unmove_rows.ensures.limits c.unmove_rows.ensures.pruned)
 
@@ -61,13 +61,13 @@ returns-then-pointers-eq0-clause-few g c =
 pub returns-in-Ok-clause-few : goal.returns-in-Ok-clause-few
 returns-in-Ok-clause-few g c =
     let copied = same_words (g.A.BuilderArena.view c.args.arena.now).words (g.A.BuilderArena.view c.copy_rows.new.arena).words c.copy_rows.ensures.copied.segments c.copy_rows.ensures.copied.words in
-    let moved = rw c.from-pointers.ensures at c.move_rows.ensures.few in
+    let moved = rw c.from-pointers.ensures at c.move_rows.ensures.moves.few in
     omega (arith, copied, moved)
 
 pub returns-in-Err-clause-few : goal.returns-in-Err-clause-few
 returns-in-Err-clause-few g c =
     let copied = same_words (g.A.BuilderArena.view c.args.arena.now).words (g.A.BuilderArena.view c.copy_rows.new.arena).words c.copy_rows.ensures.copied.segments c.copy_rows.ensures.copied.words in
-    let moved = rw c.from-pointers.ensures at c.move_rows.ensures.few in
+    let moved = rw c.from-pointers.ensures at c.move_rows.ensures.moves.few in
     let undone = same_words (g.A.BuilderArena.view c.move_rows.new.arena).words (g.A.BuilderArena.view c.unmove_rows.new.arena).words c.unmove_rows.ensures.pruned.segments c.unmove_rows.ensures.pruned.words in
     omega (arith, copied, moved, undone)
 
@@ -76,10 +76,10 @@ returns-in-Err-clause-fits g c = λ h.
     (let S : View = g.A.BuilderArena.view c.args.arena.now in
     let D : View = g.A.BuilderArena.view c.copy_rows.new.arena in
     let left = room_written S D (2 * (c.args.old.count * c.args.old.size.pointers)) c.copy_rows.ensures.limits c.copy_rows.ensures.copied.segments c.copy_rows.ensures.copied.words h in
-    c.in-Err.ensures.fits (subst (λ m. HasSomeRoom D (2 * (c.args.old.count * m))) (sym c.from-pointers.ensures) left))
+    c.in-Err.ensures.moves.fits (subst (λ m. HasSomeRoom D (2 * (c.args.old.count * m))) (sym c.from-pointers.ensures) left))
 
 pub returns-in-Err-clause-longer : goal.returns-in-Err-clause-longer
 returns-in-Err-clause-longer g c = record {
-  segments = omega (arith, c.copy_rows.ensures.copied.segments, c.in-Err.ensures.longer.segments, c.unmove_rows.ensures.pruned.segments);
-  words = λ x. omega (arith, c.copy_rows.ensures.copied.words x, c.in-Err.ensures.longer.words x, c.unmove_rows.ensures.pruned.words x);
+  segments = omega (arith, c.copy_rows.ensures.copied.segments, c.in-Err.ensures.moves.longer.segments, c.unmove_rows.ensures.pruned.segments);
+  words = λ x. omega (arith, c.copy_rows.ensures.copied.words x, c.in-Err.ensures.moves.longer.words x, c.unmove_rows.ensures.pruned.words x);
 }

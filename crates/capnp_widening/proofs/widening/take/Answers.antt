@@ -8,9 +8,9 @@ use Rattle.std.proofs.lemmas.List.{length-replicate}
 use Rattle.capnp_arena.specs.View.{View}
 use Rattle.capnp_arena.specs.Written.{extended}
 use Rattle.capnp_making.specs.Memory.{StandsBehind}
-use Rattle.capnp_widening.specs.Rooms.{all_words, GrowsByAtMost}
+use Rattle.capnp_widening.specs.Rooms.{GrowsByAtMost}
 use Rattle.capnp_widening.proofs.Refusing.{anywhere_refused}
-use Rattle.capnp_widening.proofs.Rooms.{words_extended, words_taken, room_some, room_elsewhere, room_left, room_still, less_room, not_true, not_within, none_refused}
+use Rattle.capnp_widening.proofs.Rooms.{all_words, words_extended, words_taken, room_some, room_elsewhere, room_left, room_still, less_room, not_true, not_within, none_refused}
 use Rattle.capnp_making.proofs.Memory.{words_in}
 use Rattle.capnp_widening.proofs.TakingWords.{took_near, took_far, stands_near}
 use Rattle.capnp_widening.proofs.widening.take.Goals as goal

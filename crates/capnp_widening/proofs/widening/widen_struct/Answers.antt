@@ -27,7 +27,7 @@ returns-in-Ok-clause-widened g c =
       place = c.requires.place;
       room = rw c.total.ensures at c.in_ok-room.ensures.taken;
       copied = rw (c.data_of.ensures, c.data_of-2.ensures, c.from.ensures) at c.copy_words.ensures.copied;
-      moves = rw (c.pointers_of-from.ensures, c.pointers_of-to.ensures, c.from-count.ensures) at c.in-Ok.ensures.moved;
+      moves = rw (c.pointers_of-from.ensures, c.pointers_of-to.ensures, c.from-count.ensures) at c.in-Ok.ensures.moves.moved;
       settled = c.settle.ensures.settled;
       object_zeroed = rw (c.from-in-Ok.ensures ∙ c.total-in-Ok.ensures) at c.zero_part.ensures.zeroed;
       pads_zeroed = rw c.word_of-pointer.ensures at c.zero_pads.ensures.zeroed;
@@ -48,7 +48,7 @@ returns-in-Ok-clause-leads g c =
       place = c.requires.place;
       room = rw c.total.ensures at c.in_ok-room.ensures.taken;
       copied = rw (c.data_of.ensures, c.data_of-2.ensures, c.from.ensures) at c.copy_words.ensures.copied;
-      moves = rw (c.pointers_of-from.ensures, c.pointers_of-to.ensures, c.from-count.ensures) at c.in-Ok.ensures.moved;
+      moves = rw (c.pointers_of-from.ensures, c.pointers_of-to.ensures, c.from-count.ensures) at c.in-Ok.ensures.moves.moved;
       settled = c.settle.ensures.settled;
       object_zeroed = rw (c.from-in-Ok.ensures ∙ c.total-in-Ok.ensures) at c.zero_part.ensures.zeroed;
       pads_zeroed = rw c.word_of-pointer.ensures at c.zero_pads.ensures.zeroed;
@@ -73,7 +73,7 @@ returns-in-Ok-clause-anew g c =
       place = c.requires.place;
       room = rw c.total.ensures at c.in_ok-room.ensures.taken;
       copied = rw (c.data_of.ensures, c.data_of-2.ensures, c.from.ensures) at c.copy_words.ensures.copied;
-      moves = rw (c.pointers_of-from.ensures, c.pointers_of-to.ensures, c.from-count.ensures) at c.in-Ok.ensures.moved;
+      moves = rw (c.pointers_of-from.ensures, c.pointers_of-to.ensures, c.from-count.ensures) at c.in-Ok.ensures.moves.moved;
       settled = c.settle.ensures.settled;
       object_zeroed = rw (c.from-in-Ok.ensures ∙ c.total-in-Ok.ensures) at c.zero_part.ensures.zeroed;
       pads_zeroed = rw c.word_of-pointer.ensures at c.zero_pads.ensures.zeroed;
@@ -84,7 +84,7 @@ returns-in-Ok-clause-anew g c =
       taken = rw c.total.ensures at c.in_ok-room.ensures.words;
       behind = rw c.total.ensures at c.in_ok-room.ensures.behind;
       first = record { limits = c.copy_words.ensures.limits; segments = c.copy_words.ensures.copied.segments; words = c.copy_words.ensures.copied.words };
-      written = rw (c.pointers_of-from.ensures, c.pointers_of-to.ensures, c.from-count.ensures) at c.in-Ok.ensures.written;
+      written = rw (c.pointers_of-from.ensures, c.pointers_of-to.ensures, c.from-count.ensures) at c.in-Ok.ensures.moves.written;
       last = writes_both p r q set (writes_both r z q zeroed cleared);
     })
 
@@ -99,7 +99,7 @@ returns-in-Err-clause-refused g c =
     let steps : StructUndone S T D P U Z c.args.id c.args.old c.args.size c.in_ok-room.room = record {
       room = rw c.total.ensures at c.in_ok-room.ensures.taken;
       copied = rw (c.data_of.ensures, c.data_of-2.ensures, c.from.ensures) at c.copy_words.ensures.copied;
-      some = rw (c.pointers_of-from.ensures, c.pointers_of-to.ensures, c.from-count.ensures) at c.in-Err.ensures.some;
+      some = rw (c.pointers_of-from.ensures, c.pointers_of-to.ensures, c.from-count.ensures) at c.in-Err.ensures.moves.some;
       unmoves = rw (c.pointers_of-from.ensures, c.pointers_of-to.ensures, c.from-count.ensures) at c.unmove_row.ensures.zeroed;
       zeroed = rw (c.from-in-Err.ensures ∙ c.total-in-Err.ensures) at c.zero_part-in-Err.ensures.zeroed;
       wider = (c.requires.data, c.requires.pointers);
@@ -123,7 +123,7 @@ returns-in-Err-clause-full g c =
     let U : View = g.A.BuilderArena.view c.unmove_row.new.arena in
     let Z : View = g.A.BuilderArena.view c.zero_part-in-Err.new.arena in
     let k = c.in-Err.k in
-    let (some, refused) = c.in-Err.ensures.full in
+    let (some, refused) = c.in-Err.ensures.moves.full in
     let (grown, near) = c.in_ok-room.ensures.taken in
     let keeps = keeps_both old T D grown.grows.segments c.in_ok-room.ensures.granted (keeps_written T D D.words c.copy_words.ensures.limits) in
     let undone = words_refused_before old P U 1 k (words_refused_after old D P 1 k keeps refused) c.unmove_row.ensures.limits c.unmove_row.ensures.pruned in
@@ -140,7 +140,7 @@ returns-in-Ok-clause-few g c =
     let Q : Segments = (g.A.BuilderArena.view c.zero_pads.new.arena).words in
     let (b, settled, shaped, segment_of, start_of) = c.settle.ensures.settled in
     let taken = rw c.total.ensures at c.take.ensures.few in
-    let moved = rw c.from-count.ensures at c.move_row.ensures.few in
+    let moved = rw c.from-count.ensures at c.move_row.ensures.moves.few in
     let copied = same_words T D c.copy_words.ensures.copied.segments c.copy_words.ensures.copied.words in
     let set = same_words P R settled.segments settled.words in
     let zeroed = same_words R Z c.zero_part.ensures.pruned.segments c.zero_part.ensures.pruned.words in
@@ -155,7 +155,7 @@ returns-in-Err-clause-few g c =
     let U : Segments = (g.A.BuilderArena.view c.unmove_row.new.arena).words in
     let Z : Segments = (g.A.BuilderArena.view c.zero_part-in-Err.new.arena).words in
     let taken = rw c.total.ensures at c.take.ensures.few in
-    let moved = rw c.from-count.ensures at c.move_row.ensures.few in
+    let moved = rw c.from-count.ensures at c.move_row.ensures.moves.few in
     let copied = same_words T D c.copy_words.ensures.copied.segments c.copy_words.ensures.copied.words in
     let undone = same_words P U c.unmove_row.ensures.pruned.segments c.unmove_row.ensures.pruned.words in
     let zeroed = same_words U Z c.zero_part-in-Err.ensures.pruned.segments c.zero_part-in-Err.ensures.pruned.words in
@@ -177,7 +177,7 @@ returns-in-Err-clause-fits g c = λ h.
     let T : View = g.A.BuilderArena.view c.take.new.arena in
     let D : View = g.A.BuilderArena.view c.copy_words.new.arena in
     let left = (c.in_ok-room.ensures.fits n (subst (λ m. HasRoom (g.A.BuilderArena.view c.args.arena.now) c.args.id (m + n)) (sym c.total.ensures) h)).1 in
-    c.in-Err.ensures.fits (subst (λ m. HasSomeRoom D (2 * m)) (sym c.from-count.ensures) (room_written T D n c.copy_words.ensures.limits c.copy_words.ensures.copied.segments c.copy_words.ensures.copied.words left)))
+    c.in-Err.ensures.moves.fits (subst (λ m. HasSomeRoom D (2 * m)) (sym c.from-count.ensures) (room_written T D n c.copy_words.ensures.limits c.copy_words.ensures.copied.segments c.copy_words.ensures.copied.words left)))
 
 -- In the segment of the old struct no pointer takes any.
 pub returns-in_err-room-clause-near : goal.returns-in_err-room-clause-near
