@@ -1,15 +1,12 @@
 //! Lists made lists of structs of at least a wanted size.
-ghost use Rattle.std.specs.Prelude.{ℕ, ◌⊎◌, ◌≡◌, ◌≤◌, ◌+◌, Some, IsOk, IfOk, OnOk, IfErr, OnErr};
+ghost use Rattle.std.specs.Prelude.{ℕ, ◌⊎◌, ◌≡◌, ◌≤◌, ◌+◌, Some, IsOk, IfOk, OnOk};
 ghost use Rattle.capnp_format.specs.Segments.{IsPlace, leads, Target};
 ghost use Rattle.capnp_format.specs.Tree.{Elements, Null, Structs};
 ghost use Rattle.capnp_words.specs.Sizes.{size_number};
 ghost use Rattle.capnp_making.specs.Makes.{call_at};
-ghost use Rattle.capnp_making.specs.Memory.{KeepsMemory, SpendsMemory};
 ghost use Rattle.capnp_making.specs.Stored.{IsStored};
-ghost use Rattle.capnp_widening.specs.Anew.{WidensListAnew};
-ghost use Rattle.capnp_widening.specs.Rooms.{WiderListFits, GrowsForList};
-ghost use Rattle.capnp_widening.specs.RowsRemade.{IsList, WidensList, LeadsToWiderList, RefusesWider, WidensTo};
-ghost use Rattle.capnp_widening.specs.Widened.{LeavesAll, rewriting};
+ghost use Rattle.capnp_widening.specs.RowsRemade.{IsList, MakesListWider, WidensList, LeadsToWiderList, WidensTo};
+ghost use Rattle.capnp_widening.specs.Widened.{rewriting};
 
 use crate::numbers::widen_numbers;
 use crate::remaking::{ElementRows, widen_rows};
@@ -40,24 +37,13 @@ pub fn get_struct_list<A: BuilderArena>(
         (rewriting id at (A.view arena.old).words (A.view arena.new).words)) }
     ensures leads { IfOk result (LeadsToWiderList size
         (rewriting id at (A.view arena.old).words (A.view arena.new).words)) }
-    ensures anew { OnOk result (WidensListAnew (IsStored (A.view arena.old).words id at) size
-        (call_at id at (A.view arena.old) (A.view arena.new))) }
-    ensures granted { OnOk result (KeepsMemory (A.view arena.old) (A.view arena.new)) }
-    ensures memory { IfErr result (SpendsMemory (A.view arena.old) (A.view arena.new)) }
-    ensures refused { OnErr result
-        (LeavesAll (IsStored (A.view arena.old).words id at)
-        (A.view arena.old).words (A.view arena.new).words) }
-    ensures named { IfErr result (RefusesWider (IsStored (A.view arena.old).words id at) size
-        (A.view arena.old) (A.view arena.new)) }
+    ensures wider { MakesListWider result (IsStored (A.view arena.old).words id at) size
+        (call_at id at (A.view arena.old) (A.view arena.new)) }
     ensures stays { IsStored (A.view arena.old).words id at Null
         ⊎ ((d : ℕ) × (q : ℕ) × (es : Elements)
         × IsStored (A.view arena.old).words id at (Structs d q es)
         × (size.data_words ≤ d) × (size.pointers ≤ q))
         → IsOk result × (A.view arena.new ≡ A.view arena.old) }
-    ensures fits { WiderListFits (IsStored (A.view arena.old).words id at)
-        (A.view arena.old) id at size → IsOk result }
-    ensures few { GrowsForList (IsStored (A.view arena.old).words id at)
-        (A.view arena.old).words (A.view arena.new).words size }
 {
     match existing::get_list(arena, id, at, ElementSize::Void)? {
         Some(old) => {
@@ -79,23 +65,11 @@ fn widen_list<A: BuilderArena>(
     requires place { IsPlace (A.view arena.old).words id at }
     ensures widened { IfOk result (WidensTo old size
         (rewriting id at (A.view arena.old).words (A.view arena.new).words)) }
-    ensures anew { OnOk result (WidensListAnew (IsList (A.view arena.old).words id at old) size
-        (call_at id at (A.view arena.old) (A.view arena.new))) }
-    ensures granted { OnOk result (KeepsMemory (A.view arena.old) (A.view arena.new)) }
-    ensures memory { IfErr result (SpendsMemory (A.view arena.old) (A.view arena.new)) }
-    ensures refused { OnErr result
-        (LeavesAll (IsList (A.view arena.old).words id at old)
-        (A.view arena.old).words (A.view arena.new).words) }
-    ensures named { IfErr result
-        (RefusesWider (IsList (A.view arena.old).words id at old) size
-        (A.view arena.old) (A.view arena.new)) }
+    ensures wider { MakesListWider result (IsList (A.view arena.old).words id at old) size
+        (call_at id at (A.view arena.old) (A.view arena.new)) }
     ensures stays { size_number old.size ≡ 7 → size.data_words ≤ old.struct_size.data_words
         → size.pointers ≤ old.struct_size.pointers
         → IsOk result × (A.view arena.new ≡ A.view arena.old) }
-    ensures fits { WiderListFits (IsList (A.view arena.old).words id at old)
-        (A.view arena.old) id at size → IsOk result }
-    ensures few { GrowsForList (IsList (A.view arena.old).words id at old)
-        (A.view arena.old).words (A.view arena.new).words size }
 {
     match old.size {
         ElementSize::Void => widen_void(arena, id, at, old, size),
@@ -126,23 +100,11 @@ fn widen_structs<A: BuilderArena>(
     requires kind { size_number old.size ≡ 7 }
     ensures widened { IfOk result (WidensTo old size
         (rewriting id at (A.view arena.old).words (A.view arena.new).words)) }
-    ensures anew { OnOk result (WidensListAnew (IsList (A.view arena.old).words id at old) size
-        (call_at id at (A.view arena.old) (A.view arena.new))) }
-    ensures granted { OnOk result (KeepsMemory (A.view arena.old) (A.view arena.new)) }
-    ensures memory { IfErr result (SpendsMemory (A.view arena.old) (A.view arena.new)) }
-    ensures refused { OnErr result
-        (LeavesAll (IsList (A.view arena.old).words id at old)
-        (A.view arena.old).words (A.view arena.new).words) }
-    ensures named { IfErr result
-        (RefusesWider (IsList (A.view arena.old).words id at old) size
-        (A.view arena.old) (A.view arena.new)) }
+    ensures wider { MakesListWider result (IsList (A.view arena.old).words id at old) size
+        (call_at id at (A.view arena.old) (A.view arena.new)) }
     ensures stays { size.data_words ≤ old.struct_size.data_words
         → size.pointers ≤ old.struct_size.pointers
         → IsOk result × (A.view arena.new ≡ A.view arena.old) }
-    ensures fits { WiderListFits (IsList (A.view arena.old).words id at old)
-        (A.view arena.old) id at size → IsOk result }
-    ensures few { GrowsForList (IsList (A.view arena.old).words id at old)
-        (A.view arena.old).words (A.view arena.new).words size }
 {
     let had = old.struct_size;
     if size.data_words <= had.data_words && size.pointers <= had.pointers {
@@ -175,20 +137,8 @@ fn widen_pointers<A: BuilderArena>(
     requires kind { size_number old.size ≡ 6 }
     ensures widened { IfOk result (WidensTo old size
         (rewriting id at (A.view arena.old).words (A.view arena.new).words)) }
-    ensures anew { OnOk result (WidensListAnew (IsList (A.view arena.old).words id at old) size
-        (call_at id at (A.view arena.old) (A.view arena.new))) }
-    ensures granted { OnOk result (KeepsMemory (A.view arena.old) (A.view arena.new)) }
-    ensures memory { IfErr result (SpendsMemory (A.view arena.old) (A.view arena.new)) }
-    ensures refused { OnErr result
-        (LeavesAll (IsList (A.view arena.old).words id at old)
-        (A.view arena.old).words (A.view arena.new).words) }
-    ensures named { IfErr result
-        (RefusesWider (IsList (A.view arena.old).words id at old) size
-        (A.view arena.old) (A.view arena.new)) }
-    ensures fits { WiderListFits (IsList (A.view arena.old).words id at old)
-        (A.view arena.old) id at size → IsOk result }
-    ensures few { GrowsForList (IsList (A.view arena.old).words id at old)
-        (A.view arena.old).words (A.view arena.new).words size }
+    ensures wider { MakesListWider result (IsList (A.view arena.old).words id at old) size
+        (call_at id at (A.view arena.old) (A.view arena.new)) }
 {
     let rows = ElementRows {
         segment: old.segment,
@@ -220,20 +170,8 @@ fn widen_void<A: BuilderArena>(
     requires kind { size_number old.size ≡ 0 }
     ensures widened { IfOk result (WidensTo old size
         (rewriting id at (A.view arena.old).words (A.view arena.new).words)) }
-    ensures anew { OnOk result (WidensListAnew (IsList (A.view arena.old).words id at old) size
-        (call_at id at (A.view arena.old) (A.view arena.new))) }
-    ensures granted { OnOk result (KeepsMemory (A.view arena.old) (A.view arena.new)) }
-    ensures memory { IfErr result (SpendsMemory (A.view arena.old) (A.view arena.new)) }
-    ensures refused { OnErr result
-        (LeavesAll (IsList (A.view arena.old).words id at old)
-        (A.view arena.old).words (A.view arena.new).words) }
-    ensures named { IfErr result
-        (RefusesWider (IsList (A.view arena.old).words id at old) size
-        (A.view arena.old) (A.view arena.new)) }
-    ensures fits { WiderListFits (IsList (A.view arena.old).words id at old)
-        (A.view arena.old) id at size → IsOk result }
-    ensures few { GrowsForList (IsList (A.view arena.old).words id at old)
-        (A.view arena.old).words (A.view arena.new).words size }
+    ensures wider { MakesListWider result (IsList (A.view arena.old).words id at old) size
+        (call_at id at (A.view arena.old) (A.view arena.new)) }
 {
     let rows = ElementRows {
         segment: old.segment,

@@ -8,10 +8,9 @@ ghost use Rattle.capnp_making.specs.Made.{structs_words};
 ghost use Rattle.capnp_making.specs.Fields.{field_in};
 ghost use Rattle.capnp_making.specs.Makes.{call_at};
 ghost use Rattle.capnp_making.specs.Memory.{HasRoom, KeepsMemory, SpendsMemory, RefusesWords};
-ghost use Rattle.capnp_widening.specs.Anew.{WidensListAnew};
-ghost use Rattle.capnp_widening.specs.Rooms.{GrowsByAtMost, WiderListFits, GrowsForList};
-ghost use Rattle.capnp_widening.specs.RowsRemade.{AreNumbersCopied, IsList, NumbersInside, RemakesList, RemakesListAnew, WidensTo, RefusesWider};
-ghost use Rattle.capnp_widening.specs.Widened.{LeavesAll, rewriting};
+ghost use Rattle.capnp_widening.specs.Rooms.{GrowsByAtMost};
+ghost use Rattle.capnp_widening.specs.RowsRemade.{AreNumbersCopied, IsList, MakesListWider, NumbersInside, RemakesList, RemakesListAnew, WidensTo};
+ghost use Rattle.capnp_widening.specs.Widened.{rewriting};
 
 use crate::remaking::begin_list;
 use crate::widening::{greater, settle};
@@ -36,20 +35,8 @@ pub(crate) fn widen_numbers<A: BuilderArena>(
     requires kind { (2 ≤ size_number old.size) × (size_number old.size ≤ 5) }
     ensures widened { IfOk result (WidensTo old size
         (rewriting id at (A.view arena.old).words (A.view arena.new).words)) }
-    ensures anew { OnOk result (WidensListAnew (IsList (A.view arena.old).words id at old) size
-        (call_at id at (A.view arena.old) (A.view arena.new))) }
-    ensures granted { OnOk result (KeepsMemory (A.view arena.old) (A.view arena.new)) }
-    ensures memory { IfErr result (SpendsMemory (A.view arena.old) (A.view arena.new)) }
-    ensures refused { OnErr result
-        (LeavesAll (IsList (A.view arena.old).words id at old)
-        (A.view arena.old).words (A.view arena.new).words) }
-    ensures named { IfErr result
-        (RefusesWider (IsList (A.view arena.old).words id at old) size
-        (A.view arena.old) (A.view arena.new)) }
-    ensures fits { WiderListFits (IsList (A.view arena.old).words id at old)
-        (A.view arena.old) id at size → IsOk result }
-    ensures few { GrowsForList (IsList (A.view arena.old).words id at old)
-        (A.view arena.old).words (A.view arena.new).words size }
+    ensures wider { MakesListWider result (IsList (A.view arena.old).words id at old) size
+        (call_at id at (A.view arena.old) (A.view arena.new)) }
 {
     let wide = StructSize {
         data_words: greater(1, size.data_words),

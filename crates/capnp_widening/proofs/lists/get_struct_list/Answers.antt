@@ -6,6 +6,8 @@ use Rattle.capnp_making.specs.declared.existing.ExistingList.{ExistingList}
 use Rattle.capnp_making.specs.Existing.{struct_list}
 use Rattle.capnp_format.specs.Segments.{Segments}
 use Rattle.capnp_format.specs.Forest.{target}
+use Rattle.capnp_arena.specs.View.{View}
+use Rattle.capnp_making.proofs.Memory.{keeps_itself}
 use Rattle.capnp_widening.proofs.AnyList.{none_is_null, null_stays, null_leads, list_widens, list_leads, unfound_refused}
 use Rattle.capnp_widening.proofs.Listed.{same_list, not_a_list}
 use Rattle.capnp_widening.proofs.Rooms.{not_true}
@@ -21,23 +23,6 @@ returns-in-None-clause-widened g c = null_stays (g.A.BuilderArena.view c.args.ar
 pub returns-in-None-clause-leads : goal.returns-in-None-clause-leads
 returns-in-None-clause-leads g c = null_leads (g.A.BuilderArena.view c.args.arena.now).words c.args.id c.args.at c.args.size (λ t x. sym (ap Ok c.in-None.is) ∙ c.in_ok-old.ensures.found t x)
 
-pub returns-in-None-clause-anew : goal.returns-in-None-clause-anew
-returns-in-None-clause-anew g c = λ t u x some e narrow.
-    absurd (some (none_is_null (target (g.A.BuilderArena.view c.args.arena.now).words c.args.id c.args.at) t (sym (sym (ap Ok c.in-None.is) ∙ c.in_ok-old.ensures.found t x))))
-
-pub returns-in_ok-list-in-Some-clause-anew : goal.returns-in_ok-list-in-Some-clause-anew
-returns-in_ok-list-in-Some-clause-anew g c = λ t u x some e narrow. c.in_ok-list-in-Some.ensures.anew t u (x, sym (sym (ap Ok c.in-Some.is) ∙ c.in_ok-old.ensures.found t x)) some e narrow
-
--- No list is found.
-pub returns-in_err-old-clause-named : goal.returns-in_err-old-clause-named
-returns-in_err-old-clause-named g c =
-    let p = err_from_is_err_and c.from_residual.result c.from_residual.ensures.1 in rw (p.1, p.2) (let S : Segments = (g.A.BuilderArena.view c.args.arena.now).words in
-    inl (refl, λ t x. unfound_refused (target S c.args.id c.args.at) t c.args.size.data_words c.args.size.pointers _ (sym (c.in_err-old.ensures.found t x))))
-
-pub returns-in_err-old-clause-refused : goal.returns-in_err-old-clause-refused
-returns-in_err-old-clause-refused g c =
-    let p = err_from_is_err_and c.from_residual.result c.from_residual.ensures.1 in rw p.1 (λ t x. nothing_grown (g.A.BuilderArena.view c.args.arena.now).words _ refl)
-
 -- One is found, and made anew or given as it stands.
 pub returns-in_ok-list-in-Some-clause-widened : goal.returns-in_ok-list-in-Some-clause-widened
 returns-in_ok-list-in-Some-clause-widened g c =
@@ -47,24 +32,72 @@ pub returns-in_ok-list-in-Some-clause-leads : goal.returns-in_ok-list-in-Some-cl
 returns-in_ok-list-in-Some-clause-leads g c =
     list_leads (g.A.BuilderArena.view c.args.arena.now).words (g.A.BuilderArena.view c.widen_list.new.arena).words c.args.id c.args.at c.args.size c.in-Some.old c.in_ok-list-in-Some.list (λ t x. sym (ap Ok c.in-Some.is) ∙ c.in_ok-old.ensures.found t x) c.in_ok-list-in-Some.ensures.widened
 
-pub returns-in_err-list-in-Some-clause-refused : goal.returns-in_err-list-in-Some-clause-refused
-returns-in_err-list-in-Some-clause-refused g c =
-    let p = err_from_is_err_and c.from_residual-in_err-list-in-Some.result c.from_residual-in_err-list-in-Some.ensures.1 in rw p.1 (λ t x. c.in_err-list-in-Some.ensures.refused t (x, sym (sym (ap Ok c.in-Some.is) ∙ c.in_ok-old.ensures.found t x)))
+-- No list is found.
+pub returns-in_err-old-clause-wider : goal.returns-in_err-old-clause-wider
+returns-in_err-old-clause-wider g c =
+    let p = err_from_is_err_and c.from_residual.result c.from_residual.ensures.1 in
+    let v : View = g.A.BuilderArena.view c.args.arena.now in
+    let e = c.in_err-old.ensures in
+    rw (p.1, p.2) (record {
+      anew = tt;
+      granted = tt;
+      memory = unfound_spent v _ e.named;
+      refused = λ t x. nothing_grown v.words _ refl;
+      named = inl (refl, λ t x. unfound_refused (target v.words c.args.id c.args.at) t c.args.size.data_words c.args.size.pointers _ (sym (e.found t x)));
+      fits = λ h.
+          (let (t, u, x, becomes, fits) = h in
+          absurd (not_refused _ _ u (unfound_refused (target v.words c.args.id c.args.at) t c.args.size.data_words c.args.size.pointers _ (sym (e.found t x))) becomes));
+      few = λ t u x becomes. omega arith;
+    })
 
-pub returns-in_err-list-in-Some-clause-named : goal.returns-in_err-list-in-Some-clause-named
-returns-in_err-list-in-Some-clause-named g c =
-    let p = err_from_is_err_and c.from_residual-in_err-list-in-Some.result c.from_residual-in_err-list-in-Some.ensures.1 in rw (p.1, p.2) (elim c.in_err-list-in-Some.ensures.named [
-      | inl (same, named) ↦ inl (same, λ t x. named t (x, sym (sym (ap Ok c.in-Some.is) ∙ c.in_ok-old.ensures.found t x)))
-      | inr growth ↦ inr (record {
-        name = growth.name;
-        memory = growth.memory;
-        full = λ t u x e. growth.full t u (x, sym (sym (ap Ok c.in-Some.is) ∙ c.in_ok-old.ensures.found t x)) e;
-      })
-    ])
+-- Null is, and stays.
+pub returns-in-None-clause-wider : goal.returns-in-None-clause-wider
+returns-in-None-clause-wider g c =
+    let v : View = g.A.BuilderArena.view c.args.arena.now in
+    record {
+      anew = λ t u x some e narrow. absurd (some (none_is_null (target v.words c.args.id c.args.at) t (sym (sym (ap Ok c.in-None.is) ∙ c.in_ok-old.ensures.found t x))));
+      granted = keeps_itself v;
+      memory = tt;
+      refused = tt;
+      named = tt;
+      fits = λ h. refl;
+      few = λ t u x e. omega arith;
+    }
 
-pub returns-in_err-old-clause-memory : goal.returns-in_err-old-clause-memory
-returns-in_err-old-clause-memory g c =
-    let p = err_from_is_err_and c.from_residual.result c.from_residual.ensures.1 in rw (p.1, p.2) (unfound_spent (g.A.BuilderArena.view c.args.arena.now) _ c.in_err-old.ensures.named)
+-- A list is found, and made anew or given as it stands.
+pub returns-in_ok-list-in-Some-clause-wider : goal.returns-in_ok-list-in-Some-clause-wider
+returns-in_ok-list-in-Some-clause-wider g c =
+    let e = c.in_ok-list-in-Some.ensures.wider in
+    record {
+      anew = λ t u x some becomes narrow. e.anew t u (x, sym (sym (ap Ok c.in-Some.is) ∙ c.in_ok-old.ensures.found t x)) some becomes narrow;
+      granted = e.granted;
+      memory = tt;
+      refused = tt;
+      named = tt;
+      fits = λ h. refl;
+      few = λ t u x becomes. e.few t u (x, sym (sym (ap Ok c.in-Some.is) ∙ c.in_ok-old.ensures.found t x)) becomes;
+    }
+
+pub returns-in_err-list-in-Some-clause-wider : goal.returns-in_err-list-in-Some-clause-wider
+returns-in_err-list-in-Some-clause-wider g c =
+    let p = err_from_is_err_and c.from_residual-in_err-list-in-Some.result c.from_residual-in_err-list-in-Some.ensures.1 in
+    let e = c.in_err-list-in-Some.ensures.wider in
+    rw (p.1, p.2) (record {
+      anew = tt;
+      granted = tt;
+      memory = e.memory;
+      refused = λ t x. e.refused t (x, sym (sym (ap Ok c.in-Some.is) ∙ c.in_ok-old.ensures.found t x));
+      named = elim e.named [
+        | inl (same, named) ↦ inl (same, λ t x. named t (x, sym (sym (ap Ok c.in-Some.is) ∙ c.in_ok-old.ensures.found t x)))
+        | inr growth ↦ inr (record {
+          name = growth.name;
+          memory = growth.memory;
+          full = λ t u x becomes. growth.full t u (x, sym (sym (ap Ok c.in-Some.is) ∙ c.in_ok-old.ensures.found t x)) becomes;
+        })
+      ];
+      fits = λ h. (let (t, u, x, becomes, fits) = h in e.fits (t, u, (x, sym (sym (ap Ok c.in-Some.is) ∙ c.in_ok-old.ensures.found t x)), becomes, fits));
+      few = λ t u x becomes. e.few t u (x, sym (sym (ap Ok c.in-Some.is) ∙ c.in_ok-old.ensures.found t x)) becomes;
+    })
 
 -- Null and structs are found.
 pub returns-in_err-old-clause-stays : goal.returns-in_err-old-clause-stays
@@ -73,13 +106,6 @@ returns-in_err-old-clause-stays g c =
       | inl x ↦ null_found _ (c.in_err-old.ensures.found Null x)
       | inr (d, q, es, x, l, m) ↦ not_a_list _ _ (c.in_err-old.ensures.found (Structs d q es) x)
     ]))
-
-pub returns-in_err-old-clause-fits : goal.returns-in_err-old-clause-fits
-returns-in_err-old-clause-fits g c =
-    let p = err_from_is_err_and c.from_residual.result c.from_residual.ensures.1 in rw p.1 (λ h.
-    (let (t, u, x, e, fits) = h in
-    let S : Segments = (g.A.BuilderArena.view c.args.arena.now).words in
-    absurd (not_refused _ _ u (unfound_refused (target S c.args.id c.args.at) t c.args.size.data_words c.args.size.pointers _ (sym (c.in_err-old.ensures.found t x))) e)))
 
 -- Those that are large enough are given as they stand.
 pub returns-in_ok-list-in-Some-clause-stays : goal.returns-in_ok-list-in-Some-clause-stays
@@ -108,14 +134,3 @@ returns-in_err-list-in-Some-clause-stays g c =
           not_true (c.in_err-list-in-Some.ensures.stays (sym (ap (λ (o : ExistingList). size_number o.size) same)) (omega (arith, l, data_of)) (omega (arith, m, pointers_of))).0
           )
     ])))
-
-pub returns-in_ok-list-in-Some-clause-few : goal.returns-in_ok-list-in-Some-clause-few
-returns-in_ok-list-in-Some-clause-few g c = λ t u x e. c.widen_list.ensures.few t u (x, sym (sym (ap Ok c.in-Some.is) ∙ c.in_ok-old.ensures.found t x)) e
-
-pub returns-in_err-list-in-Some-clause-few : goal.returns-in_err-list-in-Some-clause-few
-returns-in_err-list-in-Some-clause-few g c = λ t u x e. c.widen_list.ensures.few t u (x, sym (sym (ap Ok c.in-Some.is) ∙ c.in_ok-old.ensures.found t x)) e
-
-pub returns-in_err-list-in-Some-clause-fits : goal.returns-in_err-list-in-Some-clause-fits
-returns-in_err-list-in-Some-clause-fits g c =
-    let p = err_from_is_err_and c.from_residual-in_err-list-in-Some.result c.from_residual-in_err-list-in-Some.ensures.1 in rw p.1 (λ h.
-    (let (t, u, x, e, fits) = h in c.in_err-list-in-Some.ensures.fits (t, u, (x, sym (sym (ap Ok c.in-Some.is) ∙ c.in_ok-old.ensures.found t x)), e, fits)))

@@ -17,38 +17,26 @@ returns-clause-widened g c =
     if_ok_both c.widen_rows.result _ _ _ c.widen_rows.ensures.remade c.widen_rows.ensures.small
     (λ m made few. pointers_widened_to S R c.args.id c.args.at c.args.old m c.args.size _ c.requires.kind refl c.greater.ensures few made)
 
-pub returns-clause-anew : goal.returns-clause-anew
-returns-clause-anew g c =
+pub returns-clause-wider : goal.returns-clause-wider
+returns-clause-wider g c =
     let a : View = g.A.BuilderArena.view c.args.arena.now in
     let b : View = g.A.BuilderArena.view c.widen_rows.new.arena in
-    on_made_so c.widen_rows.result _ _ c.widen_rows.ensures.anew (λ made. pointers_anew_to a b c.args.id c.args.at c.args.old c.args.size _ c.requires.kind refl c.greater.ensures made)
-
-pub returns-clause-refused : goal.returns-clause-refused
-returns-clause-refused g c =
-    on_err_so c.widen_rows.result _ _ c.widen_rows.ensures.refused
-    (λ left. pointers_left_as (g.A.BuilderArena.view c.args.arena.now).words (g.A.BuilderArena.view c.widen_rows.new.arena).words c.args.id c.args.at c.args.old c.requires.kind left)
-
-pub returns-clause-named : goal.returns-clause-named
-returns-clause-named g c =
-    let a : View = g.A.BuilderArena.view c.args.arena.now in
-    let b : View = g.A.BuilderArena.view c.widen_rows.new.arena in
+    let l = c.args.old in
     let wide : StructSize = record { data_words = c.args.size.data_words; pointers = c.greater.result } in
-    if_err_so c.widen_rows.result _ _ c.widen_rows.ensures.named (λ k n. elim n [
-      | inl (same, refused) ↦ inl (same, pointers_refused a.words c.args.id c.args.at c.args.old c.args.size _ k c.requires.kind refl c.greater.ensures refused)
-      | inr (memory, full) ↦ inr (rows_refused a b c.args.id c.args.at c.args.old _ c.args.size wide k memory full
-          (λ t u i e. pointers_are a.words c.args.id c.args.at t u c.args.old c.args.size wide c.requires.kind refl c.greater.ensures i e))
-    ])
-
-pub returns-clause-fits : goal.returns-clause-fits
-returns-clause-fits g c = λ h.
-    (let (t, u, i, e, fits) = h in
-    let v : View = g.A.BuilderArena.view c.args.arena.now in
-    let rows = pointers_are v.words c.args.id c.args.at t u c.args.old c.args.size (record { data_words = c.args.size.data_words; pointers = c.greater.result }) c.requires.kind refl c.greater.ensures i e in
-    c.widen_rows.ensures.fits (rows_inside v.words c.args.id c.args.at t _ rows.has) (rows_fit v c.args.id c.args.at t u _ _ rows fits))
-
-pub returns-clause-few : goal.returns-clause-few
-returns-clause-few g c = λ t u i e.
-    (let S : Segments = (g.A.BuilderArena.view c.args.arena.now).words in
-    let R : Segments = (g.A.BuilderArena.view c.widen_rows.new.arena).words in
-    let rows = pointers_are S c.args.id c.args.at t u c.args.old c.args.size (record { data_words = c.args.size.data_words; pointers = c.greater.result }) c.requires.kind refl c.greater.ensures i e in
-    rows_few S R c.args.id c.args.at t u _ _ rows c.widen_rows.ensures.few)
+    let e = c.widen_rows.ensures in
+    record {
+      anew = on_made_so c.widen_rows.result _ _ e.anew (λ made. pointers_anew_to a b c.args.id c.args.at l c.args.size _ c.requires.kind refl c.greater.ensures made);
+      granted = e.granted;
+      memory = e.memory;
+      refused = on_err_so c.widen_rows.result _ _ e.refused (λ left. pointers_left_as a.words b.words c.args.id c.args.at l c.requires.kind left);
+      named = if_err_so c.widen_rows.result _ _ e.named (λ k n. elim n [
+        | inl (same, refused) ↦ inl (same, pointers_refused a.words c.args.id c.args.at l c.args.size _ k c.requires.kind refl c.greater.ensures refused)
+        | inr (memory, full) ↦ inr (rows_refused a b c.args.id c.args.at l _ c.args.size wide k memory full
+            (λ t u i e. pointers_are a.words c.args.id c.args.at t u l c.args.size wide c.requires.kind refl c.greater.ensures i e))
+      ]);
+      fits = λ h.
+          (let (t, u, i, becomes, fits) = h in
+          let rows = pointers_are a.words c.args.id c.args.at t u l c.args.size wide c.requires.kind refl c.greater.ensures i becomes in
+          e.fits (rows_inside a.words c.args.id c.args.at t _ rows.has) (rows_fit a c.args.id c.args.at t u _ _ rows fits));
+      few = λ t u i becomes. rows_few a.words b.words c.args.id c.args.at t u _ _ (pointers_are a.words c.args.id c.args.at t u l c.args.size wide c.requires.kind refl c.greater.ensures i becomes) e.few;
+    }

@@ -14,23 +14,6 @@ use Rattle.capnp_widening.proofs.Unspent.{too_large_spent, outside_spent}
 use Rattle.capnp_widening.proofs.ListsAnew.{numbers_anew_to}
 use Rattle.capnp_widening.proofs.numbers.widen_numbers.Goals as goal
 
--- Too many words.
-pub returns-then-words-ge536870912-clause-named : goal.returns-then-words-ge536870912-clause-named
-returns-then-words-ge536870912-clause-named g c =
-    let S : Segments = (g.A.BuilderArena.view c.args.arena.now).words in
-    let n : ℕ = c.args.old.count * (c.greater.result + c.args.size.pointers) in
-    let same : c.from.result * c.from-2.result ≡ n = ap₂ (λ x y. x * y) c.from.ensures (c.from-2.ensures ∙ c.total.ensures) in
-    let many : 2 ^ 29 ≤ n = subst (λ x. 2 ^ 29 ≤ x) same (omega arith) in
-    inl (
-      refl,
-      numbers_refused S c.args.id c.args.at c.args.old c.args.size (record { data_words = c.greater.result; pointers = c.args.size.pointers }) _ c.requires.kind.0 c.requires.kind.1 c.greater.ensures refl
-          (λ u. subst (λ x. limited n u ≡ Err (MessageTooLarge x)) (sym same) (too_many n u many)),
-    )
-
--- What a place stores lies in its segment.
-pub returns-then-not-are_numbers_inside-clause-named : goal.returns-then-not-are_numbers_inside-clause-named
-returns-then-not-are_numbers_inside-clause-named g c = inl (refl, λ t h. absurd (search (rules, numbers_inside _ c.args.id c.args.at t c.args.old c.requires.kind.1 h)))
-
 pub returns-clause-widened : goal.returns-clause-widened
 returns-clause-widened g c =
     let S : Segments = (g.A.BuilderArena.view c.args.arena.now).words in
@@ -41,57 +24,64 @@ returns-clause-widened g c =
     if_ok_so c.remake_numbers.result _ _ c.remake_numbers.ensures.remade
     (λ m made. numbers_widened_to S R c.args.id c.args.at c.args.old m c.args.size (record { data_words = c.greater.result; pointers = c.args.size.pointers }) c.requires.kind.0 c.requires.kind.1 c.greater.ensures refl few made)
 
-pub returns-clause-anew : goal.returns-clause-anew
-returns-clause-anew g c =
-    let a : View = g.A.BuilderArena.view c.args.arena.now in
-    let b : View = g.A.BuilderArena.view c.remake_numbers.new.arena in
-    on_made_so c.remake_numbers.result _ _ c.remake_numbers.ensures.anew
-    (λ made. numbers_anew_to a b c.args.id c.args.at c.args.old c.args.size (record { data_words = c.greater.result; pointers = c.args.size.pointers }) c.requires.kind.0 c.requires.kind.1 c.greater.ensures refl made)
-
-pub returns-clause-refused : goal.returns-clause-refused
-returns-clause-refused g c =
-    let S : Segments = (g.A.BuilderArena.view c.args.arena.now).words in
-    let R : Segments = (g.A.BuilderArena.view c.remake_numbers.new.arena).words in
-    on_err_so c.remake_numbers.result _ _ c.remake_numbers.ensures.refused (λ same t i. nothing_grown S R same)
-
-pub returns-then-words-ge536870912-clause-memory : goal.returns-then-words-ge536870912-clause-memory
-returns-then-words-ge536870912-clause-memory g c = too_large_spent (g.A.BuilderArena.view c.args.arena.now) 0
-
-pub returns-then-not-are_numbers_inside-clause-memory : goal.returns-then-not-are_numbers_inside-clause-memory
-returns-then-not-are_numbers_inside-clause-memory g c = outside_spent (g.A.BuilderArena.view c.args.arena.now)
-
--- Words for which there is room are few enough.
-pub returns-then-words-ge536870912-clause-fits : goal.returns-then-words-ge536870912-clause-fits
-returns-then-words-ge536870912-clause-fits g c = λ h.
-    (let (t, u, i, e, fits) = h in
+-- Too many words; those for which there is room are few enough.
+pub returns-then-words-ge536870912-clause-wider : goal.returns-then-words-ge536870912-clause-wider
+returns-then-words-ge536870912-clause-wider g c =
     let v : View = g.A.BuilderArena.view c.args.arena.now in
+    let wide : StructSize = record { data_words = c.greater.result; pointers = c.args.size.pointers } in
     let n : ℕ = c.args.old.count * (c.greater.result + c.args.size.pointers) in
     let same : c.from.result * c.from-2.result ≡ n = ap₂ (λ x y. x * y) c.from.ensures (c.from-2.ensures ∙ c.total.ensures) in
     let many : 2 ^ 29 ≤ n = subst (λ x. 2 ^ 29 ≤ x) same (omega arith) in
-    let words = numbers_take v.words c.args.id c.args.at t u c.args.old c.args.size (record { data_words = c.greater.result; pointers = c.args.size.pointers }) c.requires.kind.0 c.requires.kind.1 c.greater.ensures refl i e in
-    let few = numbers_small v c.args.id n (λ k. g.met.A.BuilderArena.small c.args.arena.now k) (numbers_fit v c.args.id c.args.at (1 + n) t u words fits) in
-    absurd (omega (arith, many, few)))
+    record {
+      anew = tt;
+      granted = tt;
+      memory = too_large_spent v 0;
+      refused = λ t i. nothing_grown v.words _ refl;
+      named = inl (
+        refl,
+        numbers_refused v.words c.args.id c.args.at c.args.old c.args.size wide _ c.requires.kind.0 c.requires.kind.1 c.greater.ensures refl (λ u. subst (λ x. limited n u ≡ Err (MessageTooLarge x)) (sym same) (too_many n u many)),
+      );
+      fits = λ h.
+          (let (t, u, i, e, fits) = h in
+          let words = numbers_take v.words c.args.id c.args.at t u c.args.old c.args.size wide c.requires.kind.0 c.requires.kind.1 c.greater.ensures refl i e in
+          let few = numbers_small v c.args.id n (λ k. g.met.A.BuilderArena.small c.args.arena.now k) (numbers_fit v c.args.id c.args.at (1 + n) t u words fits) in
+          absurd (omega (arith, many, few)));
+      few = λ t u i e. omega arith;
+    }
 
-pub returns-then-not-are_numbers_inside-clause-fits : goal.returns-then-not-are_numbers_inside-clause-fits
-returns-then-not-are_numbers_inside-clause-fits g c = λ h. (let (t, u, i, e, fits) = h in absurd (search (rules, numbers_inside _ c.args.id c.args.at t c.args.old c.requires.kind.1 i)))
-
-pub returns-clause-fits : goal.returns-clause-fits
-returns-clause-fits g c = λ h.
-    (let (t, u, i, e, fits) = h in
+-- What a place stores lies in its segment.
+pub returns-then-not-are_numbers_inside-clause-wider : goal.returns-then-not-are_numbers_inside-clause-wider
+returns-then-not-are_numbers_inside-clause-wider g c =
     let v : View = g.A.BuilderArena.view c.args.arena.now in
-    let words = numbers_take v.words c.args.id c.args.at t u c.args.old c.args.size (record { data_words = c.greater.result; pointers = c.args.size.pointers }) c.requires.kind.0 c.requires.kind.1 c.greater.ensures refl i e in
-    c.remake_numbers.ensures.fits (numbers_fit v c.args.id c.args.at _ t u words fits))
+    record {
+      anew = tt;
+      granted = tt;
+      memory = outside_spent v;
+      refused = λ t i. nothing_grown v.words _ refl;
+      named = inl (refl, λ t h. absurd (search (rules, numbers_inside _ c.args.id c.args.at t c.args.old c.requires.kind.1 h)));
+      fits = λ h. (let (t, u, i, e, fits) = h in absurd (search (rules, numbers_inside _ c.args.id c.args.at t c.args.old c.requires.kind.1 i)));
+      few = λ t u i e. omega arith;
+    }
 
-pub returns-clause-few : goal.returns-clause-few
-returns-clause-few g c = λ t u i e.
-    (let v : View = g.A.BuilderArena.view c.args.arena.now in
-    let words = numbers_take v.words c.args.id c.args.at t u c.args.old c.args.size (record { data_words = c.greater.result; pointers = c.args.size.pointers }) c.requires.kind.0 c.requires.kind.1 c.greater.ensures refl i e in
-    omega (arith, c.remake_numbers.ensures.few, words.0))
-
-pub returns-clause-named : goal.returns-clause-named
-returns-clause-named g c =
+pub returns-clause-wider : goal.returns-clause-wider
+returns-clause-wider g c =
     let a : View = g.A.BuilderArena.view c.args.arena.now in
     let b : View = g.A.BuilderArena.view c.remake_numbers.new.arena in
+    let l = c.args.old in
     let wide : StructSize = record { data_words = c.greater.result; pointers = c.args.size.pointers } in
-    if_err_both c.remake_numbers.result _ _ _ c.remake_numbers.ensures.memory c.remake_numbers.ensures.full (λ k memory full. inr (numbers_unmade a b c.args.id c.args.at _ c.args.old c.args.size k memory full
-    (λ t u i e. numbers_take a.words c.args.id c.args.at t u c.args.old c.args.size wide c.requires.kind.0 c.requires.kind.1 c.greater.ensures refl i e)))
+    let e = c.remake_numbers.ensures in
+    record {
+      anew = on_made_so c.remake_numbers.result _ _ e.anew (λ made. numbers_anew_to a b c.args.id c.args.at l c.args.size wide c.requires.kind.0 c.requires.kind.1 c.greater.ensures refl made);
+      granted = e.granted;
+      memory = e.memory;
+      refused = on_err_so c.remake_numbers.result _ _ e.refused (λ same t i. nothing_grown a.words b.words same);
+      named = if_err_both c.remake_numbers.result _ _ _ e.memory e.full (λ k memory full. inr (numbers_unmade a b c.args.id c.args.at _ l c.args.size k memory full
+          (λ t u i e. numbers_take a.words c.args.id c.args.at t u l c.args.size wide c.requires.kind.0 c.requires.kind.1 c.greater.ensures refl i e)));
+      fits = λ h.
+          (let (t, u, i, becomes, fits) = h in
+          let words = numbers_take a.words c.args.id c.args.at t u l c.args.size wide c.requires.kind.0 c.requires.kind.1 c.greater.ensures refl i becomes in
+          e.fits (numbers_fit a c.args.id c.args.at _ t u words fits));
+      few = λ t u i becomes.
+          (let words = numbers_take a.words c.args.id c.args.at t u l c.args.size wide c.requires.kind.0 c.requires.kind.1 c.greater.ensures refl i becomes in
+          omega (arith, e.few, words.0));
+    }

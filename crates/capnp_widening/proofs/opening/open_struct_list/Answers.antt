@@ -15,11 +15,11 @@ returns-in-None-refusal_of_list-clause-opened g c = λ t stored.
     (record {
       widened = c.get_struct_list.ensures.widened;
       leads = c.get_struct_list.ensures.leads;
-      anew = c.get_struct_list.ensures.anew;
-      granted = c.get_struct_list.ensures.granted;
-      refused = c.get_struct_list.ensures.refused;
-      named = c.get_struct_list.ensures.named;
-      few = c.get_struct_list.ensures.few;
+      anew = c.get_struct_list.ensures.wider.anew;
+      granted = c.get_struct_list.ensures.wider.granted;
+      refused = c.get_struct_list.ensures.wider.refused;
+      named = c.get_struct_list.ensures.wider.named;
+      few = c.get_struct_list.ensures.wider.few;
     }))
 
 -- No refusal before memory is asked for is the allocator's.
