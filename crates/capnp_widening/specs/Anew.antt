@@ -1,6 +1,6 @@
 -- How pointers are written anew, and the words that this takes ("Inter-Segment Pointers").
 use Rattle.std.specs.Prelude.{◌≡◌, ◌≢◌, ◌⊎◌, ℕ, ◌+◌, ◌-◌, ◌^◌, ◌<◌, ◌≤◌, if◌then◌else◌, nat_eq, nat_lt}
-use Rattle.std.specs.Prelude.{◌*◌, IfErr, IsOk, List, [], ◌∷◌, length, Ok, OnErr, OnOk, Result, ⊤}
+use Rattle.std.specs.Prelude.{◌*◌, IfErr, IfOk, IsOk, List, [], ◌∷◌, length, Ok, OnErr, OnOk, Result, ⊤}
 use Rattle.capnp_words.specs.declared.error.ErrorKind.{ErrorKind}
 use Rattle.capnp_format.specs.Forest.{target}
 use Rattle.capnp_format.specs.Segments.{Segments, Grows, segment, word_at}
@@ -8,12 +8,14 @@ use Rattle.capnp_format.specs.Tree.{Tree, Null, Struct, Pointers, Structs, Trees
 use Rattle.capnp_words.specs.declared.wire_pointer.StructSize.{StructSize}
 use Rattle.capnp_format.specs.Word.{kind, is_double, struct_word, upper_half}
 use Rattle.capnp_arena.specs.View.{View, KeepsLimits}
+use Rattle.capnp_making.specs.declared.existing.ExistingStruct.{ExistingStruct}
 use Rattle.capnp_making.specs.Makes.{CallAt}
 use Rattle.capnp_making.specs.Memory.{KeepsMemory, SpendsMemory, RefusesWords, StandsBehind, TakesWords, start_of}
 use Rattle.capnp_making.specs.declared.making.Start.{Start}
 use Rattle.capnp_widening.specs.Moved.{CanMove, Move, Moves, MovesSome, row_of_moves, rows_of_moves}
 use Rattle.capnp_widening.specs.Rooms.{GrowsByAtMost, HasSomeRoom, widened_words}
-use Rattle.capnp_widening.specs.Widened.{HasSections, list_widened, widened}
+use Rattle.capnp_widening.specs.Widened.{HasSections, LeadsToWiderStruct, LeavesAll, WidensStruct}
+use Rattle.capnp_widening.specs.Widened.{list_widened, rewriting, widened}
 
 -- The pointer x, whose object lies in segment s if it is near, is written anew in segment v as y:
 -- null, a far pointer and a capability as they are; a near one near in its object's segment, where
@@ -116,3 +118,14 @@ abbrev pub WidensListAnew : (Tree → Type 0) → StructSize → CallAt → Type
 WidensListAnew Stands size c =
     (t u : Tree) → Stands t → t ≢ Null → list_widened size.data_words size.pointers t ≡ Ok u →
     (HasSections size t → ⊥) → BecomesAnew c t u
+
+-- A call makes the struct that stands at a place wider, so that it has sections of at least a size;
+-- or memory is refused, and the struct stands as it stood.
+pub record MakesStructWider (result : Result ExistingStruct ErrorKind) (Stands : Tree → Type 0)
+    (size : StructSize) (c : CallAt) : Type 0 where
+  pub widened : OnOk result (WidensStruct Stands size (rewriting c.segment c.at c.old.words c.new.words))
+  pub leads : IfOk result (LeadsToWiderStruct Stands c.new.words c.segment c.at)
+  pub anew : OnOk result (WidensStructAnew Stands size c)
+  pub granted : OnOk result (KeepsMemory c.old c.new)
+  pub memory : IfErr result (SpendsMemory c.old c.new)
+  pub refused : OnErr result (LeavesAll Stands c.old.words c.new.words)

@@ -13,10 +13,10 @@ ghost use Rattle.capnp_making.specs.Makes.{call_at};
 ghost use Rattle.capnp_making.specs.Near.{HasOwnRoom};
 ghost use Rattle.capnp_making.specs.Stored.{IsStored};
 ghost use Rattle.capnp_making.specs.Zeroed.{IsPruned};
-ghost use Rattle.capnp_widening.specs.Anew.{WidensStructAnew};
+ghost use Rattle.capnp_widening.specs.Anew.{MakesStructWider};
 ghost use Rattle.capnp_widening.specs.Housed.{IsRoom, AreWordsCopied, Settles, object_start};
 ghost use Rattle.capnp_widening.specs.Rooms.{GrowsByAtMost, HasSomeRoom, WiderStructFits, GrowsForStruct};
-ghost use Rattle.capnp_widening.specs.Widened.{IsStruct, LeadsToWiderStruct, LeavesAll, WidensStruct, rewriting};
+ghost use Rattle.capnp_widening.specs.Widened.{IsStruct, rewriting};
 
 use crate::moving::{move_row, unmove_row};
 use capnp_arena::arena::BuilderArena;
@@ -150,17 +150,8 @@ pub(crate) fn widen_known<A: BuilderArena>(
         → struct_in (target (A.view arena.old).words id at) t ≡ Some old }
     requires narrow { size.data_words ≤ old.size.data_words
         → size.pointers ≤ old.size.pointers → ⊥ }
-    ensures widened { OnOk result (WidensStruct (IsStored (A.view arena.old).words id at) size
-        (rewriting id at (A.view arena.old).words (A.view arena.new).words)) }
-    ensures leads { IfOk result (LeadsToWiderStruct
-        (IsStored (A.view arena.old).words id at) (A.view arena.new).words id at) }
-    ensures anew { OnOk result (WidensStructAnew (IsStored (A.view arena.old).words id at) size
-        (call_at id at (A.view arena.old) (A.view arena.new))) }
-    ensures granted { OnOk result (KeepsMemory (A.view arena.old) (A.view arena.new)) }
-    ensures refused { OnErr result
-        (LeavesAll (IsStored (A.view arena.old).words id at)
-        (A.view arena.old).words (A.view arena.new).words) }
-    ensures memory { IfErr result (SpendsMemory (A.view arena.old) (A.view arena.new)) }
+    ensures wider { MakesStructWider result (IsStored (A.view arena.old).words id at) size
+        (call_at id at (A.view arena.old) (A.view arena.new)) }
     ensures full { IfErr result (RefusesGrowth (A.view arena.old) (A.view arena.new)
         (max old.size.data_words size.data_words + max old.size.pointers size.pointers)
         old.size.pointers) }
@@ -217,18 +208,9 @@ fn widen_struct<A: BuilderArena>(
     requires data { old.size.data_words ≤ size.data_words }
     requires pointers { old.size.pointers ≤ size.pointers }
     requires some { 0 < size.data_words + size.pointers }
-    ensures widened { OnOk result (WidensStruct (IsStruct (A.view arena.old).words id at old) size
-        (rewriting id at (A.view arena.old).words (A.view arena.new).words)) }
-    ensures leads { IfOk result (LeadsToWiderStruct
-        (IsStruct (A.view arena.old).words id at old) (A.view arena.new).words id at) }
-    ensures anew { OnOk result (WidensStructAnew (IsStruct (A.view arena.old).words id at old) size
-        (call_at id at (A.view arena.old) (A.view arena.new))) }
+    ensures wider { MakesStructWider result (IsStruct (A.view arena.old).words id at old) size
+        (call_at id at (A.view arena.old) (A.view arena.new)) }
     ensures size { IfOk result (λ e. e.size ≡ size) }
-    ensures granted { OnOk result (KeepsMemory (A.view arena.old) (A.view arena.new)) }
-    ensures refused { OnErr result
-        (LeavesAll (IsStruct (A.view arena.old).words id at old)
-        (A.view arena.old).words (A.view arena.new).words) }
-    ensures memory { IfErr result (SpendsMemory (A.view arena.old) (A.view arena.new)) }
     ensures full { IfErr result (RefusesGrowth (A.view arena.old) (A.view arena.new)
         (size.data_words + size.pointers) old.size.pointers) }
     ensures few { GrowsByAtMost (A.view arena.old).words (A.view arena.new).words

@@ -1,10 +1,9 @@
 use Rattle.std.proofs.Common.{inl, inr, subst, ◌≡◌, ◌+◌, ◌*◌, sym, ap, ◌∙◌, arith}
-use Rattle.capnp_format.specs.Segments.{Segments}
 use Rattle.capnp_format.specs.Tree.{Struct, count}
 use Rattle.capnp_arena.specs.View.{View}
 use Rattle.capnp_making.specs.Memory.{HasRoom}
 use Rattle.capnp_making.specs.Near.{HasOwnRoom}
-use Rattle.capnp_making.proofs.Outcomes.{on_made_so, if_ok_so}
+use Rattle.capnp_making.proofs.Outcomes.{on_err_so, on_made_so, if_ok_so}
 use Rattle.capnp_widening.specs.Rooms.{widened_words}
 use Rattle.capnp_widening.proofs.Filled.{greater_size, same_wide}
 use Rattle.capnp_widening.proofs.StructRooms.{wider_words}
@@ -14,32 +13,30 @@ use Rattle.capnp_widening.specs.Anew.{BecomesAnew}
 use Rattle.capnp_widening.proofs.widening.widen_known.Goals as goal
 use Rattle.capnp_widening.specs.Widened.{widened}
 
-pub returns-clause-widened : goal.returns-clause-widened
-returns-clause-widened g c =
-    let S : Segments = (g.A.BuilderArena.view c.args.arena.now).words in
-    let R : Segments = (g.A.BuilderArena.view c.widen_struct.new.arena).words in
-    on_made_so c.widen_struct.result _ _ c.widen_struct.ensures.widened (λ w. λ ws ts x.
-    (let found = c.requires.known (Struct ws ts) x in
-    let same = same_struct (the_struct S c.args.id c.args.at ws ts) c.args.old found in
-    let d = ap (λ e. e.size.data_words) same in
-    let k = ap (λ e. e.size.pointers) same in
-    greater_size S R c.args.id c.args.at c.args.size.data_words c.args.size.pointers c.greater.result c.greater-2.result ws ts (omega (arith, c.greater.ensures, d)) (omega (arith, c.greater-2.ensures, k)) (w ws ts (x, found))))
-
-pub returns-clause-anew : goal.returns-clause-anew
-returns-clause-anew g c =
+pub returns-clause-wider : goal.returns-clause-wider
+returns-clause-wider g c =
     let a : View = g.A.BuilderArena.view c.args.arena.now in
     let b : View = g.A.BuilderArena.view c.widen_struct.new.arena in
-    on_made_so c.widen_struct.result _ _ c.widen_struct.ensures.anew (λ w. λ ws ts x.
-    (let found = c.requires.known (Struct ws ts) x in
-    let same = same_struct (the_struct a.words c.args.id c.args.at ws ts) c.args.old found in
-    let d = ap (λ e. e.size.data_words) same in
-    let k = ap (λ e. e.size.pointers) same in
-    subst (λ u. BecomesAnew (call_at c.args.id c.args.at a b) (Struct ws ts) u)
-    (same_wide c.args.size.data_words c.args.size.pointers c.greater.result c.greater-2.result ws ts (omega (arith, c.greater.ensures, d)) (omega (arith, c.greater-2.ensures, k))) (w ws ts (x, found))))
-
-pub returns-clause-leads : goal.returns-clause-leads
-returns-clause-leads g c =
-    if_ok_so c.widen_struct.result _ _ c.widen_struct.ensures.leads (λ e w. λ ws ts x. w ws ts (x, c.requires.known (Struct ws ts) x))
+    let e = c.widen_struct.ensures.wider in
+    record {
+      widened = on_made_so c.widen_struct.result _ _ e.widened (λ w. λ ws ts x.
+          (let found = c.requires.known (Struct ws ts) x in
+          let same = same_struct (the_struct a.words c.args.id c.args.at ws ts) c.args.old found in
+          let d = ap (λ e. e.size.data_words) same in
+          let k = ap (λ e. e.size.pointers) same in
+          greater_size a.words b.words c.args.id c.args.at c.args.size.data_words c.args.size.pointers c.greater.result c.greater-2.result ws ts (omega (arith, c.greater.ensures, d)) (omega (arith, c.greater-2.ensures, k)) (w ws ts (x, found))));
+      leads = if_ok_so c.widen_struct.result _ _ e.leads (λ o w. λ ws ts x. w ws ts (x, c.requires.known (Struct ws ts) x));
+      anew = on_made_so c.widen_struct.result _ _ e.anew (λ w. λ ws ts x.
+          (let found = c.requires.known (Struct ws ts) x in
+          let same = same_struct (the_struct a.words c.args.id c.args.at ws ts) c.args.old found in
+          let d = ap (λ e. e.size.data_words) same in
+          let k = ap (λ e. e.size.pointers) same in
+          subst (λ u. BecomesAnew (call_at c.args.id c.args.at a b) (Struct ws ts) u)
+          (same_wide c.args.size.data_words c.args.size.pointers c.greater.result c.greater-2.result ws ts (omega (arith, c.greater.ensures, d)) (omega (arith, c.greater-2.ensures, k))) (w ws ts (x, found))));
+      granted = e.granted;
+      memory = e.memory;
+      refused = on_err_so c.widen_struct.result _ _ e.refused (λ left. λ t x. left t (x, c.requires.known t x));
+    }
 
 -- The words that it takes are those of the greater of both sizes.
 pub returns-clause-fits : goal.returns-clause-fits
