@@ -2,7 +2,7 @@
 use Rattle.std.proofs.Common.{◌≡◌, inl, inr, ℕ, suc, ◌+◌, ◌*◌, ◌<◌, ◌≤◌, max, List, [], ◌∷◌, ◌++◌, length, refl, sym, ap, ◌∙◌, subst, arith}
 use Rattle.capnp_format.specs.Segments.{Segments, segment, word_at}
 use Rattle.capnp_format.specs.Forest.{times}
-use Rattle.capnp_arena.specs.View.{View, KeepsLimits}
+use Rattle.capnp_arena.specs.View.{View}
 use Rattle.capnp_making.specs.Makes.{call_at}
 use Rattle.capnp_making.specs.Memory.{KeepsMemory, IsNextRoom, Lengthens, TakesWords}
 use Rattle.capnp_making.proofs.Extents.{once_held}
@@ -13,10 +13,6 @@ use Rattle.capnp_widening.proofs.Movings.{can_left, can_right, new_places-append
 use Rattle.capnp_widening.proofs.Rows.{rows_next}
 use Rattle.capnp_widening.proofs.Single.{place_there}
 
--- what nothing but words is changed by, and then again
-pub limits_both : (a b c : View) → KeepsLimits a b → KeepsLimits b c → KeepsLimits a c
-limits_both a b c x y = y ∙ ap (λ (v : View). record v { words = c.words }) x
-
 -- nothing is written, and one write after another
 
 pub writes_nothing : (v : View) → OnlyWrites v v
@@ -24,7 +20,7 @@ writes_nothing v = record { limits = refl; segments = refl; words = λ x. refl }
 
 pub writes_both : (a b c : View) → OnlyWrites a b → OnlyWrites b c → OnlyWrites a c
 writes_both a b c x y = record {
-  limits = limits_both a b c x.limits y.limits;
+  limits = y.limits ∙ ap (λ (v : View). record v { words = c.words }) x.limits;
   segments = y.segments ∙ x.segments;
   words = λ v. y.words v ∙ x.words v;
 }

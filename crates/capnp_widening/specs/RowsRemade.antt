@@ -1,6 +1,6 @@
 -- Lists of structs made anew of the elements of other lists, as rows of words ("Lists").
 use Rattle.std.specs.Prelude.{◌≡◌, ◌⊎◌, ℕ, zero, suc, ◌+◌, ◌*◌, ◌<◌, ◌≤◌, Option, Some, None}
-use Rattle.std.specs.Prelude.{IfErr, IfSome, IsOk, Ok, Err, List, OnErr, OnOk, Result, [], ◌∷◌, length}
+use Rattle.std.specs.Prelude.{IfErr, IfOk, IfSome, IsOk, Ok, Err, List, OnErr, OnOk, Result, [], ◌∷◌, length}
 use Rattle.capnp_words.specs.Sizes.{size_number}
 use Rattle.capnp_words.specs.declared.error.ErrorKind.{ErrorKind}
 use Rattle.capnp_arena.specs.View.{View}
@@ -25,7 +25,7 @@ use Rattle.capnp_widening.specs.declared.remaking.ElementRows.{ElementRows}
 use Rattle.capnp_widening.specs.Anew.{BecomesAnew, OnlyWrites, WidensListAnew, WritesAnew}
 use Rattle.capnp_widening.specs.Moved.{Move, Moves, rows_of_moves}
 use Rattle.capnp_widening.specs.Rooms.{GrowsForList, RefusesToBecome, WiderListFits}
-use Rattle.capnp_widening.specs.Widened.{LeavesAll, Rewriting, fill_elements, struct_for_each}
+use Rattle.capnp_widening.specs.Widened.{LeavesAll, Rewriting, rewriting, fill_elements, struct_for_each}
 use Rattle.capnp_widening.specs.Widened.{struct_for_each_tree, limited, list_widened}
 
 -- From S to R the first d words of each of n rows are copied over those of other rows, and nothing
@@ -192,6 +192,16 @@ abbrev pub RefusesWider : (Tree → Type 0) → StructSize → View → View →
 RefusesWider Stands size old new k =
     ((new ≡ old) × ((t : Tree) → Stands t → list_widened size.data_words size.pointers t ≡ Err k))
     ⊎ RefusesToBecome Stands (list_widened size.data_words size.pointers) old new k
+
+-- A call makes the list that stands at a place anew, as structs of a size made of its elements; or
+-- that is refused, and the list stands as it stood.
+pub record MakesListAnew (result : Result ExistingList ErrorKind) (Stands : Tree → Type 0)
+    (size : StructSize) (c : CallAt) : Type 0 where
+  pub remade : IfOk result (RemakesList Stands size (rewriting c.segment c.at c.old.words c.new.words))
+  pub anew : OnOk result (RemakesListAnew Stands size c)
+  pub granted : OnOk result (KeepsMemory c.old c.new)
+  pub memory : IfErr result (SpendsMemory c.old c.new)
+  pub refused : OnErr result (LeavesAll Stands c.old.words c.new.words)
 
 -- A call makes the list that stands at a place one of structs of at least a size, where it isn't;
 -- or that is refused, and the list stands as it stood. It never is where there is room.

@@ -7,9 +7,9 @@ ghost use Rattle.capnp_words.specs.Sizes.{size_number};
 ghost use Rattle.capnp_making.specs.Made.{structs_words};
 ghost use Rattle.capnp_making.specs.Fields.{field_in};
 ghost use Rattle.capnp_making.specs.Makes.{call_at};
-ghost use Rattle.capnp_making.specs.Memory.{HasRoom, KeepsMemory, SpendsMemory, RefusesWords};
+ghost use Rattle.capnp_making.specs.Memory.{HasRoom, RefusesWords};
 ghost use Rattle.capnp_widening.specs.Rooms.{GrowsByAtMost};
-ghost use Rattle.capnp_widening.specs.RowsRemade.{AreNumbersCopied, IsList, MakesListWider, NumbersInside, RemakesList, RemakesListAnew, WidensTo};
+ghost use Rattle.capnp_widening.specs.RowsRemade.{AreNumbersCopied, IsList, MakesListAnew, MakesListWider, NumbersInside, WidensTo};
 ghost use Rattle.capnp_widening.specs.Widened.{rewriting};
 
 use crate::remaking::begin_list;
@@ -81,13 +81,9 @@ fn remake_numbers<A: BuilderArena>(
     requires inside { NumbersInside (A.view arena.old).words old }
     requires data { 0 < size.data_words }
     requires small { old.count * (size.data_words + size.pointers) < 2 ^ 29 }
-    ensures remade { IfOk result (RemakesList (IsList (A.view arena.old).words id at old)
-        size (rewriting id at (A.view arena.old).words (A.view arena.new).words)) }
-    ensures anew { OnOk result (RemakesListAnew (IsList (A.view arena.old).words id at old)
-        size (call_at id at (A.view arena.old) (A.view arena.new))) }
-    ensures granted { OnOk result (KeepsMemory (A.view arena.old) (A.view arena.new)) }
+    ensures made { MakesListAnew result (IsList (A.view arena.old).words id at old) size
+        (call_at id at (A.view arena.old) (A.view arena.new)) }
     ensures refused { OnErr result ((A.view arena.new).words ≡ (A.view arena.old).words) }
-    ensures memory { IfErr result (SpendsMemory (A.view arena.old) (A.view arena.new)) }
     ensures full { IfErr result (RefusesWords (A.view arena.old) (A.view arena.new)
         (structs_words old.count size)) }
     ensures few { GrowsByAtMost (A.view arena.old).words (A.view arena.new).words

@@ -9,8 +9,8 @@ ghost use Rattle.capnp_making.specs.Near.{HasOwnRoom};
 ghost use Rattle.capnp_widening.specs.Rooms.{GrowsByAtMost, HasSomeRoom, RemadeRowsFit};
 ghost use Rattle.capnp_widening.specs.Housed.{IsRoom, object_start};
 ghost use Rattle.capnp_widening.specs.Moved.{MovesSome, Unmoves};
-ghost use Rattle.capnp_widening.specs.RowsRemade.{AreRowsCopied, CopiesData, FillsRows, IsTagWritten, RowsInside, RemakesList, RemakesListAnew, RefusesRows, StoresRows, element_moves};
-ghost use Rattle.capnp_widening.specs.Widened.{LeavesAll, rewriting};
+ghost use Rattle.capnp_widening.specs.RowsRemade.{AreRowsCopied, CopiesData, FillsRows, IsTagWritten, MakesListAnew, RowsInside, RefusesRows, StoresRows, element_moves};
+ghost use Rattle.capnp_widening.specs.Widened.{rewriting};
 ghost use Rattle.capnp_making.specs.Makes.{call_at};
 
 use crate::moving::{PointerRows, move_rows, unmove_rows};
@@ -202,16 +202,9 @@ pub(crate) fn widen_rows<A: BuilderArena>(
     requires few { size.data_words + size.pointers ≡ 0 → old.count < 2 ^ 30 }
     requires data { old.size.data_words ≤ size.data_words }
     requires pointers { old.size.pointers ≤ size.pointers }
-    ensures remade { IfOk result (RemakesList (StoresRows (A.view arena.old).words id at old)
-        size (rewriting id at (A.view arena.old).words (A.view arena.new).words)) }
-    ensures anew { OnOk result (RemakesListAnew (StoresRows (A.view arena.old).words id at old)
-        size (call_at id at (A.view arena.old) (A.view arena.new))) }
+    ensures made { MakesListAnew result (StoresRows (A.view arena.old).words id at old) size
+        (call_at id at (A.view arena.old) (A.view arena.new)) }
     ensures small { OnOk result (old.count * (size.data_words + size.pointers) < 2 ^ 29) }
-    ensures granted { OnOk result (KeepsMemory (A.view arena.old) (A.view arena.new)) }
-    ensures memory { IfErr result (SpendsMemory (A.view arena.old) (A.view arena.new)) }
-    ensures refused { OnErr result
-        (LeavesAll (StoresRows (A.view arena.old).words id at old)
-        (A.view arena.old).words (A.view arena.new).words) }
     ensures named { IfErr result
         (RefusesRows old size (call_at id at (A.view arena.old) (A.view arena.new))) }
     ensures few { GrowsByAtMost (A.view arena.old).words (A.view arena.new).words
@@ -253,15 +246,8 @@ fn remake_rows<A: BuilderArena>(
     requires small { old.count * (size.data_words + size.pointers) < 2 ^ 29 }
     requires data { old.size.data_words ≤ size.data_words }
     requires pointers { old.size.pointers ≤ size.pointers }
-    ensures remade { IfOk result (RemakesList (StoresRows (A.view arena.old).words id at old)
-        size (rewriting id at (A.view arena.old).words (A.view arena.new).words)) }
-    ensures anew { OnOk result (RemakesListAnew (StoresRows (A.view arena.old).words id at old)
-        size (call_at id at (A.view arena.old) (A.view arena.new))) }
-    ensures granted { OnOk result (KeepsMemory (A.view arena.old) (A.view arena.new)) }
-    ensures refused { OnErr result
-        (LeavesAll (StoresRows (A.view arena.old).words id at old)
-        (A.view arena.old).words (A.view arena.new).words) }
-    ensures memory { IfErr result (SpendsMemory (A.view arena.old) (A.view arena.new)) }
+    ensures made { MakesListAnew result (StoresRows (A.view arena.old).words id at old) size
+        (call_at id at (A.view arena.old) (A.view arena.new)) }
     ensures full { IfErr result (RefusesGrowth (A.view arena.old) (A.view arena.new)
         (structs_words old.count size) (old.count * old.size.pointers)) }
     ensures few { GrowsByAtMost (A.view arena.old).words (A.view arena.new).words

@@ -14,7 +14,7 @@ pub returns-clause-widened : goal.returns-clause-widened
 returns-clause-widened g c =
     let S : Segments = (g.A.BuilderArena.view c.args.arena.now).words in
     let R : Segments = (g.A.BuilderArena.view c.widen_rows.new.arena).words in
-    if_ok_both c.widen_rows.result _ _ _ c.widen_rows.ensures.remade c.widen_rows.ensures.small
+    if_ok_both c.widen_rows.result _ _ _ c.widen_rows.ensures.made.remade c.widen_rows.ensures.small
     (λ m made few. pointers_widened_to S R c.args.id c.args.at c.args.old m c.args.size _ c.requires.kind refl c.greater.ensures few made)
 
 pub returns-clause-wider : goal.returns-clause-wider
@@ -25,10 +25,10 @@ returns-clause-wider g c =
     let wide : StructSize = record { data_words = c.args.size.data_words; pointers = c.greater.result } in
     let e = c.widen_rows.ensures in
     record {
-      anew = on_made_so c.widen_rows.result _ _ e.anew (λ made. pointers_anew_to a b c.args.id c.args.at l c.args.size _ c.requires.kind refl c.greater.ensures made);
-      granted = e.granted;
-      memory = e.memory;
-      refused = on_err_so c.widen_rows.result _ _ e.refused (λ left. pointers_left_as a.words b.words c.args.id c.args.at l c.requires.kind left);
+      anew = on_made_so c.widen_rows.result _ _ e.made.anew (λ made. pointers_anew_to a b c.args.id c.args.at l c.args.size _ c.requires.kind refl c.greater.ensures made);
+      granted = e.made.granted;
+      memory = e.made.memory;
+      refused = on_err_so c.widen_rows.result _ _ e.made.refused (λ left. pointers_left_as a.words b.words c.args.id c.args.at l c.requires.kind left);
       named = if_err_so c.widen_rows.result _ _ e.named (λ k n. elim n [
         | inl (same, refused) ↦ inl (same, pointers_refused a.words c.args.id c.args.at l c.args.size _ k c.requires.kind refl c.greater.ensures refused)
         | inr (memory, full) ↦ inr (rows_refused a b c.args.id c.args.at l _ c.args.size wide k memory full

@@ -27,7 +27,7 @@ returns-clause-widened g c =
     let R : Segments = (g.A.BuilderArena.view c.widen_rows.new.arena).words in
     let narrow : c.args.size.data_words ≤ c.args.old.struct_size.data_words → c.args.size.pointers ≤ c.args.old.struct_size.pointers → ⊥ =
     λ l m. elim c.else-size-had.branch [ else-size-had-via-then-size-had+else-size-had-2 w ↦ omega arith | else-size-had-via-else-size-had w ↦ omega arith ] in
-    if_ok_both c.widen_rows.result _ _ _ c.widen_rows.ensures.remade c.widen_rows.ensures.small
+    if_ok_both c.widen_rows.result _ _ _ c.widen_rows.ensures.made.remade c.widen_rows.ensures.small
     (λ m made few. structs_widened_to S R c.args.id c.args.at c.args.old m c.args.size _ c.requires.kind narrow c.greater.ensures c.greater-2.ensures few (rw c.saturating_sub.ensures at made))
 
 pub returns-clause-stays : goal.returns-clause-stays
@@ -60,10 +60,10 @@ returns-clause-wider g c =
     let start = c.saturating_sub.ensures in
     let e = c.widen_rows.ensures in
     record {
-      anew = on_made_so c.widen_rows.result _ _ e.anew (λ made. structs_anew_to a b c.args.id c.args.at l size _ c.requires.kind narrow c.greater.ensures c.greater-2.ensures (rw start at made));
-      granted = e.granted;
-      memory = e.memory;
-      refused = on_err_so c.widen_rows.result _ _ e.refused (λ left. structs_left_as a.words b.words c.args.id c.args.at l c.requires.kind (rw start at left));
+      anew = on_made_so c.widen_rows.result _ _ e.made.anew (λ made. structs_anew_to a b c.args.id c.args.at l size _ c.requires.kind narrow c.greater.ensures c.greater-2.ensures (rw start at made));
+      granted = e.made.granted;
+      memory = e.made.memory;
+      refused = on_err_so c.widen_rows.result _ _ e.made.refused (λ left. structs_left_as a.words b.words c.args.id c.args.at l c.requires.kind (rw start at left));
       named = if_err_so c.widen_rows.result _ _ e.named (λ k n. elim n [
         | inl (same, refused) ↦ inl (same, structs_refused a.words c.args.id c.args.at l size _ k c.requires.kind narrow c.greater.ensures c.greater-2.ensures (rw start at refused))
         | inr (memory, full) ↦ inr (rows_refused a b c.args.id c.args.at l (rows_of l) size wide k memory full

@@ -14,7 +14,7 @@ pub returns-clause-widened : goal.returns-clause-widened
 returns-clause-widened g c =
     let S : Segments = (g.A.BuilderArena.view c.args.arena.now).words in
     let R : Segments = (g.A.BuilderArena.view c.widen_rows.new.arena).words in
-    if_ok_both c.widen_rows.result _ _ _ c.widen_rows.ensures.remade c.widen_rows.ensures.small
+    if_ok_both c.widen_rows.result _ _ _ c.widen_rows.ensures.made.remade c.widen_rows.ensures.small
     (λ m made few. void_widened_to S R c.args.id c.args.at c.list_element_count.result c.args.old m c.args.size c.requires.kind (λ a l. c.list_element_count.ensures.value ∙ ap list_count (sym (c.description.ensures a l))) few made)
 
 pub returns-clause-wider : goal.returns-clause-wider
@@ -26,10 +26,10 @@ returns-clause-wider g c =
     let counts : (o : Target) → leads a.words c.args.id c.args.at ≡ Some o → n ≡ list_count o.word = λ o found. c.list_element_count.ensures.value ∙ ap list_count (sym (c.description.ensures o found)) in
     let e = c.widen_rows.ensures in
     record {
-      anew = on_made_so c.widen_rows.result _ _ e.anew (λ made. void_anew_to a b c.args.id c.args.at n l c.args.size c.requires.kind counts made);
-      granted = e.granted;
-      memory = e.memory;
-      refused = on_err_so c.widen_rows.result _ _ e.refused (λ left. void_left_as a.words b.words c.args.id c.args.at n l c.requires.kind counts left);
+      anew = on_made_so c.widen_rows.result _ _ e.made.anew (λ made. void_anew_to a b c.args.id c.args.at n l c.args.size c.requires.kind counts made);
+      granted = e.made.granted;
+      memory = e.made.memory;
+      refused = on_err_so c.widen_rows.result _ _ e.made.refused (λ left. void_left_as a.words b.words c.args.id c.args.at n l c.requires.kind counts left);
       named = if_err_so c.widen_rows.result _ _ e.named (λ k why. elim why [
         | inl (same, refused) ↦ inl (same, void_refused a.words c.args.id c.args.at n l c.args.size k c.requires.kind counts refused)
         | inr (memory, full) ↦ inr (rows_refused a b c.args.id c.args.at l (void_of l n) c.args.size c.args.size k memory full (λ t u i e. void_are a.words c.args.id c.args.at n t u l c.args.size c.requires.kind counts i e))

@@ -21,7 +21,7 @@ returns-clause-widened g c =
     let n : ℕ = c.args.old.count * (c.greater.result + c.args.size.pointers) in
     let same : c.from.result * c.from-2.result ≡ n = ap₂ (λ x y. x * y) c.from.ensures (c.from-2.ensures ∙ c.total.ensures) in
     let few : n < 2 ^ 29 = subst (λ x. x < 2 ^ 29) same (omega arith) in
-    if_ok_so c.remake_numbers.result _ _ c.remake_numbers.ensures.remade
+    if_ok_so c.remake_numbers.result _ _ c.remake_numbers.ensures.made.remade
     (λ m made. numbers_widened_to S R c.args.id c.args.at c.args.old m c.args.size (record { data_words = c.greater.result; pointers = c.args.size.pointers }) c.requires.kind.0 c.requires.kind.1 c.greater.ensures refl few made)
 
 -- Too many words; those for which there is room are few enough.
@@ -71,11 +71,11 @@ returns-clause-wider g c =
     let wide : StructSize = record { data_words = c.greater.result; pointers = c.args.size.pointers } in
     let e = c.remake_numbers.ensures in
     record {
-      anew = on_made_so c.remake_numbers.result _ _ e.anew (λ made. numbers_anew_to a b c.args.id c.args.at l c.args.size wide c.requires.kind.0 c.requires.kind.1 c.greater.ensures refl made);
-      granted = e.granted;
-      memory = e.memory;
+      anew = on_made_so c.remake_numbers.result _ _ e.made.anew (λ made. numbers_anew_to a b c.args.id c.args.at l c.args.size wide c.requires.kind.0 c.requires.kind.1 c.greater.ensures refl made);
+      granted = e.made.granted;
+      memory = e.made.memory;
       refused = on_err_so c.remake_numbers.result _ _ e.refused (λ same t i. nothing_grown a.words b.words same);
-      named = if_err_both c.remake_numbers.result _ _ _ e.memory e.full (λ k memory full. inr (numbers_unmade a b c.args.id c.args.at _ l c.args.size k memory full
+      named = if_err_both c.remake_numbers.result _ _ _ e.made.memory e.full (λ k memory full. inr (numbers_unmade a b c.args.id c.args.at _ l c.args.size k memory full
           (λ t u i e. numbers_take a.words c.args.id c.args.at t u l c.args.size wide c.requires.kind.0 c.requires.kind.1 c.greater.ensures refl i e)));
       fits = λ h.
           (let (t, u, i, becomes, fits) = h in

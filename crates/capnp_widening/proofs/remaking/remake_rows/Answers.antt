@@ -1,15 +1,15 @@
 use Rattle.std.proofs.lemmas.Result.{err_from_is_err_and}
 use Rattle.std.proofs.Common.{◌∙◌, ◌≤◌, ◌*◌, inl, inr, ℕ, length, sym, arith}
-use Rattle.capnp_arena.specs.View.{View, KeepsLimits}
+use Rattle.capnp_arena.specs.View.{View}
 use Rattle.capnp_format.specs.Segments.{Segments}
-use Rattle.capnp_making.proofs.Memory.{keeps_both, keeps_written, keeps_then_spends, spends_then_limits, words_refused_after, words_refused_before}
+use Rattle.capnp_making.proofs.Memory.{keeps_both, keeps_then_spends, spends_then_limits, words_refused_after, words_refused_before}
 use Rattle.capnp_widening.proofs.AnyRows.{rows_anew, rows_remade, rows_left}
 use Rattle.capnp_widening.proofs.ListSteps.{ListSteps, ListUndone}
 use Rattle.capnp_widening.proofs.Rooms.{same_words}
 use Rattle.capnp_widening.proofs.StructSteps.{nothing_grown}
 use Rattle.capnp_widening.specs.Anew.{OnlyWrites}
 use Rattle.capnp_widening.proofs.TakingWords.{pruned_writes}
-use Rattle.capnp_widening.proofs.WrittenAnew.{limits_both, writes_both}
+use Rattle.capnp_widening.proofs.WrittenAnew.{keeps_writes, writes_both}
 use Rattle.capnp_widening.proofs.remaking.remake_rows.Goals as goal
 
 -- The room lies in its segment, which has fewer than 2^29 words.
@@ -38,56 +38,8 @@ settle-requires-clause-inside g c =
     let v : ℕ = c.in_ok-room.room.segment in
     omega (arith, room.0.room, tagged.words v, c.fill_rows.ensures.longer.words v)
 
-pub returns-in-Ok-clause-granted : goal.returns-in-Ok-clause-granted
-returns-in-Ok-clause-granted g c =
-    let S : View = g.A.BuilderArena.view c.args.arena.now in
-    let B : View = g.A.BuilderArena.view c.begin_list.new.arena in
-    let P : View = g.A.BuilderArena.view c.fill_rows.new.arena in
-    let R : View = g.A.BuilderArena.view c.settle.new.arena in
-    let Z : View = g.A.BuilderArena.view c.zero_part.new.arena in
-    let Q : View = g.A.BuilderArena.view c.zero_pads.new.arena in
-    let (T, room, tagged) = c.in_ok-room.ensures.begun in
-    let begun : length S.words ≤ length B.words = omega (arith, room.0.grows.segments, tagged.segments) in
-    let filled : length S.words ≤ length P.words = omega (arith, begun, c.fill_rows.ensures.longer.segments) in
-    let limits : KeepsLimits P Q = limits_both P Z Q (limits_both P R Z c.settle.ensures.limits c.zero_part.ensures.limits) c.zero_pads.ensures.limits in
-    keeps_both S P Q filled (keeps_both S B P begun c.in_ok-room.ensures.granted c.in-Ok.ensures.granted) (keeps_written P Q Q.words limits)
-
-pub returns-in-Err-clause-memory : goal.returns-in-Err-clause-memory
-returns-in-Err-clause-memory g c =
-    let S : View = g.A.BuilderArena.view c.args.arena.now in
-    let B : View = g.A.BuilderArena.view c.begin_list.new.arena in
-    let U : View = g.A.BuilderArena.view c.fill_rows.new.arena in
-    let Z : View = g.A.BuilderArena.view c.zero_part-in-Err.new.arena in
-    let (T, room, tagged) = c.in_ok-room.ensures.begun in
-    let begun : length S.words ≤ length B.words = omega (arith, room.0.grows.segments, tagged.segments) in
-    let k = c.in-Err.k in
-    spends_then_limits S U Z k (keeps_then_spends S B U k begun c.in_ok-room.ensures.granted c.in-Err.ensures.memory) c.zero_part-in-Err.ensures.limits
-
-pub returns-in-Ok-clause-remade : goal.returns-in-Ok-clause-remade
-returns-in-Ok-clause-remade g c =
-    let S : Segments = (g.A.BuilderArena.view c.args.arena.now).words in
-    let B : Segments = (g.A.BuilderArena.view c.begin_list.new.arena).words in
-    let P : Segments = (g.A.BuilderArena.view c.fill_rows.new.arena).words in
-    let R : Segments = (g.A.BuilderArena.view c.settle.new.arena).words in
-    let Z : Segments = (g.A.BuilderArena.view c.zero_part.new.arena).words in
-    let Q : Segments = (g.A.BuilderArena.view c.zero_pads.new.arena).words in
-    let (T, room, tagged) = c.in_ok-room.ensures.begun in
-    let filled = c.in-Ok.ensures.filled in
-    let steps : ListSteps S T B filled.between.words P R Z Q c.args.id c.args.at c.args.old c.args.size c.in_ok-room.room = record {
-      place = c.requires.place;
-      room = room;
-      tagged = tagged;
-      copied = filled.copied;
-      moves = filled.moved;
-      settled = rw c.total.ensures at c.settle.ensures.settled;
-      object_zeroed = rw (c.from.ensures, c.from-in-Ok.ensures, c.from-step.ensures, c.total-in-Ok.ensures) at c.zero_part.ensures.zeroed;
-      pads_zeroed = rw c.word_of-pointer.ensures at c.zero_pads.ensures.zeroed;
-      wider = (c.requires.data, c.requires.pointers);
-    } in
-    rows_remade S T B filled.between.words P R Z Q c.args.id c.args.at c.args.old c.args.size c.in_ok-room.room steps
-
-pub returns-in-Ok-clause-anew : goal.returns-in-Ok-clause-anew
-returns-in-Ok-clause-anew g c =
+pub returns-in-Ok-clause-made : goal.returns-in-Ok-clause-made
+returns-in-Ok-clause-made g c =
     let s : View = g.A.BuilderArena.view c.args.arena.now in
     let b : View = g.A.BuilderArena.view c.begin_list.new.arena in
     let p : View = g.A.BuilderArena.view c.fill_rows.new.arena in
@@ -101,6 +53,8 @@ returns-in-Ok-clause-anew g c =
     let set : OnlyWrites p r = record { limits = c.settle.ensures.limits; segments = settled.segments; words = settled.words } in
     let zeroed = pruned_writes r z c.zero_part.ensures.limits c.zero_part.ensures.pruned in
     let cleared = pruned_writes z q c.zero_pads.ensures.limits c.zero_pads.ensures.pruned in
+    let last = writes_both p r q set (writes_both r z q zeroed cleared) in
+    let begun : length s.words ≤ length b.words = omega (arith, room.0.grows.segments, tagged.segments) in
     let steps : ListSteps s.words T b.words d.words p.words r.words z.words q.words c.args.id c.args.at c.args.old c.args.size c.in_ok-room.room = record {
       place = c.requires.place;
       room = room;
@@ -112,24 +66,32 @@ returns-in-Ok-clause-anew g c =
       pads_zeroed = rw c.word_of-pointer.ensures at c.zero_pads.ensures.zeroed;
       wider = (c.requires.data, c.requires.pointers);
     } in
-    rows_anew s b d p r z q T c.args.id c.args.at c.args.old c.args.size c.in_ok-room.room steps (record {
-      kept = c.in_ok-room.ensures.granted;
-      taken = c.in_ok-room.ensures.words;
-      behind = c.in_ok-room.ensures.behind;
-      first = filled.only;
-      written = filled.written;
-      last = writes_both p r q set (writes_both r z q zeroed cleared);
-    })
+    record {
+      remade = rows_remade s.words T b.words d.words p.words r.words z.words q.words c.args.id c.args.at c.args.old c.args.size c.in_ok-room.room steps;
+      anew = rows_anew s b d p r z q T c.args.id c.args.at c.args.old c.args.size c.in_ok-room.room steps (record {
+        kept = c.in_ok-room.ensures.granted;
+        taken = c.in_ok-room.ensures.words;
+        behind = c.in_ok-room.ensures.behind;
+        first = filled.only;
+        written = filled.written;
+        last = last;
+      });
+      granted = keeps_both s p q (omega (arith, begun, c.fill_rows.ensures.longer.segments)) (keeps_both s b p begun c.in_ok-room.ensures.granted c.in-Ok.ensures.granted) (keeps_writes p q last);
+      memory = tt;
+      refused = tt;
+    }
 
-pub returns-in-Err-clause-refused : goal.returns-in-Err-clause-refused
-returns-in-Err-clause-refused g c =
-    let S : Segments = (g.A.BuilderArena.view c.args.arena.now).words in
-    let B : Segments = (g.A.BuilderArena.view c.begin_list.new.arena).words in
-    let U : Segments = (g.A.BuilderArena.view c.fill_rows.new.arena).words in
-    let Z : Segments = (g.A.BuilderArena.view c.zero_part-in-Err.new.arena).words in
+pub returns-in-Err-clause-made : goal.returns-in-Err-clause-made
+returns-in-Err-clause-made g c =
+    let s : View = g.A.BuilderArena.view c.args.arena.now in
+    let b : View = g.A.BuilderArena.view c.begin_list.new.arena in
+    let u : View = g.A.BuilderArena.view c.fill_rows.new.arena in
+    let z : View = g.A.BuilderArena.view c.zero_part-in-Err.new.arena in
+    let k = c.in-Err.k in
     let (T, room, tagged) = c.in_ok-room.ensures.begun in
     let (D, P, copied, some, unmoves) = c.in-Err.ensures.undone in
-    let steps : ListUndone S T B D P U Z c.args.id c.args.old c.args.size c.in_ok-room.room = record {
+    let begun : length s.words ≤ length b.words = omega (arith, room.0.grows.segments, tagged.segments) in
+    let steps : ListUndone s.words T b.words D P u.words z.words c.args.id c.args.old c.args.size c.in_ok-room.room = record {
       room = room;
       tagged = tagged;
       copied = copied;
@@ -138,11 +100,25 @@ returns-in-Err-clause-refused g c =
       zeroed = rw (c.from-in-Err.ensures, c.total.ensures) at c.zero_part-in-Err.ensures.zeroed;
       wider = (c.requires.data, c.requires.pointers);
     } in
-    rows_left S T B D P U Z c.args.id c.args.at c.args.old c.args.size c.in_ok-room.room steps
+    record {
+      remade = tt;
+      anew = tt;
+      granted = tt;
+      memory = spends_then_limits s u z k (keeps_then_spends s b u k begun c.in_ok-room.ensures.granted c.in-Err.ensures.memory) c.zero_part-in-Err.ensures.limits;
+      refused = rows_left s.words T b.words D P u.words z.words c.args.id c.args.at c.args.old c.args.size c.in_ok-room.room steps;
+    }
 
-pub returns-in_err-room-clause-refused : goal.returns-in_err-room-clause-refused
-returns-in_err-room-clause-refused g c =
-    let p = err_from_is_err_and c.from_residual.result c.from_residual.ensures.1 in rw p.1 (λ t i. nothing_grown (g.A.BuilderArena.view c.args.arena.now).words (g.A.BuilderArena.view c.begin_list.new.arena).words c.in_err-room.ensures.refused)
+pub returns-in_err-room-clause-made : goal.returns-in_err-room-clause-made
+returns-in_err-room-clause-made g c =
+    let p = err_from_is_err_and c.from_residual.result c.from_residual.ensures.1 in
+    let e = c.in_err-room.ensures in
+    rw (p.1, p.2) (record {
+      remade = tt;
+      anew = tt;
+      granted = tt;
+      memory = e.memory;
+      refused = λ t i. nothing_grown (g.A.BuilderArena.view c.args.arena.now).words (g.A.BuilderArena.view c.begin_list.new.arena).words e.refused;
+    })
 
 pub returns-in-Err-clause-full : goal.returns-in-Err-clause-full
 returns-in-Err-clause-full g c =

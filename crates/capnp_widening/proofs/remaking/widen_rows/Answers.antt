@@ -1,9 +1,11 @@
 use Rattle.std.proofs.Common.{◌≡◌, ◌∙◌, ◌≤◌, ◌+◌, ◌*◌, ◌^◌, ℕ, Err, inl, refl, sym, ap₂, subst, arith, rules}
 use Rattle.capnp_words.specs.declared.error.ErrorKind.TheVariants.{MessageTooLarge}
+use Rattle.capnp_arena.specs.View.{View}
 use Rattle.capnp_widening.specs.RowsRemade.{as_structs}
 use Rattle.capnp_widening.specs.Widened.{limited}
 use Rattle.capnp_widening.proofs.AnyRows.{rows_inside}
 use Rattle.capnp_widening.proofs.Listed.{too_many}
+use Rattle.capnp_widening.proofs.StructSteps.{nothing_grown}
 use Rattle.capnp_widening.proofs.Unspent.{too_large_spent, outside_spent}
 use Rattle.capnp_widening.proofs.ListRooms.{rows_small}
 use Rattle.capnp_widening.proofs.remaking.widen_rows.Goals as goal
@@ -21,12 +23,6 @@ returns-then-words-ge536870912-clause-named g c =
 pub returns-then-not-are_inside-clause-named : goal.returns-then-not-are_inside-clause-named
 returns-then-not-are_inside-clause-named g c = inl (refl, λ t h. absurd (search (rules, rows_inside _ c.args.id c.args.at t c.args.old h)))
 
-pub returns-then-words-ge536870912-clause-memory : goal.returns-then-words-ge536870912-clause-memory
-returns-then-words-ge536870912-clause-memory g c = too_large_spent (g.A.BuilderArena.view c.args.arena.now) 0
-
-pub returns-then-not-are_inside-clause-memory : goal.returns-then-not-are_inside-clause-memory
-returns-then-not-are_inside-clause-memory g c = outside_spent (g.A.BuilderArena.view c.args.arena.now)
-
 -- Words for which there is room are few enough.
 pub returns-then-words-ge536870912-clause-fits : goal.returns-then-words-ge536870912-clause-fits
 returns-then-words-ge536870912-clause-fits g c = λ inside h.
@@ -39,3 +35,14 @@ returns-then-words-ge536870912-clause-fits g c = λ inside h.
 
 pub returns-then-not-are_inside-clause-fits : goal.returns-then-not-are_inside-clause-fits
 returns-then-not-are_inside-clause-fits g c = λ inside h. absurd (search (rules, inside))
+
+-- Nothing is changed then.
+pub returns-then-words-ge536870912-clause-made : goal.returns-then-words-ge536870912-clause-made
+returns-then-words-ge536870912-clause-made g c =
+    let v : View = g.A.BuilderArena.view c.args.arena.now in
+    record { remade = tt; anew = tt; granted = tt; memory = too_large_spent v 0; refused = λ t h. nothing_grown v.words _ refl }
+
+pub returns-then-not-are_inside-clause-made : goal.returns-then-not-are_inside-clause-made
+returns-then-not-are_inside-clause-made g c =
+    let v : View = g.A.BuilderArena.view c.args.arena.now in
+    record { remade = tt; anew = tt; granted = tt; memory = outside_spent v; refused = λ t h. nothing_grown v.words _ refl }
