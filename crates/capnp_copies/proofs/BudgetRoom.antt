@@ -1,5 +1,5 @@
 -- Under a budget for which the segment of the place has room, a copy comes to no object for which there is none.
-use Rattle.std.proofs.Common.{◌≡◌, Bool, inl, inr, ℕ, zero, suc, pred, ◌+◌, ◌≤◌, List, take, drop, length-take, subst, sym, arith}
+use Rattle.std.proofs.Common.{◌≡◌, inl, inr, ℕ, zero, suc, pred, ◌+◌, ◌≤◌, List, take, drop, length-take, subst, arith}
 use Rattle.capnp_words.specs.declared.wire_pointer.StructSize.{StructSize}
 use Rattle.capnp_words.specs.Meter.{Meter, Affords}
 use Rattle.capnp_format.specs.Segments.{Target, segment, words_at}
@@ -12,18 +12,14 @@ use Rattle.capnp_objects.specs.Reading.{Reading, segment_read, tag_size}
 use Rattle.capnp_objects.specs.Refusals.{StopsWithin, here, below}
 use Rattle.capnp_objects.specs.Wanted.{Form, canonical}
 use Rattle.capnp_objects.specs.declared.object.Purpose.TheVariants.{Value}
-use Rattle.capnp_objects.proofs.Budgets.{affords_none, affords_rest, after_none}
 use Rattle.capnp_objects.proofs.Objects.{own_struct, own_flat, own_pointers, own_structs}
+use Rattle.capnp_objects.proofs.Refusals.{affords_less}
 use Rattle.capnp_copies.specs.Changes.{IsMadeOf, as_struct, as_numbers, as_pointers, as_structs, WantsWords}
 use Rattle.capnp_copies.specs.Costs.{spent_before, spent_until}
 use Rattle.capnp_copies.specs.Rooms.{BudgetHasRoom}
 use Rattle.capnp_copies.specs.Widths.{most_used, widths_kept}
 use Rattle.capnp_copies.proofs.DataSections.{kept_count-le}
 use Rattle.capnp_copies.proofs.Growth.{covered_below, covered_by, no_wider}
-
--- What covers so much covers less.
-pub covers_less : (charging : Bool) (m : Meter) (n c : ℕ) → n ≤ c → Affords charging m c → Affords charging m n
-covers_less charging m n c le covers = affords_rest {r = 0} n c (record { covers = affords_none charging m; spent = sym (after_none charging m) }) (omega arith) covers
 
 -- A copy keeps no more of an element than there is.
 most_used-le : (ws : List ℕ) (p words stride n : ℕ) → most_used ws p words stride n ≤ words
@@ -57,7 +53,7 @@ made_within_own {form} {r} {a = a} o (as_structs (z, seven) e) =
 
 -- All that is spent until an object is made is covered.
 covered_wanted : {form : Form} (n : ℕ) {r : Reading} {m m' : Meter} (off : StopsWithin form (WantsWords form n) r m m') → Affords r.charging m ((spent_until off).words + n)
-covered_wanted n {r = r} {m} (here stops) = covers_less r.charging m (0 + n) (own Value r.segments stops.0) (omega (arith, made_within_own stops.1 stops.2)) stops.1.covers
+covered_wanted n {r = r} {m} (here stops) = affords_less r.charging m (0 + n) (own Value r.segments stops.0) (omega (arith, made_within_own stops.1 stops.2)) stops.1.covers
 covered_wanted n {r = r} {m} (below a q o before rest) =
     let x = covered_below ((spent_until rest).words + n) 0 o before (covered_wanted n rest, omega arith) in
     let sum : own Value r.segments a + ((spent_before before).words + ((spent_until rest).words + n)) ≡ own Value r.segments a + ((spent_before before).words + (spent_until rest).words) + n = omega arith in

@@ -7,6 +7,7 @@ use Rattle.capnp_format.specs.Tree.{Trees, Elements, no_elements, element, count
 use Rattle.capnp_format.specs.Canonical.{used_words, take_trees, cut_to, trim_each, trim_elements, word_count_all, word_count_elements, pointers, rows, bodies, element_bodies}
 use Rattle.capnp_words.specs.Meter.{Meter}
 use Rattle.capnp_arena.specs.Written.{overwritten}
+use Rattle.capnp_objects.proofs.Walked.{row_within}
 use Rattle.capnp_copies.specs.Copied.{with_children, rows_laid}
 use Rattle.capnp_copies.proofs.Scanning.{pointers_used, next_used}
 use Rattle.capnp_copies.proofs.Shapes.{AreShapedElements, length-rows, length-element_bodies}
@@ -60,10 +61,6 @@ pub record SourceFits (r : Reading) (size least : StructSize) (n : ℕ) : Type 0
   pub used : pointers_used (segment_read r) r.at size.data_words size.pointers n ≤ least.pointers
   pub less : least.pointers ≤ size.pointers
 
--- how far a row is from the end of all
-row_ends : (j i w : ℕ) → j < i → j * w + w ≤ i * w
-row_ends j i w less = let f : suc j * w ≤ i * w = grind arith in omega (arith, f)
-
 pub another : {r : Reading} {size least : StructSize} {i : ℕ} {m m' m'' : Meter} {es : Elements} {ts : Trees} → SourceFits r size least i → (read : ReadsElements canonical r size m m' es) → element_count es < i → count ts ≡ least.pointers →
     (last : ReadsAll canonical (pointers_of r size (element_count es)) m' m'' ts) → Another r size least m m'' es ts (read.cost + last.cost) (pointers_in_elements es + pointers_in_all ts)
 unfolding read_element
@@ -72,7 +69,7 @@ another {r} {size} {least} {i} {m} {m'} {m''} {es} {ts} fits all less len one =
     let q : ℕ = size.pointers in
     let j : ℕ = element_count es in
     let at : ℕ = r.at + j * (d + q) + d in
-    let room : at + q ≤ length (segment_read r) = omega (arith, row_ends j i (d + q) less, fits.inside) in
+    let room : at + q ≤ length (segment_read r) = omega (arith, row_within j i (d + q) less, fits.inside) in
     let f = fill_nulls q one (omega (arith, fits.less)) (λ k a b. null_behind (pointers_of r size j) q k (omega (arith, pointers_within (segment_read r) r.at size i j less, fits.used)) b) in
     let ws : List ℕ = words_at r.segments r.segment (r.at + j * (d + q)) d in
     record {
@@ -103,10 +100,6 @@ rows-with_last d q k (element vs us es) ws ts =
 element_bodies-with_last : (es : Elements) (ws : List ℕ) (ts : Trees) → element_bodies (with_last_element es ws ts) ≡ element_bodies es ++ bodies ts
 element_bodies-with_last no_elements ws ts = append-nil (bodies ts)
 element_bodies-with_last (element vs us es) ws ts = ap (λ xs. bodies us ++ xs) (element_bodies-with_last es ws ts) ∙ sym (append_assoc (bodies us) (element_bodies es) (bodies ts))
-
-pub words-with_last : (es : Elements) (ws : List ℕ) (ts : Trees) → word_count_elements (with_last_element es ws ts) ≡ word_count_elements es + word_count_all ts
-words-with_last no_elements ws ts = omega arith
-words-with_last (element vs us es) ws ts = omega (arith, words-with_last es ws ts)
 
 over : {n : ℕ} (A Z B us : List ℕ) → length A ≡ n → length us ≤ length Z → overwritten (A ++ Z ++ B) n us ≡ A ++ us ++ (drop (length us) Z ++ B)
 over {n} A Z B us l fits =

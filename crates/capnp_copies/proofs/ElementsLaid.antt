@@ -9,16 +9,12 @@ use Rattle.capnp_objects.specs.Outcomes.{MeanThere, ElementsMean}
 use Rattle.capnp_objects.specs.Reading.{Reading, behind, pointers_of}
 use Rattle.capnp_objects.specs.Wanted.{Form}
 use Rattle.capnp_copies.specs.declared.widths.ElementSizes.{ElementSizes}
-use Rattle.capnp_format.specs.Canonical.{take_trees, cut_to, trim_elements, word_count_all, word_count_elements, rows, element_bodies}
+use Rattle.capnp_format.specs.Canonical.{take_trees, cut_to, word_count_all, word_count_elements, rows, element_bodies}
 use Rattle.capnp_format.proofs.Levels.{one_value}
-use Rattle.capnp_format.proofs.Trimming.{cut_to-count, trim_elements-count}
 use Rattle.capnp_copies.specs.Copied.{rows_laid}
 use Rattle.capnp_copies.specs.Forms.{kept_each}
 use Rattle.capnp_copies.proofs.KeptChildren.{cut_kept, kept_no_elements, words_of_first}
 use Rattle.capnp_copies.proofs.Shapes.{AreShapedElements, length-rows, length-element_bodies}
-
-pub cut_count : (e r : ℕ) (es : Elements) → element_count (cut_to e r (trim_elements es)) ≡ element_count es
-cut_count e r es = cut_to-count e r (trim_elements es) ∙ trim_elements-count es
 
 -- the beginning
 

@@ -17,6 +17,7 @@ use Rattle.capnp_objects.specs.Refusals.{RefusedAll}
 use Rattle.capnp_objects.specs.Reading.{Reading, behind, segment_read, words_from, pointers_of}
 use Rattle.capnp_objects.specs.Wanted.{Form, canonical}
 use Rattle.capnp_objects.proofs.Copies.{read_no_element, with_last_element}
+use Rattle.capnp_objects.proofs.Walked.{row_within}
 use Rattle.capnp_copies.specs.Changes.{change, CopiesChildren, StopsAtChildren, CopiesElement, StopsAtElement, CopiesRows, StopsAtElements}
 use Rattle.capnp_copies.specs.Forms.{kept_each, kept_elements}
 use Rattle.capnp_copies.specs.declared.widths.ElementSizes.{ElementSizes}
@@ -139,9 +140,6 @@ pub record AtRow (r : Reading) (sizes : ElementSizes) (n i : ℕ) (b : Form) (s 
   pub more : i < n
   pub rows : CopiesRows r sizes i (n - i) (change b s p old mid m m')
 
-pub row_end : (j n w : ℕ) → j < n → j * w + w ≤ n * w
-row_end j n w less = let f : suc j * w ≤ n * w = grind arith in omega (arith, f)
-
 module _ {r : Reading} {sizes : ElementSizes} {n i : ℕ} {b : Form} {s p : ℕ} {old mid : View} {m m' : Meter} (here : AtRow r sizes n i b s p old mid m m') where
   abbrev pub d : ℕ
   d = sizes.kept.data_words
@@ -159,26 +157,26 @@ module _ {r : Reading} {sizes : ElementSizes} {n i : ℕ} {b : Form} {s p : ℕ}
   rows_before = ap (λ j. j * (d + q)) counted
 
   rows_room : p + element_count laid * (d + q) ≤ length (segment old.words s)
-  rows_room = omega (arith, rows_before, row_end i n (d + q) here.more, here.room)
+  rows_room = omega (arith, rows_before, row_within i n (d + q) here.more, here.room)
 
   pub rows_grow : Grows old.words mid.words
   rows_grow = elements_grow old.words mid.words s p d q laid here.rows.made rows_room
 
   pub next_room : p + i * (d + q) + (d + q) ≤ length (segment mid.words s)
-  next_room = omega (arith, row_end i n (d + q) here.more, here.room, rows_grow.words s)
+  next_room = omega (arith, row_within i n (d + q) here.more, here.room, rows_grow.words s)
 
   row_place : IsPlace old.words s p
-  row_place = omega (arith, row_end i n (d + q) here.more, here.room, here.wide)
+  row_place = omega (arith, row_within i n (d + q) here.more, here.room, here.wide)
 
   pub next_null : (j : ℕ) → j < q → word_at mid.words s (p + i * (d + q) + d + j) ≡ 0
   next_null j l =
-      let end = row_end i n (d + q) here.more in
+      let end = row_within i n (d + q) here.more in
       let same : p + i * (d + q) + d + j ≡ p + (i * (d + q) + d + j) = omega arith in
       elements_ahead old.words mid.words s p d q laid (p + i * (d + q) + d + j) here.rows.made (omega (arith, rows_before)) (omega (arith, end, here.room))
       ∙ ap (word_at old.words s) same ∙ here.zero (i * (d + q) + d + j) (omega (arith, end))
 
   pub next_inside : r.at + i * (sizes.source.data_words + sizes.source.pointers) + (sizes.source.data_words + sizes.source.pointers) ≤ length (segment_read r)
-  next_inside = omega (arith, row_end i n (sizes.source.data_words + sizes.source.pointers) here.more, here.fits.inside)
+  next_inside = omega (arith, row_within i n (sizes.source.data_words + sizes.source.pointers) here.more, here.fits.inside)
 
   abbrev next_words : List ℕ
   next_words = words_from (behind r (i * (sizes.source.data_words + sizes.source.pointers))) d

@@ -37,7 +37,7 @@ use Rattle.capnp_copies.specs.Rooms.{CanBeCopied}
 use Rattle.capnp_copies.specs.Originals.{value_original, sections_original, pointers_original, structs_original}
 use Rattle.capnp_copies.proofs.DataSections.{kept_count-le}
 use Rattle.capnp_copies.proofs.FilledObjects.{nothing_left}
-use Rattle.capnp_copies.proofs.FlatRead.{flat_words}
+use Rattle.capnp_copies.proofs.FlatRead.{word_count-flat}
 use Rattle.capnp_copies.proofs.NoRoom.{entered_comes, struct_value_comes, pointers_value_comes, structs_value_comes}
 use Rattle.capnp_copies.proofs.TooLarge.{struct_value_too_large, pointers_value_too_large, structs_value_too_large, flat_too_large}
 use Rattle.capnp_copies.proofs.Originals.{halfway, refused_rightly, sections_beyond, pointers_beyond, structs_beyond}
@@ -251,7 +251,7 @@ flat_stops b (Ok x) start size object words part (place, null) f = tt
 flat_stops {s = s} {p = p} {i = i} {old = old} {new = new} {m = m} {m' = m'} {ws = ws} b (Err k) start size (a, o, z, small, held, ez, ei) words part (place, null) f =
     let full : HasOwnRoom old s (word_count (Flat (size_number size) (unpacked (size_number size) i ws))) → ⊥ = λ room. (let is = f.fits room in cc is) in
     halfway (inl (
-      inr (entered_comes {n = words_for (size_number size) i} (change b s p old new m m') k o (as_numbers z small (ap₂ words_for ez ei)) refl (f.refused, omega (arith, full, flat_words (size_number size) i ws))),
+      inr (entered_comes {n = words_for (size_number size) i} (change b s p old new m m') k o (as_numbers z small (ap₂ words_for ez ei)) refl (f.refused, omega (arith, full, word_count-flat (size_number size) i ws))),
       flat_too_large b (length (segment old.words s)) (old.room s) (flat_read_in b start size (a, o, z, small, held, ez, ei) words part) (λ room. full (omega (arith, room, ap word_count (kept_flat b (size_number size) (unpacked (size_number size) i ws))))),
     )) ((Null, nothing_left old.words new.words s p place null f.kept), f.memory)
 

@@ -1,10 +1,11 @@
 -- What a copy keeps of children, and of elements: as many as there were, and of the same sizes.
-use Rattle.std.proofs.Common.{◌≡◌, ℕ, ◌+◌, List, refl, ap, ◌∙◌, arith}
+use Rattle.std.proofs.Common.{◌≡◌, ℕ, ◌+◌, List, refl, ap, ◌∙◌}
 use Rattle.capnp_format.specs.Tree.{Tree, Pointers, Trees, no_trees, tree, Elements, no_elements, element, count, element_count}
 use Rattle.capnp_format.specs.Canonical.{take_trees, cut_to, word_count, word_count_all, word_count_elements}
 use Rattle.capnp_format.proofs.Children.{with_last}
 use Rattle.capnp_format.proofs.Trimming.{trim_each-count, trim_elements-count, cut_to-count}
 use Rattle.capnp_objects.specs.Wanted.{Form, canonical}
+use Rattle.capnp_objects.proofs.Walked.{words-with_last}
 use Rattle.capnp_copies.specs.Forms.{kept, kept_each, kept_elements}
 use Rattle.capnp_copies.specs.declared.widths.ElementSizes.{ElementSizes}
 use Rattle.capnp_copies.proofs.ChildrenCopied.{trim_each-with_last}
@@ -37,12 +38,8 @@ pub kept_each-shaped : (b : Form) (ts : Trees) → AreShaped ts → AreShaped (k
 kept_each-shaped canonical ts v = trim_each-shaped ts v
 kept_each-shaped _ ts v = v
 
-words_last : (ts : Trees) (u : Tree) → word_count_all (with_last ts u) ≡ word_count_all ts + word_count u
-words_last no_trees u = omega arith
-words_last (tree t ts) u = omega (arith, words_last ts u)
-
-pub words-with_last : (b : Form) (ts : Trees) (u : Tree) → word_count_all (kept_each b (with_last ts u)) ≡ word_count_all (kept_each b ts) + word_count (kept b u)
-words-with_last b ts u = ap word_count_all (kept_each-with_last b ts u) ∙ words_last (kept_each b ts) (kept b u)
+pub kept_words-with_last : (b : Form) (ts : Trees) (u : Tree) → word_count_all (kept_each b (with_last ts u)) ≡ word_count_all (kept_each b ts) + word_count (kept b u)
+kept_words-with_last b ts u = ap word_count_all (kept_each-with_last b ts u) ∙ words-with_last (kept_each b ts) (kept b u)
 
 pub take_trees-kept : (b : Form) (n : ℕ) (ts : Trees) → take_trees n (kept_each b ts) ≡ kept_each b (take_trees n ts)
 take_trees-kept canonical n ts = take_trees-trim n ts

@@ -13,10 +13,11 @@ use Rattle.capnp_making.specs.Filled.{AreElementsFilled}
 use Rattle.capnp_making.proofs.WordsPut.{none_over}
 use Rattle.capnp_objects.specs.Outcomes.{ReadsAll, ReadsElements, MeanThere, ElementsMean}
 use Rattle.capnp_objects.specs.Refusals.{StopsAmong}
-use Rattle.capnp_objects.specs.Reading.{Reading, behind, sized, segment_read, words_from, pointers_of}
+use Rattle.capnp_objects.specs.Reading.{Reading, segment_read, words_from, pointers_of}
 use Rattle.capnp_objects.specs.Spending.{pointers_in_all, pointers_in_elements}
 use Rattle.capnp_objects.specs.Wanted.{Form, canonical}
 use Rattle.capnp_objects.proofs.Copies.{with_last_element, count-with_last_element, pointers_in-with_last_element, read_element, read_none, read_no_element}
+use Rattle.capnp_objects.proofs.Walked.{row_within}
 use Rattle.capnp_copies.specs.Widths.{KeepsPointers, widths_kept}
 use Rattle.capnp_copies.specs.Forms.{kept, kept_each, kept_elements}
 use Rattle.capnp_copies.specs.Originals.{kept_count}
@@ -25,7 +26,6 @@ use Rattle.capnp_copies.proofs.ElementsCopied.{SourceFits, another, pointers_wit
 use Rattle.capnp_copies.proofs.ElementsLaid.{words_taken}
 use Rattle.capnp_copies.proofs.KeptChildren.{cut_kept-count}
 use Rattle.capnp_copies.proofs.ListSteps.{AreLeast, trimmed_list}
-use Rattle.capnp_copies.proofs.StructSteps.{Uses, struct_filled}
 use Rattle.capnp_copies.proofs.UsedChildren.{used_children, means_taken, trim-struct}
 
 -- children
@@ -33,36 +33,6 @@ use Rattle.capnp_copies.proofs.UsedChildren.{used_children, means_taken, trim-st
 -- what stops among the first pointers stops among them all
 unfoldable pub stops_sooner : {form : Form} {P : Reading → Meter → Meter → Type 0} {r : Reading} {m m' : Meter} {q used : ℕ} → used ≤ q → StopsAmong form P r used m m' → StopsAmong form P r q m m'
 stops_sooner le h = record { first = h.first; fewer = omega (arith, h.fewer, le); mid = h.mid; are_read = h.are_read; stops = h.stops }
-
--- the sections that a copy in a form keeps of a struct
-
-abbrev pub KeepsSections : Form → Reading → StructSize → StructSize → Type 0
-KeepsSections canonical r size least = Uses r size least
-KeepsSections _ r size least = least ≡ size
-
-pub keeps_sections : (b : Form) (r : Reading) (size least : StructSize) → r.at + (size.data_words + size.pointers) ≤ length (segment_read r) → least.data_words ≡ kept_count b (words_from r size.data_words) →
-    least.pointers ≡ kept_count b (words_from (behind r size.data_words) size.pointers) → least.data_words ≤ size.data_words → least.pointers ≤ size.pointers → KeepsSections b r size least
-keeps_sections canonical r size least inside wide many less_data less_pointers = record { of_data = wide; of_pointers = many; less_data = less_data; less_pointers = less_pointers }
-keeps_sections _ r size least inside wide many less_data less_pointers =
-    ap₂ sized (wide ∙ length_words r.segments r.segment r.at size.data_words (omega (arith, inside))) (many ∙ length_words r.segments r.segment (r.at + size.data_words) size.pointers (omega (arith, inside)))
-
--- a struct, of which the kept pointers were read
-
-pub record StructKept (b : Form) (r : Reading) (size least : StructSize) (m m' : Meter) (ts : Trees) : Type 0 where
-  pub all : Trees
-  pub counts : count all ≡ size.pointers
-  pub are_read : ReadsAll b (behind r size.data_words) m m' all
-  pub form : kept b (Struct (words_from r size.data_words) all) ≡ Struct (words_from r least.data_words) (kept_each b ts)
-
-pub struct_kept : (b : Form) (r : Reading) (size least : StructSize) (m m' : Meter) (ts : Trees) → r.at + (size.data_words + size.pointers) ≤ length (segment_read r) → KeepsSections b r size least → count ts ≡ least.pointers →
-    ReadsAll b (behind r size.data_words) m m' ts → StructKept b r size least m m' ts
-struct_kept canonical r size least m m' ts inside uses len all =
-    let f = struct_filled inside uses len all in
-    let ws : List ℕ = words_from r size.data_words in
-    let section : take (used_words ws) ws ≡ words_from r least.data_words = ap (λ i. take i ws) (sym uses.of_data) ∙ words_taken r.segments r.segment r.at least.data_words size.data_words uses.less_data in
-    record { all = f.all; counts = f.counts; are_read = f.are_read; form = f.form ∙ ap (λ xs. Struct xs (trim_each ts)) section }
-struct_kept _ r size least m m' ts inside same len all =
-    record { all = ts; counts = len ∙ ap (λ s. s.pointers) same; are_read = all; form = ap (λ s. Struct (words_from r s.data_words) ts) (sym same) }
 
 take_count : (ts : Trees) → take_trees (count ts) ts ≡ ts
 take_count no_trees = refl
@@ -96,14 +66,6 @@ sections_meant _ {ws} {r} {q} {least} us c cut len all =
     let whole : take_trees least.pointers us ≡ us = ap (λ i. take_trees i us) (sym counts) ∙ take_count us in
     record { counts = ap count whole ∙ counts; means = subst (λ ts. MeanThere r ts c) (sym whole) all; words = omega (arith, cut.of_data, counts, ap word_count_all whole) }
 
-pub sections_cut : (b : Form) (r : Reading) (size least : StructSize) → r.at + (size.data_words + size.pointers) ≤ length (segment_read r) → KeepsSections b r size least → SectionsCut b (words_from r size.data_words) (behind r size.data_words) size.pointers least
-sections_cut canonical r size least inside uses = record { inside = omega (arith, inside); of_data = uses.of_data; of_pointers = uses.of_pointers }
-sections_cut _ r size least inside same = record {
-  inside = omega (arith, inside);
-  of_data = ap (λ s. s.data_words) same ∙ sym (length_words r.segments r.segment r.at size.data_words (omega (arith, inside)));
-  of_pointers = ap (λ s. s.pointers) same ∙ sym (length_words r.segments r.segment (r.at + size.data_words) size.pointers (omega (arith, inside)));
-}
-
 -- elements
 
 cut_same : (S : Segments) (n s p d q : ℕ) (es : Elements) (c : ℕ) → MeansElements S n s p d q es c → cut_to d q es ≡ es
@@ -129,9 +91,6 @@ words_of_kept_list b r size least i es c inside widths len all =
     ap word_count (list_kept b r size least es c (subst (λ k. r.at + k * (size.data_words + size.pointers) ≤ length (segment_read r)) (sym len) inside) (subst (λ k. KeepsWidths b r size k least) (sym len) widths) all)
     ∙ ap (λ j. 1 + j * (least.data_words + least.pointers) + word_count_elements (cut_to least.data_words least.pointers (kept_elements b es))) (cut_kept-count b least.data_words least.pointers es ∙ len)
 
-row_end : (j n w : ℕ) → j < n → j * w + w ≤ n * w
-row_end j n w less = let f : suc j * w ≤ n * w = grind arith in omega (arith, f)
-
 -- The n elements lie in the source, and no section that is used is cut.
 pub record SourceKept (b : Form) (r : Reading) (sizes : ElementSizes) (n : ℕ) : Type 0 where
   pub inside : r.at + n * (sizes.source.data_words + sizes.source.pointers) ≤ length (segment_read r)
@@ -145,7 +104,7 @@ pub row_kept : (b : Form) (r : Reading) (sizes : ElementSizes) (n j : ℕ) (us :
 row_kept canonical r sizes n j us c fits less len all =
     let d : ℕ = sizes.source.data_words in
     let q : ℕ = sizes.source.pointers in
-    let end = row_end j n (d + q) less in
+    let end = row_within j n (d + q) less in
     let u = used_children (pointers_of r sizes.source j) us c (omega (arith, end, fits.inside)) len all in
     means_taken (pointers_of r sizes.source j) us c sizes.kept.pointers (omega (arith, u, pointers_within (segment_read r) r.at sizes.source n j less, fits.used)) all
 row_kept _ r sizes n j us c fits less len all =
@@ -192,7 +151,7 @@ one_more _ r sizes n m m' m'' es ts fits all less len one =
     let j : ℕ = element_count es in
     let ws : List ℕ = words_at r.segments r.segment (r.at + j * (d + q)) d in
     let same : sizes.kept ≡ sizes.source = fits.used in
-    let end = row_end j n (d + q) less in
+    let end = row_within j n (d + q) less in
     record {
       all = with_last_element es ws ts;
       counts = count-with_last_element es ws ts;

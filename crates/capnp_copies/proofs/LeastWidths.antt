@@ -1,12 +1,11 @@
 -- How wide the elements that stand in a segment are, by its words.
-use Rattle.std.proofs.Common.{◌≡◌, ℕ, suc, ◌+◌, ◌*◌, ◌<◌, ◌≤◌, max, nat_eq, ◌∷◌, length, take, refl, sym, ap, ap₂, ◌∙◌, arith, eq-eqb, ne_eqb}
-use Rattle.std.proofs.lemmas.List.{drop_more}
-use Rattle.capnp_format.specs.Segments.{Segments, segment, word_at, words_at}
+use Rattle.std.proofs.Common.{◌≡◌, ℕ, ◌+◌, ◌*◌, ◌≤◌, max, nat_eq, length, refl, sym, ap, ap₂, ◌∙◌, arith, eq-eqb, ne_eqb}
 use Rattle.capnp_format.specs.Tree.{Tree, Null, Capability, Struct, Flat, Pointers, Structs, Trees, no_trees, tree, Elements, no_elements, element, count, element_count}
 use Rattle.capnp_words.specs.declared.wire_pointer.StructSize.{StructSize}
 use Rattle.capnp_objects.specs.Outcomes.{MeansThere, MeanThere, ElementsMean}
 use Rattle.capnp_objects.specs.Reading.{Reading, behind, segment_read, word_of, words_from}
 use Rattle.capnp_format.specs.Canonical.{used_from, used_words, is_null, used_trees, data_width, pointer_width}
+use Rattle.capnp_readers.proofs.Used.{words_at-more}
 use Rattle.capnp_copies.specs.Widths.{most_used}
 use Rattle.capnp_copies.proofs.Scanning.{data_used, pointers_used}
 
@@ -18,9 +17,6 @@ means_is_null r (Struct ws ts) c (a, k, some, o, claim, e, all, g) = ne_eqb (wor
 means_is_null r (Flat size ns) c (a, some, small, o, claim, e, g) = ne_eqb (word_of r) 0 o.leads_to.0
 means_is_null r (Pointers ts) c (a, k, some, o, claim, all, g) = ne_eqb (word_of r) 0 o.leads_to.0
 means_is_null r (Structs d q es) c (a, m, k, some, o, claim, tag, fits, all, g) = ne_eqb (word_of r) 0 o.leads_to.0
-
-words_at-more : (S : Segments) (s p n : ℕ) → p < length (segment S s) → words_at S s p (suc n) ≡ word_at S s p ∷ words_at S s (p + 1) n
-words_at-more S s p n l = ap (take (suc n)) (drop_more (segment S s) p 0 l)
 
 -- so the children that are used are as many as the used words of the pointers
 pub used_where_meant : (r : Reading) (ts : Trees) (c : ℕ) → r.at + count ts ≤ length (segment_read r) → MeanThere r ts c → used_words (words_from r (count ts)) ≡ used_trees ts

@@ -22,13 +22,14 @@ use Rattle.capnp_objects.specs.Reading.{Reading, words_from, reading_at}
 use Rattle.capnp_objects.specs.declared.object.Place.{Place}
 use Rattle.capnp_objects.specs.Wanted.{Form}
 use Rattle.capnp_readers.specs.Sections.{IsPart, HasWordsFrom, elements_words}
+use Rattle.capnp_readers.proofs.Sections.{flat_words}
 use Rattle.capnp_copies.specs.Changes.{Change, change, StayInSegment, MakesCopy, StopsHalfway}
 use Rattle.capnp_copies.proofs.InPlace.{IsCopied}
 use Rattle.capnp_copies.specs.Forms.{kept}
 use Rattle.capnp_copies.specs.Originals.{numbers_original, list_original, FitsListPointer}
 use Rattle.capnp_copies.proofs.FilledObjects.{nothing_left}
 use Rattle.capnp_copies.proofs.FilledValues.{FlatOutcome, kept_flat}
-use Rattle.capnp_copies.proofs.FlatRead.{flat_words}
+use Rattle.capnp_copies.proofs.FlatRead.{word_count-flat}
 use Rattle.capnp_copies.proofs.Originals.{ExceedsRoom, halfway, list_exceeds}
 use Rattle.capnp_arena.specs.declared.arena.reader_arena.ReaderArena.{Ghosts}
 use Rattle.capnp_readers.specs.declared.readers.list_reader.ListReader.{ListReader}
@@ -66,16 +67,6 @@ few_numbers TwoBytes n width flat fits = fits
 few_numbers FourBytes n width flat fits = fits
 few_numbers EightBytes n width flat fits = fits
 
-number_words : (size : ElementSize) (n width : ℕ) → size_number size ≤ 5 → elements_words size n width ≡ words_for (size_number size) n
-number_words InlineComposite n width flat = absurd (omega (arith, flat))
-number_words Pointer n width flat = absurd (omega (arith, flat))
-number_words Void n width flat = refl
-number_words Bit n width flat = refl
-number_words Byte n width flat = refl
-number_words TwoBytes n width flat = refl
-number_words FourBytes n width flat = refl
-number_words EightBytes n width flat = refl
-
 -- So many words from a place on are held as bytes.
 pub record AreHeld (S : Segments) (start : Place) (n : ℕ) (bytes : List ℕ) : Type 0 where
   pub whole : length bytes ≡ 8 * length (words_of bytes)
@@ -99,7 +90,7 @@ words_held S start n bytes held part room =
 
 pub numbers_held : (S : Segments) (start : Place) (size : ElementSize) (n width : ℕ) (bytes : List ℕ) → size_number size ≤ 5 → IsHeld S start → IsPart start (8 * start.at) (64 * elements_words size n width) bytes → HasWordsFrom S start (elements_words size n width) →
     AreHeld S start (words_for (size_number size) n) bytes
-numbers_held S start size n width bytes flat held part room = subst (λ i. AreHeld S start i bytes) (number_words size n width flat) (words_held S start (elements_words size n width) bytes held part room)
+numbers_held S start size n width bytes flat held part room = subst (λ i. AreHeld S start i bytes) (flat_words size n width flat) (words_held S start (elements_words size n width) bytes held part room)
 
 -- what is made of them
 
@@ -129,5 +120,5 @@ pub numbers_stop : (size : ElementSize) (n : ℕ) (r : Reading) (c : Change) (by
 numbers_stop size n r c bytes (Ok x) stand (place, null) free f = tt
 numbers_stop size n r c bytes (Err k) stand (place, null) free f =
     let full : HasOwnRoom c.old c.segment (word_count (Flat (size_number size) (unpacked (size_number size) n (words_of bytes)))) → ⊥ = λ room. (let is = f.fits room in cc is) in
-    halfway (inl (inl (words_for (size_number size) n, free, refl, (f.refused, omega (arith, full, flat_words (size_number size) n (words_of bytes)))), numbers_exceed size n r c bytes stand full))
+    halfway (inl (inl (words_for (size_number size) n, free, refl, (f.refused, omega (arith, full, word_count-flat (size_number size) n (words_of bytes)))), numbers_exceed size n r c bytes stand full))
     ((Null, nothing_left c.old.words c.new.words c.segment c.at place null f.kept), f.memory)

@@ -21,6 +21,7 @@ use Rattle.capnp_objects.specs.Reading.{Reading}
 use Rattle.capnp_objects.specs.Spending.{after, Paid}
 use Rattle.capnp_objects.specs.Wanted.{Form, plain, canonical, of_default, BreaksObject}
 use Rattle.capnp_objects.specs.declared.object.Purpose.TheVariants.{Value}
+use Rattle.capnp_objects.proofs.Stops.{same_word}
 
 -- the start of an object, with so many levels
 abbrev pub inside : Reading → ℕ → Place → Reading
@@ -58,9 +59,6 @@ pub default_stopped : {r : Reading} (m m' : Meter) (i : ℕ) → IsObject Value 
 default_stopped {r} m m' i (a, l, low, e, covers, spent) = broken a l (omega (arith, low), inr refl) (pads_paid r.charging m m' a.pads covers spent)
 
 -- what is meant where an object was read
-
-same_word : (r : Reading) (b a : Target) → LeadsTo r b → LeadsTo r a → b.word ≡ a.word
-same_word r b a l m = ap (λ x. x.word) (same_target r.segments r.segment r.at l.1 m.1)
 
 abbrev pub MeansStruct : Segments → ℕ → Target → Tree → Type 0
 MeansStruct S n a t =

@@ -1,7 +1,7 @@
 -- Elements with padding of zero: by the last word alone.
-use Rattle.std.proofs.Common.{◌≡◌, ◌≢◌, bit_and, ℕ, zero, suc, ◌+◌, ◌-◌, ◌*◌, ◌/◌, ◌%◌, ◌^◌, ◌<◌, ◌≤◌, List, [], ◌∷◌, ◌++◌, length, get_or, set, take, drop, replicate, refl, sym, ap, ap₂, ◌∙◌, subst, arith, mul_comm, add_comm, mul-le-mul_left, mod-lt, pow-suc, pow-add, pow_pos, append-nil, length-take, take-append-drop, take_at, drop_at}
+use Rattle.std.proofs.Common.{◌≡◌, ◌≢◌, bit_and, ℕ, zero, suc, ◌+◌, ◌-◌, ◌*◌, ◌/◌, ◌%◌, ◌^◌, ◌<◌, ◌≤◌, List, [], ◌∷◌, ◌++◌, length, get_or, set, take, drop, replicate, refl, sym, ap, ap₂, ◌∙◌, subst, arith, mul_comm, mul-le-mul_left, mod-lt, pow-suc, pow-add, pow_pos, append-nil, length-take, take_at, drop_at}
 use Rattle.std.proofs.Math.Nat.{pow-zero, mod-one, mod-eq_of_lt, mod-le, mod-add-div}
-use Rattle.std.proofs.lemmas.Nat.{mod-mul-add, div-mul-add, and_mask, pow_below}
+use Rattle.std.proofs.lemmas.Nat.{and_mask, pow_below}
 use Rattle.std.proofs.lemmas.List.{length-replicate, drop_all, length-set, set-append_left, set-append_right}
 use Rattle.std.specs.Int.{from_le_bytes, w64}
 use Rattle.capnp_format.specs.Bytes.{words_of}
@@ -11,14 +11,9 @@ use Rattle.capnp_format.specs.Value.{AreBelow}
 use Rattle.capnp_format.proofs.Digits.{length-digits, digits-from_digits, from_digits-below}
 use Rattle.capnp_format.proofs.Lies.{pow_pow}
 use Rattle.capnp_arena.specs.Written.{overwritten, with_word, with_words, extended}
+use Rattle.capnp_making.proofs.FieldBytes.{low, high}
 
 -- remainders
-
-low : (b d x : ℕ) → d < b → (d + b * x) % b ≡ d
-low b d x l = ap (λ y. y % b) (add_comm d (b * x) ∙ ap (λ y. y + d) (mul_comm b x)) ∙ mod-mul-add x b d l
-
-high : (b d x : ℕ) → d < b → (d + b * x) / b ≡ x
-high b d x l = ap (λ y. y / b) (add_comm d (b * x) ∙ ap (λ y. y + d) (mul_comm b x)) ∙ div-mul-add x b d l
 
 regrouped : (a b m r k : ℕ) → a + b * (r + m * k) ≡ (a + b * r) + (b * m) * k
 regrouped a b m r k = omega arith
@@ -108,11 +103,6 @@ words_small (a ∷ b ∷ c ∷ d ∷ e ∷ f ∷ g ∷ h ∷ rest) l =
 words_small _ l = tt
 
 -- segments
-
-pub with_words_none : (S : Segments) (s p : ℕ) → with_words S s p [] ≡ S
-with_words_none [] s p = refl
-with_words_none (xs ∷ S) zero p = ap (λ ys. ys ∷ S) (take-append-drop p xs)
-with_words_none (xs ∷ S) (suc s) p = ap (λ T. xs ∷ T) (with_words_none S s p)
 
 -- The words ws have room in xs from position p on.
 pub record HasRoom (xs : List ℕ) (p : ℕ) (ws : List ℕ) : Type 0 where

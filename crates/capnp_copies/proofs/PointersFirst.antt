@@ -5,13 +5,15 @@ use Rattle.capnp_format.specs.Segments.{Segments, segment, word_at, IsPlace}
 use Rattle.capnp_format.specs.Tree.{Tree}
 use Rattle.capnp_format.specs.Canonical.{body, pointer, offset_to}
 use Rattle.capnp_arena.specs.Written.{with_segment, with_word, extended}
+use Rattle.capnp_arena.proofs.WordsOver.{segment_here}
+use Rattle.capnp_making.proofs.NearMade.{long_as}
 use Rattle.capnp_copies.specs.Copied.{copied}
-use Rattle.capnp_copies.proofs.Copying.{there, segment_written}
-use Rattle.capnp_copies.proofs.SegmentsWritten.{not_written, then_written, length-with_word}
+use Rattle.capnp_copies.proofs.Copying.{there}
+use Rattle.capnp_copies.proofs.SegmentsWritten.{not_written, then_written}
 
 -- the place is one still
 pub place_kept : (S : Segments) (s p x : ℕ) → IsPlace S s p → IsPlace (with_word S s p x) s p
-place_kept S s p x l = omega (arith, length-with_word S s p x, l)
+place_kept S s p x l = omega (arith, long_as S s p x, l)
 
 -- words before the first of four parts' end
 pub in_first : (A B C D : List ℕ) (i : ℕ) → i < length A → get_or (A ++ B ++ C ++ D) i 0 ≡ get_or A i 0
@@ -24,8 +26,8 @@ pub pointer_stays : (S : Segments) (s p x h : ℕ) (ws : List ℕ) → IsPlace S
 pointer_stays S s p x h ws l less inside =
     let W : List ℕ = segment S s in
     let P : Segments = with_word S s p x in
-    let is : segment P s ≡ set W p x = segment_written S s (set W p x) (there S s p l) in
-    let all : segment (extended P s ws) s ≡ set W p x ++ ws = segment_written P s (segment P s ++ ws) (there P s p (place_kept S s p x l)) ∙ ap (λ xs. xs ++ ws) is in
+    let is : segment P s ≡ set W p x = segment_here S s (set W p x) (there S s p l) in
+    let all : segment (extended P s ws) s ≡ set W p x ++ ws = segment_here P s (segment P s ++ ws) (there P s p (place_kept S s p x l)) ∙ ap (λ xs. xs ++ ws) is in
     get_or-take h (segment (extended P s ws) s) p 0 less ∙ ap (λ xs. get_or xs p 0) all ∙ get_or_append_left (set W p x) ws 0 p (omega (arith, length-set W p x, l)) ∙ get_or-set_same W p x 0 l
 
 -- the whole, with the pointer written again, is as if it were written last

@@ -1,10 +1,11 @@
 -- Writes to one segment, one after another.
 use Rattle.std.proofs.Common.{◌≡◌, ℕ, zero, suc, ◌+◌, ◌-◌, ◌<◌, ◌≤◌, List, [], ◌∷◌, ◌++◌, length, take, drop, replicate, refl, sym, ap, ap₂, ◌∙◌, arith, length-append, take_at, drop_at, length-take, set-set, get_or, get_or-drop}
-use Rattle.std.proofs.lemmas.Grind.{common_steps}
-use Rattle.std.proofs.lemmas.List.{length-replicate, length-set, drop-replicate, set-get_or, get_or-append_right}
+use Rattle.std.proofs.lemmas.List.{length-replicate, drop-replicate, set-get_or, get_or-append_right}
 use Rattle.capnp_format.specs.Segments.{Segments, segment, word_at}
-use Rattle.capnp_arena.specs.Written.{with_segment, overwritten, with_words, with_word, extended}
-use Rattle.capnp_copies.proofs.Copying.{segment_written, there}
+use Rattle.capnp_arena.specs.Written.{with_segment, overwritten, with_words, extended}
+use Rattle.capnp_arena.proofs.WordsOver.{segment_here, length-over}
+use Rattle.capnp_making.proofs.NearMade.{long_as}
+use Rattle.capnp_copies.proofs.Copying.{there}
 
 -- Segment s of M is there, and K has the words ws in it.
 abbrev pub IsWritten : Segments → Segments → ℕ → List ℕ → Type 0
@@ -13,11 +14,11 @@ IsWritten M K s ws = (s < length M) × (K ≡ with_segment M s ws)
 -- a segment is written, and then as f makes it
 pub then_written : {K L : Segments} (M : Segments) (s : ℕ) (ws : List ℕ) (f : List ℕ → List ℕ) → IsWritten M K s ws → L ≡ with_segment K s (f (segment K s)) → L ≡ with_segment M s (f ws)
 then_written M s ws f (l, e) h =
-    h ∙ ap (λ T. with_segment T s (f (segment T s))) e ∙ ap (λ xs. with_segment (with_segment M s ws) s (f xs)) (segment_written M s ws l) ∙ set-set M s ws (f ws)
+    h ∙ ap (λ T. with_segment T s (f (segment T s))) e ∙ ap (λ xs. with_segment (with_segment M s ws) s (f xs)) (segment_here M s ws l) ∙ set-set M s ws (f ws)
 
 -- the words of a segment that was written
 pub words_written : (M K : Segments) (s : ℕ) (ws : List ℕ) → s < length M → K ≡ with_segment M s ws → segment K s ≡ ws
-words_written M K s ws l e = ap (λ T. segment T s) e ∙ segment_written M s ws l
+words_written M K s ws l e = ap (λ T. segment T s) e ∙ segment_here M s ws l
 
 pub not_written : (M : Segments) (s : ℕ) → M ≡ with_segment M s (segment M s)
 not_written M s = sym (set-get_or M s [])
@@ -34,17 +35,9 @@ begun M s r us taken g =
     then_written M s (segment M s ++ replicate (length us + r) 0) (λ ws. overwritten ws (length (segment M s)) us) taken g ∙ ap (with_segment M s) (over_zeros (segment M s) us (length us + r) r refl)
 
 -- how long a segment is that was written
-pub length-with_word : (S : Segments) (s p x : ℕ) → length (segment (with_word S s p x) s) ≡ length (segment S s)
-length-with_word [] s p x = refl
-length-with_word (t ∷ S) zero p x = length-set t p x
-length-with_word (t ∷ S) (suc s) p x = length-with_word S s p x
-
-overwritten_length : (xs ws : List ℕ) (p : ℕ) → p + length ws ≤ length xs → length (overwritten xs p ws) ≡ length xs
-overwritten_length xs ws p l = grind (arith, common_steps)
-
 pub length-with_words : (S : Segments) (s p : ℕ) (ws : List ℕ) → p + length ws ≤ length (segment S s) → length (segment (with_words S s p ws) s) ≡ length (segment S s)
 length-with_words [] s p ws l = refl
-length-with_words (t ∷ S) zero p ws l = overwritten_length t ws p l
+length-with_words (t ∷ S) zero p ws l = length-over t p ws l
 length-with_words (t ∷ S) (suc s) p ws l = length-with_words S s p ws l
 
 pub length-extended : (S : Segments) (s : ℕ) (ws : List ℕ) → s < length S → length (segment (extended S s ws) s) ≡ length (segment S s) + length ws
@@ -52,7 +45,7 @@ length-extended [] s ws l = absurd (omega arith)
 length-extended (t ∷ S) zero ws l = length-append t ws
 length-extended (t ∷ S) (suc s) ws l = length-extended S s ws (omega arith)
 
-pub ruleset lengths = (length-with_word, length-with_words, length-extended, there, length-replicate)
+pub ruleset lengths = (long_as, length-with_words, length-extended, there, length-replicate)
 
 -- The words us, of which there are some, are written over those of segment s from position at on.
 pub record WrittenOver (M K : Segments) (s at : ℕ) (us : List ℕ) : Type 0 where

@@ -1,17 +1,16 @@
 -- A struct and a list of pointers that are copied into the segment of their pointer, from where their words are taken: their children.
-use Rattle.std.proofs.Common.{◌≡◌, ℕ, ◌+◌, ◌<◌, ◌≤◌, ◌++◌, List, length, set, take, replicate, sym, ap, ap₂, ◌∙◌, arith, append_assoc, length-append}
+use Rattle.std.proofs.Common.{◌≡◌, ℕ, ◌+◌, ◌<◌, ◌++◌, List, length, set, replicate, sym, ap, ap₂, ◌∙◌, arith, append_assoc, length-append}
 use Rattle.capnp_words.specs.declared.wire_pointer.StructSize.{StructSize}
 use Rattle.capnp_words.specs.Meter.{Meter}
 use Rattle.capnp_format.specs.Word.{struct_word, list_word}
 use Rattle.capnp_format.specs.Segments.{Segments, segment, IsPlace}
 use Rattle.capnp_format.specs.Tree.{Struct, Pointers, Trees, count}
-use Rattle.capnp_format.specs.Canonical.{used_words, take_trees, trim, trim_each, pointer, pointers, bodies, offset_to}
+use Rattle.capnp_format.specs.Canonical.{pointer, pointers, bodies, offset_to}
 use Rattle.capnp_arena.specs.View.{View}
 use Rattle.capnp_arena.specs.Written.{with_segment, with_word}
-use Rattle.capnp_objects.specs.Outcomes.{ReadsAll, MeanThere}
-use Rattle.capnp_objects.specs.Reading.{Reading, behind, segment_read, words_from}
-use Rattle.capnp_objects.specs.Spending.{pointers_in_all}
-use Rattle.capnp_objects.specs.Wanted.{canonical, Form}
+use Rattle.capnp_objects.specs.Reading.{Reading}
+use Rattle.capnp_objects.specs.Wanted.{Form}
+use Rattle.capnp_readers.proofs.Accepts.{struct_pointer}
 use Rattle.capnp_copies.specs.Forms.{kept_each}
 use Rattle.capnp_copies.specs.Copied.{copied, with_children}
 use Rattle.capnp_copies.proofs.InPlace.{IsCopied}
@@ -20,8 +19,7 @@ use Rattle.capnp_copies.proofs.CopiesNear.{call_of, CopiesChildren}
 use Rattle.capnp_copies.proofs.Copying.{there}
 use Rattle.capnp_copies.proofs.KeptChildren.{kept_each-count}
 use Rattle.capnp_copies.proofs.SegmentsWritten.{then_written}
-use Rattle.capnp_copies.proofs.StructsCopied.{object_children, struct_pointer}
-use Rattle.capnp_copies.proofs.UsedChildren.{used_children, trim-struct, fill_nulls, null_behind}
+use Rattle.capnp_copies.proofs.StructsCopied.{object_children}
 
 -- a list of pointers
 
@@ -40,45 +38,7 @@ pointers_put {b} {r} {old} {mid} {last} {new} {id} {at} {head} {q} {x} place tak
     then_written M id (with_children (W ++ replicate q 0) (length W) ts) (λ xs. set xs at x) (id_there, second) (ap (λ (v : View). v.words) writes)
     ∙ ap (with_segment M id) (ap₂ (λ xs y. set xs at y) (object_children W q ts len) is)
 
--- what of a struct is used, its children being meant: its canonical form
-
--- so many words of each section of a struct are used, up to the last that is not zero
-pub record Uses (r : Reading) (size used : StructSize) : Type 0 where
-  pub of_data : used.data_words ≡ used_words (words_from r size.data_words)
-  pub of_pointers : used.pointers ≡ used_words (words_from (behind r size.data_words) size.pointers)
-  pub less_data : used.data_words ≤ size.data_words
-  pub less_pointers : used.pointers ≤ size.pointers
-
-trimmed_struct : {r : Reading} {size used : StructSize} (us : Trees) (c : ℕ) → r.at + (size.data_words + size.pointers) ≤ length (segment_read r) → Uses r size used → count us ≡ size.pointers → MeanThere (behind r size.data_words) us c →
-    trim (Struct (words_from r size.data_words) us) ≡ Struct (take (used_words (words_from r size.data_words)) (words_from r size.data_words)) (trim_each (take_trees used.pointers us))
-trimmed_struct {r} {size} {used} us c inside uses len all =
-    let ws : List ℕ = words_from r size.data_words in
-    trim-struct ws us
-    ∙ ap (λ i. Struct (take (used_words ws) ws) (trim_each (take_trees i us))) (used_children (behind r size.data_words) us c (omega arith) len all ∙ sym uses.of_pointers)
-
--- the children that were read, at a cost of n words and k pointers, and Nulls behind them
-pub record FilledStruct (r : Reading) (size : StructSize) (m m' : Meter) (ts : Trees) (n k : ℕ) : Type 0 where
-  pub all : Trees
-  pub counts : count all ≡ size.pointers
-  pub are_read : ReadsAll canonical (behind r size.data_words) m m' all
-  pub form : trim (Struct (words_from r size.data_words) all) ≡ Struct (take (used_words (words_from r size.data_words)) (words_from r size.data_words)) (trim_each ts)
-  pub costs : are_read.cost ≡ n
-  pub follows : pointers_in_all all ≡ k
-
-pub struct_filled : {r : Reading} {size used : StructSize} {m m' : Meter} {ts : Trees} → r.at + (size.data_words + size.pointers) ≤ length (segment_read r) → Uses r size used → count ts ≡ used.pointers → (read : ReadsAll canonical (behind r size.data_words) m m' ts) → FilledStruct r size m m' ts read.cost (pointers_in_all ts)
-struct_filled {r} {size} {used} {m} {m'} {ts} inside uses len all =
-    let ws : List ℕ = words_from r size.data_words in
-    let f = fill_nulls size.pointers all (omega (arith, uses.less_pointers)) (λ i a b. null_behind (behind r size.data_words) size.pointers i (omega (arith, uses.of_pointers, len)) b) in
-    record {
-      all = f.all;
-      counts = f.counts;
-      are_read = f.are_read;
-      form =
-          trimmed_struct f.all f.are_read.cost inside uses f.counts f.are_read.means
-          ∙ ap (λ vs. Struct (take (used_words ws) ws) (trim_each vs)) (ap (λ i. take_trees i f.all) (sym len) ∙ f.first);
-      costs = f.costs;
-      follows = f.follows;
-    }
+-- a struct
 
 -- The words of a struct are taken: these data words, and pointers, which are null.
 pub record StructBegun (us : List ℕ) (used : StructSize) (old mid : View) (id at head : ℕ) : Type 0 where

@@ -1,10 +1,9 @@
 -- An object whose children are its last words, the pointer of a struct, and what is left where nothing is copied.
-use Rattle.std.proofs.Common.{◌≡◌, ℕ, ◌+◌, ◌-◌, ◌<◌, List, [], ◌∷◌, ◌++◌, length, set, drop, replicate, refl, sym, ap, ap₂, ◌∙◌, arith, append_assoc, append-nil, length-append, take_at}
+use Rattle.std.proofs.Common.{◌≡◌, ℕ, ◌+◌, ◌-◌, List, [], ◌++◌, length, set, drop, replicate, refl, sym, ap, ap₂, ◌∙◌, arith, append_assoc, append-nil, length-append, take_at}
 use Rattle.std.proofs.lemmas.List.{length-replicate, set-get_or, drop_all}
-use Rattle.capnp_format.specs.Word.{struct_word}
 use Rattle.capnp_format.specs.Segments.{Segments, segment, word_at}
-use Rattle.capnp_format.specs.Tree.{Null, Struct, Trees, no_trees, tree, count}
-use Rattle.capnp_format.specs.Canonical.{pointer, pointers, bodies}
+use Rattle.capnp_format.specs.Tree.{Null, Trees, count}
+use Rattle.capnp_format.specs.Canonical.{pointers, bodies}
 use Rattle.capnp_arena.specs.Written.{with_segment}
 use Rattle.capnp_copies.specs.Copied.{copied, with_children}
 use Rattle.capnp_copies.proofs.SegmentsWritten.{not_written}
@@ -19,11 +18,6 @@ object_children front q ts n =
     let shape : front ++ pointers 0 ts ++ [] ++ bodies ts ≡ front ++ (pointers 0 ts ++ bodies ts) = simp (append_assoc, append-nil) in
     ap₂ (λ xs i. xs ++ pointers i ts ++ drop (length front + count ts) W ++ bodies ts) (take_at front Z (length front) refl) none
     ∙ ap (λ xs. front ++ pointers 0 ts ++ xs ++ bodies ts) (drop_all (length front + count ts) W (omega arith)) ∙ shape
-
-pub struct_pointer : (ws : List ℕ) (ts : Trees) (k : ℕ) → 0 < length ws + count ts → pointer (Struct ws ts) k ≡ struct_word k (length ws) (count ts)
-struct_pointer [] no_trees k l = absurd (omega arith)
-struct_pointer [] (tree t ts) k l = refl
-struct_pointer (x ∷ xs) ts k l = refl
 
 pub null_written : (M : Segments) (s at : ℕ) → word_at M s at ≡ 0 → M ≡ with_segment M s (copied (segment M s) at Null)
 null_written M s at z =

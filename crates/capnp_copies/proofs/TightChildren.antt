@@ -16,7 +16,7 @@ use Rattle.capnp_copies.proofs.InPlace.{IsCopied, AreCopied}
 use Rattle.capnp_copies.proofs.CopiesNear.{call_of, CopiesValue as ValueCopied, CopiesChildren as ChildrenCopied}
 use Rattle.capnp_copies.proofs.ChildrenSteps.{child_put, now, now_long}
 use Rattle.capnp_copies.proofs.Copying.{there}
-use Rattle.capnp_copies.proofs.KeptChildren.{words-with_last}
+use Rattle.capnp_copies.proofs.KeptChildren.{kept_words-with_last}
 use Rattle.capnp_copies.proofs.StayingNear.{stay_first, stay_later}
 
 -- the room of a segment that was there
@@ -28,7 +28,7 @@ pub child_tight : {r : Reading} {s p i : ℕ} {old mid new : View} {m m' m'' : M
 child_tight {r} {s} {p} {i} {old} {mid} {new} {m} {m'} {m''} b place few grows more first next fits =
     let ts : Trees = first.children in
     let u : Tree = next.value in
-    let words = words-with_last b ts u in
+    let words = kept_words-with_last b ts u in
     let stand : AreCopied old.words mid.words s p (kept_each b ts) = first.stands (stay_first old mid new s (p + i) (word_count_all (kept_each b (with_last ts u))) (word_count_all (kept_each b ts)) (omega (arith, words)) place grows more fits) in
     let one : ChildrenCopied r i (call_of b old mid s m m') p = record { children = ts; counts = first.counts; are_read = first.are_read; made = stand } in
     let long : length (segment mid.words s) ≡ length (segment old.words s) + word_count_all (kept_each b ts) = ap length (now place one) ∙ now_long (omega (arith, place)) one in

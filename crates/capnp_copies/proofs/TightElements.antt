@@ -10,12 +10,12 @@ use Rattle.capnp_arena.specs.Written.{with_segment, with_words, overwritten}
 use Rattle.capnp_objects.specs.Reading.{Reading, behind, words_from}
 use Rattle.capnp_objects.specs.Wanted.{Form}
 use Rattle.capnp_objects.proofs.Copies.{with_last_element}
+use Rattle.capnp_objects.proofs.Walked.{words-with_last_element}
 use Rattle.capnp_copies.specs.Changes.{change, StayInSegment, EndsInZeros, CopiesChildren, CopiesElement, CopiesRows}
 use Rattle.capnp_copies.specs.Forms.{kept_each, kept_elements}
 use Rattle.capnp_copies.specs.Copied.{with_children, rows_laid}
 use Rattle.capnp_copies.proofs.CopiesNear.{call_of, CopiesChildren as ChildrenCopied, CopiesElement as ElementCopied}
 use Rattle.capnp_copies.specs.declared.widths.ElementSizes.{ElementSizes}
-use Rattle.capnp_copies.proofs.ElementsCopied.{words-with_last}
 use Rattle.capnp_copies.proofs.ElementsLaid.{blank_rows, rows_begun}
 use Rattle.capnp_copies.proofs.ElementSteps.{DataPut, children_put, ElementsFit, RowsCopied, AtRow, next_row, row_put}
 use Rattle.capnp_copies.proofs.KeptChildren.{cut_kept}
@@ -71,7 +71,7 @@ row_tight {r} {sizes} {n} {i} {s} {p} {old} {mid} {new} {m} {m'} {m''} b place g
     let us : List ℕ = words_from (behind r (i * (sizes.source.data_words + sizes.source.pointers))) sizes.kept.data_words in
     let fs : Elements = cut_kept b sizes first.elements in
     let ts : Trees = kept_each b next.children in
-    let words : word_count_elements (cut_kept b sizes all) ≡ word_count_elements fs + word_count_all ts = ap word_count_elements shape ∙ words-with_last fs us ts in
+    let words : word_count_elements (cut_kept b sizes all) ≡ word_count_elements fs + word_count_all ts = ap word_count_elements shape ∙ words-with_last_element fs us ts in
     let to_n : i + 1 + (n - (i + 1)) ≡ n = omega (arith, more) in
     let to_i : n ≡ i + (n - i) = omega (arith, more) in
     let ends : p + n * w ≡ length (segment old.words s) = subst (λ k. p + k * w ≡ length (segment old.words s)) to_n last.ends in

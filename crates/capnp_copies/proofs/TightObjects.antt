@@ -14,6 +14,9 @@ use Rattle.capnp_making.specs.Near.{HasOwnRoom, HasStructRoom, HasStructsRoom, S
 use Rattle.capnp_making.specs.declared.making.Start.{Start}
 use Rattle.capnp_objects.specs.Reading.{Reading, segment_read}
 use Rattle.capnp_objects.specs.Wanted.{Form}
+use Rattle.capnp_arena.proofs.WordsOver.{segment_here}
+use Rattle.capnp_making.proofs.NearMade.{long_as}
+use Rattle.capnp_making.proofs.WordsPut.{none_over}
 use Rattle.capnp_copies.specs.Changes.{change, StayInSegment, IsCopiedInRoom, EndsInZeros, CopiesChildren, CopiesRows}
 use Rattle.capnp_copies.specs.Forms.{kept, kept_each}
 use Rattle.capnp_copies.specs.Copied.{copied, with_children, rows_laid}
@@ -22,14 +25,13 @@ use Rattle.capnp_copies.proofs.CopiesNear.{TakesWords}
 use Rattle.capnp_copies.proofs.CopiesNear.{call_of, CopiesChildren as ChildrenCopied, CopiesElements as ElementsCopied}
 use Rattle.capnp_copies.proofs.ChildrenCopied.{no_children}
 use Rattle.capnp_copies.specs.declared.widths.ElementSizes.{ElementSizes}
-use Rattle.capnp_copies.proofs.Copying.{there, segment_written}
+use Rattle.capnp_copies.proofs.Copying.{there}
 use Rattle.capnp_copies.proofs.ElementsLaid.{get_or-zeros}
 use Rattle.capnp_copies.proofs.KeptChildren.{kept_none, kept_pointers, kept_each-count, cut_kept, cut_kept-count}
 use Rattle.capnp_copies.proofs.KeptForms.{KeepsWidths, list_kept}
 use Rattle.capnp_copies.proofs.ListSteps.{ListBegun, list_put}
-use Rattle.capnp_copies.proofs.Padding.{with_words_none}
 use Rattle.capnp_copies.proofs.PointersFirst.{place_kept, in_first, pointer_stays, pointer_first}
-use Rattle.capnp_copies.proofs.SegmentsWritten.{begun, not_written, words_written, length-with_word, length-extended}
+use Rattle.capnp_copies.proofs.SegmentsWritten.{begun, not_written, words_written, length-extended}
 use Rattle.capnp_copies.proofs.StructSteps.{StructBegun, struct_put, pointers_put}
 use Rattle.capnp_copies.proofs.StayingNear.{stay_fewer, stay_later, own_room}
 use Rattle.capnp_copies.proofs.TightChildren.{room_kept}
@@ -82,7 +84,7 @@ module _ {us : List ℕ} {least : StructSize} {s p : ℕ} {old made mid : View} 
   place = place_kept S s p x o.place
 
   same_long : length (segment P s) ≡ length W
-  same_long = length-with_word S s p x
+  same_long = long_as S s p x
 
   -- the words of the segment, once the data words are written
   mid_near : HasStructRoom old s least → mid.words ≡ extended P s (us ++ replicate least.pointers 0)
@@ -131,7 +133,7 @@ module _ {us : List ℕ} {least : StructSize} {s p : ℕ} {old made mid : View} 
       let kept_mid : new.words ≡ mid.words =
       stand ∙ ap (λ t. with_segment mid.words h.segment (with_children V (h.at + least.data_words) t)) (ap (kept_each b) no_kids ∙ kept_none b)
       ∙ ap (with_segment mid.words h.segment) (no_children V (h.at + least.data_words)) ∙ sym (not_written mid.words h.segment) in
-      let kept_made : mid.words ≡ made.words = ap (λ (v : View). v.words) o.writes ∙ ap (with_words made.words h.segment h.at) no_words ∙ with_words_none made.words h.segment h.at in
+      let kept_made : mid.words ≡ made.words = ap (λ (v : View). v.words) o.writes ∙ ap (with_words made.words h.segment h.at) no_words ∙ none_over made.words h.segment h.at in
       kept_mid ∙ kept_made ∙ o.empty none ∙ ap (λ ws. with_segment S s (set ws p e)) (sym (append-nil W))
       ∙ ap₂ (λ (xs : List ℕ) t. with_segment S s (copied W p (Struct xs t))) (sym no_words) (sym (ap (kept_each b) no_kids ∙ kept_none b))
 
@@ -183,7 +185,7 @@ pointers_tight {r} {i} {s} {p} {old} {mid} {new} {h} {m} {m'} b longer o childre
     let start : StartsBehind S s h = o.at_end room in
     let mids : mid.words ≡ K = o.near room in
     let place : IsPlace P s p = place_kept S s p x o.place in
-    let same_long : H ≡ length (segment S s) = length-with_word S s p x in
+    let same_long : H ≡ length (segment S s) = long_as S s p x in
     let width : length V ≡ H + i = length-extended P s ws (there P s p place) ∙ ap (λ k. H + k) (length-replicate i 0) in
     let same_room : mid.room s ≡ old.room s = room_kept old mid s p o.place o.memory in
     let stand : AreCopied mid.words new.words s H ts =
@@ -224,8 +226,8 @@ ends_in_zeros {i} {s} {p} {least} {old} {mid} {new} {h} {m} {m'} b o room =
     let start : StartsBehind S s h = o.behind.near (omega arith) room in
     let mids : mid.words ≡ extended P s ws = o.near room in
     let place : IsPlace P s p = place_kept S s p x o.place in
-    let first : h.at ≡ H = start.1 ∙ sym (length-with_word S s p x) in
-    let shape : V ≡ segment P s ++ ws = segment_written P s (segment P s ++ ws) (there P s p place) in
+    let first : h.at ≡ H = start.1 ∙ sym (long_as S s p x) in
+    let shape : V ≡ segment P s ++ ws = segment_here P s (segment P s ++ ws) (there P s p place) in
     let width : length V ≡ H + (1 + i * w) = ap length shape ∙ length-append (segment P s) ws ∙ (let f : length ws ≡ 1 + i * w = omega (arith, length-replicate {A = ℕ} (i * w) 0) in ap (λ k. H + k) f) in
     let here : segment mid.words h.segment ≡ V = ap₂ (λ T k. segment T k) mids start.0 in
     let zero : (j : ℕ) → h.at + 1 ≤ j → word_at mid.words h.segment j ≡ 0 = λ j le.
@@ -259,9 +261,9 @@ structs_tight {r} {sizes} {i} {s} {p} {old} {mid} {new} {h} {m} {m'} b longer in
     let start : StartsBehind S s h = o.behind.near (omega arith) room in
     let mids : mid.words ≡ K = o.near room in
     let place : IsPlace P s p = place_kept S s p x o.place in
-    let same_long : H ≡ length (segment S s) = length-with_word S s p x in
+    let same_long : H ≡ length (segment S s) = long_as S s p x in
     let first : h.at ≡ H = start.1 ∙ sym same_long in
-    let shape : V ≡ segment P s ++ ws = segment_written P s (segment P s ++ ws) (there P s p place) in
+    let shape : V ≡ segment P s ++ ws = segment_here P s (segment P s ++ ws) (there P s p place) in
     let width : length V ≡ H + (1 + i * w) = ap length shape ∙ length-append (segment P s) ws ∙ (let f : length ws ≡ 1 + i * w = omega (arith, length-replicate {A = ℕ} (i * w) 0) in ap (λ k. H + k) f) in
     let here : segment mid.words h.segment ≡ V = ap₂ (λ T k. segment T k) mids start.0 in
     let no_more : (i + 0) * w ≡ i * w = ap (λ k. k * w) (let f : i + 0 ≡ i = omega arith in f) in

@@ -33,7 +33,7 @@ use Rattle.capnp_copies.proofs.ElementsLaid.{next_element_words}
 use Rattle.capnp_copies.proofs.ElementSteps.{ElementsFit, RowsCopied, AtRow, next_row}
 use Rattle.capnp_copies.specs.Forms.{kept, kept_each}
 use Rattle.capnp_copies.proofs.KeptChildren.{kept_none, kept_pointers, kept_each-count, take_trees-kept, cut_kept}
-use Rattle.capnp_copies.proofs.KeptForms.{KeepsSections, KeepsWidths, SourceKept, SectionsCut, sections_cut, sections_meant, row_kept, words_of_kept_list}
+use Rattle.capnp_copies.proofs.KeptForms.{KeepsWidths, SourceKept, SectionsCut, sections_meant, row_kept, words_of_kept_list}
 use Rattle.capnp_copies.proofs.ObjectsRead.{inside, means_struct, means_pointers, means_structs}
 use Rattle.capnp_copies.proofs.RoomLemmas.{next_words}
 use Rattle.capnp_copies.proofs.TightChildren.{room_kept}
@@ -108,12 +108,6 @@ sections_too_large {s} {p} {used} {room} {all} {old} {made} {h} b least ts o lon
     no_words no_trees f = ap word_count_all (kept_none b)
     no_words (tree t ts) f = absurd (omega (arith, f))
 
-pub struct_too_large : (r : Reading) (size least : StructSize) {s p used room : ℕ} {old made : View} {h : Start} (b : Form) → ObjectMade s p (least.data_words + least.pointers) old made h → r.at + (size.data_words + size.pointers) ≤ length (segment_read r) → KeepsSections b r size least →
-    used ≡ length (segment made.words h.segment) → room ≡ made.room h.segment → used ≤ room → AreTooLarge b (behind r size.data_words) least.pointers used room → IsTooLargeStruct b r size (length (segment old.words s)) (old.room s)
-struct_too_large r size least b o in_row sections long same within large = λ us c len all.
-    (let k = sections_meant b us c (sections_cut b r size least in_row sections) len all in
-    sections_too_large b least (take_trees least.pointers us) o long same within k.counts (large (take_trees least.pointers us) c k.counts k.means) k.words)
-
 -- the children of a list of pointers
 
 pointers_words : (b : Form) (i : ℕ) (us : Trees) → count us ≡ i → word_count (kept b (Pointers us)) ≡ i + word_count_all (kept_each b us)
@@ -154,10 +148,6 @@ pub no_sections_room : {ws : List ℕ} {r : Reading} {q : ℕ} {least : StructSi
 no_sections_room {least = least} s old b cut full us c len all =
     let none : (HasOwnRoom old s (least.data_words + least.pointers)) → ⊥ = λ room. full (inl room) in
     omega (arith, none, (sections_meant b us c cut len all).words)
-
-pub no_struct_room : (r : Reading) (size least : StructSize) (s : ℕ) (old : View) (b : Form) → r.at + (size.data_words + size.pointers) ≤ length (segment_read r) → KeepsSections b r size least → (HasRoom old s (least.data_words + least.pointers) → ⊥) →
-    IsTooLargeStruct b r size (length (segment old.words s)) (old.room s)
-no_struct_room r size least s old b in_row sections full = λ us c len all. no_sections_room s old b (sections_cut b r size least in_row sections) full us c len all
 
 pub no_pointers_room : (b : Form) (r : Reading) (i s : ℕ) (old : View) → (HasRoom old s i → ⊥) → IsTooLargePointers b r i (length (segment old.words s)) (old.room s)
 no_pointers_room b r i s old full = λ us c len all.

@@ -7,6 +7,8 @@ use Rattle.capnp_format.specs.Canonical.{used_from, used_words, is_null, used_tr
 use Rattle.capnp_words.specs.Meter.{Meter}
 use Rattle.capnp_format.proofs.Trimming.{used_from-rest, used_from-past}
 use Rattle.capnp_format.proofs.Appending.{append_trees, count-append, means_joined}
+use Rattle.capnp_making.specs.Made.{nulls}
+use Rattle.capnp_making.proofs.Placed.{count-nulls, nulls_mean}
 use Rattle.capnp_copies.proofs.LeastWidths.{used_where_meant}
 use Rattle.capnp_objects.specs.Spending.{after, pointers_in_all}
 use Rattle.capnp_objects.specs.Outcomes.{MeansThere, MeanThere, ReadsAll}
@@ -89,24 +91,6 @@ means_taken r ts c zero l h = nulls_cost r ts c l h
 means_taken r no_trees c (suc m) l h = h
 means_taken r (tree t ts) c (suc m) l (a, b, one, rest, g) = (a, b, one, means_taken (behind r 1) ts b m (used_from-rest (is_null t) (used_trees ts) m l) rest, g)
 
-abbrev nulls : ℕ → Trees
-nulls zero = no_trees
-nulls (suc r) = tree Null (nulls r)
-
-count-nulls : (r : ℕ) → count (nulls r) ≡ r
-count-nulls zero = refl
-count-nulls (suc r) = ap suc (count-nulls r)
-
-nulls_mean : (S : Segments) (n s p r : ℕ) → ((i : ℕ) → i < r → word_at S s (p + i) ≡ 0) → MeansAll S n s p (nulls r) 0
-nulls_mean S n s p zero z = refl
-nulls_mean S n s p (suc r) z = (
-  0,
-  0,
-  (ap (word_at S s) (let e : p ≡ p + 0 = omega arith in e) ∙ z 0 (omega arith), refl),
-  nulls_mean S n s (p + 1) r (λ i l. ap (word_at S s) (let e : p + 1 + i ≡ p + suc i = omega arith in e) ∙ z (suc i) (omega arith)),
-  refl,
-)
-
 capabilities-nulls : (ts : Trees) (r : ℕ) → capabilities_all (append_trees ts (nulls r)) ≡ capabilities_all ts
 capabilities-nulls no_trees zero = refl
 capabilities-nulls no_trees (suc r) = omega (arith, capabilities-nulls no_trees r)
@@ -136,7 +120,7 @@ fill_nulls {r} {m} {m'} {ts} q read l z =
     let s : ℕ = r.segment in
     let p : ℕ = r.at in
     let rest = q - count ts in
-    let none = nulls_mean S r.levels s (p + count ts) rest (λ i less. ap (word_at S s) (let f : p + count ts + i ≡ p + (count ts + i) = omega arith in f) ∙ z (count ts + i) (omega arith) (omega arith)) in
+    let none = nulls_mean S r.levels s (p + count ts) rest (λ j from below. ap (word_at S s) (let f : j ≡ p + (j - p) = omega (arith, from) in f) ∙ z (j - p) (omega (arith, from)) (omega (arith, from, below))) in
     record {
       all = append_trees ts (nulls rest);
       counts = omega (arith, count-append ts (nulls rest), count-nulls rest);

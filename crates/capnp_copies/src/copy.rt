@@ -142,10 +142,9 @@ fn copy_object<A: BuilderArena, B: ReaderArena>(
         (value_original (reading B.ReaderArena from.entry))
         (change (form_in form) id at (A.view arena.old) (A.view arena.new) lim.old lim.new) }
 {
-    let object = match from.source.read_object(from.place, from.nesting_limit, lim) {
-        Ok(object) => object,
-        Err(k) => return Err(k),
-    };
+    let object = from
+        .source
+        .read_object(from.place, from.nesting_limit, lim)?;
     match object {
         Object::Null => Ok(()),
         Object::Capability(index) => copy_capability(arena, id, at, index, form),

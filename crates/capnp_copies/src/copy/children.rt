@@ -111,10 +111,7 @@ pub(crate) fn copy_in_line<A: BuilderArena, B: ReaderArena>(
             },
             nesting_limit: from.nesting_limit,
         };
-        match copy_child(arena, id, at + i, child, lim, form) {
-            Ok(()) => {}
-            Err(k) => return Err(k),
-        }
+        copy_child(arena, id, at + i, child, lim, form)?;
     }
     Ok(())
 }
@@ -186,10 +183,7 @@ fn copy_near_struct<A: BuilderArena, B: ReaderArena>(
         (change (form_in form) id at (A.view arena.old) (A.view arena.new) lim.old lim.new) }
 {
     let source = from.source;
-    let start = match source.read_near_struct(from.place, word, from.nesting_limit, lim) {
-        Ok(start) => start,
-        Err(k) => return Err(k),
-    };
+    let start = source.read_near_struct(from.place, word, from.nesting_limit, lim)?;
     let inner = PointerReader {
         source,
         place: Place {
@@ -233,10 +227,7 @@ fn copy_near_flat<A: BuilderArena, B: ReaderArena>(
     let count = word.list_element_count();
     let words = flat_words(size, count);
     let source = from.source;
-    let start = match source.read_near_flat(from.place, word, words, from.nesting_limit, lim) {
-        Ok(start) => start,
-        Err(k) => return Err(k),
-    };
+    let start = source.read_near_flat(from.place, word, words, from.nesting_limit, lim)?;
     let elements = part(from.place.bytes, start as usize, words as usize);
     copy_flat(arena, id, at, size, count, elements)
 }

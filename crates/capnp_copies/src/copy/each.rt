@@ -53,10 +53,7 @@ pub fn copy_each<A: BuilderArena, B: ReaderArena>(
             },
             nesting_limit: from.nesting_limit,
         };
-        match copy_value(arena, id, at + i, child, lim, false) {
-            Ok(()) => {}
-            Err(k) => return Err(k),
-        }
+        copy_value(arena, id, at + i, child, lim, false)?;
     }
     Ok(())
 }

@@ -75,10 +75,7 @@ pub(crate) fn copy_elements<A: BuilderArena, B: ReaderArena>(
             segment: to.segment,
             at: to.at + i * kept_words,
         };
-        match copy_element(arena, row, element, sizes, lim, form) {
-            Ok(()) => {}
-            Err(k) => return Err(k),
-        }
+        copy_element(arena, row, element, sizes, lim, form)?;
     }
     Ok(())
 }

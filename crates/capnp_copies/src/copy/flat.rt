@@ -52,14 +52,10 @@ pub(crate) fn copy_flat<A: BuilderArena>(
     ensures kept { OnErr result ((A.view arena.new).words ≡ (A.view arena.old).words) }
     ensures memory { IfErr result (SpendsMemory (A.view arena.old) (A.view arena.new)) }
 {
-    match make_list(arena, id, at, size, count) {
-        Ok(start) => {
-            let bits = u64::from(count) * u64::from(data_bits_per_element(size));
-            put_elements(arena, start.segment, start.at, elements, bits);
-            Ok(())
-        }
-        Err(k) => Err(k),
-    }
+    let start = make_list(arena, id, at, size, count)?;
+    let bits = u64::from(count) * u64::from(data_bits_per_element(size));
+    put_elements(arena, start.segment, start.at, elements, bits);
+    Ok(())
 }
 
 /// Writes elements of so many bits together over words of a segment, with padding of zero.

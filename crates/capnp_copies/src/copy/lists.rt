@@ -45,10 +45,8 @@ pub(crate) fn copy_pointers<A: BuilderArena, B: ReaderArena>(
     ensures taken { TakesAtMost result (pointers_original count (reading B.ReaderArena from.entry))
         (change (form_in form) id at (A.view arena.old) (A.view arena.new) lim.old lim.new) }
 {
-    match make_list(arena, id, at, ElementSize::Pointer, count) {
-        Ok(start) => copy_in_line(arena, start.segment, start.at, from, count, lim, form),
-        Err(k) => Err(k),
-    }
+    let start = make_list(arena, id, at, ElementSize::Pointer, count)?;
+    copy_in_line(arena, start.segment, start.at, from, count, lim, form)
 }
 
 /// Copies a list of so many structs, of which `from` is the first word behind the tag, to the pointer
@@ -83,16 +81,12 @@ pub(crate) fn copy_structs<A: BuilderArena, B: ReaderArena>(
 {
     let kept = kept_widths(from, size, count, form);
     let sizes = ElementSizes { source: size, kept };
-    match make_struct_list(arena, id, at, count, kept) {
-        Ok(list) => {
-            let first = Start {
-                segment: list.segment,
-                at: list.at + 1,
-            };
-            copy_elements(arena, first, from, sizes, count, lim, form)
-        }
-        Err(k) => Err(k),
-    }
+    let list = make_struct_list(arena, id, at, count, kept)?;
+    let first = Start {
+        segment: list.segment,
+        at: list.at + 1,
+    };
+    copy_elements(arena, first, from, sizes, count, lim, form)
 }
 
 /// The sections that a copy of so many structs keeps of each, of which `from` is the first word: in

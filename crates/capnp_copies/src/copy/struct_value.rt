@@ -89,14 +89,8 @@ fn copy_sections<A: BuilderArena, B: ReaderArena>(
         (change (form_of canonicalize) id at (A.view arena.old)
         (A.view arena.new) lim.old lim.new) }
 {
-    let kept = match kept_sections(value, canonicalize) {
-        Ok(kept) => kept,
-        Err(k) => return Err(k),
-    };
-    let start = match make_struct(arena, id, at, kept) {
-        Ok(start) => start,
-        Err(k) => return Err(k),
-    };
+    let kept = kept_sections(value, canonicalize)?;
+    let start = make_struct(arena, id, at, kept)?;
     let data_words = kept.data_words;
     put_section(
         arena,

@@ -53,10 +53,7 @@ pub(crate) fn copy_struct<A: BuilderArena, B: ReaderArena>(
         (change (form_in form) id at (A.view arena.old) (A.view arena.new) lim.old lim.new) }
 {
     let kept = kept_sections(from, size, form);
-    let start = match make_struct(arena, id, at, kept) {
-        Ok(start) => start,
-        Err(k) => return Err(k),
-    };
+    let start = make_struct(arena, id, at, kept)?;
     let data_words = usize::from(kept.data_words);
     let data = part(from.place.bytes, from.place.at as usize, data_words);
     put_words(arena, start.segment, start.at, data);

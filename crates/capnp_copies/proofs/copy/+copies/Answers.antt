@@ -1,4 +1,4 @@
-use Rattle.std.proofs.Common.{◌≡◌, inl, ℕ, ◌+◌, ◌*◌, ◌<◌, ◌≤◌, ◌^◌, length, get_or, refl, ap, ap₂, sym, ◌∙◌, arith, rules}
+use Rattle.std.proofs.Common.{◌≡◌, inl, ℕ, ◌+◌, ◌*◌, ◌<◌, ◌≤◌, ◌^◌, length, get_or, refl, ap, ap₂, sym, ◌∙◌, arith, rules, take}
 use Rattle.std.proofs.lemmas.Int.{to_z-of_z}
 use Rattle.std.proofs.lemmas.Bool.{false≢true}
 use mir.Syntax.{w32}
@@ -20,20 +20,25 @@ use Rattle.capnp_objects.specs.declared.object.Purpose.TheVariants.{Value}
 use Rattle.capnp_readers.specs.Readers.{reading}
 use Rattle.capnp_readers.proofs.Checks.{struct_room}
 use Rattle.capnp_readers.proofs.NearRead.{struct_by_word}
+use Rattle.capnp_readers.proofs.Walking.{ok_so, err_so, one_level_in}
+use Rattle.capnp_objects.proofs.Walked.{row_within}
+use Rattle.std.proofs.lemmas.Result.{err_from_is_err_and}
+use Rattle.capnp_copies.proofs.ElementsLaid.{words_taken}
+use Rattle.capnp_copies.proofs.FilledSections.{SectionsBegun, sections_fit, sections_null, sections_copied, sections_stop}
 use Rattle.capnp_copies.specs.Widths.{KeepsPointers}
 use Rattle.capnp_copies.specs.Forms.{form_in}
-use Rattle.capnp_copies.proofs.FlatRead.{ok_so, err_so, one_level_in, flat_words}
+use Rattle.capnp_copies.proofs.FlatRead.{word_count-flat}
 use Rattle.capnp_copies.proofs.FilledChildren.{no_child, children_grow, child_ahead, child_copied, child_stops}
-use Rattle.capnp_copies.proofs.FilledElements.{DataWritten, element_copied, element_stops, no_row, no_width, AtRow, row_end, next_room, next_null, next_inside, row_copied, row_stops}
-use Rattle.capnp_copies.proofs.FilledObjects.{nothing_made, StructBegun, struct_fits, struct_null, struct_copied, struct_stops, ObjectBegun, pointers_copied, pointers_stop, widths_keep, structs_copied, structs_stop}
+use Rattle.capnp_copies.proofs.FilledElements.{DataWritten, element_copied, element_stops, no_row, no_width, AtRow, next_room, next_null, next_inside, row_copied, row_stops}
+use Rattle.capnp_copies.proofs.FilledObjects.{nothing_made, ObjectBegun, pointers_copied, pointers_stop, widths_keep, structs_copied, structs_stop}
 use Rattle.capnp_copies.proofs.FilledValues.{read_stops, null_copied, CapabilityCopied, capability_value, capability_value_stops, struct_value, struct_value_stops, pointers_value, pointers_value_stops, structs_value, structs_value_stops, FlatOutcome, flat_value, flat_stops}
 use Rattle.capnp_copies.proofs.Copying.{there}
 use Rattle.capnp_copies.proofs.Growth.{none_itself, none_refused, taken_so, none_taken, one_taken, stop_taken, all_taken, no_row_taken, blank_taken, row_taken, row_stop_taken, rows_taken, all_within, among_within, no_wider, read_stop_taken, null_takes, capability_value_takes, struct_takes, struct_stop_takes, flat_takes, flat_stop_takes, pointers_take, pointers_stop_take, structs_take, structs_stop_take, made_none, pointers_behind, pointers_stop_behind, structs_behind, structs_stop_behind, sections_behind, sections_stop_behind}
 use Rattle.capnp_copies.proofs.ObjectsMade.{Begins, struct_begins, no_own_room}
-use Rattle.capnp_copies.proofs.KeptForms.{keeps_sections, SourceKept, sections_cut}
+use Rattle.capnp_copies.proofs.KeptForms.{SourceKept, SectionsCut}
 use Rattle.capnp_copies.proofs.Originals.{halfway, sections_large, pointers_large, structs_large}
 use Rattle.capnp_copies.proofs.TightElements.{all_rows}
-use Rattle.capnp_copies.proofs.TooLarge.{no_struct_room, no_pointers_room, no_structs_room}
+use Rattle.capnp_copies.proofs.TooLarge.{no_pointers_room, no_structs_room, no_sections_room}
 use Rattle.capnp_copies.proofs.copy.+copies.Goals as goal
 
 -- Pointers one behind the other.
@@ -49,24 +54,26 @@ children::copy_in_line-copy_child-requires g t c κs within =
     let NULL : word_at (g.A.BuilderArena.view c.loop-i.arena).words c.args.id (c.args.at + c.loop-i.i) ≡ 0 = child_ahead c.loop-i.invariant.0 (omega (arith, c.requires.room, c.loop-i-test.true)) ∙ c.requires.null c.loop-i.i c.loop-i-test.true in
     search rules
 
-pub children::copy_in_line-returns-in-Err-clause-refused : goal.children::copy_in_line-returns-in-Err-clause-refused
-children::copy_in_line-returns-in-Err-clause-refused g t c =
+pub children::copy_in_line-returns-in_err-copy_child-clause-refused : goal.children::copy_in_line-returns-in_err-copy_child-clause-refused
+children::copy_in_line-returns-in_err-copy_child-clause-refused g t c =
     let nl = to_z-of_z w32 c.args.from.nesting_limit (search rules) in
-    child_stops (omega (arith, c.requires.room, c.loop-i-test.true)) c.loop-i-test.true c.loop-i.invariant.0 c.loop-i.invariant.1 (rw nl at c.in-Err.ensures.refused)
+    let p = err_from_is_err_and c.from_residual.result c.from_residual.ensures.1 in
+    rw (p.1, p.2) (child_stops (omega (arith, c.requires.room, c.loop-i-test.true)) c.loop-i-test.true c.loop-i.invariant.0 c.loop-i.invariant.1 (rw nl at c.in_err-copy_child.ensures.refused))
 
 pub children::copy_in_line-loop-i-preserved : goal.children::copy_in_line-loop-i-preserved
 children::copy_in_line-loop-i-preserved g t c =
     let nl = to_z-of_z w32 c.args.from.nesting_limit (search rules) in
     let few : length (segment (g.A.BuilderArena.view c.loop-i.arena).words c.args.id) < 2 ^ 29 =
     omega (arith, g.met.A.BuilderArena.within c.loop-i.arena c.args.id, g.met.A.BuilderArena.small c.loop-i.arena c.args.id) in (
-      child_copied (omega (arith, c.requires.room, c.loop-i-test.true)) few c.loop-i.invariant.0 (rw nl at c.in-Ok.ensures.copied),
-      one_taken c.loop-i.invariant.1 (rw nl at c.in-Ok.ensures.taken),
+      child_copied (omega (arith, c.requires.room, c.loop-i-test.true)) few c.loop-i.invariant.0 (rw nl at c.in_ok-copy_child.ensures.copied),
+      one_taken c.loop-i.invariant.1 (rw nl at c.in_ok-copy_child.ensures.taken),
     )
 
-pub children::copy_in_line-returns-in-Err-clause-taken : goal.children::copy_in_line-returns-in-Err-clause-taken
-children::copy_in_line-returns-in-Err-clause-taken g t c =
+pub children::copy_in_line-returns-in_err-copy_child-clause-taken : goal.children::copy_in_line-returns-in_err-copy_child-clause-taken
+children::copy_in_line-returns-in_err-copy_child-clause-taken g t c =
     let nl = to_z-of_z w32 c.args.from.nesting_limit (search rules) in
-    stop_taken c.loop-i-test.true c.loop-i.invariant.1 (rw nl at c.in-Err.ensures.taken)
+    let p = err_from_is_err_and c.from_residual.result c.from_residual.ensures.1 in
+    rw p.1 (stop_taken c.loop-i-test.true c.loop-i.invariant.1 (rw nl at c.in_err-copy_child.ensures.taken))
 
 pub children::copy_in_line-returns-clause-taken : goal.children::copy_in_line-returns-clause-taken
 children::copy_in_line-returns-clause-taken g t c = all_taken (omega arith) c.loop-i.invariant.1
@@ -93,49 +100,51 @@ children::copy_child-returns-then-is_null-clause-taken g t c =
     let word : c.word-word.result.0 ≡ word_of r = c.word-word.ensures.value ∙ ap (λ ws. get_or ws c.args.from.place.at 0) c.args.from.held.0 in
     null_takes {r = r} (sym word ∙ c.if-is_null.ensures.0 refl, refl)
 
-pub children::copy_near_struct-returns-in-Err-clause-refused : goal.children::copy_near_struct-returns-in-Err-clause-refused
-children::copy_near_struct-returns-in-Err-clause-refused g t c =
+pub children::copy_near_struct-returns-in_err-start-clause-refused : goal.children::copy_near_struct-returns-in_err-start-clause-refused
+children::copy_near_struct-returns-in_err-start-clause-refused g t c =
     let nl = to_z-of_z w32 c.args.from.nesting_limit (search rules) in
-    read_stops c.requires.place c.requires.null (rw nl at c.in-Err.ensures.refused)
+    let p = err_from_is_err_and c.from_residual.result c.from_residual.ensures.1 in
+    rw (p.1, p.2) (read_stops c.requires.place c.requires.null (rw nl at c.in_err-start.ensures.refused))
 
-pub children::copy_near_struct-returns-in-Err-clause-taken : goal.children::copy_near_struct-returns-in-Err-clause-taken
-children::copy_near_struct-returns-in-Err-clause-taken g t c =
+pub children::copy_near_struct-returns-in_err-start-clause-taken : goal.children::copy_near_struct-returns-in_err-start-clause-taken
+children::copy_near_struct-returns-in_err-start-clause-taken g t c =
     let nl = to_z-of_z w32 c.args.from.nesting_limit (search rules) in
-    read_stop_taken (rw nl at c.in-Err.ensures.refused)
+    let p = err_from_is_err_and c.from_residual.result c.from_residual.ensures.1 in
+    rw p.1 (read_stop_taken (rw nl at c.in_err-start.ensures.refused))
 
 pub children::copy_near_struct-returns-clause-copied : goal.children::copy_near_struct-returns-clause-copied
 children::copy_near_struct-returns-clause-copied g t c =
     let r : Reading = reading g.B.ReaderArena c.args.from in
     let nl = to_z-of_z w32 c.args.from.nesting_limit (search rules) in
     let near : kind (word_of r) ≡ 0 = rw c.requires.there at c.requires.is_struct in
-    let start : Place = record c.args.from.place { at = c.in-Ok.start } in
+    let start : Place = record c.args.from.place { at = c.in_ok-start.start } in
     let wide : c.struct_size.result.data_words ≡ data_words (word_of r) = c.struct_size.ensures.data_of ∙ ap data_words c.requires.there in
     let many : c.struct_size.result.pointers ≡ pointer_count (word_of r) = c.struct_size.ensures.pointers_of ∙ ap pointer_count c.requires.there in
-    let object : IsObject Value r c.args.lim.now c.read_near_struct.new.lim (ObjectStruct start c.struct_size.result) = struct_by_word start c.struct_size.result near c.args.from.held refl (rw nl at c.in-Ok.ensures.object) wide many in
+    let object : IsObject Value r c.args.lim.now c.read_near_struct.new.lim (ObjectStruct start c.struct_size.result) = struct_by_word start c.struct_size.result near c.args.from.held refl (rw nl at c.in_ok-start.ensures.object) wide many in
     let less = one_level_in c.args.from.nesting_limit (search rules) in
-    ok_so c.copy_struct.result _ _ c.copy_struct.ensures.copied (λ x made. struct_value start less object made)
+    ok_so c.copy_struct.result c.copy_struct.ensures.copied (λ x made. struct_value start less object made)
 
 pub children::copy_near_struct-returns-clause-refused : goal.children::copy_near_struct-returns-clause-refused
 children::copy_near_struct-returns-clause-refused g t c =
     let r : Reading = reading g.B.ReaderArena c.args.from in
     let nl = to_z-of_z w32 c.args.from.nesting_limit (search rules) in
     let near : kind (word_of r) ≡ 0 = rw c.requires.there at c.requires.is_struct in
-    let start : Place = record c.args.from.place { at = c.in-Ok.start } in
+    let start : Place = record c.args.from.place { at = c.in_ok-start.start } in
     let wide : c.struct_size.result.data_words ≡ data_words (word_of r) = c.struct_size.ensures.data_of ∙ ap data_words c.requires.there in
     let many : c.struct_size.result.pointers ≡ pointer_count (word_of r) = c.struct_size.ensures.pointers_of ∙ ap pointer_count c.requires.there in
-    let object : IsObject Value r c.args.lim.now c.read_near_struct.new.lim (ObjectStruct start c.struct_size.result) = struct_by_word start c.struct_size.result near c.args.from.held refl (rw nl at c.in-Ok.ensures.object) wide many in
+    let object : IsObject Value r c.args.lim.now c.read_near_struct.new.lim (ObjectStruct start c.struct_size.result) = struct_by_word start c.struct_size.result near c.args.from.held refl (rw nl at c.in_ok-start.ensures.object) wide many in
     let less = one_level_in c.args.from.nesting_limit (search rules) in
-    err_so c.copy_struct.result _ _ c.copy_struct.ensures.refused (λ k stop. struct_value_stops start less object stop)
+    err_so c.copy_struct.result c.copy_struct.ensures.refused (λ k stop. struct_value_stops start less object stop)
 
 pub children::copy_near_struct-returns-clause-taken : goal.children::copy_near_struct-returns-clause-taken
 children::copy_near_struct-returns-clause-taken g t c =
     let r : Reading = reading g.B.ReaderArena c.args.from in
     let nl = to_z-of_z w32 c.args.from.nesting_limit (search rules) in
     let near : kind (word_of r) ≡ 0 = rw c.requires.there at c.requires.is_struct in
-    let start : Place = record c.args.from.place { at = c.in-Ok.start } in
+    let start : Place = record c.args.from.place { at = c.in_ok-start.start } in
     let wide : c.struct_size.result.data_words ≡ data_words (word_of r) = c.struct_size.ensures.data_of ∙ ap data_words c.requires.there in
     let many : c.struct_size.result.pointers ≡ pointer_count (word_of r) = c.struct_size.ensures.pointers_of ∙ ap pointer_count c.requires.there in
-    let object : IsObject Value r c.args.lim.now c.read_near_struct.new.lim (ObjectStruct start c.struct_size.result) = struct_by_word start c.struct_size.result near c.args.from.held refl (rw nl at c.in-Ok.ensures.object) wide many in
+    let object : IsObject Value r c.args.lim.now c.read_near_struct.new.lim (ObjectStruct start c.struct_size.result) = struct_by_word start c.struct_size.result near c.args.from.held refl (rw nl at c.in_ok-start.ensures.object) wide many in
     let less = one_level_in c.args.from.nesting_limit (search rules) in
     taken_so c.copy_struct.result _ _ _ _ (λ x. struct_takes start less object x) (λ x. struct_stop_takes start less object x) c.copy_struct.ensures.taken
 
@@ -144,64 +153,66 @@ children::copy_near_struct-copy_struct-requires g t c κs within =
     let r : Reading = reading g.B.ReaderArena c.args.from in
     let nl = to_z-of_z w32 c.args.from.nesting_limit (search rules) in
     let near : kind (word_of r) ≡ 0 = rw c.requires.there at c.requires.is_struct in
-    let start : Place = record c.args.from.place { at = c.in-Ok.start } in
+    let start : Place = record c.args.from.place { at = c.in_ok-start.start } in
     let wide : c.struct_size.result.data_words ≡ data_words (word_of r) = c.struct_size.ensures.data_of ∙ ap data_words c.requires.there in
     let many : c.struct_size.result.pointers ≡ pointer_count (word_of r) = c.struct_size.ensures.pointers_of ∙ ap pointer_count c.requires.there in
-    let object : IsObject Value r c.args.lim.now c.read_near_struct.new.lim (ObjectStruct start c.struct_size.result) = struct_by_word start c.struct_size.result near c.args.from.held refl (rw nl at c.in-Ok.ensures.object) wide many in
+    let object : IsObject Value r c.args.lim.now c.read_near_struct.new.lim (ObjectStruct start c.struct_size.result) = struct_by_word start c.struct_size.result near c.args.from.held refl (rw nl at c.in_ok-start.ensures.object) wide many in
     let less = one_level_in c.args.from.nesting_limit (search rules) in
     let LESS = less object.1.meets.levels in
     let SOME = object.1.meets.levels in
-    let INSIDE : c.in-Ok.start + (c.struct_size.result.data_words + c.struct_size.result.pointers) ≤ length (segment r.segments c.args.from.place.segment) = struct_room start c.struct_size.result object in
+    let INSIDE : c.in_ok-start.start + (c.struct_size.result.data_words + c.struct_size.result.pointers) ≤ length (segment r.segments c.args.from.place.segment) = struct_room start c.struct_size.result object in
     search rules
 
 -- What a pointer means.
 
-pub copy_object-returns-in-Err-clause-refused : goal.copy_object-returns-in-Err-clause-refused
-copy_object-returns-in-Err-clause-refused g t c =
+pub copy_object-returns-in_err-object-clause-refused : goal.copy_object-returns-in_err-object-clause-refused
+copy_object-returns-in_err-object-clause-refused g t c =
     let nl = to_z-of_z w32 c.args.from.nesting_limit (search rules) in
-    read_stops c.requires.place c.requires.null (rw nl at c.in-Err.ensures.refused)
+    let p = err_from_is_err_and c.from_residual.result c.from_residual.ensures.1 in
+    rw (p.1, p.2) (read_stops c.requires.place c.requires.null (rw nl at c.in_err-object.ensures.refused))
 
-pub copy_object-returns-in-Err-clause-taken : goal.copy_object-returns-in-Err-clause-taken
-copy_object-returns-in-Err-clause-taken g t c =
+pub copy_object-returns-in_err-object-clause-taken : goal.copy_object-returns-in_err-object-clause-taken
+copy_object-returns-in_err-object-clause-taken g t c =
     let nl = to_z-of_z w32 c.args.from.nesting_limit (search rules) in
-    read_stop_taken (rw nl at c.in-Err.ensures.refused)
+    let p = err_from_is_err_and c.from_residual.result c.from_residual.ensures.1 in
+    rw p.1 (read_stop_taken (rw nl at c.in_err-object.ensures.refused))
 
 pub copy_object-copy_pointers-requires : goal.copy_object-copy_pointers-requires
 copy_object-copy_pointers-requires g t c κs within =
-    let FEW : c.in-Pointers.count < 2 ^ 29 = rw c.in-Pointers.is at c.in-Ok.ensures.few in
+    let FEW : c.in-Pointers.count < 2 ^ 29 = rw c.in-Pointers.is at c.in_ok-object.ensures.few in
     search rules
 
 pub copy_object-copy_structs-requires : goal.copy_object-copy_structs-requires
 copy_object-copy_structs-requires g t c κs within =
-    let few : (c.in-Structs.count < 2 ^ 30) × (c.in-Structs.count * (c.in-Structs.size.data_words + c.in-Structs.size.pointers) < 2 ^ 29) = rw c.in-Structs.is at c.in-Ok.ensures.few in
+    let few : (c.in-Structs.count < 2 ^ 30) × (c.in-Structs.count * (c.in-Structs.size.data_words + c.in-Structs.size.pointers) < 2 ^ 29) = rw c.in-Structs.is at c.in_ok-object.ensures.few in
     let FEW : c.in-Structs.count < 2 ^ 30 = few.0 in
     let WORDS : c.in-Structs.count * (c.in-Structs.size.data_words + c.in-Structs.size.pointers) < 2 ^ 29 = few.1 in
     search rules
 
 pub copy_object-returns-in-Null-clause-copied : goal.copy_object-returns-in-Null-clause-copied
 copy_object-returns-in-Null-clause-copied g t c =
-    null_copied (rw c.in-Null.is at c.in-Ok.ensures.object) c.requires.place c.requires.null
+    null_copied (rw c.in-Null.is at c.in_ok-object.ensures.object) c.requires.place c.requires.null
 
 pub copy_object-returns-in-Null-clause-taken : goal.copy_object-returns-in-Null-clause-taken
-copy_object-returns-in-Null-clause-taken g t c = null_takes (rw c.in-Null.is at c.in-Ok.ensures.object)
+copy_object-returns-in-Null-clause-taken g t c = null_takes (rw c.in-Null.is at c.in_ok-object.ensures.object)
 
 pub copy_object-returns-in-Capability-clause-copied : goal.copy_object-returns-in-Capability-clause-copied
 copy_object-returns-in-Capability-clause-copied g t c =
-    let object = rw c.in-Capability.is at c.in-Ok.ensures.object in
+    let object = rw c.in-Capability.is at c.in_ok-object.ensures.object in
     let outcome : CapabilityCopied c.copy_capability.result (form_in c.args.form) c.args.id c.args.at c.in-Capability.index (g.A.BuilderArena.view c.args.arena.now) (g.A.BuilderArena.view c.copy_capability.new.arena) =
     record { as_it_stands = c.copy_capability.ensures.as_it_stands; copied = c.copy_capability.ensures.copied; refused = c.copy_capability.ensures.refused; unchanged = c.copy_capability.ensures.unchanged } in
     capability_value (reading g.B.ReaderArena c.args.from) _ _ c.copy_capability.result object c.requires.place outcome
 
 pub copy_object-returns-in-Capability-clause-refused : goal.copy_object-returns-in-Capability-clause-refused
 copy_object-returns-in-Capability-clause-refused g t c =
-    let object = rw c.in-Capability.is at c.in-Ok.ensures.object in
+    let object = rw c.in-Capability.is at c.in_ok-object.ensures.object in
     let outcome : CapabilityCopied c.copy_capability.result (form_in c.args.form) c.args.id c.args.at c.in-Capability.index (g.A.BuilderArena.view c.args.arena.now) (g.A.BuilderArena.view c.copy_capability.new.arena) =
     record { as_it_stands = c.copy_capability.ensures.as_it_stands; copied = c.copy_capability.ensures.copied; refused = c.copy_capability.ensures.refused; unchanged = c.copy_capability.ensures.unchanged } in
     capability_value_stops (reading g.B.ReaderArena c.args.from) _ _ c.copy_capability.result object c.requires.place c.requires.null outcome
 
 pub copy_object-returns-in-Capability-clause-taken : goal.copy_object-returns-in-Capability-clause-taken
 copy_object-returns-in-Capability-clause-taken g t c =
-    let object = rw c.in-Capability.is at c.in-Ok.ensures.object in
+    let object = rw c.in-Capability.is at c.in_ok-object.ensures.object in
     let outcome : CapabilityCopied c.copy_capability.result (form_in c.args.form) c.args.id c.args.at c.in-Capability.index (g.A.BuilderArena.view c.args.arena.now) (g.A.BuilderArena.view c.copy_capability.new.arena) =
     record { as_it_stands = c.copy_capability.ensures.as_it_stands; copied = c.copy_capability.ensures.copied; refused = c.copy_capability.ensures.refused; unchanged = c.copy_capability.ensures.unchanged } in
     capability_value_takes (reading g.B.ReaderArena c.args.from) _ _ c.copy_capability.result object outcome
@@ -209,80 +220,80 @@ copy_object-returns-in-Capability-clause-taken g t c =
 pub copy_object-returns-in-Struct-clause-copied : goal.copy_object-returns-in-Struct-clause-copied
 copy_object-returns-in-Struct-clause-copied g t c =
     let nl = to_z-of_z w32 c.args.from.nesting_limit (search rules) in
-    let object = rw (c.in-Struct.is, nl) at c.in-Ok.ensures.object in
+    let object = rw (c.in-Struct.is, nl) at c.in_ok-object.ensures.object in
     let less = one_level_in c.args.from.nesting_limit (search rules) in
-    ok_so c.copy_struct.result _ _ c.copy_struct.ensures.copied (λ x made. struct_value c.in-Struct.start less object made)
+    ok_so c.copy_struct.result c.copy_struct.ensures.copied (λ x made. struct_value c.in-Struct.start less object made)
 
 pub copy_object-returns-in-Struct-clause-refused : goal.copy_object-returns-in-Struct-clause-refused
 copy_object-returns-in-Struct-clause-refused g t c =
     let nl = to_z-of_z w32 c.args.from.nesting_limit (search rules) in
-    let object = rw (c.in-Struct.is, nl) at c.in-Ok.ensures.object in
+    let object = rw (c.in-Struct.is, nl) at c.in_ok-object.ensures.object in
     let less = one_level_in c.args.from.nesting_limit (search rules) in
-    err_so c.copy_struct.result _ _ c.copy_struct.ensures.refused (λ k stop. struct_value_stops c.in-Struct.start less object stop)
+    err_so c.copy_struct.result c.copy_struct.ensures.refused (λ k stop. struct_value_stops c.in-Struct.start less object stop)
 
 pub copy_object-returns-in-Struct-clause-taken : goal.copy_object-returns-in-Struct-clause-taken
 copy_object-returns-in-Struct-clause-taken g t c =
     let nl = to_z-of_z w32 c.args.from.nesting_limit (search rules) in
     let less = one_level_in c.args.from.nesting_limit (search rules) in
-    let object = rw (c.in-Struct.is, nl) at c.in-Ok.ensures.object in
+    let object = rw (c.in-Struct.is, nl) at c.in_ok-object.ensures.object in
     taken_so c.copy_struct.result _ _ _ _ (λ x. struct_takes c.in-Struct.start less object x) (λ x. struct_stop_takes c.in-Struct.start less object x) c.copy_struct.ensures.taken
 
 pub copy_object-returns-in-Flat-clause-copied : goal.copy_object-returns-in-Flat-clause-copied
 copy_object-returns-in-Flat-clause-copied g t c =
     let nl = to_z-of_z w32 c.args.from.nesting_limit (search rules) in
-    let object = rw (c.in-Flat.is, nl) at c.in-Ok.ensures.object in
+    let object = rw (c.in-Flat.is, nl) at c.in_ok-object.ensures.object in
     let outcome : FlatOutcome c.copy_flat.result c.args.id c.args.at (words_for (size_number c.in-Flat.size) c.in-Flat.count) (g.A.BuilderArena.view c.args.arena.now) (g.A.BuilderArena.view c.copy_flat.new.arena) (Flat (size_number c.in-Flat.size) (unpacked (size_number c.in-Flat.size) c.in-Flat.count (words_of c.part-elements.result.now))) =
-    record { copied = c.copy_flat.ensures.copied; granted = c.copy_flat.ensures.granted; refused = c.copy_flat.ensures.refused; kept = c.copy_flat.ensures.kept; memory = c.copy_flat.ensures.memory; stands = c.copy_flat.ensures.stands; fits = λ room. c.copy_flat.ensures.fits (omega (arith, room, flat_words (size_number c.in-Flat.size) c.in-Flat.count (words_of c.part-elements.result.now))) } in
+    record { copied = c.copy_flat.ensures.copied; granted = c.copy_flat.ensures.granted; refused = c.copy_flat.ensures.refused; kept = c.copy_flat.ensures.kept; memory = c.copy_flat.ensures.memory; stands = c.copy_flat.ensures.stands; fits = λ room. c.copy_flat.ensures.fits (omega (arith, room, word_count-flat (size_number c.in-Flat.size) c.in-Flat.count (words_of c.part-elements.result.now))) } in
     flat_value (form_in c.args.form) c.copy_flat.result c.in-Flat.start c.in-Flat.size object c.flat_words-words.ensures c.part-elements.ensures.words outcome
 
 pub copy_object-returns-in-Flat-clause-refused : goal.copy_object-returns-in-Flat-clause-refused
 copy_object-returns-in-Flat-clause-refused g t c =
     let nl = to_z-of_z w32 c.args.from.nesting_limit (search rules) in
-    let object = rw (c.in-Flat.is, nl) at c.in-Ok.ensures.object in
+    let object = rw (c.in-Flat.is, nl) at c.in_ok-object.ensures.object in
     let outcome : FlatOutcome c.copy_flat.result c.args.id c.args.at (words_for (size_number c.in-Flat.size) c.in-Flat.count) (g.A.BuilderArena.view c.args.arena.now) (g.A.BuilderArena.view c.copy_flat.new.arena) (Flat (size_number c.in-Flat.size) (unpacked (size_number c.in-Flat.size) c.in-Flat.count (words_of c.part-elements.result.now))) =
-    record { copied = c.copy_flat.ensures.copied; granted = c.copy_flat.ensures.granted; refused = c.copy_flat.ensures.refused; kept = c.copy_flat.ensures.kept; memory = c.copy_flat.ensures.memory; stands = c.copy_flat.ensures.stands; fits = λ room. c.copy_flat.ensures.fits (omega (arith, room, flat_words (size_number c.in-Flat.size) c.in-Flat.count (words_of c.part-elements.result.now))) } in
+    record { copied = c.copy_flat.ensures.copied; granted = c.copy_flat.ensures.granted; refused = c.copy_flat.ensures.refused; kept = c.copy_flat.ensures.kept; memory = c.copy_flat.ensures.memory; stands = c.copy_flat.ensures.stands; fits = λ room. c.copy_flat.ensures.fits (omega (arith, room, word_count-flat (size_number c.in-Flat.size) c.in-Flat.count (words_of c.part-elements.result.now))) } in
     flat_stops (form_in c.args.form) c.copy_flat.result c.in-Flat.start c.in-Flat.size object c.flat_words-words.ensures c.part-elements.ensures.words (c.requires.place, c.requires.null) outcome
 
 pub copy_object-returns-in-Flat-clause-taken : goal.copy_object-returns-in-Flat-clause-taken
 copy_object-returns-in-Flat-clause-taken g t c =
     let nl = to_z-of_z w32 c.args.from.nesting_limit (search rules) in
-    let object = rw (c.in-Flat.is, nl) at c.in-Ok.ensures.object in
+    let object = rw (c.in-Flat.is, nl) at c.in_ok-object.ensures.object in
     taken_so c.copy_flat.result _ _ _ _ (λ made. flat_takes c.in-Flat.size c.in-Flat.start object made) (λ none. flat_stop_takes c.in-Flat.size c.in-Flat.start object none) c.copy_flat.ensures.taken
 
 pub copy_object-returns-in-Pointers-clause-copied : goal.copy_object-returns-in-Pointers-clause-copied
 copy_object-returns-in-Pointers-clause-copied g t c =
     let nl = to_z-of_z w32 c.args.from.nesting_limit (search rules) in
-    let object = rw (c.in-Pointers.is, nl) at c.in-Ok.ensures.object in
+    let object = rw (c.in-Pointers.is, nl) at c.in_ok-object.ensures.object in
     let less = one_level_in c.args.from.nesting_limit (search rules) in
-    ok_so c.copy_pointers.result _ _ c.copy_pointers.ensures.copied (λ x made. pointers_value c.in-Pointers.start less object made)
+    ok_so c.copy_pointers.result c.copy_pointers.ensures.copied (λ x made. pointers_value c.in-Pointers.start less object made)
 
 pub copy_object-returns-in-Pointers-clause-refused : goal.copy_object-returns-in-Pointers-clause-refused
 copy_object-returns-in-Pointers-clause-refused g t c =
     let nl = to_z-of_z w32 c.args.from.nesting_limit (search rules) in
-    let object = rw (c.in-Pointers.is, nl) at c.in-Ok.ensures.object in
+    let object = rw (c.in-Pointers.is, nl) at c.in_ok-object.ensures.object in
     let less = one_level_in c.args.from.nesting_limit (search rules) in
-    err_so c.copy_pointers.result _ _ c.copy_pointers.ensures.refused (λ k stop. pointers_value_stops c.in-Pointers.start less object (rw c.in-Pointers.is at c.in-Ok.ensures.few) stop)
+    err_so c.copy_pointers.result c.copy_pointers.ensures.refused (λ k stop. pointers_value_stops c.in-Pointers.start less object (rw c.in-Pointers.is at c.in_ok-object.ensures.few) stop)
 
 pub copy_object-returns-in-Pointers-clause-taken : goal.copy_object-returns-in-Pointers-clause-taken
 copy_object-returns-in-Pointers-clause-taken g t c =
     let nl = to_z-of_z w32 c.args.from.nesting_limit (search rules) in
     let less = one_level_in c.args.from.nesting_limit (search rules) in
-    let object = rw (c.in-Pointers.is, nl) at c.in-Ok.ensures.object in
+    let object = rw (c.in-Pointers.is, nl) at c.in_ok-object.ensures.object in
     taken_so c.copy_pointers.result _ _ _ _ (λ x. pointers_take c.in-Pointers.start less object x) (λ x. pointers_stop_take c.in-Pointers.start less object x) c.copy_pointers.ensures.taken
 
 pub copy_object-returns-in-Structs-clause-copied : goal.copy_object-returns-in-Structs-clause-copied
 copy_object-returns-in-Structs-clause-copied g t c =
     let nl = to_z-of_z w32 c.args.from.nesting_limit (search rules) in
-    let object = rw (c.in-Structs.is, nl) at c.in-Ok.ensures.object in
+    let object = rw (c.in-Structs.is, nl) at c.in_ok-object.ensures.object in
     let less = one_level_in c.args.from.nesting_limit (search rules) in
-    ok_so c.copy_structs.result _ _ c.copy_structs.ensures.copied (λ x made. structs_value c.in-Structs.start less object made)
+    ok_so c.copy_structs.result c.copy_structs.ensures.copied (λ x made. structs_value c.in-Structs.start less object made)
 
 pub copy_object-returns-in-Structs-clause-refused : goal.copy_object-returns-in-Structs-clause-refused
 copy_object-returns-in-Structs-clause-refused g t c =
     let nl = to_z-of_z w32 c.args.from.nesting_limit (search rules) in
-    let object = rw (c.in-Structs.is, nl) at c.in-Ok.ensures.object in
+    let object = rw (c.in-Structs.is, nl) at c.in_ok-object.ensures.object in
     let less = one_level_in c.args.from.nesting_limit (search rules) in
-    err_so c.copy_structs.result _ _ c.copy_structs.ensures.refused (λ k stop. structs_value_stops c.in-Structs.start less object (rw c.in-Structs.is at c.in-Ok.ensures.few) stop)
+    err_so c.copy_structs.result c.copy_structs.ensures.refused (λ k stop. structs_value_stops c.in-Structs.start less object (rw c.in-Structs.is at c.in_ok-object.ensures.few) stop)
 
 -- The elements of a list of structs.
 
@@ -290,7 +301,7 @@ pub copy_object-returns-in-Structs-clause-taken : goal.copy_object-returns-in-St
 copy_object-returns-in-Structs-clause-taken g t c =
     let nl = to_z-of_z w32 c.args.from.nesting_limit (search rules) in
     let less = one_level_in c.args.from.nesting_limit (search rules) in
-    let object = rw (c.in-Structs.is, nl) at c.in-Ok.ensures.object in
+    let object = rw (c.in-Structs.is, nl) at c.in_ok-object.ensures.object in
     taken_so c.copy_structs.result _ _ _ _ (λ x. structs_take c.in-Structs.start less object x) (λ x. structs_stop_take c.in-Structs.start less object x) c.copy_structs.ensures.taken
 
 pub elements::copy_element-returns-clause-copied : goal.elements::copy_element-returns-clause-copied
@@ -301,7 +312,7 @@ elements::copy_element-returns-clause-copied g t c =
     let section : words_of c.part-data.result.now ≡ words_from from c.args.sizes.kept.data_words = rw (c.from-data_words.ensures, held) at c.part-data.ensures.words in
     let put : DataWritten from c.args.sizes (g.A.BuilderArena.view c.args.arena.now) (g.A.BuilderArena.view c.put_words.new.arena) c.args.to.segment c.args.to.at =
     record { inside = omega (arith, c.requires.inside, c.requires.less_data); room = omega (arith, c.requires.room); writes = rw section at c.put_words.ensures.words } in
-    ok_so c.copy_in_line.result _ _ c.copy_in_line.ensures.copied (λ x made. element_copied put (rw (c.from.ensures, c.from-2.ensures, c.from-pointers.ensures, nl) at made))
+    ok_so c.copy_in_line.result c.copy_in_line.ensures.copied (λ x made. element_copied put (rw (c.from.ensures, c.from-2.ensures, c.from-pointers.ensures, nl) at made))
 
 pub elements::copy_element-returns-clause-refused : goal.elements::copy_element-returns-clause-refused
 elements::copy_element-returns-clause-refused g t c =
@@ -311,7 +322,7 @@ elements::copy_element-returns-clause-refused g t c =
     let section : words_of c.part-data.result.now ≡ words_from from c.args.sizes.kept.data_words = rw (c.from-data_words.ensures, held) at c.part-data.ensures.words in
     let put : DataWritten from c.args.sizes (g.A.BuilderArena.view c.args.arena.now) (g.A.BuilderArena.view c.put_words.new.arena) c.args.to.segment c.args.to.at =
     record { inside = omega (arith, c.requires.inside, c.requires.less_data); room = omega (arith, c.requires.room); writes = rw section at c.put_words.ensures.words } in
-    err_so c.copy_in_line.result _ _ c.copy_in_line.ensures.refused (λ k stop. element_stops put (rw (c.from.ensures, c.from-2.ensures, c.from-pointers.ensures, nl) at stop))
+    err_so c.copy_in_line.result c.copy_in_line.ensures.refused (λ k stop. element_stops put (rw (c.from.ensures, c.from-2.ensures, c.from-pointers.ensures, nl) at stop))
 
 pub elements::copy_element-returns-clause-taken : goal.elements::copy_element-returns-clause-taken
 elements::copy_element-returns-clause-taken g t c =
@@ -338,13 +349,13 @@ elements::copy_elements-loop-i-init g t c =
 
 pub elements::copy_elements-overflow_mul-element : goal.elements::copy_elements-overflow_mul-element
 elements::copy_elements-overflow_mul-element g t c =
-    let end = row_end c.loop-i.i c.args.count (c.args.sizes.source.data_words + c.args.sizes.source.pointers) c.loop-i-test.true in
+    let end = row_within c.loop-i.i c.args.count (c.args.sizes.source.data_words + c.args.sizes.source.pointers) c.loop-i-test.true in
     let same : c.loop-i.i * c.total-source_words.result ≡ c.loop-i.i * (c.args.sizes.source.data_words + c.args.sizes.source.pointers) = ap (λ w. c.loop-i.i * w) c.total-source_words.ensures in
     omega (arith, end, same, c.requires.inside, c.args.from.held.1, c.args.from.held.2)
 
 pub elements::copy_elements-overflow_mul-row : goal.elements::copy_elements-overflow_mul-row
 elements::copy_elements-overflow_mul-row g t c =
-    let end = row_end c.loop-i.i c.args.count (c.args.sizes.kept.data_words + c.args.sizes.kept.pointers) c.loop-i-test.true in
+    let end = row_within c.loop-i.i c.args.count (c.args.sizes.kept.data_words + c.args.sizes.kept.pointers) c.loop-i-test.true in
     let same : c.loop-i.i * c.total-kept_words.result ≡ c.loop-i.i * (c.args.sizes.kept.data_words + c.args.sizes.kept.pointers) = ap (λ w. c.loop-i.i * w) c.total-kept_words.ensures in
     omega (arith, end, same, c.requires.room, g.met.A.BuilderArena.within c.args.arena.now c.args.to.segment, g.met.A.BuilderArena.small c.args.arena.now c.args.to.segment)
 
@@ -364,8 +375,8 @@ elements::copy_elements-copy_element-requires g t c κs within =
     let INSIDE : c.args.from.place.at + c.loop-i.i * c.total-source_words.result + (c.args.sizes.source.data_words + c.args.sizes.source.pointers) ≤ length (segment from.segments from.segment) = rw c.total-source_words.ensures (next_inside here) in
     search rules
 
-pub elements::copy_elements-returns-in-Err-clause-refused : goal.elements::copy_elements-returns-in-Err-clause-refused
-elements::copy_elements-returns-in-Err-clause-refused g t c =
+pub elements::copy_elements-returns-in_err-copy_element-clause-refused : goal.elements::copy_elements-returns-in_err-copy_element-clause-refused
+elements::copy_elements-returns-in_err-copy_element-clause-refused g t c =
     let nl = to_z-of_z w32 c.args.from.nesting_limit (search rules) in
     let from : Reading = reading g.B.ReaderArena c.args.from in
     let here : AtRow from c.args.sizes c.args.count c.loop-i.i (form_in c.args.form) c.args.to.segment c.args.to.at (g.A.BuilderArena.view c.args.arena.now) (g.A.BuilderArena.view c.loop-i.arena) c.args.lim.now c.loop-i.lim = record {
@@ -376,7 +387,8 @@ elements::copy_elements-returns-in-Err-clause-refused g t c =
       more = c.loop-i-test.true;
       rows = c.loop-i.invariant.0;
     } in
-    row_stops here c.loop-i.invariant.1 (rw (c.total-source_words.ensures, c.total-kept_words.ensures, nl) at c.in-Err.ensures.refused)
+    let p = err_from_is_err_and c.from_residual.result c.from_residual.ensures.1 in
+    rw (p.1, p.2) (row_stops here c.loop-i.invariant.1 (rw (c.total-source_words.ensures, c.total-kept_words.ensures, nl) at c.in_err-copy_element.ensures.refused))
 
 pub elements::copy_elements-loop-i-preserved : goal.elements::copy_elements-loop-i-preserved
 elements::copy_elements-loop-i-preserved g t c =
@@ -390,16 +402,17 @@ elements::copy_elements-loop-i-preserved g t c =
       more = c.loop-i-test.true;
       rows = c.loop-i.invariant.0;
     } in (
-      row_copied here (rw (c.total-source_words.ensures, c.total-kept_words.ensures, nl) at c.in-Ok.ensures.copied),
-      row_taken here.fits c.loop-i-test.true c.loop-i.invariant.1 (rw (c.total-source_words.ensures, nl) at c.in-Ok.ensures.taken),
+      row_copied here (rw (c.total-source_words.ensures, c.total-kept_words.ensures, nl) at c.in_ok-copy_element.ensures.copied),
+      row_taken here.fits c.loop-i-test.true c.loop-i.invariant.1 (rw (c.total-source_words.ensures, nl) at c.in_ok-copy_element.ensures.taken),
     )
 
-pub elements::copy_elements-returns-in-Err-clause-taken : goal.elements::copy_elements-returns-in-Err-clause-taken
-elements::copy_elements-returns-in-Err-clause-taken g t c =
+pub elements::copy_elements-returns-in_err-copy_element-clause-taken : goal.elements::copy_elements-returns-in_err-copy_element-clause-taken
+elements::copy_elements-returns-in_err-copy_element-clause-taken g t c =
     let nl = to_z-of_z w32 c.args.from.nesting_limit (search rules) in
     let from : Reading = reading g.B.ReaderArena c.args.from in
     let fits : SourceKept (form_in c.args.form) from c.args.sizes c.args.count = record { inside = c.requires.inside; less_data = c.requires.less_data; less_pointers = c.requires.less_pointers; used = c.requires.pointers } in
-    row_stop_taken fits c.loop-i-test.true c.loop-i.invariant.1 (rw (c.total-source_words.ensures, nl) at c.in-Err.ensures.taken)
+    let p = err_from_is_err_and c.from_residual.result c.from_residual.ensures.1 in
+    rw p.1 (row_stop_taken fits c.loop-i-test.true c.loop-i.invariant.1 (rw (c.total-source_words.ensures, nl) at c.in_err-copy_element.ensures.taken))
 
 pub elements::copy_elements-returns-clause-copied : goal.elements::copy_elements-returns-clause-copied
 elements::copy_elements-returns-clause-copied g t c = all_rows (omega arith) (omega arith) c.loop-i.invariant.0
@@ -409,7 +422,7 @@ elements::copy_elements-returns-clause-taken g t c = rows_taken c.args.sizes (om
 
 pub elements::copy_elements-overflow_add-element : goal.elements::copy_elements-overflow_add-element
 elements::copy_elements-overflow_add-element g t c =
-    let end = row_end c.loop-i.i c.args.count (c.args.sizes.source.data_words + c.args.sizes.source.pointers) c.loop-i-test.true in
+    let end = row_within c.loop-i.i c.args.count (c.args.sizes.source.data_words + c.args.sizes.source.pointers) c.loop-i-test.true in
     let same : c.loop-i.i * c.total-source_words.result ≡ c.loop-i.i * (c.args.sizes.source.data_words + c.args.sizes.source.pointers) = ap (λ w. c.loop-i.i * w) c.total-source_words.ensures in
     omega (arith, end, same, c.requires.inside, c.args.from.held.1, c.args.from.held.2)
 
@@ -419,41 +432,43 @@ pub lists::copy_pointers-copy_in_line-requires : goal.lists::copy_pointers-copy_
 lists::copy_pointers-copy_in_line-requires g t c κs within =
     let S : Segments = (g.A.BuilderArena.view c.args.arena.now).words in
     let M : Segments = (g.A.BuilderArena.view c.make_list.new.arena).words in
-    let begun : IsBegun S M c.args.id c.args.at c.args.count c.in-Ok.start (Pointers (nulls c.args.count)) = record { made = c.in-Ok.ensures.made; start = c.in-Ok.ensures.start.leads; inside = c.in-Ok.ensures.start.inside } in
-    let ROOM : c.in-Ok.start.at + c.args.count ≤ length (segment M c.in-Ok.start.segment) = begun.inside.1 in
-    let NULL : (i : ℕ) → i < c.args.count → word_at M c.in-Ok.start.segment (c.in-Ok.start.at + i) ≡ 0 = pointers_ready S M c.args.id c.args.at c.args.count c.in-Ok.start begun in
+    let begun : IsBegun S M c.args.id c.args.at c.args.count c.in_ok-start.start (Pointers (nulls c.args.count)) = record { made = c.in_ok-start.ensures.made; start = c.in_ok-start.ensures.start.leads; inside = c.in_ok-start.ensures.start.inside } in
+    let ROOM : c.in_ok-start.start.at + c.args.count ≤ length (segment M c.in_ok-start.start.segment) = begun.inside.1 in
+    let NULL : (i : ℕ) → i < c.args.count → word_at M c.in_ok-start.start.segment (c.in_ok-start.start.at + i) ≡ 0 = pointers_ready S M c.args.id c.args.at c.args.count c.in_ok-start.start begun in
     search rules
 
-pub lists::copy_pointers-returns-in-Ok-clause-copied : goal.lists::copy_pointers-returns-in-Ok-clause-copied
-lists::copy_pointers-returns-in-Ok-clause-copied g t c =
-    let begun : ObjectBegun c.args.id c.args.at c.args.count (g.A.BuilderArena.view c.args.arena.now) (g.A.BuilderArena.view c.make_list.new.arena) c.in-Ok.start (Pointers (nulls c.args.count)) =
-    record { begun = record { made = c.in-Ok.ensures.made; start = c.in-Ok.ensures.start.leads; inside = c.in-Ok.ensures.start.inside }; memory = c.in-Ok.ensures.memory.granted } in
-    ok_so c.copy_in_line.result _ _ c.copy_in_line.ensures.copied (λ x made. pointers_copied begun (record { place = c.requires.place; memory = c.in-Ok.ensures.memory.granted; taken = c.in-Ok.ensures.memory.taken; near = c.in-Ok.ensures.near; at_end = c.in-Ok.ensures.at_end }) made)
+pub lists::copy_pointers-returns-clause-copied : goal.lists::copy_pointers-returns-clause-copied
+lists::copy_pointers-returns-clause-copied g t c =
+    let begun : ObjectBegun c.args.id c.args.at c.args.count (g.A.BuilderArena.view c.args.arena.now) (g.A.BuilderArena.view c.make_list.new.arena) c.in_ok-start.start (Pointers (nulls c.args.count)) =
+    record { begun = record { made = c.in_ok-start.ensures.made; start = c.in_ok-start.ensures.start.leads; inside = c.in_ok-start.ensures.start.inside }; memory = c.in_ok-start.ensures.memory.granted } in
+    ok_so c.copy_in_line.result c.copy_in_line.ensures.copied (λ x made. pointers_copied begun (record { place = c.requires.place; memory = c.in_ok-start.ensures.memory.granted; taken = c.in_ok-start.ensures.memory.taken; near = c.in_ok-start.ensures.near; at_end = c.in_ok-start.ensures.at_end }) made)
 
-pub lists::copy_pointers-returns-in-Ok-clause-refused : goal.lists::copy_pointers-returns-in-Ok-clause-refused
-lists::copy_pointers-returns-in-Ok-clause-refused g t c =
-    let begun : ObjectBegun c.args.id c.args.at c.args.count (g.A.BuilderArena.view c.args.arena.now) (g.A.BuilderArena.view c.make_list.new.arena) c.in-Ok.start (Pointers (nulls c.args.count)) =
-    record { begun = record { made = c.in-Ok.ensures.made; start = c.in-Ok.ensures.start.leads; inside = c.in-Ok.ensures.start.inside }; memory = c.in-Ok.ensures.memory.granted } in
-    err_so c.copy_in_line.result _ _ c.copy_in_line.ensures.refused (λ k stop. pointers_stop begun (record { place = c.requires.place; memory = c.in-Ok.ensures.memory.granted; taken = c.in-Ok.ensures.memory.taken; behind = c.in-Ok.ensures.start.behind }) c.in-Ok.ensures.at_end stop)
+pub lists::copy_pointers-returns-clause-refused : goal.lists::copy_pointers-returns-clause-refused
+lists::copy_pointers-returns-clause-refused g t c =
+    let begun : ObjectBegun c.args.id c.args.at c.args.count (g.A.BuilderArena.view c.args.arena.now) (g.A.BuilderArena.view c.make_list.new.arena) c.in_ok-start.start (Pointers (nulls c.args.count)) =
+    record { begun = record { made = c.in_ok-start.ensures.made; start = c.in_ok-start.ensures.start.leads; inside = c.in_ok-start.ensures.start.inside }; memory = c.in_ok-start.ensures.memory.granted } in
+    err_so c.copy_in_line.result c.copy_in_line.ensures.refused (λ k stop. pointers_stop begun (record { place = c.requires.place; memory = c.in_ok-start.ensures.memory.granted; taken = c.in_ok-start.ensures.memory.taken; behind = c.in_ok-start.ensures.start.behind }) c.in_ok-start.ensures.at_end stop)
 
-pub lists::copy_pointers-returns-in-Ok-clause-taken : goal.lists::copy_pointers-returns-in-Ok-clause-taken
-lists::copy_pointers-returns-in-Ok-clause-taken g t c =
-    let begun : Begins c.args.id c.in-Ok.start.segment c.args.count (g.A.BuilderArena.view c.args.arena.now) (g.A.BuilderArena.view c.make_list.new.arena) =
-    record { there = there (g.A.BuilderArena.view c.args.arena.now).words c.args.id c.args.at c.requires.place; taken = c.in-Ok.ensures.memory.taken; memory = c.in-Ok.ensures.memory.granted; near = λ room. (c.in-Ok.ensures.at_end room).0; far = λ full. (c.in-Ok.ensures.start.behind.far full).0 } in
+pub lists::copy_pointers-returns-clause-taken : goal.lists::copy_pointers-returns-clause-taken
+lists::copy_pointers-returns-clause-taken g t c =
+    let begun : Begins c.args.id c.in_ok-start.start.segment c.args.count (g.A.BuilderArena.view c.args.arena.now) (g.A.BuilderArena.view c.make_list.new.arena) =
+    record { there = there (g.A.BuilderArena.view c.args.arena.now).words c.args.id c.args.at c.requires.place; taken = c.in_ok-start.ensures.memory.taken; memory = c.in_ok-start.ensures.memory.granted; near = λ room. (c.in_ok-start.ensures.at_end room).0; far = λ full. (c.in_ok-start.ensures.start.behind.far full).0 } in
     taken_so c.copy_in_line.result _ _ _ _ (λ x. pointers_behind _ _ _ _ _ _ _ _ _ _ begun x) (λ x. pointers_stop_behind _ _ _ _ _ _ _ _ _ _ begun x) c.copy_in_line.ensures.taken
 
-pub lists::copy_pointers-returns-in-Err-clause-refused : goal.lists::copy_pointers-returns-in-Err-clause-refused
-lists::copy_pointers-returns-in-Err-clause-refused g t c =
-    let full : HasRoom (g.A.BuilderArena.view c.args.arena.now) c.args.id c.args.count → ⊥ = λ room. absurd (false≢true (c.in-Err.ensures.memory.fits room)) in
-    let none = nothing_made (form_in c.args.form) c.args.id c.args.at c.args.count (g.A.BuilderArena.view c.args.arena.now) (g.A.BuilderArena.view c.make_list.new.arena) c.args.lim.now c.args.lim.now c.in-Err.k c.requires.place c.requires.null
-    c.in-Err.ensures.memory.named c.in-Err.ensures.refused full in
-    halfway (inl (inl (c.args.count, refl, refl, (none.0, no_own_room (g.A.BuilderArena.view c.args.arena.now) c.args.id c.args.count full)), pointers_large (form_in c.args.form) (reading g.B.ReaderArena c.args.from) c.args.count (length (segment (g.A.BuilderArena.view c.args.arena.now).words c.args.id)) ((g.A.BuilderArena.view c.args.arena.now).room c.args.id) (no_pointers_room (form_in c.args.form) (reading g.B.ReaderArena c.args.from) c.args.count c.args.id (g.A.BuilderArena.view c.args.arena.now) full))) none.1
+pub lists::copy_pointers-returns-in_err-start-clause-refused : goal.lists::copy_pointers-returns-in_err-start-clause-refused
+lists::copy_pointers-returns-in_err-start-clause-refused g t c =
+    let full : HasRoom (g.A.BuilderArena.view c.args.arena.now) c.args.id c.args.count → ⊥ = λ room. absurd (false≢true (c.in_err-start.ensures.memory.fits room)) in
+    let none = nothing_made (form_in c.args.form) c.args.id c.args.at c.args.count (g.A.BuilderArena.view c.args.arena.now) (g.A.BuilderArena.view c.make_list.new.arena) c.args.lim.now c.args.lim.now c.in_err-start.field-0.0 c.requires.place c.requires.null
+    c.in_err-start.ensures.memory.named c.in_err-start.ensures.refused full in
+    let p = err_from_is_err_and c.from_residual.result c.from_residual.ensures.1 in
+    rw (p.1, p.2) (halfway (inl (inl (c.args.count, refl, refl, (none.0, no_own_room (g.A.BuilderArena.view c.args.arena.now) c.args.id c.args.count full)), pointers_large (form_in c.args.form) (reading g.B.ReaderArena c.args.from) c.args.count (length (segment (g.A.BuilderArena.view c.args.arena.now).words c.args.id)) ((g.A.BuilderArena.view c.args.arena.now).room c.args.id) (no_pointers_room (form_in c.args.form) (reading g.B.ReaderArena c.args.from) c.args.count c.args.id (g.A.BuilderArena.view c.args.arena.now) full))) none.1)
 
 -- Lists of structs.
 
-pub lists::copy_pointers-returns-in-Err-clause-taken : goal.lists::copy_pointers-returns-in-Err-clause-taken
-lists::copy_pointers-returns-in-Err-clause-taken g t c =
-    inl (refl, made_none (none_refused (g.A.BuilderArena.view c.args.arena.now) (g.A.BuilderArena.view c.make_list.new.arena) c.args.count c.in-Err.k c.in-Err.ensures.memory.named c.in-Err.ensures.refused))
+pub lists::copy_pointers-returns-in_err-start-clause-taken : goal.lists::copy_pointers-returns-in_err-start-clause-taken
+lists::copy_pointers-returns-in_err-start-clause-taken g t c =
+    let p = err_from_is_err_and c.from_residual.result c.from_residual.ensures.1 in
+    rw p.1 (inl (refl, made_none (none_refused (g.A.BuilderArena.view c.args.arena.now) (g.A.BuilderArena.view c.make_list.new.arena) c.args.count c.in_err-start.field-0.0 c.in_err-start.ensures.memory.named c.in_err-start.ensures.refused)))
 
 pub lists::copy_structs-copy_elements-requires : goal.lists::copy_structs-copy_elements-requires
 lists::copy_structs-copy_elements-requires g t c κs within =
@@ -461,161 +476,166 @@ lists::copy_structs-copy_elements-requires g t c κs within =
     let least = c.kept_widths-kept.result in
     let S : Segments = (g.A.BuilderArena.view c.args.arena.now).words in
     let M : Segments = (g.A.BuilderArena.view c.make_struct_list.new.arena).words in
-    let begun : IsBegun S M c.args.id c.args.at (1 + c.args.count * (least.data_words + least.pointers)) c.in-Ok.list (zero_structs c.args.count least) = record { made = c.in-Ok.ensures.made; start = c.in-Ok.ensures.start.leads; inside = c.in-Ok.ensures.start.inside } in
-    let ROOM : c.in-Ok.list.at + 1 + c.args.count * (least.data_words + least.pointers) ≤ length (segment M c.in-Ok.list.segment) = omega (arith, begun.inside.1) in
-    let ZERO : (i : ℕ) → i < c.args.count * (least.data_words + least.pointers) → word_at M c.in-Ok.list.segment (c.in-Ok.list.at + 1 + i) ≡ 0 = structs_ready S M c.args.id c.args.at least.data_words least.pointers c.args.count c.in-Ok.list begun in
+    let begun : IsBegun S M c.args.id c.args.at (1 + c.args.count * (least.data_words + least.pointers)) c.in_ok-list.list (zero_structs c.args.count least) = record { made = c.in_ok-list.ensures.made; start = c.in_ok-list.ensures.start.leads; inside = c.in_ok-list.ensures.start.inside } in
+    let ROOM : c.in_ok-list.list.at + 1 + c.args.count * (least.data_words + least.pointers) ≤ length (segment M c.in_ok-list.list.segment) = omega (arith, begun.inside.1) in
+    let ZERO : (i : ℕ) → i < c.args.count * (least.data_words + least.pointers) → word_at M c.in_ok-list.list.segment (c.in_ok-list.list.at + 1 + i) ≡ 0 = structs_ready S M c.args.id c.args.at least.data_words least.pointers c.args.count c.in_ok-list.list begun in
     let POINTERS : KeepsPointers (form_in c.args.form) from (record { source = c.args.size; kept = least }) c.args.count = widths_keep (form_in c.args.form) from (record { source = c.args.size; kept = least }) c.args.count c.kept_widths-kept.ensures.kept in
     search rules
 
-pub lists::copy_structs-returns-in-Ok-clause-copied : goal.lists::copy_structs-returns-in-Ok-clause-copied
-lists::copy_structs-returns-in-Ok-clause-copied g t c =
+pub lists::copy_structs-returns-clause-copied : goal.lists::copy_structs-returns-clause-copied
+lists::copy_structs-returns-clause-copied g t c =
     let least = c.kept_widths-kept.result in
-    let begun : ObjectBegun c.args.id c.args.at (1 + c.args.count * (least.data_words + least.pointers)) (g.A.BuilderArena.view c.args.arena.now) (g.A.BuilderArena.view c.make_struct_list.new.arena) c.in-Ok.list (zero_structs c.args.count least) =
-    record { begun = record { made = c.in-Ok.ensures.made; start = c.in-Ok.ensures.start.leads; inside = c.in-Ok.ensures.start.inside }; memory = c.in-Ok.ensures.memory.granted } in
-    ok_so c.copy_elements.result _ _ c.copy_elements.ensures.copied (λ x made. structs_copied c.requires.inside c.kept_widths-kept.ensures.kept begun (record { place = c.requires.place; memory = c.in-Ok.ensures.memory.granted; taken = c.in-Ok.ensures.memory.taken; behind = c.in-Ok.ensures.start.behind; near = c.in-Ok.ensures.near }) made)
+    let begun : ObjectBegun c.args.id c.args.at (1 + c.args.count * (least.data_words + least.pointers)) (g.A.BuilderArena.view c.args.arena.now) (g.A.BuilderArena.view c.make_struct_list.new.arena) c.in_ok-list.list (zero_structs c.args.count least) =
+    record { begun = record { made = c.in_ok-list.ensures.made; start = c.in_ok-list.ensures.start.leads; inside = c.in_ok-list.ensures.start.inside }; memory = c.in_ok-list.ensures.memory.granted } in
+    ok_so c.copy_elements.result c.copy_elements.ensures.copied (λ x made. structs_copied c.requires.inside c.kept_widths-kept.ensures.kept begun (record { place = c.requires.place; memory = c.in_ok-list.ensures.memory.granted; taken = c.in_ok-list.ensures.memory.taken; behind = c.in_ok-list.ensures.start.behind; near = c.in_ok-list.ensures.near }) made)
 
-pub lists::copy_structs-returns-in-Ok-clause-refused : goal.lists::copy_structs-returns-in-Ok-clause-refused
-lists::copy_structs-returns-in-Ok-clause-refused g t c =
+pub lists::copy_structs-returns-clause-refused : goal.lists::copy_structs-returns-clause-refused
+lists::copy_structs-returns-clause-refused g t c =
     let least = c.kept_widths-kept.result in
     let less = no_wider c.args.count least.data_words least.pointers c.args.size.data_words c.args.size.pointers c.kept_widths-kept.ensures.less_data c.kept_widths-kept.ensures.less_pointers in
-    let begun : ObjectBegun c.args.id c.args.at (1 + c.args.count * (least.data_words + least.pointers)) (g.A.BuilderArena.view c.args.arena.now) (g.A.BuilderArena.view c.make_struct_list.new.arena) c.in-Ok.list (zero_structs c.args.count least) =
-    record { begun = record { made = c.in-Ok.ensures.made; start = c.in-Ok.ensures.start.leads; inside = c.in-Ok.ensures.start.inside }; memory = c.in-Ok.ensures.memory.granted } in
-    err_so c.copy_elements.result _ _ c.copy_elements.ensures.refused (λ k stop. structs_stop c.requires.inside c.kept_widths-kept.ensures.kept begun (record { place = c.requires.place; memory = c.in-Ok.ensures.memory.granted; taken = c.in-Ok.ensures.memory.taken; behind = c.in-Ok.ensures.start.behind; near = c.in-Ok.ensures.near }) (omega (arith, less)) stop)
+    let begun : ObjectBegun c.args.id c.args.at (1 + c.args.count * (least.data_words + least.pointers)) (g.A.BuilderArena.view c.args.arena.now) (g.A.BuilderArena.view c.make_struct_list.new.arena) c.in_ok-list.list (zero_structs c.args.count least) =
+    record { begun = record { made = c.in_ok-list.ensures.made; start = c.in_ok-list.ensures.start.leads; inside = c.in_ok-list.ensures.start.inside }; memory = c.in_ok-list.ensures.memory.granted } in
+    err_so c.copy_elements.result c.copy_elements.ensures.refused (λ k stop. structs_stop c.requires.inside c.kept_widths-kept.ensures.kept begun (record { place = c.requires.place; memory = c.in_ok-list.ensures.memory.granted; taken = c.in_ok-list.ensures.memory.taken; behind = c.in_ok-list.ensures.start.behind; near = c.in_ok-list.ensures.near }) (omega (arith, less)) stop)
 
-pub lists::copy_structs-returns-in-Ok-clause-taken : goal.lists::copy_structs-returns-in-Ok-clause-taken
-lists::copy_structs-returns-in-Ok-clause-taken g t c =
+pub lists::copy_structs-returns-clause-taken : goal.lists::copy_structs-returns-clause-taken
+lists::copy_structs-returns-clause-taken g t c =
     let least = c.kept_widths-kept.result in
     let less = no_wider c.args.count least.data_words least.pointers c.args.size.data_words c.args.size.pointers c.kept_widths-kept.ensures.less_data c.kept_widths-kept.ensures.less_pointers in
-    let begun : Begins c.args.id c.in-Ok.list.segment (1 + c.args.count * (least.data_words + least.pointers)) (g.A.BuilderArena.view c.args.arena.now) (g.A.BuilderArena.view c.make_struct_list.new.arena) =
-    record { there = there (g.A.BuilderArena.view c.args.arena.now).words c.args.id c.args.at c.requires.place; taken = c.in-Ok.ensures.memory.taken; memory = c.in-Ok.ensures.memory.granted; near = λ room. (c.in-Ok.ensures.start.behind.near (omega arith) room).0; far = λ full. (c.in-Ok.ensures.start.behind.far full).0 } in
+    let begun : Begins c.args.id c.in_ok-list.list.segment (1 + c.args.count * (least.data_words + least.pointers)) (g.A.BuilderArena.view c.args.arena.now) (g.A.BuilderArena.view c.make_struct_list.new.arena) =
+    record { there = there (g.A.BuilderArena.view c.args.arena.now).words c.args.id c.args.at c.requires.place; taken = c.in_ok-list.ensures.memory.taken; memory = c.in_ok-list.ensures.memory.granted; near = λ room. (c.in_ok-list.ensures.start.behind.near (omega arith) room).0; far = λ full. (c.in_ok-list.ensures.start.behind.far full).0 } in
     taken_so c.copy_elements.result _ _ _ _ (λ x. structs_behind _ (record { source = c.args.size; kept = c.kept_widths-kept.result }) _ _ _ _ _ _ _ _ _ _ begun (omega (arith, less)) x) (λ x. structs_stop_behind _ (record { source = c.args.size; kept = c.kept_widths-kept.result }) _ _ _ _ _ _ _ _ _ _ begun (omega (arith, less)) x) c.copy_elements.ensures.taken
 
-pub lists::copy_structs-returns-in-Err-clause-refused : goal.lists::copy_structs-returns-in-Err-clause-refused
-lists::copy_structs-returns-in-Err-clause-refused g t c =
+pub lists::copy_structs-returns-in_err-list-clause-refused : goal.lists::copy_structs-returns-in_err-list-clause-refused
+lists::copy_structs-returns-in_err-list-clause-refused g t c =
     let least = c.kept_widths-kept.result in
-    let full : HasRoom (g.A.BuilderArena.view c.args.arena.now) c.args.id (1 + c.args.count * (least.data_words + least.pointers)) → ⊥ = λ room. absurd (false≢true (c.in-Err.ensures.memory.fits room)) in
-    let none = nothing_made (form_in c.args.form) c.args.id c.args.at (1 + c.args.count * (least.data_words + least.pointers)) (g.A.BuilderArena.view c.args.arena.now) (g.A.BuilderArena.view c.make_struct_list.new.arena) c.args.lim.now c.args.lim.now c.in-Err.k c.requires.place c.requires.null
-    c.in-Err.ensures.memory.named c.in-Err.ensures.refused full in
-    halfway (inl (inl (1 + c.args.count * (least.data_words + least.pointers), refl, ap (structs_words c.args.count) c.kept_widths-kept.ensures.kept, (none.0, no_own_room (g.A.BuilderArena.view c.args.arena.now) c.args.id (1 + c.args.count * (least.data_words + least.pointers)) full)), structs_large (form_in c.args.form) (reading g.B.ReaderArena c.args.from) c.args.size c.args.count (length (segment (g.A.BuilderArena.view c.args.arena.now).words c.args.id)) ((g.A.BuilderArena.view c.args.arena.now).room c.args.id) (no_structs_room (reading g.B.ReaderArena c.args.from) c.args.size least c.args.count c.args.id (g.A.BuilderArena.view c.args.arena.now) (form_in c.args.form) c.requires.inside c.kept_widths-kept.ensures.kept full)))
-    none.1
+    let full : HasRoom (g.A.BuilderArena.view c.args.arena.now) c.args.id (1 + c.args.count * (least.data_words + least.pointers)) → ⊥ = λ room. absurd (false≢true (c.in_err-list.ensures.memory.fits room)) in
+    let none = nothing_made (form_in c.args.form) c.args.id c.args.at (1 + c.args.count * (least.data_words + least.pointers)) (g.A.BuilderArena.view c.args.arena.now) (g.A.BuilderArena.view c.make_struct_list.new.arena) c.args.lim.now c.args.lim.now c.in_err-list.field-0.0 c.requires.place c.requires.null
+    c.in_err-list.ensures.memory.named c.in_err-list.ensures.refused full in
+    let p = err_from_is_err_and c.from_residual.result c.from_residual.ensures.1 in
+    rw (p.1, p.2) (halfway (inl (inl (1 + c.args.count * (least.data_words + least.pointers), refl, ap (structs_words c.args.count) c.kept_widths-kept.ensures.kept, (none.0, no_own_room (g.A.BuilderArena.view c.args.arena.now) c.args.id (1 + c.args.count * (least.data_words + least.pointers)) full)), structs_large (form_in c.args.form) (reading g.B.ReaderArena c.args.from) c.args.size c.args.count (length (segment (g.A.BuilderArena.view c.args.arena.now).words c.args.id)) ((g.A.BuilderArena.view c.args.arena.now).room c.args.id) (no_structs_room (reading g.B.ReaderArena c.args.from) c.args.size least c.args.count c.args.id (g.A.BuilderArena.view c.args.arena.now) (form_in c.args.form) c.requires.inside c.kept_widths-kept.ensures.kept full)))
+    none.1)
 
 -- Structs.
 
-pub lists::copy_structs-returns-in-Err-clause-taken : goal.lists::copy_structs-returns-in-Err-clause-taken
-lists::copy_structs-returns-in-Err-clause-taken g t c =
+pub lists::copy_structs-returns-in_err-list-clause-taken : goal.lists::copy_structs-returns-in_err-list-clause-taken
+lists::copy_structs-returns-in_err-list-clause-taken g t c =
     let least = c.kept_widths-kept.result in
-    inl (refl, made_none (none_refused (g.A.BuilderArena.view c.args.arena.now) (g.A.BuilderArena.view c.make_struct_list.new.arena) (1 + c.args.count * (least.data_words + least.pointers)) c.in-Err.k c.in-Err.ensures.memory.named c.in-Err.ensures.refused))
+    let p = err_from_is_err_and c.from_residual.result c.from_residual.ensures.1 in
+    rw p.1 (inl (refl, made_none (none_refused (g.A.BuilderArena.view c.args.arena.now) (g.A.BuilderArena.view c.make_struct_list.new.arena) (1 + c.args.count * (least.data_words + least.pointers)) c.in_err-list.field-0.0 c.in_err-list.ensures.memory.named c.in_err-list.ensures.refused)))
 
-pub structs::copy_struct-returns-in-Err-clause-refused : goal.structs::copy_struct-returns-in-Err-clause-refused
-structs::copy_struct-returns-in-Err-clause-refused g t c =
+pub structs::copy_struct-returns-in_err-start-clause-refused : goal.structs::copy_struct-returns-in_err-start-clause-refused
+structs::copy_struct-returns-in_err-start-clause-refused g t c =
     let least = c.kept_sections-kept.result in
-    let full : HasRoom (g.A.BuilderArena.view c.args.arena.now) c.args.id (least.data_words + least.pointers) → ⊥ = λ room. absurd (false≢true (c.in-Err.ensures.memory.fits room)) in
-    let none = nothing_made (form_in c.args.form) c.args.id c.args.at (least.data_words + least.pointers) (g.A.BuilderArena.view c.args.arena.now) (g.A.BuilderArena.view c.make_struct.new.arena) c.args.lim.now c.args.lim.now c.in-Err.k c.requires.place c.requires.null
-    c.in-Err.ensures.memory.named c.in-Err.ensures.refused full in
-    let cut = sections_cut (form_in c.args.form) (reading g.B.ReaderArena c.args.from) c.args.size least c.requires.inside (keeps_sections (form_in c.args.form) (reading g.B.ReaderArena c.args.from) c.args.size c.kept_sections-kept.result c.requires.inside c.kept_sections-kept.ensures.data c.kept_sections-kept.ensures.pointers c.kept_sections-kept.ensures.less_data c.kept_sections-kept.ensures.less_pointers) in
+    let full : HasRoom (g.A.BuilderArena.view c.args.arena.now) c.args.id (least.data_words + least.pointers) → ⊥ = λ room. absurd (false≢true (c.in_err-start.ensures.memory.fits room)) in
+    let none = nothing_made (form_in c.args.form) c.args.id c.args.at (least.data_words + least.pointers) (g.A.BuilderArena.view c.args.arena.now) (g.A.BuilderArena.view c.make_struct.new.arena) c.args.lim.now c.args.lim.now c.in_err-start.field-0.0 c.requires.place c.requires.null
+    c.in_err-start.ensures.memory.named c.in_err-start.ensures.refused full in
+    let r : Reading = reading g.B.ReaderArena c.args.from in
+    let cut : SectionsCut (form_in c.args.form) (words_from r c.args.size.data_words) (behind r c.args.size.data_words) c.args.size.pointers least = record { inside = omega (arith, c.requires.inside); of_data = c.kept_sections-kept.ensures.data; of_pointers = c.kept_sections-kept.ensures.pointers } in
     let makes = ap₂ (λ i j. i + j) cut.of_data cut.of_pointers in
-    halfway (inl (inl (least.data_words + least.pointers, refl, makes, (none.0, no_own_room (g.A.BuilderArena.view c.args.arena.now) c.args.id (least.data_words + least.pointers) full)), sections_large (form_in c.args.form) (words_from (reading g.B.ReaderArena c.args.from) c.args.size.data_words) (behind (reading g.B.ReaderArena c.args.from) c.args.size.data_words) c.args.size.pointers (length (segment (g.A.BuilderArena.view c.args.arena.now).words c.args.id)) ((g.A.BuilderArena.view c.args.arena.now).room c.args.id) (no_struct_room (reading g.B.ReaderArena c.args.from) c.args.size least c.args.id (g.A.BuilderArena.view c.args.arena.now) (form_in c.args.form) c.requires.inside (keeps_sections (form_in c.args.form) (reading g.B.ReaderArena c.args.from) c.args.size c.kept_sections-kept.result c.requires.inside c.kept_sections-kept.ensures.data c.kept_sections-kept.ensures.pointers c.kept_sections-kept.ensures.less_data c.kept_sections-kept.ensures.less_pointers) full)))
-    none.1
+    let p = err_from_is_err_and c.from_residual.result c.from_residual.ensures.1 in
+    rw (p.1, p.2) (halfway (inl (
+      inl (least.data_words + least.pointers, refl, makes, (none.0, no_own_room (g.A.BuilderArena.view c.args.arena.now) c.args.id (least.data_words + least.pointers) full)),
+      sections_large (form_in c.args.form) (words_from r c.args.size.data_words) (behind r c.args.size.data_words) c.args.size.pointers (length (segment (g.A.BuilderArena.view c.args.arena.now).words c.args.id)) ((g.A.BuilderArena.view c.args.arena.now).room c.args.id)
+          (no_sections_room c.args.id (g.A.BuilderArena.view c.args.arena.now) (form_in c.args.form) cut full),
+    ))
+    none.1)
 
-pub structs::copy_struct-returns-in-Err-clause-taken : goal.structs::copy_struct-returns-in-Err-clause-taken
-structs::copy_struct-returns-in-Err-clause-taken g t c =
+pub structs::copy_struct-returns-in_err-start-clause-taken : goal.structs::copy_struct-returns-in_err-start-clause-taken
+structs::copy_struct-returns-in_err-start-clause-taken g t c =
     let least = c.kept_sections-kept.result in
-    inl (refl, made_none (none_refused (g.A.BuilderArena.view c.args.arena.now) (g.A.BuilderArena.view c.make_struct.new.arena) (least.data_words + least.pointers) c.in-Err.k c.in-Err.ensures.memory.named c.in-Err.ensures.refused))
+    let p = err_from_is_err_and c.from_residual.result c.from_residual.ensures.1 in
+    rw p.1 (inl (refl, made_none (none_refused (g.A.BuilderArena.view c.args.arena.now) (g.A.BuilderArena.view c.make_struct.new.arena) (least.data_words + least.pointers) c.in_err-start.field-0.0 c.in_err-start.ensures.memory.named c.in_err-start.ensures.refused)))
 
 pub structs::copy_struct-returns-clause-copied : goal.structs::copy_struct-returns-clause-copied
 structs::copy_struct-returns-clause-copied g t c =
     let nl = to_z-of_z w32 c.args.from.nesting_limit (search rules) in
-    let from : Reading = reading g.B.ReaderArena c.args.from in
-    let held : words_of c.args.from.place.bytes.now ≡ segment_read from = c.args.from.held.0 in
-    let section : words_of c.part-data.result.now ≡ words_from from c.kept_sections-kept.result.data_words = rw (c.from-data_words.ensures, held) at c.part-data.ensures.words in
-    let begun : StructBegun (form_in c.args.form) from c.args.size c.kept_sections-kept.result c.args.id c.args.at (g.A.BuilderArena.view c.args.arena.now) (g.A.BuilderArena.view c.make_struct.new.arena) (g.A.BuilderArena.view c.put_words.new.arena) c.in-Ok.start = record {
-      inside = c.requires.inside;
-      sections = (keeps_sections (form_in c.args.form) (reading g.B.ReaderArena c.args.from) c.args.size c.kept_sections-kept.result c.requires.inside c.kept_sections-kept.ensures.data c.kept_sections-kept.ensures.pointers c.kept_sections-kept.ensures.less_data c.kept_sections-kept.ensures.less_pointers);
-      less_data = c.kept_sections-kept.ensures.less_data;
-      less_pointers = c.kept_sections-kept.ensures.less_pointers;
-      begun = record { made = c.in-Ok.ensures.made; start = c.in-Ok.ensures.start.leads; inside = c.in-Ok.ensures.start.inside };
-      memory = c.in-Ok.ensures.memory.granted;
+    let least = c.kept_sections-kept.result in
+    let r : Reading = reading g.B.ReaderArena c.args.from in
+    let held : words_of c.args.from.place.bytes.now ≡ segment_read r = c.args.from.held.0 in
+    let section : words_of c.part-data.result.now ≡ take least.data_words (words_from r c.args.size.data_words) =
+    (rw (c.from-data_words.ensures, held) at c.part-data.ensures.words) ∙ sym (words_taken r.segments r.segment r.at least.data_words c.args.size.data_words c.kept_sections-kept.ensures.less_data) in
+    let begun : SectionsBegun (form_in c.args.form) (words_from r c.args.size.data_words) (behind r c.args.size.data_words) c.args.size.pointers least c.args.id c.args.at (g.A.BuilderArena.view c.args.arena.now) (g.A.BuilderArena.view c.make_struct.new.arena) (g.A.BuilderArena.view c.put_words.new.arena) c.in_ok-start.start = record {
+      cut = record { inside = omega (arith, c.requires.inside); of_data = c.kept_sections-kept.ensures.data; of_pointers = c.kept_sections-kept.ensures.pointers };
+      begun = record { made = c.in_ok-start.ensures.made; start = c.in_ok-start.ensures.start.leads; inside = c.in_ok-start.ensures.start.inside };
+      memory = c.in_ok-start.ensures.memory.granted;
       writes = rw section at c.put_words.ensures.words;
       place = c.requires.place;
-      within = g.met.A.BuilderArena.within c.put_words.new.arena c.in-Ok.start.segment;
-      taken = c.in-Ok.ensures.memory.taken;
-      behind = c.in-Ok.ensures.start.behind;
-      near = c.in-Ok.ensures.near;
-      empty = c.in-Ok.ensures.empty;
+      within = g.met.A.BuilderArena.within c.put_words.new.arena c.in_ok-start.start.segment;
+      taken = c.in_ok-start.ensures.memory.taken;
+      behind = c.in_ok-start.ensures.start.behind;
+      near = c.in_ok-start.ensures.near;
+      empty = c.in_ok-start.ensures.empty;
     } in
-    ok_so c.copy_children.result _ _ c.copy_children.ensures.copied (λ x made. struct_copied begun (rw (c.from.ensures, c.from-2.ensures, c.from-pointers.ensures, nl) at made))
+    ok_so c.copy_children.result c.copy_children.ensures.copied (λ x made. sections_copied begun (rw (c.from.ensures, c.from-2.ensures, c.from-pointers.ensures, nl) at made))
 
 pub structs::copy_struct-returns-clause-refused : goal.structs::copy_struct-returns-clause-refused
 structs::copy_struct-returns-clause-refused g t c =
     let nl = to_z-of_z w32 c.args.from.nesting_limit (search rules) in
-    let from : Reading = reading g.B.ReaderArena c.args.from in
-    let held : words_of c.args.from.place.bytes.now ≡ segment_read from = c.args.from.held.0 in
-    let section : words_of c.part-data.result.now ≡ words_from from c.kept_sections-kept.result.data_words = rw (c.from-data_words.ensures, held) at c.part-data.ensures.words in
-    let begun : StructBegun (form_in c.args.form) from c.args.size c.kept_sections-kept.result c.args.id c.args.at (g.A.BuilderArena.view c.args.arena.now) (g.A.BuilderArena.view c.make_struct.new.arena) (g.A.BuilderArena.view c.put_words.new.arena) c.in-Ok.start = record {
-      inside = c.requires.inside;
-      sections = (keeps_sections (form_in c.args.form) (reading g.B.ReaderArena c.args.from) c.args.size c.kept_sections-kept.result c.requires.inside c.kept_sections-kept.ensures.data c.kept_sections-kept.ensures.pointers c.kept_sections-kept.ensures.less_data c.kept_sections-kept.ensures.less_pointers);
-      less_data = c.kept_sections-kept.ensures.less_data;
-      less_pointers = c.kept_sections-kept.ensures.less_pointers;
-      begun = record { made = c.in-Ok.ensures.made; start = c.in-Ok.ensures.start.leads; inside = c.in-Ok.ensures.start.inside };
-      memory = c.in-Ok.ensures.memory.granted;
+    let least = c.kept_sections-kept.result in
+    let r : Reading = reading g.B.ReaderArena c.args.from in
+    let held : words_of c.args.from.place.bytes.now ≡ segment_read r = c.args.from.held.0 in
+    let section : words_of c.part-data.result.now ≡ take least.data_words (words_from r c.args.size.data_words) =
+    (rw (c.from-data_words.ensures, held) at c.part-data.ensures.words) ∙ sym (words_taken r.segments r.segment r.at least.data_words c.args.size.data_words c.kept_sections-kept.ensures.less_data) in
+    let begun : SectionsBegun (form_in c.args.form) (words_from r c.args.size.data_words) (behind r c.args.size.data_words) c.args.size.pointers least c.args.id c.args.at (g.A.BuilderArena.view c.args.arena.now) (g.A.BuilderArena.view c.make_struct.new.arena) (g.A.BuilderArena.view c.put_words.new.arena) c.in_ok-start.start = record {
+      cut = record { inside = omega (arith, c.requires.inside); of_data = c.kept_sections-kept.ensures.data; of_pointers = c.kept_sections-kept.ensures.pointers };
+      begun = record { made = c.in_ok-start.ensures.made; start = c.in_ok-start.ensures.start.leads; inside = c.in_ok-start.ensures.start.inside };
+      memory = c.in_ok-start.ensures.memory.granted;
       writes = rw section at c.put_words.ensures.words;
       place = c.requires.place;
-      within = g.met.A.BuilderArena.within c.put_words.new.arena c.in-Ok.start.segment;
-      taken = c.in-Ok.ensures.memory.taken;
-      behind = c.in-Ok.ensures.start.behind;
-      near = c.in-Ok.ensures.near;
-      empty = c.in-Ok.ensures.empty;
+      within = g.met.A.BuilderArena.within c.put_words.new.arena c.in_ok-start.start.segment;
+      taken = c.in_ok-start.ensures.memory.taken;
+      behind = c.in_ok-start.ensures.start.behind;
+      near = c.in_ok-start.ensures.near;
+      empty = c.in_ok-start.ensures.empty;
     } in
-    err_so c.copy_children.result _ _ c.copy_children.ensures.refused (λ k stop. struct_stops begun (rw (c.from.ensures, c.from-2.ensures, c.from-pointers.ensures, nl) at stop))
+    err_so c.copy_children.result c.copy_children.ensures.refused (λ k stop. sections_stop begun (rw (c.from.ensures, c.from-2.ensures, c.from-pointers.ensures, nl) at stop))
 
 pub structs::copy_struct-returns-clause-taken : goal.structs::copy_struct-returns-clause-taken
 structs::copy_struct-returns-clause-taken g t c =
     let least = c.kept_sections-kept.result in
-    let made = struct_begins c.args.id c.args.at least (g.A.BuilderArena.view c.args.arena.now) (g.A.BuilderArena.view c.make_struct.new.arena) c.in-Ok.start c.requires.place c.in-Ok.ensures.memory.taken c.in-Ok.ensures.memory.granted c.in-Ok.ensures.start.behind c.in-Ok.ensures.start.leads c.in-Ok.ensures.empty in
+    let made = struct_begins c.args.id c.args.at least (g.A.BuilderArena.view c.args.arena.now) (g.A.BuilderArena.view c.make_struct.new.arena) c.in_ok-start.start c.requires.place c.in_ok-start.ensures.memory.taken c.in_ok-start.ensures.memory.granted c.in_ok-start.ensures.start.behind c.in_ok-start.ensures.start.leads c.in_ok-start.ensures.empty in
     let nl = to_z-of_z w32 c.args.from.nesting_limit (search rules) in
     let put = c.put_words.ensures.taken in
     let last = none_itself (g.A.BuilderArena.view c.copy_children.new.arena) in
     let fewer = c.kept_sections-kept.ensures.less_pointers in
     let r : Reading = reading g.B.ReaderArena c.args.from in
+    let cut : SectionsCut (form_in c.args.form) (words_from r c.args.size.data_words) (behind r c.args.size.data_words) c.args.size.pointers least = record { inside = omega (arith, c.requires.inside); of_data = c.kept_sections-kept.ensures.data; of_pointers = c.kept_sections-kept.ensures.pointers } in
     let long = length_words r.segments r.segment r.at c.args.size.data_words (omega (arith, c.requires.inside)) in
     let less : least.data_words + least.pointers ≤ length (words_from r c.args.size.data_words) + c.args.size.pointers = omega (arith, c.kept_sections-kept.ensures.less_data, fewer, long) in
-    let cut = sections_cut (form_in c.args.form) r c.args.size least c.requires.inside (keeps_sections (form_in c.args.form) (reading g.B.ReaderArena c.args.from) c.args.size c.kept_sections-kept.result c.requires.inside c.kept_sections-kept.ensures.data c.kept_sections-kept.ensures.pointers c.kept_sections-kept.ensures.less_data c.kept_sections-kept.ensures.less_pointers) in
     taken_so c.copy_children.result _ _ _ _ (λ x. sections_behind (words_from r c.args.size.data_words) (behind r c.args.size.data_words) c.args.size.pointers least.pointers (least.data_words + least.pointers) _ _ _ _ _ _ _ _ cut.inside cut.of_pointers made less (all_within put last x))
     (λ x. sections_stop_behind (words_from r c.args.size.data_words) (behind r c.args.size.data_words) c.args.size.pointers least.pointers (least.data_words + least.pointers) _ _ _ _ _ _ _ _ fewer made less (among_within (omega arith) put last x))
     (rw (c.from.ensures, c.from-pointers.ensures, nl) at c.copy_children.ensures.taken)
 
 pub structs::copy_struct-copy_children-requires : goal.structs::copy_struct-copy_children-requires
 structs::copy_struct-copy_children-requires g t c κs within =
-    let from : Reading = reading g.B.ReaderArena c.args.from in
-    let held : words_of c.args.from.place.bytes.now ≡ segment_read from = c.args.from.held.0 in
-    let least = c.kept_sections-kept.result in
     let N : Segments = (g.A.BuilderArena.view c.put_words.new.arena).words in
-    let section : words_of c.part-data.result.now ≡ words_from from c.kept_sections-kept.result.data_words = rw (c.from-data_words.ensures, held) at c.part-data.ensures.words in
-    let begun : StructBegun (form_in c.args.form) from c.args.size c.kept_sections-kept.result c.args.id c.args.at (g.A.BuilderArena.view c.args.arena.now) (g.A.BuilderArena.view c.make_struct.new.arena) (g.A.BuilderArena.view c.put_words.new.arena) c.in-Ok.start = record {
-      inside = c.requires.inside;
-      sections = (keeps_sections (form_in c.args.form) (reading g.B.ReaderArena c.args.from) c.args.size c.kept_sections-kept.result c.requires.inside c.kept_sections-kept.ensures.data c.kept_sections-kept.ensures.pointers c.kept_sections-kept.ensures.less_data c.kept_sections-kept.ensures.less_pointers);
-      less_data = c.kept_sections-kept.ensures.less_data;
-      less_pointers = c.kept_sections-kept.ensures.less_pointers;
-      begun = record { made = c.in-Ok.ensures.made; start = c.in-Ok.ensures.start.leads; inside = c.in-Ok.ensures.start.inside };
-      memory = c.in-Ok.ensures.memory.granted;
+    let least = c.kept_sections-kept.result in
+    let r : Reading = reading g.B.ReaderArena c.args.from in
+    let held : words_of c.args.from.place.bytes.now ≡ segment_read r = c.args.from.held.0 in
+    let section : words_of c.part-data.result.now ≡ take least.data_words (words_from r c.args.size.data_words) =
+    (rw (c.from-data_words.ensures, held) at c.part-data.ensures.words) ∙ sym (words_taken r.segments r.segment r.at least.data_words c.args.size.data_words c.kept_sections-kept.ensures.less_data) in
+    let begun : SectionsBegun (form_in c.args.form) (words_from r c.args.size.data_words) (behind r c.args.size.data_words) c.args.size.pointers least c.args.id c.args.at (g.A.BuilderArena.view c.args.arena.now) (g.A.BuilderArena.view c.make_struct.new.arena) (g.A.BuilderArena.view c.put_words.new.arena) c.in_ok-start.start = record {
+      cut = record { inside = omega (arith, c.requires.inside); of_data = c.kept_sections-kept.ensures.data; of_pointers = c.kept_sections-kept.ensures.pointers };
+      begun = record { made = c.in_ok-start.ensures.made; start = c.in_ok-start.ensures.start.leads; inside = c.in_ok-start.ensures.start.inside };
+      memory = c.in_ok-start.ensures.memory.granted;
       writes = rw section at c.put_words.ensures.words;
       place = c.requires.place;
-      within = g.met.A.BuilderArena.within c.put_words.new.arena c.in-Ok.start.segment;
-      taken = c.in-Ok.ensures.memory.taken;
-      behind = c.in-Ok.ensures.start.behind;
-      near = c.in-Ok.ensures.near;
-      empty = c.in-Ok.ensures.empty;
+      within = g.met.A.BuilderArena.within c.put_words.new.arena c.in_ok-start.start.segment;
+      taken = c.in_ok-start.ensures.memory.taken;
+      behind = c.in_ok-start.ensures.start.behind;
+      near = c.in_ok-start.ensures.near;
+      empty = c.in_ok-start.ensures.empty;
     } in
-    let ROOM : c.in-Ok.start.at + c.from-2.result + c.from-pointers.result ≤ length (segment N c.in-Ok.start.segment) = rw (c.from-2.ensures, c.from-pointers.ensures) (struct_fits begun) in
-    let NULL : (i : ℕ) → i < c.from-pointers.result → word_at N c.in-Ok.start.segment (c.in-Ok.start.at + c.from-2.result + i) ≡ 0 = rw (c.from-2.ensures, c.from-pointers.ensures) (struct_null begun) in
+    let ROOM : c.in_ok-start.start.at + c.from-2.result + c.from-pointers.result ≤ length (segment N c.in_ok-start.start.segment) = rw (c.from-2.ensures, c.from-pointers.ensures) (sections_fit begun) in
+    let NULL : (i : ℕ) → i < c.from-pointers.result → word_at N c.in_ok-start.start.segment (c.in_ok-start.start.at + c.from-2.result + i) ≡ 0 = rw (c.from-2.ensures, c.from-pointers.ensures) (sections_null begun) in
     search rules
 
 pub structs::copy_struct-overflow_add-first : goal.structs::copy_struct-overflow_add-first
 structs::copy_struct-overflow_add-first g t c =
     omega (
       arith,
-      c.in-Ok.ensures.start.inside.1,
-      g.met.A.BuilderArena.within c.make_struct.new.arena c.in-Ok.start.segment,
-      g.met.A.BuilderArena.small c.make_struct.new.arena c.in-Ok.start.segment,
+      c.in_ok-start.ensures.start.inside.1,
+      g.met.A.BuilderArena.within c.make_struct.new.arena c.in_ok-start.start.segment,
+      g.met.A.BuilderArena.small c.make_struct.new.arena c.in_ok-start.start.segment,
       c.from-2.ensures,
     )
