@@ -1,5 +1,5 @@
 -- The copy of a struct and of lists of pointers and of structs, from where they are made.
-use Rattle.std.proofs.Common.{◌≡◌, inl, inr, ℕ, ◌+◌, ◌-◌, ◌*◌, ◌≤◌, length, refl, sym, ap, ◌∙◌, subst, arith}
+use Rattle.std.proofs.Common.{◌≡◌, inl, inr, ℕ, ◌+◌, ◌*◌, ◌≤◌, length, refl, sym, ap, ◌∙◌, subst, arith}
 use Rattle.capnp_words.specs.declared.error.ErrorKind.{ErrorKind}
 use Rattle.capnp_words.specs.Meter.{Meter}
 use Rattle.capnp_format.specs.Segments.{Segments, segment, word_at, IsPlace}
@@ -15,7 +15,7 @@ use Rattle.capnp_making.proofs.Filling.{unchanged}
 use Rattle.capnp_making.proofs.FillingChains.{elements_grow}
 use Rattle.capnp_making.proofs.FillingMade.{IsBegun, null_stored, pointers_done, pointers_whole, structs_done, structs_whole}
 use Rattle.capnp_making.proofs.Memory.{keeps_both, keeps_then_spends, made_refused}
-use Rattle.capnp_objects.specs.Reading.{Reading, behind, segment_read}
+use Rattle.capnp_objects.specs.Reading.{Reading, segment_read}
 use Rattle.capnp_objects.specs.Wanted.{Form, canonical}
 use Rattle.capnp_copies.specs.Changes.{change, MakesCopy, StopsHalfway, CopiesChildren, StopsAtChildren, CopiesRows, StopsAtElements}
 use Rattle.capnp_copies.specs.Forms.{kept_each, kept_elements}

@@ -51,6 +51,11 @@ change form s p old new before after =
       after = after;
     }
 
+-- n null pointers stand from position p of segment id on.
+pub record HasNulls (S : Segments) (id p n : ℕ) : Type 0 where
+  pub room : p + n ≤ length (segment S id)
+  pub null : (i : ℕ) → i < n → word_at S id (p + i) ≡ 0
+
 -- n words fit behind those of segment id, or the message has but one segment once they are written:
 -- they stay in the segment.
 abbrev pub StayInSegment : View → View → ℕ → ℕ → Type 0

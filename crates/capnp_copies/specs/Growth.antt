@@ -1,6 +1,6 @@
 -- How many words a copy takes of a message, whether it ends or is refused: those of its objects,
 -- and its landing pads.
-use Rattle.std.specs.Prelude.{◌≡◌, ◌≢◌, ℕ, ◌+◌, ◌<◌, ◌≤◌, true, length, sum_by, Some, Result, MatchResult, ⊤}
+use Rattle.std.specs.Prelude.{◌≡◌, ◌≢◌, ℕ, ◌+◌, ◌<◌, ◌≤◌, true, length, sum_by, Some, Result, IfOk, IfErr, MatchResult, ⊤}
 use Rattle.capnp_words.specs.declared.error.ErrorKind.{ErrorKind}
 use Rattle.capnp_format.specs.Segments.{Segments, segment}
 use Rattle.capnp_arena.specs.Taking.{SameRoomBelow}
@@ -8,8 +8,8 @@ use Rattle.capnp_arena.specs.View.{View}
 use Rattle.capnp_making.specs.Memory.{Lengthens, IsNextRoom}
 use Rattle.capnp_making.specs.Near.{HasOwnRoom}
 use Rattle.capnp_objects.specs.Reading.{Reading}
-use Rattle.capnp_copies.specs.Changes.{Change, StayInSegment}
-use Rattle.capnp_copies.specs.Originals.{Original, value_original}
+use Rattle.capnp_copies.specs.Changes.{Change, StayInSegment, CopiesChildren, StopsAtChildren}
+use Rattle.capnp_copies.specs.Originals.{Original, value_original, children_original}
 
 -- The words of all segments of a message.
 abbrev pub message_words : Segments → ℕ
@@ -63,6 +63,13 @@ abbrev pub TakesAtMost : {A E V : Type 0} → Result A E → Original V → Chan
 TakesAtMost result o c =
     MatchResult result (λ _. o.takes c.form c.before c.after (MakesAtMost c.segment c.old c.new))
     (λ _. o.takes_until c.form c.before c.after (MakesAtMost c.segment c.old c.new))
+
+-- A call copies what n pointers from a place on mean, or is refused; and what it takes of the message.
+pub record CopiesOrStops {A : Type 0} (result : Result A ErrorKind) (r : Reading) (n : ℕ) (c : Change)
+    : Type 0 where
+  pub copied : IfOk result (λ _. CopiesChildren r n c)
+  pub refused : IfErr result (StopsAtChildren r n c)
+  pub taken : TakesAtMost result (children_original r n) c
 
 -- What is made takes just its words and its landing pads. There is no pad where all the words have
 -- room in the segment of the pointers, and none where the message has but one segment afterwards.

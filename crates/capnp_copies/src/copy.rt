@@ -142,15 +142,14 @@ fn copy_object<A: BuilderArena, B: ReaderArena>(
         (value_original (reading B.ReaderArena from.entry))
         (change (form_in form) id at (A.view arena.old) (A.view arena.new) lim.old lim.new) }
 {
-    let object = from
-        .source
-        .read_object(from.place, from.nesting_limit, lim)?;
+    let source = from.source;
+    let object = source.read_object(from.place, from.nesting_limit, lim)?;
     match object {
         Object::Null => Ok(()),
         Object::Capability(index) => copy_capability(arena, id, at, index, form),
         Object::Struct { start, size } => {
             let inner = PointerReader {
-                source: from.source,
+                source,
                 place: start,
                 nesting_limit: from.nesting_limit - 1,
             };
@@ -163,7 +162,7 @@ fn copy_object<A: BuilderArena, B: ReaderArena>(
         }
         Object::Pointers { start, count } => {
             let inner = PointerReader {
-                source: from.source,
+                source,
                 place: start,
                 nesting_limit: from.nesting_limit - 1,
             };
@@ -171,7 +170,7 @@ fn copy_object<A: BuilderArena, B: ReaderArena>(
         }
         Object::Structs { start, size, count } => {
             let inner = PointerReader {
-                source: from.source,
+                source,
                 place: start,
                 nesting_limit: from.nesting_limit - 1,
             };

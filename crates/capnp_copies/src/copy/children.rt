@@ -1,14 +1,14 @@
 //! The copy of pointers one behind the other.
-ghost use Rattle.std.specs.Prelude.{◌≡◌, ◌≢◌, ℕ, ◌+◌, ◌^◌, ◌<◌, ◌≤◌, ◌↔◌, length, IsTrue, IfOk, IfErr};
-ghost use Rattle.capnp_format.specs.Segments.{segment, word_at, IsPlace};
+ghost use Rattle.std.specs.Prelude.{◌≡◌, ◌≢◌, ◌+◌, ◌^◌, ◌<◌, ◌≤◌, ◌↔◌, length, IsTrue, IfOk, IfErr};
+ghost use Rattle.capnp_format.specs.Segments.{word_at, IsPlace};
 ghost use Rattle.capnp_format.specs.Word.{kind, element_size};
 ghost use Rattle.capnp_objects.specs.Reading.{segment_read, word_of};
 ghost use Rattle.capnp_objects.specs.Wanted.{Form};
 ghost use Rattle.capnp_readers.specs.Readers.{reading};
-ghost use Rattle.capnp_copies.specs.Growth.{TakesAtMost};
-ghost use Rattle.capnp_copies.specs.Changes.{change, MakesCopy, StopsHalfway, CopiesChildren, StopsAtChildren};
+ghost use Rattle.capnp_copies.specs.Growth.{TakesAtMost, CopiesOrStops};
+ghost use Rattle.capnp_copies.specs.Changes.{change, HasNulls, MakesCopy, StopsHalfway};
 ghost use Rattle.capnp_copies.specs.Forms.{form_in};
-ghost use Rattle.capnp_copies.specs.Originals.{value_original, children_original};
+ghost use Rattle.capnp_copies.specs.Originals.{value_original};
 
 use super::flat::{copy_flat, flat_words};
 use super::structs::copy_struct;
@@ -34,15 +34,9 @@ pub(crate) fn copy_children<A: BuilderArena, B: ReaderArena>(
     lim: &mut ReadLimiter,
     form: CopyForm,
 ) -> Result<(), ErrorKind>
-    requires room { at + count ≤ length (segment (A.view arena.old).words id) }
-    requires null { (i : ℕ) → i < count → word_at (A.view arena.old).words id (at + i) ≡ 0 }
+    requires nulls { HasNulls (A.view arena.old).words id at count }
     requires inside { from.place.at + count ≤ length (segment_read (reading B.ReaderArena from)) }
-    ensures copied { IfOk result (λ _. CopiesChildren (reading B.ReaderArena from.entry) count
-        (change (form_in form) id at (A.view arena.old) (A.view arena.new) lim.old lim.new)) }
-    ensures refused { IfErr result
-        (StopsAtChildren (reading B.ReaderArena from.entry) count
-        (change (form_in form) id at (A.view arena.old) (A.view arena.new) lim.old lim.new)) }
-    ensures taken { TakesAtMost result (children_original (reading B.ReaderArena from.entry) count)
+    ensures { CopiesOrStops result (reading B.ReaderArena from.entry) count
         (change (form_in form) id at (A.view arena.old) (A.view arena.new) lim.old lim.new) }
 {
     if count == 0 {
@@ -63,15 +57,9 @@ fn copy_row<A: BuilderArena, B: ReaderArena>(
     lim: &mut ReadLimiter,
     form: CopyForm,
 ) -> Result<(), ErrorKind>
-    requires room { at + count ≤ length (segment (A.view arena.old).words id) }
-    requires null { (i : ℕ) → i < count → word_at (A.view arena.old).words id (at + i) ≡ 0 }
+    requires nulls { HasNulls (A.view arena.old).words id at count }
     requires inside { from.place.at + count ≤ length (segment_read (reading B.ReaderArena from)) }
-    ensures copied { IfOk result (λ _. CopiesChildren (reading B.ReaderArena from.entry) count
-        (change (form_in form) id at (A.view arena.old) (A.view arena.new) lim.old lim.new)) }
-    ensures refused { IfErr result
-        (StopsAtChildren (reading B.ReaderArena from.entry) count
-        (change (form_in form) id at (A.view arena.old) (A.view arena.new) lim.old lim.new)) }
-    ensures taken { TakesAtMost result (children_original (reading B.ReaderArena from.entry) count)
+    ensures { CopiesOrStops result (reading B.ReaderArena from.entry) count
         (change (form_in form) id at (A.view arena.old) (A.view arena.new) lim.old lim.new) }
 {
     copy_in_line(arena, id, at, from, count, lim, form)
@@ -90,15 +78,9 @@ pub(crate) fn copy_in_line<A: BuilderArena, B: ReaderArena>(
     lim: &mut ReadLimiter,
     form: CopyForm,
 ) -> Result<(), ErrorKind>
-    requires room { at + count ≤ length (segment (A.view arena.old).words id) }
-    requires null { (i : ℕ) → i < count → word_at (A.view arena.old).words id (at + i) ≡ 0 }
+    requires nulls { HasNulls (A.view arena.old).words id at count }
     requires inside { from.place.at + count ≤ length (segment_read (reading B.ReaderArena from)) }
-    ensures copied { IfOk result (λ _. CopiesChildren (reading B.ReaderArena from.entry) count
-        (change (form_in form) id at (A.view arena.old) (A.view arena.new) lim.old lim.new)) }
-    ensures refused { IfErr result
-        (StopsAtChildren (reading B.ReaderArena from.entry) count
-        (change (form_in form) id at (A.view arena.old) (A.view arena.new) lim.old lim.new)) }
-    ensures taken { TakesAtMost result (children_original (reading B.ReaderArena from.entry) count)
+    ensures { CopiesOrStops result (reading B.ReaderArena from.entry) count
         (change (form_in form) id at (A.view arena.old) (A.view arena.new) lim.old lim.new) }
 {
     for i in 0..count {

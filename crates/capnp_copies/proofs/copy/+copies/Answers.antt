@@ -23,6 +23,8 @@ use Rattle.capnp_readers.proofs.NearRead.{struct_by_word}
 use Rattle.capnp_readers.proofs.Walking.{ok_so, err_so, one_level_in}
 use Rattle.capnp_objects.proofs.Walked.{row_within}
 use Rattle.std.proofs.lemmas.Result.{err_from_is_err_and}
+use Rattle.capnp_arena.specs.View.{View}
+use Rattle.capnp_copies.specs.Changes.{HasNulls}
 use Rattle.capnp_copies.proofs.ElementsLaid.{words_taken}
 use Rattle.capnp_copies.proofs.FilledSections.{SectionsBegun, sections_fit, sections_null, sections_copied, sections_stop}
 use Rattle.capnp_copies.specs.Widths.{KeepsPointers}
@@ -50,41 +52,43 @@ children::copy_in_line-loop-i-init g t c =
 pub children::copy_in_line-copy_child-requires : goal.children::copy_in_line-copy_child-requires
 children::copy_in_line-copy_child-requires g t c κs within =
     let grows = children_grow c.loop-i.invariant.0 in
-    let PLACE : IsPlace (g.A.BuilderArena.view c.loop-i.arena).words c.args.id (c.args.at + c.loop-i.i) = omega (arith, c.requires.room, c.loop-i-test.true, grows.words c.args.id) in
-    let NULL : word_at (g.A.BuilderArena.view c.loop-i.arena).words c.args.id (c.args.at + c.loop-i.i) ≡ 0 = child_ahead c.loop-i.invariant.0 (omega (arith, c.requires.room, c.loop-i-test.true)) ∙ c.requires.null c.loop-i.i c.loop-i-test.true in
+    let PLACE : IsPlace (g.A.BuilderArena.view c.loop-i.arena).words c.args.id (c.args.at + c.loop-i.i) = omega (arith, c.requires.nulls.room, c.loop-i-test.true, grows.words c.args.id) in
+    let NULL : word_at (g.A.BuilderArena.view c.loop-i.arena).words c.args.id (c.args.at + c.loop-i.i) ≡ 0 = child_ahead c.loop-i.invariant.0 (omega (arith, c.requires.nulls.room, c.loop-i-test.true)) ∙ c.requires.nulls.null c.loop-i.i c.loop-i-test.true in
     search rules
 
-pub children::copy_in_line-returns-in_err-copy_child-clause-refused : goal.children::copy_in_line-returns-in_err-copy_child-clause-refused
-children::copy_in_line-returns-in_err-copy_child-clause-refused g t c =
+pub children::copy_in_line-returns-in_err-copy_child : goal.children::copy_in_line-returns-in_err-copy_child
+children::copy_in_line-returns-in_err-copy_child g t c =
     let nl = to_z-of_z w32 c.args.from.nesting_limit (search rules) in
     let p = err_from_is_err_and c.from_residual.result c.from_residual.ensures.1 in
-    rw (p.1, p.2) (child_stops (omega (arith, c.requires.room, c.loop-i-test.true)) c.loop-i-test.true c.loop-i.invariant.0 c.loop-i.invariant.1 (rw nl at c.in_err-copy_child.ensures.refused))
+    rw (p.1, p.2) (record {
+      copied = tt;
+      refused = child_stops (omega (arith, c.requires.nulls.room, c.loop-i-test.true)) c.loop-i-test.true c.loop-i.invariant.0 c.loop-i.invariant.1 (rw nl at c.in_err-copy_child.ensures.refused);
+      taken = stop_taken c.loop-i-test.true c.loop-i.invariant.1 (rw nl at c.in_err-copy_child.ensures.taken);
+    })
 
 pub children::copy_in_line-loop-i-preserved : goal.children::copy_in_line-loop-i-preserved
 children::copy_in_line-loop-i-preserved g t c =
     let nl = to_z-of_z w32 c.args.from.nesting_limit (search rules) in
     let few : length (segment (g.A.BuilderArena.view c.loop-i.arena).words c.args.id) < 2 ^ 29 =
     omega (arith, g.met.A.BuilderArena.within c.loop-i.arena c.args.id, g.met.A.BuilderArena.small c.loop-i.arena c.args.id) in (
-      child_copied (omega (arith, c.requires.room, c.loop-i-test.true)) few c.loop-i.invariant.0 (rw nl at c.in_ok-copy_child.ensures.copied),
+      child_copied (omega (arith, c.requires.nulls.room, c.loop-i-test.true)) few c.loop-i.invariant.0 (rw nl at c.in_ok-copy_child.ensures.copied),
       one_taken c.loop-i.invariant.1 (rw nl at c.in_ok-copy_child.ensures.taken),
     )
 
-pub children::copy_in_line-returns-in_err-copy_child-clause-taken : goal.children::copy_in_line-returns-in_err-copy_child-clause-taken
-children::copy_in_line-returns-in_err-copy_child-clause-taken g t c =
-    let nl = to_z-of_z w32 c.args.from.nesting_limit (search rules) in
-    let p = err_from_is_err_and c.from_residual.result c.from_residual.ensures.1 in
-    rw p.1 (stop_taken c.loop-i-test.true c.loop-i.invariant.1 (rw nl at c.in_err-copy_child.ensures.taken))
+pub children::copy_in_line-returns : goal.children::copy_in_line-returns
+children::copy_in_line-returns g t c =
+    let all : c.loop-i.i ≡ c.args.count = omega arith in
+    record { copied = rw all at c.loop-i.invariant.0; refused = tt; taken = all_taken all c.loop-i.invariant.1 }
 
-pub children::copy_in_line-returns-clause-taken : goal.children::copy_in_line-returns-clause-taken
-children::copy_in_line-returns-clause-taken g t c = all_taken (omega arith) c.loop-i.invariant.1
-
-pub children::copy_children-returns-then-count-eq0-clause-copied : goal.children::copy_children-returns-then-count-eq0-clause-copied
-children::copy_children-returns-then-count-eq0-clause-copied g t c =
-    rw c.if-count-eq0.true (no_child (reading g.B.ReaderArena c.args.from) (form_in c.args.form) c.args.id c.args.at (g.A.BuilderArena.view c.args.arena.now) c.args.lim.now)
-
-pub children::copy_children-returns-then-count-eq0-clause-taken : goal.children::copy_children-returns-then-count-eq0-clause-taken
-children::copy_children-returns-then-count-eq0-clause-taken g t c =
-    all_taken {i = 0} (omega (arith, c.if-count-eq0.true)) (none_taken (reading g.B.ReaderArena c.args.from) (form_in c.args.form) c.args.id (g.A.BuilderArena.view c.args.arena.now) c.args.lim.now)
+pub children::copy_children-returns-then-count-eq0 : goal.children::copy_children-returns-then-count-eq0
+children::copy_children-returns-then-count-eq0 g t c =
+    let r : Reading = reading g.B.ReaderArena c.args.from in
+    let view : View = g.A.BuilderArena.view c.args.arena.now in
+    record {
+      copied = rw c.if-count-eq0.true (no_child r (form_in c.args.form) c.args.id c.args.at view c.args.lim.now);
+      refused = tt;
+      taken = all_taken {i = 0} (omega (arith, c.if-count-eq0.true)) (none_taken r (form_in c.args.form) c.args.id view c.args.lim.now);
+    }
 
 -- What a pointer means, told by its word.
 
@@ -433,8 +437,7 @@ lists::copy_pointers-copy_in_line-requires g t c κs within =
     let S : Segments = (g.A.BuilderArena.view c.args.arena.now).words in
     let M : Segments = (g.A.BuilderArena.view c.make_list.new.arena).words in
     let begun : IsBegun S M c.args.id c.args.at c.args.count c.in_ok-start.start (Pointers (nulls c.args.count)) = record { made = c.in_ok-start.ensures.made; start = c.in_ok-start.ensures.start.leads; inside = c.in_ok-start.ensures.start.inside } in
-    let ROOM : c.in_ok-start.start.at + c.args.count ≤ length (segment M c.in_ok-start.start.segment) = begun.inside.1 in
-    let NULL : (i : ℕ) → i < c.args.count → word_at M c.in_ok-start.start.segment (c.in_ok-start.start.at + i) ≡ 0 = pointers_ready S M c.args.id c.args.at c.args.count c.in_ok-start.start begun in
+    let NULLS : HasNulls M c.in_ok-start.start.segment c.in_ok-start.start.at c.args.count = record { room = begun.inside.1; null = pointers_ready S M c.args.id c.args.at c.args.count c.in_ok-start.start begun } in
     search rules
 
 pub lists::copy_pointers-returns-clause-copied : goal.lists::copy_pointers-returns-clause-copied
@@ -626,8 +629,7 @@ structs::copy_struct-copy_children-requires g t c κs within =
       near = c.in_ok-start.ensures.near;
       empty = c.in_ok-start.ensures.empty;
     } in
-    let ROOM : c.in_ok-start.start.at + c.from-2.result + c.from-pointers.result ≤ length (segment N c.in_ok-start.start.segment) = rw (c.from-2.ensures, c.from-pointers.ensures) (sections_fit begun) in
-    let NULL : (i : ℕ) → i < c.from-pointers.result → word_at N c.in_ok-start.start.segment (c.in_ok-start.start.at + c.from-2.result + i) ≡ 0 = rw (c.from-2.ensures, c.from-pointers.ensures) (sections_null begun) in
+    let NULLS : HasNulls N c.in_ok-start.start.segment (c.in_ok-start.start.at + c.from-2.result) c.from-pointers.result = rw (c.from-2.ensures, c.from-pointers.ensures) (record { room = sections_fit begun; null = sections_null begun }) in
     search rules
 
 pub structs::copy_struct-overflow_add-first : goal.structs::copy_struct-overflow_add-first

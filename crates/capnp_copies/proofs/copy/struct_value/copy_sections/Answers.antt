@@ -73,8 +73,7 @@ copy_children-requires g c =
       empty = c.in_ok-start.ensures.empty;
     } in
     record {
-      room = rw (c.from.ensures, c.from-pointers.ensures) (sections_fit begun);
-      null = rw (c.from.ensures, c.from-pointers.ensures) (sections_null begun);
+      nulls = rw (c.from.ensures, c.from-pointers.ensures) (record { room = sections_fit begun; null = sections_null begun });
       inside = rw c.from-pointers.ensures (sections_inside begun);
     }
 
