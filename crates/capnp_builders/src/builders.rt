@@ -179,16 +179,14 @@ impl<'a, A: BuilderArena> PointerBuilder<'a, A> {
             ≡ struct_word (2 ^ 30 - 1) 0 0) }
         ensures builder { KeepsBuilder self.old self.new }
     {
-        match making::init_struct(&mut *self.arena, self.segment, self.at, size) {
-            Ok(start) => Ok(StructPlace {
-                segment: start.segment,
-                byte: 8 * u64::from(start.at),
-                bits: 64 * u32::from(size.data_words),
-                pointers_at: start.at + u32::from(size.data_words),
-                pointers: size.pointers,
-            }),
-            Err(k) => Err(k),
-        }
+        let start = making::init_struct(&mut *self.arena, self.segment, self.at, size)?;
+        Ok(StructPlace {
+            segment: start.segment,
+            byte: 8 * u64::from(start.at),
+            bits: 64 * u32::from(size.data_words),
+            pointers_at: start.at + u32::from(size.data_words),
+            pointers: size.pointers,
+        })
     }
 
     /// The builder of a struct of the message.
@@ -224,10 +222,8 @@ impl<'a, A: BuilderArena> PointerBuilder<'a, A> {
             word_at (A.view b.arena.now).words self.entry.segment self.entry.at
             ≡ struct_word (2 ^ 30 - 1) 0 0) }
     {
-        match self.put_struct(size) {
-            Ok(place) => Ok(self.into_struct(place)),
-            Err(k) => Err(k),
-        }
+        let place = self.put_struct(size)?;
+        Ok(self.into_struct(place))
     }
 
     /// Makes a list of `count` elements that are no structs, all zero or null, where the pointer leads,
@@ -249,16 +245,14 @@ impl<'a, A: BuilderArena> PointerBuilder<'a, A> {
             (list_words (size_number size) count)) }
         ensures builder { KeepsBuilder self.old self.new }
     {
-        match making::init_list(&mut *self.arena, self.segment, self.at, size, count) {
-            Ok(start) => Ok(ListPlace {
-                segment: start.segment,
-                byte: 8 * u64::from(start.at),
-                size,
-                struct_size: NO_SECTIONS,
-                count,
-            }),
-            Err(k) => Err(k),
-        }
+        let start = making::init_list(&mut *self.arena, self.segment, self.at, size, count)?;
+        Ok(ListPlace {
+            segment: start.segment,
+            byte: 8 * u64::from(start.at),
+            size,
+            struct_size: NO_SECTIONS,
+            count,
+        })
     }
 
     /// The builder of a list of the message.
@@ -299,10 +293,8 @@ impl<'a, A: BuilderArena> PointerBuilder<'a, A> {
             LeadsToEnd (calling_last A.view self.entry b.arena.now)
             (list_words (size_number size) count)) }
     {
-        match self.put_list(size, count) {
-            Ok(place) => Ok(self.into_list(place)),
-            Err(k) => Err(k),
-        }
+        let place = self.put_list(size, count)?;
+        Ok(self.into_list(place))
     }
 
     /// Makes a list of `count` structs, all zero, where the pointer leads, and says where it is;
@@ -320,16 +312,14 @@ impl<'a, A: BuilderArena> PointerBuilder<'a, A> {
             (λ a. struct_list a size.data_words size.pointers count)) }
         ensures builder { KeepsBuilder self.old self.new }
     {
-        match making::init_struct_list(&mut *self.arena, self.segment, self.at, count, size) {
-            Ok(start) => Ok(ListPlace {
-                segment: start.segment,
-                byte: 8 * (u64::from(start.at) + 1),
-                size: ElementSize::InlineComposite,
-                struct_size: size,
-                count,
-            }),
-            Err(k) => Err(k),
-        }
+        let start = making::init_struct_list(&mut *self.arena, self.segment, self.at, count, size)?;
+        Ok(ListPlace {
+            segment: start.segment,
+            byte: 8 * (u64::from(start.at) + 1),
+            size: ElementSize::InlineComposite,
+            struct_size: size,
+            count,
+        })
     }
 
     /// Makes a list of `count` structs, all zero, where the pointer leads.
@@ -352,10 +342,8 @@ impl<'a, A: BuilderArena> PointerBuilder<'a, A> {
             IsListOf (calling_last A.view self.entry b.arena.now)
             (λ a. struct_list a size.data_words size.pointers count) b.place) }
     {
-        match self.put_struct_list(count, size) {
-            Ok(place) => Ok(self.into_list(place)),
-            Err(k) => Err(k),
-        }
+        let place = self.put_struct_list(count, size)?;
+        Ok(self.into_list(place))
     }
 
     /// Lends bytes of the message, to be written in place; nothing else changes.

@@ -41,10 +41,7 @@ pub fn copy_default<A: BuilderArena>(
         (call_at id at (A.view arena.old) (A.view arena.new))) }
     ensures memory { ChangesWords result (A.view arena.old) (A.view arena.new) }
 {
-    let from: PointerReader<'_, A> = match PointerReader::from_default(default) {
-        Ok(from) => from,
-        Err(k) => return Err(k),
-    };
+    let from: PointerReader<'_, A> = PointerReader::from_default(default)?;
     let mut lim = ReadLimiter::new(None);
     copy::copy_in_form(arena, id, at, from, &mut lim, CopyForm::OfDefault)
 }

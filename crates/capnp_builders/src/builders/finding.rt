@@ -100,13 +100,9 @@ impl<'a, A: BuilderArena> PointerBuilder<'a, A> {
         ensures there { OfStored (built A.view self.old) (λ t. IsThere (built A.view self.new)) }
         ensures builder { KeepsBuilder self.old self.new }
     {
-        match put_default(&mut *self.arena, self.segment, self.at, default) {
-            Ok(()) => match open_struct(&mut *self.arena, self.segment, self.at, size) {
-                Ok(opened) => Ok(struct_place(opened)),
-                Err(k) => Err(k),
-            },
-            Err(k) => Err(k),
-        }
+        put_default(&mut *self.arena, self.segment, self.at, default)?;
+        let opened = open_struct(&mut *self.arena, self.segment, self.at, size)?;
+        Ok(struct_place(opened))
     }
 
     /// The struct that the pointer leads to, to be written, with sections at least as large as asked for
@@ -150,10 +146,8 @@ impl<'a, A: BuilderArena> PointerBuilder<'a, A> {
         ensures granted { IfOk result (λ b. KeepsMemory (A.view self.entry.arena.now)
             (A.view b.arena.now)) }
     {
-        match self.find_struct(size, default) {
-            Ok(place) => Ok(self.into_struct(place)),
-            Err(k) => Err(k),
-        }
+        let place = self.find_struct(size, default)?;
+        Ok(self.into_struct(place))
     }
 
     /// Where the list is that the pointer leads to, as `get_struct_list` looks for it; `into_list` is its
@@ -179,13 +173,9 @@ impl<'a, A: BuilderArena> PointerBuilder<'a, A> {
         ensures there { OfStored (built A.view self.old) (λ t. IsThere (built A.view self.new)) }
         ensures builder { KeepsBuilder self.old self.new }
     {
-        match put_default(&mut *self.arena, self.segment, self.at, default) {
-            Ok(()) => match open_struct_list(&mut *self.arena, self.segment, self.at, size) {
-                Ok(opened) => Ok(found_list(self.segment, opened)),
-                Err(k) => Err(k),
-            },
-            Err(k) => Err(k),
-        }
+        put_default(&mut *self.arena, self.segment, self.at, default)?;
+        let opened = open_struct_list(&mut *self.arena, self.segment, self.at, size)?;
+        Ok(found_list(self.segment, opened))
     }
 
     /// The list that the pointer leads to, as a list of structs to be written, with sections at least as
@@ -215,10 +205,8 @@ impl<'a, A: BuilderArena> PointerBuilder<'a, A> {
         ensures granted { IfOk result (λ b. KeepsMemory (A.view self.entry.arena.now)
             (A.view b.arena.now)) }
     {
-        match self.find_struct_list(size, default) {
-            Ok(place) => Ok(self.into_list(place)),
-            Err(k) => Err(k),
-        }
+        let place = self.find_struct_list(size, default)?;
+        Ok(self.into_list(place))
     }
 
     /// Where the list is that the pointer leads to, of elements of the expected size or wider, as
@@ -244,10 +232,8 @@ impl<'a, A: BuilderArena> PointerBuilder<'a, A> {
         ensures there { IsThere (built A.view self.new) }
         ensures builder { KeepsBuilder self.old self.new }
     {
-        match put_default(&mut *self.arena, self.segment, self.at, default) {
-            Ok(()) => look_for_list(&*self.arena, self.segment, self.at, size),
-            Err(k) => Err(k),
-        }
+        put_default(&mut *self.arena, self.segment, self.at, default)?;
+        look_for_list(&*self.arena, self.segment, self.at, size)
     }
 
     /// The list that the pointer leads to, of elements of the expected size or wider; it is never changed.
@@ -274,10 +260,8 @@ impl<'a, A: BuilderArena> PointerBuilder<'a, A> {
         ensures granted { IfOk result (λ b. KeepsMemory (A.view self.entry.arena.now)
             (A.view b.arena.now)) }
     {
-        match self.find_list(size, default) {
-            Ok(place) => Ok(self.into_list(place)),
-            Err(k) => Err(k),
-        }
+        let place = self.find_list(size, default)?;
+        Ok(self.into_list(place))
     }
 
     /// Where the data is that the pointer leads to, as `get_data` looks for it. With both outcomes, it is
@@ -296,10 +280,8 @@ impl<'a, A: BuilderArena> PointerBuilder<'a, A> {
         ensures there { IsThere (built A.view self.new) }
         ensures builder { KeepsBuilder self.old self.new }
     {
-        match put_blob_default(&mut *self.arena, self.segment, self.at, default) {
-            Ok(()) => look_for_data(&*self.arena, self.segment, self.at),
-            Err(k) => Err(k),
-        }
+        put_blob_default(&mut *self.arena, self.segment, self.at, default)?;
+        look_for_data(&*self.arena, self.segment, self.at)
     }
 
     /// The data that the pointer leads to, lent to be written in place ("Lists"). A null pointer becomes the
@@ -315,17 +297,13 @@ impl<'a, A: BuilderArena> PointerBuilder<'a, A> {
         ensures found { ReachesArena (LendsBytes A.segments)
             (LooksUp A.view (FindsBytes data_in default.entry) self.entry) result }
     {
-        match self.find_data(default) {
-            Ok(bytes) => {
-                let PointerBuilder {
-                    arena,
-                    segment: _,
-                    at: _,
-                } = self;
-                Ok(lent::bytes_mut(arena, bytes))
-            }
-            Err(k) => Err(k),
-        }
+        let bytes = self.find_data(default)?;
+        let PointerBuilder {
+            arena,
+            segment: _,
+            at: _,
+        } = self;
+        Ok(lent::bytes_mut(arena, bytes))
     }
 
     /// Where the text is that the pointer leads to, as `get_text` looks for it. With both outcomes, it is
@@ -344,10 +322,8 @@ impl<'a, A: BuilderArena> PointerBuilder<'a, A> {
         ensures there { IsThere (built A.view self.new) }
         ensures builder { KeepsBuilder self.old self.new }
     {
-        match put_blob_default(&mut *self.arena, self.segment, self.at, default) {
-            Ok(()) => look_for_text(&*self.arena, self.segment, self.at),
-            Err(k) => Err(k),
-        }
+        put_blob_default(&mut *self.arena, self.segment, self.at, default)?;
+        look_for_text(&*self.arena, self.segment, self.at)
     }
 
     /// The text that the pointer leads to, without the zero byte behind it, lent to be written in place
@@ -363,16 +339,12 @@ impl<'a, A: BuilderArena> PointerBuilder<'a, A> {
         ensures found { ReachesArena (LendsBytes A.segments)
             (LooksUp A.view (FindsBytes text_in default.entry) self.entry) result }
     {
-        match self.find_text(default) {
-            Ok(bytes) => {
-                let PointerBuilder {
-                    arena,
-                    segment: _,
-                    at: _,
-                } = self;
-                Ok(lent::bytes_mut(arena, bytes))
-            }
-            Err(k) => Err(k),
-        }
+        let bytes = self.find_text(default)?;
+        let PointerBuilder {
+            arena,
+            segment: _,
+            at: _,
+        } = self;
+        Ok(lent::bytes_mut(arena, bytes))
     }
 }

@@ -49,10 +49,8 @@ pub(crate) fn look_for_list<A: BuilderArena>(
         → IfOk result (IsListPlace (A.view arena.now).words) }
     ensures named { IfErr result (λ k. is_unfound k ≡ true) }
 {
-    match existing::get_list(arena, id, at, size) {
-        Ok(found) => Ok(found_list(id, found)),
-        Err(k) => Err(k),
-    }
+    let found = existing::get_list(arena, id, at, size)?;
+    Ok(found_list(id, found))
 }
 
 /// The data that the pointer at a place leads to; nothing is changed.
@@ -67,10 +65,8 @@ pub(crate) fn look_for_data<A: BuilderArena>(
     ensures inside { IfOk result (BytesLieIn (A.view arena.now).words) }
     ensures named { IfErr result (λ k. is_unfound k ≡ true) }
 {
-    match existing::get_data(arena, id, at) {
-        Ok(found) => found_bytes(arena, id, found),
-        Err(k) => Err(k),
-    }
+    let found = existing::get_data(arena, id, at)?;
+    found_bytes(arena, id, found)
 }
 
 /// The text that the pointer at a place leads to; nothing is changed.
@@ -85,10 +81,8 @@ pub(crate) fn look_for_text<A: BuilderArena>(
     ensures inside { IfOk result (BytesLieIn (A.view arena.now).words) }
     ensures named { IfErr result (λ k. is_unfound k ≡ true) }
 {
-    match existing::get_text(arena, id, at) {
-        Ok(found) => found_bytes(arena, id, found),
-        Err(k) => Err(k),
-    }
+    let found = existing::get_text(arena, id, at)?;
+    found_bytes(arena, id, found)
 }
 
 /// The bytes that were found, or none for a null pointer of a segment.

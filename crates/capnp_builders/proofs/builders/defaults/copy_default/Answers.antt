@@ -14,12 +14,12 @@ use Rattle.capnp_builders.proofs.DefaultCopies.{nothing_spent, puts_default, dro
 use Rattle.capnp_builders.proofs.builders.defaults.copy_default.Goals as goal
 
 -- A default with a first word has a pointer there.
-pub returns-in-Err : goal.returns-in-Err
-returns-in-Err g c = absurd (false≢true (c.in-Err.ensures.exactly.1 c.requires.some))
+pub returns-in_err-from : goal.returns-in_err-from
+returns-in_err-from g c = absurd (false≢true (c.in_err-from.ensures.exactly.1 c.requires.some))
 
 pub returns : goal.returns
 returns g c =
-    let from = c.in-Ok.ensures in
+    let from = c.in_ok-from.ensures in
     let bytes : List ℕ = c.args.default.now in
     let old : View = g.A.BuilderArena.view c.args.arena.now in
     let new : View = g.A.BuilderArena.view c.copy_in_form.new.arena in

@@ -3,6 +3,6 @@ use Rattle.capnp_builders.proofs.FoundLists.{given_inside}
 use Rattle.capnp_builders.proofs.builders.found.look_for_list.Goals as goal
 
 -- What a stored value is lies in the message.
-pub returns-in-Ok-clause-inside : goal.returns-in-Ok-clause-inside
-returns-in-Ok-clause-inside g c = λ t stored.
-    given_inside (g.A.BuilderArena.view c.args.arena.now).words c.args.id c.args.at c.args.size t c.in-Ok.found c.found_list.result c.requires.place stored (sym (c.in-Ok.ensures.found t stored)) c.found_list.ensures
+pub returns-clause-inside : goal.returns-clause-inside
+returns-clause-inside g c = λ t stored.
+    given_inside (g.A.BuilderArena.view c.args.arena.now).words c.args.id c.args.at c.args.size t c.in_ok-found.found c.found_list.result c.requires.place stored (sym (c.in_ok-found.ensures.found t stored)) c.found_list.ensures

@@ -1,4 +1,4 @@
-use Rattle.std.proofs.Common.{sym}
+use Rattle.std.proofs.Common.{Ok, sym}
 use Rattle.capnp_format.specs.Forest.{target}
 use Rattle.capnp_format.specs.Segments.{Segments}
 use Rattle.capnp_making.proofs.Zeros.{there}
@@ -7,8 +7,8 @@ use Rattle.capnp_builders.proofs.FoundBytes.{text_inside, bytes_found}
 use Rattle.capnp_builders.proofs.builders.found.look_for_text.Goals as goal
 
 -- What a stored value is lies in the message.
-pub returns-in-Ok-clause-found : goal.returns-in-Ok-clause-found
-returns-in-Ok-clause-found g c = λ t stored.
+pub returns-clause-found : goal.returns-clause-found
+returns-clause-found g c = λ t stored.
     (let S : Segments = (g.A.BuilderArena.view c.args.arena.now).words in
-    bytes_found S c.args.id (text_in (target S c.args.id c.args.at) t) c.in-Ok.found c.found_bytes.result (sym (c.in-Ok.ensures.found t stored))
+    bytes_found S c.args.id (text_in (target S c.args.id c.args.at) t) c.in_ok-found.found c.found_bytes.result (sym {a = Ok c.in_ok-found.found} (c.in_ok-found.ensures.found t stored))
     (λ b e. text_inside S c.args.id c.args.at t b (there S c.args.id c.args.at c.requires) stored e) c.found_bytes.ensures.some c.found_bytes.ensures.none)
