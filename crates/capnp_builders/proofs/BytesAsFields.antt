@@ -10,6 +10,7 @@ use Rattle.capnp_format.specs.Segments.{Segments, segment}
 use Rattle.capnp_making.specs.Fields.{with_field}
 use Rattle.capnp_making.proofs.FieldBit.{set_is_put}
 use Rattle.capnp_making.proofs.FieldBytes.{words_of-put_field, message_written}
+use Rattle.capnp_copies.proofs.ElementsLaid.{get_or-zeros}
 use Rattle.capnp_builders.specs.Content.{content_byte, with_fields}
 use Rattle.capnp_builders.proofs.ContentWritten.{fields_long}
 
@@ -79,18 +80,13 @@ bytes_as_fields (x ∷ xs) B s a bs e small below l =
     ∙ sym (fields_front (message B) s (8 * a) 8 (λ i. get_or (x ∷ xs) i 0) (length xs))
 
 -- zero bytes
-zeros_all : (n i : ℕ) → get_or (replicate {A = ℕ} n 0) i 0 ≡ 0
-zeros_all zero i = refl
-zeros_all (suc n) zero = refl
-zeros_all (suc n) (suc i) = zeros_all n i
-
 pub small_zeros : (n i : ℕ) → get_or (replicate {A = ℕ} n 0) i 0 < 256
-small_zeros n i = omega (arith, zeros_all n i)
+small_zeros n i = omega (arith, get_or-zeros n i)
 
 pub zeros_as_fields : (S : Segments) (s b n : ℕ) → with_fields S s b 8 (λ i. get_or (replicate {A = ℕ} n 0) i 0) (length (replicate {A = ℕ} n 0)) ≡ with_fields S s b 8 (λ i. 0) n
 zeros_as_fields S s b n =
     ap (with_fields S s b 8 (λ i. get_or (replicate {A = ℕ} n 0) i 0)) (length-replicate n 0)
-    ∙ fields_same S s b 8 (λ i. get_or (replicate {A = ℕ} n 0) i 0) (λ i. 0) n (λ i l. zeros_all n i)
+    ∙ fields_same S s b 8 (λ i. get_or (replicate {A = ℕ} n 0) i 0) (λ i. 0) n (λ i l. get_or-zeros n i)
 
 -- the bytes of content: those that stand whole, the one that stands in part, and zeros
 pub whole_byte : (bits : ℕ) (bytes : List ℕ) (i : ℕ) → get_or bytes i 0 < 256 → i < bits / 8 → get_or bytes i 0 ≡ content_byte bits bytes i

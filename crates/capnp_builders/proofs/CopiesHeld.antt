@@ -8,12 +8,12 @@ use Rattle.capnp_format.specs.Tree.{Tree, Null}
 use Rattle.capnp_format.proofs.Levels.{one_value}
 use Rattle.capnp_arena.specs.View.{View, KeepsLimits}
 use Rattle.capnp_making.specs.Memory.{RefusesWords}
-use Rattle.capnp_making.specs.Near.{HasOwnRoom}
 use Rattle.capnp_making.specs.Stored.{IsReplaced, Puts}
 use Rattle.capnp_making.specs.Zeroed.{IsPruned}
 use Rattle.capnp_making.proofs.FillingMade.{null_stored}
 use Rattle.capnp_making.proofs.Memory.{keeps_both, keeps_written, keeps_then_spends}
 use Rattle.capnp_making.proofs.Replaced.{replaced_again}
+use Rattle.capnp_making.proofs.Taken.{ends_after}
 use Rattle.capnp_objects.specs.Reading.{Reading}
 use Rattle.capnp_objects.specs.Wanted.{Form}
 use Rattle.capnp_copies.specs.Changes.{Change, MakesCopy, StopsCopy}
@@ -80,11 +80,8 @@ words_refused_later a b c n k limits x = subst (λ (v : View). RefusesWords v c 
 pub exceeds_before : (n : ℕ) (a b : View) (s : ℕ) → KeepsLimits a b → IsPruned a.words b.words → b.room s < length (segment b.words s) + n → a.room s < length (segment a.words s) + n
 exceeds_before n a b s limits pruned beyond = omega (arith, beyond, ap (λ (v : View). v.room s) limits, pruned.words s)
 
-pub room_later : (n : ℕ) (a b : View) (s : ℕ) → KeepsLimits a b → IsPruned a.words b.words → HasOwnRoom a s n → HasOwnRoom b s n
-room_later n a b s limits pruned room = omega (arith, room, ap (λ (v : View). v.room s) limits, pruned.words s)
-
 pub can_later : {V : Type 0} (o : Original V) (form : Form) (m : Meter) (a b : View) (s : ℕ) → KeepsLimits a b → IsPruned a.words b.words → CanBeCopied o form m a s → CanBeCopied o form m b s
-can_later o form m a b s limits pruned can = record { small = can.small; value = can.value; after = can.after; is_read = can.is_read; room = room_later _ a b s limits pruned can.room }
+can_later o form m a b s limits pruned can = record { small = can.small; value = can.value; after = can.after; is_read = can.is_read; room = ends_after a b s _ limits pruned can.room }
 
 -- a copy to a place that was cleared first, or is null
 

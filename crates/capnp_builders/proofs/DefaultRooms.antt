@@ -1,7 +1,7 @@
 -- The room that a call with a default has: the copy of the default fits, and then what the call does with a value that stands.
 use Rattle.std.proofs.Common.{◌≡◌, inl, inr, ℕ, ◌<◌, ◌≤◌, Bool, true, false, cond, List, [], ◌∷◌, length, nat_eq, Option, Some, None, Result, Ok, Err, refl, sym, subst, arith}
 use Rattle.std.specs.Borrow.{Bor}
-use Rattle.std.proofs.lemmas.Bool.{cases_lt}
+use Rattle.std.proofs.lemmas.Bool.{cases_lt, false≢true}
 use Rattle.capnp_words.specs.declared.error.ErrorKind.{ErrorKind}
 use Rattle.capnp_words.specs.declared.error.ErrorKind.TheVariants.{MessageContainsOutOfBoundsPointer}
 use Rattle.capnp_format.specs.Bytes.{words_of}
@@ -10,9 +10,6 @@ use Rattle.capnp_format.proofs.WordsOf.{length-words_of}
 use Rattle.capnp_arena.specs.View.{View}
 use Rattle.capnp_making.specs.Makes.{call_at}
 use Rattle.capnp_builders.specs.Defaults.{DefaultUse, ignored, denied, copied, object_default, use_of_words, DefaultCopyFits, DefaultFits, FitsWithDefault, PutsDefaultOver}
-
-no_truth : false ≡ true → ⊥
-no_truth e = cc
 
 -- nothing is put where the default leaves null
 pub null_left : (w : DefaultUse) (s p : ℕ) (a m : View) (o : Result (Unit {0}) ErrorKind) → w ≡ ignored → PutsDefaultOver w (call_at s p a m) Null o → m ≡ a
@@ -60,7 +57,7 @@ copy_fits (Some d) (Structs n q es) bytes v id e fits = absurd (not_copied bytes
 -- so where the default is refused, its copy didn't fit
 refused_copy : (w : DefaultUse) (s p : ℕ) (a m : View) (t : Tree) (k : ErrorKind) (Fits : View → Type 0) → FitsWithDefault w a s p Fits → PutsDefaultOver w (call_at s p a m) t (Err k) →
     (bytes : List ℕ) × (w ≡ copied bytes) × DefaultCopyFits bytes a s
-refused_copy ignored s p a m t k Fits fits (ok, same) = absurd (no_truth ok)
+refused_copy ignored s p a m t k Fits fits (ok, same) = absurd (false≢true ok)
 refused_copy (denied l) s p a m t k Fits fits o = absurd fits
 refused_copy (copied bytes) s p a m t k Fits fits o = (bytes, refl, fits.0)
 

@@ -23,10 +23,7 @@ put_struct-same (element xs us X) (suc i) ws ts e = ap (element xs us) (put_stru
 
 -- where the pointer to a list of structs that is stored leads, and what its elements have
 list_leads : (S : Segments) (s p d q : ℕ) (X : Elements) → IsStored S s p (Structs d q X) → Leads S s p (target S s p)
-list_leads S s p d q X y = let m = y.means in leads_there m.0 m.1 m.2
-  where
-    leads_there : (n c : ℕ) → Means S n s p (Structs d q X) c → Leads S s p (target S s p)
-    leads_there n c (b, m, k, some, o, claim, tag, fits, all, g) = subst (Leads S s p) (sym (ap target_in o.leads_to.1)) o.leads_to
+list_leads S s p d q X y = let (n, c, (b, m, k, some, o, claim, tag, fits, all, g)) = y.means in subst (Leads S s p) (sym (ap target_in o.leads_to.1)) o.leads_to
 
 sections_there : (S : Segments) (n s p d q : ℕ) (X : Elements) (c i : ℕ) (ws : List ℕ) (ts : Trees) → MeansElements S n s p d q X c → i < element_count X → struct_at X i ≡ Struct ws ts → (length ws ≡ d) × (count ts ≡ q)
 sections_there S n s p d q no_elements c i ws ts m l e = absurd (omega arith)

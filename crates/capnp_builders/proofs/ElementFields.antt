@@ -9,6 +9,7 @@ use Rattle.capnp_words.specs.declared.wire_pointer.StructSize.{StructSize}
 use Rattle.capnp_readers.specs.Readers.{IsListPlace}
 use Rattle.capnp_readers.specs.Sections.{elements_words, step_bits, data_bits}
 use Rattle.capnp_readers.specs.declared.readers.list_reader.ListPlace.{ListPlace}
+use Rattle.capnp_readers.proofs.Elements.{whole_step}
 use Rattle.capnp_readers.proofs.Sections.{words_within}
 use Rattle.capnp_builders.proofs.FieldPlaces.{aligned_to, field_aligned}
 use Rattle.capnp_builders.specs.Elements.{lowest_bits}
@@ -23,23 +24,7 @@ data_within TwoBytes sections count i l = omega (arith, l)
 data_within FourBytes sections count i l = omega (arith, l)
 data_within EightBytes sections count i l = omega (arith, l)
 data_within Pointer sections count i l = omega (arith, l)
-data_within InlineComposite sections count i l =
-    let w = sections.data_words + sections.pointers in
-    omega (arith, words_within w count i l, in_words i w)
-  where
-    in_words : (i w : ℕ) → i * (64 * w) ≡ 64 * (i * w)
-    in_words i w = grind arith
-
--- where data has a byte, elements start at bytes
-whole_step : (size : ElementSize) (sections : StructSize) → 8 ≤ data_bits size sections → step_bits size sections ≡ 8 * (step_bits size sections / 8)
-whole_step Void sections wide = absurd (omega arith)
-whole_step Bit sections wide = absurd (omega arith)
-whole_step Byte sections wide = refl
-whole_step TwoBytes sections wide = refl
-whole_step FourBytes sections wide = refl
-whole_step EightBytes sections wide = refl
-whole_step Pointer sections wide = absurd (omega arith)
-whole_step InlineComposite sections wide = omega arith
+data_within InlineComposite sections count i l = omega (arith, words_within (sections.data_words + sections.pointers) count i l)
 
 -- bits of an element that starts at a byte
 start_in_bits : (list : ListPlace) (i n : ℕ) → 0 < n → 8 * n ≤ data_bits list.size list.struct_size →

@@ -2,16 +2,15 @@
 use Rattle.std.proofs.Common.{◌≡◌, ℕ, ◌+◌, ◌-◌, ◌<◌, ◌≤◌, Bool, true, false, cond, nat_eq, length, Option, Some, None, IfSome, IsNone, Result, Ok, Err, refl, sym, ap, ◌∙◌, subst, arith}
 use Rattle.std.proofs.lemmas.Bool.{eqb-true}
 use Rattle.capnp_words.specs.declared.error.ErrorKind.{ErrorKind}
-use Rattle.capnp_words.specs.declared.error.ErrorKind.TheVariants.{AllocationFailed, ExistingListPointerIsNotByteSized, TextBlobMissingNULTerminator}
+use Rattle.capnp_words.specs.declared.error.ErrorKind.TheVariants.{ExistingListPointerIsNotByteSized, TextBlobMissingNULTerminator}
 use Rattle.capnp_format.specs.Numbers.{words_for}
 use Rattle.capnp_format.specs.Segments.{Segments, segment, Target}
 use Rattle.capnp_format.specs.Tree.{Tree, Null, Capability, Struct, Flat, Pointers, Structs}
 use Rattle.capnp_format.specs.Means.{Means}
 use Rattle.capnp_format.specs.Forest.{target, target_in}
 use Rattle.capnp_making.specs.declared.existing.ExistingBytes.{ExistingBytes}
-use Rattle.capnp_making.specs.Existing.{BytesLieIn, is_unfound, bytes_at, data_in, text_in, ends_in_zero}
+use Rattle.capnp_making.specs.Existing.{BytesLieIn, bytes_at, data_in, text_in, ends_in_zero}
 use Rattle.capnp_making.specs.Stored.{IsStored}
-use Rattle.capnp_making.specs.Memory.{refusals_for}
 use Rattle.capnp_making.proofs.Leading.{leads_segment}
 use Rattle.capnp_builders.specs.Found.{bytes_given, no_bytes}
 
@@ -67,8 +66,3 @@ pub bytes_found : (S : Segments) (s : ℕ) (q : Found) (found : Option ExistingB
     (IsNone found → r ≡ Ok (no_bytes s)) → r ≡ bytes_given s q
 bytes_found S s q (Some b) r e inside some none = some (inside b e) ∙ sym (ap (bytes_given s) e)
 bytes_found S s q None r e inside some none = none refl ∙ sym (ap (bytes_given s) e)
-
--- what isn't found spends nothing
-pub unfound_spends : (k : ErrorKind) → is_unfound k ≡ true → (n : ℕ) → refusals_for k n ≡ n
-unfound_spends AllocationFailed e n = absurd (cc)
-unfound_spends k e n = refl

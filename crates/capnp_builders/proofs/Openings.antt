@@ -17,6 +17,7 @@ use Rattle.capnp_readers.specs.declared.readers.struct_reader.StructPlace.{Struc
 use Rattle.capnp_making.specs.Makes.{CallAt, call_at}
 use Rattle.capnp_widening.specs.Opening.{Opens, struct_opened, LeadsToOne, LeadsToAll, OpensStruct, OpensExistingList as OpensAll}
 use Rattle.capnp_widening.specs.Widened.{list_widened}
+use Rattle.capnp_widening.proofs.StructRooms.{no_struct}
 use Rattle.capnp_widening.proofs.StructSteps.{the_struct, same_struct}
 use Rattle.capnp_builders.specs.Found.{list_given, void_list}
 use Rattle.capnp_builders.specs.Opening.{IsStructGiven, IsListGiven, OpensList}
@@ -64,9 +65,6 @@ one_given S s p ws ts e place k stored is inside =
     let seg : place.segment ≡ (target S s p).segment = starts.0 ∙ sym (ap (λ (x : ExistingStruct). x.segment) is) in
     let long : length (segment S place.segment) ≡ length (segment S e.segment) = ap (λ v. length (segment S v)) starts.0 in
     (placed ∙ sym (ap struct_place is), (omega (arith, seg, struct_exists S s p ws ts k.there stored), omega (arith, starts.1, starts.2, inside, long), omega (arith, starts.3, starts.4, inside, long)))
-
-no_struct : (e : ExistingStruct) → None ≡ Some e → ⊥
-no_struct e x = cc
 
 struct_given : (S : Segments) (s p : ℕ) (e : ExistingStruct) (place : StructPlace) → PlaceOf S s e place → (u : Tree) → IsStored S s p u → LeadsToOne S s p u e → IsStructGiven S s p u place
 struct_given S s p e place k Null stored leads = absurd (no_struct e leads.0)

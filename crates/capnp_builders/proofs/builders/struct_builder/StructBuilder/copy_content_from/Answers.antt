@@ -11,7 +11,7 @@ use Rattle.capnp_builders.specs.Content.{with_content, AreCleared, TakesData}
 use Rattle.capnp_copies.specs.Growth.{TakesNone}
 use Rattle.capnp_copies.proofs.FlatRead.{err_so}
 use Rattle.capnp_copies.proofs.Growth.{none_itself, none_both, none_pruned, taken_so, all_within, among_within}
-use Rattle.capnp_builders.proofs.CopiesHeld.{room_later}
+use Rattle.capnp_making.proofs.Taken.{ends_after}
 use Rattle.capnp_builders.proofs.ContentWritten.{content_long, content_many, each_grows, content_inside}
 use Rattle.capnp_builders.proofs.builders.struct_builder.StructBuilder.copy_content_from.Goals as goal
 
@@ -83,4 +83,4 @@ returns-clause-fits g c = λ fits.
     let room : put.room place.segment ≡ old.room place.segment = ap (λ (v : View). v.room place.segment) c.write_content.ensures in
     let written : HasOwnRoom put place.segment n = omega (arith, long, room, fits.room) in
     let copied = rw (nl, c.from-count.ensures, c.min.ensures) at c.copy_each.ensures.fits in
-    copied (record { small = fits.small; value = fits.value; after = fits.after; is_read = fits.is_read; room = room_later n put mid place.segment c.clear_pointers.ensures.limits c.clear_pointers.ensures.only written }))
+    copied (record { small = fits.small; value = fits.value; after = fits.after; is_read = fits.is_read; room = ends_after put mid place.segment n c.clear_pointers.ensures.limits c.clear_pointers.ensures.only written }))
