@@ -1,9 +1,9 @@
 -- What an edit leaves of a forest.
-use Rattle.std.proofs.Common.{◌≡◌, ◌⊎◌, inl, inr, ℕ, zero, suc, pred, ◌+◌, ◌*◌, ◌<◌, ◌≤◌, true, false, cond, nat_le, List, [], ◌∷◌, length, Option, Some, None, Result, Ok, Err, IsOk, IfErr, OnErr, refl, sym, ap, ◌∙◌, subst, arith}
+use Rattle.std.proofs.Common.{◌≡◌, ◌⊎◌, inl, inr, Bool, ℕ, zero, suc, pred, ◌+◌, ◌*◌, ◌<◌, ◌≤◌, true, false, cond, nat_eq, nat_le, List, [], ◌∷◌, length, Option, Some, None, Result, Ok, Err, IsOk, IfErr, OnErr, refl, sym, ap, ◌∙◌, subst, arith}
 use Rattle.std.specs.Option.{option_map_or}
 use Rattle.std.specs.Prelude.{MatchOption}
 use Rattle.std.proofs.lemmas.Bool.Decides.{nat_tests}
-use Rattle.std.proofs.lemmas.List.{append-nil}
+use Rattle.std.proofs.lemmas.List.{append-nil, length-replicate}
 use Rattle.capnp_words.specs.declared.error.ErrorKind.{ErrorKind}
 use Rattle.capnp_words.specs.declared.error.ErrorKind.TheVariants.{AllocationFailed, NoSuchPlace}
 use Rattle.capnp_arena.specs.Taking.{IsAllocationRefusal}
@@ -11,21 +11,27 @@ use Rattle.capnp_arena.specs.View.{View, KeepsLimits}
 use Rattle.capnp_format.specs.Segments.{Segments, Target, segment}
 use Rattle.capnp_format.specs.Tree.{Tree, Null, Capability, Struct, Flat, Pointers, Structs, Trees, Elements, no_elements, element, count, element_count}
 use Rattle.capnp_format.specs.Means.{Means}
+use Rattle.capnp_format.specs.Canonical.{word_count, word_count_all, word_count_elements}
+use Rattle.capnp_format.specs.Numbers.{words_for}
 use Rattle.capnp_format.specs.Forest.{IsForest, target, cover}
 use Rattle.capnp_making.specs.declared.existing.ExistingStruct.{ExistingStruct}
 use Rattle.capnp_making.specs.Existing.{struct_in}
 use Rattle.capnp_making.specs.Fields.{put_field}
+use Rattle.capnp_making.specs.Made.{words_of_zero, nulls, zero_elements, zero_struct, zero_structs, zero_list, list_words}
 use Rattle.capnp_making.specs.Makes.{MakesObject, call_at}
 use Rattle.capnp_making.specs.Memory.{IsRefusedFor}
 use Rattle.capnp_making.specs.Path.{Element, struct_at, put_struct, update, PathLeads, word_interval}
 use Rattle.capnp_making.specs.Stored.{IsStored, IsReplaced, Puts}
 use Rattle.capnp_making.proofs.Extents.{once_held, times-first}
 use Rattle.capnp_making.proofs.FieldsWritten.{data_field_written, element_has_words, element_field_written}
+use Rattle.capnp_making.proofs.Placed.{count-nulls}
+use Rattle.capnp_making.proofs.PlacedStructs.{count-zero_elements}
 use Rattle.capnp_making.proofs.Replaced.{forest_stored, forest_updated, stored_within}
 use Rattle.capnp_readers.specs.declared.readers.PointerPlace.{PointerPlace}
-use Rattle.capnp_builders.specs.Places.{Field}
+use Rattle.capnp_widening.specs.Rooms.{is_allocation_name}
+use Rattle.capnp_words.specs.declared.wire_pointer.StructSize.{StructSize}
 use Rattle.capnp_edits.specs.declared.edit.Edit.{Edit}
-use Rattle.capnp_edits.specs.Paths.{EndValue, PointerTo, ElementOf, path_of, found, IsPointerFound, IsElementFound, IsPathFound}
+use Rattle.capnp_edits.specs.Paths.{EndValue, PointerTo, ElementOf, path_of, found, IsElementFound, IsPathFound}
 use Rattle.capnp_edits.specs.declared.edit.tasks.Task.{Task}
 use Rattle.capnp_edits.specs.declared.edit.tasks.Task.TheVariants.{Make, Point, InStruct, Write, Search, CopyRoot}
 use Rattle.capnp_edits.specs.declared.edit.tasks.NewObject.{NewObject}
@@ -33,10 +39,12 @@ use Rattle.capnp_edits.specs.declared.edit.tasks.Number.{Number}
 use Rattle.capnp_edits.specs.declared.edit.tasks.Part.{Part}
 use Rattle.capnp_edits.specs.declared.edit.tasks.StructChange.{StructChange}
 use Rattle.capnp_edits.specs.declared.edit.tasks.StructChange.TheVariants.{Bits, Content}
+use Rattle.capnp_edits.specs.declared.edit.path.PathEnd.TheVariants.{Pointer as AtPointer}
 use Rattle.capnp_edits.specs.Tasks.{task_of}
-use Rattle.capnp_edits.specs.Edits.{refusal_of, bits_of, value_of, words_made, Making, becomes, denied, with_written, struct_changed, made_at, IsOfMemory, is_of_path, DoesAt, Leaves, as_it_stands, is_done, is_denied, is_allocated, is_not_allocated, leads_to, are_written, are_outside, PutsBits, Takes, leads_nowhere, IsApplied, refusals_after}
-use Rattle.capnp_edits.specs.Steps.{KeepsLengths, IsOfPath, IsDoneAt}
+use Rattle.capnp_edits.specs.Edits.{refusal_of, bits_of, value_of, Making, becomes, denied, struct_with, struct_changed, made_at, is_of_path, DoesAt, Leaves, as_it_stands, is_done, is_denied, is_allocated, is_not_allocated, leads_to, are_written, are_outside, PutsBits, Takes, leads_nowhere, IsApplied, refusals_after}
+use Rattle.capnp_edits.specs.Steps.{IsOfPath, IsDoneAt}
 use Rattle.capnp_edits.proofs.Steps.{first, same_some, struct_of}
+use Rattle.capnp_edits.proofs.Taken.{KeepsLengths, writes}
 use Rattle.capnp_edits.proofs.Walks.{found-append, update-append}
 
 -- What is done where a task is, at a pointer, whatever that means; and what an edit's task makes, if its numbers are in range.
@@ -47,20 +55,19 @@ abbrev pub made : Option Task → EndValue → Making
 made task end_value = option_map_or (λ (x : Task). made_at x end_value) task (denied NoSuchPlace)
 
 -- a refusal for words is one for want of memory, or of room
-pub of_allocation : (old new : View) (segments amount : ℕ) (k : ErrorKind) → IsAllocationRefusal old new segments amount k → IsOfMemory k
+pub of_allocation : (old new : View) (segments amount : ℕ) (k : ErrorKind) → IsAllocationRefusal old new segments amount k → is_allocation_name k ≡ true
 of_allocation old new segments amount k why = elim why [
-  | inl h ↦ inl h.0
-  | inr (inl h) ↦ inr (amount, h.0)
-  | inr (inr h) ↦ inr (_, h.0)
+  | inl h ↦ ap is_allocation_name h.0
+  | inr (inl h) ↦ ap is_allocation_name h.0
+  | inr (inr h) ↦ ap is_allocation_name h.0
 ]
 
-pub of_memory : (old new : View) (n : ℕ) (k : ErrorKind) → IsRefusedFor old new n k → IsOfMemory k
+pub of_memory : (old new : View) (n : ℕ) (k : ErrorKind) → IsRefusedFor old new n k → is_allocation_name k ≡ true
 of_memory old new n k (why, same) = of_allocation old new (length old.words) (n + 1) k why
 
 -- so it is no place that is missing
-pub of_no_place : (k : ErrorKind) → IsOfMemory k → k ≡ NoSuchPlace → ⊥
-of_no_place k (inl h) e = absurd (cc)
-of_no_place k (inr h) e = let same = h.1 in absurd (cc)
+pub of_no_place : (k : ErrorKind) → is_allocation_name k ≡ true → k ≡ NoSuchPlace → ⊥
+of_no_place k h e = absurd (let f : false ≡ true = sym (ap is_allocation_name e) ∙ h in cc)
 
 -- a call that is refused for what a path leads to, and changes nothing then
 pub refused_there : {A : Type 0} (result : Result A ErrorKind) (old new : View) (Q : ErrorKind → Type 0) (k : ErrorKind) → IfErr result (λ k. is_of_path k ≡ true) → OnErr result (new ≡ old) → refusal_of result ≡ Some k → IsOfPath old new k ⊎ Q k
@@ -102,27 +109,58 @@ pub named_refusal : {A : Type 0} (result : Result A ErrorKind) (P : ErrorKind �
 named_refusal (Ok x) P k why e = absurd (cc)
 named_refusal (Err j) P k why e = subst P (same_some j k e) why
 
+-- the words of an object that is made are those of its value
+none_below : (n : ℕ) → word_count_all (nulls n) ≡ 0
+none_below zero = refl
+none_below (suc n) = omega (arith, none_below n)
+
+none_in : (d q n : ℕ) → word_count_elements (zero_elements d q n) ≡ 0
+none_in d q zero = refl
+none_in d q (suc n) = omega (arith, none_below q, none_in d q n)
+
+pub struct_words : (size : StructSize) → size.data_words + size.pointers ≡ word_count (zero_struct size)
+struct_words size = omega (arith, length-replicate {A = ℕ} size.data_words 0, count-nulls size.pointers, none_below size.pointers)
+
+pub list_words_are : (size n : ℕ) → list_words size n ≡ word_count (zero_list size n)
+list_words_are size n = by_size (nat_eq size 6)
+  where
+    by_size : (b : Bool) → cond b n (words_for size n) ≡ word_count (cond b (Pointers (nulls n)) (Flat size (words_of_zero n)))
+    by_size true = omega (arith, count-nulls n, none_below n)
+    by_size false = ap (words_for size) (sym (length-replicate {A = ℕ} n 0))
+
+pub structs_words_are : (n : ℕ) (size : StructSize) → 1 + n * (size.data_words + size.pointers) ≡ word_count (zero_structs n size)
+structs_words_are n size =
+    let d = size.data_words in
+    let q = size.pointers in
+    ap (λ m. 1 + m * (d + q)) (sym (count-zero_elements d q n)) ∙ (let e : 1 + element_count (zero_elements d q n) * (d + q) ≡ 1 + element_count (zero_elements d q n) * (d + q) + word_count_elements (zero_elements d q n) = omega (arith, none_in d q n) in e)
+
 -- a call that makes an object
-pub object_made : {A : Type 0} (result : Result A ErrorKind) (old new : View) (place : PointerPlace) (object : NewObject) → MakesObject result (call_at place.segment place.word old new) (value_of object) (words_made object) →
-    IsDoneAt old new place (Make object) (refusal_of result)
-object_made (Ok x) old new place object made = record {
-  done = λ t stored. record { left = Some (value_of object); leaves = as_it_stands (is_allocated Null (value_of object) refl refl refl); stands = made.made t stored };
-  counted = ap (λ (v : View). v.refusals) made.memory.granted.0;
-  named = λ k e. absurd (cc);
-  fits = λ room k e. absurd (cc);
-  nowhere = λ e. absurd (cc);
-  taken = λ some. record { taken = made.memory.taken; behind = made.behind; memory = made.memory.granted };
-}
-object_made (Err k) old new place object made =
-    let why : IsRefusedFor old new (words_made object) k = made.memory.named in
-    record {
-      done = λ t stored. record { left = Some Null; leaves = as_it_stands (is_not_allocated Null (value_of object) k refl (of_memory old new (words_made object) k why) refl refl); stands = made.refused t stored };
-      counted = counted old new (words_made object) k why;
-      named = λ j e. inr (subst (IsRefusedFor old new (words_made object)) (same_some k j e) why);
-      fits = λ room j e. absurd (let h = made.memory.fits room in cc);
-      nowhere = λ e. absurd (of_no_place k (of_memory old new (words_made object) k why) (same_some k NoSuchPlace e));
-      taken = λ some. made.only;
+pub object_made : {A : Type 0} (result : Result A ErrorKind) (old new : View) (place : PointerPlace) (object : NewObject) (n : ℕ) → n ≡ word_count (value_of object) →
+    MakesObject result (call_at place.segment place.word old new) (value_of object) n → IsDoneAt old new place (Make object) (refusal_of result)
+object_made result old new place object n is made =
+    value_made result old new place object (subst (MakesObject result (call_at place.segment place.word old new) (value_of object)) is made)
+  where
+    value_made : {A : Type 0} (result : Result A ErrorKind) (old new : View) (place : PointerPlace) (object : NewObject) → MakesObject result (call_at place.segment place.word old new) (value_of object) (word_count (value_of object)) →
+        IsDoneAt old new place (Make object) (refusal_of result)
+    value_made (Ok x) old new place object made = record {
+      done = λ t stored. record { left = Some (value_of object); leaves = as_it_stands (is_allocated Null (value_of object) refl refl refl); stands = made.made t stored };
+      counted = ap (λ (v : View). v.refusals) made.memory.granted.0;
+      named = λ k e. absurd (cc);
+      fits = λ room k e. absurd (cc);
+      nowhere = λ e. absurd (cc);
+      taken = λ some. record { taken = made.memory.taken; behind = made.behind; memory = made.memory.granted };
     }
+    value_made (Err k) old new place object made =
+        let n : ℕ = word_count (value_of object) in
+        let why : IsRefusedFor old new n k = made.memory.named in
+        record {
+          done = λ t stored. record { left = Some Null; leaves = as_it_stands (is_not_allocated Null (value_of object) k refl (of_memory old new n k why) refl refl); stands = made.refused t stored };
+          counted = counted old new n k why;
+          named = λ j e. inr (subst (IsRefusedFor old new n) (same_some k j e) why);
+          fits = λ room j e. absurd (let h = made.memory.fits room in cc);
+          nowhere = λ e. absurd (of_no_place k (of_memory old new n k why) (same_some k NoSuchPlace e));
+          taken = λ some. made.only;
+        }
 
 -- a call that makes none
 pub pointed : (old new : View) (place : PointerPlace) (i : Option ℕ) (u : Tree) → ((t : Tree) → made_at (Point i) (PointerTo t) ≡ becomes u) → Puts old.words new.words place.segment place.word u → KeepsLimits old new → KeepsLengths old.words new.words →
@@ -133,7 +171,7 @@ pointed old new place i u makes puts limits lengths = record {
   named = λ k e. absurd (cc);
   fits = λ room k e. absurd (cc);
   nowhere = λ e. absurd (cc);
-  taken = λ some. record { lengths = lengths; limits = limits };
+  taken = λ some. writes old new limits lengths;
 }
 
 -- a call that writes a part
@@ -145,7 +183,7 @@ part_done result old new place part does lengths limits named kept = record {
   named = λ k. refused_there result old new (λ j. ⊥) k named kept;
   fits = λ room k e. named_refusal result (λ j. is_of_path j ≡ true) k named e;
   nowhere = kept_nowhere result old new kept;
-  taken = λ some. record { lengths = lengths; limits = limits };
+  taken = λ some. writes old new limits lengths;
 }
 
 -- what is made stands at its place
@@ -156,35 +194,36 @@ pub denied_at : {S R : Segments} {place : PointerPlace} {making : Making} {t : T
 denied_at k denies named same = record { left = None; leaves = as_it_stands (is_denied k denies named refl); stands = same }
 
 -- a field that is there, or not
-field_there : (f : Field) (ws : List ℕ) (ts : Trees) → f.start + f.bits ≤ 64 * length ws → with_written f (Struct ws ts) ≡ becomes (Struct (put_field ws f.start f.bits f.value) ts)
-field_there f ws ts l = ap (λ b. cond b (becomes (Struct (put_field ws f.start f.bits f.value) ts)) (denied NoSuchPlace)) (within (f.start + f.bits) (64 * length ws) l)
+field_there : (n : Number) (ws : List ℕ) (ts : Trees) → (bits_of n).start + (bits_of n).bits ≤ 64 * length ws → struct_changed (Bits n) (Struct ws ts) ≡ becomes (struct_with (bits_of n) (Struct ws ts))
+field_there n ws ts l = ap (λ b. cond b (becomes (struct_with (bits_of n) (Struct ws ts))) (denied NoSuchPlace)) (within ((bits_of n).start + (bits_of n).bits) (64 * length ws) l)
   where
     within : (a b : ℕ) → a ≤ b → nat_le a b ≡ true
     within a b l = grind (arith, nat_tests)
 
-field_past : (f : Field) (ws : List ℕ) (ts : Trees) → 64 * length ws < f.start + f.bits → with_written f (Struct ws ts) ≡ denied NoSuchPlace
-field_past f ws ts l = ap (λ b. cond b (becomes (Struct (put_field ws f.start f.bits f.value) ts)) (denied NoSuchPlace)) (past (f.start + f.bits) (64 * length ws) l)
+field_past : (n : Number) (ws : List ℕ) (ts : Trees) → 64 * length ws < (bits_of n).start + (bits_of n).bits → struct_changed (Bits n) (Struct ws ts) ≡ denied NoSuchPlace
+field_past n ws ts l = ap (λ b. cond b (becomes (struct_with (bits_of n) (Struct ws ts))) (denied NoSuchPlace)) (past ((bits_of n).start + (bits_of n).bits) (64 * length ws) l)
   where
     past : (a b : ℕ) → b < a → nat_le a b ≡ false
     past a b l = grind (arith, nat_tests)
 
 -- a field of a struct that a pointer leads to
-written_there : (S R : Segments) (place : PointerPlace) (f : Field) (r : Option ErrorKind) (ws : List ℕ) (ts : Trees) → IsStored S place.segment place.word (Struct ws ts) →
-    PutsBits S R (struct_of (target S place.segment place.word).segment (target S place.segment place.word).start (length ws) (count ts)) f r → DoesAt S R place (with_written f (Struct ws ts)) (Struct ws ts) r
-written_there S R place f r ws ts stored (are_written starts ends done written) =
-    done_at (Struct (put_field ws f.start f.bits f.value) ts) (field_there f ws ts ends) done (data_field_written S R place.segment place.word ws ts f.start f.bits f.value stored starts written)
-written_there S R place f r ws ts stored (are_outside past named same) = denied_at NoSuchPlace (field_past f ws ts past) named same
+written_there : (S R : Segments) (place : PointerPlace) (n : Number) (r : Option ErrorKind) (ws : List ℕ) (ts : Trees) → IsStored S place.segment place.word (Struct ws ts) →
+    PutsBits S R (struct_of (target S place.segment place.word).segment (target S place.segment place.word).start (length ws) (count ts)) (bits_of n) r → DoesAt S R place (struct_changed (Bits n) (Struct ws ts)) (Struct ws ts) r
+written_there S R place n r ws ts stored (are_written starts ends done written) =
+    let f = bits_of n in
+    done_at (struct_with f (Struct ws ts)) (field_there n ws ts ends) done (data_field_written S R place.segment place.word ws ts f.start f.bits f.value stored starts written)
+written_there S R place n r ws ts stored (are_outside past named same) = denied_at NoSuchPlace (field_past n ws ts past) named same
 
-pub written_at : (S R : Segments) (place : PointerPlace) (f : Field) (r : Option ErrorKind) (e : ExistingStruct) (t : Tree) → Some e ≡ struct_in (target S place.segment place.word) t → PutsBits S R e f r → IsStored S place.segment place.word t →
-    DoesAt S R place (with_written f t) t r
-written_at S R place f r e (Struct ws ts) is_e w stored =
+pub written_at : (S R : Segments) (place : PointerPlace) (n : Number) (r : Option ErrorKind) (e : ExistingStruct) (t : Tree) → Some e ≡ struct_in (target S place.segment place.word) t → PutsBits S R e (bits_of n) r → IsStored S place.segment place.word t →
+    DoesAt S R place (struct_changed (Bits n) t) t r
+written_at S R place n r e (Struct ws ts) is_e w stored =
     let a = target S place.segment place.word in
-    written_there S R place f r ws ts stored (subst (λ x. PutsBits S R x f r) (same_some e (struct_of a.segment a.start (length ws) (count ts)) is_e) w)
-written_at S R place f r e Null is_e w stored = absurd (cc)
-written_at S R place f r e (Capability j) is_e w stored = absurd (cc)
-written_at S R place f r e (Flat size ns) is_e w stored = absurd (cc)
-written_at S R place f r e (Pointers ts) is_e w stored = absurd (cc)
-written_at S R place f r e (Structs d q es) is_e w stored = absurd (cc)
+    written_there S R place n r ws ts stored (subst (λ x. PutsBits S R x (bits_of n) r) (same_some e (struct_of a.segment a.start (length ws) (count ts)) is_e) w)
+written_at S R place n r e Null is_e w stored = absurd (cc)
+written_at S R place n r e (Capability j) is_e w stored = absurd (cc)
+written_at S R place n r e (Flat size ns) is_e w stored = absurd (cc)
+written_at S R place n r e (Pointers ts) is_e w stored = absurd (cc)
+written_at S R place n r e (Structs d q es) is_e w stored = absurd (cc)
 
 -- what is no struct isn't changed
 pub no_struct : (a : Target) (change : StructChange) (t : Tree) → None ≡ struct_in a t → struct_changed change t ≡ denied NoSuchPlace
@@ -210,12 +249,12 @@ at_pointer S R e place making r t x makes leads end_value forest does = stands d
     stands None left same = (t, subst (λ Q. IsForest Q t) (sym same) forest, leads_to (PointerTo x) None end_value left refl)
 
 pub applied_pointer : (S R : Segments) (e : Edit) (place : PointerPlace) (task : Task) (r : Option ErrorKind) → task_of e.op ≡ Some task →
-    ((t : Tree) → IsStored S 0 0 t → IsPointerFound S 0 0 t (path_of e.path.now) place.segment place.word) → Does S R place task r → IsApplied (Takes e r) S R
+    ((t : Tree) → IsStored S 0 0 t → IsPathFound S 0 0 t (path_of e.path.now) (Some (AtPointer place))) → Does S R place task r → IsApplied (Takes e r) S R
 applied_pointer S R e place task r is leads does t forest =
     let stored = forest_stored S t forest in
     let f = leads t stored in
-    at_pointer S R e place (made_at task (PointerTo f.value)) r t f.value (ap (λ o. made o (PointerTo f.value)) is) f.leads f.end_value forest
-    (does f.value (stored_within S 0 0 t (path_of e.path.now) place.segment place.word f.value f.leads stored))
+    at_pointer S R e place (made_at task (PointerTo f.0)) r t f.0 (ap (λ o. made o (PointerTo f.0)) is) f.1 f.2 forest
+    (does f.0 (stored_within S 0 0 t (path_of e.path.now) place.segment place.word f.0 f.1 stored))
 
 -- an element of a list of structs is a struct
 pub element_struct : (es : Elements) (i : ℕ) → i < element_count es → (ws : List ℕ) × (ts : Trees) × (struct_at es i ≡ Struct ws ts)
@@ -230,10 +269,11 @@ element_width S n s p d q es c i ws ts (b, m, k, some, o, claim, tag, fits, all,
 pub element_width_stored : (S : Segments) (s p d q : ℕ) (es : Elements) (i : ℕ) (ws : List ℕ) (ts : Trees) → IsStored S s p (Structs d q es) → i < element_count es → struct_at es i ≡ Struct ws ts → length ws ≡ d
 element_width_stored S s p d q es i ws ts stored l is = let m = stored.means in element_width S m.0 s p d q es m.1 i ws ts m.2 l is
 
-at_element : (S R : Segments) (e : Edit) (s : ExistingStruct) (g : Field) (r : Option ErrorKind) (t : Tree) (f : IsElementFound S 0 0 t (path_of e.path.now) s) (ws : List ℕ) (ts : Trees) → struct_at f.elements f.index ≡ Struct ws ts →
+at_element : (S R : Segments) (e : Edit) (s : ExistingStruct) (n : Number) (r : Option ErrorKind) (t : Tree) (f : IsElementFound S 0 0 t (path_of e.path.now) s) (ws : List ℕ) (ts : Trees) → struct_at f.elements f.index ≡ Struct ws ts →
     length ws ≡ s.size.data_words → IsStored S f.list_segment f.list_at (Structs s.size.data_words s.size.pointers f.elements) → found t (path_of e.path.now) ≡ Some (ElementOf (Struct ws ts)) → IsForest S t →
-    made (task_of e.op) (ElementOf (Struct ws ts)) ≡ with_written g (Struct ws ts) → PutsBits S R s g r → (u : Tree) × IsForest R u × Takes e r t u
-at_element S R e s g r t f ws ts is wide stored end_value forest makes (are_written starts ends done written) =
+    made (task_of e.op) (ElementOf (Struct ws ts)) ≡ struct_changed (Bits n) (Struct ws ts) → PutsBits S R s (bits_of n) r → (u : Tree) × IsForest R u × Takes e r t u
+at_element S R e s n r t f ws ts is wide stored end_value forest makes (are_written starts ends done written) =
+    let g = bits_of n in
     let d = s.size.data_words in
     let q = s.size.pointers in
     let list = Structs d q f.elements in
@@ -246,11 +286,12 @@ at_element S R e s g r t f ws ts is wide stored end_value forest makes (are_writ
     ap (λ p. update t p y) f.path_is ∙ update-append t f.front (Element f.index ∷ []) list y f.end_value in (
       update t f.front (Structs d q (put_struct f.elements f.index y)),
       forest_updated S R t f.front f.list_segment f.list_at list (Structs d q (put_struct f.elements f.index y)) forest f.leads replaced,
-      leads_to (ElementOf (Struct ws ts)) (Some y) end_value (as_it_stands (is_done y (makes ∙ field_there g ws ts within) done refl)) (sym same),
+      leads_to (ElementOf (Struct ws ts)) (Some y) end_value (as_it_stands (is_done y (makes ∙ field_there n ws ts within) done refl)) (sym same),
     )
-at_element S R e s g r t f ws ts is wide stored end_value forest makes (are_outside far named same) =
+at_element S R e s n r t f ws ts is wide stored end_value forest makes (are_outside far named same) =
+    let g = bits_of n in
     let past : 64 * length ws < g.start + g.bits = rw wide far in
-    (t, subst (λ Q. IsForest Q t) (sym same) forest, leads_to (ElementOf (Struct ws ts)) None end_value (as_it_stands (is_denied NoSuchPlace (makes ∙ field_past g ws ts past) named refl)) refl)
+    (t, subst (λ Q. IsForest Q t) (sym same) forest, leads_to (ElementOf (Struct ws ts)) None end_value (as_it_stands (is_denied NoSuchPlace (makes ∙ field_past n ws ts past) named refl)) refl)
 
 -- what a path leads to that leads to an element
 pub element_end : (S : Segments) (e : Edit) (s : ExistingStruct) (t : Tree) (f : IsElementFound S 0 0 t (path_of e.path.now) s) (ws : List ℕ) (ts : Trees) → struct_at f.elements f.index ≡ Struct ws ts → found t (path_of e.path.now) ≡ Some (ElementOf (Struct ws ts))
@@ -268,7 +309,7 @@ applied_bits S R e s n r is_task leads w t forest =
     let there = stored_within S 0 0 t f.front f.list_segment f.list_at list f.leads stored in
     let means = there.means in
     let wide = element_width S means.0 f.list_segment f.list_at s.size.data_words s.size.pointers f.elements means.1 f.index ws ts means.2 f.counts is in
-    at_element S R e s (bits_of n) r t f ws ts is wide there (element_end S e s t f ws ts is) forest (ap (λ o. made o (ElementOf (Struct ws ts))) is_task) w
+    at_element S R e s n r t f ws ts is wide there (element_end S e s t f ws ts is) forest (ap (λ o. made o (ElementOf (Struct ws ts))) is_task) w
 
 -- any other task is for no element
 none_made : (task : Task) (t : Tree) → ((change : StructChange) → task ≡ InStruct change → ⊥) → made_at task (ElementOf t) ≡ denied NoSuchPlace

@@ -1,5 +1,5 @@
 -- What a copy from another message leaves, and what it is refused for.
-use Rattle.std.proofs.Common.{◌≡◌, inl, inr, ◌⊎◌, ℕ, ◌+◌, Bool, true, false, cond, not, ◌&&◌, ◌||◌, nat_eq, nat_lt, length, Option, Some, None, Result, Ok, Err, IfOk, IfErr, OnOk, OnErr, refl, sym, ap, ◌∙◌, subst, arith, IsOk}
+use Rattle.std.proofs.Common.{◌≡◌, inl, inr, ◌⊎◌, ℕ, ◌+◌, ◌≤◌, Bool, true, false, cond, not, ◌&&◌, ◌||◌, nat_eq, nat_lt, length, Option, Some, None, IfSome, Result, Ok, Err, IfOk, IfErr, OnOk, OnErr, refl, sym, ap, ◌∙◌, subst, arith, IsOk}
 use Rattle.std.proofs.lemmas.Bool.{cases_lt, false≢true}
 use Rattle.capnp_words.specs.Meter.{Meter}
 use Rattle.capnp_words.specs.declared.error.ErrorKind.{ErrorKind}
@@ -35,9 +35,9 @@ use Rattle.capnp_readers.specs.declared.readers.PointerPlace.{PointerPlace}
 use Rattle.capnp_copies.specs.Changes.{Change, RefusesToCopy, change}
 use Rattle.capnp_copies.specs.Forms.{form_of, kept}
 use Rattle.capnp_copies.specs.Growth.{TakesAtMost}
-use Rattle.capnp_copies.specs.Originals.{value_original, sections_original, list_original}
+use Rattle.capnp_copies.specs.Originals.{Original, value_original, sections_original, list_original}
 use Rattle.capnp_copies.proofs.Originals.{value_beyond, refused_words}
-use Rattle.capnp_making.specs.Makes.{CallAt}
+use Rattle.capnp_making.specs.Makes.{CallAt, call_at}
 use Rattle.capnp_copies.specs.ListValues.{list_read}
 use Rattle.capnp_copies.specs.StructValues.{data_of, struct_read}
 use Rattle.capnp_builders.specs.Kept.{PutsCopy, LeavesCleared}
@@ -46,15 +46,34 @@ use Rattle.capnp_edits.specs.declared.edit.copying.Copying.{Copying}
 use Rattle.capnp_edits.specs.declared.edit.copying.Wanted.{Wanted}
 use Rattle.capnp_edits.specs.declared.edit.copying.Wanted.TheVariants.{Value, Struct as AStruct, List as AList}
 use Rattle.capnp_edits.specs.declared.edit.tasks.Task.TheVariants.{CopyRoot}
-use Rattle.capnp_edits.specs.Sources.{copy_at, words_in, root_of, once_at_root, as_wanted, HasRoot, IsRootReader, CanBeCopiedAs, IsRootless, IsWithheld, HasNothingToCopy, FitsBehind, Sections, ListElements, LeadsToStruct, LeadsToList, OfWanted, CopiedOrRefused}
-use Rattle.capnp_edits.specs.Edits.{as_it_stands, refusal_of, IsOfMemory, is_of_path, refusals_after, CopiesRoot, root_copied, root_not_copied, root_unread, is_copied, is_not_copied, is_unread}
-use Rattle.capnp_edits.specs.Steps.{call_to, result_of, IsDoneAt, IsWholeRefused, TakesForWhole}
-use Rattle.capnp_edits.proofs.Taken.{copy_taken}
+use Rattle.capnp_edits.specs.Sources.{root_of, once_at_root, as_wanted, HasRoot, IsRootReader, Copies, IsRootless, IsWithheld, HasNothingToCopy, Sections, ListElements, LeadsToStruct, LeadsToList, OfWanted, CopiedOrRefused}
+use Rattle.capnp_edits.specs.Edits.{as_it_stands, refusal_of, is_of_path, refusals_after, CopiesRoot, root_copied, root_not_copied, root_unread, is_copied, is_not_copied, is_unread}
+use Rattle.capnp_edits.specs.Steps.{result_of, CopiesWhole, IsDoneAt}
 use Rattle.capnp_edits.proofs.Applied.{Does, of_allocation, of_no_place, named_refusal, never_refused}
-use Rattle.capnp_edits.proofs.CopiedStruct.{struct_at, struct_reads, struct_refused, struct_given, struct_fits}
+use Rattle.capnp_edits.proofs.CopiedStruct.{CanBeCopiedAs, struct_at, struct_reads, struct_refused, struct_given, struct_fits}
 use Rattle.capnp_edits.proofs.CopiedList.{elements_read, list_at, list_reads, list_refused, list_given, list_small, list_fits}
 use Rattle.capnp_edits.proofs.ListReads.{list_read_as}
 use Rattle.capnp_edits.proofs.Steps.{same_some}
+use Rattle.capnp_making.specs.Near.{HasOwnRoom}
+use Rattle.capnp_widening.specs.Rooms.{is_allocation_name}
+
+-- The root means a value that fits behind segment id.
+abbrev pub FitsBehind : View → ℕ → Copying → Type 0
+FitsBehind v id c = (u : Tree) × Copies c u × (c.wanted ≡ AList → AreWords (root_of c.source).segments) × HasOwnRoom v id (word_count u)
+
+can_be_copied : (v : View) (id : ℕ) (c : Copying) → FitsBehind v id c → CanBeCopiedAs c (root_of c.source) (once_at_root c.source) (length (segment v.words id)) (v.room id)
+can_be_copied v id c (u, copies, words, room) =
+    let x = copies.is_read in
+    record {
+      value = copies.value;
+      cost = x.cost;
+      means = x.means;
+      takes = x.takes;
+      covers = x.covers;
+      copied = copies.copied;
+      is_wanted = copies.is_wanted;
+      fits = subst (λ t. length (segment v.words id) + word_count t ≤ v.room id) copies.is_kept room;
+    }
 
 -- What a copy leaves that is done.
 abbrev IsDone : Copying → Meter → Segments → Segments → PointerPlace → Type 0
@@ -64,7 +83,7 @@ IsDone c after S R place =
 
 -- A copy is refused for want of memory, or its value can't be read; and never for a place.
 
-value_refused : (b : Bool) (id at : ℕ) (old new : View) (r : Reading) (m m' : Meter) (k : ErrorKind) → RefusesToCopy (value_original r) (change (form_of b) id at old new m m') k → IsOfMemory k ⊎ Refused (form_of b) r m m' k
+value_refused : (b : Bool) (id at : ℕ) (old new : View) (r : Reading) (m m' : Meter) (k : ErrorKind) → RefusesToCopy (value_original r) (change (form_of b) id at old new m m') k → (is_allocation_name k ≡ true) ⊎ Refused (form_of b) r m m' k
 value_refused b id at old new r m m' k (inl (lacks, large)) =
     let x = refused_words (value_original r) (change (form_of b) id at old new m m') k lacks in
     inl (of_allocation old new (length new.words) (x.0 + 1) k x.1.0)
@@ -72,7 +91,7 @@ value_refused b id at old new r m m' k (inr (inl refused)) = inr refused
 value_refused b id at old new r m m' k (inr (inr none)) = absurd none
 
 copy_refused_as : (w : Wanted) (b : Bool) (id at : ℕ) (old new : View) (r : Reading) (m m' : Meter) (k : ErrorKind) → OfWanted w r (change (form_of b) id at old new m m') (λ o d. RefusesToCopy o d k) →
-    IsOfMemory k ⊎ Refused (form_of b) r m m' k
+    (is_allocation_name k ≡ true) ⊎ Refused (form_of b) r m m' k
 copy_refused_as Value b id at old new r m m' k refuses = value_refused b id at old new r m m' k refuses
 copy_refused_as AStruct b id at old new r m m' k (s, leads, refuses) = struct_refused b id at old new r m m' s k leads refuses
 copy_refused_as AList b id at old new r m m' k (l, n, leads, refuses) = list_refused b id at old new r m n m' l k leads refuses
@@ -93,13 +112,30 @@ copy_fits_as Value c id at old new r m m' k is small can (inr (inr none)) = none
 copy_fits_as AStruct c id at old new r m m' k is small can (s, leads, refuses) = struct_fits c r m m' s id at old new k is leads can refuses
 copy_fits_as AList c id at old new r m m' k is small can (l, n, leads, refuses) = list_fits c r m n m' l id at old new k is leads (list_small r m n l (small is) leads) can refuses
 
+-- What a copy takes, and why it is refused, by its outcome.
+abbrev pub Says : Option ErrorKind → Original Tree → Change → Type 0
+Says r o d = TakesAtMost (result_of r) o d × IfSome r (RefusesToCopy o d)
+
+says : {A : Type 0} (result : Result A ErrorKind) (o : Original Tree) (d : Change) → TakesAtMost result o d → IfErr result (LeavesCleared o d) → Says (refusal_of result) o d
+says (Ok x) o d taken refused = (taken, tt)
+says (Err k) o d taken refused = (taken, refused.why)
+
 -- A copy that was tried: what it leaves where result is Ok, and why it is refused where it isn't.
 pub record Tried {A : Type 0} (result : Result A ErrorKind) (c : Copying) (old new : View) (place : PointerPlace) : Type 0 where
   pub root : HasRoot c.source
   pub after : Meter
   pub done : IfOk result (λ x. IsDone c after old.words new.words place)
-  pub refused : IfErr result (λ k. OfWanted c.wanted (root_of c.source) (change (form_of c.canonicalize) place.segment place.word old new (once_at_root c.source) after) (λ o d. RefusesToCopy o d k))
-  pub taken : OfWanted c.wanted (root_of c.source) (copy_at (call_to place old new) c after) (TakesAtMost (result_of (refusal_of result)))
+  pub copies : OfWanted c.wanted (root_of c.source) (change (form_of c.canonicalize) place.segment place.word old new (once_at_root c.source) after) (Says (refusal_of result))
+
+-- so it is refused
+wanted_so : (w : Wanted) (r : Reading) (c : Change) (P Q : Original Tree → Change → Type 0) → ((o : Original Tree) (d : Change) → P o d → Q o d) → OfWanted w r c P → OfWanted w r c Q
+wanted_so Value r c P Q so h = so _ _ h
+wanted_so AStruct r c P Q so (s, leads, h) = (s, leads, so _ _ h)
+wanted_so AList r c P Q so (l, m, leads, h) = (l, m, leads, so _ _ h)
+
+tried_refused : {A : Type 0} (k : ErrorKind) (c : Copying) (old new : View) (place : PointerPlace) (tried : Tried {A = A} (Err k) c old new place) →
+    OfWanted c.wanted (root_of c.source) (change (form_of c.canonicalize) place.segment place.word old new (once_at_root c.source) tried.after) (λ o d. RefusesToCopy o d k)
+tried_refused k c old new place tried = wanted_so c.wanted (root_of c.source) _ (Says (Some k)) (λ o d. RefusesToCopy o d k) (λ o d h. h.1) tried.copies
 
 pub tried_done : {A : Type 0} (result : Result A ErrorKind) (c : Copying) (old new : View) (place : PointerPlace) → Tried result c old new place → OnErr result (Puts old.words new.words place.segment place.word Null) →
     CopiesRoot old.words new.words place c (refusal_of result)
@@ -107,7 +143,7 @@ tried_done (Ok x) c old new place tried cleared =
     let (t, w, reads, is, puts) = tried.done in
     root_copied (kept (form_of c.canonicalize) w) (record { root = tried.root; value = t; after = tried.after; is_read = reads; copied = w; is_wanted = is; is_kept = refl }) refl puts
 tried_done (Err k) c old new place tried cleared =
-    root_not_copied k (elim (copy_refused_as c.wanted c.canonicalize place.segment place.word old new (root_of c.source) (once_at_root c.source) tried.after k tried.refused) [
+    root_not_copied k (elim (copy_refused_as c.wanted c.canonicalize place.segment place.word old new (root_of c.source) (once_at_root c.source) tried.after k (tried_refused k c old new place tried)) [
       | inl memory ↦ inl memory
       | inr refused ↦ inr (tried.root, (tried.after, refused))
     ]) refl cleared
@@ -116,47 +152,36 @@ pub copy_counted : {A : Type 0} (result : Result A ErrorKind) (old new : View) �
 copy_counted (Ok x) old new keeps spends = ap (λ (v : View). v.refusals) keeps.0
 copy_counted (Err k) old new keeps spends = spends.2
 
-pub tried_named : {A : Type 0} (result : Result A ErrorKind) (c : Copying) (old new : View) (place : PointerPlace) → Tried result c old new place → IfErr result (IsWholeRefused (call_to place old new) c)
-tried_named (Ok x) c old new place tried = tt
-tried_named (Err k) c old new place tried = inr (tried.after, tried.refused)
-
-pub tried_taken : {A : Type 0} (result : Result A ErrorKind) (c : Copying) (old new : View) (place : PointerPlace) → Tried result c old new place → TakesForWhole (call_to place old new) c (refusal_of result)
-tried_taken result c old new place tried = inr (tried.after, tried.taken)
+pub tried_taken : {A : Type 0} (result : Result A ErrorKind) (c : Copying) (old new : View) (place : PointerPlace) → Tried result c old new place → CopiesWhole (call_at place.segment place.word old new) c (refusal_of result)
+tried_taken result c old new place tried = inr (tried.after, tried.copies)
 
 pub tried_fits : {A : Type 0} (result : Result A ErrorKind) (c : Copying) (old new : View) (place : PointerPlace) → Tried result c old new place → FitsBehind old place.segment c → IsOk result
 tried_fits (Ok x) c old new place tried fits = refl
-tried_fits (Err k) c old new place tried fits = absurd (copy_fits_as c.wanted c place.segment place.word old new (root_of c.source) (once_at_root c.source) tried.after k refl fits.words fits.fits tried.refused)
+tried_fits (Err k) c old new place tried fits = absurd (copy_fits_as c.wanted c place.segment place.word old new (root_of c.source) (once_at_root c.source) tried.after k refl fits.2 (can_be_copied old place.segment c fits) (tried_refused k c old new place tried))
 
 -- of what the root means
 pub value_tried : {A : Type 0} (result : Result A ErrorKind) (c : Copying) (r : Reading) (m m' : Meter) (old new : View) (place : PointerPlace) → c.wanted ≡ Value → r ≡ root_of c.source → m ≡ once_at_root c.source → HasRoot c.source →
     IfOk result (λ x. PutsCopy (value_original r) (change (form_of c.canonicalize) place.segment place.word old new m m')) → IfErr result (LeavesCleared (value_original r) (change (form_of c.canonicalize) place.segment place.word old new m m')) →
     TakesAtMost result (value_original r) (change (form_of c.canonicalize) place.segment place.word old new m m') → Tried result c old new place
-value_tried result c r m m' old new place is is_r is_m has done refused taken = record { root = has; after = m'; done = good result done; refused = bad result refused; taken = takes }
+value_tried result c r m m' old new place is is_r is_m has done refused taken = record { root = has; after = m'; done = good result done; copies = copies }
   where
     good : {A : Type 0} (q : Result A ErrorKind) → IfOk q (λ x. PutsCopy (value_original r) (change (form_of c.canonicalize) place.segment place.word old new m m')) → IfOk q (λ x. IsDone c m' old.words new.words place)
     good (Ok x) h =
         (h.value, h.value, subst (λ y. Reads (form_of c.canonicalize) (root_of c.source) y m' h.value) is_m (subst (λ y. Reads (form_of c.canonicalize) y m m' h.value) is_r h.is_read), ap (λ w. as_wanted w h.value) is, h.put)
     good (Err k) h = tt
 
-    bad : {A : Type 0} (q : Result A ErrorKind) → IfErr q (LeavesCleared (value_original r) (change (form_of c.canonicalize) place.segment place.word old new m m')) →
-        IfErr q (λ k. OfWanted c.wanted (root_of c.source) (change (form_of c.canonicalize) place.segment place.word old new (once_at_root c.source) m') (λ o d. RefusesToCopy o d k))
-    bad (Ok x) h = tt
-    bad (Err k) h =
-        subst (λ w. OfWanted w (root_of c.source) (change (form_of c.canonicalize) place.segment place.word old new (once_at_root c.source) m') (λ o d. RefusesToCopy o d k)) (sym is)
-        (subst (λ y. RefusesToCopy (value_original (root_of c.source)) (change (form_of c.canonicalize) place.segment place.word old new y m') k) is_m (subst (λ y. RefusesToCopy (value_original y) (change (form_of c.canonicalize) place.segment place.word old new m m') k) is_r h.why))
-
-    takes : OfWanted c.wanted (root_of c.source) (copy_at (call_to place old new) c m') (TakesAtMost (result_of (refusal_of result)))
-    takes =
+    copies : OfWanted c.wanted (root_of c.source) (change (form_of c.canonicalize) place.segment place.word old new (once_at_root c.source) m') (Says (refusal_of result))
+    copies =
         let ch : Meter → Change = λ y. change (form_of c.canonicalize) place.segment place.word old new y m' in
-        subst (λ w. OfWanted w (root_of c.source) (ch (once_at_root c.source)) (TakesAtMost (result_of (refusal_of result)))) (sym is)
-        (subst (λ y. TakesAtMost (result_of (refusal_of result)) (value_original (root_of c.source)) (ch y)) is_m (subst (λ y. TakesAtMost (result_of (refusal_of result)) (value_original y) (ch m)) is_r (copy_taken result (value_original r) (ch m) taken)))
+        subst (λ w. OfWanted w (root_of c.source) (ch (once_at_root c.source)) (Says (refusal_of result))) (sym is)
+        (subst (λ y. Says (refusal_of result) (value_original (root_of c.source)) (ch y)) is_m (subst (λ y. Says (refusal_of result) (value_original y) (ch m)) is_r (says result (value_original r) (ch m) taken refused)))
 
 -- of the struct that it leads to
 struct_tried : {A : Type 0} (result : Result A ErrorKind) (c : Copying) (s : Sections) (m' : Meter) (old new : View) (place : PointerPlace) → c.wanted ≡ AStruct → HasRoot c.source → LeadsToStruct (root_of c.source) (once_at_root c.source) s →
     IfOk result (λ x. PutsCopy (sections_original s.words s.first s.pointers) (change (form_of c.canonicalize) place.segment place.word old new s.limiter m')) →
     IfErr result (LeavesCleared (sections_original s.words s.first s.pointers) (change (form_of c.canonicalize) place.segment place.word old new s.limiter m')) →
     TakesAtMost result (sections_original s.words s.first s.pointers) (change (form_of c.canonicalize) place.segment place.word old new s.limiter m') → Tried result c old new place
-struct_tried result c s m' old new place is has leads done refused taken = record { root = has; after = m'; done = good result done; refused = bad result refused; taken = takes }
+struct_tried result c s m' old new place is has leads done refused taken = record { root = has; after = m'; done = good result done; copies = copies }
   where
     good : {A : Type 0} (q : Result A ErrorKind) → IfOk q (λ x. PutsCopy (sections_original s.words s.first s.pointers) (change (form_of c.canonicalize) place.segment place.word old new s.limiter m')) → IfOk q (λ x. IsDone c m' old.words new.words place)
     good (Ok x) h =
@@ -165,19 +190,14 @@ struct_tried result c s m' old new place is has leads done refused taken = recor
         (t, h.value, reads, ap (λ w. as_wanted w t) is ∙ wanted ∙ ap Some (sym same), h.put)
     good (Err k) h = tt
 
-    bad : {A : Type 0} (q : Result A ErrorKind) → IfErr q (LeavesCleared (sections_original s.words s.first s.pointers) (change (form_of c.canonicalize) place.segment place.word old new s.limiter m')) →
-        IfErr q (λ k. OfWanted c.wanted (root_of c.source) (change (form_of c.canonicalize) place.segment place.word old new (once_at_root c.source) m') (λ o d. RefusesToCopy o d k))
-    bad (Ok x) h = tt
-    bad (Err k) h = subst (λ w. OfWanted w (root_of c.source) (change (form_of c.canonicalize) place.segment place.word old new (once_at_root c.source) m') (λ o d. RefusesToCopy o d k)) (sym is) (s, leads, h.why)
-
-    takes : OfWanted c.wanted (root_of c.source) (copy_at (call_to place old new) c m') (TakesAtMost (result_of (refusal_of result)))
-    takes = subst (λ w. OfWanted w (root_of c.source) (copy_at (call_to place old new) c m') (TakesAtMost (result_of (refusal_of result)))) (sym is) (s, leads, copy_taken result (sections_original s.words s.first s.pointers) (change (form_of c.canonicalize) place.segment place.word old new s.limiter m') taken)
+    copies : OfWanted c.wanted (root_of c.source) (change (form_of c.canonicalize) place.segment place.word old new (once_at_root c.source) m') (Says (refusal_of result))
+    copies = subst (λ w. OfWanted w (root_of c.source) (change (form_of c.canonicalize) place.segment place.word old new (once_at_root c.source) m') (Says (refusal_of result))) (sym is) (s, leads, says result (sections_original s.words s.first s.pointers) (change (form_of c.canonicalize) place.segment place.word old new s.limiter m') taken refused)
 
 -- of the list
 list_tried : {A : Type 0} (result : Result A ErrorKind) (c : Copying) (l : ListElements) (m m' : Meter) (old new : View) (place : PointerPlace) → c.wanted ≡ AList → HasRoot c.source →
     LeadsToList (root_of c.source) (once_at_root c.source) m l → IfOk result (λ x. PutsCopy (list_original l.size l.sections l.count l.first) (change (form_of c.canonicalize) place.segment place.word old new m m')) →
     IfErr result (LeavesCleared (list_original l.size l.sections l.count l.first) (change (form_of c.canonicalize) place.segment place.word old new m m')) → TakesAtMost result (list_original l.size l.sections l.count l.first) (change (form_of c.canonicalize) place.segment place.word old new m m') → Tried result c old new place
-list_tried result c l m m' old new place is has leads done refused taken = record { root = has; after = m'; done = good result done; refused = bad result refused; taken = takes }
+list_tried result c l m m' old new place is has leads done refused taken = record { root = has; after = m'; done = good result done; copies = copies }
   where
     good : {A : Type 0} (q : Result A ErrorKind) → IfOk q (λ x. PutsCopy (list_original l.size l.sections l.count l.first) (change (form_of c.canonicalize) place.segment place.word old new m m')) → IfOk q (λ x. IsDone c m' old.words new.words place)
     good (Ok x) h =
@@ -186,13 +206,8 @@ list_tried result c l m m' old new place is has leads done refused taken = recor
         (u, h.value, reads, ap (λ w. as_wanted w u) is ∙ wanted, h.put)
     good (Err k) h = tt
 
-    bad : {A : Type 0} (q : Result A ErrorKind) → IfErr q (LeavesCleared (list_original l.size l.sections l.count l.first) (change (form_of c.canonicalize) place.segment place.word old new m m')) →
-        IfErr q (λ k. OfWanted c.wanted (root_of c.source) (change (form_of c.canonicalize) place.segment place.word old new (once_at_root c.source) m') (λ o d. RefusesToCopy o d k))
-    bad (Ok x) h = tt
-    bad (Err k) h = subst (λ w. OfWanted w (root_of c.source) (change (form_of c.canonicalize) place.segment place.word old new (once_at_root c.source) m') (λ o d. RefusesToCopy o d k)) (sym is) (l, m, leads, h.why)
-
-    takes : OfWanted c.wanted (root_of c.source) (copy_at (call_to place old new) c m') (TakesAtMost (result_of (refusal_of result)))
-    takes = subst (λ w. OfWanted w (root_of c.source) (copy_at (call_to place old new) c m') (TakesAtMost (result_of (refusal_of result)))) (sym is) (l, m, leads, copy_taken result (list_original l.size l.sections l.count l.first) (change (form_of c.canonicalize) place.segment place.word old new m m') taken)
+    copies : OfWanted c.wanted (root_of c.source) (change (form_of c.canonicalize) place.segment place.word old new (once_at_root c.source) m') (Says (refusal_of result))
+    copies = subst (λ w. OfWanted w (root_of c.source) (change (form_of c.canonicalize) place.segment place.word old new (once_at_root c.source) m') (Says (refusal_of result))) (sym is) (l, m, leads, says result (list_original l.size l.sections l.count l.first) (change (form_of c.canonicalize) place.segment place.word old new m m') taken refused)
 
 -- A call without a default reads the pointer itself.
 own_pointer : {A : Type 0} (g : Ghosts A) (expected : Expectation) (from p : PointerReader A g) → IsRead g (record { from = from; expected = expected; default = None }) (Ok p) → p ≡ from
@@ -250,12 +265,12 @@ list_unread g c from m m' k is here refused = unread_as g c (list_expected Void)
 
 pub struct_found : {A : Type 0} (g : Ghosts A) (c : Copying) (from : PointerReader A g) (m : Meter) (v : View) (id : ℕ) → c.wanted ≡ AStruct → IsRootReader g c.source from m → FitsBehind v id c → WhereRead g (record { from = from; expected = struct_expected; default = None }) (λ p. CanBeGiven struct_expected (reading g p) m)
 struct_found g c from m v id is here fits =
-    let given = struct_given c (root_of c.source) (once_at_root c.source) (length (segment v.words id)) (v.room id) is fits.fits in
+    let given = struct_given c (root_of c.source) (once_at_root c.source) (length (segment v.words id)) (v.room id) is (can_be_copied v id c fits) in
     answered g struct_expected from m (subst (λ y. CanBeGiven struct_expected (reading g from) y) (sym here.once) (subst (λ r. CanBeGiven struct_expected r (once_at_root c.source)) (sym here.reads) given))
 
 pub list_found : {A : Type 0} (g : Ghosts A) (c : Copying) (from : PointerReader A g) (m : Meter) (v : View) (id : ℕ) → c.wanted ≡ AList → IsRootReader g c.source from m → FitsBehind v id c → WhereRead g (record { from = from; expected = list_expected Void; default = None }) (λ p. CanBeGiven (list_expected Void) (reading g p) m)
 list_found g c from m v id is here fits =
-    let given = list_given c (root_of c.source) (once_at_root c.source) (length (segment v.words id)) (v.room id) is fits.fits in
+    let given = list_given c (root_of c.source) (once_at_root c.source) (length (segment v.words id)) (v.room id) is (can_be_copied v id c fits) in
     answered g (list_expected Void) from m (subst (λ y. CanBeGiven (list_expected Void) (reading g from) y) (sym here.once) (subst (λ r. CanBeGiven (list_expected Void) r (once_at_root c.source)) (sym here.reads) given))
 
 -- The names by which a source isn't read: none of them is a call's own.
@@ -335,7 +350,7 @@ misplaced_named false absent = inr refl
 
 rootless_named : (source : Source) (k : ErrorKind) → IsRootless source k → (k ≡ ReadLimitExceeded) ⊎ (k ≡ MessageContainsOutOfBoundsPointer) ⊎ (k ≡ InvalidSegmentId 0)
 rootless_named source k (none, outside, budget) =
-    let S : Segments = words_in source in
+    let S : Segments = (root_of source).segments in
     elim (cases_lt 0 (length S)) [
       | inl l ↦ elim (cases_lt 0 (length (segment S 0))) [
         | inl h ↦ inl (budget (l, omega (arith, h)))
@@ -344,8 +359,8 @@ rootless_named source k (none, outside, budget) =
       | inr l ↦ by_name (outside (λ holds. omega (arith, l, holds.0)))
     ]
   where
-    by_name : k ≡ misplaced (words_in source) 0 (InvalidSegmentId 0) → (k ≡ ReadLimitExceeded) ⊎ (k ≡ MessageContainsOutOfBoundsPointer) ⊎ (k ≡ InvalidSegmentId 0)
-    by_name e = elim (misplaced_named (nat_lt 0 (length (words_in source))) (InvalidSegmentId 0)) [ inl f ↦ inr (inl (e ∙ f)) | inr f ↦ inr (inr (e ∙ f)) ]
+    by_name : k ≡ misplaced (root_of source).segments 0 (InvalidSegmentId 0) → (k ≡ ReadLimitExceeded) ⊎ (k ≡ MessageContainsOutOfBoundsPointer) ⊎ (k ≡ InvalidSegmentId 0)
+    by_name e = elim (misplaced_named (nat_lt 0 (length (root_of source).segments)) (InvalidSegmentId 0)) [ inl f ↦ inr (inl (e ∙ f)) | inr f ↦ inr (inr (e ∙ f)) ]
 
 other_rootless : (k : ErrorKind) → (k ≡ ReadLimitExceeded) ⊎ (k ≡ MessageContainsOutOfBoundsPointer) ⊎ (k ≡ InvalidSegmentId 0) → is_of_call k ≡ false
 other_rootless k (inl e) = ap is_of_call e
@@ -360,22 +375,22 @@ pub unread_counted : (c : Copying) (k : ErrorKind) (n : ℕ) → HasNothingToCop
 unread_counted c k n unread = sym (not_the_allocator k (λ e. false≢true (sym (other_unread c k unread) ∙ ap is_of_call e)) n)
 
 -- a copy is never refused for a place
-pub copy_nowhere : {A : Type 0} (result : Result A ErrorKind) (call : CallAt) (c : Copying) → IfErr result (IsWholeRefused call c) → refusal_of result ≡ Some NoSuchPlace → call.new ≡ call.old
-copy_nowhere (Ok x) call c why e = absurd (cc)
-copy_nowhere (Err k) call c why e = elim why [
-  | inl h ↦ h.1
-  | inr (m, refuses) ↦ absurd (copy_nowhere_as c.wanted c.canonicalize call.segment call.at call.old call.new (root_of c.source) (once_at_root c.source) m k refuses (same_some k NoSuchPlace e))
-]
+pub copy_nowhere : (r : Option ErrorKind) (call : CallAt) (c : Copying) → CopiesWhole call c r → r ≡ Some NoSuchPlace → call.new ≡ call.old
+copy_nowhere None call c copies e = absurd (cc)
+copy_nowhere (Some k) call c (inl h) e = h.1
+copy_nowhere (Some k) call c (inr (m, h)) e =
+    absurd (copy_nowhere_as c.wanted c.canonicalize call.segment call.at call.old call.new (root_of c.source) (once_at_root c.source) m k
+    (wanted_so c.wanted (root_of c.source) _ (Says (Some k)) (λ o d. RefusesToCopy o d k) (λ o d x. x.1) h) (same_some k NoSuchPlace e))
 
 -- a call that copies what a root leads to
 pub root_done : {A : Type 0} (result : Result A ErrorKind) (old new : View) (place : PointerPlace) (c : Copying) → CopiesRoot old.words new.words place c (refusal_of result) → new.refusals ≡ refusals_after (refusal_of result) old.refusals →
-    IfErr result (IsWholeRefused (call_to place old new) c) → TakesForWhole (call_to place old new) c (refusal_of result) → (FitsBehind old place.segment c → IsOk result) → IsDoneAt old new place (CopyRoot c) (refusal_of result)
-root_done result old new place c copies counts why taken fits = record {
+    CopiesWhole (call_at place.segment place.word old new) c (refusal_of result) → (FitsBehind old place.segment c → IsOk result) → IsDoneAt old new place (CopyRoot c) (refusal_of result)
+root_done result old new place c copies counts taken fits = record {
   done = does (refusal_of result) copies;
   counted = counts;
-  named = λ k e. inr (named_refusal result (IsWholeRefused (call_to place old new) c) k why e);
+  named = λ k e. inr (subst (CopiesWhole (call_at place.segment place.word old new) c) e taken);
   fits = λ room k e. named_refusal result (λ j. is_of_path j ≡ true) k (never_refused result (fits room)) e;
-  nowhere = copy_nowhere result (call_to place old new) c why;
+  nowhere = copy_nowhere (refusal_of result) (call_at place.segment place.word old new) c taken;
   taken = λ some. taken;
 }
   where

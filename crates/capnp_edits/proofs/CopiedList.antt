@@ -44,10 +44,10 @@ use Rattle.capnp_copies.specs.Originals.{FitsListPointer, list_original}
 use Rattle.capnp_copies.proofs.Originals.{exceeding, list_words, refused_words}
 use Rattle.capnp_edits.specs.declared.edit.copying.Copying.{Copying}
 use Rattle.capnp_edits.specs.declared.edit.copying.Wanted.TheVariants.{List as AList}
-use Rattle.capnp_edits.specs.Edits.{IsOfMemory}
-use Rattle.capnp_edits.specs.Sources.{as_wanted, CanBeCopiedAs, ListElements, LeadsToList, no_list, a_plain_list, a_struct_list}
+use Rattle.capnp_widening.specs.Rooms.{is_allocation_name}
+use Rattle.capnp_edits.specs.Sources.{as_wanted, ListElements, LeadsToList, no_list, a_plain_list, a_struct_list}
 use Rattle.capnp_edits.proofs.Applied.{of_allocation}
-use Rattle.capnp_edits.proofs.CopiedStruct.{level_less}
+use Rattle.capnp_edits.proofs.CopiedStruct.{CanBeCopiedAs, level_less}
 use Rattle.capnp_edits.proofs.ListReads.{ReadsList, RefusedList, as_list_read, list_refused_as}
 use Rattle.capnp_edits.proofs.Steps.{same_some}
 use Rattle.capnp_objects.proofs.Followed.{leads_to, entered_leads}
@@ -141,12 +141,12 @@ list_stops form r m n m' l k (a_struct_list a o z s sections first counts) (inr 
 
 -- or there is no room
 pub list_refused : (b : Bool) (id at : ℕ) (old new : View) (r : Reading) (m n m' : Meter) (l : ListElements) (k : ErrorKind) → LeadsToList r m n l →
-    RefusesToCopy (list_original l.size l.sections l.count l.first) (change (form_of b) id at old new n m') k → IsOfMemory k ⊎ Refused (form_of b) r m m' k
+    RefusesToCopy (list_original l.size l.sections l.count l.first) (change (form_of b) id at old new n m') k → (is_allocation_name k ≡ true) ⊎ Refused (form_of b) r m m' k
 list_refused b id at old new r m n m' l k leads (inl (lacks, exceeds)) =
     let x = refused_words (list_original l.size l.sections l.count l.first) (change (form_of b) id at old new n m') k lacks in
     inl (of_allocation old new (length new.words) (x.0 + 1) k x.1.0)
 list_refused b id at old new r m n m' l k leads (inr (inl refused)) = inr (list_stops (form_of b) r m n m' l k leads (list_refused_as (form_of b) l l.size n m' k refl refused))
-list_refused b id at old new r m n m' l k leads (inr (inr large)) = inl (inr (_, (exceeding l.size l.sections l.count l.first (form_of b) k large).1))
+list_refused b id at old new r m n m' l k leads (inr (inr large)) = inl (ap is_allocation_name (exceeding l.size l.sections l.count l.first (form_of b) k large).1)
 
 -- a list that can be copied is found
 record ListMeets (r : Reading) (c : ℕ) : Type 0 where

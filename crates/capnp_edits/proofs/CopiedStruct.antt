@@ -1,5 +1,5 @@
 -- The copy of the struct that a root leads to.
-use Rattle.std.proofs.Common.{◌≡◌, inl, inr, ◌⊎◌, ℕ, zero, suc, pred, ◌+◌, ◌*◌, ◌/◌, ◌%◌, ◌^◌, ◌<◌, ◌≤◌, Bool, nat_eq, cond, List, [], length, Some, None, refl, sym, ap, ap₂, ◌∙◌, subst, arith}
+use Rattle.std.proofs.Common.{◌≡◌, inl, inr, ◌⊎◌, ℕ, zero, suc, pred, ◌+◌, ◌*◌, ◌/◌, ◌%◌, ◌^◌, ◌<◌, ◌≤◌, Bool, true, nat_eq, cond, List, [], length, Some, None, refl, sym, ap, ap₂, ◌∙◌, subst, arith}
 use Rattle.std.proofs.lemmas.Bool.{ne_eqb}
 use lib.IntN.{ℤ, pos, negsuc, ◌-ℤ◌}
 use Rattle.std.proofs.lemmas.Int.{ints}
@@ -45,11 +45,22 @@ use Rattle.capnp_copies.proofs.Originals.{refused_words}
 use Rattle.capnp_copies.proofs.DataSections.{whole_section, kept_count-le}
 use Rattle.capnp_edits.specs.declared.edit.copying.Copying.{Copying}
 use Rattle.capnp_edits.specs.declared.edit.copying.Wanted.TheVariants.{Struct as AStruct}
-use Rattle.capnp_edits.specs.Edits.{IsOfMemory}
-use Rattle.capnp_edits.specs.Sources.{as_wanted, CanBeCopiedAs, Sections, LeadsToStruct, no_struct, a_struct}
+use Rattle.capnp_widening.specs.Rooms.{is_allocation_name}
+use Rattle.capnp_edits.specs.Sources.{as_wanted, Sections, LeadsToStruct, no_struct, a_struct}
 use Rattle.capnp_edits.proofs.Applied.{of_allocation}
 use Rattle.capnp_edits.proofs.Steps.{same_some}
 use Rattle.capnp_objects.proofs.Followed.{leads_to, entered_leads}
+
+-- A place means a value that is as wanted, in canonical form one without capabilities, at a cost that the limiter covers, and the words to be kept of it fit behind so many words of a segment with this room.
+pub record CanBeCopiedAs (c : Copying) (r : Reading) (m : Meter) (used room : ℕ) : Type 0 where
+  pub value : Tree
+  pub cost : ℕ
+  pub means : MeansThere r value cost
+  pub takes : AllowsCapabilities (form_of c.canonicalize) (capabilities value)
+  pub covers : Affords r.charging m cost
+  pub copied : Tree
+  pub is_wanted : as_wanted c.wanted value ≡ Some copied
+  pub fits : used + word_count (kept (form_of c.canonicalize) copied) ≤ room
 
 -- one level less, as a nesting limit says it
 pub level_less : (z : ℤ) → 0 < levels z → levels (z -ℤ pos 1) ≡ pred (levels z)
@@ -106,12 +117,12 @@ struct_stops form r m m' s k (a_struct a o z ws first q) refused =
 
 -- or there is no room
 pub struct_refused : (b : Bool) (id at : ℕ) (old new : View) (r : Reading) (m m' : Meter) (s : Sections) (k : ErrorKind) → LeadsToStruct r m s → RefusesToCopy (sections_original s.words s.first s.pointers) (change (form_of b) id at old new s.limiter m') k →
-    IsOfMemory k ⊎ Refused (form_of b) r m m' k
+    (is_allocation_name k ≡ true) ⊎ Refused (form_of b) r m m' k
 struct_refused b id at old new r m m' s k leads (inl (lacks, exceeds)) =
     let x = refused_words (sections_original s.words s.first s.pointers) (change (form_of b) id at old new s.limiter m') k lacks in
     inl (of_allocation old new (length new.words) (x.0 + 1) k x.1.0)
 struct_refused b id at old new r m m' s k leads (inr (inl refused)) = inr (struct_stops (form_of b) r m m' s k leads refused)
-struct_refused b id at old new r m m' s k leads (inr (inr (wide, named))) = inl (inr (_, named))
+struct_refused b id at old new r m m' s k leads (inr (inr (wide, named))) = inl (ap is_allocation_name named)
 
 -- a struct that can be copied is found
 struct_meets : (S : Segments) (n s p : ℕ) (ws : List ℕ) (ts : Trees) (c : ℕ) → Means S n s p (Struct ws ts) c → (a : Target) × Leads S s p a × (kind a.word ≡ 0) × (0 < n) × Claims S a (claim a.word) × (own Value S a ≤ c)

@@ -1,5 +1,5 @@
 -- Content of another message's struct that is copied over a struct, which a pointer leads to or which is an element of a list.
-use Rattle.std.proofs.Common.{◌≡◌, inl, inr, ℕ, zero, suc, pred, min, ◌+◌, ◌*◌, ◌/◌, ◌<◌, false, List, [], ◌∷◌, length, Option, Some, None, Result, Ok, Err, IsOk, IfOk, IfErr, OnErr, true, refl, sym, ap, ap₂, ◌∙◌, subst, arith}
+use Rattle.std.proofs.Common.{◌≡◌, ◌⊎◌, inl, inr, ℕ, zero, suc, pred, min, ◌+◌, ◌*◌, ◌/◌, ◌<◌, false, List, [], ◌∷◌, length, Option, Some, None, IsSomeAnd, Result, Ok, Err, IsOk, IfOk, IfErr, OnErr, true, refl, sym, ap, ap₂, ◌∙◌, subst, arith}
 use Rattle.capnp_words.specs.Meter.{Meter}
 use Rattle.capnp_words.specs.declared.error.ErrorKind.{ErrorKind}
 use Rattle.capnp_words.specs.declared.error.ErrorKind.TheVariants.{NoSuchPlace}
@@ -38,6 +38,7 @@ use Rattle.capnp_readers.specs.declared.readers.PointerPlace.{PointerPlace}
 use Rattle.capnp_readers.specs.declared.readers.PointerReader.{PointerReader}
 use Rattle.capnp_readers.specs.declared.readers.struct_reader.StructPlace.{StructPlace}
 use Rattle.capnp_readers.specs.declared.readers.struct_reader.StructReader.{StructReader}
+use Rattle.capnp_copies.specs.Growth.{TakesAtMost}
 use Rattle.capnp_copies.specs.Originals.{children_original}
 use Rattle.capnp_copies.specs.StructValues.{data_of}
 use Rattle.capnp_copies.proofs.Growth.{none_taken, all_taken}
@@ -57,14 +58,24 @@ use Rattle.capnp_edits.specs.Tasks.{task_of}
 use Rattle.capnp_edits.specs.Paths.{path_of, found, IsElementFound, ElementOf}
 use Rattle.capnp_edits.specs.Sources.{copying_from, root_of, once_at_root, HasRoot, IsRootReader, Sections, LeadsToStruct, no_struct, a_struct, ContentRead, ContentFitsBehind, HasNothingToCopy, FilledOrRefused}
 use Rattle.capnp_edits.specs.Edits.{as_it_stands, refusal_of, bits_of, struct_changed, fills, is_of_path, PutsBits, FillsAt, Changes, all_filled, first_filled, none_filled, refusals_after, IsApplied, Takes, leads_to, is_filled, is_half_filled, is_not_filled, DoesAt}
-use Rattle.capnp_edits.specs.Steps.{IsStructAt, IsContentRefused, TakesForContentFrom, IsDoneAt, IsChanged}
-use Rattle.capnp_edits.proofs.Taken.{bits_lengths, copy_taken}
+use Rattle.capnp_edits.specs.Steps.{IsStructAt, StopsFilling, FitsAt, IsRefusedAt, TakesForChange, IsDoneAt, IsChanged, result_of}
+use Rattle.capnp_edits.specs.declared.edit.path.PathEnd.TheVariants.{Pointer as AtPointer, Element as AtElement}
+use Rattle.capnp_edits.proofs.Taken.{bits_lengths, copy_taken, writes}
 use Rattle.capnp_edits.proofs.Applied.{made, of_allocation, of_no_place, of_place, named_refusal, none_counted, kept_nowhere, refused_there, never_refused, denied_at, no_struct as is_none, written_at, element_struct, element_end, applied_bits}
 use Rattle.capnp_edits.proofs.Copied.{where_read}
 use Rattle.capnp_edits.proofs.CopiedStruct.{struct_at as source_at, whole_words, whole_bits, struct_suits}
 use Rattle.capnp_edits.proofs.Steps.{same_some, first, struct_of}
 use Rattle.capnp_edits.proofs.Walks.{update-append}
 use Rattle.capnp_objects.proofs.Followed.{entered_leads}
+
+-- Content isn't copied over a struct, or not all of it; and the words that are taken for it.
+abbrev pub IsContentRefused : View → View → StructPlace → Source → ErrorKind → Type 0
+IsContentRefused old new place source k = (HasNothingToCopy (copying_from source AStruct false) k × (new ≡ old)) ⊎ StopsFilling old new place source k
+
+abbrev pub TakesForContentFrom : View → View → StructPlace → Source → Option ErrorKind → Type 0
+TakesForContentFrom old new place source r =
+    (IsSomeAnd r (HasNothingToCopy (copying_from source AStruct false)) × (new ≡ old)) ⊎
+    ((s : Sections) × (m : Meter) × LeadsToStruct (root_of source) (once_at_root source) s × TakesAtMost (result_of r) (children_original s.first (min place.pointers s.pointers)) (pointers_copied place old new s.limiter m))
 
 -- as the sections of a source's struct
 record SourceStruct {A : Type 0} (g : Ghosts A) (source : Source) (v : StructReader A g) (n : Meter) : Type 0 where
@@ -157,12 +168,17 @@ fill_taken result g source from v m n m' old new place opened long read taken =
       copy_taken result (children_original (pointers_read g v) (min place.pointers v.pointer_count)) (pointers_copied place old new n m') taken,
     )
 
+-- at the struct itself
+pub refused_there_too : {A : Type 0} (result : Result A ErrorKind) (old new : View) (e : ExistingStruct) (source : Source) → IfErr result (IsContentRefused old new (struct_place e) source) → IfErr result (λ k. IsRefusedAt old new (InStruct (Content source)) k (AtElement e))
+refused_there_too (Ok x) old new e source why = tt
+refused_there_too (Err k) old new e source why = (e, refl, why)
+
 -- never for a missing place
-pub fill_nowhere : {A : Type 0} (result : Result A ErrorKind) (old new : View) (place : StructPlace) (source : Source) → IfErr result (IsContentRefused old new place source) → refusal_of result ≡ Some NoSuchPlace → new ≡ old
-fill_nowhere (Ok x) old new place source why e = absurd (cc)
-fill_nowhere (Err k) old new place source (inl h) e = h.1
-fill_nowhere (Err k) old new place source (inr stops) e =
-    let nowhere : k ≡ NoSuchPlace = same_some k NoSuchPlace e in
+pub fill_nowhere : {A : Type 0} (result : Result A ErrorKind) (old new : View) (e : ExistingStruct) (source : Source) → IfErr result (λ k. IsRefusedAt old new (InStruct (Content source)) k (AtElement e)) → refusal_of result ≡ Some NoSuchPlace → new ≡ old
+fill_nowhere (Ok x) old new e source why n = absurd (cc)
+fill_nowhere (Err k) old new e source (x, is, inl h) n = h.1
+fill_nowhere (Err k) old new e source (x, is, inr stops) n =
+    let nowhere : k ≡ NoSuchPlace = same_some k NoSuchPlace n in
     absurd (elim stops.why [
       | inl h ↦ of_no_place k (of_allocation stops.taken new (length new.words) (h.0.0 + 1) k h.0.2.0.0) nowhere
       | inr refused ↦ not_for_place (subst (λ y. Refused plain (behind stops.content.from.first (count stops.content.children)) stops.content.after stops.after y) nowhere refused)
@@ -210,18 +226,18 @@ bits_changed result old new e n puts limits named kept = record {
   named = λ k. refused_there result old new (λ j. ⊥) k (of_place result named) kept;
   fits = λ room k e. named_refusal result (λ j. is_of_path j ≡ true) k (of_place result named) e;
   nowhere = kept_nowhere result old new kept;
-  taken = record { lengths = bits_lengths old.words new.words e (bits_of n) (refusal_of result) puts; limits = limits };
+  taken = writes old new limits (bits_lengths old.words new.words e (bits_of n) (refusal_of result) puts);
 }
 
 pub content_changed : {A : Type 0} (result : Result A ErrorKind) (old new : View) (e : ExistingStruct) (source : Source) → FillsAt old.words new.words (struct_place e) source (refusal_of result) → new.refusals ≡ refusals_after (refusal_of result) old.refusals →
-    IfErr result (IsContentRefused old new (struct_place e) source) → TakesForContentFrom old new (struct_place e) source (refusal_of result) → (ContentFitsBehind old e.segment source e.size.pointers → IsOk result) →
+    IfErr result (λ k. IsRefusedAt old new (InStruct (Content source)) k (AtElement e)) → TakesForChange old new e (Content source) (refusal_of result) → (ContentFitsBehind old e.segment source e.size.pointers → IsOk result) →
     IsChanged old new e (Content source) (refusal_of result)
 content_changed result old new e source filled counted why taken fits = record {
   done = filled;
   counted = counted;
-  named = λ k is. inr (named_refusal result (IsContentRefused old new (struct_place e) source) k why is);
-  fits = λ room k is. named_refusal result (λ j. is_of_path j ≡ true) k (never_refused result (fits room)) is;
-  nowhere = fill_nowhere result old new (struct_place e) source why;
+  named = λ k is. inr (named_refusal result (λ j. IsRefusedAt old new (InStruct (Content source)) j (AtElement e)) k why is);
+  fits = λ room k is. named_refusal result (λ j. is_of_path j ≡ true) k (never_refused result (fits (room e refl))) is;
+  nowhere = fill_nowhere result old new e source why;
   taken = taken;
 }
 
@@ -267,15 +283,24 @@ filled_value S R place source r e (Structs d q es) is_e h stored = absurd (cc)
 -- a change of the struct that a pointer leads to
 changed_at : (S R : Segments) (place : PointerPlace) (change : StructChange) (r : Option ErrorKind) (e : ExistingStruct) (t : Tree) → Some e ≡ struct_in (target S place.segment place.word) t → Changes S R e change r → IsStored S place.segment place.word t →
     DoesAt S R place (struct_changed change t) t r
-changed_at S R place (Bits n) r e t is_e h stored = written_at S R place (bits_of n) r e t is_e h stored
+changed_at S R place (Bits n) r e t is_e h stored = written_at S R place n r e t is_e h stored
 changed_at S R place (Content source) r e t is_e h stored = filled_value S R place source r e t is_e h stored
 
-pub change_done : (old new : View) (place : PointerPlace) (change : StructChange) (r : Option ErrorKind) (e : ExistingStruct) → IsStructAt old.words place e → IsChanged old new e change r → IsDoneAt old new place (InStruct change) r
+-- what a change of it is refused for, and takes, and the room for it
+refused_at : (old new : View) (place : PointerPlace) (change : StructChange) (k : ErrorKind) (e : ExistingStruct) → IsStructAt old.words (AtPointer place) e → IsRefusedAt old new (InStruct change) k (AtElement e) → IsRefusedAt old new (InStruct change) k (AtPointer place)
+refused_at old new place (Bits n) k e there h = h
+refused_at old new place (Content source) k e there (x, is, h) = (e, there, subst (λ y. IsContentRefused old new (struct_place y) source k) is h)
+
+fits_at : (old : View) (place : PointerPlace) (change : StructChange) (e : ExistingStruct) → IsStructAt old.words (AtPointer place) e → FitsAt old (InStruct change) (AtPointer place) → FitsAt old (InStruct change) (AtElement e)
+fits_at old place (Bits n) e there room = tt
+fits_at old place (Content source) e there room = λ x is. subst (λ (y : ExistingStruct). ContentFitsBehind old y.segment source y.size.pointers) (sym is) (room e there)
+
+pub change_done : (old new : View) (place : PointerPlace) (change : StructChange) (r : Option ErrorKind) (e : ExistingStruct) → IsStructAt old.words (AtPointer place) e → IsChanged old new e change r → IsDoneAt old new place (InStruct change) r
 change_done old new place change r e there changed = record {
   done = λ t stored. changed_at old.words new.words place change r e t (there t stored) changed.done stored;
   counted = changed.counted;
-  named = λ k is. elim (changed.named k is) [ inl h ↦ inl h | inr h ↦ inr (e, there, h) ];
-  fits = λ room. changed.fits (room e there);
+  named = λ k is. elim (changed.named k is) [ inl h ↦ inl h | inr h ↦ inr (refused_at old new place change k e there h) ];
+  fits = λ room. changed.fits (fits_at old place change e there room);
   nowhere = changed.nowhere;
   taken = λ some. (e, there, changed.taken);
 }

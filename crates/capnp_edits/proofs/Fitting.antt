@@ -2,8 +2,9 @@
 use Rattle.std.proofs.Common.{◌≡◌, ◌⊎◌, inl, inr, ℕ, ◌+◌, ◌<◌, ◌≤◌, true, [], ◌∷◌, length, Option, Some, None, IfSome, IsSomeAnd, refl, sym, ap, ◌∙◌, subst, arith}
 use Rattle.std.proofs.lemmas.Bool.{cases_eq}
 use Rattle.capnp_words.specs.declared.error.ErrorKind.{ErrorKind}
-use Rattle.capnp_words.specs.declared.error.ErrorKind.TheVariants.{NoSuchPlace}
+use Rattle.capnp_words.specs.declared.error.ErrorKind.TheVariants.{AllocationFailed, MessageTooLarge, NoSuchPlace}
 use Rattle.capnp_arena.specs.View.{View}
+use Rattle.capnp_format.specs.Canonical.{word_count}
 use Rattle.capnp_format.specs.Forest.{IsForest, cover}
 use Rattle.capnp_format.specs.Segments.{Segments, segment}
 use Rattle.capnp_format.specs.Tree.{Tree}
@@ -11,6 +12,8 @@ use Rattle.capnp_making.specs.Path.{word_interval}
 use Rattle.capnp_making.specs.Stored.{IsStored}
 use Rattle.capnp_making.proofs.Extents.{once_held, times-first}
 use Rattle.capnp_making.proofs.Replaced.{forest_stored, stored_within}
+use Rattle.capnp_widening.specs.Anew.{OnlyWrites}
+use Rattle.capnp_widening.specs.Rooms.{is_allocation_name}
 use Rattle.capnp_readers.specs.declared.readers.PointerPlace.{PointerPlace}
 use Rattle.capnp_edits.specs.declared.edit.Edit.{Edit}
 use Rattle.capnp_edits.specs.declared.edit.path.PathEnd.{PathEnd}
@@ -19,10 +22,10 @@ use Rattle.capnp_edits.specs.declared.edit.tasks.NewObject.{NewObject}
 use Rattle.capnp_edits.specs.declared.edit.tasks.Task.{Task}
 use Rattle.capnp_edits.specs.declared.edit.tasks.Task.TheVariants.{Make, Point, InStruct, Write, Search, CopyRoot}
 use Rattle.capnp_edits.specs.declared.edit.tasks.StructChange.TheVariants.{Bits, Content}
-use Rattle.capnp_edits.specs.Edits.{IsOfMemory, is_of_path, words_made}
+use Rattle.capnp_edits.specs.Edits.{is_of_path, value_of}
 use Rattle.capnp_edits.specs.Fitting.{words_asked, AsksNoMore, AreInFirst, IsNoneOfMemory, StaysInFirst, FittingEdits}
 use Rattle.capnp_edits.specs.Paths.{path_of, IsPathFound}
-use Rattle.capnp_edits.specs.Steps.{FitsAt, IsOfPath, IsRefusedAt, IsStep, TakesAt, TakesForObject, TakesNoWords}
+use Rattle.capnp_edits.specs.Steps.{FitsAt, IsOfPath, IsRefusedAt, IsStep, TakesAt, TakesForObject}
 use Rattle.capnp_edits.specs.Tasks.{task_of}
 use Rattle.capnp_edits.proofs.Applied.{of_memory}
 
@@ -34,19 +37,20 @@ held_first S u q x first stored = elim (cases_eq u 0) [
 ]
 
 -- a name of memory is none of a path
-not_of_path : (k : ErrorKind) → IsOfMemory k → is_of_path k ≡ true → ⊥
-not_of_path k (inl h) e = let same = sym e ∙ ap is_of_path h in cc
-not_of_path k (inr (n, h)) e = let same = sym e ∙ ap is_of_path h in cc
+not_of_path : (k : ErrorKind) → is_allocation_name k ≡ true → is_of_path k ≡ true → ⊥
+not_of_path AllocationFailed h e = absurd (cc)
+not_of_path (MessageTooLarge n) h e = absurd (cc)
+not_of_path k h e = absurd (cc)
 
 -- nothing is changed
 same_first : (old new : View) (n : ℕ) → AreInFirst old.words → new ≡ old → StaysInFirst old new n
 same_first old new n first same = subst (λ (v : View). StaysInFirst old v n) (sym same) (record { words = omega arith; first = first; room = refl; refusals = refl })
 
 -- no words are taken
-kept_first : (old new : View) (n : ℕ) → AreInFirst old.words → TakesNoWords old new → StaysInFirst old new n
+kept_first : (old new : View) (n : ℕ) → AreInFirst old.words → OnlyWrites old new → StaysInFirst old new n
 kept_first old new n first x = record {
-  words = omega (arith, x.lengths 0);
-  first = λ k other. x.lengths k ∙ first k other;
+  words = omega (arith, x.words 0);
+  first = λ k other. x.words k ∙ first k other;
   room = ap (λ (v : View). v.room 0) x.limits;
   refusals = ap (λ (v : View). v.refusals) x.limits;
 }
@@ -82,23 +86,23 @@ unrefused old new k (inl h) = h.1
 unrefused old new k (inr none) = absurd none
 
 -- so each task
-without_words : (old new : View) (n : ℕ) (r : Option ErrorKind) → AreInFirst old.words → IsNoneOfMemory r → ((k : ErrorKind) → r ≡ Some k → new ≡ old) → ((r ≡ Some NoSuchPlace → ⊥) → TakesNoWords old new) → IsNoneOfMemory r × StaysInFirst old new n
+without_words : (old new : View) (n : ℕ) (r : Option ErrorKind) → AreInFirst old.words → IsNoneOfMemory r → ((k : ErrorKind) → r ≡ Some k → new ≡ old) → ((r ≡ Some NoSuchPlace → ⊥) → OnlyWrites old new) → IsNoneOfMemory r × StaysInFirst old new n
 without_words old new n r first none kept taken = by_outcome old new n r first none kept (λ e. kept_first old new n first (taken (not_missing r e)))
 
-with_object : (old new : View) (place : PointerPlace) (object : NewObject) (r : Option ErrorKind) → 0 < length old.words → AreInFirst old.words → place.segment ≡ 0 → length (segment old.words 0) + words_made object ≤ old.room 0 → Fact old new (AtPointer place) (Make object) r →
-    IsNoneOfMemory r × StaysInFirst old new (words_made object)
+with_object : (old new : View) (place : PointerPlace) (object : NewObject) (r : Option ErrorKind) → 0 < length old.words → AreInFirst old.words → place.segment ≡ 0 → length (segment old.words 0) + word_count (value_of object) ≤ old.room 0 → Fact old new (AtPointer place) (Make object) r →
+    IsNoneOfMemory r × StaysInFirst old new (word_count (value_of object))
 with_object old new place object r there first here fits f =
-    let none = f.fits (inl (subst (λ s. length (segment old.words s) + words_made object ≤ old.room s) (sym here) fits)) in
-    by_outcome old new (words_made object) r first none
-    (λ k e. elim (f.named k e) [ inl h ↦ h.1 | inr why ↦ absurd (not_of_path k (of_memory old new (words_made object) k why) (none k e)) ])
-    (λ e. made_first old new place (words_made object) there first here fits (subst (λ o. TakesAt old new (Make object) o (AtPointer place)) e (f.taken (not_missing r e))))
+    let none = f.fits (inl (subst (λ s. length (segment old.words s) + word_count (value_of object) ≤ old.room s) (sym here) fits)) in
+    by_outcome old new (word_count (value_of object)) r first none
+    (λ k e. elim (f.named k e) [ inl h ↦ h.1 | inr why ↦ absurd (not_of_path k (of_memory old new (word_count (value_of object)) k why) (none k e)) ])
+    (λ e. made_first old new place (word_count (value_of object)) there first here fits (subst (λ o. TakesAt old new (Make object) o (AtPointer place)) e (f.taken (not_missing r e))))
 
 at_place : (old new : View) (there : PathEnd) (task : Task) (r : Option ErrorKind) → 0 < length old.words → AreInFirst old.words → ((place : PointerPlace) → there ≡ AtPointer place → place.segment ≡ 0) → AsksNoMore (Some task) →
     length (segment old.words 0) + words_asked (Some task) ≤ old.room 0 → Fact old new there task r → IsNoneOfMemory r × StaysInFirst old new (words_asked (Some task))
 at_place old new (AtPointer place) (Make object) r there first here asks fits f = with_object old new place object r there first (here place refl) fits f
 at_place old new (AtElement e) (Make object) r there first here asks fits f = without_words old new _ r first (f.fits tt) (λ k is. unrefused old new k (f.named k is)) (λ some. element_none r (f.taken some))
   where
-    element_none : (o : Option ErrorKind) → TakesAt old new (Make object) o (AtElement e) → TakesNoWords old new
+    element_none : (o : Option ErrorKind) → TakesAt old new (Make object) o (AtElement e) → OnlyWrites old new
     element_none None x = x
     element_none (Some k) x = x
 at_place old new (AtPointer place) (Point i) r there first here asks fits f = without_words old new _ r first (f.fits tt) (λ k is. unrefused old new k (f.named k is)) f.taken
@@ -106,8 +110,8 @@ at_place old new (AtElement e) (Point i) r there first here asks fits f = withou
 at_place old new (AtPointer place) (Write part) r there first here asks fits f = without_words old new _ r first (f.fits tt) (λ k is. unrefused old new k (f.named k is)) f.taken
 at_place old new (AtElement e) (Write part) r there first here asks fits f = without_words old new _ r first (f.fits tt) (λ k is. unrefused old new k (f.named k is)) f.taken
 at_place old new (AtPointer place) (InStruct (Bits n)) r there first here asks fits f =
-    without_words old new _ r first (f.fits (λ e is. tt)) (λ k is. elim (f.named k is) [ inl h ↦ h.1 | inr (e, is_e, none) ↦ absurd none ]) (λ some. (f.taken some).2)
-at_place old new (AtElement e) (InStruct (Bits n)) r there first here asks fits f = without_words old new _ r first (f.fits tt) (λ k is. unrefused old new k (f.named k is)) f.taken
+    without_words old new _ r first (f.fits tt) (λ k is. unrefused old new k (f.named k is)) (λ some. (f.taken some).2)
+at_place old new (AtElement e) (InStruct (Bits n)) r there first here asks fits f = without_words old new _ r first (f.fits tt) (λ k is. unrefused old new k (f.named k is)) (λ some. (f.taken some).2)
 at_place old new there (InStruct (Content source)) r some first here asks fits f = absurd asks
 at_place old new there (Search sought default) r some first here asks fits f = absurd asks
 at_place old new there (CopyRoot c) r some first here asks fits f = absurd asks
@@ -146,7 +150,7 @@ one_fits old new edit r t forest first asks fits s = by_task s.path_end (task_of
 
         place_first : (place : PointerPlace) → IsPathFound old.words 0 0 t (path_of edit.path.now) (Some (AtPointer place)) → place.segment ≡ 0
         place_first place f =
-            held_first old.words place.segment place.word f.value first (stored_within old.words 0 0 t (path_of edit.path.now) place.segment place.word f.value f.leads (forest_stored old.words t forest))
+            held_first old.words place.segment place.word f.0 first (stored_within old.words 0 0 t (path_of edit.path.now) place.segment place.word f.0 f.1 (forest_stored old.words t forest))
 
 -- and edits
 pub fitting_edits : FittingEdits

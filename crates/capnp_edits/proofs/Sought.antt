@@ -1,6 +1,7 @@
 -- Searches: what they leave, with a default or without one.
-use Rattle.std.proofs.Common.{◌≡◌, ◌⊎◌, inl, inr, ℕ, ◌+◌, ◌/◌, ◌^◌, ◌<◌, ◌≤◌, Bool, true, false, cond, ◌&&◌, nat_eq, nat_le, nat_lt, List, [], ◌∷◌, length, Option, Some, None, unwrap_or, Result, Ok, Err, IsOk, IfErr, OnOk, refl, sym, ap, ◌∙◌, subst, arith}
-use Rattle.std.specs.Prelude.{MatchOption}
+use Rattle.std.proofs.Common.{◌≡◌, ◌⊎◌, inl, inr, ℕ, ◌+◌, ◌*◌, ◌/◌, ◌^◌, ◌<◌, ◌≤◌, Bool, true, false, cond, ◌&&◌, nat_eq, nat_le, nat_lt, List, [], ◌∷◌, length, Option, Some, None, unwrap_or, Result, Ok, Err, IsOk, IfErr, OnOk, refl, sym, ap, ◌∙◌, subst, arith}
+use Rattle.std.specs.Prelude.{MatchOption, ⊤}
+use Rattle.std.proofs.lemmas.List.{length-replicate}
 use Rattle.std.proofs.lemmas.Bool.{cases_lt}
 use Rattle.std.proofs.lemmas.Bool.Decides.{nat_tests}
 use Rattle.std.specs.Borrow.{Bor}
@@ -13,13 +14,16 @@ use Rattle.capnp_words.specs.declared.wire_pointer.StructSize.{StructSize}
 use Rattle.capnp_format.specs.Bytes.{words_of}
 use Rattle.capnp_format.specs.Forest.{target}
 use Rattle.capnp_format.specs.Segments.{Segments, Target, word_at, IsPlace}
-use Rattle.capnp_format.specs.Tree.{Tree, Null, capabilities}
+use Rattle.capnp_format.specs.Tree.{Tree, Null, Capability, Struct, Flat, Pointers, Structs, capabilities, count}
 use Rattle.capnp_format.proofs.Levels.{one_value}
 use Rattle.capnp_arena.specs.View.{View}
 use Rattle.capnp_making.specs.declared.existing.ExistingBytes.{ExistingBytes}
 use Rattle.capnp_making.specs.declared.existing.ExistingList.{ExistingList}
 use Rattle.capnp_making.specs.Existing.{is_unfound, list_in, data_in, text_in}
-use Rattle.capnp_making.specs.Memory.{KeepsMemory, SpendsMemory, RefusesGrowth}
+use Rattle.capnp_making.specs.Made.{nulls, words_of_zero, zero_struct}
+use Rattle.capnp_making.specs.Memory.{HasRoom, KeepsMemory, SpendsMemory, RefusesGrowth}
+use Rattle.capnp_making.specs.Near.{HasOwnRoom}
+use Rattle.capnp_making.proofs.Placed.{count-nulls}
 use Rattle.capnp_making.specs.Stored.{IsStored, IsReplaced}
 use Rattle.capnp_making.proofs.Filling.{unchanged as stays}
 use Rattle.capnp_making.proofs.FillingMade.{null_stored}
@@ -36,11 +40,11 @@ use Rattle.capnp_readers.specs.declared.readers.list_reader.ListPlace.{ListPlace
 use Rattle.capnp_readers.specs.declared.readers.struct_reader.StructPlace.{StructPlace}
 use Rattle.capnp_making.specs.Makes.{CallAt}
 use Rattle.capnp_widening.specs.Opening.{IsNoWider, Opens, OpensStruct, struct_opened}
-use Rattle.capnp_widening.specs.Rooms.{RefusesToBecome, direct_pointers, is_allocation_name, widened_words}
+use Rattle.capnp_widening.specs.Rooms.{HasRoomFor, OpeningFits, RefusesToBecome, direct_pointers, is_allocation_name, widened_words}
 use Rattle.capnp_widening.specs.RowsRemade.{RefusesWider}
-use Rattle.capnp_widening.specs.Widened.{list_widened}
+use Rattle.capnp_widening.specs.Widened.{list_widened, widened}
 use Rattle.capnp_widening.proofs.Refusing.{growth_named}
-use Rattle.capnp_builders.specs.Defaults.{IsShortDefault, DefaultUse, ignored, denied as is_denied_by, copied as is_copied_from, use_of_words, default_use, default_root, default_copy, RefusesDefault, WithDefault, DefaultFits}
+use Rattle.capnp_builders.specs.Defaults.{IsShortDefault, DefaultUse, ignored, denied as is_denied_by, copied as is_copied_from, use_of_words, default_use, default_root, default_copy, RefusesDefault, WithDefault, DefaultFits, FitsWithDefault, object_default, blob_default}
 use Rattle.capnp_builders.specs.Found.{list_given, bytes_given, GivesFoundList, GivesFoundBytes, FindsList, FindsBytes}
 use Rattle.capnp_builders.specs.Opening.{IsStructGiven, IsListGiven, OpensList, FindsStruct, FindsStructs, StructFindFits, StructsFindFits}
 use Rattle.capnp_edits.specs.declared.edit.path.PathEnd.TheVariants.{Pointer as AtPointer}
@@ -48,8 +52,8 @@ use Rattle.capnp_edits.specs.declared.edit.tasks.Task.TheVariants.{Search}
 use Rattle.capnp_edits.specs.declared.edit.tasks.Sought.{Sought}
 use Rattle.capnp_edits.specs.declared.edit.tasks.Sought.TheVariants.{Struct as ForStruct, List as ForList, StructList as ForStructs, Text as ForText, Data as ForData}
 use Rattle.capnp_edits.specs.Tasks.{is_small_default, is_in_range}
-use Rattle.capnp_edits.specs.Edits.{refusal_of, Making, allocates, becomes, nowhere, made_of_found, looked_for, with_default, is_of_path, IsOfMemory, Yields, is_done, is_denied, is_allocated, is_not_allocated, as_it_stands, default_put, default_dropped, DoesAt}
-use Rattle.capnp_edits.specs.Steps.{FitsAt, IsGrowthRefused, IsOpeningRefused, IsSearchRefused, FindsSought, IsDoneAt}
+use Rattle.capnp_edits.specs.Edits.{refusal_of, Making, allocates, becomes, nowhere, made_of_found, looked_for, with_default, default_for, is_of_path, Yields, is_done, is_denied, is_allocated, is_not_allocated, as_it_stands, default_put, default_dropped, DoesAt}
+use Rattle.capnp_edits.specs.Steps.{FitsAt, IsOpeningRefused, IsSearchRefused, FindsSought, OpeningHasRoom, IsDoneAt, result_of}
 use Rattle.capnp_edits.proofs.Applied.{Does, never_refused, of_allocation, of_no_place, denied_at}
 use Rattle.capnp_edits.proofs.Contents.{list_anywhere, data_anywhere, text_anywhere}
 use Rattle.capnp_edits.proofs.Names.{elsewhere, struct_elsewhere, structs_elsewhere, list_elsewhere, data_elsewhere, text_elsewhere, fault_elsewhere, unfound_name, list_unfound, data_unfound, text_unfound}
@@ -80,17 +84,12 @@ record DoesAs (S R : Segments) (place : PointerPlace) (making : Making) (t : Tre
 abbrev DoesSo : {B : Type 0} → (CallAt → Tree → Type 0) → (Tree → Making) → Result B ErrorKind → Type 0
 DoesSo P made_of result = (c : CallAt) (t : Tree) → IsStored c.old.words c.segment c.at t → P c t → DoesAs c.old.words c.new.words (place_in c) (made_of t) t (refusal_of result)
 
--- a growth is refused for memory
-of_growth : (old new : View) (n pointers : ℕ) (k : ErrorKind) → RefusesGrowth old new n pointers k → IsOfMemory k
-of_growth old new n pointers k (inl (why, none)) = of_allocation old new (length new.words) (n + 1) k why
-of_growth old new n pointers k (inr (some, (why, none))) = of_allocation old new (length new.words) 2 k why
-
 -- what is opened stands in the stead of what stood, or that stays
 opened_so : {B : Type 0} (result : Result B ErrorKind) (size : StructSize) (Given : Segments → ℕ → ℕ → Tree → B → Type 0) (c : CallAt) (t : Tree) (q : Result Tree ErrorKind) → Opens size Given c t q result →
     DoesAs c.old.words c.new.words (place_in c) (made_of_found (allocates t) q) t (refusal_of result)
 opened_so (Ok b) size Given c t (Ok u) h = record { left = Some u; yields = is_allocated t u refl refl refl; stands = h.replaced }
 opened_so (Err k) size Given c t (Ok u) h =
-    record { left = Some t; yields = is_not_allocated t u k refl (of_growth c.old c.new (widened_words u) (direct_pointers t) k h.full) refl refl; stands = h.stands }
+    record { left = Some t; yields = is_not_allocated t u k refl (growth_named c.old c.new (widened_words u) (direct_pointers t) k h.full) refl refl; stands = h.stands }
 opened_so result size Given c t (Err k) h = record { left = None; yields = is_denied k refl (ap refusal_of h.0) refl; stands = same_words h.1 }
 
 struct_so : (result : Result StructPlace ErrorKind) (size : StructSize) → DoesSo (OpensStruct IsStructGiven size result) (looked_for (ForStruct size)) result
@@ -121,20 +120,29 @@ bytes_refusal id (Ok (Some b)) = refl
 bytes_refusal id (Ok None) = refl
 bytes_refusal id (Err k) = refl
 
-list_so : (result : Result ListPlace ErrorKind) (size : ElementSize) → DoesSo (GivesFoundList size result) (looked_for (ForList size)) result
-list_so result size c t stored h =
+list_named : (result : Result ListPlace ErrorKind) (size : ElementSize) (c : CallAt) (t : Tree) → GivesFoundList size result c t → refusal_of result ≡ refusal_of (list_in nowhere size t)
+list_named result size c t h =
     let a : Target = target c.old.words c.segment c.at in
-    kept_so (list_in nowhere size t) result c t stored (ap refusal_of h.0 ∙ list_refusal c.segment (list_in a size t) ∙ list_anywhere refusal_of (λ l k e. refl) a nowhere size t) h.1
+    ap refusal_of h.0 ∙ list_refusal c.segment (list_in a size t) ∙ list_anywhere refusal_of (λ l k e. refl) a nowhere size t
+
+data_named : (result : Result ExistingBytes ErrorKind) (c : CallAt) (t : Tree) → GivesFoundBytes data_in result c t → refusal_of result ≡ refusal_of (data_in nowhere t)
+data_named result c t h =
+    let a : Target = target c.old.words c.segment c.at in
+    ap refusal_of h.0 ∙ bytes_refusal c.segment (data_in a t) ∙ data_anywhere refusal_of (λ b d e. refl) a nowhere t
+
+text_named : (result : Result ExistingBytes ErrorKind) (c : CallAt) (t : Tree) → GivesFoundBytes text_in result c t → refusal_of result ≡ refusal_of (text_in nowhere t)
+text_named result c t h =
+    let a : Target = target c.old.words c.segment c.at in
+    ap refusal_of h.0 ∙ bytes_refusal c.segment (text_in a t) ∙ text_anywhere refusal_of (λ b d e. refl) a nowhere t
+
+list_so : (result : Result ListPlace ErrorKind) (size : ElementSize) → DoesSo (GivesFoundList size result) (looked_for (ForList size)) result
+list_so result size c t stored h = kept_so (list_in nowhere size t) result c t stored (list_named result size c t h) h.1
 
 data_so : (result : Result ExistingBytes ErrorKind) → DoesSo (GivesFoundBytes data_in result) (looked_for ForData) result
-data_so result c t stored h =
-    let a : Target = target c.old.words c.segment c.at in
-    kept_so (data_in nowhere t) result c t stored (ap refusal_of h.0 ∙ bytes_refusal c.segment (data_in a t) ∙ data_anywhere refusal_of (λ b d e. refl) a nowhere t) h.1
+data_so result c t stored h = kept_so (data_in nowhere t) result c t stored (data_named result c t h) h.1
 
 text_so : (result : Result ExistingBytes ErrorKind) → DoesSo (GivesFoundBytes text_in result) (looked_for ForText) result
-text_so result c t stored h =
-    let a : Target = target c.old.words c.segment c.at in
-    kept_so (text_in nowhere t) result c t stored (ap refusal_of h.0 ∙ bytes_refusal c.segment (text_in a t) ∙ text_anywhere refusal_of (λ b d e. refl) a nowhere t) h.1
+text_so result c t stored h = kept_so (text_in nowhere t) result c t stored (text_named result c t h) h.1
 
 -- what stands is done with as it is
 as_stands : (S R : Segments) (place : PointerPlace) (m : Making) (t : Tree) (r : Option ErrorKind) → DoesAs S R place m t r → DoesAt S R place m t r
@@ -145,7 +153,7 @@ replaced_if : (S M R : Segments) (place : PointerPlace) (d : Tree) (left : Optio
 replaced_if S M R place d (Some u) put next = replaced_again S M R place.segment place.word Null d u put next
 replaced_if S M R place d None put same = subst (λ Q. IsReplaced S Q place.segment place.word Null d) (sym same) put
 
-dropped_name : (bytes : List ℕ) (id at : ℕ) (old new : View) (k : ErrorKind) → RefusesDefault bytes (default_copy id at old new) k → IsOfMemory k ⊎ HasFault of_default (default_root bytes) k
+dropped_name : (bytes : List ℕ) (id at : ℕ) (old new : View) (k : ErrorKind) → RefusesDefault bytes (default_copy id at old new) k → (is_allocation_name k ≡ true) ⊎ HasFault of_default (default_root bytes) k
 dropped_name bytes id at old new k (inl fault) = inr fault
 dropped_name bytes id at old new k (inr (lacks, large)) =
     let x = refused_words (value_original (default_root bytes)) (default_copy id at old new) k lacks in
@@ -184,6 +192,11 @@ with_does result of_null default made_of P c t stored does h = elim (null_or_ign
 ]
 
 -- Why a value isn't opened or found: by its name, which is no missing place, and all is as it was; or memory is refused.
+abbrev IsGrowthRefused : Sought → CallAt → ErrorKind → Type 0
+IsGrowthRefused (ForStruct size) c k = RefusesToBecome (IsStored c.old.words c.segment c.at) (struct_opened size) c.old c.new k
+IsGrowthRefused (ForStructs size) c k = RefusesToBecome (IsStored c.old.words c.segment c.at) (list_widened size.data_words size.pointers) c.old c.new k
+IsGrowthRefused sought c k = ⊥
+
 abbrev IsWhy : Sought → CallAt → ErrorKind → Type 0
 IsWhy sought c k = ((k ≡ NoSuchPlace → ⊥) × (c.new ≡ c.old)) ⊎ IsGrowthRefused sought c k
 
@@ -246,9 +259,16 @@ data Why (sought : Sought) (c : CallAt) (default : Option (Bor (List ℕ))) (k :
   as_default : (d : Bor (List ℕ)) (mid : View) → default ≡ Some d → KeepsMemory c.old mid → IsWhy sought (record c { old = mid }) k → Why sought c default k
   as_copy : (d : Bor (List ℕ)) → default ≡ Some d → SpendsMemory c.old c.new k → RefusesDefault d.now (default_copy c.segment c.at c.old c.new) k → Why sought c default k
 
+unopened : (sought : Sought) (c : CallAt) (k : ErrorKind) → c.new ≡ c.old → IsOpeningRefused sought c k
+unopened (ForStruct size) c k same = inl same
+unopened (ForStructs size) c k same = inl same
+unopened sought c k same = same
+
 plainly : (sought : Sought) (c : CallAt) (k : ErrorKind) → IsWhy sought c k → IsOpeningRefused sought c k
-plainly sought c k (inl h) = inl h.1
-plainly sought c k (inr h) = inr h
+plainly sought c k (inl h) = unopened sought c k h.1
+plainly (ForStruct size) c k (inr h) = inr h
+plainly (ForStructs size) c k (inr h) = inr h
+plainly sought c k (inr h) = absurd h
 
 -- its words are those of its bytes
 abbrev IsOf : List ℕ → DefaultUse → Type 0
@@ -267,7 +287,7 @@ use_is of_null bytes (x ∷ xs) plain = by_first (nat_eq x 0)
 why_used : (B : Type 0) (k : ErrorKind) (used : DefaultUse) (d : Bor (List ℕ)) (sought : Sought) (P : CallAt → Tree → Type 0) (c : CallAt) → IsStored c.old.words c.segment c.at Null → IsOf d.now used → WhySo sought P k → WithDefault {B = B} used c Null P (Err k) →
     Why sought c (Some d) k
 why_used B k ignored d sought P c stored only why h = as_found (plainly sought c k (why c Null stored h))
-why_used B k (is_denied_by j) d sought P c stored only why h = as_found (inl h.1)
+why_used B k (is_denied_by j) d sought P c stored only why h = as_found (unopened sought c k h.1)
 why_used B k (is_copied_from bytes) d sought P c stored only why (inl on) = as_default d on.mid refl on.put.memory (why (record c { old = on.mid }) on.value on.put.replaced.stored on.does)
 why_used B k (is_copied_from bytes) d sought P c stored only why (inr drops) = as_copy d refl drops.memory (subst (λ b. RefusesDefault b (default_copy c.segment c.at c.old c.new) k) only drops.named)
 
@@ -305,8 +325,11 @@ grown_nowhere (ForStructs size) c k h e = (let same = sym h.name ∙ ap is_alloc
 grown_nowhere sought c k h e = absurd h
 
 never_nowhere : (sought : Sought) (c : CallAt) (default : Option (Bor (List ℕ))) (k : ErrorKind) → Why sought c default k → k ≡ NoSuchPlace → c.new ≡ c.old
-never_nowhere sought c default k (as_found (inl same)) e = same
-never_nowhere sought c default k (as_found (inr h)) e = absurd (grown_nowhere sought c k h e)
+never_nowhere (ForStruct size) c default k (as_found (inl same)) e = same
+never_nowhere (ForStruct size) c default k (as_found (inr h)) e = absurd (grown_nowhere (ForStruct size) c k h e)
+never_nowhere (ForStructs size) c default k (as_found (inl same)) e = same
+never_nowhere (ForStructs size) c default k (as_found (inr h)) e = absurd (grown_nowhere (ForStructs size) c k h e)
+never_nowhere sought c default k (as_found same) e = same
 never_nowhere sought c default k (as_default d mid is keeps (inl h)) e = absurd (h.0 e)
 never_nowhere sought c default k (as_default d mid is keeps (inr h)) e = absurd (grown_nowhere sought (record c { old = mid }) k h e)
 never_nowhere sought c default k (as_copy d is spent named) e = absurd (elim (dropped_name d.now c.segment c.at c.old c.new k named) [
@@ -314,10 +337,74 @@ never_nowhere sought c default k (as_copy d is spent named) e = absurd (elim (dr
   | inr fault ↦ fault_elsewhere of_default (subst (HasFault of_default (default_root d.now)) e fault)
 ])
 
+-- So it finds what is sought, by its outcome.
+abbrev FindsThere : Sought → Option (Bor (List ℕ)) → Option ErrorKind → CallAt → Tree → Type 0
+FindsThere sought default r c t = WithDefault (default_for sought default t) c t (FindsSought sought r) (result_of r)
+
+by_outcome : {B : Type 0} (result : Result B ErrorKind) (used : DefaultUse) (P Q : CallAt → Tree → Type 0) (c : CallAt) (t : Tree) → ((d : CallAt) (u : Tree) → P d u → Q d u) → WithDefault used c t P result → WithDefault used c t Q (result_of (refusal_of result))
+by_outcome result ignored P Q c t so h = so c t h
+by_outcome {B} result (is_denied_by k) P Q c t so h = (ap (λ (r : Result B ErrorKind). result_of (refusal_of r)) h.0, h.1)
+by_outcome result (is_copied_from bytes) P Q c t so (inl on) = inl (record { mid = on.mid; value = on.value; put = on.put; does = so (record c { old = on.mid }) on.value on.does })
+by_outcome (Ok x) (is_copied_from bytes) P Q c t so (inr drops) = absurd drops
+by_outcome (Err k) (is_copied_from bytes) P Q c t so (inr drops) = inr drops
+
+opens_so : {B : Type 0} (result : Result B ErrorKind) (size : StructSize) (Given : Segments → ℕ → ℕ → Tree → B → Type 0) (c : CallAt) (t : Tree) (q : Result Tree ErrorKind) → Opens size Given c t q result → Opens size (λ S s p u b. ⊤) c t q (result_of (refusal_of result))
+opens_so (Ok b) size Given c t (Ok u) h = record { replaced = h.replaced; leads = tt; memory = h.memory; unchanged = h.unchanged; anew = h.anew }
+opens_so (Err k) size Given c t (Ok u) h = h
+opens_so {B} result size Given c t (Err k) h = (ap (λ (r : Result B ErrorKind). result_of (refusal_of r)) h.0, h.1)
+
+structs_found : (result : Result ListPlace ErrorKind) (size : StructSize) (c : CallAt) (t : Tree) → OpensList size result c t → FindsSought (ForStructs size) (refusal_of result) c t
+structs_found result size c Null h = (ap refusal_of h.0, h.1)
+structs_found result size c t h = opens_so result size IsListGiven c t (list_widened size.data_words size.pointers t) h
+
+yields_so : {A : Type 0} (q : Result A ErrorKind) (r : Option ErrorKind) (t : Tree) → r ≡ refusal_of q → (o : Option Tree) × Yields (made_of_found (λ x. becomes t) q) r o
+yields_so (Ok x) r t e = (Some t, is_done t refl e refl)
+yields_so (Err k) r t e = (None, is_denied k refl e refl)
+
+list_found : (result : Result ListPlace ErrorKind) (size : ElementSize) (c : CallAt) (t : Tree) → GivesFoundList size result c t → FindsSought (ForList size) (refusal_of result) c t
+list_found result size c t h =
+    let (o, yields) = yields_so (list_in nowhere size t) (refusal_of result) t (list_named result size c t h) in
+    (o, yields, h.1)
+
+data_found : (result : Result ExistingBytes ErrorKind) (c : CallAt) (t : Tree) → GivesFoundBytes data_in result c t → FindsSought ForData (refusal_of result) c t
+data_found result c t h =
+    let (o, yields) = yields_so (data_in nowhere t) (refusal_of result) t (data_named result c t h) in
+    (o, yields, h.1)
+
+text_found : (result : Result ExistingBytes ErrorKind) (c : CallAt) (t : Tree) → GivesFoundBytes text_in result c t → FindsSought ForText (refusal_of result) c t
+text_found result c t h =
+    let (o, yields) = yields_so (text_in nowhere t) (refusal_of result) t (text_named result c t h) in
+    (o, yields, h.1)
+
+-- Room for what is opened is what the call asks for: of null that for a new struct.
+fits_with : (used : DefaultUse) (v : View) (s p : ℕ) (P Q : View → Type 0) → ((m : View) → P m → Q m) → FitsWithDefault used v s p P → FitsWithDefault used v s p Q
+fits_with ignored v s p P Q so h = so v h
+fits_with (is_denied_by k) v s p P Q so h = h
+fits_with (is_copied_from bytes) v s p P Q so h = (h.0, λ m u put. so m (h.1 m u put))
+
+opened_fits : (v : View) (s p : ℕ) (size : StructSize) (t u : Tree) → IsStored v.words s p t → struct_opened size t ≡ Ok u → HasRoomFor v s p t u → OpeningFits v s p size
+opened_fits v s p size Null u stored is room = inl (stored.means.2.0, new_room room)
+  where
+    words : widened_words u ≡ size.data_words + size.pointers
+    words = ap widened_words (sym (same_ok (zero_struct size) u is)) ∙ (let e : length (words_of_zero size.data_words) + count (nulls size.pointers) ≡ size.data_words + size.pointers = omega (arith, length-replicate {A = ℕ} size.data_words 0, count-nulls size.pointers) in e)
+
+    new_room : HasRoomFor v s p Null u → HasRoom v s (size.data_words + size.pointers)
+    new_room (inl h) = subst (HasRoom v s) (let e : widened_words u + 2 * 0 ≡ size.data_words + size.pointers = omega (arith, words) in e) h
+    new_room (inr (here, h)) = inl (subst (HasOwnRoom v s) words h)
+opened_fits v s p size (Struct ws ts) u stored is room = inr (ws, ts, stored, subst (HasRoomFor v s p (Struct ws ts)) (sym (same_ok (widened size ws ts) u is)) room)
+opened_fits v s p size (Capability i) u stored is room = absurd (cc)
+opened_fits v s p size (Flat z ns) u stored is room = absurd (cc)
+opened_fits v s p size (Pointers ts) u stored is room = absurd (cc)
+opened_fits v s p size (Structs d q es) u stored is room = absurd (cc)
+
+struct_room : (size : StructSize) (default : Option (Bor (List ℕ))) (v : View) (place : PointerPlace) → OpeningHasRoom (struct_opened size) default v place → StructFindFits size default v place.segment place.word
+struct_room size default v place (t, stored, fits) =
+    (t, stored, fits_with (object_default default t) v place.segment place.word _ (λ m. OpeningFits m place.segment place.word size) (λ m h. opened_fits m place.segment place.word size h.0 h.1 h.2 h.3 h.4) fits)
+
 -- what a call leaves that is refused, or isn't
 search_done : {B : Type 0} (result : Result B ErrorKind) (sought : Sought) (default : Option (Bor (List ℕ))) (c : CallAt) → Does c.old.words c.new.words (place_in c) (Search sought default) (refusal_of result) → OnOk result (KeepsMemory c.old c.new) →
     IfErr result (SpendsMemory c.old c.new) → IfErr result (Why sought c default) → (FitsAt c.old (Search sought default) (AtPointer (place_in c)) → IfErr result (λ k. is_of_path k ≡ true)) →
-    ((t : Tree) → IsStored c.old.words c.segment c.at t → FindsSought sought default (refusal_of result) c t) → IsDoneAt c.old c.new (place_in c) (Search sought default) (refusal_of result)
+    ((t : Tree) → IsStored c.old.words c.segment c.at t → FindsThere sought default (refusal_of result) c t) → IsDoneAt c.old c.new (place_in c) (Search sought default) (refusal_of result)
 search_done (Ok x) sought default c does granted memory why fits finds = record {
   done = does;
   counted = ap (λ (v : View). v.refusals) granted.0;
@@ -410,7 +497,7 @@ set_structs (Err k) c size (inr h) = inr h
 
 set_same : {B : Type 0} (result : Result B ErrorKind) (sought : Sought) (c : CallAt) → c.new ≡ c.old → IfErr result (IsOpeningRefused sought c)
 set_same (Ok x) sought c same = tt
-set_same (Err k) sought c same = inl same
+set_same (Err k) sought c same = unopened sought c k same
 
 -- the calls
 pub struct_sought : (result : Result StructPlace ErrorKind) (size : StructSize) (default : Option (Bor (List ℕ))) (c : CallAt) → IsPlace c.old.words c.segment c.at →
@@ -420,7 +507,8 @@ pub struct_sought : (result : Result StructPlace ErrorKind) (size : StructSize) 
 struct_sought result size default c there found set granted memory fits =
     search_done result (ForStruct size) default c
     (λ t stored. with_does result ignored default (looked_for (ForStruct size)) (OpensStruct IsStructGiven size result) c t stored (struct_so result size) (found t stored)) granted memory
-    (why_if result ignored default (ForStruct size) (OpensStruct IsStructGiven size) c there (λ b. tt) (struct_why size) found (λ some. set_struct result c size (set some))) (λ room. never_refused result (fits room)) (λ t stored. (result, refl, found t stored))
+    (why_if result ignored default (ForStruct size) (OpensStruct IsStructGiven size) c there (λ b. tt) (struct_why size) found (λ some. set_struct result c size (set some))) (λ room. never_refused result (fits (struct_room size default c.old (place_in c) room)))
+    (λ t stored. by_outcome result (object_default default t) (OpensStruct IsStructGiven size result) (FindsSought (ForStruct size) (refusal_of result)) c t (λ d u. opens_so result size IsStructGiven d u (struct_opened size u)) (found t stored))
 
 pub structs_sought : (result : Result ListPlace ErrorKind) (size : StructSize) (default : Option (Bor (List ℕ))) (c : CallAt) → IsPlace c.old.words c.segment c.at →
     ((t : Tree) → IsStored c.old.words c.segment c.at t → FindsStructs size default result c t) → ((word_at c.old.words c.segment c.at ≡ 0 → ⊥) → IfErr result (RefusesWider (IsStored c.old.words c.segment c.at) size c.old c.new)) →
@@ -429,7 +517,8 @@ pub structs_sought : (result : Result ListPlace ErrorKind) (size : StructSize) (
 structs_sought result size default c there found set granted memory fits =
     search_done result (ForStructs size) default c
     (λ t stored. with_does result ignored default (looked_for (ForStructs size)) (OpensList size result) c t stored (structs_so result size) (found t stored)) granted memory
-    (why_if result ignored default (ForStructs size) (OpensList size) c there (λ b. tt) (structs_why size) found (λ some. set_structs result c size (set some))) (λ room. never_refused result (fits room)) (λ t stored. (result, refl, found t stored))
+    (why_if result ignored default (ForStructs size) (OpensList size) c there (λ b. tt) (structs_why size) found (λ some. set_structs result c size (set some))) (λ room. never_refused result (fits room))
+    (λ t stored. by_outcome result (object_default default t) (OpensList size result) (FindsSought (ForStructs size) (refusal_of result)) c t (structs_found result size) (found t stored))
 
 pub list_sought : (result : Result ListPlace ErrorKind) (size : ElementSize) (default : Option (Bor (List ℕ))) (c : CallAt) → IsPlace c.old.words c.segment c.at →
     ((t : Tree) → IsStored c.old.words c.segment c.at t → FindsList size default result c t) → ((word_at c.old.words c.segment c.at ≡ 0 → ⊥) → (c.new ≡ c.old) × IfErr result (λ k. is_unfound k ≡ true)) →
@@ -438,7 +527,8 @@ list_sought result size default c there found set granted memory =
     search_done result (ForList size) default c
     (λ t stored. with_does result ignored default (looked_for (ForList size)) (GivesFoundList size result) c t stored (list_so result size) (found t stored)) granted memory
     (why_if result ignored default (ForList size) (GivesFoundList size) c there (λ b. tt) (list_why size) found (λ some. set_same result (ForList size) c (set some).0))
-    (λ room. found_fits result ignored default (GivesFoundList size) c there (λ b. tt) (list_name size) found (λ some. (set some).1) room) (λ t stored. (result, refl, found t stored))
+    (λ room. found_fits result ignored default (GivesFoundList size) c there (λ b. tt) (list_name size) found (λ some. (set some).1) room)
+    (λ t stored. by_outcome result (object_default default t) (GivesFoundList size result) (FindsSought (ForList size) (refusal_of result)) c t (list_found result size) (found t stored))
 
 pub data_sought : (result : Result ExistingBytes ErrorKind) (default : Option (Bor (List ℕ))) (c : CallAt) → IsPlace c.old.words c.segment c.at →
     ((t : Tree) → IsStored c.old.words c.segment c.at t → FindsBytes data_in default result c t) → ((word_at c.old.words c.segment c.at ≡ 0 → ⊥) → (c.new ≡ c.old) × IfErr result (λ k. is_unfound k ≡ true)) →
@@ -448,7 +538,8 @@ data_sought result default c there found set granted memory =
     search_done result ForData default c
     (λ t stored. with_does result of_null default (looked_for ForData) (GivesFoundBytes data_in result) c t stored (data_so result) (found t stored)) granted memory
     (why_if result of_null default ForData (GivesFoundBytes data_in) c there (λ b. tt) data_why found (λ some. set_same result ForData c (set some).0))
-    (λ room. found_fits result of_null default (GivesFoundBytes data_in) c there (λ b. refl) data_name found (λ some. (set some).1) room) (λ t stored. (result, refl, found t stored))
+    (λ room. found_fits result of_null default (GivesFoundBytes data_in) c there (λ b. refl) data_name found (λ some. (set some).1) room)
+    (λ t stored. by_outcome result (blob_default default t) (GivesFoundBytes data_in result) (FindsSought ForData (refusal_of result)) c t (data_found result) (found t stored))
 
 pub text_sought : (result : Result ExistingBytes ErrorKind) (default : Option (Bor (List ℕ))) (c : CallAt) → IsPlace c.old.words c.segment c.at →
     ((t : Tree) → IsStored c.old.words c.segment c.at t → FindsBytes text_in default result c t) → ((word_at c.old.words c.segment c.at ≡ 0 → ⊥) → (c.new ≡ c.old) × IfErr result (λ k. is_unfound k ≡ true)) →
@@ -458,7 +549,8 @@ text_sought result default c there found set granted memory =
     search_done result ForText default c
     (λ t stored. with_does result of_null default (looked_for ForText) (GivesFoundBytes text_in result) c t stored (text_so result) (found t stored)) granted memory
     (why_if result of_null default ForText (GivesFoundBytes text_in) c there (λ b. tt) text_why found (λ some. set_same result ForText c (set some).0))
-    (λ room. found_fits result of_null default (GivesFoundBytes text_in) c there (λ b. refl) text_name found (λ some. (set some).1) room) (λ t stored. (result, refl, found t stored))
+    (λ room. found_fits result of_null default (GivesFoundBytes text_in) c there (λ b. refl) text_name found (λ some. (set some).1) room)
+    (λ t stored. by_outcome result (blob_default default t) (GivesFoundBytes text_in result) (FindsSought ForText (refusal_of result)) c t (text_found result) (found t stored))
 
 -- the numbers of a list that is looked for
 pub list_range : (size : ElementSize) (default : Option (Bor (List ℕ))) → is_in_range (Search (ForList size) default) ≡ true → (size_number size ≤ 6) × (is_small_default default ≡ true)

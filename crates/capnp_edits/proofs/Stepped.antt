@@ -124,7 +124,7 @@ step_is_there old new edit r t x u q s forest leads = go s.path_end (s.leads t (
     go : (place : Option PathEnd) → IsPathFound old.words 0 0 t path place → place ≡ Some (AtPointer (record { segment = u; word = q }))
     go None none = absurd (no_value x (sym end_value ∙ ap (found t) (sym (append-nil path)) ∙ none []))
     go (Some (AtPointer place)) f =
-        let same = same_end old.words 0 0 t path place.segment place.word f.value u q x f.leads leads in
+        let same = same_end old.words 0 0 t path place.segment place.word f.0 u q x f.1 leads in
         ap₂ (λ v w. Some (AtPointer (record { segment = v; word = w }))) same.0 same.1
     go (Some (AtElement e)) f =
         let list = Structs e.size.data_words e.size.pointers f.elements in

@@ -19,7 +19,7 @@ use Rattle.capnp_making.proofs.Replaced.{stored_within}
 use Rattle.capnp_edits.specs.declared.edit.Step.{Step as EditStep}
 use Rattle.capnp_edits.specs.declared.edit.path.PathEnd.{PathEnd}
 use Rattle.capnp_edits.specs.declared.edit.path.PathEnd.TheVariants.{Pointer as AtPointer, Element as AtElement}
-use Rattle.capnp_edits.specs.Paths.{step_of, path_of, found, IsPointerFound, IsElementFound, IsPathFound, EndLiesIn, child_in, element_in, Steps}
+use Rattle.capnp_edits.specs.Paths.{step_of, path_of, found, IsElementFound, IsPathFound, EndLiesIn, child_in, element_in, Steps}
 use Rattle.capnp_edits.proofs.Walks.{leads_further, found-append}
 use Rattle.capnp_widening.proofs.Listed.{same_list}
 
@@ -56,7 +56,7 @@ struct_child S s p i (Struct ws ts) e r is_e stored exactly =
           let leads : PathLeads S s p (Struct ws ts) (Child i ∷ []) a.segment (a.start + length ws + i) (tree_at ts i) = (l, (refl, refl, refl)) in
           let inside = place_inside S s p (Struct ws ts) (Child i ∷ []) a.segment (a.start + length ws + i) (tree_at ts i) leads stored in
           subst (IsPathFound S s p (Struct ws ts) (Child i ∷ [])) (sym (known (subst (λ (o : Option PathEnd). IfSome o (EndLiesIn S)) (sym is_there) inside) ∙ is_there))
-          (record { value = tree_at ts i; leads = leads; end_value = first i (count ts) _ _ l })
+          (tree_at ts i, leads, first i (count ts) _ _ l)
       | inr l ↦
           let none : child_in f i ≡ None = second i (count ts) _ _ l in
           subst (IsPathFound S s p (Struct ws ts) (Child i ∷ [])) (sym (known (subst (λ (o : Option PathEnd). IfSome o (EndLiesIn S)) (sym none) tt) ∙ none)) (λ more. second i (count ts) _ _ l)
@@ -117,7 +117,7 @@ list_element S s p i (Pointers ts) l r is_l stored few exactly =
     let less : i < count ts = subst (λ x. i < x.count) same few in
     let leads : PathLeads S s p (Pointers ts) (Element i ∷ []) a.segment (a.start + i) (tree_at ts i) = (less, (refl, refl, refl)) in
     let inside = place_inside S s p (Pointers ts) (Element i ∷ []) a.segment (a.start + i) (tree_at ts i) leads stored in
-    subst (IsPathFound S s p (Pointers ts) (Element i ∷ [])) (sym (known inside)) (record { value = tree_at ts i; leads = leads; end_value = first i (count ts) _ _ less })
+    subst (IsPathFound S s p (Pointers ts) (Element i ∷ [])) (sym (known inside)) (tree_at ts i, leads, first i (count ts) _ _ less)
 list_element S s p i (Structs d q es) l r is_l stored few exactly =
     let a = target S s p in
     let same = same_list l (struct_list a d q (element_count es)) is_l in
@@ -159,17 +159,13 @@ no_list S s p i (Pointers ts) k e = absurd (cc)
 no_list S s p i (Structs d q es) k e = absurd (cc)
 
 -- one step more, from a pointer
-pub pointer_further : (S : Segments) (s p : ℕ) (t : Tree) (path : List Step) (u q : ℕ) (step : Step) (r : Option PathEnd) → IsPointerFound S s p t path u q → IsStored S s p t →
+pub pointer_further : (S : Segments) (s p : ℕ) (t : Tree) (path : List Step) (u q : ℕ) (step : Step) (r : Option PathEnd) → IsPathFound S s p t path (Some (AtPointer (record { segment = u; word = q }))) → IsStored S s p t →
     ((x : Tree) → IsStored S u q x → IsPathFound S u q x (step ∷ []) r) → IsPathFound S s p t (path ++ step ∷ []) r
 pointer_further S s p t path u q step (Some (AtPointer place)) f stored then =
-    let g = then f.value (stored_within S s p t path u q f.value f.leads stored) in
-    record {
-      value = g.value;
-      leads = leads_further S s p t path (step ∷ []) u q f.value place.segment place.word g.value f.leads g.leads;
-      end_value = found-append t path (step ∷ []) f.value f.end_value ∙ g.end_value;
-    }
+    let g = then f.0 (stored_within S s p t path u q f.0 f.1 stored) in
+    (g.0, leads_further S s p t path (step ∷ []) u q f.0 place.segment place.word g.0 f.1 g.1, found-append t path (step ∷ []) f.0 f.2 ∙ g.2)
 pointer_further S s p t path u q step (Some (AtElement e)) f stored then =
-    let g = then f.value (stored_within S s p t path u q f.value f.leads stored) in
+    let g = then f.0 (stored_within S s p t path u q f.0 f.1 stored) in
     record {
       front = path ++ g.front;
       index = g.index;
@@ -177,15 +173,15 @@ pointer_further S s p t path u q step (Some (AtElement e)) f stored then =
       list_segment = g.list_segment;
       list_at = g.list_at;
       elements = g.elements;
-      leads = leads_further S s p t path g.front u q f.value g.list_segment g.list_at (Structs e.size.data_words e.size.pointers g.elements) f.leads g.leads;
-      end_value = found-append t path g.front f.value f.end_value ∙ g.end_value;
+      leads = leads_further S s p t path g.front u q f.0 g.list_segment g.list_at (Structs e.size.data_words e.size.pointers g.elements) f.1 g.leads;
+      end_value = found-append t path g.front f.0 f.2 ∙ g.end_value;
       counts = g.counts;
       segment_is = g.segment_is;
       start_is = g.start_is;
     }
 pointer_further S s p t path u q step None f stored then =
-    let g = then f.value (stored_within S s p t path u q f.value f.leads stored) in
-    λ more. ap (found t) (append_assoc path (step ∷ []) more) ∙ found-append t path (step ∷ more) f.value f.end_value ∙ g more
+    let g = then f.0 (stored_within S s p t path u q f.0 f.1 stored) in
+    λ more. ap (found t) (append_assoc path (step ∷ []) more) ∙ found-append t path (step ∷ more) f.0 f.2 ∙ g more
 
 -- what a longer path finds behind an element of a list
 behind_element : (d q : ℕ) (es : Elements) (i j : ℕ) (more : List Step) → i < element_count es →
@@ -212,11 +208,8 @@ element_child S s p t path e j r f stored exactly =
           (f.counts, l, (sym f.segment_is, ap (λ b. b + d + j) (sym f.start_is), refl)) in
           let leads = leads_further S s p t f.front (Element f.index ∷ Child j ∷ []) f.list_segment f.list_at list e.segment (e.start + d + j) child f.leads near in
           let inside = place_inside S s p t (f.front ++ Element f.index ∷ Child j ∷ []) e.segment (e.start + d + j) child leads stored in
-          subst (IsPathFound S s p t (path ++ Child j ∷ [])) (sym (exactly (subst (λ (o : Option PathEnd). IfSome o (EndLiesIn S)) (sym is_there) inside) ∙ is_there)) (record {
-            value = child;
-            leads = subst (λ x. PathLeads S s p t x e.segment (e.start + d + j) child) (sym (joined [])) leads;
-            end_value = all [] ∙ first j q _ _ l;
-          })
+          subst (IsPathFound S s p t (path ++ Child j ∷ [])) (sym (exactly (subst (λ (o : Option PathEnd). IfSome o (EndLiesIn S)) (sym is_there) inside) ∙ is_there))
+          (child, subst (λ x. PathLeads S s p t x e.segment (e.start + d + j) child) (sym (joined [])) leads, all [] ∙ first j q _ _ l)
       | inr l ↦
           let none : child_in e j ≡ None = second j q _ _ l in
           subst (IsPathFound S s p t (path ++ Child j ∷ [])) (sym (exactly (subst (λ (o : Option PathEnd). IfSome o (EndLiesIn S)) (sym none) tt) ∙ none))

@@ -14,14 +14,24 @@ use Rattle.capnp_copies.specs.Growth.{TakesAtMost}
 use Rattle.capnp_copies.specs.Originals.{Original}
 use Rattle.capnp_builders.specs.Places.{Field}
 use Rattle.capnp_edits.specs.Edits.{refusal_of, are_written, are_outside, PutsBits, PutsElement, element_put, element_past, no_list, list_denied, PutsByte, byte_put, byte_past, no_bytes_there, bytes_denied}
-use Rattle.capnp_edits.specs.Steps.{KeepsLengths, result_of}
+use Rattle.capnp_edits.specs.Steps.{result_of}
+use Rattle.capnp_arena.specs.View.{View, KeepsLimits}
+use Rattle.capnp_widening.specs.Anew.{OnlyWrites}
+
+-- Every segment has as many words as before.
+abbrev pub KeepsLengths : Segments → Segments → Type 0
+KeepsLengths S R = (length R ≡ length S) × ((v : ℕ) → length (segment R v) ≡ length (segment S v))
+
+pub writes : (old new : View) → KeepsLimits old new → KeepsLengths old.words new.words → OnlyWrites old new
+writes old new limits lengths = record { limits = limits; segments = lengths.0; words = lengths.1 }
 
 -- bits that are written take no words
-pub same_lengths : (S R : Segments) → R ≡ S → KeepsLengths S R
-same_lengths S R e v = ap (λ Q. length (segment Q v)) e
+same_lengths : (S R : Segments) → R ≡ S → KeepsLengths S R
+same_lengths S R e = (ap length e, λ v. ap (λ Q. length (segment Q v)) e)
 
 field_lengths : (S R : Segments) (s b w x : ℕ) → R ≡ with_field S s b w x → KeepsLengths S R
-field_lengths S R s b w x e v = ap (λ Q. length (segment Q v)) e ∙ lengths_kept S s (put_field (segment S s) b w x) (length-set (segment S s) _ _) v
+field_lengths S R s b w x e =
+    (ap length e ∙ length-set S s _, λ v. ap (λ Q. length (segment Q v)) e ∙ lengths_kept S s (put_field (segment S s) b w x) (length-set (segment S s) _ _) v)
 
 pub bits_lengths : (S R : Segments) (e : ExistingStruct) (f : Field) (r : Option ErrorKind) → PutsBits S R e f r → KeepsLengths S R
 bits_lengths S R e f r (are_written starts ends done written) = field_lengths S R _ _ _ _ written

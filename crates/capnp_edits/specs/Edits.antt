@@ -3,15 +3,15 @@ use Rattle.std.specs.Option.{option_map_or}
 use Rattle.std.specs.Prelude.{MatchOption, ◌≡◌, ◌⊎◌, ℕ, min, ◌+◌, ◌*◌, ◌<◌, ◌≤◌, Bool, true, false}
 use Rattle.std.specs.Prelude.{if◌then◌else◌, nat_le, nat_lt, List, ◌++◌, [], ◌∷◌, length, get_or}
 use Rattle.std.specs.Prelude.{slice_set, Option, Some, None, unwrap_or, Result, Ok, Err}
+use Rattle.std.specs.Borrow.{Bor}
 use Rattle.capnp_words.specs.declared.error.ErrorKind.{ErrorKind}
-use Rattle.capnp_words.specs.declared.error.ErrorKind.TheVariants.{AllocationFailed}
 use Rattle.capnp_words.specs.declared.error.ErrorKind.TheVariants.{FoundBitListWhereStructListWasExpected}
 use Rattle.capnp_words.specs.declared.error.ErrorKind.TheVariants.{MessageContainsNonStructPointerWhereStructPointerWasExpected}
-use Rattle.capnp_words.specs.declared.error.ErrorKind.TheVariants.{MessageTooLarge, NoSuchPlace}
+use Rattle.capnp_words.specs.declared.error.ErrorKind.TheVariants.{NoSuchPlace}
 use Rattle.capnp_words.specs.declared.error.ErrorKind.TheVariants.{UnknownPointerType}
 use Rattle.capnp_words.specs.declared.wire_pointer.ElementSize.{ElementSize}
 use Rattle.capnp_words.specs.Sizes.{size_number}
-use Rattle.capnp_format.specs.Numbers.{element_bits, words_for}
+use Rattle.capnp_format.specs.Numbers.{element_bits}
 use Rattle.capnp_format.specs.Segments.{Segments, Target}
 use Rattle.capnp_format.specs.Tree.{Tree, Null, Capability, Struct, Flat, Structs, count, capabilities}
 use Rattle.capnp_format.specs.Forest.{IsForest}
@@ -19,7 +19,7 @@ use Rattle.capnp_making.specs.Existing.{is_unfound, list_in, data_in, text_in, B
 use Rattle.capnp_making.specs.Fields.{with_bits, put_field, with_field}
 use Rattle.capnp_making.specs.Filled.{AreFilled}
 use Rattle.capnp_making.specs.Memory.{refusals_for}
-use Rattle.capnp_making.specs.Made.{list_words, zero_struct, zero_structs, zero_list}
+use Rattle.capnp_making.specs.Made.{zero_struct, zero_structs, zero_list}
 use Rattle.capnp_making.specs.Path.{struct_at, put_struct, update}
 use Rattle.capnp_making.specs.Stored.{IsReplaced, Puts}
 use Rattle.capnp_making.specs.declared.existing.ExistingBytes.{ExistingBytes}
@@ -30,6 +30,7 @@ use Rattle.capnp_objects.specs.Outcomes.{MeansThere}
 use Rattle.capnp_objects.specs.Wanted.{of_default}
 use Rattle.capnp_readers.specs.Readers.{IsListPlace}
 use Rattle.capnp_readers.specs.declared.readers.struct_reader.StructPlace.{StructPlace}
+use Rattle.capnp_widening.specs.Rooms.{is_allocation_name}
 use Rattle.capnp_widening.specs.Widened.{list_widened}
 use Rattle.capnp_builders.specs.Defaults.{DefaultUse, ignored, denied as is_denied_by}
 use Rattle.capnp_builders.specs.Defaults.{copied as is_copied_from, object_default, blob_default}
@@ -94,13 +95,6 @@ abbrev pub struct_with : Field → Tree → Tree
 struct_with f (Struct ws ts) = Struct (put_field ws f.start f.bits f.value) ts
 struct_with f t = t
 
--- The same, where the struct has them.
-abbrev pub with_written : Field → Tree → Making
-with_written f (Struct ws ts) =
-    if nat_le (f.start + f.bits) (64 * length ws) then becomes (struct_with f (Struct ws ts))
-    else denied NoSuchPlace
-with_written f t = denied NoSuchPlace
-
 -- A list with the lowest w bits of an element written.
 abbrev pub with_lowest : ℕ → ℕ → ℕ → Tree → Tree
 with_lowest i w v (Flat size ns) = Flat size (slice_set ns i (with_bits (get_or ns i 0) 0 w v))
@@ -140,12 +134,15 @@ with_default ignored made_of t = made_of t
 with_default (is_denied_by k) made_of t = denied k
 with_default (is_copied_from bytes) made_of t = defaults bytes made_of
 
--- What is made of a struct that is changed: bits of its data section are written, or content is
--- copied over it.
+-- What is made of a struct that is changed: bits of its data section are written, where it has them,
+-- or content is copied over it.
 abbrev pub struct_changed : StructChange → Tree → Making
-struct_changed (Bits n) t = with_written (bits_of n) t
+struct_changed (Bits n) (Struct ws ts) =
+    let f = bits_of n in
+    if nat_le (f.start + f.bits) (64 * length ws) then becomes (struct_with f (Struct ws ts))
+    else denied NoSuchPlace
 struct_changed (Content source) (Struct ws ts) = fills source (length ws) (count ts)
-struct_changed (Content source) t = denied NoSuchPlace
+struct_changed change t = denied NoSuchPlace
 
 -- What is made where a part of a list, a text or data is written.
 abbrev pub part_written : Part → Tree → Making
@@ -155,7 +152,7 @@ part_written (ListElement n) t =
 part_written (TextByte i b) t = if_reached (λ x. x.length) i (with_lowest i 8 b t) (text_in nowhere t)
 part_written (DataByte i b) t = if_reached (λ x. x.length) i (with_lowest i 8 b t) (data_in nowhere t)
 
--- The value of an object that is made, and how many words it takes, its landing pad aside.
+-- The value of an object that is made.
 abbrev pub value_of : NewObject → Tree
 value_of (ZeroStruct size) = zero_struct size
 value_of (ZeroList size n) = zero_list (size_number size) n
@@ -164,14 +161,11 @@ value_of (ZeroText n) = zero_list 2 (n + 1)
 value_of (Text bytes) = Flat 2 (bytes.now ++ 0 ∷ [])
 value_of (Data bytes) = Flat 2 bytes.now
 
--- How many words an object takes that is made, its landing pad aside.
-abbrev pub words_made : NewObject → ℕ
-words_made (ZeroStruct size) = size.data_words + size.pointers
-words_made (ZeroList size n) = list_words (size_number size) n
-words_made (ZeroStructs n size) = 1 + n * (size.data_words + size.pointers)
-words_made (ZeroText n) = list_words 2 (n + 1)
-words_made (Text bytes) = words_for 2 (length bytes.now + 1)
-words_made (Data bytes) = words_for 2 (length bytes.now)
+-- What a search does with its default where t stands.
+abbrev pub default_for : Sought → Option (Bor (List ℕ)) → Tree → DefaultUse
+default_for ForText default t = blob_default default t
+default_for ForData default t = blob_default default t
+default_for sought default t = object_default default t
 
 -- What a task makes where a path leads; or by what name it is refused, and nothing is changed.
 abbrev pub made_at : Task → EndValue → Making
@@ -182,14 +176,9 @@ made_at (Make object) (PointerTo t) = allocates Null (value_of object)
 made_at (Point (Some i)) (PointerTo t) = becomes (Capability i)
 made_at (Point None) (PointerTo t) = becomes Null
 made_at (Write part) (PointerTo t) = part_written part t
-made_at (Search ForText default) (PointerTo t) = with_default (blob_default default t) (looked_for ForText) t
-made_at (Search ForData default) (PointerTo t) = with_default (blob_default default t) (looked_for ForData) t
-made_at (Search sought default) (PointerTo t) = with_default (object_default default t) (looked_for sought) t
+made_at (Search sought default) (PointerTo t) =
+    with_default (default_for sought default t) (looked_for sought) t
 made_at (CopyRoot c) (PointerTo t) = copies c
-
--- The names of a refusal for want of memory, or of room.
-abbrev pub IsOfMemory : ErrorKind → Type 0
-IsOfMemory k = (k ≡ AllocationFailed) ⊎ ((n : ℕ) × (k ≡ MessageTooLarge n))
 
 -- The names by which an operation is refused for what a path leads to, or doesn't.
 abbrev pub is_of_path : ErrorKind → Bool
@@ -217,11 +206,11 @@ pub data Yields (making : Making) (r : Option ErrorKind) (o : Option Tree) : Typ
   is_done : (u : Tree) → making ≡ becomes u → r ≡ None → o ≡ Some u → Yields making r o
   is_denied : (k : ErrorKind) → making ≡ denied k → r ≡ Some k → o ≡ None → Yields making r o
   is_allocated : (t u : Tree) → making ≡ allocates t u → r ≡ None → o ≡ Some u → Yields making r o
-  is_not_allocated : (t u : Tree) (k : ErrorKind) → making ≡ allocates t u → IsOfMemory k →
+  is_not_allocated : (t u : Tree) (k : ErrorKind) → making ≡ allocates t u → is_allocation_name k ≡ true →
       r ≡ Some k → o ≡ Some t → Yields making r o
   is_copied : (c : Copying) (u : Tree) → making ≡ copies c → Copies c u → r ≡ None → o ≡ Some u →
       Yields making r o
-  is_not_copied : (c : Copying) (k : ErrorKind) → making ≡ copies c → IsOfMemory k ⊎
+  is_not_copied : (c : Copying) (k : ErrorKind) → making ≡ copies c → (is_allocation_name k ≡ true) ⊎
       IsUnreadable c k → r ≡ Some k → o ≡ Some Null → Yields making r o
   is_unread : (c : Copying) (k : ErrorKind) → making ≡ copies c → HasNothingToCopy c k →
       r ≡ Some k → o ≡ None → Yields making r o
@@ -236,7 +225,7 @@ pub data Yields (making : Making) (r : Option ErrorKind) (o : Option Tree) : Typ
       (source : Source) (d q : ℕ) (k : ErrorKind) (u : Tree) →
       making ≡ fills source d q →
       (c : ContentRead source) × Fills source c d q u × (count c.children < min q c.from.pointers) ×
-      (IsOfMemory k ⊎ IsNextUnreadable source c k) →
+      ((is_allocation_name k ≡ true) ⊎ IsNextUnreadable source c k) →
       r ≡ Some k →
       o ≡ Some u →
       Yields making r o
@@ -258,7 +247,7 @@ pub data Leaves (making : Making) (r : Option ErrorKind) (o : Option Tree) : Typ
   default_dropped :
       (bytes : List ℕ) (made_of : Tree → Making) (k : ErrorKind) →
       making ≡ defaults bytes made_of →
-      IsOfMemory k ⊎ HasFault of_default (default_root bytes) k →
+      (is_allocation_name k ≡ true) ⊎ HasFault of_default (default_root bytes) k →
       r ≡ Some k →
       o ≡ Some Null →
       Leaves making r o
@@ -285,7 +274,7 @@ pub data CopiesRoot (S R : Segments) (place : PointerPlace) (c : Copying) (r : O
     : Type 0 where
   root_copied : (u : Tree) → Copies c u → r ≡ None → Puts S R place.segment place.word u →
       CopiesRoot S R place c r
-  root_not_copied : (k : ErrorKind) → IsOfMemory k ⊎ IsUnreadable c k → r ≡ Some k →
+  root_not_copied : (k : ErrorKind) → (is_allocation_name k ≡ true) ⊎ IsUnreadable c k → r ≡ Some k →
       Puts S R place.segment place.word Null → CopiesRoot S R place c r
   root_unread : (k : ErrorKind) → HasNothingToCopy c k → r ≡ Some k → R ≡ S → CopiesRoot S R place c r
 
@@ -309,7 +298,7 @@ pub data FillsAt (S R : Segments) (place : StructPlace) (source : Source) (r : O
       (f : Filling S place source) (k : ErrorKind) →
       count f.content.children < min place.pointers f.content.from.pointers →
       IsReplaced f.filled R place.segment (place.pointers_at + count f.content.children) Null Null →
-      IsOfMemory k ⊎ IsNextUnreadable source f.content k →
+      (is_allocation_name k ≡ true) ⊎ IsNextUnreadable source f.content k →
       r ≡ Some k →
       FillsAt S R place source r
   none_filled : (k : ErrorKind) → HasNothingToCopy (copying_from source AStruct false) k → R ≡ S →

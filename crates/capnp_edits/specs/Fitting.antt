@@ -2,6 +2,7 @@
 use Rattle.std.specs.Prelude.{◌≡◌, ◌≢◌, ⊤, ℕ, ◌+◌, ◌≤◌, true, List, [], ◌∷◌, length, Option, Some, None}
 use Rattle.capnp_words.specs.declared.error.ErrorKind.{ErrorKind}
 use Rattle.capnp_arena.specs.View.{View}
+use Rattle.capnp_format.specs.Canonical.{word_count}
 use Rattle.capnp_format.specs.Forest.{IsForest}
 use Rattle.capnp_format.specs.Segments.{Segments, segment}
 use Rattle.capnp_format.specs.Tree.{Tree}
@@ -9,13 +10,13 @@ use Rattle.capnp_edits.specs.declared.edit.Edit.{Edit}
 use Rattle.capnp_edits.specs.declared.edit.tasks.Task.{Task}
 use Rattle.capnp_edits.specs.declared.edit.tasks.Task.TheVariants.{Make, Point, InStruct, Write}
 use Rattle.capnp_edits.specs.declared.edit.tasks.StructChange.TheVariants.{Bits}
-use Rattle.capnp_edits.specs.Edits.{is_of_path, words_made}
+use Rattle.capnp_edits.specs.Edits.{is_of_path, value_of}
 use Rattle.capnp_edits.specs.Steps.{AreSteps}
 use Rattle.capnp_edits.specs.Tasks.{task_of}
 
--- How many words an edit's task asks for: those of the object that it makes.
+-- How many words an edit's task asks for: those of the value of the object that it makes.
 abbrev pub words_asked : Option Task → ℕ
-words_asked (Some (Make object)) = words_made object
+words_asked (Some (Make object)) = word_count (value_of object)
 words_asked task = 0
 
 abbrev pub all_asked : List Edit → ℕ

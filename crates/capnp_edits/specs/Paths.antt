@@ -42,14 +42,8 @@ found (Structs d q es) (Element i ∷ Child j ∷ path) =
     if nat_lt i (element_count es) && nat_lt j q then found (next (struct_at es i) (Child j)) path else None
 found t path = None
 
--- From a place that means t a path leads to the pointer at (u, q).
-pub record IsPointerFound (S : Segments) (s p : ℕ) (t : Tree) (path : List Step) (u q : ℕ) : Type 0 where
-  pub value : Tree
-  pub leads : PathLeads S s p t path u q value
-  pub end_value : found t path ≡ Some (PointerTo value)
-
--- It leads to an element e of the list of structs that the pointer at the end of a path one step
--- shorter means.
+-- From a place that means t a path leads to an element e of the list of structs that the pointer at
+-- the end of a path one step shorter means.
 pub record IsElementFound (S : Segments) (s p : ℕ) (t : Tree) (path : List Step)
     (e : ExistingStruct) : Type 0 where
   pub front : List Step
@@ -66,9 +60,12 @@ pub record IsElementFound (S : Segments) (s p : ℕ) (t : Tree) (path : List Ste
   pub start_is : e.start ≡ (target S list_segment list_at).start + 1 + index
       * (e.size.data_words + e.size.pointers)
 
--- Where a path leads; if nowhere, then no longer path leads anywhere.
+-- Where a path leads: to a pointer, which means a value, or to an element; if nowhere, then no longer
+-- path leads anywhere.
 abbrev pub IsPathFound : Segments → ℕ → ℕ → Tree → List Step → Option PathEnd → Type 0
-IsPathFound S s p t path (Some (AtPointer place)) = IsPointerFound S s p t path place.segment place.word
+IsPathFound S s p t path (Some (AtPointer place)) =
+    (x : Tree) × PathLeads S s p t path place.segment place.word x ×
+    (found t path ≡ Some (PointerTo x))
 IsPathFound S s p t path (Some (AtElement e)) = IsElementFound S s p t path e
 IsPathFound S s p t path None = (more : List Step) → found t (path ++ more) ≡ None
 

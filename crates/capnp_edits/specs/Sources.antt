@@ -9,10 +9,10 @@ use Rattle.capnp_words.specs.declared.wire_pointer.ElementSize.{ElementSize}
 use Rattle.capnp_words.specs.declared.wire_pointer.ElementSize.TheVariants.{Void, InlineComposite}
 use Rattle.capnp_words.specs.Sizes.{size_number}
 use Rattle.capnp_format.specs.Bytes.{message, words_of}
-use Rattle.capnp_format.specs.Canonical.{word_count, word_count_all}
-use Rattle.capnp_format.specs.Segments.{Segments, Target, segment, words_at, AreWords}
+use Rattle.capnp_format.specs.Canonical.{word_count_all}
+use Rattle.capnp_format.specs.Segments.{Target, segment, words_at}
 use Rattle.capnp_format.specs.Tree.{Tree, Null, Struct, Flat, Pointers, Structs, Trees, no_trees}
-use Rattle.capnp_format.specs.Tree.{count, capabilities}
+use Rattle.capnp_format.specs.Tree.{count}
 use Rattle.capnp_format.specs.Word.{kind, offset_bits, data_words, pointer_count, element_size, list_count}
 use Rattle.capnp_arena.specs.Checks.{Holds, misplaced}
 use Rattle.capnp_arena.specs.Limits.{whole}
@@ -22,17 +22,16 @@ use Rattle.capnp_making.specs.Near.{HasOwnRoom}
 use Rattle.capnp_objects.specs.Demands.{IsStructList, tag}
 use Rattle.capnp_objects.specs.Expected.{struct_expected, list_expected, Withheld}
 use Rattle.capnp_objects.specs.Faults.{child_at}
-use Rattle.capnp_objects.specs.Outcomes.{Reads, ReadsAll, Entered, MeansThere}
+use Rattle.capnp_objects.specs.Outcomes.{Reads, ReadsAll, Entered}
 use Rattle.capnp_objects.specs.Reading.{Reading, word_of, behind, tag_size}
 use Rattle.capnp_objects.specs.Refusals.{Refused}
 use Rattle.capnp_objects.specs.Source.{levels}
-use Rattle.capnp_objects.specs.Wanted.{AllowsCapabilities, plain}
+use Rattle.capnp_objects.specs.Wanted.{plain}
 use Rattle.capnp_readers.specs.Readers.{reading}
 use Rattle.capnp_readers.specs.declared.readers.PointerReader.{PointerReader}
-use Rattle.capnp_copies.specs.Changes.{Change, change}
+use Rattle.capnp_copies.specs.Changes.{Change}
 use Rattle.capnp_copies.specs.Forms.{form_of, kept}
 use Rattle.capnp_copies.specs.Originals.{Original, value_original, sections_original, list_original}
-use Rattle.capnp_making.specs.Makes.{CallAt}
 use Rattle.capnp_builders.specs.Laws.{HoldContent, up_to}
 use Rattle.capnp_edits.specs.declared.edit.Source.{Source}
 use Rattle.capnp_edits.specs.declared.edit.copying.Copying.{Copying}
@@ -46,15 +45,11 @@ abbrev pub copying_from : Source → Wanted → Bool → Copying
 copying_from source wanted canonicalize =
     record { source = source; wanted = wanted; canonicalize = canonicalize }
 
--- The segments of a source, and its root, read within the nesting limit.
-abbrev pub words_in : Source → Segments
-words_in source = message (map whole (map (λ s. s.now) source.arena.now.segments.segments.now))
-
 -- The root of a source, read within its nesting limit.
 abbrev pub root_of : Source → Reading
 root_of source =
     record {
-      segments = words_in source;
+      segments = message (map whole (map (λ s. s.now) source.arena.now.segments.segments.now));
       charging = true;
       of_default = false;
       levels = levels source.arena.now.nesting_limit;
@@ -68,7 +63,7 @@ once_at_root source = charged true (unused source.budget) 1
 
 -- The root is there, and the limiter covers its word.
 abbrev pub HasRoot : Source → Type 0
-HasRoot source = Holds (words_in source) 0 0 1 × Affords true (unused source.budget) 1
+HasRoot source = Holds (root_of source).segments 0 0 1 × Affords true (unused source.budget) 1
 
 -- The value that is copied where a root means t: t itself; but where a struct or a list is wanted,
 -- of null one of nothing, and none where t is of another kind, or a list of bits.
@@ -85,9 +80,9 @@ as_wanted wanted t = None
 -- The root isn't reached, by the name k.
 abbrev pub IsRootless : Source → ErrorKind → Type 0
 IsRootless source k =
-    (HasRoot source → ⊥) × ((Holds (words_in source) 0 0 1 → ⊥) →
-    k ≡ misplaced (words_in source) 0 (InvalidSegmentId 0))
-    × (Holds (words_in source) 0 0 1 → k ≡ ReadLimitExceeded)
+    (HasRoot source → ⊥) × ((Holds (root_of source).segments 0 0 1 → ⊥) →
+    k ≡ misplaced (root_of source).segments 0 (InvalidSegmentId 0))
+    × (Holds (root_of source).segments 0 0 1 → k ≡ ReadLimitExceeded)
 
 -- A reader is at the root, whose word is charged.
 pub record IsRootReader {A : Type 0} (g : Ghosts A) (source : Source) (from : PointerReader A g)
@@ -117,27 +112,6 @@ pub record Copies (c : Copying) (u : Tree) : Type 0 where
   pub copied : Tree
   pub is_wanted : as_wanted c.wanted value ≡ Some copied
   pub is_kept : u ≡ kept (form_of c.canonicalize) copied
-
--- A place means a value that is as wanted, in canonical form one without capabilities, at a cost
--- that the limiter covers, and the words to be kept of it fit behind so many words of a segment
--- with this room.
-pub record CanBeCopiedAs (c : Copying) (r : Reading) (m : Meter) (used room : ℕ) : Type 0 where
-  pub value : Tree
-  pub cost : ℕ
-  pub means : MeansThere r value cost
-  pub takes : AllowsCapabilities (form_of c.canonicalize) (capabilities value)
-  pub covers : Affords r.charging m cost
-  pub copied : Tree
-  pub is_wanted : as_wanted c.wanted value ≡ Some copied
-  pub fits : used + word_count (kept (form_of c.canonicalize) copied) ≤ room
-
--- The root means such a value, and the words that a copy keeps of it fit behind those of segment
--- id. Of a list, the words of the source are below 2^64, as the words of bytes are.
-pub record FitsBehind (v : View) (id : ℕ) (c : Copying) : Type 0 where
-  pub root : HasRoot c.source
-  pub words : c.wanted ≡ AList → AreWords (words_in c.source)
-  pub fits : CanBeCopiedAs c (root_of c.source) (once_at_root c.source)
-      (length (segment v.words id)) (v.room id)
 
 -- The root is reached, and reading what it means is refused by the name k.
 abbrev pub IsUnreadable : Copying → ErrorKind → Type 0
@@ -234,11 +208,6 @@ OfWanted AStruct r c Says = (s : Sections) × LeadsToStruct r c.before s ×
     Says (sections_original s.words s.first s.pointers) (record c { before = s.limiter })
 OfWanted AList r c Says = (l : ListElements) × (m : Meter) × LeadsToList r c.before m l ×
     Says (list_original l.size l.sections l.count l.first) (record c { before = m })
-
--- A copy that a call makes at a place; what is left of its limiter then is m.
-abbrev pub copy_at : CallAt → Copying → Meter → Change
-copy_at call c m =
-    change (form_of c.canonicalize) call.segment call.at call.old call.new (once_at_root c.source) m
 
 -- Where there is a value to be copied, reading isn't refused.
 abbrev pub CopiedOrRefused : Type 0

@@ -6,74 +6,59 @@ use Rattle.capnp_words.specs.Meter.{Meter}
 use Rattle.capnp_words.specs.declared.error.ErrorKind.{ErrorKind}
 use Rattle.capnp_words.specs.declared.error.ErrorKind.TheVariants.{NoSuchPlace}
 use Rattle.capnp_arena.specs.View.{View, KeepsLimits}
+use Rattle.capnp_format.specs.Canonical.{word_count}
 use Rattle.capnp_format.specs.Forest.{IsForest, target}
-use Rattle.capnp_format.specs.Segments.{Segments, segment}
-use Rattle.capnp_format.specs.Tree.{Tree, count}
-use Rattle.capnp_making.specs.Existing.{struct_in, data_in, text_in}
+use Rattle.capnp_format.specs.Segments.{AreWords, Segments, segment}
+use Rattle.capnp_format.specs.Tree.{Tree, Null, count}
+use Rattle.capnp_making.specs.Existing.{struct_in}
+use Rattle.capnp_making.specs.Makes.{CallAt, call_at}
 use Rattle.capnp_making.specs.Memory.{HasRoom, IsRefusedFor, KeepsMemory, SpendsMemory}
 use Rattle.capnp_making.specs.Memory.{StandsBehind, TakesWords, start_of}
+use Rattle.capnp_making.specs.Near.{HasOwnRoom}
 use Rattle.capnp_making.specs.Path.{PathLeads}
 use Rattle.capnp_making.specs.Stored.{IsStored}
 use Rattle.capnp_making.specs.Zeroed.{IsPruned}
-use Rattle.capnp_making.specs.declared.existing.ExistingBytes.{ExistingBytes}
 use Rattle.capnp_making.specs.declared.existing.ExistingStruct.{ExistingStruct}
 use Rattle.capnp_objects.specs.Reading.{behind}
 use Rattle.capnp_objects.specs.Refusals.{Refused}
 use Rattle.capnp_objects.specs.Wanted.{plain}
 use Rattle.capnp_readers.specs.declared.readers.PointerPlace.{PointerPlace}
-use Rattle.capnp_readers.specs.declared.readers.list_reader.ListPlace.{ListPlace}
 use Rattle.capnp_readers.specs.declared.readers.struct_reader.StructPlace.{StructPlace}
 use Rattle.capnp_copies.specs.Changes.{ComesToObject, FindsNoRoom, IsTooLarge, RefusesToCopy, change}
+use Rattle.capnp_copies.specs.Forms.{form_of}
 use Rattle.capnp_copies.specs.Growth.{TakesAtMost}
 use Rattle.capnp_copies.specs.Originals.{children_original, value_original}
-use Rattle.capnp_builders.specs.Content.{pointers_copied}
-use Rattle.capnp_making.specs.Makes.{CallAt, call_at}
-use Rattle.capnp_widening.specs.Opening.{struct_opened}
-use Rattle.capnp_widening.specs.Rooms.{RefusesToBecome}
+use Rattle.capnp_widening.specs.Anew.{OnlyWrites}
+use Rattle.capnp_widening.specs.Opening.{Opens, struct_opened}
+use Rattle.capnp_widening.specs.Rooms.{HasRoomFor, RefusesToBecome}
 use Rattle.capnp_widening.specs.Widened.{list_widened}
-use Rattle.capnp_builders.specs.Defaults.{RefusesDefault, DefaultFits, default_copy}
-use Rattle.capnp_builders.specs.Found.{FindsList, FindsBytes}
+use Rattle.capnp_builders.specs.Content.{pointers_copied}
+use Rattle.capnp_builders.specs.Defaults.{RefusesDefault, DefaultFits, FitsWithDefault, WithDefault}
+use Rattle.capnp_builders.specs.Defaults.{default_copy, object_default}
 use Rattle.capnp_builders.specs.Laws.{TakesBytes}
-use Rattle.capnp_builders.specs.Opening.{FindsStruct, FindsStructs, StructFindFits, StructsFindFits}
 use Rattle.capnp_builders.specs.Places.{struct_place}
 use Rattle.capnp_edits.specs.declared.edit.Edit.{Edit}
 use Rattle.capnp_edits.specs.declared.edit.Source.{Source}
 use Rattle.capnp_edits.specs.declared.edit.copying.Copying.{Copying}
 use Rattle.capnp_edits.specs.declared.edit.copying.Wanted.TheVariants.{Struct as AStruct}
+use Rattle.capnp_edits.specs.declared.edit.copying.Wanted.TheVariants.{List as AList}
 use Rattle.capnp_edits.specs.declared.edit.tasks.Task.{Task}
 use Rattle.capnp_edits.specs.declared.edit.tasks.Task.TheVariants.{Make, InStruct, Search, CopyRoot}
 use Rattle.capnp_edits.specs.declared.edit.tasks.StructChange.{StructChange}
 use Rattle.capnp_edits.specs.declared.edit.tasks.StructChange.TheVariants.{Bits, Content}
 use Rattle.capnp_edits.specs.declared.edit.tasks.Sought.{Sought}
 use Rattle.capnp_edits.specs.declared.edit.tasks.Sought.TheVariants.{Struct as ForStruct}
-use Rattle.capnp_edits.specs.declared.edit.tasks.Sought.TheVariants.{List as ForList}
 use Rattle.capnp_edits.specs.declared.edit.tasks.Sought.TheVariants.{StructList as ForStructs}
-use Rattle.capnp_edits.specs.declared.edit.tasks.Sought.TheVariants.{Text as ForText}
-use Rattle.capnp_edits.specs.declared.edit.tasks.Sought.TheVariants.{Data as ForData}
 use Rattle.capnp_edits.specs.Tasks.{task_of}
 use Rattle.capnp_edits.specs.declared.edit.path.PathEnd.{PathEnd}
 use Rattle.capnp_edits.specs.declared.edit.path.PathEnd.TheVariants.{Pointer as AtPointer}
 use Rattle.capnp_edits.specs.declared.edit.path.PathEnd.TheVariants.{Element as AtElement}
 use Rattle.capnp_edits.specs.Paths.{PointerTo, path_of, IsPathFound}
 use Rattle.capnp_edits.specs.Sources.{copying_from, root_of, once_at_root, Sections, LeadsToStruct}
-use Rattle.capnp_edits.specs.Sources.{ContentRead, ContentFitsBehind, HasNothingToCopy, FitsBehind}
-use Rattle.capnp_edits.specs.Sources.{copy_at, OfWanted}
-use Rattle.capnp_edits.specs.Edits.{refusal_of, is_of_path, words_made, refusals_after, Changes}
-use Rattle.capnp_edits.specs.Edits.{DoesAt, made_at, IsApplied, Takes}
-
--- A call at the place of a pointer.
-abbrev pub call_to : PointerPlace → View → View → CallAt
-call_to place old new = call_at place.segment place.word old new
-
--- Every segment has as many words as before.
-abbrev pub KeepsLengths : Segments → Segments → Type 0
-KeepsLengths S R = (v : ℕ) → length (segment R v) ≡ length (segment S v)
-
--- No words are taken, and nothing but words is changed: every segment has as many as before, and as
--- much room.
-pub record TakesNoWords (old new : View) : Type 0 where
-  pub lengths : KeepsLengths old.words new.words
-  pub limits : KeepsLimits old new
+use Rattle.capnp_edits.specs.Sources.{ContentRead, ContentFitsBehind, Copies, HasNothingToCopy}
+use Rattle.capnp_edits.specs.Sources.{OfWanted}
+use Rattle.capnp_edits.specs.Edits.{is_of_path, refusals_after, value_of, looked_for, Yields}
+use Rattle.capnp_edits.specs.Edits.{Changes, DoesAt, default_for, made_at, IsApplied, Takes}
 
 -- An object of n words is made at a pointer, behind all words that were there: just these are
 -- taken, and every segment has as much room as before.
@@ -82,48 +67,61 @@ pub record TakesForObject (old new : View) (place : PointerPlace) (n : ℕ) : Ty
   pub behind : StandsBehind old place.segment n (start_of (target new.words place.segment place.word))
   pub memory : KeepsMemory old new
 
--- The struct that a pointer leads to, if it holds a value.
-abbrev pub IsStructAt : Segments → PointerPlace → ExistingStruct → Type 0
-IsStructAt S place e = (t : Tree) → IsStored S place.segment place.word t →
+-- The struct at the end of a path, if one is there: an element of a list; or what a pointer leads to,
+-- if it holds a value.
+abbrev pub IsStructAt : Segments → PathEnd → ExistingStruct → Type 0
+IsStructAt S (AtPointer place) e = (t : Tree) → IsStored S place.segment place.word t →
     Some e ≡ struct_in (target S place.segment place.word) t
+IsStructAt S (AtElement x) e = e ≡ x
 
--- There is nothing to be copied, by the name k, and all is as it was.
-abbrev pub CopiesNothing : Copying → View → View → ErrorKind → Type 0
-CopiesNothing c old new k = HasNothingToCopy c k × (new ≡ old)
+-- An outcome as a call has it.
+abbrev pub result_of : Option ErrorKind → Result ⊤ ErrorKind
+result_of None = Ok tt
+result_of (Some k) = Err k
+
+-- The root of a source is copied as is wanted, with this outcome: there is nothing to be copied, and
+-- all is as it was; or the copy takes at most as many words as reading it costs, its own that cost
+-- nothing, and the landing pads, in all or as far as it was read; and it is refused as the copy of
+-- what was read is, an object finding no room or reading being refused.
+abbrev pub CopiesWhole : CallAt → Copying → Option ErrorKind → Type 0
+CopiesWhole call c r =
+    (IsSomeAnd r (HasNothingToCopy c) × (call.new ≡ call.old)) ⊎
+    ((m : Meter) × OfWanted c.wanted (root_of c.source) (change (form_of c.canonicalize)
+    call.segment call.at call.old call.new (once_at_root c.source) m)
+    (λ o d. TakesAtMost (result_of r) o d × IfSome r (RefusesToCopy o d)))
 
 -- Room.
 
--- What a change makes of a struct has room: what the pointers mean that are copied over it. Bits
--- ask for none.
-abbrev pub ChangeFits : View → ExistingStruct → StructChange → Type 0
-ChangeFits old e (Bits n) = ⊤
-ChangeFits old e (Content source) = ContentFitsBehind old e.segment source e.size.pointers
+-- A place stores some value, and there is room for what becomes of the value that stands once the
+-- default is put, as opened has it.
+abbrev pub OpeningHasRoom : (Tree → Result Tree ErrorKind) → Option (Bor (List ℕ)) → View →
+    PointerPlace → Type 0
+OpeningHasRoom opened default old place =
+    (t : Tree) × IsStored old.words place.segment place.word t ×
+    FitsWithDefault (object_default default t) old place.segment place.word
+    (λ v. (x : Tree) × (u : Tree) × IsStored v.words place.segment place.word x × (opened x ≡ Ok u) ×
+    HasRoomFor v place.segment place.word x u)
 
 -- What a task makes has room where it is done, as the builder's call asks for it: at a pointer the
--- words of one object; what is kept of a copy; a change of the struct there; the value of a
--- default, and what becomes of a struct or a list of structs that is opened; at an element of a
--- list, which is a struct, a change of that. A task that takes no words asks for none.
+-- words of one object; what is kept of a copy, where of a list the words of its source are below
+-- 2^64, as the words of bytes are; the value of a default, and what becomes of a struct or a list of
+-- structs that is opened; in a struct what the pointers mean that are copied over it. A task that
+-- takes no words asks for none.
 abbrev pub FitsAt : View → Task → PathEnd → Type 0
-FitsAt old (Make object) (AtPointer place) = HasRoom old place.segment (words_made object)
-FitsAt old (InStruct change) (AtPointer place) =
-    (e : ExistingStruct) → IsStructAt old.words place e → ChangeFits old e change
-FitsAt old (InStruct change) (AtElement e) = ChangeFits old e change
+FitsAt old (Make object) (AtPointer place) = HasRoom old place.segment (word_count (value_of object))
+FitsAt old (InStruct (Content source)) there = (e : ExistingStruct) → IsStructAt old.words there e →
+    ContentFitsBehind old e.segment source e.size.pointers
 FitsAt old (Search (ForStruct size) default) (AtPointer place) =
-    StructFindFits size default old place.segment place.word
+    OpeningHasRoom (struct_opened size) default old place
 FitsAt old (Search (ForStructs size) default) (AtPointer place) =
-    StructsFindFits size default old place.segment place.word
+    OpeningHasRoom (list_widened size.data_words size.pointers) default old place
 FitsAt old (Search sought default) (AtPointer place) = DefaultFits default old place.segment
-FitsAt old (CopyRoot c) (AtPointer place) = FitsBehind old place.segment c
+FitsAt old (CopyRoot c) (AtPointer place) =
+    (u : Tree) × Copies c u × (c.wanted ≡ AList → AreWords (root_of c.source).segments) ×
+    HasOwnRoom old place.segment (word_count u)
 FitsAt old task there = ⊤
 
 -- Refusals.
-
--- The copy of a whole value is refused by a name: its source isn't read, and all is as it was; or
--- as the copy of what was read is, an object finding no room or reading being refused.
-abbrev pub IsWholeRefused : CallAt → Copying → ErrorKind → Type 0
-IsWholeRefused call c k = CopiesNothing c call.old call.new k ⊎
-    ((m : Meter) × OfWanted c.wanted (root_of c.source) (copy_at call c m)
-    (λ o d. RefusesToCopy o d k))
 
 -- A struct takes the data of a source's struct, and then the copy of one of the pointers that both
 -- have is refused by the name k: the arena has no room for an object of what it means; or it can't
@@ -145,23 +143,15 @@ pub record StopsFilling (old new : View) (place : StructPlace) (source : Source)
       (pointers_copied place taken new content.from.limiter after))
       ⊎ Refused plain (behind content.from.first (count content.children)) content.after after k
 
--- Content isn't copied over a struct, or not all of it.
-abbrev pub IsContentRefused : View → View → StructPlace → Source → ErrorKind → Type 0
-IsContentRefused old new place source k =
-    CopiesNothing (copying_from source AStruct false) old new k ⊎ StopsFilling old new place source k
-
--- Memory is refused for what becomes of the struct or of the list of structs that is looked for.
-abbrev pub IsGrowthRefused : Sought → CallAt → ErrorKind → Type 0
-IsGrowthRefused (ForStruct size) c k =
-    RefusesToBecome (IsStored c.old.words c.segment c.at) (struct_opened size) c.old c.new k
-IsGrowthRefused (ForStructs size) c k =
-    RefusesToBecome (IsStored c.old.words c.segment c.at)
-    (list_widened size.data_words size.pointers) c.old c.new k
-IsGrowthRefused sought c k = ⊥
-
--- What is looked for isn't opened: all is as it was; or memory is refused for what becomes of it.
+-- What is looked for isn't opened: all is as it was; or, of a struct or a list of structs, memory is
+-- refused for what becomes of it.
 abbrev pub IsOpeningRefused : Sought → CallAt → ErrorKind → Type 0
-IsOpeningRefused sought c k = (c.new ≡ c.old) ⊎ IsGrowthRefused sought c k
+IsOpeningRefused (ForStruct size) c k = (c.new ≡ c.old) ⊎
+    RefusesToBecome (IsStored c.old.words c.segment c.at) (struct_opened size) c.old c.new k
+IsOpeningRefused (ForStructs size) c k =
+    (c.new ≡ c.old) ⊎ RefusesToBecome (IsStored c.old.words c.segment c.at)
+    (list_widened size.data_words size.pointers) c.old c.new k
+IsOpeningRefused sought c k = c.new ≡ c.old
 
 -- A search is refused: where a default's value is put in place of null first, from there on; or its copy is.
 abbrev pub IsSearchRefused : Sought → CallAt → Option (Bor (List ℕ)) → ErrorKind → Type 0
@@ -171,21 +161,19 @@ IsSearchRefused sought call (Some default) k =
     ⊎ (SpendsMemory call.old call.new k ×
     RefusesDefault default.now (default_copy call.segment call.at call.old call.new) k)
 
--- A change of a struct is refused by the name k, but for a place.
-abbrev pub IsChangeRefused : View → View → ExistingStruct → StructChange → ErrorKind → Type 0
-IsChangeRefused old new e (Bits n) k = ⊥
-IsChangeRefused old new e (Content source) k = IsContentRefused old new (struct_place e) source k
-
 -- The builder's call is refused by a name where a task is done. One that makes an object is so for
 -- want of memory or room for its words, and truly.
 abbrev pub IsRefusedAt : View → View → Task → ErrorKind → PathEnd → Type 0
-IsRefusedAt old new (Make object) k (AtPointer place) = IsRefusedFor old new (words_made object) k
-IsRefusedAt old new (InStruct change) k (AtPointer place) =
-    (e : ExistingStruct) × IsStructAt old.words place e × IsChangeRefused old new e change k
-IsRefusedAt old new (InStruct change) k (AtElement e) = IsChangeRefused old new e change k
+IsRefusedAt old new (Make object) k (AtPointer place) =
+    IsRefusedFor old new (word_count (value_of object)) k
+IsRefusedAt old new (InStruct (Content source)) k there =
+    (e : ExistingStruct) × IsStructAt old.words there e ×
+    ((HasNothingToCopy (copying_from source AStruct false) k × (new ≡ old)) ⊎
+    StopsFilling old new (struct_place e) source k)
 IsRefusedAt old new (Search sought default) k (AtPointer place) =
-    IsSearchRefused sought (call_to place old new) default k
-IsRefusedAt old new (CopyRoot c) k (AtPointer place) = IsWholeRefused (call_to place old new) c k
+    IsSearchRefused sought (call_at place.segment place.word old new) default k
+IsRefusedAt old new (CopyRoot c) k (AtPointer place) =
+    CopiesWhole (call_at place.segment place.word old new) c (Some k)
 IsRefusedAt old new task k there = ⊥
 
 -- A refusal by a name is for what the path leads to, and all is as it was.
@@ -194,62 +182,39 @@ IsOfPath old new k = (is_of_path k ≡ true) × (new ≡ old)
 
 -- Words that are taken.
 
--- An outcome as a call has it.
-abbrev pub result_of : Option ErrorKind → Result ⊤ ErrorKind
-result_of None = Ok tt
-result_of (Some k) = Err k
-
--- A copy of what the root leads to takes at most as many words as reading it costs, its own that
--- cost nothing, and the landing pads: in all, or as far as it was read.
-abbrev pub TakesForWhole : CallAt → Copying → Option ErrorKind → Type 0
-TakesForWhole call c r =
-    IsSomeAnd r (CopiesNothing c call.old call.new) ⊎
-    ((m : Meter) × OfWanted c.wanted (root_of c.source) (copy_at call c m)
-    (TakesAtMost (result_of r)))
-
--- Over a struct, words are taken for the copies of the pointers that both have alone.
-abbrev pub TakesForContentFrom : View → View → StructPlace → Source → Option ErrorKind → Type 0
-TakesForContentFrom old new place source r =
-    IsSomeAnd r (CopiesNothing (copying_from source AStruct false) old new)
-    ⊎ (
-    (s : Sections) × (m : Meter) × LeadsToStruct (root_of source) (once_at_root source) s
-    × TakesAtMost (result_of r) (children_original s.first (min place.pointers s.pointers))
-    (change plain place.segment place.pointers_at old new s.limiter m)
-    )
-
--- A search of a value that stands does as the builder's call says, which finds something, or is
--- refused by the same name.
-abbrev pub FindsSought : Sought → Option (Bor (List ℕ)) → Option ErrorKind → CallAt → Tree → Type 0
-FindsSought (ForStruct size) default r call t =
-    (result : Result StructPlace ErrorKind) × (refusal_of result ≡ r) × FindsStruct size default result call t
-FindsSought (ForList size) default r call t =
-    (result : Result ListPlace ErrorKind) × (refusal_of result ≡ r) × FindsList size default result call t
-FindsSought (ForStructs size) default r call t =
-    (result : Result ListPlace ErrorKind) × (refusal_of result ≡ r) × FindsStructs size default result call t
-FindsSought ForText default r call t =
-    (result : Result ExistingBytes ErrorKind) × (refusal_of result ≡ r) ×
-    FindsBytes text_in default result call t
-FindsSought ForData default r call t =
-    (result : Result ExistingBytes ErrorKind) × (refusal_of result ≡ r) ×
-    FindsBytes data_in default result call t
-
--- The words that a change of a struct takes.
+-- A change of a struct takes no words for bits, and for content those of the copies of the pointers
+-- that both have alone.
 abbrev pub TakesForChange : View → View → ExistingStruct → StructChange → Option ErrorKind → Type 0
-TakesForChange old new e (Bits n) r = TakesNoWords old new
-TakesForChange old new e (Content source) r = TakesForContentFrom old new (struct_place e) source r
+TakesForChange old new e (Bits n) r = OnlyWrites old new
+TakesForChange old new e (Content source) r =
+    (IsSomeAnd r (HasNothingToCopy (copying_from source AStruct false)) × (new ≡ old)) ⊎
+    ((s : Sections) × (m : Meter) × LeadsToStruct (root_of source) (once_at_root source) s ×
+    TakesAtMost (result_of r) (children_original s.first (min e.size.pointers s.pointers))
+    (pointers_copied (struct_place e) old new s.limiter m))
+
+-- What is looked for is found where t stands, or refused: a struct or a list of structs is opened,
+-- where null is no list; a list, a text or data stays as it is, and nothing is changed.
+abbrev pub FindsSought : Sought → Option ErrorKind → CallAt → Tree → Type 0
+FindsSought (ForStruct size) r c t = Opens size (λ S s p u b. ⊤) c t (struct_opened size t) (result_of r)
+FindsSought (ForStructs size) r c Null = (r ≡ None) × (c.new ≡ c.old)
+FindsSought (ForStructs size) r c t =
+    Opens size (λ S s p u b. ⊤) c t (list_widened size.data_words size.pointers t) (result_of r)
+FindsSought sought r c t = (o : Option Tree) × Yields (looked_for sought t) r o × (c.new ≡ c.old)
 
 -- A task takes words as the builder's call says where it is done. An object that is refused takes none.
 abbrev pub TakesAt : View → View → Task → Option ErrorKind → PathEnd → Type 0
-TakesAt old new (Make object) None (AtPointer place) = TakesForObject old new place (words_made object)
+TakesAt old new (Make object) None (AtPointer place) =
+    TakesForObject old new place (word_count (value_of object))
 TakesAt old new (Make object) (Some k) (AtPointer place) = IsPruned old.words new.words
-TakesAt old new (InStruct change) r (AtPointer place) =
-    (e : ExistingStruct) × IsStructAt old.words place e × TakesForChange old new e change r
-TakesAt old new (InStruct change) r (AtElement e) = TakesForChange old new e change r
+TakesAt old new (InStruct change) r there =
+    (e : ExistingStruct) × IsStructAt old.words there e × TakesForChange old new e change r
 TakesAt old new (Search sought default) r (AtPointer place) =
     (t : Tree) → IsStored old.words place.segment place.word t →
-    FindsSought sought default r (call_to place old new) t
-TakesAt old new (CopyRoot c) r (AtPointer place) = TakesForWhole (call_to place old new) c r
-TakesAt old new task r there = TakesNoWords old new
+    WithDefault (default_for sought default t) (call_at place.segment place.word old new) t
+    (FindsSought sought r) (result_of r)
+TakesAt old new (CopyRoot c) r (AtPointer place) =
+    CopiesWhole (call_at place.segment place.word old new) c r
+TakesAt old new task r there = OnlyWrites old new
 
 -- Calls at a place.
 
@@ -271,8 +236,10 @@ pub record IsChanged (old new : View) (e : ExistingStruct) (change : StructChang
     (r : Option ErrorKind) : Type 0 where
   pub done : Changes old.words new.words e change r
   pub counted : new.refusals ≡ refusals_after r old.refusals
-  pub named : (k : ErrorKind) → r ≡ Some k → IsOfPath old new k ⊎ IsChangeRefused old new e change k
-  pub fits : ChangeFits old e change → (k : ErrorKind) → r ≡ Some k → is_of_path k ≡ true
+  pub named : (k : ErrorKind) → r ≡ Some k → IsOfPath old new k ⊎
+      IsRefusedAt old new (InStruct change) k (AtElement e)
+  pub fits : FitsAt old (InStruct change) (AtElement e) → (k : ErrorKind) → r ≡ Some k →
+      is_of_path k ≡ true
   pub nowhere : r ≡ Some NoSuchPlace → new ≡ old
   pub taken : TakesForChange old new e change r
 

@@ -1,9 +1,11 @@
 //! Edits that copy from another message.
 ghost use Rattle.std.specs.Prelude.{◌≡◌, IsOk, IfOk, IfErr};
 ghost use Rattle.capnp_builders.specs.Building.{built, calling, IsThere};
-ghost use Rattle.capnp_edits.specs.Sources.{FitsBehind, IsRootReader, IsRootless};
+ghost use Rattle.capnp_edits.specs.declared.edit.path.PathEnd.TheVariants.{Pointer as AtPointer};
+ghost use Rattle.capnp_edits.specs.declared.edit.tasks.Task.TheVariants.{CopyRoot};
+ghost use Rattle.capnp_edits.specs.Sources.{IsRootReader, IsRootless};
 ghost use Rattle.capnp_edits.specs.Edits.{refusal_of, place_of, refusals_after, CopiesRoot};
-ghost use Rattle.capnp_edits.specs.Steps.{IsWholeRefused, TakesForWhole};
+ghost use Rattle.capnp_edits.specs.Steps.{FitsAt, CopiesWhole};
 
 use crate::edit::Source;
 use capnp_arena::arena::{BuilderArena, ReaderArena, ReaderArenaImpl, SegmentArray};
@@ -62,12 +64,10 @@ pub(crate) fn copy_root<A: BuilderArena>(
         (refusal_of result) }
     ensures counted { (A.view pointer.new.arena.now).refusals
         ≡ refusals_after (refusal_of result) (A.view pointer.old.arena.now).refusals }
-    ensures named { IfErr result
-        (IsWholeRefused (calling A.view pointer.old pointer.new) copying.entry) }
-    ensures taken { TakesForWhole (calling A.view pointer.old pointer.new) copying.entry
+    ensures taken { CopiesWhole (calling A.view pointer.old pointer.new) copying.entry
         (refusal_of result) }
-    ensures fits { FitsBehind (A.view pointer.old.arena.now) pointer.old.segment copying.entry
-        → IsOk result }
+    ensures fits { FitsAt (A.view pointer.old.arena.now) (CopyRoot copying.entry)
+        (AtPointer (place_of pointer.old)) → IsOk result }
     ensures same { pointer.new.arena.ghost_name ≡ pointer.old.arena.ghost_name }
 {
     let (root, mut lim) = open_source(copying.source)?;

@@ -1,15 +1,16 @@
 //! Changes of a struct, and those that copy the content of a struct of another message.
 ghost use Rattle.std.specs.Prelude.{◌≡◌, ◌+◌, None, true, IsOk, IfOk, IfErr, IfSome};
-ghost use Rattle.capnp_arena.specs.View.{View};
 ghost use Rattle.capnp_making.specs.Existing.{StructLiesIn};
 ghost use Rattle.capnp_readers.specs.Readers.{IsStructPlace};
 ghost use Rattle.capnp_builders.specs.Places.{IsAligned, struct_place};
 ghost use Rattle.capnp_builders.specs.Content.{TakesContent, StopsAtContent, ContentFits, TakesForContent as TakesForCopy, pointers_copied};
+ghost use Rattle.capnp_edits.specs.declared.edit.path.PathEnd.TheVariants.{Element as AtElement};
+ghost use Rattle.capnp_edits.specs.declared.edit.tasks.StructChange.TheVariants.{Content};
 ghost use Rattle.capnp_edits.specs.declared.edit.tasks.Task.TheVariants.{InStruct};
 ghost use Rattle.capnp_edits.specs.Sources.{ContentFitsBehind};
 ghost use Rattle.capnp_edits.specs.Tasks.{is_in_range};
 ghost use Rattle.capnp_edits.specs.Edits.{refusal_of, FillsAt, refusals_after};
-ghost use Rattle.capnp_edits.specs.Steps.{IsChanged, IsContentRefused, TakesForContentFrom};
+ghost use Rattle.capnp_edits.specs.Steps.{IsChanged, IsRefusedAt, TakesForChange};
 
 use crate::edit::Source;
 use crate::edit::copying::open_source;
@@ -73,10 +74,10 @@ pub(crate) fn fill<A: BuilderArena>(
         (struct_place parent) source.entry (refusal_of result) }
     ensures counted { (A.view arena.new).refusals ≡ refusals_after (refusal_of result)
         (A.view arena.old).refusals }
-    ensures named { IfErr result (IsContentRefused (A.view arena.old) (A.view arena.new)
-        (struct_place parent) source.entry) }
-    ensures taken { TakesForContentFrom (A.view arena.old) (A.view arena.new)
-        (struct_place parent) source.entry (refusal_of result) }
+    ensures named { IfErr result (λ k. IsRefusedAt (A.view arena.old) (A.view arena.new)
+        (InStruct (Content source.entry)) k (AtElement parent)) }
+    ensures taken { TakesForChange (A.view arena.old) (A.view arena.new) parent
+        (Content source.entry) (refusal_of result) }
     ensures fits { ContentFitsBehind (A.view arena.old) parent.segment source.entry
         parent.size.pointers → IsOk result }
 {

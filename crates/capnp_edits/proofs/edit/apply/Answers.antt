@@ -1,4 +1,4 @@
-use Rattle.std.proofs.Common.{◌≡◌, true, Some, None, sym, ap, ◌∙◌, subst}
+use Rattle.std.proofs.Common.{◌≡◌, true, Some, None, refl, sym, ap, ◌∙◌, subst}
 use Rattle.std.proofs.lemmas.Bool.{false≢true}
 use Rattle.capnp_format.specs.Tree.{Tree}
 use Rattle.capnp_making.specs.Stored.{IsStored}
@@ -51,7 +51,7 @@ returns-in-InStruct g c =
     let leads : (t : Tree) → IsStored old.words 0 0 t → IsPathFound old.words 0 0 t (path_of e.path.now) (Some (AtElement there)) =
     λ t stored. subst (IsPathFound old.words 0 0 t (path_of e.path.now)) (ap Some c.in-Element.is) (c.in-Some.ensures.found t stored) in
     step_at old new e (AtElement there) (InStruct change) (refusal_of c.change_struct.result) is (c.has_words.ensures.enough.0 c.if-not-has_words.false) (element_applied old.words new.words e there change _ is leads done.done) done.counted leads
-    done.named done.fits done.nowhere (λ some. done.taken)
+    done.named done.fits done.nowhere (λ some. (there, refl, done.taken))
 
 pub returns-in_default-task : goal.returns-in_default-task
 returns-in_default-task g c =

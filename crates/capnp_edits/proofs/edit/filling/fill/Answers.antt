@@ -4,10 +4,9 @@ use Rattle.capnp_readers.specs.declared.readers.struct_reader.StructPlace.{Struc
 use Rattle.capnp_edits.specs.declared.edit.copying.Wanted.TheVariants.{Struct as AStruct}
 use Rattle.capnp_edits.specs.Sources.{copying_from, ContentFitsBehind}
 use Rattle.capnp_edits.specs.Edits.{refusal_of, FillsAt, none_filled}
-use Rattle.capnp_edits.specs.Steps.{IsContentRefused, TakesForContentFrom}
 use Rattle.capnp_edits.proofs.Copied.{unread_counted, struct_unread}
 use Rattle.capnp_builders.specs.Places.{IsAligned}
-use Rattle.capnp_edits.proofs.Filled.{fill_done, fill_counted, fill_named, fill_taken, fill_nothing, nothing_taken, fill_unread, fill_fits, sections_aligned}
+use Rattle.capnp_edits.proofs.Filled.{IsContentRefused, TakesForContentFrom, refused_there_too, fill_done, fill_counted, fill_named, fill_taken, fill_nothing, nothing_taken, fill_unread, fill_fits, sections_aligned}
 use Rattle.capnp_edits.proofs.edit.filling.fill.Goals as goal
 
 pub returns-in_err-root-clause-filled : goal.returns-in_err-root-clause-filled
@@ -23,7 +22,7 @@ returns-in_err-root-clause-counted g c =
 pub returns-in_err-root-clause-named : goal.returns-in_err-root-clause-named
 returns-in_err-root-clause-named g c =
     let p = err_from_is_err_and c.from_residual.result c.from_residual.ensures.1 in
-    rw (p.1, p.2) (inl (inl c.in_err-root.ensures.refused, refl))
+    rw (p.1, p.2) (c.args.parent, refl, inl (inl c.in_err-root.ensures.refused, refl))
 
 pub returns-in_err-root-clause-taken : goal.returns-in_err-root-clause-taken
 returns-in_err-root-clause-taken g c =
@@ -46,7 +45,7 @@ returns-in_err-value-clause-counted g c =
 pub returns-in_err-value-clause-named : goal.returns-in_err-value-clause-named
 returns-in_err-value-clause-named g c =
     let p = err_from_is_err_and c.from_residual-in_err-value.result c.from_residual-in_err-value.ensures.1 in
-    rw (p.1, p.2) (inl (struct_unread _ (copying_from c.args.source AStruct false) c.in_ok-root.root _ _ _ refl c.in_ok-root.ensures.found c.in_err-value.ensures.refused, refl))
+    rw (p.1, p.2) (c.args.parent, refl, inl (struct_unread _ (copying_from c.args.source AStruct false) c.in_ok-root.root _ _ _ refl c.in_ok-root.ensures.found c.in_err-value.ensures.refused, refl))
 
 pub returns-in-Some-clause-filled : goal.returns-in-Some-clause-filled
 returns-in-Some-clause-filled g c =
@@ -65,8 +64,9 @@ returns-in-Some-clause-named g c =
     let old = g.A.BuilderArena.view c.args.arena.now in
     let new = g.A.BuilderArena.view c.copy_over.new.arena in
     let value = c.in_ok-value.value in
+    refused_there_too c.copy_over.result old new c.args.parent c.args.source (
     subst (λ p. IfErr c.copy_over.result (IsContentRefused old new p c.args.source)) c.in-Some.ensures.place
-    (fill_named c.copy_over.result _ c.args.source c.in_ok-root.root value _ _ _ old new c.in-Some.place c.in_ok-root.ensures.found value.content_is.1 c.in_ok-value.ensures.read c.copy_over.ensures.refused)
+    (fill_named c.copy_over.result _ c.args.source c.in_ok-root.root value _ _ _ old new c.in-Some.place c.in_ok-root.ensures.found value.content_is.1 c.in_ok-value.ensures.read c.copy_over.ensures.refused))
 
 pub returns-in-Some-clause-taken : goal.returns-in-Some-clause-taken
 returns-in-Some-clause-taken g c =

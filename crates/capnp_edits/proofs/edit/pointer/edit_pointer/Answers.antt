@@ -36,7 +36,7 @@ returns-in-CopyRoot g c =
     let new = view c.copy_root.new.pointer.arena.now in
     let e = c.copy_root.ensures in
     let copied = subst (λ task. IsDoneAt old new c.args.place task (refusal_of c.copy_root.result)) (sym c.in-CopyRoot.is)
-    (root_done c.copy_root.result old new c.args.place c.in-CopyRoot.copying e.done e.counted e.named e.taken e.fits) in
+    (root_done c.copy_root.result old new c.args.place c.in-CopyRoot.copying e.done e.counted e.taken e.fits) in
     subst (λ (a : g.row.A.Denot). IsDoneAt old (view a) c.args.place c.args.task (refusal_of c.copy_root.result)) (search rules) copied
 
 pub returns-in-Some : goal.returns-in-Some

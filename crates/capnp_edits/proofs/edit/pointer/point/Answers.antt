@@ -12,7 +12,7 @@ returns-in-Some-clause-pointed g c =
     let new = g.A.BuilderArena.view c.set_capability.new.self.arena.now in
     let place = place_of c.args.pointer.now in
     subst (λ i. IsDoneAt old new place (Point i) None) (sym c.in-Some.is)
-    (pointed old new place (Some c.in-Some.index) (Capability c.in-Some.index) (λ t. refl) c.set_capability.ensures.made c.set_capability.ensures.limits c.set_capability.ensures.only.words)
+    (pointed old new place (Some c.in-Some.index) (Capability c.in-Some.index) (λ t. refl) c.set_capability.ensures.made c.set_capability.ensures.limits (c.set_capability.ensures.only.segments, c.set_capability.ensures.only.words))
 
 pub returns-in-None-clause-pointed : goal.returns-in-None-clause-pointed
 returns-in-None-clause-pointed g c =
@@ -20,4 +20,4 @@ returns-in-None-clause-pointed g c =
     let new = g.A.BuilderArena.view c.clear.new.self.arena.now in
     let place = place_of c.args.pointer.now in
     subst (λ i. IsDoneAt old new place (Point i) None) (sym c.in-None.is)
-    (pointed old new place None Null (λ t. refl) c.clear.ensures.cleared c.clear.ensures.limits c.clear.ensures.only.words)
+    (pointed old new place None Null (λ t. refl) c.clear.ensures.cleared c.clear.ensures.limits (c.clear.ensures.only.segments, c.clear.ensures.only.words))
