@@ -42,7 +42,7 @@ use Rattle.capnp_edits.specs.declared.edit.tasks.StructChange.TheVariants.{Bits,
 use Rattle.capnp_edits.specs.declared.edit.path.PathEnd.TheVariants.{Pointer as AtPointer}
 use Rattle.capnp_edits.specs.Tasks.{task_of}
 use Rattle.capnp_edits.specs.Edits.{refusal_of, bits_of, value_of, Making, becomes, denied, struct_with, struct_changed, made_at, is_of_path, DoesAt, Leaves, as_it_stands, is_done, is_denied, is_allocated, is_not_allocated, leads_to, are_written, are_outside, PutsBits, Takes, leads_nowhere, IsApplied, refusals_after}
-use Rattle.capnp_edits.specs.Steps.{IsOfPath, IsDoneAt}
+use Rattle.capnp_edits.specs.Steps.{IsDoneAt}
 use Rattle.capnp_edits.proofs.Steps.{first, same_some, struct_of}
 use Rattle.capnp_edits.proofs.Taken.{KeepsLengths, writes}
 use Rattle.capnp_edits.proofs.Walks.{found-append, update-append}
@@ -70,7 +70,7 @@ pub of_no_place : (k : ErrorKind) → is_allocation_name k ≡ true → k ≡ No
 of_no_place k h e = absurd (let f : false ≡ true = sym (ap is_allocation_name e) ∙ h in cc)
 
 -- a call that is refused for what a path leads to, and changes nothing then
-pub refused_there : {A : Type 0} (result : Result A ErrorKind) (old new : View) (Q : ErrorKind → Type 0) (k : ErrorKind) → IfErr result (λ k. is_of_path k ≡ true) → OnErr result (new ≡ old) → refusal_of result ≡ Some k → IsOfPath old new k ⊎ Q k
+pub refused_there : {A : Type 0} (result : Result A ErrorKind) (old new : View) (Q : ErrorKind → Type 0) (k : ErrorKind) → IfErr result (λ k. is_of_path k ≡ true) → OnErr result (new ≡ old) → refusal_of result ≡ Some k → ((is_of_path k ≡ true) × (new ≡ old)) ⊎ Q k
 refused_there (Ok x) old new Q k named kept e = absurd (cc)
 refused_there (Err j) old new Q k named kept e = inl (subst (λ x. is_of_path x ≡ true) (same_some j k e) named, kept)
 

@@ -25,7 +25,7 @@ use Rattle.capnp_edits.specs.declared.edit.tasks.StructChange.TheVariants.{Bits,
 use Rattle.capnp_edits.specs.Edits.{is_of_path, value_of}
 use Rattle.capnp_edits.specs.Fitting.{words_asked, AsksNoMore, AreInFirst, IsNoneOfMemory, StaysInFirst, FittingEdits}
 use Rattle.capnp_edits.specs.Paths.{path_of, IsPathFound}
-use Rattle.capnp_edits.specs.Steps.{FitsAt, IsOfPath, IsRefusedAt, IsStep, TakesAt, TakesForObject}
+use Rattle.capnp_edits.specs.Steps.{FitsAt, IsRefusedAt, IsStep, TakesAt, TakesForObject}
 use Rattle.capnp_edits.specs.Tasks.{task_of}
 use Rattle.capnp_edits.proofs.Applied.{of_memory}
 
@@ -70,7 +70,7 @@ made_first old new place n there first here fits x =
 -- What is known of an edit at its place.
 record Fact (old new : View) (there : PathEnd) (task : Task) (r : Option ErrorKind) : Type 0 where
   fits : FitsAt old task there → (k : ErrorKind) → r ≡ Some k → is_of_path k ≡ true
-  named : (k : ErrorKind) → r ≡ Some k → IsOfPath old new k ⊎ IsRefusedAt old new task k there
+  named : (k : ErrorKind) → r ≡ Some k → ((is_of_path k ≡ true) × (new ≡ old)) ⊎ IsRefusedAt old new task k there
   taken : (r ≡ Some NoSuchPlace → ⊥) → TakesAt old new task r there
 
 -- it is refused for its path, and nothing is changed; or done
@@ -81,7 +81,7 @@ by_outcome old new n (Some k) first none kept done = (none, same_first old new n
 not_missing : (r : Option ErrorKind) → r ≡ None → r ≡ Some NoSuchPlace → ⊥
 not_missing r e f = absurd (cc)
 
-unrefused : (old new : View) (k : ErrorKind) → IsOfPath old new k ⊎ ⊥ → new ≡ old
+unrefused : (old new : View) (k : ErrorKind) → ((is_of_path k ≡ true) × (new ≡ old)) ⊎ ⊥ → new ≡ old
 unrefused old new k (inl h) = h.1
 unrefused old new k (inr none) = absurd none
 

@@ -17,7 +17,7 @@ use Rattle.capnp_edits.specs.declared.edit.path.PathEnd.{PathEnd}
 use Rattle.capnp_edits.specs.declared.edit.path.PathEnd.TheVariants.{Pointer as AtPointer, Element as AtElement}
 use Rattle.capnp_edits.specs.Edits.{is_of_path, IsApplied, refusals_after, Takes}
 use Rattle.capnp_edits.specs.Paths.{PointerTo, ElementOf, path_of, found, IsPathFound}
-use Rattle.capnp_edits.specs.Steps.{FitsAt, IsOfPath, IsRefusedAt, TakesAt, IsStep, AreSteps, StepIsThere}
+use Rattle.capnp_edits.specs.Steps.{FitsAt, IsRefusedAt, TakesAt, IsStep, AreSteps, StepIsThere}
 use Rattle.capnp_edits.specs.Tasks.{task_of}
 use Rattle.capnp_edits.proofs.Applied.{no_forest}
 use Rattle.capnp_edits.proofs.Steps.{first, same_some}
@@ -25,7 +25,7 @@ use Rattle.capnp_edits.proofs.Walks.{found-append}
 
 -- an edit at its place
 pub step_at : (old new : View) (edit : Edit) (there : PathEnd) (task : Task) (r : Option ErrorKind) → task_of edit.op ≡ Some task → 1 ≤ length (segment old.words 0) → IsApplied (Takes edit r) old.words new.words → new.refusals ≡ refusals_after r old.refusals →
-    ((t : Tree) → IsStored old.words 0 0 t → IsPathFound old.words 0 0 t (path_of edit.path.now) (Some there)) → ((k : ErrorKind) → r ≡ Some k → IsOfPath old new k ⊎ IsRefusedAt old new task k there) →
+    ((t : Tree) → IsStored old.words 0 0 t → IsPathFound old.words 0 0 t (path_of edit.path.now) (Some there)) → ((k : ErrorKind) → r ≡ Some k → ((is_of_path k ≡ true) × (new ≡ old)) ⊎ IsRefusedAt old new task k there) →
     (FitsAt old task there → (k : ErrorKind) → r ≡ Some k → is_of_path k ≡ true) → (r ≡ Some NoSuchPlace → new ≡ old) → ((r ≡ Some NoSuchPlace → ⊥) → TakesAt old new task r there) → IsStep old new edit r
 step_at old new edit there task r is root applied counted leads named fits nowhere taken = record {
   applied = applied;

@@ -5,6 +5,7 @@ use Rattle.std.specs.Prelude.{if◌then◌else◌, nat_le, nat_lt, List, ◌++�
 use Rattle.std.specs.Prelude.{slice_set, Option, Some, None, unwrap_or, Result, Ok, Err}
 use Rattle.std.specs.Borrow.{Bor}
 use Rattle.capnp_words.specs.declared.error.ErrorKind.{ErrorKind}
+use Rattle.capnp_words.specs.declared.error.ErrorKind.TheVariants.{ExistingPointerIsNotAList}
 use Rattle.capnp_words.specs.declared.error.ErrorKind.TheVariants.{FoundBitListWhereStructListWasExpected}
 use Rattle.capnp_words.specs.declared.error.ErrorKind.TheVariants.{MessageContainsNonStructPointerWhereStructPointerWasExpected}
 use Rattle.capnp_words.specs.declared.error.ErrorKind.TheVariants.{NoSuchPlace}
@@ -33,7 +34,7 @@ use Rattle.capnp_readers.specs.declared.readers.struct_reader.StructPlace.{Struc
 use Rattle.capnp_widening.specs.Rooms.{is_allocation_name}
 use Rattle.capnp_widening.specs.Widened.{list_widened}
 use Rattle.capnp_builders.specs.Defaults.{DefaultUse, ignored, denied as is_denied_by}
-use Rattle.capnp_builders.specs.Defaults.{copied as is_copied_from, object_default, blob_default}
+use Rattle.capnp_builders.specs.Defaults.{copied as is_copied_from, default_use}
 use Rattle.capnp_builders.specs.Defaults.{default_root}
 use Rattle.capnp_widening.specs.Opening.{struct_opened}
 use Rattle.capnp_builders.specs.Laws.{TakesBytes}
@@ -41,7 +42,7 @@ use Rattle.capnp_edits.specs.declared.edit.Source.{Source}
 use Rattle.capnp_readers.specs.Sections.{step_bits, data_bits}
 use Rattle.capnp_readers.specs.declared.readers.PointerPlace.{PointerPlace}
 use Rattle.capnp_builders.specs.declared.builders.PointerBuilder.{PointerBuilder}
-use Rattle.capnp_builders.specs.Places.{Field, field, list_place, struct_place}
+use Rattle.capnp_builders.specs.Places.{Field, list_place, struct_place}
 use Rattle.capnp_edits.specs.declared.edit.Edit.{Edit}
 use Rattle.capnp_edits.specs.declared.edit.copying.Copying.{Copying}
 use Rattle.capnp_edits.specs.declared.edit.copying.Wanted.TheVariants.{Struct as AStruct}
@@ -75,7 +76,11 @@ refusal_of (Err k) = Some k
 
 -- The bits of a data section that a number has, and what they become.
 abbrev pub bits_of : Number → Field
-bits_of n = field (n.index * element_bits (size_number n.size)) (element_bits (size_number n.size)) n.value
+bits_of n = record {
+  start = n.index * element_bits (size_number n.size);
+  bits = element_bits (size_number n.size);
+  value = n.value;
+}
 
 -- What an operation makes where a path leads: a value; or it is refused by a name, and nothing is
 -- changed; or a value whose words are taken first, and another one where memory for them is
@@ -99,7 +104,7 @@ struct_with f t = t
 abbrev pub with_lowest : ℕ → ℕ → ℕ → Tree → Tree
 with_lowest i w v (Flat size ns) = Flat size (slice_set ns i (with_bits (get_or ns i 0) 0 w v))
 with_lowest i w v (Structs d q es) =
-    Structs d q (put_struct es i (struct_with (field 0 w v) (struct_at es i)))
+    Structs d q (put_struct es i (struct_with (record { start = 0; bits = w; value = v }) (struct_at es i)))
 with_lowest i w v t = t
 
 -- Where the list of a value is doesn't count here.
@@ -161,11 +166,12 @@ value_of (ZeroText n) = zero_list 2 (n + 1)
 value_of (Text bytes) = Flat 2 (bytes.now ++ 0 ∷ [])
 value_of (Data bytes) = Flat 2 bytes.now
 
--- What a search does with its default where t stands.
+-- What a search does with its default where t stands: one whose first word is null is as none to a
+-- struct and a list, and no list to a text and data.
 abbrev pub default_for : Sought → Option (Bor (List ℕ)) → Tree → DefaultUse
-default_for ForText default t = blob_default default t
-default_for ForData default t = blob_default default t
-default_for sought default t = object_default default t
+default_for ForText default t = default_use (is_denied_by ExistingPointerIsNotAList) default t
+default_for ForData default t = default_use (is_denied_by ExistingPointerIsNotAList) default t
+default_for sought default t = default_use ignored default t
 
 -- What a task makes where a path leads; or by what name it is refused, and nothing is changed.
 abbrev pub made_at : Task → EndValue → Making

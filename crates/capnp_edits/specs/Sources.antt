@@ -1,7 +1,7 @@
 -- What is copied from another message.
 use Rattle.std.specs.Prelude.{ℕ, pred, min, ◌+◌, ◌*◌, ◌<◌, ◌≤◌, ◌≡◌, ◌⊎◌, Bool, true, false}
 use Rattle.std.specs.Prelude.{if◌then◌else◌, nat_eq, List, [], map, length, Option, Some, None}
-use Rattle.capnp_words.specs.Meter.{Meter, Affords, charged, unused}
+use Rattle.capnp_words.specs.Meter.{Meter, Affords, less, unused}
 use Rattle.capnp_words.specs.declared.error.ErrorKind.{ErrorKind}
 use Rattle.capnp_words.specs.declared.error.ErrorKind.TheVariants.{InvalidSegmentId, ReadLimitExceeded}
 use Rattle.capnp_words.specs.declared.wire_pointer.StructSize.{StructSize}
@@ -59,7 +59,7 @@ root_of source =
 
 -- Its limiter once the root's word is charged.
 abbrev pub once_at_root : Source → Meter
-once_at_root source = charged true (unused source.budget) 1
+once_at_root source = unused (less source.budget 1)
 
 -- The root is there, and the limiter covers its word.
 abbrev pub HasRoot : Source → Type 0

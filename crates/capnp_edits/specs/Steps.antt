@@ -34,7 +34,7 @@ use Rattle.capnp_widening.specs.Rooms.{HasRoomFor, RefusesToBecome}
 use Rattle.capnp_widening.specs.Widened.{list_widened}
 use Rattle.capnp_builders.specs.Content.{pointers_copied}
 use Rattle.capnp_builders.specs.Defaults.{RefusesDefault, DefaultFits, FitsWithDefault, WithDefault}
-use Rattle.capnp_builders.specs.Defaults.{default_copy, object_default}
+use Rattle.capnp_builders.specs.Defaults.{default_copy, default_use, ignored}
 use Rattle.capnp_builders.specs.Laws.{TakesBytes}
 use Rattle.capnp_builders.specs.Places.{struct_place}
 use Rattle.capnp_edits.specs.declared.edit.Edit.{Edit}
@@ -98,7 +98,7 @@ abbrev pub OpeningHasRoom : (Tree → Result Tree ErrorKind) → Option (Bor (Li
     PointerPlace → Type 0
 OpeningHasRoom opened default old place =
     (t : Tree) × IsStored old.words place.segment place.word t ×
-    FitsWithDefault (object_default default t) old place.segment place.word
+    FitsWithDefault (default_use ignored default t) old place.segment place.word
     (λ v. (x : Tree) × (u : Tree) × IsStored v.words place.segment place.word x × (opened x ≡ Ok u) ×
     HasRoomFor v place.segment place.word x u)
 
@@ -176,10 +176,6 @@ IsRefusedAt old new (CopyRoot c) k (AtPointer place) =
     CopiesWhole (call_at place.segment place.word old new) c (Some k)
 IsRefusedAt old new task k there = ⊥
 
--- A refusal by a name is for what the path leads to, and all is as it was.
-abbrev pub IsOfPath : View → View → ErrorKind → Type 0
-IsOfPath old new k = (is_of_path k ≡ true) × (new ≡ old)
-
 -- Words that are taken.
 
 -- A change of a struct takes no words for bits, and for content those of the copies of the pointers
@@ -226,7 +222,8 @@ pub record IsDoneAt (old new : View) (place : PointerPlace) (task : Task) (r : O
   pub done : (t : Tree) → IsStored old.words place.segment place.word t →
       DoesAt old.words new.words place (made_at task (PointerTo t)) t r
   pub counted : new.refusals ≡ refusals_after r old.refusals
-  pub named : (k : ErrorKind) → r ≡ Some k → IsOfPath old new k ⊎ IsRefusedAt old new task k (AtPointer place)
+  pub named : (k : ErrorKind) → r ≡ Some k → ((is_of_path k ≡ true) × (new ≡ old)) ⊎
+      IsRefusedAt old new task k (AtPointer place)
   pub fits : FitsAt old task (AtPointer place) → (k : ErrorKind) → r ≡ Some k → is_of_path k ≡ true
   pub nowhere : r ≡ Some NoSuchPlace → new ≡ old
   pub taken : (r ≡ Some NoSuchPlace → ⊥) → TakesAt old new task r (AtPointer place)
@@ -236,7 +233,7 @@ pub record IsChanged (old new : View) (e : ExistingStruct) (change : StructChang
     (r : Option ErrorKind) : Type 0 where
   pub done : Changes old.words new.words e change r
   pub counted : new.refusals ≡ refusals_after r old.refusals
-  pub named : (k : ErrorKind) → r ≡ Some k → IsOfPath old new k ⊎
+  pub named : (k : ErrorKind) → r ≡ Some k → ((is_of_path k ≡ true) × (new ≡ old)) ⊎
       IsRefusedAt old new (InStruct change) k (AtElement e)
   pub fits : FitsAt old (InStruct change) (AtElement e) → (k : ErrorKind) → r ≡ Some k →
       is_of_path k ≡ true
@@ -260,7 +257,7 @@ pub record IsStep (old new : View) (edit : Edit) (r : Option ErrorKind) : Type 0
   pub out_of_range : task_of edit.op ≡ None → r ≡ Some NoSuchPlace
   pub rootless : length (segment old.words 0) ≡ 0 → r ≡ Some NoSuchPlace
   pub nowhere : r ≡ Some NoSuchPlace → new ≡ old
-  pub named : (k : ErrorKind) → r ≡ Some k → IsOfPath old new k ⊎
+  pub named : (k : ErrorKind) → r ≡ Some k → ((is_of_path k ≡ true) × (new ≡ old)) ⊎
       IsSomeAnd path_end (λ there. IsSomeAnd (task_of edit.op)
       (λ task. IsRefusedAt old new task k there))
   pub fits : IfSome path_end (λ there. IfSome (task_of edit.op) (λ task. FitsAt old task there)) →
