@@ -252,15 +252,15 @@ list_copied result c g from v m n m' old new place is here read done refused tak
     list_tried result c l n m' old new place is here.root (subst (λ y. LeadsToList (root_of c.source) y n l) here.once (subst (λ r. LeadsToList r m n l) here.reads leads)) done refused taken
 
 unread_as : {A : Type 0} (g : Ghosts A) (c : Copying) (expected : Expectation) (from : PointerReader A g) (m m' : Meter) (k : ErrorKind) → ((r : Reading) (i j : Meter) → Withheld expected r i j k → IsWithheld c.wanted r i j k) → IsRootReader g c.source from m →
-    IsRefused g (record { from = from; expected = expected; default = None }) m m' k → HasNothingToCopy c k
+    IsRefused g (record { from = from; expected = expected; default = None }) m m' k → HasNothingToCopy c.source c.wanted k
 unread_as g c expected from m m' k wanted here refused =
     let h = wanted (reading g from) m m' (withheld_at g expected from m m' k refused) in
     inr (here.root, (m', subst (λ y. IsWithheld c.wanted (root_of c.source) y m' k) here.once (subst (λ r. IsWithheld c.wanted r m m' k) here.reads h)))
 
-pub struct_unread : {A : Type 0} (g : Ghosts A) (c : Copying) (from : PointerReader A g) (m m' : Meter) (k : ErrorKind) → c.wanted ≡ AStruct → IsRootReader g c.source from m → IsRefused g (record { from = from; expected = struct_expected; default = None }) m m' k → HasNothingToCopy c k
+pub struct_unread : {A : Type 0} (g : Ghosts A) (c : Copying) (from : PointerReader A g) (m m' : Meter) (k : ErrorKind) → c.wanted ≡ AStruct → IsRootReader g c.source from m → IsRefused g (record { from = from; expected = struct_expected; default = None }) m m' k → HasNothingToCopy c.source c.wanted k
 struct_unread g c from m m' k is here refused = unread_as g c struct_expected from m m' k (λ r i j h. subst (λ w. IsWithheld w r i j k) (sym is) h) here refused
 
-pub list_unread : {A : Type 0} (g : Ghosts A) (c : Copying) (from : PointerReader A g) (m m' : Meter) (k : ErrorKind) → c.wanted ≡ AList → IsRootReader g c.source from m → IsRefused g (record { from = from; expected = list_expected Void; default = None }) m m' k → HasNothingToCopy c k
+pub list_unread : {A : Type 0} (g : Ghosts A) (c : Copying) (from : PointerReader A g) (m m' : Meter) (k : ErrorKind) → c.wanted ≡ AList → IsRootReader g c.source from m → IsRefused g (record { from = from; expected = list_expected Void; default = None }) m m' k → HasNothingToCopy c.source c.wanted k
 list_unread g c from m m' k is here refused = unread_as g c (list_expected Void) from m m' k (λ r i j h. subst (λ w. IsWithheld w r i j k) (sym is) h) here refused
 
 pub struct_found : {A : Type 0} (g : Ghosts A) (c : Copying) (from : PointerReader A g) (m : Meter) (v : View) (id : ℕ) → c.wanted ≡ AStruct → IsRootReader g c.source from m → FitsBehind v id c → WhereRead g (record { from = from; expected = struct_expected; default = None }) (λ p. CanBeGiven struct_expected (reading g p) m)
@@ -367,12 +367,12 @@ other_rootless k (inl e) = ap is_of_call e
 other_rootless k (inr (inl e)) = ap is_of_call e
 other_rootless k (inr (inr e)) = ap is_of_call e
 
-other_unread : (c : Copying) (k : ErrorKind) → HasNothingToCopy c k → is_of_call k ≡ false
-other_unread c k (inl rootless) = other_rootless k (rootless_named c.source k rootless)
-other_unread c k (inr (has, (m, withheld))) = other_unwanted c.wanted (root_of c.source) (once_at_root c.source) m k withheld
+other_unread : (source : Source) (wanted : Wanted) (k : ErrorKind) → HasNothingToCopy source wanted k → is_of_call k ≡ false
+other_unread source wanted k (inl rootless) = other_rootless k (rootless_named source k rootless)
+other_unread source wanted k (inr (has, (m, withheld))) = other_unwanted wanted (root_of source) (once_at_root source) m k withheld
 
-pub unread_counted : (c : Copying) (k : ErrorKind) (n : ℕ) → HasNothingToCopy c k → n ≡ refusals_after (Some k) n
-unread_counted c k n unread = sym (not_the_allocator k (λ e. false≢true (sym (other_unread c k unread) ∙ ap is_of_call e)) n)
+pub unread_counted : (source : Source) (wanted : Wanted) (k : ErrorKind) (n : ℕ) → HasNothingToCopy source wanted k → n ≡ refusals_after (Some k) n
+unread_counted source wanted k n unread = sym (not_the_allocator k (λ e. false≢true (sym (other_unread source wanted k unread) ∙ ap is_of_call e)) n)
 
 -- a copy is never refused for a place
 pub copy_nowhere : (r : Option ErrorKind) (call : CallAt) (c : Copying) → CopiesWhole call c r → r ≡ Some NoSuchPlace → call.new ≡ call.old

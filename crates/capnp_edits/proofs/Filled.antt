@@ -1,5 +1,5 @@
 -- Content of another message's struct that is copied over a struct, which a pointer leads to or which is an element of a list.
-use Rattle.std.proofs.Common.{◌≡◌, ◌⊎◌, inl, inr, ℕ, zero, suc, pred, min, ◌+◌, ◌*◌, ◌/◌, ◌<◌, false, List, [], ◌∷◌, length, Option, Some, None, IsSomeAnd, Result, Ok, Err, IsOk, IfOk, IfErr, OnErr, true, refl, sym, ap, ap₂, ◌∙◌, subst, arith}
+use Rattle.std.proofs.Common.{◌≡◌, ◌⊎◌, inl, inr, ℕ, zero, suc, pred, min, ◌+◌, ◌*◌, ◌/◌, ◌<◌, List, [], ◌∷◌, length, Option, Some, None, IsSomeAnd, Result, Ok, Err, IsOk, IfOk, IfErr, OnErr, true, refl, sym, ap, ap₂, ◌∙◌, subst, arith}
 use Rattle.capnp_words.specs.Meter.{Meter}
 use Rattle.capnp_words.specs.declared.error.ErrorKind.{ErrorKind}
 use Rattle.capnp_words.specs.declared.error.ErrorKind.TheVariants.{NoSuchPlace}
@@ -56,7 +56,7 @@ use Rattle.capnp_edits.specs.declared.edit.tasks.StructChange.{StructChange}
 use Rattle.capnp_edits.specs.declared.edit.tasks.StructChange.TheVariants.{Bits, Content}
 use Rattle.capnp_edits.specs.Tasks.{task_of}
 use Rattle.capnp_edits.specs.Paths.{path_of, found, IsElementFound, ElementOf}
-use Rattle.capnp_edits.specs.Sources.{copying_from, root_of, once_at_root, HasRoot, IsRootReader, Sections, LeadsToStruct, no_struct, a_struct, ContentRead, ContentFitsBehind, HasNothingToCopy, FilledOrRefused}
+use Rattle.capnp_edits.specs.Sources.{root_of, once_at_root, HasRoot, IsRootReader, Sections, LeadsToStruct, no_struct, a_struct, ContentRead, ContentFitsBehind, HasNothingToCopy, FilledOrRefused}
 use Rattle.capnp_edits.specs.Edits.{as_it_stands, refusal_of, bits_of, struct_changed, fills, is_of_path, PutsBits, FillsAt, Changes, all_filled, first_filled, none_filled, refusals_after, IsApplied, Takes, leads_to, is_filled, is_half_filled, is_not_filled, DoesAt}
 use Rattle.capnp_edits.specs.Steps.{IsStructAt, StopsFilling, FitsAt, IsRefusedAt, TakesForChange, IsDoneAt, IsChanged, result_of}
 use Rattle.capnp_edits.specs.declared.edit.path.PathEnd.TheVariants.{Pointer as AtPointer, Element as AtElement}
@@ -70,11 +70,11 @@ use Rattle.capnp_objects.proofs.Followed.{entered_leads}
 
 -- Content isn't copied over a struct, or not all of it; and the words that are taken for it.
 abbrev pub IsContentRefused : View → View → StructPlace → Source → ErrorKind → Type 0
-IsContentRefused old new place source k = (HasNothingToCopy (copying_from source AStruct false) k × (new ≡ old)) ⊎ StopsFilling old new place source k
+IsContentRefused old new place source k = (HasNothingToCopy source AStruct k × (new ≡ old)) ⊎ StopsFilling old new place source k
 
 abbrev pub TakesForContentFrom : View → View → StructPlace → Source → Option ErrorKind → Type 0
 TakesForContentFrom old new place source r =
-    (IsSomeAnd r (HasNothingToCopy (copying_from source AStruct false)) × (new ≡ old)) ⊎
+    (IsSomeAnd r (HasNothingToCopy source AStruct) × (new ≡ old)) ⊎
     ((s : Sections) × (m : Meter) × LeadsToStruct (root_of source) (once_at_root source) s × TakesAtMost (result_of r) (children_original s.first (min place.pointers s.pointers)) (pointers_copied place old new s.limiter m))
 
 -- as the sections of a source's struct
@@ -405,7 +405,7 @@ filled_or_refused source q k whole counts (inr (part, fewer, (m, refused))) =
     (read_stop (min q part.from.pointers) part.are_read fewer (unreadable refused)).only whole.children moved.cost (counts ∙ ap (min q) (sym pointers)) moved.means moved.takes moved.covers
 
 -- content that can be read, and has room, is not refused
-pub fill_unread : (v : View) (id : ℕ) (source : Source) (q : ℕ) (k : ErrorKind) → HasNothingToCopy (copying_from source AStruct false) k → ContentFitsBehind v id source q → ⊥
+pub fill_unread : (v : View) (id : ℕ) (source : Source) (q : ℕ) (k : ErrorKind) → HasNothingToCopy source AStruct k → ContentFitsBehind v id source q → ⊥
 fill_unread v id source q k unread (all, counts, room) = filled_or_refused source q k all counts (inl unread)
 
 pub fill_fits : {A : Type 0} (g : Ghosts A) (source : Source) (from : PointerReader A g) (v : StructReader A g) (m n m' : Meter) (old new : View) (place : StructPlace) → IsRootReader g source from m → length v.content.now ≡ bytes_for v.bits →

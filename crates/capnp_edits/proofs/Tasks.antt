@@ -10,7 +10,6 @@ use Rattle.capnp_edits.specs.declared.edit.tasks.NewObject.TheVariants.{ZeroStru
 use Rattle.capnp_edits.specs.declared.edit.tasks.StructChange.TheVariants.{Bits, Content}
 use Rattle.capnp_edits.specs.declared.edit.tasks.Part.TheVariants.{ListElement, TextByte, DataByte}
 use Rattle.capnp_edits.specs.declared.edit.tasks.Sought.TheVariants.{Struct as ForStruct, List as ForList, StructList as ForStructs, Text as ForText, Data as ForData}
-use Rattle.capnp_edits.specs.Sources.{copying_from}
 use Rattle.capnp_edits.specs.Tasks.{is_in_range, if_in_range, task_of}
 use Rattle.capnp_edits.proofs.Steps.{same_some}
 
@@ -42,7 +41,7 @@ task_in_range (GetList size default) t e = picked (Search (ForList size) default
 task_in_range (GetStructList size default) t e = picked (Search (ForStructs size) default) t e
 task_in_range (GetText default) t e = picked (Search ForText default) t e
 task_in_range (GetData default) t e = picked (Search ForData default) t e
-task_in_range (CopyFrom source b) t e = picked (CopyRoot (copying_from source Value b)) t e
-task_in_range (SetStruct source b) t e = picked (CopyRoot (copying_from source AStruct b)) t e
-task_in_range (SetList source b) t e = picked (CopyRoot (copying_from source AList b)) t e
+task_in_range (CopyFrom source b) t e = picked (CopyRoot (record { source = source; wanted = Value; canonicalize = b })) t e
+task_in_range (SetStruct source b) t e = picked (CopyRoot (record { source = source; wanted = AStruct; canonicalize = b })) t e
+task_in_range (SetList source b) t e = picked (CopyRoot (record { source = source; wanted = AList; canonicalize = b })) t e
 task_in_range (CopyContent source) t e = picked (InStruct (Content source)) t e

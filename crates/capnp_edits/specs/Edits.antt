@@ -1,6 +1,6 @@
 -- What edits make of the value of a message.
 use Rattle.std.specs.Option.{option_map_or}
-use Rattle.std.specs.Prelude.{MatchOption, ◌≡◌, ◌⊎◌, ℕ, min, ◌+◌, ◌*◌, ◌<◌, ◌≤◌, Bool, true, false}
+use Rattle.std.specs.Prelude.{MatchOption, ◌≡◌, ◌⊎◌, ℕ, min, ◌+◌, ◌*◌, ◌<◌, ◌≤◌, Bool, true}
 use Rattle.std.specs.Prelude.{if◌then◌else◌, nat_le, nat_lt, List, ◌++◌, [], ◌∷◌, length, get_or}
 use Rattle.std.specs.Prelude.{slice_set, Option, Some, None, unwrap_or, Result, Ok, Err}
 use Rattle.std.specs.Borrow.{Bor}
@@ -65,7 +65,7 @@ use Rattle.capnp_edits.specs.declared.edit.tasks.Sought.TheVariants.{StructList 
 use Rattle.capnp_edits.specs.declared.edit.tasks.Sought.TheVariants.{Text as ForText}
 use Rattle.capnp_edits.specs.declared.edit.tasks.Sought.TheVariants.{Data as ForData}
 use Rattle.capnp_edits.specs.Tasks.{task_of}
-use Rattle.capnp_edits.specs.Sources.{copying_from, Copies, ContentRead, Fills, IsNextUnreadable}
+use Rattle.capnp_edits.specs.Sources.{Copies, ContentRead, Fills, IsNextUnreadable}
 use Rattle.capnp_edits.specs.Sources.{HasNothingToCopy, IsUnreadable}
 use Rattle.capnp_edits.specs.Paths.{EndValue, PointerTo, ElementOf, path_of, found}
 
@@ -218,7 +218,7 @@ pub data Yields (making : Making) (r : Option ErrorKind) (o : Option Tree) : Typ
       Yields making r o
   is_not_copied : (c : Copying) (k : ErrorKind) → making ≡ copies c → (is_allocation_name k ≡ true) ⊎
       IsUnreadable c k → r ≡ Some k → o ≡ Some Null → Yields making r o
-  is_unread : (c : Copying) (k : ErrorKind) → making ≡ copies c → HasNothingToCopy c k →
+  is_unread : (c : Copying) (k : ErrorKind) → making ≡ copies c → HasNothingToCopy c.source c.wanted k →
       r ≡ Some k → o ≡ None → Yields making r o
   is_filled :
       (source : Source) (d q : ℕ) (u : Tree) →
@@ -236,7 +236,7 @@ pub data Yields (making : Making) (r : Option ErrorKind) (o : Option Tree) : Typ
       o ≡ Some u →
       Yields making r o
   is_not_filled : (source : Source) (d q : ℕ) (k : ErrorKind) → making ≡ fills source d q →
-      HasNothingToCopy (copying_from source AStruct false) k → r ≡ Some k → o ≡ None →
+      HasNothingToCopy source AStruct k → r ≡ Some k → o ≡ None →
       Yields making r o
 
 -- What is left where a default's value may come first: as of what stands; or a default's value, and
@@ -282,7 +282,7 @@ pub data CopiesRoot (S R : Segments) (place : PointerPlace) (c : Copying) (r : O
       CopiesRoot S R place c r
   root_not_copied : (k : ErrorKind) → (is_allocation_name k ≡ true) ⊎ IsUnreadable c k → r ≡ Some k →
       Puts S R place.segment place.word Null → CopiesRoot S R place c r
-  root_unread : (k : ErrorKind) → HasNothingToCopy c k → r ≡ Some k → R ≡ S → CopiesRoot S R place c r
+  root_unread : (k : ErrorKind) → HasNothingToCopy c.source c.wanted k → r ≡ Some k → R ≡ S → CopiesRoot S R place c r
 
 -- From S on a struct takes the data of a source's struct, and then the pointers that are read of it
 -- are copied to its first ones.
@@ -307,7 +307,7 @@ pub data FillsAt (S R : Segments) (place : StructPlace) (source : Source) (r : O
       (is_allocation_name k ≡ true) ⊎ IsNextUnreadable source f.content k →
       r ≡ Some k →
       FillsAt S R place source r
-  none_filled : (k : ErrorKind) → HasNothingToCopy (copying_from source AStruct false) k → R ≡ S →
+  none_filled : (k : ErrorKind) → HasNothingToCopy source AStruct k → R ≡ S →
       r ≡ Some k → FillsAt S R place source r
 
 -- What a change leaves of a struct of a message: its bits are written; or content is copied over it.

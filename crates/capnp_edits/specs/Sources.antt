@@ -1,5 +1,5 @@
 -- What is copied from another message.
-use Rattle.std.specs.Prelude.{ℕ, pred, min, ◌+◌, ◌*◌, ◌<◌, ◌≤◌, ◌≡◌, ◌⊎◌, Bool, true, false}
+use Rattle.std.specs.Prelude.{ℕ, pred, min, ◌+◌, ◌*◌, ◌<◌, ◌≤◌, ◌≡◌, ◌⊎◌, true, false}
 use Rattle.std.specs.Prelude.{if◌then◌else◌, nat_eq, List, [], map, length, Option, Some, None}
 use Rattle.capnp_words.specs.Meter.{Meter, Affords, less, unused}
 use Rattle.capnp_words.specs.declared.error.ErrorKind.{ErrorKind}
@@ -39,11 +39,6 @@ use Rattle.capnp_edits.specs.declared.edit.copying.Wanted.{Wanted}
 use Rattle.capnp_edits.specs.declared.edit.copying.Wanted.TheVariants.{Value, Struct as AStruct}
 use Rattle.capnp_edits.specs.declared.edit.copying.Wanted.TheVariants.{List as AList}
 use Rattle.capnp_objects.specs.declared.object.Purpose.TheVariants.{Value as ForValue}
-
--- A copy from a source, of what is wanted there, in canonical form or as it stands.
-abbrev pub copying_from : Source → Wanted → Bool → Copying
-copying_from source wanted canonicalize =
-    record { source = source; wanted = wanted; canonicalize = canonicalize }
 
 -- The root of a source, read within its nesting limit.
 abbrev pub root_of : Source → Reading
@@ -98,10 +93,9 @@ IsWithheld AStruct r m m' k = Withheld struct_expected r m m' k
 IsWithheld AList r m m' k = Withheld (list_expected Void) r m m' k
 
 -- There is nothing to be copied, by the name k: the root isn't reached, or what is wanted isn't found there.
-abbrev pub HasNothingToCopy : Copying → ErrorKind → Type 0
-HasNothingToCopy c k = IsRootless c.source k ⊎
-    (HasRoot c.source × ((m : Meter) ×
-    IsWithheld c.wanted (root_of c.source) (once_at_root c.source) m k))
+abbrev pub HasNothingToCopy : Source → Wanted → ErrorKind → Type 0
+HasNothingToCopy source wanted k = IsRootless source k ⊎
+    (HasRoot source × ((m : Meter) × IsWithheld wanted (root_of source) (once_at_root source) m k))
 
 -- The root means a value within the limits that is as wanted, and a copy keeps u of it.
 pub record Copies (c : Copying) (u : Tree) : Type 0 where
@@ -211,7 +205,7 @@ OfWanted AList r c Says = (l : ListElements) × (m : Meter) × LeadsToList r c.b
 
 -- Where there is a value to be copied, reading isn't refused.
 abbrev pub CopiedOrRefused : Type 0
-CopiedOrRefused = (c : Copying) (u : Tree) (k : ErrorKind) → Copies c u → HasNothingToCopy c k ⊎
+CopiedOrRefused = (c : Copying) (u : Tree) (k : ErrorKind) → Copies c u → HasNothingToCopy c.source c.wanted k ⊎
     IsUnreadable c k → ⊥
 
 -- Where the pointers can be read that a source's struct and one of q pointers both have, reading
@@ -220,6 +214,6 @@ abbrev pub FilledOrRefused : Type 0
 FilledOrRefused =
     (source : Source) (q : ℕ) (k : ErrorKind) (all : ContentRead source) →
     count all.children ≡ min q all.from.pointers
-    → HasNothingToCopy (copying_from source AStruct false) k ⊎
+    → HasNothingToCopy source AStruct k ⊎
     ((some : ContentRead source) × (count some.children < min q some.from.pointers) ×
     IsNextUnreadable source some k) → ⊥

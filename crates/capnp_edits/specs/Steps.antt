@@ -1,5 +1,5 @@
 -- Steps: what one edit does with a message and the arena that holds it, and edits in order.
-use Rattle.std.specs.Prelude.{◌≡◌, ◌⊎◌, ⊤, ℕ, min, ◌+◌, ◌*◌, ◌<◌, true, false, List, [], ◌∷◌, length}
+use Rattle.std.specs.Prelude.{◌≡◌, ◌⊎◌, ⊤, ℕ, min, ◌+◌, ◌*◌, ◌<◌, true, List, [], ◌∷◌, length}
 use Rattle.std.specs.Prelude.{Option, Some, None, IfSome, IsSomeAnd, Result, Ok, Err}
 use Rattle.std.specs.Borrow.{Bor}
 use Rattle.capnp_words.specs.Meter.{Meter}
@@ -54,7 +54,7 @@ use Rattle.capnp_edits.specs.declared.edit.path.PathEnd.{PathEnd}
 use Rattle.capnp_edits.specs.declared.edit.path.PathEnd.TheVariants.{Pointer as AtPointer}
 use Rattle.capnp_edits.specs.declared.edit.path.PathEnd.TheVariants.{Element as AtElement}
 use Rattle.capnp_edits.specs.Paths.{PointerTo, path_of, IsPathFound}
-use Rattle.capnp_edits.specs.Sources.{copying_from, root_of, once_at_root, Sections, LeadsToStruct}
+use Rattle.capnp_edits.specs.Sources.{root_of, once_at_root, Sections, LeadsToStruct}
 use Rattle.capnp_edits.specs.Sources.{ContentRead, ContentFitsBehind, Copies, HasNothingToCopy}
 use Rattle.capnp_edits.specs.Sources.{OfWanted}
 use Rattle.capnp_edits.specs.Edits.{is_of_path, refusals_after, value_of, looked_for, Yields}
@@ -85,7 +85,7 @@ result_of (Some k) = Err k
 -- what was read is, an object finding no room or reading being refused.
 abbrev pub CopiesWhole : CallAt → Copying → Option ErrorKind → Type 0
 CopiesWhole call c r =
-    (IsSomeAnd r (HasNothingToCopy c) × (call.new ≡ call.old)) ⊎
+    (IsSomeAnd r (HasNothingToCopy c.source c.wanted) × (call.new ≡ call.old)) ⊎
     ((m : Meter) × OfWanted c.wanted (root_of c.source) (change (form_of c.canonicalize)
     call.segment call.at call.old call.new (once_at_root c.source) m)
     (λ o d. TakesAtMost (result_of r) o d × IfSome r (RefusesToCopy o d)))
@@ -168,7 +168,7 @@ IsRefusedAt old new (Make object) k (AtPointer place) =
     IsRefusedFor old new (word_count (value_of object)) k
 IsRefusedAt old new (InStruct (Content source)) k there =
     (e : ExistingStruct) × IsStructAt old.words there e ×
-    ((HasNothingToCopy (copying_from source AStruct false) k × (new ≡ old)) ⊎
+    ((HasNothingToCopy source AStruct k × (new ≡ old)) ⊎
     StopsFilling old new (struct_place e) source k)
 IsRefusedAt old new (Search sought default) k (AtPointer place) =
     IsSearchRefused sought (call_at place.segment place.word old new) default k
@@ -183,7 +183,7 @@ IsRefusedAt old new task k there = ⊥
 abbrev pub TakesForChange : View → View → ExistingStruct → StructChange → Option ErrorKind → Type 0
 TakesForChange old new e (Bits n) r = OnlyWrites old new
 TakesForChange old new e (Content source) r =
-    (IsSomeAnd r (HasNothingToCopy (copying_from source AStruct false)) × (new ≡ old)) ⊎
+    (IsSomeAnd r (HasNothingToCopy source AStruct) × (new ≡ old)) ⊎
     ((s : Sections) × (m : Meter) × LeadsToStruct (root_of source) (once_at_root source) s ×
     TakesAtMost (result_of r) (children_original s.first (min e.size.pointers s.pointers))
     (pointers_copied (struct_place e) old new s.limiter m))

@@ -29,7 +29,6 @@ use Rattle.capnp_edits.specs.declared.edit.tasks.Sought.TheVariants.{List as For
 use Rattle.capnp_edits.specs.declared.edit.tasks.Sought.TheVariants.{StructList as ForStructs}
 use Rattle.capnp_edits.specs.declared.edit.tasks.Sought.TheVariants.{Text as ForText}
 use Rattle.capnp_edits.specs.declared.edit.tasks.Sought.TheVariants.{Data as ForData}
-use Rattle.capnp_edits.specs.Sources.{copying_from}
 
 -- A bit, or a number of 1, 2, 4 or 8 bytes, has no more bits than its element size.
 abbrev pub is_number : ElementSize → ℕ → Bool
@@ -86,7 +85,7 @@ task_of (GetList size default) = if_in_range (Search (ForList size) default)
 task_of (GetStructList size default) = if_in_range (Search (ForStructs size) default)
 task_of (GetText default) = if_in_range (Search ForText default)
 task_of (GetData default) = if_in_range (Search ForData default)
-task_of (CopyFrom source canonicalize) = if_in_range (CopyRoot (copying_from source Value canonicalize))
-task_of (SetStruct source canonicalize) = if_in_range (CopyRoot (copying_from source AStruct canonicalize))
-task_of (SetList source canonicalize) = if_in_range (CopyRoot (copying_from source AList canonicalize))
+task_of (CopyFrom source canonicalize) = if_in_range (CopyRoot (record { source = source; wanted = Value; canonicalize = canonicalize }))
+task_of (SetStruct source canonicalize) = if_in_range (CopyRoot (record { source = source; wanted = AStruct; canonicalize = canonicalize }))
+task_of (SetList source canonicalize) = if_in_range (CopyRoot (record { source = source; wanted = AList; canonicalize = canonicalize }))
 task_of (CopyContent source) = if_in_range (InStruct (Content source))

@@ -3,7 +3,6 @@ ghost use Rattle.std.specs.Prelude.{◌≡◌};
 ghost use Rattle.capnp_edits.specs.declared.edit.Op.TheVariants.{SetField};
 ghost use Rattle.capnp_edits.specs.declared.edit.tasks.StructChange.TheVariants.{Bits};
 ghost use Rattle.capnp_edits.specs.declared.edit.tasks.Task.TheVariants.{Make, InStruct, Search, CopyRoot};
-ghost use Rattle.capnp_edits.specs.Sources.{copying_from};
 ghost use Rattle.capnp_edits.specs.Tasks.{is_number, is_small_default, is_in_range, if_in_range, task_of};
 
 use crate::edit::copying::{Copying, Wanted};
@@ -194,7 +193,11 @@ fn field<'a>(size: ElementSize, index: u32, value: u64) -> Option<Task<'a>>
 
 /// A copy of what the root of another message leads to.
 fn copy_of(source: Source<'_>, wanted: Wanted, canonicalize: bool) -> Option<Task<'_>>
-    ensures { result ≡ if_in_range (CopyRoot (copying_from source.entry wanted canonicalize)) }
+    ensures { result ≡ if_in_range (CopyRoot (record {
+      source = source.entry;
+      wanted = wanted;
+      canonicalize = canonicalize;
+    })) }
 {
     if_in_range(Task::CopyRoot(Copying {
         source,

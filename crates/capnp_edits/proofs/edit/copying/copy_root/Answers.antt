@@ -59,7 +59,7 @@ returns-in_err-value-in-Struct-clause-done g c =
 pub returns-in_err-value-in-Struct-clause-counted : goal.returns-in_err-value-in-Struct-clause-counted
 returns-in_err-value-in-Struct-clause-counted g c =
     let p = err_from_is_err_and c.from_residual-in_err-value-in-Struct.result c.from_residual-in_err-value-in-Struct.ensures.1 in
-    rw (p.1, p.2) (unread_counted c.args.copying _ _ (struct_unread _ c.args.copying c.in_ok-root.root _ _ _ c.in-Struct.is c.in_ok-root.ensures.found c.in_err-value-in-Struct.ensures.refused))
+    rw (p.1, p.2) (unread_counted c.args.copying.source c.args.copying.wanted _ _ (struct_unread _ c.args.copying c.in_ok-root.root _ _ _ c.in-Struct.is c.in_ok-root.ensures.found c.in_err-value-in-Struct.ensures.refused))
 
 pub returns-in_err-value-in-Struct-clause-taken : goal.returns-in_err-value-in-Struct-clause-taken
 returns-in_err-value-in-Struct-clause-taken g c =
@@ -95,7 +95,7 @@ returns-in_err-list-in-List-clause-done g c =
 pub returns-in_err-list-in-List-clause-counted : goal.returns-in_err-list-in-List-clause-counted
 returns-in_err-list-in-List-clause-counted g c =
     let p = err_from_is_err_and c.from_residual-in_err-list-in-List.result c.from_residual-in_err-list-in-List.ensures.1 in
-    rw (p.1, p.2) (unread_counted c.args.copying _ _ (list_unread _ c.args.copying c.in_ok-root.root _ _ _ c.in-List.is c.in_ok-root.ensures.found c.in_err-list-in-List.ensures.refused))
+    rw (p.1, p.2) (unread_counted c.args.copying.source c.args.copying.wanted _ _ (list_unread _ c.args.copying c.in_ok-root.root _ _ _ c.in-List.is c.in_ok-root.ensures.found c.in_err-list-in-List.ensures.refused))
 
 pub returns-in_err-list-in-List-clause-taken : goal.returns-in_err-list-in-List-clause-taken
 returns-in_err-list-in-List-clause-taken g c =

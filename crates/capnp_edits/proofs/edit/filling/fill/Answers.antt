@@ -2,7 +2,7 @@ use Rattle.std.proofs.Common.{IfErr, inl, false, refl, sym, subst}
 use Rattle.std.proofs.lemmas.Result.{err_from_is_err_and}
 use Rattle.capnp_readers.specs.declared.readers.struct_reader.StructPlace.{StructPlace}
 use Rattle.capnp_edits.specs.declared.edit.copying.Wanted.TheVariants.{Struct as AStruct}
-use Rattle.capnp_edits.specs.Sources.{copying_from, ContentFitsBehind}
+use Rattle.capnp_edits.specs.Sources.{ContentFitsBehind}
 use Rattle.capnp_edits.specs.Edits.{refusal_of, FillsAt, none_filled}
 use Rattle.capnp_edits.proofs.Copied.{unread_counted, struct_unread}
 use Rattle.capnp_builders.specs.Places.{IsAligned}
@@ -17,7 +17,7 @@ returns-in_err-root-clause-filled g c =
 pub returns-in_err-root-clause-counted : goal.returns-in_err-root-clause-counted
 returns-in_err-root-clause-counted g c =
     let p = err_from_is_err_and c.from_residual.result c.from_residual.ensures.1 in
-    rw (p.1, p.2) (unread_counted (copying_from c.args.source AStruct false) _ _ (inl c.in_err-root.ensures.refused))
+    rw (p.1, p.2) (unread_counted c.args.source AStruct _ _ (inl c.in_err-root.ensures.refused))
 
 pub returns-in_err-root-clause-named : goal.returns-in_err-root-clause-named
 returns-in_err-root-clause-named g c =
@@ -35,17 +35,17 @@ returns-in_err-root-clause-fits g c = λ fits. absurd (fill_unread (g.A.BuilderA
 pub returns-in_err-value-clause-filled : goal.returns-in_err-value-clause-filled
 returns-in_err-value-clause-filled g c =
     let p = err_from_is_err_and c.from_residual-in_err-value.result c.from_residual-in_err-value.ensures.1 in
-    rw (p.1, p.2) (none_filled _ (struct_unread _ (copying_from c.args.source AStruct false) c.in_ok-root.root _ _ _ refl c.in_ok-root.ensures.found c.in_err-value.ensures.refused) refl refl)
+    rw (p.1, p.2) (none_filled _ (struct_unread _ (record { source = c.args.source; wanted = AStruct; canonicalize = false }) c.in_ok-root.root _ _ _ refl c.in_ok-root.ensures.found c.in_err-value.ensures.refused) refl refl)
 
 pub returns-in_err-value-clause-counted : goal.returns-in_err-value-clause-counted
 returns-in_err-value-clause-counted g c =
     let p = err_from_is_err_and c.from_residual-in_err-value.result c.from_residual-in_err-value.ensures.1 in
-    rw (p.1, p.2) (unread_counted (copying_from c.args.source AStruct false) _ _ (struct_unread _ (copying_from c.args.source AStruct false) c.in_ok-root.root _ _ _ refl c.in_ok-root.ensures.found c.in_err-value.ensures.refused))
+    rw (p.1, p.2) (unread_counted c.args.source AStruct _ _ (struct_unread _ (record { source = c.args.source; wanted = AStruct; canonicalize = false }) c.in_ok-root.root _ _ _ refl c.in_ok-root.ensures.found c.in_err-value.ensures.refused))
 
 pub returns-in_err-value-clause-named : goal.returns-in_err-value-clause-named
 returns-in_err-value-clause-named g c =
     let p = err_from_is_err_and c.from_residual-in_err-value.result c.from_residual-in_err-value.ensures.1 in
-    rw (p.1, p.2) (c.args.parent, refl, inl (struct_unread _ (copying_from c.args.source AStruct false) c.in_ok-root.root _ _ _ refl c.in_ok-root.ensures.found c.in_err-value.ensures.refused, refl))
+    rw (p.1, p.2) (c.args.parent, refl, inl (struct_unread _ (record { source = c.args.source; wanted = AStruct; canonicalize = false }) c.in_ok-root.root _ _ _ refl c.in_ok-root.ensures.found c.in_err-value.ensures.refused, refl))
 
 pub returns-in-Some-clause-filled : goal.returns-in-Some-clause-filled
 returns-in-Some-clause-filled g c =
@@ -93,10 +93,10 @@ copy_over-requires-clause-aligned g c = subst IsAligned (sym c.in-Some.ensures.p
 pub returns-in_err-value-clause-taken : goal.returns-in_err-value-clause-taken
 returns-in_err-value-clause-taken g c =
     let p = err_from_is_err_and c.from_residual-in_err-value.result c.from_residual-in_err-value.ensures.1 in
-    rw (p.1, p.2) (inl (struct_unread _ (copying_from c.args.source AStruct false) c.in_ok-root.root _ _ _ refl c.in_ok-root.ensures.found c.in_err-value.ensures.refused, refl))
+    rw (p.1, p.2) (inl (struct_unread _ (record { source = c.args.source; wanted = AStruct; canonicalize = false }) c.in_ok-root.root _ _ _ refl c.in_ok-root.ensures.found c.in_err-value.ensures.refused, refl))
 
 pub returns-in_err-value-clause-fits : goal.returns-in_err-value-clause-fits
-returns-in_err-value-clause-fits g c = λ fits. absurd (fill_unread (g.A.BuilderArena.view c.args.arena.now) c.args.parent.segment c.args.source c.args.parent.size.pointers _ (struct_unread _ (copying_from c.args.source AStruct false) c.in_ok-root.root _ _ _ refl c.in_ok-root.ensures.found c.in_err-value.ensures.refused) fits)
+returns-in_err-value-clause-fits g c = λ fits. absurd (fill_unread (g.A.BuilderArena.view c.args.arena.now) c.args.parent.segment c.args.source c.args.parent.size.pointers _ (struct_unread _ (record { source = c.args.source; wanted = AStruct; canonicalize = false }) c.in_ok-root.root _ _ _ refl c.in_ok-root.ensures.found c.in_err-value.ensures.refused) fits)
 
 pub returns-in-Some-clause-fits : goal.returns-in-Some-clause-fits
 returns-in-Some-clause-fits g c = λ fits.
