@@ -282,7 +282,8 @@ pub data CopiesRoot (S R : Segments) (place : PointerPlace) (c : Copying) (r : O
       CopiesRoot S R place c r
   root_not_copied : (k : ErrorKind) → (is_allocation_name k ≡ true) ⊎ IsUnreadable c k → r ≡ Some k →
       Puts S R place.segment place.word Null → CopiesRoot S R place c r
-  root_unread : (k : ErrorKind) → HasNothingToCopy c.source c.wanted k → r ≡ Some k → R ≡ S → CopiesRoot S R place c r
+  root_unread : (k : ErrorKind) → HasNothingToCopy c.source c.wanted k → r ≡ Some k → R ≡ S →
+      CopiesRoot S R place c r
 
 -- From S on a struct takes the data of a source's struct, and then the pointers that are read of it
 -- are copied to its first ones.

@@ -205,8 +205,8 @@ OfWanted AList r c Says = (l : ListElements) × (m : Meter) × LeadsToList r c.b
 
 -- Where there is a value to be copied, reading isn't refused.
 abbrev pub CopiedOrRefused : Type 0
-CopiedOrRefused = (c : Copying) (u : Tree) (k : ErrorKind) → Copies c u → HasNothingToCopy c.source c.wanted k ⊎
-    IsUnreadable c k → ⊥
+CopiedOrRefused = (c : Copying) (u : Tree) (k : ErrorKind) → Copies c u →
+    HasNothingToCopy c.source c.wanted k ⊎ IsUnreadable c k → ⊥
 
 -- Where the pointers can be read that a source's struct and one of q pointers both have, reading
 -- isn't refused.

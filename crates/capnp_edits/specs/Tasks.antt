@@ -85,7 +85,10 @@ task_of (GetList size default) = if_in_range (Search (ForList size) default)
 task_of (GetStructList size default) = if_in_range (Search (ForStructs size) default)
 task_of (GetText default) = if_in_range (Search ForText default)
 task_of (GetData default) = if_in_range (Search ForData default)
-task_of (CopyFrom source canonicalize) = if_in_range (CopyRoot (record { source = source; wanted = Value; canonicalize = canonicalize }))
-task_of (SetStruct source canonicalize) = if_in_range (CopyRoot (record { source = source; wanted = AStruct; canonicalize = canonicalize }))
-task_of (SetList source canonicalize) = if_in_range (CopyRoot (record { source = source; wanted = AList; canonicalize = canonicalize }))
+task_of (CopyFrom source canonicalize) =
+    if_in_range (CopyRoot (record { source = source; wanted = Value; canonicalize = canonicalize }))
+task_of (SetStruct source canonicalize) =
+    if_in_range (CopyRoot (record { source = source; wanted = AStruct; canonicalize = canonicalize }))
+task_of (SetList source canonicalize) =
+    if_in_range (CopyRoot (record { source = source; wanted = AList; canonicalize = canonicalize }))
 task_of (CopyContent source) = if_in_range (InStruct (Content source))
