@@ -59,11 +59,10 @@ where
 
 /// Yes or no, as 1 and 0.
 pub fn flag(text: &str) -> Result<bool, Fault> {
-    match number(text) {
-        Ok(0u8) => Ok(false),
-        Ok(1) => Ok(true),
-        Ok(_) => Err(Fault::Unfit),
-        Err(fault) => Err(fault),
+    match number(text)? {
+        0u8 => Ok(false),
+        1 => Ok(true),
+        _ => Err(Fault::Unfit),
     }
 }
 
@@ -72,25 +71,21 @@ pub fn limit(text: &str) -> Result<Option<usize>, Fault> {
     if text == "none" {
         return Ok(None);
     }
-    match number(text) {
-        Ok(words) => Ok(Some(words)),
-        Err(fault) => Err(fault),
-    }
+    Ok(Some(number(text)?))
 }
 
 /// The size of elements, 0 to 7.
 pub fn element_size(text: &str) -> Result<ElementSize, Fault> {
-    match number(text) {
-        Ok(0u8) => Ok(ElementSize::Void),
-        Ok(1) => Ok(ElementSize::Bit),
-        Ok(2) => Ok(ElementSize::Byte),
-        Ok(3) => Ok(ElementSize::TwoBytes),
-        Ok(4) => Ok(ElementSize::FourBytes),
-        Ok(5) => Ok(ElementSize::EightBytes),
-        Ok(6) => Ok(ElementSize::Pointer),
-        Ok(7) => Ok(ElementSize::InlineComposite),
-        Ok(_) => Err(Fault::Unfit),
-        Err(fault) => Err(fault),
+    match number(text)? {
+        0u8 => Ok(ElementSize::Void),
+        1 => Ok(ElementSize::Bit),
+        2 => Ok(ElementSize::Byte),
+        3 => Ok(ElementSize::TwoBytes),
+        4 => Ok(ElementSize::FourBytes),
+        5 => Ok(ElementSize::EightBytes),
+        6 => Ok(ElementSize::Pointer),
+        7 => Ok(ElementSize::InlineComposite),
+        _ => Err(Fault::Unfit),
     }
 }
 
