@@ -4,9 +4,10 @@ those of tests/edits/CRATE/ beside them.
 
     every_edit.py [CRATE..]
 
-The edits are put together in a copy of the tree, with the folders out/ that it has, and `rt must-fail` is run there.
-The last line is `N passed, M failed`, where what passes is an edit that the prover refuses; the exit status is 0
-exactly where M is 0."""
+The edits are put together in copies of the tree, with the folders out/ that it has, and `rt must-fail` is run there, a
+crate at a time in each copy. There are as many copies as processors, and no more than memory holds at 4 GB each. A
+library below that no check has built yet is built in each copy. The last line is `N passed, M failed`, where what
+passes is an edit that the prover refuses; the exit status is 0 exactly where M is 0."""
 import os
 import pathlib
 import re
@@ -14,14 +15,25 @@ import shutil
 import subprocess
 import sys
 import tempfile
+import threading
+from concurrent.futures import ThreadPoolExecutor
 
 TOP = pathlib.Path(__file__).resolve().parents[1]
 EDITS = TOP / 'tests/edits'
 REFUSED = re.compile(r'(?:rt: )?must-fail (\w+/[\w.-]+\.edit): refused')
+# A line of one crate's edits is shown whole before another one's.
+PRINTING = threading.Lock()
 
 
 def say(text):
     print(text, flush=True)
+
+
+def side_by_side():
+    """How many crates are tried side by side."""
+    free = re.search(r'MemAvailable:\s*(\d+)', pathlib.Path('/proc/meminfo').read_text(encoding='utf-8'))
+    held = int(free[1]) // 4_000_000 if free else 1
+    return max(min(len(os.sched_getaffinity(0)), held), 1)
 
 
 def lent(source, target):
@@ -50,36 +62,58 @@ def copied(room):
     return {it.parents[1].name for it in room.glob('crates/*/must-fail/*.edit')}
 
 
-def tried(room, names):
-    """Tries the edits of the crates of these names, and returns how many there are, which of them are refused, and the status."""
-    edits = {f'{name}/{it.name}' for name in names for it in (room / 'crates' / name / 'must-fail').glob('*.edit')}
+def tried(room, name):
+    """Tries the edits of a crate, and returns how many there are, how many of them are refused, and the status."""
+    edits = {f'{name}/{it.name}' for it in (room / 'crates' / name / 'must-fail').glob('*.edit')}
     refused = set()
-    with subprocess.Popen(['rt', 'must-fail', *names], cwd=room, stdin=subprocess.DEVNULL, stdout=subprocess.PIPE, encoding='utf-8', errors='surrogateescape') as run:
+    with subprocess.Popen(['rt', 'must-fail', name], cwd=room, stdin=subprocess.DEVNULL, stdout=subprocess.PIPE, encoding='utf-8', errors='surrogateescape') as run:
         for line in run.stdout:
-            print(line, end='', flush=True)
+            with PRINTING:
+                print(line, end='', flush=True)
             found = REFUSED.match(line)
             if found:
                 refused.add(found[1])
     return len(edits), len(refused & edits), run.returncode
 
 
+def all_tried(rooms, names):
+    """Tries the edits of crates, in as many copies of the tree as there are, those with the most edits first."""
+    idle = list(rooms)
+
+    def in_idle_room(name):
+        room = idle.pop()
+        try:
+            return tried(room, name)
+        finally:
+            idle.append(room)
+
+    most = sorted(names, key=lambda it: -len(list((rooms[0] / 'crates' / it / 'must-fail').glob('*.edit'))))
+    with ThreadPoolExecutor(len(rooms)) as pool:
+        return list(pool.map(in_idle_room, most))
+
+
 def main():
     # as it came, whatever the locale
     sys.stdout.reconfigure(encoding='utf-8', errors='surrogateescape')
-    with tempfile.TemporaryDirectory(prefix='every-edit-') as room:
+    with tempfile.TemporaryDirectory(prefix='every-edit-') as top:
         try:
-            having = copied(pathlib.Path(room))
             lacking = [it for it in sys.argv[1:] if not (TOP / 'crates' / it / 'src').is_dir()]
             if lacking:
                 raise FileNotFoundError(f'{lacking[0]}: there is no such crate')
+            rooms = [pathlib.Path(top) / '1']
+            having = copied(rooms[0])
             names = [it for it in sys.argv[1:] or sorted(having) if it in having]
-            count, passed, status = tried(pathlib.Path(room), names) if names else (0, 0, 0)
+            for lane in range(2, min(side_by_side(), len(names)) + 1):
+                rooms.append(pathlib.Path(top) / str(lane))
+                copied(rooms[-1])
+            results = all_tried(rooms, names)
         except OSError as error:
             say(f'not tried: {error}')
-            count, passed, status = 1, 0, 1
+            results = [(1, 0, 1)]
+    count, passed = (sum(it[at] for it in results) for at in (0, 1))
     failed = count - passed
-    if status and not failed:
-        say(f'`rt must-fail` ended with status {status} where all edits were refused, which is a failure')
+    if not failed and any(status for _, _, status in results):
+        say('`rt must-fail` ended with another status than 0 where all edits were refused, which is a failure')
         failed = 1
     say(f'{passed} passed, {failed} failed')
     return 1 if failed else 0

@@ -11,7 +11,11 @@ Shows what all print. Each ends in a line `N passed, M failed`, which is shown b
 all is `N passed, M failed` of them together, and the exit status is 0 exactly where M is 0.
 
 `rt ci` begins with no `out/` folder, and leaves there the programs that it built. A program of an earlier run is
-removed before, so that the new one is run or none: then that is one failure."""
+removed before, so that the new one is run or none: then that is one failure.
+
+It is told to check one crate a processor, in one job each (RT_JOBS, where that isn't set already): shared among four
+jobs, a first check takes a third more of the processors' time."""
+import os
 import pathlib
 import re
 import shutil
@@ -43,12 +47,19 @@ def remove(path):
         path.unlink(missing_ok=True)
 
 
-def counted(name, command):
+def side_by_side():
+    """How many checks run side by side: one a processor, and no more than memory holds at 4 GB each."""
+    free = re.search(r'MemAvailable:\s*(\d+)', pathlib.Path('/proc/meminfo').read_text(encoding='utf-8'))
+    held = int(free[1]) // 4_000_000 if free else 1
+    return max(min(len(os.sched_getaffinity(0)), held), 1)
+
+
+def counted(name, command, **settings):
     """Runs a command, shows what it prints, and returns how many passed and failed, by its last line. An exit status
     that says otherwise, or a run that counts nothing, is one more failure."""
     last = ''
     try:
-        with subprocess.Popen(command, cwd=TOP, stdin=subprocess.DEVNULL, stdout=subprocess.PIPE, encoding='utf-8', errors='surrogateescape') as run:
+        with subprocess.Popen(command, cwd=TOP, env={**settings, **os.environ}, stdin=subprocess.DEVNULL, stdout=subprocess.PIPE, encoding='utf-8', errors='surrogateescape') as run:
             for line in run.stdout:
                 last = line.rstrip('\n')
                 say(f'{name}: {last}' if COUNTS.fullmatch(last) else last)
@@ -91,7 +102,7 @@ def main():
         counted('names', [sys.executable, str(TOP / 'tests/names.py')]),
         counted('pages', [sys.executable, str(TOP / 'tests/theorem.py'), '--check']),
         counted('header', [sys.executable, str(TOP / 'tests/library/header.py')]),
-        counted('rt ci', proving(sys.argv[1:])),
+        counted('rt ci', proving(sys.argv[1:]), RT_JOBS=str(side_by_side())),
         *(over_programs(*it) for it in OVER_PROGRAMS),
     ]
     passed, failed = (sum(it) for it in zip(*parts))
