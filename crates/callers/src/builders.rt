@@ -106,10 +106,8 @@ pub fn read_back<'a, L: Allocator>(
         MeansTheSame (⟦<BuilderArenaImpl<L> as BuilderArena>⟧.view built.now).words
         (message (⟦<ReaderArenaImpl<OutputSegments<'a>> as ReaderArena>⟧.segments r))) }
 {
-    match built.get_segments_for_output() {
-        Ok(output) => Ok(ReaderArenaImpl::new(output, ReaderOptions::default())),
-        Err(k) => Err(k),
-    }
+    let output = built.get_segments_for_output()?;
+    Ok(ReaderArenaImpl::new(output, ReaderOptions::default()))
 }
 
 /// Does what edits say, and reads what the message then gives to be written out: its root means there

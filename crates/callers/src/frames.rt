@@ -17,10 +17,9 @@ pub fn read_frame(bytes: &[u8]) -> Result<FrameSegments<'_>, FrameError>
     ensures { (S : Segments) → IsFrameOf S bytes.now → IsOkAnd result
         (λ f. message (⟦<FrameSegments<'static> as ReaderSegments>⟧.segments f) ≡ S) }
 {
-    match read_from_flat_slice(bytes, u64::MAX) {
-        Ok(Some(segments)) => Ok(segments),
-        Ok(None) => Err(FrameError::Truncated),
-        Err(error) => Err(error),
+    match read_from_flat_slice(bytes, u64::MAX)? {
+        Some(segments) => Ok(segments),
+        None => Err(FrameError::Truncated),
     }
 }
 

@@ -82,10 +82,8 @@ pub fn canonical_copy_in_room<A: BuilderArena, S: ReaderSegments + Drop>(
 {
     let source = ReaderArenaImpl::new(segments, limits);
     let mut lim = ReadLimiter::new(limits.traversal_limit_in_words);
-    match read_root(&source, &mut lim) {
-        Ok(root) => PointerBuilder::get_root(arena).copy_from(root, &mut lim, true),
-        Err(kind) => Err(kind),
-    }
+    let root = read_root(&source, &mut lim)?;
+    PointerBuilder::get_root(arena).copy_from(root, &mut lim, true)
 }
 
 /// The test for canonical form ("Canonicalization").
