@@ -1,5 +1,5 @@
 -- Where a message has a canonical copy, only want of memory refuses it; where it can be read, the test answers.
-use Rattle.std.proofs.Common.{◌≡◌, ◌⊎◌, inl, inr, refl, ℕ, Bool, Result, Ok, Err, IsOk, IfErr, length}
+use Rattle.std.proofs.Common.{◌≡◌, inl, inr, refl, ℕ, Bool, Result, Ok, Err, IsOk, IfErr, length}
 use Rattle.capnp_words.specs.declared.error.ErrorKind.{ErrorKind}
 use Rattle.capnp_words.specs.declared.error.ErrorKind.TheVariants.{AllocationFailed}
 use Rattle.capnp_format.specs.Segments.{Segments}

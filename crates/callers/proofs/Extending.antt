@@ -1,9 +1,9 @@
 -- Words put behind others.
 use Rattle.std.proofs.Common.{◌≡◌, ℕ, zero, suc, ◌+◌, ◌<◌, List, [], ◌∷◌, ◌++◌, length, replicate, slice_set, refl, ap, ◌∙◌, arith}
 use Rattle.std.proofs.lemmas.List.{append_assoc, length-append}
-use Rattle.capnp_format.specs.Bytes.{message}
 use Rattle.capnp_format.specs.Segments.{Segments, segment}
 use Rattle.capnp_arena.specs.Written.{extended, with_word}
+use Rattle.capnp_arena.proofs.MessageLemmas.{length-message}
 
 set_last : (xs : List ℕ) (old x : ℕ) → slice_set (xs ++ old ∷ []) (length xs) x ≡ xs ++ x ∷ []
 set_last [] old x = refl
@@ -32,8 +32,4 @@ segment_longer [] s x l = absurd (omega arith)
 segment_longer (t ∷ S) zero x l = length-append t (x ∷ [])
 segment_longer (t ∷ S) (suc s) x l = segment_longer S s x (omega arith)
 
-pub length_message : (B : List (List ℕ)) → length (message B) ≡ length B
-length_message [] = refl
-length_message (b ∷ B) = ap suc (length_message B)
-
-pub ruleset extending = (written_last, extended_twice, segment_longer, length_extended, length_message)
+pub ruleset extending = (written_last, extended_twice, segment_longer, length_extended, length-message)

@@ -12,25 +12,25 @@ use Rattle.capnp_framing.proofs.FrameLemmas.{one_frame_begins, written_is_frame}
 use Rattle.capnp_framing.proofs.ReadingLemmas.{frame_is_read}
 use Rattle.callers.specs.Meaning.{MeansTheSame}
 
--- as many words as a budget may count
-abbrev most_words : ℕ
-most_words = 18446744073709551615
+-- how many words a budget counts at most
+abbrev greatest_budget : ℕ
+greatest_budget = 18446744073709551615
 
 total_most : (S : Segments) → All (λ (ws : List ℕ). length ws < 2 ^ 32) S → total S ≤ max_length * length S
 total_most [] short = omega arith
 total_most (ws ∷ S) short =
     omega (arith, All-head (λ (xs : List ℕ). length xs < 2 ^ 32) ws S short, total_most S (All-tail (λ (xs : List ℕ). length xs < 2 ^ 32) ws S short))
 
-total_small : (S : Segments) → CanBeFramed S → total S ≤ most_words
+total_small : (S : Segments) → CanBeFramed S → total S ≤ greatest_budget
 total_small S h = omega (arith, total_most S h.short, h.few)
 
-pub is_that_message : (S R : Segments) (bytes : List ℕ) → IsFrameOf S bytes → BeginsWithFrame bytes most_words R → R ≡ S
+pub is_that_message : (S R : Segments) (bytes : List ℕ) → IsFrameOf S bytes → BeginsWithFrame bytes greatest_budget R → R ≡ S
 is_that_message S R bytes framed begins =
     sym (one_frame_begins S R bytes begins.front [] begins.behind framed begins.framed (append-nil bytes ∙ begins.is)).0
 
-pub is_no_fault : (S : Segments) (bytes : List ℕ) (e : FrameError) → IsFrameOf S bytes → NoFrame bytes most_words e → ⊥
+pub is_no_fault : (S : Segments) (bytes : List ℕ) (e : FrameError) → IsFrameOf S bytes → NoFrame bytes greatest_budget e → ⊥
 is_no_fault S bytes e framed none =
-    frame_is_read S bytes [] most_words e framed (total_small S framed.message) (subst (λ (xs : List ℕ). NoFrame xs most_words e) (sym (append-nil bytes)) none)
+    frame_is_read S bytes [] greatest_budget e framed (total_small S framed.message) (subst (λ (xs : List ℕ). NoFrame xs greatest_budget e) (sym (append-nil bytes)) none)
 
 -- bytes that are all of an output are those that were written there
 pub is_frame : (S : Segments) (bytes : List ℕ) (contents : Option (List ℕ)) → CanBeFramed S → contents ≡ Some (frame S) → Some bytes ≡ contents → IsFrameOf S bytes
