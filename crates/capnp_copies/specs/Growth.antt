@@ -1,6 +1,7 @@
 -- How many words a copy takes of a message, whether it ends or is refused: those of its objects,
 -- and its landing pads.
-use Rattle.std.specs.Prelude.{◌≡◌, ◌≢◌, ℕ, ◌+◌, ◌<◌, ◌≤◌, true, length, sum_by, Some, Result, IfOk, IfErr, MatchResult, ⊤}
+use Rattle.std.specs.Prelude.{◌≡◌, ◌≢◌, ℕ, ◌+◌, ◌<◌, ◌≤◌, true, length, sum_by, Some, ⊤}
+use Rattle.std.specs.Prelude.{Result, IfOk, IfErr, MatchResult}
 use Rattle.capnp_words.specs.declared.error.ErrorKind.{ErrorKind}
 use Rattle.capnp_format.specs.Segments.{Segments, segment}
 use Rattle.capnp_arena.specs.Taking.{SameRoomBelow}

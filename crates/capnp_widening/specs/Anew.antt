@@ -10,7 +10,8 @@ use Rattle.capnp_format.specs.Word.{kind, is_double, struct_word, upper_half}
 use Rattle.capnp_arena.specs.View.{View, KeepsLimits}
 use Rattle.capnp_making.specs.declared.existing.ExistingStruct.{ExistingStruct}
 use Rattle.capnp_making.specs.Makes.{CallAt}
-use Rattle.capnp_making.specs.Memory.{KeepsMemory, SpendsMemory, RefusesWords, StandsBehind, TakesWords, start_of}
+use Rattle.capnp_making.specs.Memory.{KeepsMemory, SpendsMemory, RefusesWords}
+use Rattle.capnp_making.specs.Memory.{StandsBehind, TakesWords, start_of}
 use Rattle.capnp_making.specs.declared.making.Start.{Start}
 use Rattle.capnp_widening.specs.Moved.{CanMove, Move, Moves, MovesSome, row_of_moves, rows_of_moves}
 use Rattle.capnp_widening.specs.Rooms.{GrowsByAtMost, HasSomeRoom, widened_words}
