@@ -14,7 +14,7 @@ all is `N passed, M failed` of them together, and the exit status is 0 exactly w
 removed before, so that the new one is run or none: then that is one failure.
 
 It is told to check one crate a processor, in one job each (RT_JOBS, where that isn't set already): shared among four
-jobs, a first check takes a third more of the processors' time."""
+jobs, the first check of capnp_words took a third more of the processors' time."""
 import os
 import pathlib
 import re
