@@ -1,5 +1,5 @@
 -- An object that is made where another value was, which becomes zero first.
-use Rattle.std.proofs.Common.{◌≡◌, ℕ, Result, Ok, Err, OnOk, OnErr, IfOk, refl, sym, subst, arith}
+use Rattle.std.proofs.Common.{◌≡◌, ℕ, Result, Ok, Err, OnOk, OnErr, IfOk, refl, sym, subst, arith, ap, ◌∙◌}
 use Rattle.capnp_words.specs.declared.error.ErrorKind.{ErrorKind}
 use Rattle.capnp_format.specs.Segments.{Segments}
 use Rattle.capnp_format.specs.Tree.{Tree, Null}
@@ -9,6 +9,10 @@ use Rattle.capnp_making.specs.Path.{extent}
 use Rattle.capnp_making.specs.Stored.{IsReplaced, Puts}
 use Rattle.capnp_making.specs.Zeroed.{IsApart, IsPruned, IsZeroed}
 use Rattle.capnp_making.specs.declared.making.Start.{Start}
+use Rattle.capnp_format.specs.Forest.{target_in}
+use Rattle.capnp_making.specs.Made.{IsMadeAt}
+use Rattle.capnp_making.specs.Memory.{StandsBehind}
+use Rattle.capnp_making.specs.declared.making.Shape.{Shape}
 use Rattle.capnp_making.proofs.Memory.{keeps_both, keeps_written, refused_after, room_left}
 use Rattle.capnp_making.proofs.OldWords.{old_zeroed}
 use Rattle.capnp_making.proofs.Placed.{zeroed_replaced}
@@ -75,3 +79,14 @@ refused_as k c t n m = record {
   refused = m.refused;
   only = m.only;
 }
+
+-- What is made at a place starts where its pointer leads.
+pub made_starts : (result : Result Start ErrorKind) (old new : View) (id at n : ℕ) (shape : Shape) → IfOk result (IsMadeAt old.words new.words id at shape n) → IfOk result (StandsBehind old id n) → IfOk result (ObjectStartsAt (call_at id at old new) n)
+made_starts (Ok h) old new id at n shape (a, m, is, is_segment, is_start) behind =
+    let same = ap target_in m.leads_there.1 in
+    record {
+      leads = (is_segment ∙ sym (ap (λ b. b.segment) same), is_start ∙ sym (ap (λ b. b.start) same));
+      inside = rw (is_segment, is_start) (m.exists, m.claims);
+      behind = behind;
+    }
+made_starts (Err k) old new id at n shape made behind = tt

@@ -1,9 +1,13 @@
-use Rattle.std.proofs.Common.{◌≡◌, ap, sym, arith}
+use Rattle.std.proofs.Common.{◌≡◌, ap, sym, arith, IfOk, subst}
 use Rattle.capnp_format.specs.Segments.{Segments}
 use Rattle.capnp_making.proofs.Memory.{words_in}
 use Rattle.capnp_making.proofs.MadeWords.{word_put}
 use Rattle.capnp_making.proofs.Placed.{struct_made, empty_made}
 use Rattle.capnp_making.proofs.Outcomes.{on_ok_so}
+use Rattle.capnp_arena.specs.View.{View}
+use Rattle.capnp_making.specs.Makes.{Allocates, ObjectStartsAt, call_at}
+use Rattle.capnp_making.specs.declared.making.Shape.TheVariants.{Struct as StructShape}
+use Rattle.capnp_making.proofs.ObjectsMade.{made_starts}
 use Rattle.capnp_making.proofs.making.make_struct.Goals as goal
 
 pub returns-then-words-eq0-clause-made : goal.returns-then-words-eq0-clause-made
@@ -22,3 +26,13 @@ returns-clause-made g c =
     let total = c.total-words.ensures in
     on_ok_so c.put_object.result _ _ c.put_object.ensures.made (λ h made.
     (let (a, m, shape, is_segment, is_start) = made in struct_made S R c.args.id c.args.at c.args.size.data_words c.args.size.pointers a c.requires.place (rw total at m) shape.0 shape.1 shape.2))
+
+pub returns-clause-start : goal.returns-clause-start
+returns-clause-start g c =
+    let old : View = g.A.BuilderArena.view c.args.arena.now in
+    let new : View = g.A.BuilderArena.view c.put_object.new.arena in
+    subst (λ n. IfOk c.put_object.result (ObjectStartsAt (call_at c.args.id c.args.at old new) n)) c.total-words.ensures (made_starts c.put_object.result old new c.args.id c.args.at c.total-words.result (StructShape c.args.size) c.put_object.ensures.made c.put_object.ensures.behind)
+
+pub returns-clause-memory : goal.returns-clause-memory
+returns-clause-memory g c =
+    subst (Allocates c.put_object.result (call_at c.args.id c.args.at (g.A.BuilderArena.view c.args.arena.now) (g.A.BuilderArena.view c.put_object.new.arena))) c.total-words.ensures c.put_object.ensures.memory

@@ -1,12 +1,20 @@
-use Rattle.std.proofs.Common.{◌+◌, ◌∙◌, ℕ, refl, ap, arith}
-use Rattle.capnp_format.specs.Segments.{Segments}
+use Rattle.std.proofs.Common.{◌+◌, ◌≤◌, length, ◌∙◌, ℕ, refl, ap, arith, ◌≡◌, sym, ◌<◌, ◌^◌}
+use Rattle.capnp_format.specs.Canonical.{Reaches}
+use Rattle.capnp_format.specs.Segments.{Segments, segment}
 use Rattle.capnp_arena.specs.View.{View}
+use Rattle.capnp_arena.specs.Taking.{IsTaken}
 use Rattle.capnp_making.specs.Made.{IsGrown, IsShape}
-use Rattle.capnp_making.proofs.Memory.{words_in}
+use Rattle.capnp_making.proofs.Memory.{words_in, keeps_both, keeps_written}
 use Rattle.capnp_making.proofs.MadeWords.{made_far, taken_grown, word_put}
 use Rattle.capnp_making.proofs.Shapes.{shape_near}
 use Rattle.capnp_making.proofs.Taken.{anywhere_lengthens, lengthens_more, lengthens_written}
+use Rattle.std.proofs.lemmas.Result.{err_from_is_err_and}
+use Rattle.capnp_arena.specs.Written.{with_word}
 use Rattle.capnp_making.proofs.making.put_far.Goals as goal
+
+-- The word behind a pointer is in its reach.
+next_reached : (p : ℕ) → Reaches p (p + 1)
+next_reached p = (omega arith, omega arith)
 
 -- The pointer's segment has no word fewer than before.
 pub set_word-requires-2 : goal.set_word-requires-2
@@ -30,7 +38,7 @@ returns-clause-made g c =
     let x : ℕ = c.pointer_to-word.result.0 in
     let shaped : IsShape c.args.shape x = c.pointer_to-word.ensures.shape in
     let grown : IsGrown S T k q (n + 1) = taken_grown S T (n + 1) k q c.in_ok-segment.ensures.taken in
-    let whole = made_far S T U R c.args.id c.args.at k q n x c.new_far.result.0 c.requires.place grown (ap words_in c.set_word.ensures) (ap words_in c.set_word-2.ensures) (shape_near c.args.shape x shaped) (omega arith, omega arith)
+    let whole = made_far S T U R c.args.id c.args.at k q n x c.new_far.result.0 c.requires.place grown (ap words_in c.set_word.ensures) (ap words_in c.set_word-2.ensures) (shape_near c.args.shape x shaped) (next_reached q)
     c.pointer_to-word.ensures.offset c.new_far.ensures.kind_of c.new_far.ensures.pads c.new_far.ensures.position_of c.new_far.ensures.segment_of in
     (record { word = x; segment = k; start = q + 1; pads = 1 }, whole, shaped, refl, refl)
 
@@ -48,3 +56,47 @@ returns-clause-taken g c =
     let put = word_put U R c.args.id c.args.at c.new_far.result.0 (omega (arith, c.requires.place, lengthens_more old.words T k n c.args.id long, pad.words c.args.id)) (ap words_in c.set_word-2.ensures) in
     let all = lengthens_written old.words T R k n long (put.segments ∙ pad.segments) (λ v. put.words v ∙ pad.words v) in
     (next, all, ap (λ m. m + 1) start)
+
+pub returns-clause-granted : goal.returns-clause-granted
+returns-clause-granted g c =
+    let old : View = g.A.BuilderArena.view c.args.arena.now in
+    let mid : View = g.A.BuilderArena.view c.allocate_anywhere.new.self in
+    let new : View = g.A.BuilderArena.view c.set_word-2.new.self in
+    let grown : IsGrown old.words mid.words c.in_ok-segment.segment c.in_ok-segment.pad (c.args.amount + 1) = taken_grown old.words mid.words (c.args.amount + 1) c.in_ok-segment.segment c.in_ok-segment.pad c.in_ok-segment.ensures.taken in
+    keeps_both old mid new grown.grows.segments (c.in_ok-segment.ensures.granted, c.in_ok-segment.ensures.room)
+    (keeps_written mid new _ (c.set_word-2.ensures ∙ ap (λ (v : View). record v { words = with_word v.words c.args.id c.args.at c.new_far.result.0 }) c.set_word.ensures))
+
+-- A refusal is that of the arena.
+pub returns-in_err-segment-clause-named : goal.returns-in_err-segment-clause-named
+returns-in_err-segment-clause-named g c =
+    let old : View = g.A.BuilderArena.view c.args.arena.now in
+    let new : View = g.A.BuilderArena.view c.allocate_anywhere.new.self in
+    let same : new ≡ record old { refusals = new.refusals } = c.in_err-segment.ensures.refused in
+    let p = err_from_is_err_and c.from_residual.result c.from_residual.ensures.1 in
+    rw (p.1, p.2) (c.in_err-segment.ensures.named, same ∙ ap (λ (S : Segments). record old { words = S; refusals = new.refusals }) (sym (ap words_in same)))
+
+pub returns-in_err-segment-clause-fits : goal.returns-in_err-segment-clause-fits
+returns-in_err-segment-clause-fits g c = λ k first. absurd (c.in_err-segment.ensures.first k first)
+
+-- The words that are taken are fewer than a segment holds.
+next_fits : (S T : Segments) (n s p room : ℕ) → IsTaken S T (n + 1) s p → length (segment T s) ≤ room → room < 2 ^ 29 → p + 1 < 2 ^ 32
+next_fits S T n s p room taken within small = omega (arith, (taken_grown S T (n + 1) s p taken).room)
+
+pad_there : (S T : Segments) (n s p : ℕ) → IsTaken S T (n + 1) s p → p < length (segment T s)
+pad_there S T n s p taken = omega (arith, (taken_grown S T (n + 1) s p taken).room)
+
+pub overflow_add-pad : goal.overflow_add-pad
+overflow_add-pad g c =
+    let now = c.allocate_anywhere.new.self in
+    record { fits = next_fits _ _ c.args.amount c.in_ok-segment.segment c.in_ok-segment.pad _ c.in_ok-segment.ensures.taken (g.met.A.BuilderArena.within now _) (g.met.A.BuilderArena.small now _) }
+
+pub overflow_add-result : goal.overflow_add-result
+overflow_add-result g c =
+    let now = c.allocate_anywhere.new.self in
+    record { fits = next_fits _ _ c.args.amount c.in_ok-segment.segment c.in_ok-segment.pad _ c.in_ok-segment.ensures.taken (g.met.A.BuilderArena.within now _) (g.met.A.BuilderArena.small now _) }
+
+pub pointer_to-word-requires-clause-reaches : goal.pointer_to-word-requires-clause-reaches
+pointer_to-word-requires-clause-reaches g c = next_reached c.in_ok-segment.pad
+
+pub set_word-requires : goal.set_word-requires
+set_word-requires g c = pad_there _ _ c.args.amount c.in_ok-segment.segment c.in_ok-segment.pad c.in_ok-segment.ensures.taken

@@ -1,15 +1,23 @@
-use Rattle.std.proofs.Common.{◌≡◌, ◌∙◌, ℕ, length, replicate, refl, sym, ap, subst, arith}
+use Rattle.std.proofs.Common.{◌≡◌, ◌∙◌, ◌<◌, ◌≤◌, ℕ, length, replicate, refl, sym, ap, subst, arith, ◌+◌, inl, inr, Result, Ok, IsOk, IfOk, OnOk, OnErr, IfErr}
 use Rattle.capnp_format.specs.Canonical.{Reaches, offset_to}
-use Rattle.capnp_format.specs.Segments.{Segments, segment}
+use Rattle.capnp_format.specs.Segments.{Segments, segment, IsPlace}
 use Rattle.capnp_arena.specs.View.{View}
-use Rattle.capnp_making.specs.Made.{IsGrown, IsMade, IsShape}
-use Rattle.capnp_arena.specs.Written.{with_word}
-use Rattle.capnp_making.specs.Near.{offset_behind, shape_word, with_object}
-use Rattle.capnp_making.proofs.Memory.{words_in}
-use Rattle.capnp_making.proofs.MadeWords.{made_near, extended_grown}
+use Rattle.capnp_making.specs.Made.{IsGrown, IsMade, IsShape, IsMadeAt}
+use Rattle.capnp_arena.specs.Written.{with_word, with_more, extended}
+use Rattle.capnp_making.specs.Near.{offset_behind, shape_word, with_object, HasOwnRoom}
+use Rattle.capnp_making.proofs.Memory.{words_in, keeps_written}
+use Rattle.capnp_making.proofs.MadeWords.{made_near, extended_grown, word_put}
 use Rattle.capnp_making.proofs.NearMade.{object_put}
 use Rattle.capnp_making.proofs.Shapes.{shape_some, shape_near}
 use Rattle.capnp_making.proofs.Zeros.{there}
+use Rattle.std.proofs.lemmas.Bool.{false≢true}
+use Rattle.capnp_words.specs.declared.error.ErrorKind.{ErrorKind}
+use Rattle.capnp_arena.specs.Taking.{IsFirstFit}
+use Rattle.capnp_making.specs.Makes.{Allocates, call_at}
+use Rattle.capnp_making.specs.Memory.{IsNextRoom, IsRefusedFor, KeepsMemory, Lengthens}
+use Rattle.capnp_making.specs.declared.making.Start.{Start}
+use Rattle.capnp_making.proofs.Outcomes.{if_ok_so, on_ok_so}
+use Rattle.capnp_making.proofs.Taken.{extended_lengthens, lengthens_written}
 use Rattle.capnp_making.proofs.making.put_object.Goals as goal
 
 -- A near pointer to words behind those of its segment.
@@ -38,3 +46,76 @@ returns-in-Some-clause-near g c = λ fits.
     ap words_in c.set_word.ensures ∙ ap (λ (v : View). with_word v.words c.args.id c.args.at x) made
     ∙ object_put S c.args.id c.args.at x (replicate c.args.amount 0) c.requires.place
     ∙ ap (λ y. with_object S c.args.id c.args.at y (replicate c.args.amount 0)) word)
+
+-- Words behind those of the pointer's segment are all that is taken.
+near_allocates : (old mid new : View) (id at n x : ℕ) (h : Start) → IsPlace old.words id at → HasOwnRoom old id n → mid ≡ with_more old id (replicate n 0) → new ≡ record mid { words = with_word mid.words id at x } →
+    Allocates {A = Start} (Ok h) (call_at id at old new) n
+near_allocates old mid new id at n x h place room made put =
+    let T : Segments = extended old.words id (replicate n 0) in
+    let whole : new ≡ record old { words = with_word T id at x } = put ∙ ap (λ (v : View). record v { words = with_word v.words id at x }) made in
+    let longer : Lengthens old.words T id n = extended_lengthens old.words id n (there old.words id at place) in
+    let same = word_put T new.words id at x (omega (arith, place, longer.gained)) (ap words_in whole) in
+    let long : Lengthens old.words new.words id n = lengthens_written old.words T new.words id n longer same.segments same.words in
+    record {
+      fits = λ _. refl;
+      granted = keeps_written old new (with_word T id at x) whole;
+      taken = record { near = λ _. long; far = λ full. absurd (omega (arith, full, room)) };
+      named = tt;
+    }
+
+-- An object that its pointer's segment has no room for, as one behind a landing pad.
+record IsPutFar (r : Result Start ErrorKind) (old new : View) (n : ℕ) : Type 0 where
+  fits : (k : ℕ) → IsFirstFit old (n + 1) k → IsOk r
+  granted : OnOk r (KeepsMemory old new)
+  taken : IfOk r (λ h. IsNextRoom old (n + 1) h.segment × Lengthens old.words new.words h.segment (n + 1) × (h.at ≡ length (segment old.words h.segment) + 1))
+  named : IfErr r (IsRefusedFor old new n)
+
+is_put_far : (g : _) (c : goal.After-put_far g) → IsPutFar c.put_far.result (g.A.BuilderArena.view c.args.arena.now) (g.A.BuilderArena.view c.put_far.new.arena) c.args.amount
+is_put_far g c =
+    let e = c.put_far.ensures in
+    subst (λ (v : View). IsPutFar c.put_far.result v (g.A.BuilderArena.view c.put_far.new.arena) c.args.amount) (c.in-None.ensures.none refl)
+    (record { fits = e.fits; granted = e.granted; taken = e.taken; named = e.named })
+
+no_room : (g : _) (c : goal.After-put_far g) → HasOwnRoom (g.A.BuilderArena.view c.args.arena.now) c.args.id c.args.amount → ⊥
+no_room g c = λ own. false≢true (c.in-None.ensures.exactly.1 own)
+
+far_allocates : (r : Result Start ErrorKind) (old new : View) (id at n : ℕ) → (HasOwnRoom old id n → ⊥) → IsPutFar r old new n → Allocates r (call_at id at old new) n
+far_allocates r old new id at n full x = record {
+  fits = λ room. elim room [ inl own ↦ absurd (full own) | inr (k, first) ↦ x.fits k first ];
+  granted = x.granted;
+  taken = on_ok_so r _ _ x.taken (λ h took. record { near = λ own. absurd (full own); far = λ _. (h.segment, took.0, took.1) });
+  named = x.named;
+}
+
+pub returns-in-Some-clause-memory : goal.returns-in-Some-clause-memory
+returns-in-Some-clause-memory g c =
+    near_allocates (g.A.BuilderArena.view c.args.arena.now) (g.A.BuilderArena.view c.allocate.new.self) (g.A.BuilderArena.view c.set_word.new.self) c.args.id c.args.at c.args.amount c.pointer_to-word.result.0 _
+    c.requires.place (c.in-Some.ensures.exactly.0 refl) c.in-Some.ensures.taken.1 c.set_word.ensures
+
+too_few : {m n : ℕ} → m < n → n ≤ m → ⊥
+too_few less more = omega arith
+
+pub returns-in-Some-clause-behind : goal.returns-in-Some-clause-behind
+returns-in-Some-clause-behind g c = record { near = λ _ _. (refl, c.in-Some.ensures.taken.0); far = λ full. absurd (too_few full (c.in-Some.ensures.exactly.0 refl)) }
+
+pub returns-in-None-clause-memory : goal.returns-in-None-clause-memory
+returns-in-None-clause-memory g c =
+    far_allocates c.put_far.result (g.A.BuilderArena.view c.args.arena.now) (g.A.BuilderArena.view c.put_far.new.arena) c.args.id c.args.at c.args.amount (no_room g c) (is_put_far g c)
+
+pub returns-in-None-clause-behind : goal.returns-in-None-clause-behind
+returns-in-None-clause-behind g c =
+    if_ok_so c.put_far.result _ _ (is_put_far g c).taken (λ h took. record { near = λ _ own. absurd (no_room g c own); far = λ _. (took.0, took.2) })
+
+pub returns-in-None-clause-near : goal.returns-in-None-clause-near
+returns-in-None-clause-near g c = λ own. absurd (no_room g c own)
+
+pub returns-in-None-clause-at_end : goal.returns-in-None-clause-at_end
+returns-in-None-clause-at_end g c = λ own. absurd (no_room g c own)
+
+pub returns-in-None-clause-made : goal.returns-in-None-clause-made
+returns-in-None-clause-made g c =
+    subst (λ (v : View). IfOk c.put_far.result (IsMadeAt v.words (g.A.BuilderArena.view c.put_far.new.arena).words c.args.id c.args.at c.args.shape c.args.amount)) (c.in-None.ensures.none refl) c.put_far.ensures.made
+
+pub returns-in-None-clause-refused : goal.returns-in-None-clause-refused
+returns-in-None-clause-refused g c =
+    subst (λ (v : View). OnErr c.put_far.result ((g.A.BuilderArena.view c.put_far.new.arena).words ≡ v.words)) (c.in-None.ensures.none refl) c.put_far.ensures.refused
