@@ -179,14 +179,17 @@ impl<'a, A: BuilderArena> PointerBuilder<'a, A> {
             ≡ struct_word (2 ^ 30 - 1) 0 0) }
         ensures builder { KeepsBuilder self.old self.new }
     {
-        let start = making::init_struct(&mut *self.arena, self.segment, self.at, size)?;
-        Ok(StructPlace {
-            segment: start.segment,
-            byte: 8 * u64::from(start.at),
-            bits: 64 * u32::from(size.data_words),
-            pointers_at: start.at + u32::from(size.data_words),
-            pointers: size.pointers,
-        })
+        // No `?`: with it a caller that hands the place on is slower (docs/SPEED.md).
+        match making::init_struct(&mut *self.arena, self.segment, self.at, size) {
+            Ok(start) => Ok(StructPlace {
+                segment: start.segment,
+                byte: 8 * u64::from(start.at),
+                bits: 64 * u32::from(size.data_words),
+                pointers_at: start.at + u32::from(size.data_words),
+                pointers: size.pointers,
+            }),
+            Err(k) => Err(k),
+        }
     }
 
     /// The builder of a struct of the message.

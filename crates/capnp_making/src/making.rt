@@ -130,14 +130,19 @@ fn put_far<A: BuilderArena>(
     ensures named { IfErr result (IsRefusedFor (A.view arena.old) (A.view arena.new) amount) }
     ensures refused { OnErr result ((A.view arena.new).words ≡ (A.view arena.old).words) }
 {
-    let (segment, pad) = arena.allocate_anywhere(amount + 1)?;
-    let word = pointer_to(shape, pad, pad + 1);
-    arena.set_word(segment, pad, word.0);
-    arena.set_word(id, at, WirePointer::new_far(pad, segment).0);
-    Ok(Start {
-        segment,
-        at: pad + 1,
-    })
+    // No `?`: with it all that makes objects is slower (docs/SPEED.md).
+    match arena.allocate_anywhere(amount + 1) {
+        Ok((segment, pad)) => {
+            let word = pointer_to(shape, pad, pad + 1);
+            arena.set_word(segment, pad, word.0);
+            arena.set_word(id, at, WirePointer::new_far(pad, segment).0);
+            Ok(Start {
+                segment,
+                at: pad + 1,
+            })
+        }
+        Err(k) => Err(k),
+    }
 }
 
 /// Makes the pointer at a place null, and zero what it held: its object, all below it, and its

@@ -8,7 +8,6 @@ use Rattle.capnp_making.proofs.Memory.{words_in, keeps_both, keeps_written}
 use Rattle.capnp_making.proofs.MadeWords.{made_far, taken_grown, word_put}
 use Rattle.capnp_making.proofs.Shapes.{shape_near}
 use Rattle.capnp_making.proofs.Taken.{anywhere_lengthens, lengthens_more, lengthens_written}
-use Rattle.std.proofs.lemmas.Result.{err_from_is_err_and}
 use Rattle.capnp_arena.specs.Written.{with_word}
 use Rattle.capnp_making.proofs.making.put_far.Goals as goal
 
@@ -17,66 +16,65 @@ next_reached : (p : ℕ) → Reaches p (p + 1)
 next_reached p = (omega arith, omega arith)
 
 -- The pointer's segment has no word fewer than before.
-pub set_word-requires-2 : goal.set_word-requires-2
-set_word-requires-2 g c =
+pub set_word-requires-in-Ok : goal.set_word-requires-in-Ok
+set_word-requires-in-Ok g c =
     let S : Segments = (g.A.BuilderArena.view c.args.arena.now).words in
     let T : Segments = (g.A.BuilderArena.view c.allocate_anywhere.new.self).words in
-    let grown : IsGrown S T c.in_ok-segment.segment c.in_ok-segment.pad (c.args.amount + 1) = taken_grown S T (c.args.amount + 1) c.in_ok-segment.segment c.in_ok-segment.pad c.in_ok-segment.ensures.taken in
-    let put = word_put T _ c.in_ok-segment.segment c.in_ok-segment.pad c.pointer_to-word.result.0 (omega (arith, grown.room)) (ap words_in c.set_word.ensures) in
+    let grown : IsGrown S T c.in-Ok.segment c.in-Ok.pad (c.args.amount + 1) = taken_grown S T (c.args.amount + 1) c.in-Ok.segment c.in-Ok.pad c.in-Ok.ensures.taken in
+    let put = word_put T _ c.in-Ok.segment c.in-Ok.pad c.pointer_to-word.result.0 (omega (arith, grown.room)) (ap words_in c.set_word.ensures) in
     omega (arith, c.requires.place, grown.grows.words c.args.id, put.words c.args.id)
 
 -- A far pointer to a landing pad before the words.
-pub returns-clause-made : goal.returns-clause-made
-returns-clause-made g c =
+pub returns-in-Ok-clause-made : goal.returns-in-Ok-clause-made
+returns-in-Ok-clause-made g c =
     let S : Segments = (g.A.BuilderArena.view c.args.arena.now).words in
     let T : Segments = (g.A.BuilderArena.view c.allocate_anywhere.new.self).words in
     let U : Segments = (g.A.BuilderArena.view c.set_word.new.self).words in
-    let R : Segments = (g.A.BuilderArena.view c.set_word-2.new.self).words in
-    let k : ℕ = c.in_ok-segment.segment in
-    let q : ℕ = c.in_ok-segment.pad in
+    let R : Segments = (g.A.BuilderArena.view c.set_word-in-Ok.new.self).words in
+    let k : ℕ = c.in-Ok.segment in
+    let q : ℕ = c.in-Ok.pad in
     let n : ℕ = c.args.amount in
     let x : ℕ = c.pointer_to-word.result.0 in
     let shaped : IsShape c.args.shape x = c.pointer_to-word.ensures.shape in
-    let grown : IsGrown S T k q (n + 1) = taken_grown S T (n + 1) k q c.in_ok-segment.ensures.taken in
-    let whole = made_far S T U R c.args.id c.args.at k q n x c.new_far.result.0 c.requires.place grown (ap words_in c.set_word.ensures) (ap words_in c.set_word-2.ensures) (shape_near c.args.shape x shaped) (next_reached q)
+    let grown : IsGrown S T k q (n + 1) = taken_grown S T (n + 1) k q c.in-Ok.ensures.taken in
+    let whole = made_far S T U R c.args.id c.args.at k q n x c.new_far.result.0 c.requires.place grown (ap words_in c.set_word.ensures) (ap words_in c.set_word-in-Ok.ensures) (shape_near c.args.shape x shaped) (next_reached q)
     c.pointer_to-word.ensures.offset c.new_far.ensures.kind_of c.new_far.ensures.pads c.new_far.ensures.position_of c.new_far.ensures.segment_of in
     (record { word = x; segment = k; start = q + 1; pads = 1 }, whole, shaped, refl, refl)
 
 -- A word more than the object has is taken where there is room next, or in a new segment.
-pub returns-clause-taken : goal.returns-clause-taken
-returns-clause-taken g c =
+pub returns-in-Ok-clause-taken : goal.returns-in-Ok-clause-taken
+returns-in-Ok-clause-taken g c =
     let old : View = g.A.BuilderArena.view c.args.arena.now in
     let T : Segments = (g.A.BuilderArena.view c.allocate_anywhere.new.self).words in
     let U : Segments = (g.A.BuilderArena.view c.set_word.new.self).words in
-    let R : Segments = (g.A.BuilderArena.view c.set_word-2.new.self).words in
-    let k : ℕ = c.in_ok-segment.segment in
+    let R : Segments = (g.A.BuilderArena.view c.set_word-in-Ok.new.self).words in
+    let k : ℕ = c.in-Ok.segment in
     let n : ℕ = c.args.amount + 1 in
-    let (next, long, start) = anywhere_lengthens old (g.A.BuilderArena.view c.allocate_anywhere.new.self) n k c.in_ok-segment.pad c.in_ok-segment.ensures.first c.in_ok-segment.ensures.another in
-    let pad = word_put T U k c.in_ok-segment.pad c.pointer_to-word.result.0 (omega (arith, start, long.gained)) (ap words_in c.set_word.ensures) in
-    let put = word_put U R c.args.id c.args.at c.new_far.result.0 (omega (arith, c.requires.place, lengthens_more old.words T k n c.args.id long, pad.words c.args.id)) (ap words_in c.set_word-2.ensures) in
+    let (next, long, start) = anywhere_lengthens old (g.A.BuilderArena.view c.allocate_anywhere.new.self) n k c.in-Ok.pad c.in-Ok.ensures.first c.in-Ok.ensures.another in
+    let pad = word_put T U k c.in-Ok.pad c.pointer_to-word.result.0 (omega (arith, start, long.gained)) (ap words_in c.set_word.ensures) in
+    let put = word_put U R c.args.id c.args.at c.new_far.result.0 (omega (arith, c.requires.place, lengthens_more old.words T k n c.args.id long, pad.words c.args.id)) (ap words_in c.set_word-in-Ok.ensures) in
     let all = lengthens_written old.words T R k n long (put.segments ∙ pad.segments) (λ v. put.words v ∙ pad.words v) in
     (next, all, ap (λ m. m + 1) start)
 
-pub returns-clause-granted : goal.returns-clause-granted
-returns-clause-granted g c =
+pub returns-in-Ok-clause-granted : goal.returns-in-Ok-clause-granted
+returns-in-Ok-clause-granted g c =
     let old : View = g.A.BuilderArena.view c.args.arena.now in
     let mid : View = g.A.BuilderArena.view c.allocate_anywhere.new.self in
-    let new : View = g.A.BuilderArena.view c.set_word-2.new.self in
-    let grown : IsGrown old.words mid.words c.in_ok-segment.segment c.in_ok-segment.pad (c.args.amount + 1) = taken_grown old.words mid.words (c.args.amount + 1) c.in_ok-segment.segment c.in_ok-segment.pad c.in_ok-segment.ensures.taken in
-    keeps_both old mid new grown.grows.segments (c.in_ok-segment.ensures.granted, c.in_ok-segment.ensures.room)
-    (keeps_written mid new _ (c.set_word-2.ensures ∙ ap (λ (v : View). record v { words = with_word v.words c.args.id c.args.at c.new_far.result.0 }) c.set_word.ensures))
+    let new : View = g.A.BuilderArena.view c.set_word-in-Ok.new.self in
+    let grown : IsGrown old.words mid.words c.in-Ok.segment c.in-Ok.pad (c.args.amount + 1) = taken_grown old.words mid.words (c.args.amount + 1) c.in-Ok.segment c.in-Ok.pad c.in-Ok.ensures.taken in
+    keeps_both old mid new grown.grows.segments (c.in-Ok.ensures.granted, c.in-Ok.ensures.room)
+    (keeps_written mid new _ (c.set_word-in-Ok.ensures ∙ ap (λ (v : View). record v { words = with_word v.words c.args.id c.args.at c.new_far.result.0 }) c.set_word.ensures))
 
 -- A refusal is that of the arena.
-pub returns-in_err-segment-clause-named : goal.returns-in_err-segment-clause-named
-returns-in_err-segment-clause-named g c =
+pub returns-in-Err-clause-named : goal.returns-in-Err-clause-named
+returns-in-Err-clause-named g c =
     let old : View = g.A.BuilderArena.view c.args.arena.now in
     let new : View = g.A.BuilderArena.view c.allocate_anywhere.new.self in
-    let same : new ≡ record old { refusals = new.refusals } = c.in_err-segment.ensures.refused in
-    let p = err_from_is_err_and c.from_residual.result c.from_residual.ensures.1 in
-    rw (p.1, p.2) (c.in_err-segment.ensures.named, same ∙ ap (λ (S : Segments). record old { words = S; refusals = new.refusals }) (sym (ap words_in same)))
+    let same : new ≡ record old { refusals = new.refusals } = c.in-Err.ensures.refused in
+    (c.in-Err.ensures.named, same ∙ ap (λ (S : Segments). record old { words = S; refusals = new.refusals }) (sym (ap words_in same)))
 
-pub returns-in_err-segment-clause-fits : goal.returns-in_err-segment-clause-fits
-returns-in_err-segment-clause-fits g c = λ k first. absurd (c.in_err-segment.ensures.first k first)
+pub returns-in-Err-clause-fits : goal.returns-in-Err-clause-fits
+returns-in-Err-clause-fits g c = λ k first. absurd (c.in-Err.ensures.first k first)
 
 -- The words that are taken are fewer than a segment holds.
 next_fits : (S T : Segments) (n s p room : ℕ) → IsTaken S T (n + 1) s p → length (segment T s) ≤ room → room < 2 ^ 29 → p + 1 < 2 ^ 32
@@ -88,15 +86,15 @@ pad_there S T n s p taken = omega (arith, (taken_grown S T (n + 1) s p taken).ro
 pub overflow_add-pad : goal.overflow_add-pad
 overflow_add-pad g c =
     let now = c.allocate_anywhere.new.self in
-    record { fits = next_fits _ _ c.args.amount c.in_ok-segment.segment c.in_ok-segment.pad _ c.in_ok-segment.ensures.taken (g.met.A.BuilderArena.within now _) (g.met.A.BuilderArena.small now _) }
+    record { fits = next_fits _ _ c.args.amount c.in-Ok.segment c.in-Ok.pad _ c.in-Ok.ensures.taken (g.met.A.BuilderArena.within now _) (g.met.A.BuilderArena.small now _) }
 
 pub overflow_add-result : goal.overflow_add-result
 overflow_add-result g c =
     let now = c.allocate_anywhere.new.self in
-    record { fits = next_fits _ _ c.args.amount c.in_ok-segment.segment c.in_ok-segment.pad _ c.in_ok-segment.ensures.taken (g.met.A.BuilderArena.within now _) (g.met.A.BuilderArena.small now _) }
+    record { fits = next_fits _ _ c.args.amount c.in-Ok.segment c.in-Ok.pad _ c.in-Ok.ensures.taken (g.met.A.BuilderArena.within now _) (g.met.A.BuilderArena.small now _) }
 
 pub pointer_to-word-requires-clause-reaches : goal.pointer_to-word-requires-clause-reaches
-pointer_to-word-requires-clause-reaches g c = next_reached c.in_ok-segment.pad
+pointer_to-word-requires-clause-reaches g c = next_reached c.in-Ok.pad
 
 pub set_word-requires : goal.set_word-requires
-set_word-requires g c = pad_there _ _ c.args.amount c.in_ok-segment.segment c.in_ok-segment.pad c.in_ok-segment.ensures.taken
+set_word-requires g c = pad_there _ _ c.args.amount c.in-Ok.segment c.in-Ok.pad c.in-Ok.ensures.taken

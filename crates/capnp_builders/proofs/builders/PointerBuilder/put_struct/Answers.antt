@@ -4,5 +4,5 @@ use Rattle.capnp_builders.proofs.builders.PointerBuilder.put_struct.Goals as goa
 pub overflow_add-result : goal.overflow_add-result
 overflow_add-result g c =
     let arena = c.init_struct.new.arena in
-    let segment = c.in_ok-start.start.segment in
-    record { fits = omega (arith, c.in_ok-start.ensures.start.inside.1, g.met.A.BuilderArena.within arena segment, g.met.A.BuilderArena.small arena segment, c.from-2.ensures) }
+    let segment = c.in-Ok.start.segment in
+    record { fits = omega (arith, c.in-Ok.ensures.start.inside.1, g.met.A.BuilderArena.within arena segment, g.met.A.BuilderArena.small arena segment, c.from-in-Ok-2.ensures) }
