@@ -124,5 +124,5 @@ pub rows_wide_data : {f : CanonicalFault} {r : Reading} {size : StructSize} {n :
 rows_wide_data fault seen fails = (seen.elements, seen.counts, seen.found, inl (fault, (λ e. fails (seen.data_is.1 e))))
 
 pub rows_wide_pointers : {f : CanonicalFault} {r : Reading} {size : StructSize} {n : ℕ} {from to : Progress} {b c : Bool} →
-    FaultIs f ElementPointers r.segment (r.at - 1) → AreSeen r size n from to b c → (IsTrue c → ⊥) → AreFoundTooWide f r size n from to
-rows_wide_pointers fault seen fails = (seen.elements, seen.counts, seen.found, inr (fault, (λ e. fails (seen.pointers_are.1 e))))
+    FaultIs f ElementPointers r.segment (r.at - 1) → AreSeen r size n from to b c → IsTrue b → (IsTrue c → ⊥) → AreFoundTooWide f r size n from to
+rows_wide_pointers fault seen used fails = (seen.elements, seen.counts, seen.found, inr (fault, seen.data_is.0 used, (λ e. fails (seen.pointers_are.1 e))))

@@ -259,21 +259,25 @@ IsEmptyStruct a = (kind a.word ≡ 0) × (data_words a.word + pointer_count a.wo
 abbrev pub EndsUnused : Segments → ℕ → ℕ → ℕ → Type 0
 EndsUnused S s p n = (0 < n) × (word_at S s (p + n - 1) ≡ 0)
 
--- A section of the struct that starts at a place ends in a zero word, which the fault names.
+-- A section of the struct that starts at a place ends in a zero word, which the fault names: that of
+-- its data; or its data doesn't, and that of its pointers does.
 abbrev pub HasWideSection : CanonicalFault → Reading → StructSize → Type 0
 HasWideSection f r size =
     let first = r.at + size.data_words in
     (FaultIs f DataSection r.segment (first - 1) × EndsUnused r.segments r.segment r.at size.data_words)
     ⊎ (FaultIs f PointerSection r.segment (first + size.pointers - 1) ×
+    EndsUsed r.segments r.segment r.at size.data_words ×
     EndsUnused r.segments r.segment first size.pointers)
 
 -- The pointers of n elements of a size are canonical, and none of the elements uses its last word
--- of data, or its last pointer; the fault names the tag before the first element, at the place.
+-- of data; or some does, and none uses its last pointer. The fault names the tag before the first
+-- element, at the place.
 abbrev pub AreFoundTooWide : CanonicalFault → Reading → StructSize → ℕ → Progress → Progress → Type 0
 AreFoundTooWide f r size n from to =
     (es : Elements) × (element_count es ≡ n) × FindsElements r size from to es
     × ((FaultIs f ElementData r.segment (r.at - 1) × (data_width es ≢ size.data_words))
-    ⊎ (FaultIs f ElementPointers r.segment (r.at - 1) × (pointer_width es ≢ size.pointers)))
+    ⊎ (FaultIs f ElementPointers r.segment (r.at - 1) × (data_width es ≡ size.data_words) ×
+    (pointer_width es ≢ size.pointers)))
 
 -- A place isn't canonical by itself, for the reason and with the word that the fault f names, and
 -- the limiter is left as m'. No near pointer is there, and nothing is counted or charged; or its

@@ -84,9 +84,11 @@ impl<'a, A: ReaderArena> PointerReader<'a, A> {
     ghost use Rattle.capnp_readers.specs.Readers.{IsTarget, reading};
     ghost use Rattle.capnp_readers.specs.Calls.{IsRead, IsRefused, WhereRead, IsListRead, IsStructRead, AreBytesRead};
 
-    /// The pointer from nothing, which is null. Its nesting limit is `i32::MAX`.
+    /// The pointer from nothing, which is null: at word 0 of segment 0, of which there is none. Its nesting
+    /// limit is `i32::MAX`.
     pub fn new_default() -> Self
         ensures source { result.source ≡ Source.Nothing }
+        ensures place { (result.place.segment ≡ 0) × (result.place.at ≡ 0) }
         ensures nesting { result.nesting_limit ≡ i32.MAX }
     {
         PointerReader {

@@ -70,7 +70,8 @@ impl<'a, A: ReaderArena> PointerReader<'a, A> {
     /// refused and moved is as there.
     ///
     /// The fault is the first that is met, the pointers being tested in order, and its reason is true of
-    /// the word that it names.
+    /// the word that it names. Where both sections of a struct or of elements are wider than they need be,
+    /// it names the data.
     pub fn canonical_fault(
         &self,
         lim: &mut ReadLimiter,

@@ -175,6 +175,8 @@ impl<'a, A: ReaderArena> StructReader<'a, A> {
             → result.nesting_limit ≡ self.now.nesting_limit }
         ensures nothing { self.now.pointer_count ≤ index
             → (result.source ≡ Source.Nothing) × (result.nesting_limit ≡ i32.MAX) }
+        ensures nowhere { self.now.pointer_count ≤ index
+            → (result.place.segment ≡ 0) × (result.place.at ≡ 0) }
     {
         if index >= usize::from(self.pointer_count) {
             return PointerReader::new_default();

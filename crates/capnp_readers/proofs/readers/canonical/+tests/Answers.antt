@@ -1,4 +1,4 @@
-use Rattle.std.proofs.Common.{◌≡◌, ℕ, slice_index, nat_eq, cond, pred, ◌+◌, ◌*◌, ◌<◌, ◌≤◌, ◌↔◌, ◌⊎◌, IsTrue, length, Some, None, inl, inr, refl, sym, ap, ap₂, ◌∙◌, subst, arith, rules}
+use Rattle.std.proofs.Common.{◌≡◌, ℕ, slice_index, nat_eq, cond, pred, ◌+◌, ◌*◌, ◌-◌, ◌<◌, ◌≤◌, ◌↔◌, ◌⊎◌, IsTrue, length, Some, None, inl, inr, refl, sym, ap, ap₂, ◌∙◌, subst, arith, rules}
 use Rattle.std.proofs.lemmas.Bool.{false≢true, ne_eqb}
 use Rattle.std.proofs.lemmas.Int.{to_z-of_z}
 use mir.Syntax.{w32}
@@ -415,7 +415,7 @@ pub test_rows-returns-then-not-are_pointers_used-clause-failed : goal.test_rows-
 test_rows-returns-then-not-are_pointers_used-clause-failed g t c =
     let nl = to_z-of_z w32 c.args.nesting_limit (search rules) in
     let all : c.loop-i.i ≡ c.args.count = omega (arith, c.loop-i.auto.i-end, c.loop-i-test.false) in
-    rw c.fault_at-then-not-are_pointers_used.ensures (inr (c.loop-i.head, rows_wide_pointers (refl, refl, refl) (rw all at (rw nl at c.loop-i.invariant)) (λ used. false≢true (sym c.if-not-are_pointers_used.true ∙ used))))
+    rw c.fault_at-then-not-are_pointers_used.ensures (inr (c.loop-i.head, rows_wide_pointers (refl, refl, refl) (rw all at (rw nl at c.loop-i.invariant)) c.if-not-is_data_used.false (λ used. false≢true (sym c.if-not-are_pointers_used.true ∙ used))))
 
 pub test_place-returns-then-at-whole_words-clause-failed : goal.test_place-returns-then-at-whole_words-clause-failed
 test_place-returns-then-at-whole_words-clause-failed g t c =
@@ -458,3 +458,12 @@ test_list-returns-in_default-clause-failed g t c =
     let nl = to_z-of_z w32 c.args.nesting_limit (search rules) in
     let object : IsObject Value r c.args.lim.now c.read_object.new.lim c.in-Ok.object = rw nl at c.in-Ok.ensures.object in
     absurd (no_list_else c.in-Ok.object (lists_alone {r = r} c.args.lim.now c.read_object.new.lim c.in-Ok.object ready (rw c.requires.there at c.requires.is_list) object) c.in_default.not-Flat c.in_default.not-Pointers c.in_default.not-Structs)
+
+-- The pointer section is looked at where the data section is used.
+pub test_sections-returns-then-not-ends_used-2-clause-failed : goal.test_sections-returns-then-not-ends_used-2-clause-failed
+test_sections-returns-then-not-ends_used-2-clause-failed g t c =
+    let nl = to_z-of_z w32 c.args.nesting_limit (search rules) in
+    let used = rw (c.from-data_words.ensures, c.args.from.now.held.0) at (c.ends_used.ensures.used.0 c.if-not-ends_used.false) in
+    let unused = rw (c.if-not-ends_used-2.true, c.from-data_words.ensures, c.from-pointers.ensures, c.args.from.now.held.0) at c.ends_used-2.ensures.unused in
+    let word = ap₂ (λ d q. c.args.start + d + q - 1) c.from-data_words.ensures c.from-pointers.ensures in
+    rw c.fault_at-then-not-ends_used-2.ensures (inr (c.in_ok-end.end, rw (nl, c.from-data_words.ensures, c.from-pointers.ensures) at c.in_ok-end.ensures.tells, inr ((refl, refl, word), used, unused)))
