@@ -21,7 +21,7 @@ use Rattle.capnp_making.specs.declared.existing.ExistingBytes.{ExistingBytes}
 use Rattle.capnp_making.specs.declared.existing.ExistingList.{ExistingList}
 use Rattle.capnp_making.specs.Existing.{is_unfound, list_in, data_in, text_in}
 use Rattle.capnp_making.specs.Made.{nulls, words_of_zero, zero_struct}
-use Rattle.capnp_making.specs.Memory.{HasRoom, KeepsMemory, SpendsMemory, RefusesGrowth}
+use Rattle.capnp_making.specs.Memory.{HasRoom, KeepsMemory, SpendsMemory}
 use Rattle.capnp_making.specs.Near.{HasOwnRoom}
 use Rattle.capnp_making.proofs.Placed.{count-nulls}
 use Rattle.capnp_making.specs.Stored.{IsStored, IsReplaced}
@@ -40,7 +40,7 @@ use Rattle.capnp_readers.specs.declared.readers.list_reader.ListPlace.{ListPlace
 use Rattle.capnp_readers.specs.declared.readers.struct_reader.StructPlace.{StructPlace}
 use Rattle.capnp_making.specs.Makes.{CallAt}
 use Rattle.capnp_widening.specs.Opening.{IsNoWider, Opens, OpensStruct, struct_opened}
-use Rattle.capnp_widening.specs.Rooms.{HasRoomFor, OpeningFits, RefusesToBecome, direct_pointers, is_allocation_name, widened_words}
+use Rattle.capnp_widening.specs.Rooms.{HasRoomFor, OpeningFits, RefusesGrowth, RefusesToBecome, direct_pointers, is_allocation_name, widened_words}
 use Rattle.capnp_widening.specs.RowsRemade.{RefusesWider}
 use Rattle.capnp_widening.specs.Widened.{list_widened, widened}
 use Rattle.capnp_widening.proofs.Refusing.{growth_named}

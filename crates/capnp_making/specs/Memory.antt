@@ -71,8 +71,3 @@ SpendsMemory old new k =
 abbrev pub RefusesWords : View → View → ℕ → ErrorKind → Type 0
 RefusesWords old new n k = IsAllocationRefusal old new (length new.words) (n + 1) k ×
     ((j : ℕ) → IsFirstFit new (n + 1) j → ⊥)
-
--- An object of n words to which so many pointers are moved is refused by this name: for its words
--- and a pad, or for the two words of a landing pad of one of these pointers.
-abbrev pub RefusesGrowth : View → View → ℕ → ℕ → ErrorKind → Type 0
-RefusesGrowth old new n pointers k = RefusesWords old new n k ⊎ ((0 < pointers) × RefusesWords old new 1 k)

@@ -10,12 +10,12 @@ use Rattle.capnp_format.specs.Forest.{target}
 use Rattle.capnp_words.specs.Sizes.{size_number}
 use Rattle.capnp_words.specs.declared.wire_pointer.StructSize.{StructSize}
 use Rattle.capnp_making.specs.declared.existing.ExistingList.{ExistingList}
-use Rattle.capnp_making.specs.Memory.{HasRoom, SpendsMemory, RefusesGrowth, RefusesWords}
+use Rattle.capnp_making.specs.Memory.{HasRoom, SpendsMemory, RefusesWords}
 use Rattle.capnp_making.specs.Near.{HasOwnRoom}
 use Rattle.capnp_making.specs.Made.{structs_words, zero_elements}
 use Rattle.capnp_making.proofs.PlacedStructs.{count-zero_elements}
 use Rattle.capnp_widening.specs.declared.remaking.ElementRows.{ElementRows}
-use Rattle.capnp_widening.specs.Rooms.{GrowsByAtMost, RefusesToBecome, widened_words, direct_pointers, HasRoomFor, RemadeRowsFit}
+use Rattle.capnp_widening.specs.Rooms.{GrowsByAtMost, RefusesGrowth, RefusesToBecome, widened_words, direct_pointers, HasRoomFor, RemadeRowsFit}
 use Rattle.capnp_widening.specs.RowsRemade.{StoresRows, IsList}
 use Rattle.capnp_widening.specs.Widened.{fill_elements, struct_for_each, struct_for_each_tree, limited, list_widened}
 use Rattle.capnp_widening.proofs.Listed.{structs_widen}
@@ -127,13 +127,13 @@ numbers_take S s p t u l size wide two five wd wp i e =
       ap direct_pointers k.tree_of,
     )
 
-pub numbers_unmade : (a b : View) (s p n : ℕ) (l : ExistingList) (size : StructSize) (k : ErrorKind) → SpendsMemory a b k → RefusesWords a b n k →
+pub numbers_unmade : (a b : View) (s p n : ℕ) (l : ExistingList) (size : StructSize) (k : ErrorKind) → SpendsMemory a b k → RefusesWords a b n k → b.words ≡ a.words →
     ((t u : Tree) → IsList a.words s p l t → list_widened size.data_words size.pointers t ≡ Ok u → (widened_words u ≡ n) × (direct_pointers t ≡ 0)) →
     RefusesToBecome (IsList a.words s p l) (list_widened size.data_words size.pointers) a b k
-numbers_unmade a b s p n l size k memory full are = record {
-  name = growth_named a b n 0 k (inl full);
+numbers_unmade a b s p n l size k memory full same are = record {
+  name = growth_named a b n 0 k (inl (full, same));
   memory = memory;
-  full = λ t u i e. inl (subst (λ m. RefusesWords a b m k) (sym (are t u i e).0) full);
+  full = λ t u i e. inl (subst (λ m. RefusesWords a b m k) (sym (are t u i e).0) full, same);
 }
 
 pub numbers_fit : (v : View) (s p m : ℕ) (t u : Tree) → (widened_words u ≡ m) × (direct_pointers t ≡ 0) → HasRoomFor v s p t u → HasRoom v s m

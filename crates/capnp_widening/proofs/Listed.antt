@@ -1,5 +1,5 @@
 -- Which list a value is, and what it becomes.
-use Rattle.std.proofs.Common.{◌≡◌, ℕ, zero, suc, ◌+◌, ◌*◌, ◌^◌, ◌<◌, ◌≤◌, max, Bool, true, false, cond, ◌&&◌, nat_lt, nat_le, Option, Some, None, Result, Ok, Err, IfOk, OnOk, IfErr, List, length, refl, sym, ap, ◌∙◌, arith}
+use Rattle.std.proofs.Common.{◌≡◌, ℕ, zero, suc, ◌+◌, ◌*◌, ◌^◌, ◌<◌, ◌≤◌, max, Bool, true, false, cond, ◌&&◌, nat_lt, nat_le, Option, Some, None, Result, Ok, Err, IfOk, OnOk, OnErr, IfErr, List, length, refl, sym, ap, ◌∙◌, arith}
 use Rattle.std.proofs.lemmas.Bool.Decides.{nat_tests}
 use Rattle.capnp_words.specs.declared.error.ErrorKind.{ErrorKind}
 use Rattle.capnp_words.specs.declared.error.ErrorKind.TheVariants.{MessageTooLarge}
@@ -125,6 +125,10 @@ if_ok_both (Err k) P W Q h g f = tt
 pub if_err_so : {A E : Type 0} (r : Result A E) (P Q : E → Type 0) → IfErr r P → ((k : E) → P k → Q k) → IfErr r Q
 if_err_so (Ok x) P Q h f = tt
 if_err_so (Err k) P Q h f = f k h
+
+pub err_both : {A E : Type 0} (r : Result A E) (P : Type 0) (Q : E → Type 0) → OnErr r P → IfErr r Q → IfErr r (λ k. Q k × P)
+err_both (Ok x) P Q h g = tt
+err_both (Err k) P Q h g = (g, h)
 
 pub if_err_both : {A E : Type 0} (r : Result A E) (P Q W : E → Type 0) → IfErr r P → IfErr r Q → ((k : E) → P k → Q k → W k) → IfErr r W
 if_err_both (Ok x) P Q W h g f = tt

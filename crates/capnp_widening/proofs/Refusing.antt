@@ -4,9 +4,9 @@ use Rattle.capnp_words.specs.declared.error.ErrorKind.{ErrorKind}
 use Rattle.capnp_format.specs.Segments.{Segments, segment}
 use Rattle.capnp_arena.specs.Taking.{IsAllocationRefusal, IsFirstFit}
 use Rattle.capnp_arena.specs.View.{View}
-use Rattle.capnp_making.specs.Memory.{RefusesGrowth, RefusesWords}
+use Rattle.capnp_making.specs.Memory.{RefusesWords}
 use Rattle.capnp_making.proofs.Memory.{made_refused, words_in}
-use Rattle.capnp_widening.specs.Rooms.{is_allocation_name}
+use Rattle.capnp_widening.specs.Rooms.{RefusesGrowth, is_allocation_name}
 
 -- n words are refused where segment id has no room for them, and no segment has it for one more
 pub anywhere_refused : (a mid b : View) (id n : ℕ) (k : ErrorKind) → mid ≡ a → (length (segment a.words id) + n ≤ a.room id → ⊥) → IsAllocationRefusal mid b (length mid.words) (n + 1) k → b ≡ record mid { refusals = b.refusals } →
@@ -23,5 +23,5 @@ words_named a b n k (inr (inl h), none) = ap is_allocation_name h.0
 words_named a b n k (inr (inr h), none) = ap is_allocation_name h.0
 
 pub growth_named : (a b : View) (n pointers : ℕ) (k : ErrorKind) → RefusesGrowth a b n pointers k → is_allocation_name k ≡ true
-growth_named a b n pointers k (inl words) = words_named a b n k words
+growth_named a b n pointers k (inl (words, same)) = words_named a b n k words
 growth_named a b n pointers k (inr (some, words)) = words_named a b 1 k words

@@ -13,7 +13,7 @@ use Rattle.capnp_making.specs.declared.existing.ExistingStruct.{ExistingStruct}
 use Rattle.capnp_making.specs.declared.making.Start.{Start}
 use Rattle.capnp_making.specs.Existing.{struct_in, StructLiesIn}
 use Rattle.capnp_making.specs.Made.{zero_struct, words_of_zero, nulls, LeadsToStart}
-use Rattle.capnp_making.specs.Memory.{HasRoom, KeepsMemory, SpendsMemory, IsRefusedFor, RefusesGrowth, RefusesWords, StandsBehind, TakesWords, start_of}
+use Rattle.capnp_making.specs.Memory.{HasRoom, KeepsMemory, SpendsMemory, IsRefusedFor, RefusesWords, StandsBehind, TakesWords, start_of}
 use Rattle.capnp_making.specs.Stored.{IsStored, IsReplaced}
 use Rattle.capnp_making.proofs.Filling.{unchanged}
 use Rattle.capnp_making.proofs.FillingMade.{null_stored}
@@ -23,7 +23,7 @@ use Rattle.capnp_making.proofs.Replaced.{grown}
 use Rattle.capnp_making.specs.Makes.{call_at}
 use Rattle.capnp_widening.specs.Anew.{StandsAnew, WidensStructAnew}
 use Rattle.capnp_widening.specs.Opening.{LeadsToOne, OpensStruct, struct_opened}
-use Rattle.capnp_widening.specs.Rooms.{direct_pointers, GrowsForStruct, RefusesToBecome, widened_words}
+use Rattle.capnp_widening.specs.Rooms.{direct_pointers, GrowsForStruct, RefusesGrowth, RefusesToBecome, widened_words}
 use Rattle.capnp_widening.specs.Widened.{fill_words, fill_trees, GrowsByZeros, WidensStruct, LeavesAll, LeadsToWiderStruct, rewriting, widened}
 use Rattle.capnp_widening.proofs.Filled.{already_wide, wide_words, wide_trees}
 use Rattle.capnp_widening.proofs.Listed.{same_tree}
@@ -208,5 +208,5 @@ struct_unmade a b s p size k place null same named full =
       narrow = λ h. h;
       memory = refused.1;
       taken = omega (arith, ap all_words same);
-      full = inl (subst (λ n. RefusesWords a b n k) words refused.0);
+      full = inl (subst (λ n. RefusesWords a b n k) words refused.0, same);
     }

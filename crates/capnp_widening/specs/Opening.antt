@@ -19,10 +19,11 @@ use Rattle.capnp_making.specs.declared.making.Start.{Start}
 use Rattle.capnp_making.specs.Existing.{list_in, struct_in, StructLiesIn}
 use Rattle.capnp_making.specs.Made.{zero_struct}
 use Rattle.capnp_making.specs.Makes.{CallAt}
-use Rattle.capnp_making.specs.Memory.{KeepsMemory, SpendsMemory, RefusesGrowth}
+use Rattle.capnp_making.specs.Memory.{KeepsMemory, SpendsMemory}
 use Rattle.capnp_making.specs.Stored.{IsStored, IsReplaced}
 use Rattle.capnp_widening.specs.Anew.{BecomesAnew}
-use Rattle.capnp_widening.specs.Rooms.{GrowsByAtMost, RefusesToBecome, widened_words, direct_pointers}
+use Rattle.capnp_widening.specs.Rooms.{GrowsByAtMost, RefusesGrowth, RefusesToBecome, widened_words}
+use Rattle.capnp_widening.specs.Rooms.{direct_pointers}
 use Rattle.capnp_widening.specs.RowsRemade.{ListLiesIn}
 use Rattle.capnp_widening.specs.Widened.{HasSections, widened, list_widened}
 

@@ -9,7 +9,7 @@ use Rattle.capnp_format.specs.Forest.{target}
 use Rattle.capnp_words.specs.declared.wire_pointer.StructSize.{StructSize}
 use Rattle.capnp_arena.specs.View.{View}
 use Rattle.capnp_making.specs.Made.{structs_words}
-use Rattle.capnp_making.specs.Memory.{HasRoom, SpendsMemory, RefusesGrowth}
+use Rattle.capnp_making.specs.Memory.{HasRoom, SpendsMemory, RefusesWords}
 use Rattle.capnp_making.specs.Near.{HasOwnRoom}
 use Rattle.capnp_making.specs.Stored.{IsStored}
 use Rattle.capnp_widening.specs.declared.remaking.ElementRows.{ElementRows}
@@ -41,6 +41,14 @@ abbrev pub is_allocation_name : ErrorKind → Bool
 is_allocation_name AllocationFailed = true
 is_allocation_name (MessageTooLarge n) = true
 is_allocation_name k = false
+
+-- An object of n words to which so many pointers are moved is refused by this name: for its words
+-- and a pad, and then no words are taken; or for the two words of a landing pad of one of these
+-- pointers.
+abbrev pub RefusesGrowth : View → View → ℕ → ℕ → ErrorKind → Type 0
+RefusesGrowth old new n pointers k =
+    (RefusesWords old new n k × (new.words ≡ old.words))
+    ⊎ ((0 < pointers) × RefusesWords old new 1 k)
 
 -- The value that stands there finds no room for what it is to become, and a growth is refused by
 -- the name k: that of the words of what it becomes, or of a landing pad for one of its pointers.

@@ -17,14 +17,14 @@ use Rattle.capnp_making.specs.Existing.{list_in}
 use Rattle.capnp_making.specs.Fields.{field_in}
 use Rattle.capnp_making.specs.Made.{zero_elements, structs_words}
 use Rattle.capnp_making.specs.Makes.{CallAt}
-use Rattle.capnp_making.specs.Memory.{KeepsMemory, SpendsMemory, RefusesGrowth}
+use Rattle.capnp_making.specs.Memory.{KeepsMemory, SpendsMemory}
 use Rattle.capnp_making.specs.Path.{word_interval}
 use Rattle.capnp_making.specs.Stored.{IsStored, IsReplaced}
 use Rattle.capnp_making.specs.Zeroed.{row}
 use Rattle.capnp_widening.specs.declared.remaking.ElementRows.{ElementRows}
 use Rattle.capnp_widening.specs.Anew.{BecomesAnew, OnlyWrites, WidensListAnew, WritesAnew}
 use Rattle.capnp_widening.specs.Moved.{Move, Moves, rows_of_moves}
-use Rattle.capnp_widening.specs.Rooms.{GrowsForList, RefusesToBecome, WiderListFits}
+use Rattle.capnp_widening.specs.Rooms.{GrowsForList, RefusesGrowth, RefusesToBecome, WiderListFits}
 use Rattle.capnp_widening.specs.Widened.{LeavesAll, Rewriting, rewriting, fill_elements, struct_for_each}
 use Rattle.capnp_widening.specs.Widened.{struct_for_each_tree, limited, list_widened}
 

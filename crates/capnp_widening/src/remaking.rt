@@ -4,9 +4,9 @@ ghost use Rattle.std.specs.Prelude.{ℕ, ◌≡◌, ◌↔◌, ◌<◌, ◌≤�
 ghost use Rattle.capnp_arena.specs.View.{KeepsLimits};
 ghost use Rattle.capnp_format.specs.Segments.{Segments, segment, IsPlace, Grows};
 ghost use Rattle.capnp_making.specs.Made.{structs_words};
-ghost use Rattle.capnp_making.specs.Memory.{HasRoom, KeepsMemory, SpendsMemory, RefusesGrowth, RefusesWords, StandsBehind, TakesWords};
+ghost use Rattle.capnp_making.specs.Memory.{HasRoom, KeepsMemory, SpendsMemory, RefusesWords, StandsBehind, TakesWords};
 ghost use Rattle.capnp_making.specs.Near.{HasOwnRoom};
-ghost use Rattle.capnp_widening.specs.Rooms.{GrowsByAtMost, HasSomeRoom, RemadeRowsFit};
+ghost use Rattle.capnp_widening.specs.Rooms.{GrowsByAtMost, HasSomeRoom, RefusesGrowth, RemadeRowsFit};
 ghost use Rattle.capnp_widening.specs.Housed.{IsRoom, object_start};
 ghost use Rattle.capnp_widening.specs.Moved.{MovesSome, Unmoves};
 ghost use Rattle.capnp_widening.specs.RowsRemade.{AreRowsCopied, CopiesData, FillsRows, IsTagWritten, MakesListAnew, RowsInside, RefusesRows, StoresRows, element_moves};

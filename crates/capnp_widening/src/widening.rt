@@ -8,14 +8,14 @@ ghost use Rattle.capnp_format.specs.Forest.{target};
 ghost use Rattle.capnp_format.specs.Tree.{Tree};
 ghost use Rattle.capnp_making.specs.Existing.{StructLiesIn, struct_in};
 ghost use Rattle.capnp_making.specs.Made.{CountFits, AsksWords};
-ghost use Rattle.capnp_making.specs.Memory.{HasRoom, KeepsMemory, SpendsMemory, RefusesWords, RefusesGrowth, StandsBehind, TakesWords};
+ghost use Rattle.capnp_making.specs.Memory.{HasRoom, KeepsMemory, SpendsMemory, RefusesWords, StandsBehind, TakesWords};
 ghost use Rattle.capnp_making.specs.Makes.{call_at};
 ghost use Rattle.capnp_making.specs.Near.{HasOwnRoom};
 ghost use Rattle.capnp_making.specs.Stored.{IsStored};
 ghost use Rattle.capnp_making.specs.Zeroed.{IsPruned};
 ghost use Rattle.capnp_widening.specs.Anew.{MakesStructWider};
 ghost use Rattle.capnp_widening.specs.Housed.{IsRoom, AreWordsCopied, Settles, object_start};
-ghost use Rattle.capnp_widening.specs.Rooms.{GrowsByAtMost, HasSomeRoom, WiderStructFits, GrowsForStruct};
+ghost use Rattle.capnp_widening.specs.Rooms.{GrowsByAtMost, HasSomeRoom, RefusesGrowth, WiderStructFits, GrowsForStruct};
 ghost use Rattle.capnp_widening.specs.Widened.{IsStruct, rewriting};
 
 use crate::moving::{move_row, unmove_row};

@@ -5,7 +5,7 @@ use Rattle.capnp_format.specs.Segments.{Segments}
 use Rattle.capnp_arena.specs.View.{View}
 use Rattle.capnp_making.proofs.Outcomes.{if_ok_so, on_err_so, on_made_so}
 use Rattle.capnp_widening.specs.Widened.{limited}
-use Rattle.capnp_widening.proofs.Listed.{if_err_both, too_many}
+use Rattle.capnp_widening.proofs.Listed.{err_both, if_err_both, too_many}
 use Rattle.capnp_widening.proofs.ListRooms.{numbers_take, numbers_unmade, numbers_fit, numbers_small}
 use Rattle.capnp_widening.proofs.NumberLists.{numbers_inside}
 use Rattle.capnp_widening.proofs.PlainLists.{numbers_widened_to, numbers_refused}
@@ -75,7 +75,7 @@ returns-clause-wider g c =
       granted = e.made.granted;
       memory = e.made.memory;
       refused = on_err_so c.remake_numbers.result _ _ e.refused (λ same t i. nothing_grown a.words b.words same);
-      named = if_err_both c.remake_numbers.result _ _ _ e.made.memory e.full (λ k memory full. inr (numbers_unmade a b c.args.id c.args.at _ l c.args.size k memory full
+      named = if_err_both c.remake_numbers.result _ _ _ e.made.memory (err_both c.remake_numbers.result _ _ e.refused e.full) (λ k memory full. inr (numbers_unmade a b c.args.id c.args.at _ l c.args.size k memory full.0 full.1
           (λ t u i e. numbers_take a.words c.args.id c.args.at t u l c.args.size wide c.requires.kind.0 c.requires.kind.1 c.greater.ensures refl i e)));
       fits = λ h.
           (let (t, u, i, becomes, fits) = h in

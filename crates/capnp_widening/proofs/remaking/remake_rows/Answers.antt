@@ -120,6 +120,10 @@ returns-in_err-room-clause-made g c =
       refused = λ t i. nothing_grown (g.A.BuilderArena.view c.args.arena.now).words (g.A.BuilderArena.view c.begin_list.new.arena).words e.refused;
     })
 
+pub returns-in_err-room-clause-full : goal.returns-in_err-room-clause-full
+returns-in_err-room-clause-full g c =
+    let p = err_from_is_err_and c.from_residual.result c.from_residual.ensures.1 in rw (p.1, p.2) (inl (c.in_err-room.ensures.full, c.in_err-room.ensures.refused))
+
 pub returns-in-Err-clause-full : goal.returns-in-Err-clause-full
 returns-in-Err-clause-full g c =
     let S : View = g.A.BuilderArena.view c.args.arena.now in

@@ -104,7 +104,7 @@ returns-in_err-room-clause-wider g c =
 
 pub returns-in_err-room-clause-full : goal.returns-in_err-room-clause-full
 returns-in_err-room-clause-full g c =
-    let p = err_from_is_err_and c.from_residual.result c.from_residual.ensures.1 in rw (p.1, p.2) (inl (rw c.total.ensures at c.in_err-room.ensures.full))
+    let p = err_from_is_err_and c.from_residual.result c.from_residual.ensures.1 in rw (p.1, p.2) (inl (rw c.total.ensures at c.in_err-room.ensures.full, c.in_err-room.ensures.refused))
 
 pub returns-in-Err-clause-full : goal.returns-in-Err-clause-full
 returns-in-Err-clause-full g c =
