@@ -17,7 +17,7 @@ use Rattle.capnp_making.proofs.Leading.{single_far_leads}
 use Rattle.capnp_making.proofs.MadeWords.{word_put, not_far, outside}
 use Rattle.capnp_widening.proofs.Basics.{is_far}
 use Rattle.capnp_making.proofs.Zeros.{in_row}
-use Rattle.capnp_widening.specs.Pointed.{IsPointed}
+use Rattle.capnp_widening.specs.Pointed.{ArePlainPads, HasPlainPads, IsPointed}
 use Rattle.capnp_widening.proofs.SameObjects.{double_far_leads}
 
 -- a near pointer
@@ -91,3 +91,26 @@ pointed_double S T U V R s p v b k q f x h place exists fits g e e' e'' object s
       | inl none ↦ none
       | inr some ↦ (let i = in_row k q 2 u r (omega arith) in absurd (other i.0 i.1))
     ]
+
+-- and these two pads stand there
+pub pads_stand : (S T U V R : Segments) (s p k q f x h : ℕ) → p < length (segment S s) → IsGrown S T k q 2 → U ≡ with_word T k q f → V ≡ with_word U k (q + 1) x → R ≡ with_word V s p h →
+    (word_at R s p ≡ h) × (word_at R k q ≡ f) × (word_at R k (q + 1) ≡ x)
+pads_stand S T U V R s p k q f x h place g e e' e'' =
+    let first = word_put T U k q f (omega (arith, g.room)) e in
+    let second = word_put U V k (q + 1) x (omega (arith, g.room, first.words k)) e' in
+    let put = word_put V R s p h (omega (arith, place, g.grows.words s, first.words s, second.words s)) e'' in
+    let not_there = λ (r : ℕ) (l : q ≤ r). outside s p k r (λ u w. omega (arith, g.behind, subst (λ z. p < length (segment S z)) (sym u) place)) in (
+      put.here,
+      put.kept k q (not_there q (omega arith)) ∙ second.kept k q (outside k (q + 1) k q (λ u w. omega arith)) ∙ first.here,
+      put.kept k (q + 1) (not_there (q + 1) (omega arith)) ∙ second.here,
+    )
+
+-- a word that is no far pointer, or one to a single pad, has no two pads
+pub no_two_pads : (R : Segments) (x y : ℕ) → y ≡ x → (kind x ≡ 2 → is_double x ≡ 1 → ⊥) → HasPlainPads R y
+no_two_pads R x y e none = λ far double. absurd (none (ap kind (sym e) ∙ far) (ap is_double (sym e) ∙ double))
+
+-- a word that leads to two pads, which are these
+pub two_pads : (R : Segments) (y h k q f x : ℕ) → y ≡ h → upper_half h ≡ k → far_position h ≡ q → word_at R k q ≡ f → word_at R k (q + 1) ≡ x → ArePlainPads f x → HasPlainPads R y
+two_pads R y h k q f x e at to first second plain = λ far double.
+    subst (λ z. ArePlainPads (word_at R (upper_half z) (far_position z)) (word_at R (upper_half z) (far_position z + 1))) (sym e)
+    (rw (at, to) (rw (first, second) plain))

@@ -1,9 +1,9 @@
 -- Pointers written to objects that are there ("Inter-Segment Pointers").
-use Rattle.std.specs.Prelude.{◌≡◌, ◌⊎◌, ℕ, ◌<◌, ◌≤◌, [], ◌∷◌, length}
+use Rattle.std.specs.Prelude.{◌≡◌, ◌⊎◌, ℕ, ◌+◌, ◌<◌, ◌≤◌, [], ◌∷◌, length}
 use Rattle.capnp_format.specs.Segments.{Segments, Grows, segment, word_at, Target}
 use Rattle.capnp_format.specs.Means.{Leads}
 use Rattle.capnp_format.specs.Forest.{times, pads_of}
-use Rattle.capnp_format.specs.Word.{kind, upper_half}
+use Rattle.capnp_format.specs.Word.{kind, far_position, is_double, offset_bits, upper_half}
 use Rattle.capnp_making.specs.Path.{word_interval}
 use Rattle.capnp_making.specs.Made.{IsShape}
 use Rattle.capnp_making.specs.declared.making.Shape.{Shape}
@@ -28,3 +28,16 @@ abbrev pub PointsTo : Segments → Segments → Shape → Start → Start → Ty
 PointsTo S R shape h at =
     (a : Target) × IsPointed S R at.segment at.at a × IsShape shape a.word
     × (((a.segment ≡ h.segment) × (a.start ≡ h.at)) ⊎ ((kind a.word ≡ 0) × (upper_half a.word ≡ 0)))
+
+-- Where a word is a far pointer to two landing pads, the first is a far pointer to one, and the
+-- second a tag with the offset 0 ("Inter-Segment Pointers").
+pub record ArePlainPads (start tag : ℕ) : Type 0 where
+  pub far : kind start ≡ 2
+  pub single : is_double start ≡ 0
+  pub no_offset : offset_bits tag ≡ 0
+
+abbrev pub HasPlainPads : Segments → ℕ → Type 0
+HasPlainPads S x =
+    kind x ≡ 2 → is_double x ≡ 1 →
+    ArePlainPads (word_at S (upper_half x) (far_position x))
+    (word_at S (upper_half x) (far_position x + 1))

@@ -17,7 +17,7 @@ ghost use Rattle.capnp_making.specs.Path.{word_interval};
 ghost use Rattle.capnp_making.specs.Zeroed.{IsPruned};
 ghost use Rattle.capnp_widening.specs.Anew.{MovesInTurn, WritesAnew, WritesPointer};
 ghost use Rattle.capnp_widening.specs.Moved.{a_move, row_of_moves, Moves, Unmoves, rows_of_moves};
-ghost use Rattle.capnp_widening.specs.Pointed.{PointsTo};
+ghost use Rattle.capnp_widening.specs.Pointed.{HasPlainPads, PointsTo};
 ghost use Rattle.capnp_widening.specs.Rooms.{GrowsByAtMost, HasSomeRoom};
 
 use capnp_arena::arena::BuilderArena;
@@ -107,6 +107,8 @@ fn point_to<A: BuilderArena>(
     ensures few { GrowsByAtMost (A.view arena.old).words (A.view arena.new).words 2 }
     ensures fits { HasSomeRoom (A.view arena.old) 2 → IsOk result }
     ensures near { object.segment ≡ to.segment → IsOk result }
+    ensures pads { OnOk result (HasPlainPads (A.view arena.new).words
+        (word_at (A.view arena.new).words to.segment to.at)) }
 {
     if object.segment == to.segment {
         let word = near_word(shape, to.at, object.at);
@@ -164,10 +166,12 @@ fn is_empty(shape: Shape) -> bool
     }
 }
 
-/// The second landing pad of an object, which says what it is.
+/// The second landing pad of an object, which says what it is, with the offset 0.
+#[tactic(auto, using(crate::proofs::Basics::zero_offset))]
 fn tag_of(shape: Shape) -> WirePointer
     requires few { CountFits shape }
-    ensures { IsShape shape result.0 }
+    ensures shape { IsShape shape result.0 }
+    ensures offset { offset_bits result.0 ≡ 0 }
 {
     match shape {
         Shape::Struct(size) => WirePointer::new_struct(0, size),

@@ -13,7 +13,7 @@ use Rattle.capnp_widening.proofs.Refusing.{anywhere_refused}
 use Rattle.capnp_widening.proofs.Rooms.{all_words, not_true, words_put, words_extended, words_taken, room_still, none_refused}
 use Rattle.capnp_making.proofs.Memory.{words_in}
 use Rattle.capnp_making.proofs.Shapes.{shape_near}
-use Rattle.capnp_widening.proofs.Pointed.{pointed_near, pointed_single, pointed_double}
+use Rattle.capnp_widening.proofs.Pointed.{no_two_pads, pads_stand, pointed_near, pointed_single, pointed_double, two_pads}
 use Rattle.capnp_widening.proofs.PointersWritten.{near_written, far_written}
 use Rattle.capnp_widening.proofs.Single.{same_shape}
 use Rattle.capnp_widening.proofs.TakingWords.{put_writes, took_near, took_far}
@@ -117,7 +117,7 @@ returns-in_ok-segment-in-None-clause-points g c =
     let k : ℕ = c.in_ok-segment-in-None.segment in
     let q : ℕ = c.in_ok-segment-in-None.pad in
     let x : ℕ = c.tag_of-tag.result.0 in
-    let shaped : IsShape c.args.shape x = c.tag_of-tag.ensures in
+    let shaped : IsShape c.args.shape x = c.tag_of-tag.ensures.shape in
     let same : (g.A.BuilderArena.view c.allocate.new.self).words ≡ S = ap words_in (c.in-None.ensures.none refl) in
     let grown : IsGrown S T k q 2 = taken_grown S T 2 k q (rw same at c.in_ok-segment-in-None.ensures.taken) in (
       record { word = x; segment = v; start = b; pads = 2 },
@@ -236,3 +236,46 @@ returns-in_ok-segment-in-None-clause-written g c = λ x its some.
     let took = took_far a (g.A.BuilderArena.view c.allocate.new.self) t c.args.object.segment 1 k q before (λ l. not_true (c.in-None.ensures.exactly.1 l)) c.in_ok-segment-in-None.ensures.first c.in_ok-segment-in-None.ensures.another in
     far_written a t b c.args.object.segment c.args.to.segment c.args.to.at c.new_double_far-far.result.0 x other took.0 (writes_both t w b (writes_both t u w first second) third) put.here
     c.new_double_far-far.ensures.kind_of (inr c.new_double_far-far.ensures.pads) some (same_shape c.args.shape x x its its).2)
+
+-- What the landing pads are.
+pub returns-then-object-to-clause-pads : goal.returns-then-object-to-clause-pads
+returns-then-object-to-clause-pads g c =
+    let S : Segments = (g.A.BuilderArena.view c.args.arena.now).words in
+    let R : Segments = (g.A.BuilderArena.view c.set_word.new.self).words in
+    let x : ℕ = c.near_word-word.result.0 in
+    let put = word_put S R c.args.to.segment c.args.to.at x c.requires.to (ap words_in c.set_word.ensures) in
+    no_two_pads R x _ put.here (λ far double. shape_near c.args.shape x c.near_word-word.ensures.shape far)
+
+pub returns-in-Some-clause-pads : goal.returns-in-Some-clause-pads
+returns-in-Some-clause-pads g c =
+    let S : Segments = (g.A.BuilderArena.view c.args.arena.now).words in
+    let T : Segments = (g.A.BuilderArena.view c.allocate.new.self).words in
+    let U : Segments = (g.A.BuilderArena.view c.set_word-in-Some.new.self).words in
+    let R : Segments = (g.A.BuilderArena.view c.set_word-in-Some-2.new.self).words in
+    let v : ℕ = c.args.object.segment in
+    let q : ℕ = c.in-Some.pad in
+    let f : ℕ = c.new_far-far.result.0 in
+    let (at, made) = c.in-Some.ensures.taken in
+    let first : IsGrown S T v (length (segment S v)) 1 = rw made (extended_grown S v 1 c.requires.there) in
+    let grown : IsGrown S T v q 1 = subst (λ z. IsGrown S T v z 1) (sym at) first in
+    let pad = word_put T U v q c.pointer_to-word.result.0 (omega (arith, grown.room)) (ap words_in c.set_word-in-Some.ensures) in
+    let put = word_put U R c.args.to.segment c.args.to.at f (omega (arith, c.requires.to, grown.grows.words c.args.to.segment, pad.words c.args.to.segment)) (ap words_in c.set_word-in-Some-2.ensures) in
+    no_two_pads R f _ put.here (λ far double. omega (arith, double, c.new_far-far.ensures.pads))
+
+pub returns-in_ok-segment-in-None-clause-pads : goal.returns-in_ok-segment-in-None-clause-pads
+returns-in_ok-segment-in-None-clause-pads g c =
+    let S : Segments = (g.A.BuilderArena.view c.args.arena.now).words in
+    let T : Segments = (g.A.BuilderArena.view c.allocate_anywhere.new.self).words in
+    let U : Segments = (g.A.BuilderArena.view c.set_word-in-None.new.self).words in
+    let V : Segments = (g.A.BuilderArena.view c.set_word-in-None-2.new.self).words in
+    let R : Segments = (g.A.BuilderArena.view c.set_word-in-None-3.new.self).words in
+    let k : ℕ = c.in_ok-segment-in-None.segment in
+    let q : ℕ = c.in_ok-segment-in-None.pad in
+    let f : ℕ = c.new_far-start.result.0 in
+    let x : ℕ = c.tag_of-tag.result.0 in
+    let h : ℕ = c.new_double_far-far.result.0 in
+    let same : (g.A.BuilderArena.view c.allocate.new.self).words ≡ S = ap words_in (c.in-None.ensures.none refl) in
+    let grown : IsGrown S T k q 2 = taken_grown S T 2 k q (rw same at c.in_ok-segment-in-None.ensures.taken) in
+    let stand = pads_stand S T U V R c.args.to.segment c.args.to.at k q f x h c.requires.to grown (ap words_in c.set_word-in-None.ensures) (ap words_in c.set_word-in-None-2.ensures) (ap words_in c.set_word-in-None-3.ensures) in
+    two_pads R _ h k q f x stand.0 c.new_double_far-far.ensures.segment_of c.new_double_far-far.ensures.position_of stand.1 stand.2
+    (record { far = c.new_far-start.ensures.kind_of; single = c.new_far-start.ensures.pads; no_offset = c.tag_of-tag.ensures.offset })
