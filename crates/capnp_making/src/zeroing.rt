@@ -3,7 +3,7 @@ ghost use Rattle.std.specs.Prelude.{◌≡◌, ℕ, ◌<◌, ◌≤◌, ◌+◌,
 ghost use Rattle.capnp_arena.specs.View.{KeepsLimits};
 ghost use Rattle.capnp_format.specs.Segments.{segment, word_at, IsPlace};
 ghost use Rattle.capnp_format.specs.Tree.{Tree};
-ghost use Rattle.capnp_format.specs.Word.{kind};
+ghost use Rattle.capnp_format.specs.Word.{far_position, is_double, kind, upper_half};
 ghost use Rattle.capnp_format.specs.Forest.{pads_of, row, PadsInside};
 ghost use Rattle.capnp_making.specs.Path.{extent};
 ghost use Rattle.capnp_making.specs.Landings.{target_of};
@@ -15,11 +15,13 @@ use capnp_words::wire_pointer::{
     ElementSize, StructSize, WirePointer, WirePointerKind, data_bits_per_element,
 };
 
-/// Writes zeros over words that lie in a segment.
+/// Writes zeros over words that lie in a segment. Where they don't, nothing is changed.
 pub fn zero_part<A: BuilderArena>(arena: &mut A, id: u32, start: u32, n: u64)
     requires { n < 2 ^ 63 }
     ensures zeroed { start + n ≤ length (segment (A.view arena.old).words id)
         → IsZeroed (A.view arena.old).words (A.view arena.new).words (row id start n ∷ []) }
+    ensures beyond { length (segment (A.view arena.old).words id) < start + n
+        → A.view arena.new ≡ A.view arena.old }
     ensures pruned { IsPruned (A.view arena.old).words (A.view arena.new).words }
     ensures limits { KeepsLimits (A.view arena.old) (A.view arena.new) }
 {
@@ -37,10 +39,14 @@ fn holds_some<A: BuilderArena>(arena: &A, id: u32, start: u32, n: u64) -> bool
     n > 0 && u64::from(start) + n <= u64::from(length_of(arena, id))
 }
 
-/// Makes the landing pads of a word zero, if it is a far pointer.
+/// Makes the landing pads of a word zero, if it is a far pointer. Where they don't lie in their segment,
+/// nothing is changed.
 pub fn zero_pads<A: BuilderArena>(arena: &mut A, word: WirePointer)
     ensures zeroed { PadsInside (A.view arena.old).words word.0
         → IsZeroed (A.view arena.old).words (A.view arena.new).words (pads_of word.0) }
+    ensures beyond { length (segment (A.view arena.old).words (upper_half word.0))
+        < far_position word.0 + (1 + is_double word.0)
+        → A.view arena.new ≡ A.view arena.old }
     ensures pruned { IsPruned (A.view arena.old).words (A.view arena.new).words }
     ensures limits { KeepsLimits (A.view arena.old) (A.view arena.new) }
 {
@@ -56,6 +62,9 @@ fn zero_far_pads<A: BuilderArena>(arena: &mut A, word: WirePointer)
     requires { kind word.0 ≡ 2 }
     ensures zeroed { PadsInside (A.view arena.old).words word.0
         → IsZeroed (A.view arena.old).words (A.view arena.new).words (pads_of word.0) }
+    ensures beyond { length (segment (A.view arena.old).words (upper_half word.0))
+        < far_position word.0 + (1 + is_double word.0)
+        → A.view arena.new ≡ A.view arena.old }
     ensures pruned { IsPruned (A.view arena.old).words (A.view arena.new).words }
     ensures limits { KeepsLimits (A.view arena.old) (A.view arena.new) }
 {

@@ -28,3 +28,7 @@ none_zeroed S s p n none = record {
 pub returns-else-holds_some-clause-zeroed : goal.returns-else-holds_some-clause-zeroed
 returns-else-holds_some-clause-zeroed g c = λ inside.
     none_zeroed (g.A.BuilderArena.view c.args.arena.now).words c.args.id c.args.start c.args.n (λ some. false≢true (c.if-holds_some.ensures.1 (some, inside)))
+
+pub returns-then-holds_some-clause-beyond : goal.returns-then-holds_some-clause-beyond
+returns-then-holds_some-clause-beyond g c = λ out.
+    (let (some, inside) = c.if-holds_some.ensures.0 refl in absurd (omega (arith, out, inside)))
