@@ -1,6 +1,7 @@
 //! The copy of a struct that is read, whose sections may stand apart ("Structs",
 //! "Canonicalization").
-ghost use Rattle.std.specs.Prelude.{◌≡◌, IsOk, IfOk, IfErr};
+ghost use Rattle.std.specs.Prelude.{◌≡◌, ◌<◌, ◌^◌, Err, IsOk, IfOk, IfErr};
+ghost use Rattle.capnp_words.specs.declared.error.ErrorKind.{ErrorKind};
 ghost use Rattle.capnp_format.specs.Segments.{word_at, IsPlace};
 ghost use Rattle.capnp_format.specs.Tree.{Null};
 ghost use Rattle.capnp_objects.specs.Reading.{words_from};
@@ -34,8 +35,8 @@ use capnp_words::words::used_part;
 /// A refusal of the arena is `AllocationFailed` or `MessageTooLarge`, and comes only where the words
 /// don't fit behind those of the pointer's segment; a capability is
 /// `CannotCreateACanonicalMessageWithACapability` in canonical form; a refusal to read keeps its name;
-/// more than 65535 data words are `MessageTooLarge` with their number. Then the pointer is null and the
-/// words that were allocated are zero; the limiter keeps what was charged.
+/// more than 65535 data words are `MessageTooLarge` with their number, and nothing is charged. Then the
+/// pointer is null and the words that were allocated are zero; the limiter keeps what was charged.
 pub fn copy_struct_value<A: BuilderArena, B: ReaderArena>(
     arena: &mut A,
     id: u32,
@@ -54,6 +55,8 @@ pub fn copy_struct_value<A: BuilderArena, B: ReaderArena>(
     ensures refused { IfErr result (StopsCopy (struct_read B.ReaderArena value.entry)
         (change (form_of canonicalize) id at (A.view arena.old)
         (A.view arena.new) lim.old lim.new) Null) }
+    ensures wide { (k : ErrorKind) → (struct_read B.ReaderArena value.entry).exceeds
+        (form_of canonicalize) k → (result ≡ Err k) × (lim.new ≡ lim.old) }
     ensures taken { TakesAtMost result (struct_read B.ReaderArena value.entry)
         (change (form_of canonicalize) id at (A.view arena.old)
         (A.view arena.new) lim.old lim.new) }
@@ -85,6 +88,8 @@ fn copy_sections<A: BuilderArena, B: ReaderArena>(
         (StopsHalfway (struct_read B.ReaderArena value.entry)
         (change (form_of canonicalize) id at (A.view arena.old)
         (A.view arena.new) lim.old lim.new)) }
+    ensures wide { (k : ErrorKind) → (struct_read B.ReaderArena value.entry).exceeds
+        (form_of canonicalize) k → (result ≡ Err k) × (lim.new ≡ lim.old) }
     ensures taken { TakesAtMost result (struct_read B.ReaderArena value.entry)
         (change (form_of canonicalize) id at (A.view arena.old)
         (A.view arena.new) lim.old lim.new) }
@@ -124,6 +129,8 @@ fn kept_sections<B: ReaderArena>(
     ensures pointers { IfOk result (λ size. size.pointers
         ≡ kept_count (form_of canonicalize)
         (words_from (pointers_read B.ReaderArena value.entry) value.entry.pointer_count)) }
+    ensures narrow { IfOk result (λ _.
+        kept_count (form_of canonicalize) (data_of B.ReaderArena value.entry) < 2 ^ 16) }
     ensures wide { IfErr result
         (IsTooWide (kept_count (form_of canonicalize) (data_of B.ReaderArena value.entry))) }
 {

@@ -1,4 +1,4 @@
-use Rattle.std.proofs.Common.{inl, inr, ℕ, ◌+◌, ◌≤◌, List, length, take, refl, ap, ap₂, arith, length-take, rules}
+use Rattle.std.proofs.Common.{inl, inr, Err, sym, ◌∙◌, ℕ, ◌+◌, ◌≤◌, List, length, take, refl, ap, ap₂, arith, length-take, rules}
 use Rattle.std.proofs.lemmas.Int.{to_z-of_z}
 use Rattle.std.proofs.lemmas.Bool.{false≢true}
 use mir.Syntax.{w32}
@@ -32,6 +32,14 @@ returns-in_err-kept-clause-refused g c =
     let p = err_from_is_err_and c.from_residual.result c.from_residual.ensures.1 in
     rw (p.1, p.2) (halfway (inr (inr c.in_err-kept.ensures.wide))
     ((Null, nothing_left v.words v.words c.args.id c.args.at c.requires.place c.requires.null refl), spends_nothing v v c.in_err-kept.field-0.0 (λ n. ap (λ i. refusals_for i n) c.in_err-kept.ensures.wide.1) (keeps_itself v)))
+
+pub returns-in_err-kept-clause-wide : goal.returns-in_err-kept-clause-wide
+returns-in_err-kept-clause-wide g c =
+    let p = err_from_is_err_and c.from_residual.result c.from_residual.ensures.1 in
+    rw (p.1, p.2) (λ k large. (ap Err (c.in_err-kept.ensures.wide.1 ∙ sym large.1), refl))
+
+pub returns-in_err-start-clause-wide : goal.returns-in_err-start-clause-wide
+returns-in_err-start-clause-wide g c = λ k large. absurd (omega (arith, large.0, c.in_ok-kept.ensures.narrow))
 
 pub returns-in_err-start-clause-refused : goal.returns-in_err-start-clause-refused
 returns-in_err-start-clause-refused g c =
@@ -126,6 +134,7 @@ returns g c =
     } in
     record {
       copied = ok_so c.copy_children.result c.copy_children.ensures.copied (λ x made. sections_copied begun (rw (c.from.ensures, c.from-pointers.ensures, nl, c.of-form.ensures) at made));
+      wide = λ k large. absurd (omega (arith, large.0, c.in_ok-kept.ensures.narrow));
       refused = err_so c.copy_children.result c.copy_children.ensures.refused (λ k stop. sections_stop begun (rw (c.from.ensures, c.from-pointers.ensures, nl, c.of-form.ensures) at stop));
       taken = taken_so c.copy_children.result _ _ _ _ (λ x. sections_behind ws r value.pointer_count size.pointers (size.data_words + size.pointers) _ _ _ _ _ _ _ _ value.inside c.in_ok-kept.ensures.pointers begins less (all_within over last x)) (λ x. sections_stop_behind ws r value.pointer_count size.pointers (size.data_words + size.pointers) _ _ _ _ _ _ _ _ pointers_kept begins less (among_within (omega arith) over last x)) (rw (c.of-form.ensures, nl, c.from-pointers.ensures) at c.copy_children.ensures.taken);
     }
