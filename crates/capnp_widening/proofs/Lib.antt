@@ -6,6 +6,7 @@ pub mod Copying
 pub mod Described
 pub mod Filled
 pub mod Filling
+pub mod Kept
 pub mod ListRemade
 pub mod ListRooms
 pub mod ListsAnew
@@ -27,6 +28,7 @@ pub mod Refusing
 pub mod Rehoused
 pub mod Remade
 pub mod Rooms
+pub mod RowPlaces
 pub mod Rows
 pub mod RowsCopied
 pub mod SameObjects

@@ -1,17 +1,54 @@
 use Rattle.std.proofs.lemmas.Result.{err_from_is_err_and}
-use Rattle.std.proofs.Common.{◌≡◌, ◌+◌, ◌*◌, ℕ, List, le_trans, refl, subst, arith}
+use Rattle.std.proofs.Common.{◌≡◌, ◌+◌, ◌*◌, ℕ, List, le-add_right, le_antisymm, refl, subst}
 use Rattle.capnp_arena.specs.View.{View}
 use Rattle.capnp_format.specs.Segments.{Segments}
-use Rattle.capnp_making.proofs.BelowElements.{element_within, next_place}
 use Rattle.capnp_making.proofs.Memory.{keeps_both, keeps_itself, keeps_then_spends, words_refused_after}
 use Rattle.capnp_widening.specs.Anew.{WritesAnew}
 use Rattle.capnp_widening.specs.Moved.{Move, rows_of_moves, Moves}
 use Rattle.capnp_widening.specs.Rooms.{GrowsByAtMost}
+use Rattle.capnp_widening.proofs.Kept.{grows_again, grows_itself, lt_next, rows_few, rows_room, some_in_rows}
 use Rattle.capnp_widening.proofs.Movings.{none_moved}
 use Rattle.capnp_widening.proofs.Rooms.{room_left, less_room}
+use Rattle.capnp_widening.proofs.RowPlaces.{first_row, next_row, row_inside, row_behind_fits}
 use Rattle.capnp_widening.proofs.Rows.{rows_moves_next, rows_some}
 use Rattle.capnp_widening.proofs.WrittenAnew.{writes_none, rows_writes_next}
 use Rattle.capnp_widening.proofs.moving.move_rows.Goals as goal
+
+-- A row starts within the words of its segment, and the next one a step behind it.
+pub overflow_add-source : goal.overflow_add-source
+overflow_add-source g c =
+    let now = c.args.arena.now in
+    record {
+      fits = row_behind_fits c.args.from.at c.args.from.step c.args.pointers c.args.count c.loop-i.i
+          c.loop-i.source _ _ c.requires.from c.loop-i-test.true c.loop-i.invariant.source_at
+          (g.met.A.BuilderArena.within now c.args.from.segment)
+          (g.met.A.BuilderArena.small now c.args.from.segment)
+          c.requires.small.0;
+    }
+
+pub overflow_add-place : goal.overflow_add-place
+overflow_add-place g c =
+    let now = c.args.arena.now in
+    record {
+      fits = row_behind_fits c.args.to.at c.args.to.step c.args.pointers c.args.count c.loop-i.i
+          c.loop-i.place _ _ c.requires.to c.loop-i-test.true c.loop-i.invariant.place_at
+          (g.met.A.BuilderArena.within now c.args.to.segment)
+          (g.met.A.BuilderArena.small now c.args.to.segment)
+          c.requires.small.1;
+    }
+
+-- One row of all lies where these do.
+pub move_row-requires-clause-from : goal.move_row-requires-clause-from
+move_row-requires-clause-from g c =
+    row_inside c.args.from.at c.args.from.step c.args.pointers c.args.count c.loop-i.i c.loop-i.source _ _
+    c.requires.from c.loop-i-test.true c.loop-i.invariant.source_at
+    (c.loop-i.invariant.longer.words c.args.from.segment)
+
+pub move_row-requires-clause-to : goal.move_row-requires-clause-to
+move_row-requires-clause-to g c =
+    row_inside c.args.to.at c.args.to.step c.args.pointers c.args.count c.loop-i.i c.loop-i.place _ _
+    c.requires.to c.loop-i-test.true c.loop-i.invariant.place_at
+    (c.loop-i.invariant.longer.words c.args.to.segment)
 
 pub loop-i-init : goal.loop-i-init
 loop-i-init g c =
@@ -19,10 +56,10 @@ loop-i-init g c =
     record {
       moves = none_moved v.words;
       written = writes_none v;
-      source_at = omega arith;
-      place_at = omega arith;
-      longer = record { segments = omega arith; words = λ x. omega arith };
-      few = omega arith;
+      source_at = first_row c.args.from.at c.args.from.step;
+      place_at = first_row c.args.to.at c.args.to.step;
+      longer = grows_itself v.words;
+      few = le-add_right _ _;
       memory = keeps_itself v;
     }
 
@@ -32,16 +69,17 @@ loop-i-preserved g c =
     let S : Segments = (g.A.BuilderArena.view c.args.arena.now).words in
     let M : Segments = (g.A.BuilderArena.view c.loop-i.arena).words in
     let R : Segments = (g.A.BuilderArena.view c.move_row.new.arena).words in
-    let longer = c.in_ok-move_row.ensures.moves.longer in
     record {
       moves = rows_moves_next S M R c.args.from.segment c.args.from.at c.args.from.step c.args.to.segment c.args.to.at c.args.to.step c.args.pointers c.loop-i.i c.loop-i.invariant.moves
           (rw (c.loop-i.invariant.source_at, c.loop-i.invariant.place_at) at c.in_ok-move_row.ensures.moves.moved);
       written = rows_writes_next (g.A.BuilderArena.view c.args.arena.now) (g.A.BuilderArena.view c.loop-i.arena) (g.A.BuilderArena.view c.move_row.new.arena) c.args.from.segment c.args.from.at c.args.from.step c.args.to.segment c.args.to.at c.args.to.step c.args.pointers c.loop-i.i c.loop-i.invariant.moves
           (rw (c.loop-i.invariant.source_at, c.loop-i.invariant.place_at) at c.in_ok-move_row.ensures.moves.moved) c.loop-i.invariant.written (rw (c.loop-i.invariant.source_at, c.loop-i.invariant.place_at) at c.in_ok-move_row.ensures.moves.written);
-      source_at = omega (arith, c.loop-i.invariant.source_at, next_place c.args.from.step c.loop-i.i);
-      place_at = omega (arith, c.loop-i.invariant.place_at, next_place c.args.to.step c.loop-i.i);
-      longer = record { segments = le_trans c.loop-i.invariant.longer.segments longer.segments; words = λ x. le_trans (c.loop-i.invariant.longer.words x) (longer.words x) };
-      few = omega (arith, c.loop-i.invariant.few, c.in_ok-move_row.ensures.moves.few, next_place c.args.pointers c.loop-i.i);
+      source_at = next_row c.args.from.at c.args.from.step c.loop-i.i c.loop-i.source
+          c.loop-i.invariant.source_at;
+      place_at = next_row c.args.to.at c.args.to.step c.loop-i.i c.loop-i.place c.loop-i.invariant.place_at;
+      longer = grows_again S M R c.loop-i.invariant.longer c.in_ok-move_row.ensures.moves.longer;
+      few = rows_few _ _ _ c.args.pointers c.loop-i.i (c.loop-i.i + 1) c.loop-i.invariant.few
+          c.in_ok-move_row.ensures.moves.few (lt_next c.loop-i.i);
       memory = keeps_both _ _ _ c.loop-i.invariant.longer.segments c.loop-i.invariant.memory c.in_ok-move_row.ensures.moves.granted;
     }
 
@@ -49,7 +87,7 @@ pub returns-clause-moves : goal.returns-clause-moves
 returns-clause-moves g c =
     let a : View = g.A.BuilderArena.view c.args.arena.now in
     let b : View = g.A.BuilderArena.view c.loop-i.arena in
-    let all : c.loop-i.i ≡ c.args.count = omega arith in
+    let all : c.loop-i.i ≡ c.args.count = le_antisymm c.loop-i.auto.i-end c.loop-i-test.false in
     let moves : ℕ → List Move = λ n. rows_of_moves c.args.from.segment c.args.from.at c.args.from.step c.args.to.segment c.args.to.at c.args.to.step c.args.pointers n in
     record {
       moved = subst (λ n. Moves a.words b.words (moves n)) all c.loop-i.invariant.moves;
@@ -72,7 +110,7 @@ returns-in_err-move_row-clause-moves g c =
     let b : View = g.A.BuilderArena.view c.move_row.new.arena in
     let before = c.loop-i.invariant in
     let e = c.in_err-move_row.ensures.moves in
-    let within = element_within c.args.pointers c.args.count c.loop-i.i c.loop-i-test.true in
+    let less = c.loop-i-test.true in
     let row : ℕ = 2 * c.args.pointers in
     let rows : ℕ = 2 * (c.loop-i.i * c.args.pointers) in
     rw (p.1, p.2) (record {
@@ -80,10 +118,17 @@ returns-in_err-move_row-clause-moves g c =
       written = tt;
       some = rows_some a.words m.words b.words c.args.from.segment c.args.from.at c.args.from.step c.args.to.segment c.args.to.at c.args.to.step c.args.pointers c.loop-i.i c.args.count c.loop-i-test.true before.moves
           (rw (before.source_at, before.place_at) at e.some);
-      longer = record { segments = le_trans before.longer.segments e.longer.segments; words = λ x. le_trans (before.longer.words x) (e.longer.words x) };
+      longer = grows_again a.words m.words b.words before.longer e.longer;
       granted = tt;
       memory = keeps_then_spends a m b _ before.longer.segments before.memory e.memory;
-      full = (omega (arith, e.full.0, within), words_refused_after a m b 1 _ before.memory e.full.1);
-      few = omega (arith, before.few, e.few, within);
-      fits = λ h. e.fits (room_left a m rows row before.longer before.few before.memory.1 (less_room a (2 * (c.args.count * c.args.pointers)) (rows + row) (omega (arith, within)) h));
+      full = (
+        some_in_rows c.args.pointers c.loop-i.i c.args.count less e.full.0,
+        words_refused_after a m b 1
+            _ before.memory e.full.1,
+      );
+      few = rows_few _ _ _ c.args.pointers c.loop-i.i c.args.count before.few e.few less;
+      fits = λ h. e.fits
+          (room_left a m rows row before.longer before.few before.memory.1
+          (less_room a (2 * (c.args.count * c.args.pointers)) (rows + row)
+          (rows_room c.args.pointers c.loop-i.i c.args.count less) h));
     })

@@ -8,10 +8,11 @@ use Rattle.capnp_making.specs.Made.{IsShape, IsGrown}
 use Rattle.capnp_making.proofs.MadeWords.{word_put, taken_grown, extended_grown}
 use Rattle.std.proofs.Common.{◌∙◌}
 use Rattle.capnp_arena.specs.View.{View}
-use Rattle.capnp_arena.specs.Written.{extended}
+use Rattle.capnp_arena.specs.Written.{extended, with_word}
 use Rattle.capnp_widening.proofs.Refusing.{anywhere_refused}
 use Rattle.capnp_widening.proofs.Rooms.{all_words, not_true, words_put, words_extended, words_taken, room_still, none_refused}
-use Rattle.capnp_making.proofs.Memory.{words_in}
+use Rattle.capnp_making.specs.Memory.{KeepsMemory}
+use Rattle.capnp_making.proofs.Memory.{keeps_both, keeps_written, words_in}
 use Rattle.capnp_making.proofs.Shapes.{shape_near}
 use Rattle.capnp_widening.proofs.Pointed.{no_two_pads, pads_stand, pointed_near, pointed_single, pointed_double, two_pads}
 use Rattle.capnp_widening.proofs.PointersWritten.{near_written, far_written}
@@ -279,3 +280,64 @@ returns-in_ok-segment-in-None-clause-pads g c =
     let stand = pads_stand S T U V R c.args.to.segment c.args.to.at k q f x h c.requires.to grown (ap words_in c.set_word-in-None.ensures) (ap words_in c.set_word-in-None-2.ensures) (ap words_in c.set_word-in-None-3.ensures) in
     two_pads R _ h k q f x stand.0 c.new_double_far-far.ensures.segment_of c.new_double_far-far.ensures.position_of stand.1 stand.2
     (record { far = c.new_far-start.ensures.kind_of; single = c.new_far-start.ensures.pads; no_offset = c.tag_of-tag.ensures.offset })
+-- Nothing but words is changed beside the room that is taken.
+pub returns-then-object-to-clause-granted : goal.returns-then-object-to-clause-granted
+returns-then-object-to-clause-granted g c =
+    let old : View = g.A.BuilderArena.view c.args.arena.now in
+    keeps_written old (g.A.BuilderArena.view c.set_word.new.self)
+    (with_word old.words c.args.to.segment c.args.to.at c.near_word-word.result.0) c.set_word.ensures
+
+pub returns-in-Some-clause-granted : goal.returns-in-Some-clause-granted
+returns-in-Some-clause-granted g c =
+    let old : View = g.A.BuilderArena.view c.args.arena.now in
+    let new : View = g.A.BuilderArena.view c.set_word-in-Some-2.new.self in
+    let T : Segments = extended old.words c.args.object.segment (replicate 1 0) in
+    let U : Segments = with_word T c.args.object.segment c.in-Some.pad c.pointer_to-word.result.0 in
+    let W : Segments = with_word U c.args.to.segment c.args.to.at c.new_far-far.result.0 in
+    let whole : new ≡ record old { words = W } =
+    c.set_word-in-Some-2.ensures
+    ∙ ap (λ (v : View). record v
+    { words = with_word v.words c.args.to.segment c.args.to.at c.new_far-far.result.0 })
+    (c.set_word-in-Some.ensures ∙ ap (λ (v : View). record v {
+      words = with_word v.words c.args.object.segment c.in-Some.pad c.pointer_to-word.result.0;
+    }) c.in-Some.ensures.taken.1) in
+    keeps_written old new W whole
+
+-- No segment has become shorter.
+pub returns-then-object-to-clause-longer : goal.returns-then-object-to-clause-longer
+returns-then-object-to-clause-longer g c =
+    let (a, w, shaped, lies) = returns-then-object-to-clause-points g c in w.grows
+
+pub returns-in-Some-clause-longer : goal.returns-in-Some-clause-longer
+returns-in-Some-clause-longer g c =
+    let (a, w, shaped, lies) = returns-in-Some-clause-points g c in w.grows
+
+pub returns-in_err-segment-in-None-clause-refused : goal.returns-in_err-segment-in-None-clause-refused
+returns-in_err-segment-in-None-clause-refused g c =
+    let p = err_from_is_err_and c.from_residual.result c.from_residual.ensures.1 in
+    rw p.1 (ap words_in c.in_err-segment-in-None.ensures.refused ∙ ap words_in (c.in-None.ensures.none refl))
+
+pub returns-in_ok-segment-in-None-clause-granted : goal.returns-in_ok-segment-in-None-clause-granted
+returns-in_ok-segment-in-None-clause-granted g c =
+    let old : View = g.A.BuilderArena.view c.args.arena.now in
+    let mid : View = g.A.BuilderArena.view c.allocate_anywhere.new.self in
+    let new : View = g.A.BuilderArena.view c.set_word-in-None-3.new.self in
+    let k : ℕ = c.in_ok-segment-in-None.segment in
+    let q : ℕ = c.in_ok-segment-in-None.pad in
+    let before : g.A.BuilderArena.view c.allocate.new.self ≡ old = c.in-None.ensures.none refl in
+    let grown : IsGrown old.words mid.words k q 2 =
+    taken_grown old.words mid.words 2 k q (rw (ap words_in before) at c.in_ok-segment-in-None.ensures.taken)
+    in
+    let kept : KeepsMemory old mid = subst (λ (v : View). KeepsMemory v mid) before
+    (c.in_ok-segment-in-None.ensures.granted, c.in_ok-segment-in-None.ensures.room) in
+    let U : Segments = with_word mid.words k q c.new_far-start.result.0 in
+    let V : Segments = with_word U k (q + 1) c.tag_of-tag.result.0 in
+    let W : Segments = with_word V c.args.to.segment c.args.to.at c.new_double_far-far.result.0 in
+    let whole : new ≡ record mid { words = W } =
+    c.set_word-in-None-3.ensures
+    ∙ ap (λ (v : View). record v {
+      words = with_word v.words c.args.to.segment c.args.to.at c.new_double_far-far.result.0;
+    }) (c.set_word-in-None-2.ensures ∙ ap (λ (v : View). record v {
+      words = with_word v.words k (q + 1) c.tag_of-tag.result.0;
+    }) c.set_word-in-None.ensures) in
+    keeps_both old mid new grown.grows.segments kept (keeps_written mid new W whole)

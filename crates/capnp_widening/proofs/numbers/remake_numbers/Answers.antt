@@ -1,11 +1,16 @@
 use Rattle.std.proofs.lemmas.Result.{err_from_is_err_and}
-use Rattle.std.proofs.Common.{◌≡◌, ◌+◌, ◌*◌, ℕ, subst, arith}
+use Rattle.std.proofs.Common.{◌+◌, ◌*◌, ◌^◌, ◌∙◌, ◌<◌, ◌≤◌, ℕ, length, ap, sym, subst, le_of_eq}
+use Rattle.std.proofs.Common.{le_trans, lt_of_lt_of_le, add-zero}
 use Rattle.capnp_arena.specs.View.{View}
-use Rattle.capnp_format.specs.Segments.{Segments}
+use Rattle.capnp_format.specs.Segments.{Segments, segment}
+use Rattle.capnp_format.proofs.Slices.{there}
 use Rattle.capnp_making.proofs.Memory.{keeps_both}
 use Rattle.capnp_widening.proofs.NumberLists.{NumbersMade, numbers_made, numbers_made_anew}
 use Rattle.capnp_making.specs.Memory.{HasRoom}
+use Rattle.capnp_widening.proofs.Kept.{few_after}
 use Rattle.capnp_widening.proofs.Rooms.{same_words}
+use Rattle.capnp_widening.proofs.RowPlaces.{first_fits, near_or_behind, product_fits, rows_fit, some_total}
+use Rattle.capnp_widening.proofs.RowPlaces.{some_words, stands_before, tag_fits, tag_inside}
 use Rattle.capnp_widening.specs.Anew.{OnlyWrites}
 use Rattle.capnp_widening.proofs.StructSteps.{nothing_grown}
 use Rattle.capnp_widening.proofs.TakingWords.{pruned_writes}
@@ -17,13 +22,103 @@ pub overflow_add-first : goal.overflow_add-first
 overflow_add-first g c =
     let (T, room, tagged) = c.in_ok-room.ensures.begun in
     let v : ℕ = c.in_ok-room.room.segment in
-    omega (arith, room.0.room, tagged.words v, g.met.A.BuilderArena.within c.begin_list.new.arena v, g.met.A.BuilderArena.small c.begin_list.new.arena v)
+    let now = c.begin_list.new.arena in
+    record {
+      fits = tag_fits c.in_ok-room.room.at c.in_ok-room.room.pads
+          (c.args.old.count * (c.args.size.data_words + c.args.size.pointers))
+          room.0.room (tagged.words v) (g.met.A.BuilderArena.within now v)
+          (g.met.A.BuilderArena.small now v);
+    }
 
 pub overflow_add-first-2 : goal.overflow_add-first-2
 overflow_add-first-2 g c =
     let (T, room, tagged) = c.in_ok-room.ensures.begun in
     let v : ℕ = c.in_ok-room.room.segment in
-    omega (arith, room.0.room, tagged.words v, g.met.A.BuilderArena.within c.begin_list.new.arena v, g.met.A.BuilderArena.small c.begin_list.new.arena v)
+    let now = c.begin_list.new.arena in
+    record {
+      fits = first_fits c.in_ok-room.room.at c.in_ok-room.room.pads
+          (c.args.old.count * (c.args.size.data_words + c.args.size.pointers))
+          room.0.room (tagged.words v) (g.met.A.BuilderArena.within now v)
+          (g.met.A.BuilderArena.small now v);
+    }
+
+-- The old segments have no word fewer than before.
+pub begin_list-requires-clause-there : goal.begin_list-requires-clause-there
+begin_list-requires-clause-there g c =
+    there (g.A.BuilderArena.view c.args.arena.now).words c.args.id c.args.at c.requires.place
+
+pub begin_list-requires-clause-few : goal.begin_list-requires-clause-few
+begin_list-requires-clause-few g c = λ none. absurd (some_words c.args.size.pointers c.requires.data none)
+
+-- The new words are fewer than a segment has.
+pub overflow_mul-shape : goal.overflow_mul-shape
+overflow_mul-shape g c = record { fits = product_fits c.args.old.count c.total-2.ensures c.requires.small }
+
+pub copy_numbers-requires-clause-inside : goal.copy_numbers-requires-clause-inside
+copy_numbers-requires-clause-inside g c =
+    let (T, room, tagged) = c.in_ok-room.ensures.begun in
+    let s : ℕ = c.args.old.segment in
+    le_trans c.requires.inside (le_trans (room.0.grows.words s) (le_of_eq (sym (tagged.words s))))
+
+pub copy_numbers-requires-clause-to : goal.copy_numbers-requires-clause-to
+copy_numbers-requires-clause-to g c =
+    let (T, room, tagged) = c.in_ok-room.ensures.begun in
+    rows_fit c.in_ok-room.room.at c.in_ok-room.room.pads room.0.room (tagged.words c.in_ok-room.room.segment)
+    (ap (λ n. c.args.old.count * n) c.total.ensures)
+
+pub copy_numbers-requires-clause-apart : goal.copy_numbers-requires-clause-apart
+copy_numbers-requires-clause-apart g c = λ e.
+    (let (T, room, tagged) = c.in_ok-room.ensures.begun in
+    let S : Segments = (g.A.BuilderArena.view c.args.arena.now).words in
+    stands_before c.in_ok-room.room.pads c.requires.inside (ap (λ s. length (segment S s)) e) room.0.behind)
+
+pub copy_numbers-requires-clause-some : goal.copy_numbers-requires-clause-some
+copy_numbers-requires-clause-some g c = subst (λ n. 0 < n) (sym c.total.ensures)
+    (some_total c.args.size.pointers c.requires.data)
+
+-- The new words are behind the pointer, if in its segment.
+pub settle-requires-clause-place : goal.settle-requires-clause-place
+settle-requires-clause-place g c =
+    let (T, room, tagged) = c.in_ok-room.ensures.begun in
+    let id : ℕ = c.args.id in
+    lt_of_lt_of_le c.requires.place (le_trans (room.0.grows.words id)
+    (le_of_eq (sym (c.copy_numbers.ensures.copied.words id ∙ tagged.words id))))
+
+pub settle-requires-clause-inside : goal.settle-requires-clause-inside
+settle-requires-clause-inside g c =
+    let (T, room, tagged) = c.in_ok-room.ensures.begun in
+    let v : ℕ = c.in_ok-room.room.segment in
+    tag_inside c.in_ok-room.room.at c.in_ok-room.room.pads
+    (c.args.old.count * (c.args.size.data_words + c.args.size.pointers))
+    room.0.room (tagged.words v) (le_of_eq (sym (c.copy_numbers.ensures.copied.words v)))
+
+pub settle-requires-clause-apart : goal.settle-requires-clause-apart
+settle-requires-clause-apart g c = λ e.
+    (let (T, room, tagged) = c.in_ok-room.ensures.begun in
+    let S : Segments = (g.A.BuilderArena.view c.args.arena.now).words in
+    lt_of_lt_of_le c.requires.place
+    (subst (λ s. length (segment S s) ≤ c.in_ok-room.room.at) e room.0.behind))
+
+pub settle-requires-clause-near : goal.settle-requires-clause-near
+settle-requires-clause-near g c = let (T, room, tagged) = c.in_ok-room.ensures.begun in near_or_behind room.1
+
+pub settle-requires-clause-few : goal.settle-requires-clause-few
+settle-requires-clause-few g c =
+    subst (λ n. c.args.old.count * n < 2 ^ 29) (sym c.total-2.ensures) c.requires.small
+
+-- A refusal is that of the words.
+pub returns-in_err-room-clause-refused : goal.returns-in_err-room-clause-refused
+returns-in_err-room-clause-refused g c =
+    let p = err_from_is_err_and c.from_residual.result c.from_residual.ensures.1 in rw p.1
+    c.in_err-room.ensures.refused
+
+pub returns-in_err-room-clause-full : goal.returns-in_err-room-clause-full
+returns-in_err-room-clause-full g c =
+    let p = err_from_is_err_and c.from_residual.result c.from_residual.ensures.1 in
+    rw (p.1, p.2) c.in_err-room.ensures.full
+
+pub returns-in_err-room-clause-few : goal.returns-in_err-room-clause-few
+returns-in_err-room-clause-few g c = c.begin_list.ensures.few
 
 pub returns-clause-made : goal.returns-clause-made
 returns-clause-made g c =
@@ -58,7 +153,8 @@ returns-clause-made g c =
         first = first;
         last = last;
       });
-      granted = keeps_both s b q (omega (arith, room.0.grows.segments, tagged.segments)) c.in_ok-room.ensures.granted (keeps_writes b q (writes_both b d q first last));
+      granted = keeps_both s b q (le_trans room.0.grows.segments (le_of_eq (sym tagged.segments)))
+          c.in_ok-room.ensures.granted (keeps_writes b q (writes_both b d q first last));
       memory = tt;
       refused = tt;
     }
@@ -88,10 +184,11 @@ returns-clause-few g c =
     let set = same_words D R settled.segments settled.words in
     let zeroed = same_words R Z c.zero_part.ensures.pruned.segments c.zero_part.ensures.pruned.words in
     let cleared = same_words Z Q c.zero_pads.ensures.pruned.segments c.zero_pads.ensures.pruned.words in
-    omega (arith, c.begin_list.ensures.few, copied, set, zeroed, cleared)
+    few_after _ _ _ _ c.begin_list.ensures.few (cleared ∙ zeroed ∙ set ∙ copied)
 
 pub returns-in_err-room-clause-fits : goal.returns-in_err-room-clause-fits
 returns-in_err-room-clause-fits g c =
     let p = err_from_is_err_and c.from_residual.result c.from_residual.ensures.1 in rw p.1 (λ h.
     (let n : ℕ = 1 + c.args.old.count * (c.args.size.data_words + c.args.size.pointers) in
-    (c.in_err-room.ensures.fits 0 (subst (λ m. HasRoom (g.A.BuilderArena.view c.args.arena.now) c.args.id m) (let e : n ≡ n + 0 = omega arith in e) h)).0))
+    (c.in_err-room.ensures.fits 0
+    (subst (λ m. HasRoom (g.A.BuilderArena.view c.args.arena.now) c.args.id m) (sym (add-zero n)) h)).0))

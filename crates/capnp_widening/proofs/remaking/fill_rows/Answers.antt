@@ -1,7 +1,8 @@
-use Rattle.std.proofs.Common.{◌≡◌, ◌*◌, sym, subst, arith, rules}
+use Rattle.std.proofs.Common.{◌≡◌, ◌*◌, ◌∙◌, sym, subst}
 use Rattle.capnp_arena.specs.View.{View}
 use Rattle.capnp_format.specs.Segments.{Segments}
 use Rattle.capnp_making.proofs.Memory.{keeps_written, words_refused_after, words_refused_before}
+use Rattle.capnp_widening.proofs.Kept.{few_after, few_before, few_none, grown_between}
 use Rattle.capnp_widening.proofs.Movings.{none_moved}
 use Rattle.capnp_widening.specs.Rooms.{HasSomeRoom}
 use Rattle.capnp_widening.proofs.Rooms.{same_words, room_written}
@@ -13,7 +14,7 @@ use Rattle.capnp_widening.proofs.remaking.fill_rows.Goals as goal
 pub returns-then-pointers-eq0-clause-filled : goal.returns-then-pointers-eq0-clause-filled
 returns-then-pointers-eq0-clause-filled g c =
     let D : View = g.A.BuilderArena.view c.copy_rows.new.arena in
-    let none : c.args.old.size.pointers ≡ 0 = search rules in
+    let none : c.args.old.size.pointers ≡ 0 = sym c.from-pointers.ensures ∙ c.if-pointers-eq0.true in
     record {
       between = D;
       copied = rw (c.total.ensures, c.total-2.ensures, c.from.ensures) at c.copy_rows.ensures.copied;
@@ -56,20 +57,23 @@ returns-in-Err-clause-full g c =
 -- Two words for a pointer are taken at most.
 pub returns-then-pointers-eq0-clause-few : goal.returns-then-pointers-eq0-clause-few
 returns-then-pointers-eq0-clause-few g c =
-    omega (arith, same_words (g.A.BuilderArena.view c.args.arena.now).words (g.A.BuilderArena.view c.copy_rows.new.arena).words c.copy_rows.ensures.copied.segments c.copy_rows.ensures.copied.words)
+    few_none _
+    (same_words (g.A.BuilderArena.view c.args.arena.now).words
+    (g.A.BuilderArena.view c.copy_rows.new.arena).words
+    c.copy_rows.ensures.copied.segments c.copy_rows.ensures.copied.words)
 
 pub returns-in-Ok-clause-few : goal.returns-in-Ok-clause-few
 returns-in-Ok-clause-few g c =
     let copied = same_words (g.A.BuilderArena.view c.args.arena.now).words (g.A.BuilderArena.view c.copy_rows.new.arena).words c.copy_rows.ensures.copied.segments c.copy_rows.ensures.copied.words in
     let moved = rw c.from-pointers.ensures at c.move_rows.ensures.moves.few in
-    omega (arith, copied, moved)
+    few_before _ copied moved
 
 pub returns-in-Err-clause-few : goal.returns-in-Err-clause-few
 returns-in-Err-clause-few g c =
     let copied = same_words (g.A.BuilderArena.view c.args.arena.now).words (g.A.BuilderArena.view c.copy_rows.new.arena).words c.copy_rows.ensures.copied.segments c.copy_rows.ensures.copied.words in
     let moved = rw c.from-pointers.ensures at c.move_rows.ensures.moves.few in
     let undone = same_words (g.A.BuilderArena.view c.move_rows.new.arena).words (g.A.BuilderArena.view c.unmove_rows.new.arena).words c.unmove_rows.ensures.pruned.segments c.unmove_rows.ensures.pruned.words in
-    omega (arith, copied, moved, undone)
+    few_after _ _ _ _ (few_before _ copied moved) undone
 
 pub returns-in-Err-clause-fits : goal.returns-in-Err-clause-fits
 returns-in-Err-clause-fits g c = λ h.
@@ -80,6 +84,8 @@ returns-in-Err-clause-fits g c = λ h.
 
 pub returns-in-Err-clause-longer : goal.returns-in-Err-clause-longer
 returns-in-Err-clause-longer g c = record {
-  segments = omega (arith, c.copy_rows.ensures.copied.segments, c.in-Err.ensures.moves.longer.segments, c.unmove_rows.ensures.pruned.segments);
-  words = λ x. omega (arith, c.copy_rows.ensures.copied.words x, c.in-Err.ensures.moves.longer.words x, c.unmove_rows.ensures.pruned.words x);
+  segments = grown_between c.copy_rows.ensures.copied.segments c.in-Err.ensures.moves.longer.segments
+      c.unmove_rows.ensures.pruned.segments;
+  words = λ x. grown_between (c.copy_rows.ensures.copied.words x) (c.in-Err.ensures.moves.longer.words x)
+      (c.unmove_rows.ensures.pruned.words x);
 }

@@ -1,11 +1,18 @@
 use Rattle.std.proofs.lemmas.Result.{err_from_is_err_and}
-use Rattle.std.proofs.Common.{◌∙◌, ◌≤◌, ◌*◌, inl, inr, ℕ, length, sym, arith}
+use Rattle.std.proofs.Common.{◌∙◌, ◌+◌, ◌<◌, ◌≤◌, ◌*◌, ◌^◌, inl, inr, ℕ, length, refl, ap, sym, subst}
+use Rattle.std.proofs.Common.{le_of_eq, le_trans, lt_of_lt_of_le}
 use Rattle.capnp_arena.specs.View.{View}
-use Rattle.capnp_format.specs.Segments.{Segments}
+use Rattle.capnp_format.specs.Segments.{Segments, segment}
+use Rattle.capnp_format.proofs.Slices.{there}
+use Rattle.capnp_making.specs.Made.{structs_words}
 use Rattle.capnp_making.proofs.Memory.{keeps_both, keeps_then_spends, spends_then_limits, words_refused_after, words_refused_before}
 use Rattle.capnp_widening.proofs.AnyRows.{rows_anew, rows_remade, rows_left}
 use Rattle.capnp_widening.proofs.ListSteps.{ListSteps, ListUndone}
+use Rattle.capnp_widening.proofs.Kept.{few_after, few_again, few_at_most}
 use Rattle.capnp_widening.proofs.Rooms.{same_words}
+use Rattle.capnp_widening.proofs.RowPlaces.{first_fits, near_or_behind, product_fits, product_small, rows_fit}
+use Rattle.capnp_widening.proofs.RowPlaces.{rows_small, stands_before, sum_fits, sum_small, tag_fits}
+use Rattle.capnp_widening.proofs.RowPlaces.{tag_inside}
 use Rattle.capnp_widening.proofs.StructSteps.{nothing_grown}
 use Rattle.capnp_widening.specs.Anew.{OnlyWrites}
 use Rattle.capnp_widening.proofs.TakingWords.{pruned_writes}
@@ -17,26 +24,115 @@ pub overflow_add-tag : goal.overflow_add-tag
 overflow_add-tag g c =
     let (T, room, tagged) = c.in_ok-room.ensures.begun in
     let v : ℕ = c.in_ok-room.room.segment in
-    omega (arith, room.0.room, tagged.words v, g.met.A.BuilderArena.within c.begin_list.new.arena v, g.met.A.BuilderArena.small c.begin_list.new.arena v)
+    let now = c.begin_list.new.arena in
+    record {
+      fits = tag_fits c.in_ok-room.room.at c.in_ok-room.room.pads
+          (c.args.old.count * (c.args.size.data_words + c.args.size.pointers))
+          room.0.room (tagged.words v) (g.met.A.BuilderArena.within now v)
+          (g.met.A.BuilderArena.small now v);
+    }
 
 pub overflow_add-first : goal.overflow_add-first
 overflow_add-first g c =
     let (T, room, tagged) = c.in_ok-room.ensures.begun in
     let v : ℕ = c.in_ok-room.room.segment in
-    omega (arith, room.0.room, tagged.words v, g.met.A.BuilderArena.within c.begin_list.new.arena v, g.met.A.BuilderArena.small c.begin_list.new.arena v)
+    let now = c.begin_list.new.arena in
+    record {
+      fits = first_fits c.in_ok-room.room.at c.in_ok-room.room.pads
+          (c.args.old.count * (c.args.size.data_words + c.args.size.pointers))
+          room.0.room (tagged.words v) (g.met.A.BuilderArena.within now v)
+          (g.met.A.BuilderArena.small now v);
+    }
 
 -- No segment has become shorter.
 pub settle-requires-clause-place : goal.settle-requires-clause-place
 settle-requires-clause-place g c =
     let (T, room, tagged) = c.in_ok-room.ensures.begun in
     let id : ℕ = c.args.id in
-    omega (arith, c.requires.place, room.0.grows.words id, tagged.words id, c.fill_rows.ensures.longer.words id)
+    lt_of_lt_of_le c.requires.place (le_trans (room.0.grows.words id)
+    (le_trans (le_of_eq (sym (tagged.words id))) (c.fill_rows.ensures.longer.words id)))
 
 pub settle-requires-clause-inside : goal.settle-requires-clause-inside
 settle-requires-clause-inside g c =
     let (T, room, tagged) = c.in_ok-room.ensures.begun in
     let v : ℕ = c.in_ok-room.room.segment in
-    omega (arith, room.0.room, tagged.words v, c.fill_rows.ensures.longer.words v)
+    tag_inside c.in_ok-room.room.at c.in_ok-room.room.pads
+    (c.args.old.count * (c.args.size.data_words + c.args.size.pointers))
+    room.0.room (tagged.words v) (c.fill_rows.ensures.longer.words v)
+
+-- The new words are fewer than a segment has.
+pub overflow_mul-words : goal.overflow_mul-words
+overflow_mul-words g c = record { fits = product_fits c.args.old.count c.total.ensures c.requires.small }
+
+pub begin_list-requires-clause-there : goal.begin_list-requires-clause-there
+begin_list-requires-clause-there g c =
+    there (g.A.BuilderArena.view c.args.arena.now).words c.args.id c.args.at c.requires.place
+
+-- The old rows stand as they did, before the new ones.
+pub fill_rows-requires-clause-from : goal.fill_rows-requires-clause-from
+fill_rows-requires-clause-from g c =
+    let (T, room, tagged) = c.in_ok-room.ensures.begun in
+    let s : ℕ = c.args.old.segment in
+    le_trans c.requires.inside (le_trans (room.0.grows.words s) (le_of_eq (sym (tagged.words s))))
+
+pub fill_rows-requires-clause-to : goal.fill_rows-requires-clause-to
+fill_rows-requires-clause-to g c =
+    let (T, room, tagged) = c.in_ok-room.ensures.begun in
+    rows_fit c.in_ok-room.room.at c.in_ok-room.room.pads room.0.room (tagged.words c.in_ok-room.room.segment)
+    refl
+
+pub fill_rows-requires-clause-apart : goal.fill_rows-requires-clause-apart
+fill_rows-requires-clause-apart g c = λ e.
+    (let (T, room, tagged) = c.in_ok-room.ensures.begun in
+    let S : Segments = (g.A.BuilderArena.view c.args.arena.now).words in
+    stands_before c.in_ok-room.room.pads c.requires.inside (ap (λ s. length (segment S s)) e) room.0.behind)
+
+-- The new words are behind the pointer, if in its segment.
+pub settle-requires-clause-apart : goal.settle-requires-clause-apart
+settle-requires-clause-apart g c = λ e.
+    (let (T, room, tagged) = c.in_ok-room.ensures.begun in
+    let S : Segments = (g.A.BuilderArena.view c.args.arena.now).words in
+    lt_of_lt_of_le c.requires.place
+    (subst (λ s. length (segment S s) ≤ c.in_ok-room.room.at) e room.0.behind))
+
+pub settle-requires-clause-near : goal.settle-requires-clause-near
+settle-requires-clause-near g c = let (T, room, tagged) = c.in_ok-room.ensures.begun in near_or_behind room.1
+
+pub settle-requires-clause-few : goal.settle-requires-clause-few
+settle-requires-clause-few g c =
+    subst (λ n. c.args.old.count * n < 2 ^ 29) (sym c.total.ensures) c.requires.small
+
+-- The old rows have fewer words than a segment.
+pub overflow_mul-length : goal.overflow_mul-length
+overflow_mul-length g c = record {
+  fits = product_small c.args.old.tag (rows_small c.args.old.at c.args.old.tag c.args.old.count
+      (c.args.old.size.data_words + c.args.old.size.pointers) c.requires.inside
+      (g.met.A.BuilderArena.within c.args.arena.now c.args.old.segment)
+      (g.met.A.BuilderArena.small c.args.arena.now c.args.old.segment))
+      c.from-in-Ok.ensures (c.from-step.ensures ∙ c.total-in-Ok.ensures);
+}
+
+pub overflow_add-length : goal.overflow_add-length
+overflow_add-length g c = record {
+  fits = sum_fits (rows_small c.args.old.at c.args.old.tag c.args.old.count
+      (c.args.old.size.data_words + c.args.old.size.pointers) c.requires.inside
+      (g.met.A.BuilderArena.within c.args.arena.now c.args.old.segment)
+      (g.met.A.BuilderArena.small c.args.arena.now c.args.old.segment))
+      c.from.ensures c.from-in-Ok.ensures (c.from-step.ensures ∙ c.total-in-Ok.ensures);
+}
+
+pub zero_part-requires : goal.zero_part-requires
+zero_part-requires g c = sum_small (rows_small c.args.old.at c.args.old.tag c.args.old.count
+    (c.args.old.size.data_words + c.args.old.size.pointers) c.requires.inside
+    (g.met.A.BuilderArena.within c.args.arena.now c.args.old.segment)
+    (g.met.A.BuilderArena.small c.args.arena.now c.args.old.segment))
+    c.from.ensures c.from-in-Ok.ensures (c.from-step.ensures ∙ c.total-in-Ok.ensures)
+
+-- A refusal is that of the words.
+pub returns-in_err-room-clause-full : goal.returns-in_err-room-clause-full
+returns-in_err-room-clause-full g c =
+    let p = err_from_is_err_and c.from_residual.result c.from_residual.ensures.1 in
+    rw (p.1, p.2) (inl c.in_err-room.ensures.full)
 
 pub returns-in-Ok-clause-made : goal.returns-in-Ok-clause-made
 returns-in-Ok-clause-made g c =
@@ -54,7 +150,8 @@ returns-in-Ok-clause-made g c =
     let zeroed = pruned_writes r z c.zero_part.ensures.limits c.zero_part.ensures.pruned in
     let cleared = pruned_writes z q c.zero_pads.ensures.limits c.zero_pads.ensures.pruned in
     let last = writes_both p r q set (writes_both r z q zeroed cleared) in
-    let begun : length s.words ≤ length b.words = omega (arith, room.0.grows.segments, tagged.segments) in
+    let begun : length s.words ≤ length b.words = le_trans room.0.grows.segments
+    (le_of_eq (sym tagged.segments)) in
     let steps : ListSteps s.words T b.words d.words p.words r.words z.words q.words c.args.id c.args.at c.args.old c.args.size c.in_ok-room.room = record {
       place = c.requires.place;
       room = room;
@@ -76,7 +173,9 @@ returns-in-Ok-clause-made g c =
         written = filled.written;
         last = last;
       });
-      granted = keeps_both s p q (omega (arith, begun, c.fill_rows.ensures.longer.segments)) (keeps_both s b p begun c.in_ok-room.ensures.granted c.in-Ok.ensures.granted) (keeps_writes p q last);
+      granted = keeps_both s p q (le_trans begun c.fill_rows.ensures.longer.segments)
+          (keeps_both s b p begun c.in_ok-room.ensures.granted c.in-Ok.ensures.granted)
+          (keeps_writes p q last);
       memory = tt;
       refused = tt;
     }
@@ -90,7 +189,8 @@ returns-in-Err-clause-made g c =
     let k = c.in-Err.k in
     let (T, room, tagged) = c.in_ok-room.ensures.begun in
     let (D, P, copied, some, unmoves) = c.in-Err.ensures.undone in
-    let begun : length s.words ≤ length b.words = omega (arith, room.0.grows.segments, tagged.segments) in
+    let begun : length s.words ≤ length b.words = le_trans room.0.grows.segments
+    (le_of_eq (sym tagged.segments)) in
     let steps : ListUndone s.words T b.words D P u.words z.words c.args.id c.args.old c.args.size c.in_ok-room.room = record {
       room = room;
       tagged = tagged;
@@ -145,16 +245,21 @@ returns-in-Ok-clause-few g c =
     let set = same_words P R settled.segments settled.words in
     let zeroed = same_words R Z c.zero_part.ensures.pruned.segments c.zero_part.ensures.pruned.words in
     let cleared = same_words Z Q c.zero_pads.ensures.pruned.segments c.zero_pads.ensures.pruned.words in
-    omega (arith, c.begin_list.ensures.few, c.fill_rows.ensures.few, set, zeroed, cleared)
+    few_after _ _ _ _ (few_again _ _ _ (structs_words c.args.old.count c.args.size + 1)
+    (2 * (c.args.old.count * c.args.old.size.pointers)) c.begin_list.ensures.few c.fill_rows.ensures.few)
+    (cleared ∙ zeroed ∙ set)
 
 pub returns-in-Err-clause-few : goal.returns-in-Err-clause-few
 returns-in-Err-clause-few g c =
     let U : Segments = (g.A.BuilderArena.view c.fill_rows.new.arena).words in
     let Z : Segments = (g.A.BuilderArena.view c.zero_part-in-Err.new.arena).words in
-    omega (arith, c.begin_list.ensures.few, c.fill_rows.ensures.few, same_words U Z c.zero_part-in-Err.ensures.pruned.segments c.zero_part-in-Err.ensures.pruned.words)
+    few_after _ _ _ _ (few_again _ _ _ (structs_words c.args.old.count c.args.size + 1)
+    (2 * (c.args.old.count * c.args.old.size.pointers)) c.begin_list.ensures.few c.fill_rows.ensures.few)
+    (same_words U Z c.zero_part-in-Err.ensures.pruned.segments c.zero_part-in-Err.ensures.pruned.words)
 
 pub returns-in_err-room-clause-few : goal.returns-in_err-room-clause-few
-returns-in_err-room-clause-few g c = omega (arith, c.begin_list.ensures.few)
+returns-in_err-room-clause-few g c = few_at_most _ _ (structs_words c.args.old.count c.args.size + 1) _
+    c.begin_list.ensures.few
 
 -- Where there is room for all of that, nothing is refused.
 pub returns-in_err-room-clause-fits : goal.returns-in_err-room-clause-fits

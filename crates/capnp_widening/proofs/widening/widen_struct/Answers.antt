@@ -1,18 +1,161 @@
 use Rattle.std.proofs.lemmas.Result.{err_from_is_err_and}
-use Rattle.std.proofs.Common.{inl, inr, ◌+◌, ◌*◌, ◌≤◌, ℕ, length, sym, ap, subst, ◌∙◌, arith}
+use Rattle.std.proofs.Common.{◌≡◌, inl, inr, ◌+◌, ◌*◌, ◌^◌, ◌<◌, ◌≤◌, ℕ, length, sym, ap, subst, ◌∙◌}
+use Rattle.std.proofs.Common.{le_of_eq, le_trans, lt_of_lt_of_le, arith}
 use Rattle.capnp_arena.specs.View.{View}
-use Rattle.capnp_format.specs.Segments.{Segments}
+use Rattle.capnp_format.specs.Segments.{Segments, segment}
+use Rattle.capnp_format.proofs.Slices.{there}
 use Rattle.capnp_making.specs.declared.making.Start.{Start}
 use Rattle.capnp_making.specs.Memory.{HasRoom}
 use Rattle.capnp_making.specs.Near.{HasOwnRoom}
 use Rattle.capnp_making.proofs.Memory.{keeps_both, keeps_then_spends, keeps_written, spends_then_limits, words_refused_after, words_refused_before}
 use Rattle.capnp_widening.specs.Rooms.{HasSomeRoom}
+use Rattle.capnp_widening.proofs.Kept.{few_after, few_again, few_at_most, few_before}
+use Rattle.capnp_widening.proofs.RowPlaces.{near_or_behind}
 use Rattle.capnp_widening.proofs.Rooms.{same_words, room_written}
 use Rattle.capnp_widening.proofs.StructSteps.{StructSteps, struct_rehoused, struct_leads, struct_anew, StructUndone, struct_left, nothing_grown}
 use Rattle.capnp_widening.specs.Anew.{OnlyWrites}
 use Rattle.capnp_widening.proofs.TakingWords.{pruned_writes}
 use Rattle.capnp_widening.proofs.WrittenAnew.{keeps_writes, writes_both}
 use Rattle.capnp_widening.proofs.widening.widen_struct.Goals as goal
+
+data_inside : (start d q : ℕ) {length : ℕ} → start + d + q ≤ length → start + d ≤ length
+data_inside start d q inside = omega arith
+
+data_fits : (start d q : ℕ) {length most : ℕ} → start + d + q ≤ length → length ≤ most → most < 2 ^ 29 →
+    start + d < 2 ^ 32
+data_fits start d q inside within small = omega arith
+
+sections_fit : (start d q : ℕ) {length most : ℕ} → start + d + q ≤ length → length ≤ most → most < 2 ^ 29 →
+    d + q < 2 ^ 63
+sections_fit start d q inside within small = omega arith
+
+-- A room for n words holds the sections that these are, and smaller ones.
+start_inside : (at pads d q : ℕ) {n t : ℕ} → at + (pads + n) ≤ t → n ≡ d + q → 0 < d + q → at + pads < t
+start_inside at pads d q room same some = omega arith
+
+new_data_fits : (at pads d q : ℕ) {n t most : ℕ} → at + (pads + n) ≤ t → n ≡ d + q → t ≤ most →
+    most < 2 ^ 29 → at + pads + d < 2 ^ 32
+new_data_fits at pads d q room same within small = omega arith
+
+new_data : (at pads d q : ℕ) {n t e : ℕ} → at + (pads + n) ≤ t → n ≡ d + q → e ≤ d → at + pads + e ≤ t
+new_data at pads d q room same less = omega arith
+
+new_pointers : (at pads d q : ℕ) {n t r : ℕ} → at + (pads + n) ≤ t → n ≡ d + q → r ≤ q → at + pads + d + r ≤ t
+new_pointers at pads d q room same less = omega arith
+
+old_before_new : (start d q pads : ℕ) {s t at : ℕ} → start + d + q ≤ s → s ≡ t → t ≤ at →
+    start + d ≤ at + pads
+old_before_new start d q pads inside same behind = omega arith
+
+-- Old words stay where they are, and the new ones are behind them.
+pub take-requires-clause-there : goal.take-requires-clause-there
+take-requires-clause-there g c =
+    there (g.A.BuilderArena.view c.args.arena.now).words c.args.id c.args.at c.requires.place
+
+pub pointers_of-from-requires : goal.pointers_of-from-requires
+pointers_of-from-requires g c =
+    data_fits c.args.old.start c.args.old.size.data_words c.args.old.size.pointers
+    c.requires.inside (g.met.A.BuilderArena.within c.args.arena.now c.args.old.segment)
+    (g.met.A.BuilderArena.small c.args.arena.now c.args.old.segment)
+
+pub pointers_of-to-requires : goal.pointers_of-to-requires
+pointers_of-to-requires g c =
+    let (grown, near) = c.in_ok-room.ensures.taken in
+    new_data_fits c.in_ok-room.room.at c.in_ok-room.room.pads c.args.size.data_words c.args.size.pointers
+    grown.room c.total.ensures
+    (g.met.A.BuilderArena.within c.take.new.arena c.in_ok-room.room.segment)
+    (g.met.A.BuilderArena.small c.take.new.arena c.in_ok-room.room.segment)
+
+pub copy_words-requires-clause-from : goal.copy_words-requires-clause-from
+copy_words-requires-clause-from g c =
+    let (grown, near) = c.in_ok-room.ensures.taken in
+    rw (c.data_of.ensures, c.from.ensures)
+    (le_trans (data_inside c.args.old.start c.args.old.size.data_words c.args.old.size.pointers
+    c.requires.inside) (grown.grows.words c.args.old.segment))
+
+pub copy_words-requires-clause-to : goal.copy_words-requires-clause-to
+copy_words-requires-clause-to g c =
+    let (grown, near) = c.in_ok-room.ensures.taken in
+    rw (c.data_of-2.ensures, c.from.ensures)
+    (new_data c.in_ok-room.room.at c.in_ok-room.room.pads c.args.size.data_words c.args.size.pointers
+    grown.room c.total.ensures c.requires.data)
+
+pub copy_words-requires-clause-apart : goal.copy_words-requires-clause-apart
+copy_words-requires-clause-apart g c =
+    let (grown, near) = c.in_ok-room.ensures.taken in
+    let S : Segments = (g.A.BuilderArena.view c.args.arena.now).words in
+    rw (c.data_of.ensures, c.data_of-2.ensures, c.from.ensures)
+    (λ e. old_before_new c.args.old.start c.args.old.size.data_words c.args.old.size.pointers
+    c.in_ok-room.room.pads
+    c.requires.inside (ap (λ s. length (segment S s)) e) grown.behind)
+
+pub move_row-requires-clause-from : goal.move_row-requires-clause-from
+move_row-requires-clause-from g c =
+    let (grown, near) = c.in_ok-room.ensures.taken in
+    let s : ℕ = c.args.old.segment in
+    rw (c.pointers_of-from.ensures, c.from-count.ensures) (le_trans c.requires.inside
+    (le_trans (grown.grows.words s) (le_of_eq (sym (c.copy_words.ensures.copied.words s)))))
+
+pub move_row-requires-clause-to : goal.move_row-requires-clause-to
+move_row-requires-clause-to g c =
+    let (grown, near) = c.in_ok-room.ensures.taken in
+    rw (c.pointers_of-to.ensures, c.from-count.ensures)
+    (le_trans
+    (new_pointers c.in_ok-room.room.at c.in_ok-room.room.pads c.args.size.data_words c.args.size.pointers
+    grown.room c.total.ensures c.requires.pointers)
+    (le_of_eq (sym (c.copy_words.ensures.copied.words c.in_ok-room.room.segment))))
+
+pub settle-requires-clause-place : goal.settle-requires-clause-place
+settle-requires-clause-place g c =
+    let (grown, near) = c.in_ok-room.ensures.taken in
+    let id : ℕ = c.args.id in
+    lt_of_lt_of_le c.requires.place (le_trans (grown.grows.words id)
+    (le_trans (le_of_eq (sym (c.copy_words.ensures.copied.words id)))
+    (c.in-Ok.ensures.moves.longer.words id)))
+
+pub settle-requires-clause-inside : goal.settle-requires-clause-inside
+settle-requires-clause-inside g c =
+    let (grown, near) = c.in_ok-room.ensures.taken in
+    let v : ℕ = c.in_ok-room.room.segment in
+    lt_of_lt_of_le
+    (start_inside c.in_ok-room.room.at c.in_ok-room.room.pads c.args.size.data_words c.args.size.pointers
+    grown.room c.total.ensures c.requires.some)
+    (le_trans (le_of_eq (sym (c.copy_words.ensures.copied.words v))) (c.in-Ok.ensures.moves.longer.words v))
+
+pub settle-requires-clause-apart : goal.settle-requires-clause-apart
+settle-requires-clause-apart g c = λ e.
+    (let (grown, near) = c.in_ok-room.ensures.taken in
+    let S : Segments = (g.A.BuilderArena.view c.args.arena.now).words in
+    lt_of_lt_of_le c.requires.place (subst (λ s. length (segment S s) ≤ c.in_ok-room.room.at) e grown.behind))
+
+pub settle-requires-clause-near : goal.settle-requires-clause-near
+settle-requires-clause-near g c = near_or_behind c.in_ok-room.ensures.taken.1
+
+pub unmove_row-requires-clause-from : goal.unmove_row-requires-clause-from
+unmove_row-requires-clause-from g c =
+    let (grown, near) = c.in_ok-room.ensures.taken in
+    let s : ℕ = c.args.old.segment in
+    rw (c.pointers_of-from.ensures, c.from-count.ensures) (le_trans c.requires.inside
+    (le_trans (grown.grows.words s) (le_trans (le_of_eq (sym (c.copy_words.ensures.copied.words s)))
+    (c.in-Err.ensures.moves.longer.words s))))
+
+pub unmove_row-requires-clause-to : goal.unmove_row-requires-clause-to
+unmove_row-requires-clause-to g c =
+    let (grown, near) = c.in_ok-room.ensures.taken in
+    let v : ℕ = c.in_ok-room.room.segment in
+    rw (c.pointers_of-to.ensures, c.from-count.ensures)
+    (le_trans
+    (new_pointers c.in_ok-room.room.at c.in_ok-room.room.pads c.args.size.data_words c.args.size.pointers
+    grown.room c.total.ensures c.requires.pointers)
+    (le_trans (le_of_eq (sym (c.copy_words.ensures.copied.words v))) (c.in-Err.ensures.moves.longer.words v)))
+
+pub zero_part-requires : goal.zero_part-requires
+zero_part-requires g c =
+    rw (c.from-in-Ok.ensures ∙ c.total-in-Ok.ensures)
+    (sections_fit c.args.old.start c.args.old.size.data_words c.args.old.size.pointers
+    c.requires.inside
+    (g.met.A.BuilderArena.within c.args.arena.now c.args.old.segment)
+    (g.met.A.BuilderArena.small c.args.arena.now c.args.old.segment))
 
 pub returns-in-Ok-clause-wider : goal.returns-in-Ok-clause-wider
 returns-in-Ok-clause-wider g c =
@@ -31,7 +174,8 @@ returns-in-Ok-clause-wider g c =
     let zeroed = pruned_writes r z c.zero_part.ensures.limits c.zero_part.ensures.pruned in
     let cleared = pruned_writes z q c.zero_pads.ensures.limits c.zero_pads.ensures.pruned in
     let last = writes_both p r q set (writes_both r z q zeroed cleared) in
-    let copied : length s.words ≤ length d.words = omega (arith, grown.grows.segments, first.segments) in
+    let copied : length s.words ≤ length d.words = le_trans grown.grows.segments
+    (le_of_eq (sym first.segments)) in
     let kept = keeps_both s t d grown.grows.segments c.in_ok-room.ensures.granted (keeps_writes t d first) in
     let steps : StructSteps s.words t.words d.words p.words r.words z.words q.words c.args.id c.args.at c.args.old c.args.size c.in_ok-room.room = record {
       place = c.requires.place;
@@ -54,7 +198,8 @@ returns-in-Ok-clause-wider g c =
         written = rw (c.pointers_of-from.ensures, c.pointers_of-to.ensures, c.from-count.ensures) at moves.written;
         last = last;
       });
-      granted = keeps_both s p q (omega (arith, copied, moves.longer.segments)) (keeps_both s d p copied kept moves.granted) (keeps_writes p q last);
+      granted = keeps_both s p q (le_trans copied moves.longer.segments)
+          (keeps_both s d p copied kept moves.granted) (keeps_writes p q last);
       memory = tt;
       refused = tt;
     }
@@ -70,7 +215,8 @@ returns-in-Err-clause-wider g c =
     let k = c.in-Err.k in
     let (grown, near) = c.in_ok-room.ensures.taken in
     let moves = c.in-Err.ensures.moves in
-    let copied : length s.words ≤ length d.words = omega (arith, grown.grows.segments, c.copy_words.ensures.copied.segments) in
+    let copied : length s.words ≤ length d.words =
+    le_trans grown.grows.segments (le_of_eq (sym c.copy_words.ensures.copied.segments)) in
     let kept = keeps_both s t d grown.grows.segments c.in_ok-room.ensures.granted (keeps_written t d d.words c.copy_words.ensures.limits) in
     let steps : StructUndone s.words t.words d.words p.words u.words z.words c.args.id c.args.old c.args.size c.in_ok-room.room = record {
       room = rw c.total.ensures at c.in_ok-room.ensures.taken;
@@ -137,7 +283,8 @@ returns-in-Ok-clause-few g c =
     let set = same_words P R settled.segments settled.words in
     let zeroed = same_words R Z c.zero_part.ensures.pruned.segments c.zero_part.ensures.pruned.words in
     let cleared = same_words Z Q c.zero_pads.ensures.pruned.segments c.zero_pads.ensures.pruned.words in
-    omega (arith, taken, copied, moved, set, zeroed, cleared)
+    few_after _ _ _ _ (few_again _ _ _ (c.args.size.data_words + c.args.size.pointers + 1)
+    (2 * c.args.old.size.pointers) taken (few_before _ copied moved)) (cleared ∙ zeroed ∙ set)
 
 pub returns-in-Err-clause-few : goal.returns-in-Err-clause-few
 returns-in-Err-clause-few g c =
@@ -151,10 +298,12 @@ returns-in-Err-clause-few g c =
     let copied = same_words T D c.copy_words.ensures.copied.segments c.copy_words.ensures.copied.words in
     let undone = same_words P U c.unmove_row.ensures.pruned.segments c.unmove_row.ensures.pruned.words in
     let zeroed = same_words U Z c.zero_part-in-Err.ensures.pruned.segments c.zero_part-in-Err.ensures.pruned.words in
-    omega (arith, taken, copied, moved, undone, zeroed)
+    few_after _ _ _ _ (few_again _ _ _ (c.args.size.data_words + c.args.size.pointers + 1)
+    (2 * c.args.old.size.pointers) taken (few_before _ copied moved)) (zeroed ∙ undone)
 
 pub returns-in_err-room-clause-few : goal.returns-in_err-room-clause-few
-returns-in_err-room-clause-few g c = let taken = rw c.total.ensures at c.take.ensures.few in omega (arith, taken)
+returns-in_err-room-clause-few g c = let taken = rw c.total.ensures at c.take.ensures.few in few_at_most _ _
+    (c.args.size.data_words + c.args.size.pointers + 1) _ taken
 
 -- Where there is room for the struct and for all that its pointers can take, neither is refused.
 pub returns-in_err-room-clause-fits : goal.returns-in_err-room-clause-fits

@@ -1,0 +1,57 @@
+-- What a call keeps, and what one call after another does.
+use Rattle.std.proofs.Common.{◌≡◌, inl, ℕ, ◌+◌, ◌*◌, ◌<◌, ◌≤◌, refl, sym, ap, subst, ◌∙◌, le_trans, arith}
+use Rattle.capnp_arena.specs.View.{View, KeepsLimits}
+use Rattle.capnp_format.specs.Segments.{Segments, Grows}
+use Rattle.capnp_making.specs.Zeroed.{IsPruned}
+use Rattle.capnp_making.proofs.BelowElements.{element_within}
+
+pub limits_again : (a b c : View) → KeepsLimits a b → KeepsLimits b c → KeepsLimits a c
+limits_again a b c first second = second ∙ ap (λ (v : View). record v { words = c.words }) first
+
+pub nothing_pruned : (S : Segments) → IsPruned S S
+nothing_pruned S = record { segments = refl; words = λ v. refl; only = λ v r. inl refl }
+
+pub grows_itself : (S : Segments) → Grows S S
+grows_itself S = record { segments = omega arith; words = λ x. omega arith }
+
+pub grows_again : (S M R : Segments) → Grows S M → Grows M R → Grows S R
+grows_again S M R first second = record {
+  segments = le_trans first.segments second.segments;
+  words = λ x. le_trans (first.words x) (second.words x);
+}
+
+-- what is taken, step by step
+pub few_again : (s m r n k : ℕ) → m ≤ s + n → r ≤ m + k → r ≤ s + (n + k)
+few_again s m r n k first second = omega arith
+
+pub few_before : {s m r : ℕ} (n : ℕ) → m ≡ s → r ≤ m + n → r ≤ s + n
+few_before n same more = omega arith
+
+pub few_after : (s m r n : ℕ) → m ≤ s + n → r ≡ m → r ≤ s + n
+few_after s m r n more same = omega arith
+
+-- and row by row, two words for each of k pointers
+pub rows_few : (s m r k i n : ℕ) → m ≤ s + 2 * (i * k) → r ≤ m + 2 * k → i < n → r ≤ s + 2 * (n * k)
+rows_few s m r k i n before row less = omega (arith, element_within k n i less)
+
+pub rows_room : (k i n : ℕ) → i < n → 2 * (i * k) + 2 * k ≤ 2 * (n * k)
+rows_room k i n less = omega (arith, element_within k n i less)
+
+pub some_in_rows : (k i n : ℕ) → i < n → 0 < k → 0 < n * k
+some_in_rows k i n less some = omega (arith, element_within k n i less)
+
+pub lt_next : (i : ℕ) → i < i + 1
+lt_next i = omega arith
+
+pub written_keeps : (a b : View) (S : Segments) → b ≡ record a { words = S } → KeepsLimits a b
+written_keeps a b S e = subst (KeepsLimits a) (sym e) refl
+
+pub few_at_most : (s r n k : ℕ) → r ≤ s + n → r ≤ s + (n + k)
+few_at_most s r n k more = omega arith
+
+pub few_none : {s r : ℕ} (n : ℕ) → r ≡ s → r ≤ s + n
+few_none n same = omega arith
+
+-- what is only written before and after words are taken
+pub grown_between : {s m r q : ℕ} → m ≡ s → m ≤ r → q ≡ r → s ≤ q
+grown_between before more after = omega arith
