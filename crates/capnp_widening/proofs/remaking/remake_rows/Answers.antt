@@ -128,12 +128,6 @@ zero_part-requires g c = sum_small (rows_small c.args.old.at c.args.old.tag c.ar
     (g.met.A.BuilderArena.small c.args.arena.now c.args.old.segment))
     c.from.ensures c.from-in-Ok.ensures (c.from-step.ensures ∙ c.total-in-Ok.ensures)
 
--- A refusal is that of the words.
-pub returns-in_err-room-clause-full : goal.returns-in_err-room-clause-full
-returns-in_err-room-clause-full g c =
-    let p = err_from_is_err_and c.from_residual.result c.from_residual.ensures.1 in
-    rw (p.1, p.2) (inl c.in_err-room.ensures.full)
-
 pub returns-in-Ok-clause-made : goal.returns-in-Ok-clause-made
 returns-in-Ok-clause-made g c =
     let s : View = g.A.BuilderArena.view c.args.arena.now in
