@@ -5,9 +5,12 @@ those of tests/edits/CRATE/ beside them.
     every_edit.py [CRATE..]
 
 The edits are put together in copies of the tree, with the folders out/ that it has, and `rt must-fail` is run there, a
-crate at a time in each copy. There are as many copies as processors, and no more than memory holds at 4 GB each. A
-library below that no check has built yet is built in each copy. The last line is `N passed, M failed`, where what
-passes is an edit that the prover refuses; the exit status is 0 exactly where M is 0."""
+crate at a time in each copy, and an edit at a time of it (RT_JOBS, where that isn't set already). There are as many
+copies as processors, and no more than memory holds at 4 GB each. A library below that no check has built yet is built
+in each copy. Where the toolchain keeps what was tried on this machine, and it stands unchanged, it isn't tried again.
+
+The last line is `N passed, M failed`, where what passes is an edit that the prover refuses; the exit status is 0
+exactly where M is 0."""
 import os
 import pathlib
 import re
@@ -21,6 +24,8 @@ from concurrent.futures import ThreadPoolExecutor
 TOP = pathlib.Path(__file__).resolve().parents[1]
 EDITS = TOP / 'tests/edits'
 REFUSED = re.compile(r'(?:rt: )?must-fail (\w+/[\w.-]+\.edit): refused')
+# In each copy one edit is tried at a time, whatever the processors, where the caller doesn't say otherwise.
+ONE_AT_A_TIME = {'RT_JOBS': '1', **os.environ}
 # A line of one crate's edits is shown whole before another one's.
 PRINTING = threading.Lock()
 
@@ -66,7 +71,7 @@ def tried(room, name):
     """Tries the edits of a crate, and returns how many there are, how many of them are refused, and the status."""
     edits = {f'{name}/{it.name}' for it in (room / 'crates' / name / 'must-fail').glob('*.edit')}
     refused = set()
-    with subprocess.Popen(['rt', 'must-fail', name], cwd=room, stdin=subprocess.DEVNULL, stdout=subprocess.PIPE, encoding='utf-8', errors='surrogateescape') as run:
+    with subprocess.Popen(['rt', 'must-fail', name], cwd=room, env=ONE_AT_A_TIME, stdin=subprocess.DEVNULL, stdout=subprocess.PIPE, encoding='utf-8', errors='surrogateescape') as run:
         for line in run.stdout:
             with PRINTING:
                 print(line, end='', flush=True)
