@@ -130,7 +130,7 @@ fn put_far<A: BuilderArena>(
     ensures named { IfErr result (IsRefusedFor (A.view arena.old) (A.view arena.new) amount) }
     ensures refused { OnErr result ((A.view arena.new).words ≡ (A.view arena.old).words) }
 {
-    // No `?`: with it all that makes objects is slower (docs/SPEED.md).
+    // No `?`: with it lists and trees of structs are built slower (docs/SPEED.md).
     match arena.allocate_anywhere(amount + 1) {
         Ok((segment, pad)) => {
             let word = pointer_to(shape, pad, pad + 1);
