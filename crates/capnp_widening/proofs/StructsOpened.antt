@@ -1,5 +1,5 @@
 -- Structs that are opened for writing.
-use Rattle.std.proofs.Common.{[], ◌≡◌, inl, Bool, true, false, ℕ, zero, ◌+◌, ◌≤◌, max, List, length, Some, None, Ok, Err, refl, sym, ap, ap₂, ◌∙◌, subst, arith}
+use Rattle.std.proofs.Common.{[], ◌≡◌, inl, Bool, true, false, ℕ, ◌+◌, ◌≤◌, max, List, length, Some, None, Ok, Err, refl, sym, ap, ap₂, ◌∙◌, subst, arith}
 use Rattle.std.proofs.lemmas.Grind.{common_steps}
 use Rattle.capnp_words.specs.declared.error.ErrorKind.{ErrorKind}
 use Rattle.capnp_words.specs.declared.error.ErrorKind.TheVariants.{AllocationFailed}
