@@ -1,5 +1,5 @@
 //! An input of packed bytes, as an input of what they stand for.
-ghost use Rattle.std.specs.Prelude.{Some, ℕ, List, ◌&&◌, ◌≡◌, ◌≤◌, ◌<◌, ◌+◌, ◌-◌, ◌∷◌, ◌↔◌, [], IsTrue, false, true, IfOk, OnOk, OnErr, length, take, slice_range};
+ghost use Rattle.std.specs.Prelude.{Some, ℕ, List, ◌&&◌, ◌≡◌, ◌≤◌, ◌<◌, ◌+◌, ◌-◌, ◌∷◌, ◌↔◌, [], IsTrue, IsErr, false, true, IfOk, OnOk, OnErr, length, take, slice_range};
 ghost use Rattle.std.specs.Io.KnownBytes.{Consumes, IsAtEnd, ReadConsumes};
 ghost use Rattle.std.specs.Option.{option_map};
 ghost use Rattle.capnp_framing.specs.Wholeness.{KeepsWhole};
@@ -10,7 +10,8 @@ use super::read_ahead::ReadAhead;
 use super::unpacking::{UNIT, put_zeros, unpack_words};
 use capnp_framing::devices::{DeviceFault, Input};
 
-/// An input of the bytes that packed bytes stand for, as far as they go.
+/// An input of the bytes that packed bytes stand for, as far as they go. A packed input that has failed isn't asked
+/// again.
 #[derive(Drop)]
 pub struct UnpackingInput<R> {
     packed: ReadAhead<R>,
@@ -54,6 +55,8 @@ impl<R: Input> UnpackingInput<R> {
         ensures works { OnOk result
             (⟦<Self as Input>⟧.has_failed self.new ≡ ⟦<Self as Input>⟧.has_failed self.old) }
         ensures fails { OnErr result (⟦<Self as Input>⟧.has_failed self.new ≡ true) }
+        ensures stops { R.has_failed self.old.packed.input ≡ true
+            → IsErr result × (self.new.packed ≡ self.old.packed) }
     {
         let n = self.unpack(&mut [0])?;
         Ok(n == 0 && self.is_whole())
@@ -81,6 +84,8 @@ impl<R: Input> UnpackingInput<R> {
         ensures works { OnOk result
             (⟦<Self as Input>⟧.has_failed self.new ≡ ⟦<Self as Input>⟧.has_failed self.old) }
         ensures fails { OnErr result (⟦<Self as Input>⟧.has_failed self.new ≡ true) }
+        ensures stops { R.has_failed self.old.packed.input ≡ true
+            → IsErr result × (self.new.packed ≡ self.old.packed) }
     {
         if self.packed.failed() {
             self.told = true;
@@ -238,7 +243,18 @@ impl<R: Input> Input for UnpackingInput<R> {
 
     ghost ends_whole = { λ u. whole_behind u.place (⟦<ReadAhead<R> as Input>⟧.remaining u.packed) };
 
-    fn read(&mut self, to: &mut [u8]) -> Result<usize, DeviceFault> {
+    fn read(&mut self, to: &mut [u8]) -> Result<usize, DeviceFault>
+        ensures bound { IfOk result (λ n. n ≤ length to.new) }
+        ensures bytes { ReadConsumes (⟦<Self as Input>⟧.remaining self.old)
+            (⟦<Self as Input>⟧.remaining self.new) result to.new }
+        ensures whole { KeepsWhole (⟦<Self as Input>⟧.ends_whole self.old)
+            (⟦<Self as Input>⟧.ends_whole self.new) }
+        ensures works { OnOk result
+            (⟦<Self as Input>⟧.has_failed self.new ≡ ⟦<Self as Input>⟧.has_failed self.old) }
+        ensures fails { OnErr result (⟦<Self as Input>⟧.has_failed self.new ≡ true) }
+        ensures stops { R.has_failed self.old.packed.input ≡ true
+            → IsErr result × (self.new.packed ≡ self.old.packed) }
+    {
         self.unpack(to)
     }
 
