@@ -1,5 +1,5 @@
 //! A message read from a stream of bytes ("Serialization Over a Stream").
-ghost use Rattle.std.specs.Prelude.{◌≡◌, ◌⊎◌, ℕ, ◌<◌, ◌≤◌, ◌+◌, ◌-◌, ◌*◌, false, true, length, take, drop, slice_index, Ok, None, IfSome, IfOk, IfErr, OnOk, OnErr};
+ghost use Rattle.std.specs.Prelude.{◌≡◌, ◌⊎◌, ℕ, ◌<◌, ◌≤◌, ◌+◌, ◌-◌, ◌*◌, [], false, true, length, take, drop, slice_index, Ok, None, IfSome, IfOk, IfErr, OnOk, OnErr};
 ghost use Rattle.std.specs.Int.{from_le_bytes, w32};
 ghost use Rattle.std.specs.Io.KnownBytes.{Consumes, IsAtEnd};
 ghost use Rattle.capnp_format.specs.Bytes.{message};
@@ -175,7 +175,7 @@ fn are_bytes(bytes: &[u8])
 {}
 
 /// Reads a message from the front of an input into segments that are used again, and leaves what stands behind it.
-/// `false` is an input that is at its end at once.
+/// `false` is an input that is at its end at once; there are no segments then.
 ///
 /// Fewer than four bytes are `Truncated`; more than 512 segments `TooManySegments`, with their number; a
 /// table that is cut short, its padding included, `Truncated`; more than `max_words` words together
@@ -194,6 +194,7 @@ pub fn read_into<R: Input>(
 ) -> Result<bool, FrameError>
     requires { R.has_failed input.old ≡ false }
     ensures end { result ≡ Ok false → IsAtEnd (R.remaining input.old) × IsAtEnd (R.remaining input.new) }
+    ensures none { result ≡ Ok false → ⟦<OwnedSegments as ReaderSegments>⟧.segments into.new ≡ [] }
     ensures read { result ≡ Ok true → IsFrameRead R.Input input.old input.new
         (message (⟦<OwnedSegments as ReaderSegments>⟧.segments into.new)) }
     ensures most { result ≡ Ok true →

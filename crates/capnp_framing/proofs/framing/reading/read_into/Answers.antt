@@ -94,6 +94,7 @@ returns g c =
     let whole : take (8 * c.in_ok-words.words) words ≡ contents S = ap (λ k. take (8 * k) words) sum ∙ sym cut.is in
     record {
       end = search rules;
+      none = search rules;
       read = λ _. record {
         bytes = first ++ (take size table ++ contents S);
         consumed = consumes_both _ _ _ first (take size table ++ contents S) f (consumes_both _ _ _ (take size table) (contents S) c.in_ok-read_front.ensures.bytes
