@@ -1,5 +1,5 @@
 -- How much room a try asks for, and when there is another.
-use Rattle.std.proofs.Common.{◌≡◌, inl, inr, ℕ, ◌+◌, ◌*◌, ◌/◌, ◌<◌, suc, min, Bool, true, false, List, [], ◌∷◌, length, Option, refl, ap, sym, ◌∙◌, subst, arith}
+use Rattle.std.proofs.Common.{◌≡◌, inl, inr, ℕ, ◌+◌, ◌*◌, ◌/◌, ◌<◌, ◌==◌, suc, max, min, IsTrue, Bool, true, false, List, [], ◌∷◌, length, Option, refl, ap, sym, ◌∙◌, subst, arith}
 use Rattle.std.proofs.lemmas.Bool.{cases_lt}
 use Rattle.capnp_words.specs.declared.error.ErrorKind.{ErrorKind}
 use Rattle.capnp_format.specs.Bytes.{message, words_of}
@@ -10,7 +10,7 @@ use Rattle.capnp_arena.proofs.MessageLemmas.{total-cons}
 use Rattle.capnp_objects.specs.Reading.{Reading}
 use Rattle.capnp_framing.specs.Reading.{total}
 use Rattle.capnp_layout.specs.Answers.{LacksMemoryOr, RefusesCopy, is_message_too_large}
-use Rattle.capnp_layout.specs.Tries.{IsMadeByFirstTry, NeedsMoreRoom, room_of_try, words_read}
+use Rattle.capnp_layout.specs.Tries.{IsMadeByFirstTry, NeedsMoreRoom, as_asked, room_of_try, words_read}
 use Rattle.capnp_layout.proofs.CanonLemmas.{large_wants, never_read}
 
 -- The tries have come to one that asks for this room: what those before it ask for is too little.
@@ -31,9 +31,19 @@ next_comes {r} come doubled little = record {
   ];
 }
 
+offered : (least room asked : ℕ) → least ≡ 0 → IsTrue (room == max least asked) → IsTrue (room == asked)
+offered least room asked none is = grind arith
+
 -- the same, where the place is written otherwise
 pub moved_tries : {r q : Reading} (offers : ℕ → ℕ → Bool) (room : ℕ) → r ≡ q → IsMadeByFirstTry r offers room → IsMadeByFirstTry q offers room
 moved_tries offers room place tries = subst (λ (x : Reading). IsMadeByFirstTry x offers room) place tries
+
+-- the words that a heap offers which adds none are those that are asked for
+pub tries_as_asked : {r : Reading} (least room : ℕ) → least ≡ 0 →
+    IsMadeByFirstTry r (λ asked words. words == max least asked) room → IsMadeByFirstTry r as_asked room
+tries_as_asked {r} least room none tries =
+    let asks : ℕ = room_of_try (words_read r) tries.try in
+    record { try = tries.try; asked = offered least room asks none tries.asked; before = tries.before }
 
 -- a try that says that something is too large has too little room
 pub try_too_small : {r : Reading} {left : Option ℕ} {room old new : ℕ} {k : ErrorKind} → is_message_too_large k ≡ true → LacksMemoryOr old new k (RefusesCopy r left room k) → NeedsMoreRoom r room

@@ -1,5 +1,5 @@
 -- In how much room the canonical words of a message are tried to be made.
-use Rattle.std.specs.Prelude.{ℕ, ◌+◌, ◌*◌, ◌<◌, zero, suc, min, if◌then◌else◌, Bool, IsTrue}
+use Rattle.std.specs.Prelude.{ℕ, ◌+◌, ◌*◌, ◌<◌, ◌==◌, zero, suc, min, if◌then◌else◌, Bool, IsTrue}
 use Rattle.capnp_arena.specs.Allocations.{max_segment_words}
 use Rattle.capnp_format.specs.Canonical.{trim, word_count}
 use Rattle.capnp_format.specs.Tree.{Tree}
@@ -20,6 +20,10 @@ room_of_try words (suc k) = min (2 * room_of_try words k) max_segment_words
 -- The words of the message where a place is read; where that is a default, none.
 abbrev pub words_read : Reading → ℕ
 words_read r = if r.of_default then 0 else total r.segments
+
+-- Just the words that are asked for are offered.
+abbrev pub as_asked : ℕ → ℕ → Bool
+as_asked asked words = words == asked
 
 -- A try made the canonical words of what a place means: its segment, of this room, was offered for
 -- what that try asks for, and what each try before it asks for is too little.

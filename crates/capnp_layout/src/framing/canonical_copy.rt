@@ -13,7 +13,7 @@ ghost use Rattle.capnp_objects.specs.Wanted.{canonical};
 ghost use Rattle.capnp_readers.specs.Readers.{reading};
 ghost use Rattle.capnp_layout.specs.Answers.{IsAloneOr, HoldsCanonicalWords, IsMadeWhereAlone, LacksMemoryOr, RefusesCopy, RefusesCopyAnywhere, is_message_too_large, wants_room};
 ghost use Rattle.capnp_layout.specs.CanonicalErrors.{IsLeftOf};
-ghost use Rattle.capnp_layout.specs.Tries.{IsMadeByFirstTry, NeedsMoreRoom, room_of_try, words_read};
+ghost use Rattle.capnp_layout.specs.Tries.{IsMadeByFirstTry, NeedsMoreRoom, as_asked, room_of_try, words_read};
 
 use capnp_arena::arena::{
     Allocator, BuilderArena, BuilderArenaImpl, HeapAllocator, MAX_SEGMENT_WORDS, ReaderArena,
@@ -269,7 +269,7 @@ pub fn copy_canonical_with<A: Allocator, B: ReaderArena>(
 /// A message in canonical form, in a segment on the heap.
 pub type CanonicalCopy = BuilderArenaImpl<HeapAllocator>;
 
-/// The same as `copy_canonical_with`, with memory of the heap.
+/// The same as `copy_canonical_with`, with memory of the heap: just as many words as each try asks for.
 pub fn copy_canonical<B: ReaderArena>(
     alloc: Global,
     from: PointerReader<'_, B>,
@@ -278,6 +278,8 @@ pub fn copy_canonical<B: ReaderArena>(
     ensures copied { IfOk result (λ made. (t : Tree)
         × Reads canonical (reading B.ReaderArena from.entry) lim.old lim.new t
         × HoldsCanonicalWords (⟦<CanonicalCopy as BuilderArena>⟧.view made) t) }
+    ensures tries { IfOk result (λ made. IsMadeByFirstTry (reading B.ReaderArena from.entry)
+        as_asked ((⟦<CanonicalCopy as BuilderArena>⟧.view made).room 0)) }
     ensures refused { IfErr result (λ k. (k ≡ AllocationFailed)
         ⊎ RefusesCopy (reading B.ReaderArena from.entry) lim.old.left max_segment_words k) }
     ensures unread { OnErr result (lim.new ≡ lim.old) }
