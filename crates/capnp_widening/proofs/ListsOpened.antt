@@ -140,3 +140,23 @@ list_made a b s p t l size (Err k) stored found narrow none w =
         full = growth.full t u stored e;
       }
     ]))
+
+-- A list whose elements make no such structs is refused.
+pub list_refuses : (S : Segments) (s p : ℕ) (t : Tree) (l : ExistingList) (size : StructSize)
+    (k : ErrorKind) →
+    IsStored S s p t → list_in (target S s p) Void t ≡ Ok (Some l) → (HasWideStructs size l → ⊥) →
+    Some k ≡ refusal_of_elements size l.size l.struct_size l.count →
+    list_widened size.data_words size.pointers t ≡ Err k
+list_refuses S s p t l size k stored found narrow some =
+    subst (λ o. Refuses o (list_widened size.data_words size.pointers t)) (sym some)
+    (refuses S s p t l size l.size refl stored found narrow)
+
+pub list_refused : (a : View) (s p : ℕ) (t : Tree) (l : ExistingList) (size : StructSize) (k : ErrorKind) →
+    list_in (target a.words s p) Void t ≡ Ok (Some l) → list_widened size.data_words size.pointers t ≡ Err k →
+    OpensExistingList size (Err k) (call_at s p a a) t
+list_refused a s p t l size k found refused =
+    opens size (Err k) (call_at s p a a) t (not_null l a.words s p t found)
+    (subst (λ x. Opens size LeadsToAll (call_at s p a a) t x (Err k)) (sym refused) (refl, refl))
+
+pub no_list_fits : (k : ErrorKind) (u : Tree) (r : Result Tree ErrorKind) → r ≡ Err k → r ≡ Ok u → ⊥
+no_list_fits k u r refused widens = same_result k u (sym widens ∙ refused)
