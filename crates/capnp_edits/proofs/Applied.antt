@@ -1,5 +1,5 @@
 -- What an edit leaves of a forest.
-use Rattle.std.proofs.Common.{◌≡◌, ◌⊎◌, inl, inr, Bool, ℕ, zero, suc, pred, ◌+◌, ◌*◌, ◌<◌, ◌≤◌, true, false, cond, nat_eq, nat_le, List, [], ◌∷◌, length, Option, Some, None, Result, Ok, Err, IsOk, IfErr, OnErr, refl, sym, ap, ◌∙◌, subst, arith}
+use Rattle.std.proofs.Common.{◌≡◌, ◌⊎◌, inl, inr, Bool, ℕ, zero, suc, pred, ◌+◌, ◌-◌, ◌*◌, ◌^◌, ◌<◌, ◌≤◌, true, false, cond, nat_eq, nat_le, List, [], ◌∷◌, length, Option, Some, None, Result, Ok, Err, IsOk, IfErr, OnOk, OnErr, refl, sym, ap, ◌∙◌, subst, arith}
 use Rattle.std.specs.Option.{option_map_or}
 use Rattle.std.specs.Prelude.{MatchOption}
 use Rattle.std.proofs.lemmas.Bool.Decides.{nat_tests}
@@ -8,7 +8,8 @@ use Rattle.capnp_words.specs.declared.error.ErrorKind.{ErrorKind}
 use Rattle.capnp_words.specs.declared.error.ErrorKind.TheVariants.{AllocationFailed, NoSuchPlace}
 use Rattle.capnp_arena.specs.Taking.{IsAllocationRefusal}
 use Rattle.capnp_arena.specs.View.{View, KeepsLimits}
-use Rattle.capnp_format.specs.Segments.{Segments, Target, segment}
+use Rattle.capnp_format.specs.Segments.{Segments, Target, segment, word_at}
+use Rattle.capnp_format.specs.Word.{struct_word}
 use Rattle.capnp_format.specs.Tree.{Tree, Null, Capability, Struct, Flat, Pointers, Structs, Trees, Elements, no_elements, element, count, element_count}
 use Rattle.capnp_format.specs.Means.{Means}
 use Rattle.capnp_format.specs.Canonical.{word_count, word_count_all, word_count_elements}
@@ -18,8 +19,9 @@ use Rattle.capnp_making.specs.declared.existing.ExistingStruct.{ExistingStruct}
 use Rattle.capnp_making.specs.Existing.{struct_in}
 use Rattle.capnp_making.specs.Fields.{put_field}
 use Rattle.capnp_making.specs.Made.{words_of_zero, nulls, zero_elements, zero_struct, zero_structs, zero_list, list_words}
-use Rattle.capnp_making.specs.Makes.{MakesObject, call_at}
-use Rattle.capnp_making.specs.Memory.{IsRefusedFor}
+use Rattle.capnp_making.specs.Makes.{CallAt, MakesObject, call_at}
+use Rattle.capnp_making.specs.Memory.{IsRefusedFor, StandsBehind, start_of}
+use Rattle.capnp_making.specs.Near.{LeadsToEnd}
 use Rattle.capnp_making.specs.Path.{Element, struct_at, put_struct, update, PathLeads, word_interval}
 use Rattle.capnp_making.specs.Stored.{IsStored, IsReplaced, Puts}
 use Rattle.capnp_making.proofs.Extents.{once_held, times-first}
@@ -35,14 +37,15 @@ use Rattle.capnp_edits.specs.Paths.{EndValue, PointerTo, ElementOf, path_of, fou
 use Rattle.capnp_edits.specs.declared.edit.tasks.Task.{Task}
 use Rattle.capnp_edits.specs.declared.edit.tasks.Task.TheVariants.{Make, Point, InStruct, Write, Search, CopyRoot}
 use Rattle.capnp_edits.specs.declared.edit.tasks.NewObject.{NewObject}
+use Rattle.capnp_edits.specs.declared.edit.tasks.NewObject.TheVariants.{ZeroStruct}
 use Rattle.capnp_edits.specs.declared.edit.tasks.Number.{Number}
 use Rattle.capnp_edits.specs.declared.edit.tasks.Part.{Part}
 use Rattle.capnp_edits.specs.declared.edit.tasks.StructChange.{StructChange}
 use Rattle.capnp_edits.specs.declared.edit.tasks.StructChange.TheVariants.{Bits, Content}
-use Rattle.capnp_edits.specs.declared.edit.path.PathEnd.TheVariants.{Pointer as AtPointer}
+use Rattle.capnp_edits.specs.declared.edit.path.PathEnd.TheVariants.{Pointer as AtPointer, Element as AtElement}
 use Rattle.capnp_edits.specs.Tasks.{task_of}
 use Rattle.capnp_edits.specs.Edits.{refusal_of, bits_of, value_of, Making, becomes, denied, struct_with, struct_changed, made_at, is_of_path, DoesAt, Leaves, as_it_stands, is_done, is_denied, is_allocated, is_not_allocated, leads_to, are_written, are_outside, PutsBits, Takes, leads_nowhere, IsApplied, refusals_after}
-use Rattle.capnp_edits.specs.Steps.{IsDoneAt}
+use Rattle.capnp_edits.specs.Steps.{DoesThere, IsDoneAt, LeadsThere}
 use Rattle.capnp_edits.proofs.Steps.{first, same_some, struct_of}
 use Rattle.capnp_edits.proofs.Taken.{KeepsLengths, writes}
 use Rattle.capnp_edits.proofs.Walks.{found-append, update-append}
@@ -134,23 +137,33 @@ structs_words_are n size =
     let q = size.pointers in
     ap (λ m. 1 + m * (d + q)) (sym (count-zero_elements d q n)) ∙ (let e : 1 + element_count (zero_elements d q n) * (d + q) ≡ 1 + element_count (zero_elements d q n) * (d + q) + word_count_elements (zero_elements d q n) = omega (arith, none_in d q n) in e)
 
+-- where an object leads that has no words
+pub struct_leads : {A : Type 0} (result : Result A ErrorKind) (c : CallAt) (size : StructSize) → (size.data_words + size.pointers ≡ 0 → OnOk result (word_at c.new.words c.segment c.at ≡ struct_word (2 ^ 30 - 1) 0 0)) → OnOk result (LeadsThere c (ZeroStruct size))
+struct_leads (Ok x) c size h = h
+struct_leads (Err k) c size h = tt
+
+-- and one that has some
+pub leads_behind : {A : Type 0} (result : Result A ErrorKind) (c : CallAt) (n : ℕ) → 0 < n → OnOk result (StandsBehind c.old c.segment n (start_of (target c.new.words c.segment c.at))) → OnOk result (LeadsToEnd c n)
+leads_behind (Ok x) c n some h = λ room. h.near some room
+leads_behind (Err k) c n some h = tt
+
 -- a call that makes an object
 pub object_made : {A : Type 0} (result : Result A ErrorKind) (old new : View) (place : PointerPlace) (object : NewObject) (n : ℕ) → n ≡ word_count (value_of object) →
-    MakesObject result (call_at place.segment place.word old new) (value_of object) n → IsDoneAt old new place (Make object) (refusal_of result)
-object_made result old new place object n is made =
-    value_made result old new place object (subst (MakesObject result (call_at place.segment place.word old new) (value_of object)) is made)
+    MakesObject result (call_at place.segment place.word old new) (value_of object) n → OnOk result (LeadsThere (call_at place.segment place.word old new) object) → IsDoneAt old new place (Make object) (refusal_of result)
+object_made result old new place object n is made leads =
+    value_made result old new place object (subst (MakesObject result (call_at place.segment place.word old new) (value_of object)) is made) leads
   where
     value_made : {A : Type 0} (result : Result A ErrorKind) (old new : View) (place : PointerPlace) (object : NewObject) → MakesObject result (call_at place.segment place.word old new) (value_of object) (word_count (value_of object)) →
-        IsDoneAt old new place (Make object) (refusal_of result)
-    value_made (Ok x) old new place object made = record {
+        OnOk result (LeadsThere (call_at place.segment place.word old new) object) → IsDoneAt old new place (Make object) (refusal_of result)
+    value_made (Ok x) old new place object made leads = record {
       done = λ t stored. record { left = Some (value_of object); leaves = as_it_stands (is_allocated Null (value_of object) refl refl refl); stands = made.made t stored };
       counted = ap (λ (v : View). v.refusals) made.memory.granted.0;
       named = λ k e. absurd (cc);
       fits = λ room k e. absurd (cc);
       nowhere = λ e. absurd (cc);
-      taken = λ some. record { taken = made.memory.taken; behind = made.behind; memory = made.memory.granted };
+      taken = λ some. record { taken = made.memory.taken; behind = made.behind; leads = leads; memory = made.memory.granted };
     }
-    value_made (Err k) old new place object made =
+    value_made (Err k) old new place object made leads =
         let n : ℕ = word_count (value_of object) in
         let why : IsRefusedFor old new n k = made.memory.named in
         record {
@@ -320,6 +333,15 @@ none_made (Point None) t other = refl
 none_made (Write part) t other = refl
 none_made (Search sought default) t other = refl
 none_made (CopyRoot c) t other = refl
+
+-- an element of a list keeps its words but where it is changed
+pub element_kept : (S : Segments) (s : ExistingStruct) (task : Task) (r : Option ErrorKind) → ((change : StructChange) → task ≡ InStruct change → ⊥) → DoesThere S S (AtElement s) task r
+element_kept S s (InStruct change) r other = absurd (other change refl)
+element_kept S s (Make object) r other = refl
+element_kept S s (Point i) r other = refl
+element_kept S s (Write part) r other = refl
+element_kept S s (Search sought default) r other = refl
+element_kept S s (CopyRoot c) r other = refl
 
 pub none_applied : (S : Segments) (e : Edit) (s : ExistingStruct) (task : Task) → task_of e.op ≡ Some task → ((change : StructChange) → task ≡ InStruct change → ⊥) → ((t : Tree) → IsStored S 0 0 t → IsElementFound S 0 0 t (path_of e.path.now) s) →
     IsApplied (Takes e (Some NoSuchPlace)) S S

@@ -1,5 +1,6 @@
 -- What a copy from another message leaves, and what it is refused for.
 use Rattle.std.proofs.Common.{◌≡◌, inl, inr, ◌⊎◌, ℕ, ◌+◌, ◌≤◌, Bool, true, false, cond, not, ◌&&◌, ◌||◌, nat_eq, nat_lt, length, Option, Some, None, IfSome, Result, Ok, Err, IfOk, IfErr, OnOk, OnErr, refl, sym, ap, ◌∙◌, subst, arith, IsOk}
+use Rattle.std.specs.Prelude.{MatchOption}
 use Rattle.std.proofs.lemmas.Bool.{cases_lt, false≢true}
 use Rattle.capnp_words.specs.Meter.{Meter}
 use Rattle.capnp_words.specs.declared.error.ErrorKind.{ErrorKind}
@@ -114,11 +115,11 @@ copy_fits_as AList c id at old new r m m' k is small can (l, n, leads, refuses) 
 
 -- What a copy takes, and why it is refused, by its outcome.
 abbrev pub Says : Option ErrorKind → Original Tree → Change → Type 0
-Says r o d = TakesAtMost (result_of r) o d × IfSome r (RefusesToCopy o d)
+Says r o d = TakesAtMost (result_of r) o d × MatchOption r (PutsCopy o d) (RefusesToCopy o d)
 
-says : {A : Type 0} (result : Result A ErrorKind) (o : Original Tree) (d : Change) → TakesAtMost result o d → IfErr result (LeavesCleared o d) → Says (refusal_of result) o d
-says (Ok x) o d taken refused = (taken, tt)
-says (Err k) o d taken refused = (taken, refused.why)
+says : {A : Type 0} (result : Result A ErrorKind) (o : Original Tree) (d : Change) → IfOk result (λ x. PutsCopy o d) → TakesAtMost result o d → IfErr result (LeavesCleared o d) → Says (refusal_of result) o d
+says (Ok x) o d done taken refused = (taken, done)
+says (Err k) o d done taken refused = (taken, refused.why)
 
 -- A copy that was tried: what it leaves where result is Ok, and why it is refused where it isn't.
 pub record Tried {A : Type 0} (result : Result A ErrorKind) (c : Copying) (old new : View) (place : PointerPlace) : Type 0 where
@@ -174,7 +175,7 @@ value_tried result c r m m' old new place is is_r is_m has done refused taken = 
     copies =
         let ch : Meter → Change = λ y. change (form_of c.canonicalize) place.segment place.word old new y m' in
         subst (λ w. OfWanted w (root_of c.source) (ch (once_at_root c.source)) (Says (refusal_of result))) (sym is)
-        (subst (λ y. Says (refusal_of result) (value_original (root_of c.source)) (ch y)) is_m (subst (λ y. Says (refusal_of result) (value_original y) (ch m)) is_r (says result (value_original r) (ch m) taken refused)))
+        (subst (λ y. Says (refusal_of result) (value_original (root_of c.source)) (ch y)) is_m (subst (λ y. Says (refusal_of result) (value_original y) (ch m)) is_r (says result (value_original r) (ch m) done taken refused)))
 
 -- of the struct that it leads to
 struct_tried : {A : Type 0} (result : Result A ErrorKind) (c : Copying) (s : Sections) (m' : Meter) (old new : View) (place : PointerPlace) → c.wanted ≡ AStruct → HasRoot c.source → LeadsToStruct (root_of c.source) (once_at_root c.source) s →
@@ -191,7 +192,7 @@ struct_tried result c s m' old new place is has leads done refused taken = recor
     good (Err k) h = tt
 
     copies : OfWanted c.wanted (root_of c.source) (change (form_of c.canonicalize) place.segment place.word old new (once_at_root c.source) m') (Says (refusal_of result))
-    copies = subst (λ w. OfWanted w (root_of c.source) (change (form_of c.canonicalize) place.segment place.word old new (once_at_root c.source) m') (Says (refusal_of result))) (sym is) (s, leads, says result (sections_original s.words s.first s.pointers) (change (form_of c.canonicalize) place.segment place.word old new s.limiter m') taken refused)
+    copies = subst (λ w. OfWanted w (root_of c.source) (change (form_of c.canonicalize) place.segment place.word old new (once_at_root c.source) m') (Says (refusal_of result))) (sym is) (s, leads, says result (sections_original s.words s.first s.pointers) (change (form_of c.canonicalize) place.segment place.word old new s.limiter m') done taken refused)
 
 -- of the list
 list_tried : {A : Type 0} (result : Result A ErrorKind) (c : Copying) (l : ListElements) (m m' : Meter) (old new : View) (place : PointerPlace) → c.wanted ≡ AList → HasRoot c.source →
@@ -207,7 +208,7 @@ list_tried result c l m m' old new place is has leads done refused taken = recor
     good (Err k) h = tt
 
     copies : OfWanted c.wanted (root_of c.source) (change (form_of c.canonicalize) place.segment place.word old new (once_at_root c.source) m') (Says (refusal_of result))
-    copies = subst (λ w. OfWanted w (root_of c.source) (change (form_of c.canonicalize) place.segment place.word old new (once_at_root c.source) m') (Says (refusal_of result))) (sym is) (l, m, leads, says result (list_original l.size l.sections l.count l.first) (change (form_of c.canonicalize) place.segment place.word old new m m') taken refused)
+    copies = subst (λ w. OfWanted w (root_of c.source) (change (form_of c.canonicalize) place.segment place.word old new (once_at_root c.source) m') (Says (refusal_of result))) (sym is) (l, m, leads, says result (list_original l.size l.sections l.count l.first) (change (form_of c.canonicalize) place.segment place.word old new m m') done taken refused)
 
 -- A call without a default reads the pointer itself.
 own_pointer : {A : Type 0} (g : Ghosts A) (expected : Expectation) (from p : PointerReader A g) → IsRead g (record { from = from; expected = expected; default = None }) (Ok p) → p ≡ from

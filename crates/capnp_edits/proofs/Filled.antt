@@ -1,5 +1,6 @@
 -- Content of another message's struct that is copied over a struct, which a pointer leads to or which is an element of a list.
 use Rattle.std.proofs.Common.{◌≡◌, ◌⊎◌, inl, inr, ℕ, zero, suc, pred, min, ◌+◌, ◌*◌, ◌/◌, ◌<◌, List, [], ◌∷◌, length, Option, Some, None, IsSomeAnd, Result, Ok, Err, IsOk, IfOk, IfErr, OnErr, true, refl, sym, ap, ap₂, ◌∙◌, subst, arith}
+use Rattle.std.specs.Prelude.{MatchOption, ⊤}
 use Rattle.capnp_words.specs.Meter.{Meter}
 use Rattle.capnp_words.specs.declared.error.ErrorKind.{ErrorKind}
 use Rattle.capnp_words.specs.declared.error.ErrorKind.TheVariants.{NoSuchPlace}
@@ -58,7 +59,7 @@ use Rattle.capnp_edits.specs.Tasks.{task_of}
 use Rattle.capnp_edits.specs.Paths.{path_of, found, IsElementFound, ElementOf}
 use Rattle.capnp_edits.specs.Sources.{root_of, once_at_root, HasRoot, IsRootReader, Sections, LeadsToStruct, no_struct, a_struct, ContentRead, ContentFitsBehind, HasNothingToCopy, FilledOrRefused}
 use Rattle.capnp_edits.specs.Edits.{as_it_stands, refusal_of, bits_of, struct_changed, fills, is_of_path, PutsBits, FillsAt, Changes, all_filled, first_filled, none_filled, refusals_after, IsApplied, Takes, leads_to, is_filled, is_half_filled, is_not_filled, DoesAt}
-use Rattle.capnp_edits.specs.Steps.{IsStructAt, StopsFilling, FitsAt, IsRefusedAt, TakesForChange, IsDoneAt, IsChanged, result_of}
+use Rattle.capnp_edits.specs.Steps.{FillsThere, IsStructAt, StopsFilling, FitsAt, IsRefusedAt, TakesForChange, IsDoneAt, IsChanged, result_of}
 use Rattle.capnp_edits.specs.declared.edit.path.PathEnd.TheVariants.{Pointer as AtPointer, Element as AtElement}
 use Rattle.capnp_edits.proofs.Taken.{bits_lengths, copy_taken, writes}
 use Rattle.capnp_edits.proofs.Applied.{made, of_allocation, of_no_place, of_place, named_refusal, none_counted, kept_nowhere, refused_there, never_refused, denied_at, no_struct as is_none, written_at, element_struct, element_end, applied_bits}
@@ -75,7 +76,8 @@ IsContentRefused old new place source k = (HasNothingToCopy source AStruct k × 
 abbrev pub TakesForContentFrom : View → View → StructPlace → Source → Option ErrorKind → Type 0
 TakesForContentFrom old new place source r =
     (IsSomeAnd r (HasNothingToCopy source AStruct) × (new ≡ old)) ⊎
-    ((s : Sections) × (m : Meter) × LeadsToStruct (root_of source) (once_at_root source) s × TakesAtMost (result_of r) (children_original s.first (min place.pointers s.pointers)) (pointers_copied place old new s.limiter m))
+    ((s : Sections) × (m : Meter) × LeadsToStruct (root_of source) (once_at_root source) s × TakesAtMost (result_of r) (children_original s.first (min place.pointers s.pointers)) (pointers_copied place old new s.limiter m) ×
+    MatchOption r (0 < place.bits + place.pointers → FillsThere old new place s m) (λ k. ⊤))
 
 -- as the sections of a source's struct
 record SourceStruct {A : Type 0} (g : Ghosts A) (source : Source) (v : StructReader A g) (n : Meter) : Type 0 where
@@ -158,15 +160,23 @@ fill_named (Err k) g source from v m n m' old new place opened long read (mid, t
 
 pub fill_taken : {A B : Type 0} (result : Result B ErrorKind) (g : Ghosts A) (source : Source) (from : PointerReader A g) (v : StructReader A g) (m n m' : Meter) (old new : View) (place : StructPlace) → IsRootReader g source from m →
     length v.content.now ≡ bytes_for v.bits → WhereRead g (record { from = from; expected = struct_expected; default = None }) (λ p. IsStructRead g p m n v) → TakesForCopy g result v place (pointers_copied place old new n m') →
-    TakesForContentFrom old new place source (refusal_of result)
-fill_taken result g source from v m n m' old new place opened long read taken =
+    IfOk result (λ x. TakesContent g v place (pointers_copied place old new n m')) → TakesForContentFrom old new place source (refusal_of result)
+fill_taken result g source from v m n m' old new place opened long read taken copied =
     let s = source_struct g source from v m n opened long read in
     inr (
       record { words = words_of v.content.now; first = pointers_read g v; pointers = v.pointer_count; limiter = n },
       m',
       s.leads,
       copy_taken result (children_original (pointers_read g v) (min place.pointers v.pointer_count)) (pointers_copied place old new n m') taken,
+      filled_there result copied,
     )
+  where
+    filled_there : {B : Type 0} (q : Result B ErrorKind) → IfOk q (λ x. TakesContent g v place (pointers_copied place old new n m')) →
+        MatchOption (refusal_of q) (0 < place.bits + place.pointers → FillsThere old new place (record { words = words_of v.content.now; first = pointers_read g v; pointers = v.pointer_count; limiter = n }) m') (λ k. ⊤)
+    filled_there (Ok x) (mid, taking, copies) =
+        let s = source_struct g source from v m n opened long read in
+        λ some. record { bytes = v.content.now; are_words = refl; taken = mid; limits = taking.limits; takes = rw (← s.bits) taking.cleared; copies = copies }
+    filled_there (Err k) none = tt
 
 -- at the struct itself
 pub refused_there_too : {A : Type 0} (result : Result A ErrorKind) (old new : View) (e : ExistingStruct) (source : Source) → IfErr result (IsContentRefused old new (struct_place e) source) → IfErr result (λ k. IsRefusedAt old new (InStruct (Content source)) k (AtElement e))
@@ -215,6 +225,7 @@ nothing_taken g source from v m n old e opened long read empty =
       n,
       s.leads,
       all_taken (omega (arith, no_pointers)) (none_taken (pointers_read g v) plain (struct_place e).segment old n),
+      λ some. absurd (let words : 0 < 64 * e.size.data_words + e.size.pointers = some in omega (arith, words, empty)),
     )
 
 -- how a call changes a struct

@@ -8,6 +8,7 @@ use Rattle.capnp_format.specs.Canonical.{word_count}
 use Rattle.capnp_format.specs.Forest.{IsForest, cover}
 use Rattle.capnp_format.specs.Segments.{Segments, segment}
 use Rattle.capnp_format.specs.Tree.{Tree}
+use Rattle.capnp_making.specs.Memory.{KeepsMemory, TakesWords}
 use Rattle.capnp_making.specs.Path.{word_interval}
 use Rattle.capnp_making.specs.Stored.{IsStored}
 use Rattle.capnp_making.proofs.Extents.{once_held, times-first}
@@ -56,15 +57,15 @@ kept_first old new n first x = record {
 }
 
 -- or those of an object
-made_first : (old new : View) (place : PointerPlace) (n : ℕ) → 0 < length old.words → AreInFirst old.words → place.segment ≡ 0 → length (segment old.words 0) + n ≤ old.room 0 → TakesForObject old new place n → StaysInFirst old new n
-made_first old new place n there first here fits x =
-    let near = x.taken.near (subst (λ s. length (segment old.words s) + n ≤ old.room s) (sym here) fits) in
+made_first : (old new : View) (place : PointerPlace) (n : ℕ) → 0 < length old.words → AreInFirst old.words → place.segment ≡ 0 → length (segment old.words 0) + n ≤ old.room 0 → TakesWords old new place.segment n → KeepsMemory old new → StaysInFirst old new n
+made_first old new place n there first here fits takes keeps =
+    let near = takes.near (subst (λ s. length (segment old.words s) + n ≤ old.room s) (sym here) fits) in
     let gained = subst (λ s. length (segment new.words s) ≡ length (segment old.words s) + n) here near.gained in
     record {
       words = omega (arith, gained);
       first = λ k other. near.others k (λ e. other (e ∙ here)) ∙ first k other;
-      room = x.memory.1 0 there;
-      refusals = ap (λ (v : View). v.refusals) x.memory.0;
+      room = keeps.1 0 there;
+      refusals = ap (λ (v : View). v.refusals) keeps.0;
     }
 
 -- What is known of an edit at its place.
@@ -95,7 +96,8 @@ with_object old new place object r there first here fits f =
     let none = f.fits (inl (subst (λ s. length (segment old.words s) + word_count (value_of object) ≤ old.room s) (sym here) fits)) in
     by_outcome old new (word_count (value_of object)) r first none
     (λ k e. elim (f.named k e) [ inl h ↦ h.1 | inr why ↦ absurd (not_of_path k (of_memory old new (word_count (value_of object)) k why) (none k e)) ])
-    (λ e. made_first old new place (word_count (value_of object)) there first here fits (subst (λ o. TakesAt old new (Make object) o (AtPointer place)) e (f.taken (not_missing r e))))
+    (λ e. (let x : TakesForObject old new place object = subst (λ o. TakesAt old new (Make object) o (AtPointer place)) e (f.taken (not_missing r e)) in
+    made_first old new place (word_count (value_of object)) there first here fits x.taken x.memory))
 
 at_place : (old new : View) (there : PathEnd) (task : Task) (r : Option ErrorKind) → 0 < length old.words → AreInFirst old.words → ((place : PointerPlace) → there ≡ AtPointer place → place.segment ≡ 0) → AsksNoMore (Some task) →
     length (segment old.words 0) + words_asked (Some task) ≤ old.room 0 → Fact old new there task r → IsNoneOfMemory r × StaysInFirst old new (words_asked (Some task))

@@ -1,5 +1,5 @@
 -- Searches: what they leave, with a default or without one.
-use Rattle.std.proofs.Common.{◌≡◌, ◌⊎◌, inl, inr, ℕ, ◌+◌, ◌*◌, ◌/◌, ◌^◌, ◌<◌, ◌≤◌, Bool, true, false, cond, ◌&&◌, nat_eq, nat_le, nat_lt, List, [], ◌∷◌, length, Option, Some, None, unwrap_or, Result, Ok, Err, IsOk, IfErr, OnOk, refl, sym, ap, ◌∙◌, subst, arith}
+use Rattle.std.proofs.Common.{◌≡◌, ◌⊎◌, inl, inr, ℕ, ◌+◌, ◌-◌, ◌*◌, ◌/◌, ◌^◌, ◌<◌, ◌≤◌, Bool, true, false, cond, ◌&&◌, nat_eq, nat_le, nat_lt, List, [], ◌∷◌, length, Option, Some, None, unwrap_or, Result, Ok, Err, IsOk, IfErr, OnOk, refl, sym, ap, ◌∙◌, subst, arith}
 use Rattle.std.specs.Prelude.{MatchOption, ⊤}
 use Rattle.std.proofs.lemmas.List.{length-replicate}
 use Rattle.std.proofs.lemmas.Bool.{cases_lt}
@@ -14,6 +14,7 @@ use Rattle.capnp_words.specs.declared.wire_pointer.StructSize.{StructSize}
 use Rattle.capnp_format.specs.Bytes.{words_of}
 use Rattle.capnp_format.specs.Forest.{target}
 use Rattle.capnp_format.specs.Segments.{Segments, Target, word_at, IsPlace}
+use Rattle.capnp_format.specs.Word.{struct_word}
 use Rattle.capnp_format.specs.Tree.{Tree, Null, Capability, Struct, Flat, Pointers, Structs, capabilities, count}
 use Rattle.capnp_format.proofs.Levels.{one_value}
 use Rattle.capnp_arena.specs.View.{View}
@@ -44,7 +45,7 @@ use Rattle.capnp_widening.specs.Rooms.{HasRoomFor, OpeningFits, RefusesGrowth, R
 use Rattle.capnp_widening.specs.RowsRemade.{RefusesWider}
 use Rattle.capnp_widening.specs.Widened.{list_widened, widened}
 use Rattle.capnp_widening.proofs.Refusing.{growth_named}
-use Rattle.capnp_builders.specs.Defaults.{IsShortDefault, DefaultUse, ignored, denied as is_denied_by, copied as is_copied_from, use_of_words, default_use, default_root, default_copy, RefusesDefault, WithDefault, DefaultFits, FitsWithDefault, object_default, blob_default}
+use Rattle.capnp_builders.specs.Defaults.{IsIgnoredDefault, IsShortDefault, DefaultUse, ignored, denied as is_denied_by, copied as is_copied_from, use_of_words, default_use, default_root, default_copy, RefusesDefault, WithDefault, DefaultFits, FitsWithDefault, object_default, blob_default}
 use Rattle.capnp_builders.specs.Found.{list_given, bytes_given, GivesFoundList, GivesFoundBytes, FindsList, FindsBytes}
 use Rattle.capnp_builders.specs.Opening.{IsStructGiven, IsListGiven, OpensList, FindsStruct, FindsStructs, StructFindFits, StructsFindFits}
 use Rattle.capnp_edits.specs.declared.edit.path.PathEnd.TheVariants.{Pointer as AtPointer}
@@ -53,7 +54,7 @@ use Rattle.capnp_edits.specs.declared.edit.tasks.Sought.{Sought}
 use Rattle.capnp_edits.specs.declared.edit.tasks.Sought.TheVariants.{Struct as ForStruct, List as ForList, StructList as ForStructs, Text as ForText, Data as ForData}
 use Rattle.capnp_edits.specs.Tasks.{is_small_default, is_in_range}
 use Rattle.capnp_edits.specs.Edits.{refusal_of, Making, allocates, becomes, nowhere, made_of_found, looked_for, with_default, default_for, is_of_path, Yields, is_done, is_denied, is_allocated, is_not_allocated, as_it_stands, default_put, default_dropped, DoesAt}
-use Rattle.capnp_edits.specs.Steps.{FitsAt, IsOpeningRefused, IsSearchRefused, FindsSought, OpeningHasRoom, IsDoneAt, result_of}
+use Rattle.capnp_edits.specs.Steps.{FitsAt, IsOpeningRefused, IsSearchRefused, FindsSought, OpeningHasRoom, OpensThere, IsDoneAt, result_of}
 use Rattle.capnp_edits.proofs.Applied.{Does, never_refused, of_allocation, of_no_place, denied_at}
 use Rattle.capnp_edits.proofs.Contents.{list_anywhere, data_anywhere, text_anywhere}
 use Rattle.capnp_edits.proofs.Names.{elsewhere, struct_elsewhere, structs_elsewhere, list_elsewhere, data_elsewhere, text_elsewhere, fault_elsewhere, unfound_name, list_unfound, data_unfound, text_unfound}
@@ -401,25 +402,31 @@ struct_room : (size : StructSize) (default : Option (Bor (List ℕ))) (v : View)
 struct_room size default v place (t, stored, fits) =
     (t, stored, fits_with (object_default default t) v place.segment place.word _ (λ m. OpeningFits m place.segment place.word size) (λ m h. opened_fits m place.segment place.word size h.0 h.1 h.2 h.3 h.4) fits)
 
+-- a struct of no words that is opened in place of null
+opens_there : {B : Type 0} (result : Result B ErrorKind) (c : CallAt) (size : StructSize) (default : Option (Bor (List ℕ))) →
+    (word_at c.old.words c.segment c.at ≡ 0 → IsIgnoredDefault default → size.data_words + size.pointers ≡ 0 → OnOk result (word_at c.new.words c.segment c.at ≡ struct_word (2 ^ 30 - 1) 0 0)) → OpensThere c (ForStruct size) default (refusal_of result)
+opens_there (Ok x) c size default empty = λ null none nothing e. empty null none nothing
+opens_there (Err k) c size default empty = λ null none nothing e. absurd (cc)
+
 -- what a call leaves that is refused, or isn't
 search_done : {B : Type 0} (result : Result B ErrorKind) (sought : Sought) (default : Option (Bor (List ℕ))) (c : CallAt) → Does c.old.words c.new.words (place_in c) (Search sought default) (refusal_of result) → OnOk result (KeepsMemory c.old c.new) →
     IfErr result (SpendsMemory c.old c.new) → IfErr result (Why sought c default) → (FitsAt c.old (Search sought default) (AtPointer (place_in c)) → IfErr result (λ k. is_of_path k ≡ true)) →
-    ((t : Tree) → IsStored c.old.words c.segment c.at t → FindsThere sought default (refusal_of result) c t) → IsDoneAt c.old c.new (place_in c) (Search sought default) (refusal_of result)
-search_done (Ok x) sought default c does granted memory why fits finds = record {
+    ((t : Tree) → IsStored c.old.words c.segment c.at t → FindsThere sought default (refusal_of result) c t) → OpensThere c sought default (refusal_of result) → IsDoneAt c.old c.new (place_in c) (Search sought default) (refusal_of result)
+search_done (Ok x) sought default c does granted memory why fits finds opens = record {
   done = does;
   counted = ap (λ (v : View). v.refusals) granted.0;
   named = λ k e. absurd (cc);
   fits = λ room k e. absurd (cc);
   nowhere = λ e. absurd (cc);
-  taken = λ some. finds;
+  taken = λ some. (opens, finds);
 }
-search_done (Err k) sought default c does granted memory why fits finds = record {
+search_done (Err k) sought default c does granted memory why fits finds opens = record {
   done = does;
   counted = memory.2;
   named = λ j e. inr (subst (IsSearchRefused sought c default) (same_some k j e) (refused_so sought c default k why));
   fits = λ room j e. subst (λ x. is_of_path x ≡ true) (same_some k j e) (fits room);
   nowhere = λ e. never_nowhere sought c default k why (same_some k NoSuchPlace e);
-  taken = λ some. finds;
+  taken = λ some. (opens, finds);
 }
 
 -- Where a default's value has no fault and fits, only what is found is refused.
@@ -503,12 +510,14 @@ set_same (Err k) sought c same = unopened sought c k same
 pub struct_sought : (result : Result StructPlace ErrorKind) (size : StructSize) (default : Option (Bor (List ℕ))) (c : CallAt) → IsPlace c.old.words c.segment c.at →
     ((t : Tree) → IsStored c.old.words c.segment c.at t → FindsStruct size default result c t) → ((word_at c.old.words c.segment c.at ≡ 0 → ⊥) → IfErr result (IsNoWider size c)) →
     OnOk result (KeepsMemory c.old c.new) → IfErr result (SpendsMemory c.old c.new) → (StructFindFits size default c.old c.segment c.at → IsOk result) →
+    (word_at c.old.words c.segment c.at ≡ 0 → IsIgnoredDefault default → size.data_words + size.pointers ≡ 0 → OnOk result (word_at c.new.words c.segment c.at ≡ struct_word (2 ^ 30 - 1) 0 0)) →
     IsDoneAt c.old c.new (place_in c) (Search (ForStruct size) default) (refusal_of result)
-struct_sought result size default c there found set granted memory fits =
+struct_sought result size default c there found set granted memory fits empty =
     search_done result (ForStruct size) default c
     (λ t stored. with_does result ignored default (looked_for (ForStruct size)) (OpensStruct IsStructGiven size result) c t stored (struct_so result size) (found t stored)) granted memory
     (why_if result ignored default (ForStruct size) (OpensStruct IsStructGiven size) c there (λ b. tt) (struct_why size) found (λ some. set_struct result c size (set some))) (λ room. never_refused result (fits (struct_room size default c.old (place_in c) room)))
     (λ t stored. by_outcome result (object_default default t) (OpensStruct IsStructGiven size result) (FindsSought (ForStruct size) (refusal_of result)) c t (λ d u. opens_so result size IsStructGiven d u (struct_opened size u)) (found t stored))
+    (opens_there result c size default empty)
 
 pub structs_sought : (result : Result ListPlace ErrorKind) (size : StructSize) (default : Option (Bor (List ℕ))) (c : CallAt) → IsPlace c.old.words c.segment c.at →
     ((t : Tree) → IsStored c.old.words c.segment c.at t → FindsStructs size default result c t) → ((word_at c.old.words c.segment c.at ≡ 0 → ⊥) → IfErr result (RefusesWider (IsStored c.old.words c.segment c.at) size c.old c.new)) →
@@ -518,7 +527,7 @@ structs_sought result size default c there found set granted memory fits =
     search_done result (ForStructs size) default c
     (λ t stored. with_does result ignored default (looked_for (ForStructs size)) (OpensList size result) c t stored (structs_so result size) (found t stored)) granted memory
     (why_if result ignored default (ForStructs size) (OpensList size) c there (λ b. tt) (structs_why size) found (λ some. set_structs result c size (set some))) (λ room. never_refused result (fits room))
-    (λ t stored. by_outcome result (object_default default t) (OpensList size result) (FindsSought (ForStructs size) (refusal_of result)) c t (structs_found result size) (found t stored))
+    (λ t stored. by_outcome result (object_default default t) (OpensList size result) (FindsSought (ForStructs size) (refusal_of result)) c t (structs_found result size) (found t stored)) tt
 
 pub list_sought : (result : Result ListPlace ErrorKind) (size : ElementSize) (default : Option (Bor (List ℕ))) (c : CallAt) → IsPlace c.old.words c.segment c.at →
     ((t : Tree) → IsStored c.old.words c.segment c.at t → FindsList size default result c t) → ((word_at c.old.words c.segment c.at ≡ 0 → ⊥) → (c.new ≡ c.old) × IfErr result (λ k. is_unfound k ≡ true)) →
@@ -528,7 +537,7 @@ list_sought result size default c there found set granted memory =
     (λ t stored. with_does result ignored default (looked_for (ForList size)) (GivesFoundList size result) c t stored (list_so result size) (found t stored)) granted memory
     (why_if result ignored default (ForList size) (GivesFoundList size) c there (λ b. tt) (list_why size) found (λ some. set_same result (ForList size) c (set some).0))
     (λ room. found_fits result ignored default (GivesFoundList size) c there (λ b. tt) (list_name size) found (λ some. (set some).1) room)
-    (λ t stored. by_outcome result (object_default default t) (GivesFoundList size result) (FindsSought (ForList size) (refusal_of result)) c t (list_found result size) (found t stored))
+    (λ t stored. by_outcome result (object_default default t) (GivesFoundList size result) (FindsSought (ForList size) (refusal_of result)) c t (list_found result size) (found t stored)) tt
 
 pub data_sought : (result : Result ExistingBytes ErrorKind) (default : Option (Bor (List ℕ))) (c : CallAt) → IsPlace c.old.words c.segment c.at →
     ((t : Tree) → IsStored c.old.words c.segment c.at t → FindsBytes data_in default result c t) → ((word_at c.old.words c.segment c.at ≡ 0 → ⊥) → (c.new ≡ c.old) × IfErr result (λ k. is_unfound k ≡ true)) →
@@ -539,7 +548,7 @@ data_sought result default c there found set granted memory =
     (λ t stored. with_does result of_null default (looked_for ForData) (GivesFoundBytes data_in result) c t stored (data_so result) (found t stored)) granted memory
     (why_if result of_null default ForData (GivesFoundBytes data_in) c there (λ b. tt) data_why found (λ some. set_same result ForData c (set some).0))
     (λ room. found_fits result of_null default (GivesFoundBytes data_in) c there (λ b. refl) data_name found (λ some. (set some).1) room)
-    (λ t stored. by_outcome result (blob_default default t) (GivesFoundBytes data_in result) (FindsSought ForData (refusal_of result)) c t (data_found result) (found t stored))
+    (λ t stored. by_outcome result (blob_default default t) (GivesFoundBytes data_in result) (FindsSought ForData (refusal_of result)) c t (data_found result) (found t stored)) tt
 
 pub text_sought : (result : Result ExistingBytes ErrorKind) (default : Option (Bor (List ℕ))) (c : CallAt) → IsPlace c.old.words c.segment c.at →
     ((t : Tree) → IsStored c.old.words c.segment c.at t → FindsBytes text_in default result c t) → ((word_at c.old.words c.segment c.at ≡ 0 → ⊥) → (c.new ≡ c.old) × IfErr result (λ k. is_unfound k ≡ true)) →
@@ -550,7 +559,7 @@ text_sought result default c there found set granted memory =
     (λ t stored. with_does result of_null default (looked_for ForText) (GivesFoundBytes text_in result) c t stored (text_so result) (found t stored)) granted memory
     (why_if result of_null default ForText (GivesFoundBytes text_in) c there (λ b. tt) text_why found (λ some. set_same result ForText c (set some).0))
     (λ room. found_fits result of_null default (GivesFoundBytes text_in) c there (λ b. refl) text_name found (λ some. (set some).1) room)
-    (λ t stored. by_outcome result (blob_default default t) (GivesFoundBytes text_in result) (FindsSought ForText (refusal_of result)) c t (text_found result) (found t stored))
+    (λ t stored. by_outcome result (blob_default default t) (GivesFoundBytes text_in result) (FindsSought ForText (refusal_of result)) c t (text_found result) (found t stored)) tt
 
 -- the numbers of a list that is looked for
 pub list_range : (size : ElementSize) (default : Option (Bor (List ℕ))) → is_in_range (Search (ForList size) default) ≡ true → (size_number size ≤ 6) × (is_small_default default ≡ true)

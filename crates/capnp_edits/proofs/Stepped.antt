@@ -17,7 +17,7 @@ use Rattle.capnp_edits.specs.declared.edit.path.PathEnd.{PathEnd}
 use Rattle.capnp_edits.specs.declared.edit.path.PathEnd.TheVariants.{Pointer as AtPointer, Element as AtElement}
 use Rattle.capnp_edits.specs.Edits.{is_of_path, IsApplied, refusals_after, Takes}
 use Rattle.capnp_edits.specs.Paths.{PointerTo, ElementOf, path_of, found, IsPathFound}
-use Rattle.capnp_edits.specs.Steps.{FitsAt, IsRefusedAt, TakesAt, IsStep, AreSteps, StepIsThere}
+use Rattle.capnp_edits.specs.Steps.{DoesThere, FitsAt, IsRefusedAt, TakesAt, IsStep, AreSteps, StepIsThere}
 use Rattle.capnp_edits.specs.Tasks.{task_of}
 use Rattle.capnp_edits.proofs.Applied.{no_forest}
 use Rattle.capnp_edits.proofs.Steps.{first, same_some}
@@ -26,11 +26,12 @@ use Rattle.capnp_edits.proofs.Walks.{found-append}
 -- an edit at its place
 pub step_at : (old new : View) (edit : Edit) (there : PathEnd) (task : Task) (r : Option ErrorKind) → task_of edit.op ≡ Some task → 1 ≤ length (segment old.words 0) → IsApplied (Takes edit r) old.words new.words → new.refusals ≡ refusals_after r old.refusals →
     ((t : Tree) → IsStored old.words 0 0 t → IsPathFound old.words 0 0 t (path_of edit.path.now) (Some there)) → ((k : ErrorKind) → r ≡ Some k → ((is_of_path k ≡ true) × (new ≡ old)) ⊎ IsRefusedAt old new task k there) →
-    (FitsAt old task there → (k : ErrorKind) → r ≡ Some k → is_of_path k ≡ true) → (r ≡ Some NoSuchPlace → new ≡ old) → ((r ≡ Some NoSuchPlace → ⊥) → TakesAt old new task r there) → IsStep old new edit r
-step_at old new edit there task r is root applied counted leads named fits nowhere taken = record {
+    (FitsAt old task there → (k : ErrorKind) → r ≡ Some k → is_of_path k ≡ true) → (r ≡ Some NoSuchPlace → new ≡ old) → ((r ≡ Some NoSuchPlace → ⊥) → TakesAt old new task r there) → DoesThere old.words new.words there task r → IsStep old new edit r
+step_at old new edit there task r is root applied counted leads named fits nowhere taken done = record {
   applied = applied;
   counted = counted;
   path_end = Some there;
+  done = subst (λ o. IfSome o (λ x. DoesThere old.words new.words there x r)) (sym is) done;
   leads = leads;
   missing = λ e. absurd (cc);
   out_of_range = λ e. absurd (no_task task (sym is ∙ e));
@@ -48,11 +49,13 @@ step_at old new edit there task r is root applied counted leads named fits nowhe
 of_missing : (k : ErrorKind) → Some NoSuchPlace ≡ Some k → is_of_path k ≡ true
 of_missing k e = sym (ap is_of_path (same_some NoSuchPlace k e))
 
-pub nothing_done : (v : View) (edit : Edit) (place : Option PathEnd) → IsApplied (Takes edit (Some NoSuchPlace)) v.words v.words → ((t : Tree) → IsStored v.words 0 0 t → IsPathFound v.words 0 0 t (path_of edit.path.now) place) → IsStep v v edit (Some NoSuchPlace)
-nothing_done v edit place applied leads = record {
+pub nothing_done : (v : View) (edit : Edit) (place : Option PathEnd) → IsApplied (Takes edit (Some NoSuchPlace)) v.words v.words → ((t : Tree) → IsStored v.words 0 0 t → IsPathFound v.words 0 0 t (path_of edit.path.now) place) →
+    IfSome place (λ there. IfSome (task_of edit.op) (λ task. DoesThere v.words v.words there task (Some NoSuchPlace))) → IsStep v v edit (Some NoSuchPlace)
+nothing_done v edit place applied leads done = record {
   applied = applied;
   counted = refl;
   path_end = place;
+  done = done;
   leads = leads;
   missing = λ e. refl;
   out_of_range = λ e. refl;
@@ -68,7 +71,7 @@ root_held : (S : Segments) (t : Tree) → IsStored S 0 0 t → 1 ≤ length (seg
 root_held S t stored = omega (arith, stored.inside 0 0 (omega (arith, times-first (word_interval 0 0) (cover S 0 0 t) 0 0, once_held 0 0)))
 
 pub rootless_done : (v : View) (edit : Edit) → (1 ≤ length (segment v.words 0) → ⊥) → IsStep v v edit (Some NoSuchPlace)
-rootless_done v edit empty = nothing_done v edit None (no_forest v.words edit (Some NoSuchPlace) empty) (λ t stored. absurd (empty (root_held v.words t stored)))
+rootless_done v edit empty = nothing_done v edit None (no_forest v.words edit (Some NoSuchPlace) empty) (λ t stored. absurd (empty (root_held v.words t stored))) tt
 
 -- one step more
 steps_more : (a b c : View) (es : List Edit) (rs : List (Option ErrorKind)) (e : Edit) (r : Option ErrorKind) → AreSteps a b es rs → IsStep b c e r → AreSteps a c (es ++ e ∷ []) (rs ++ r ∷ [])

@@ -1,20 +1,22 @@
 -- Steps: what one edit does with a message and the arena that holds it, and edits in order.
-use Rattle.std.specs.Prelude.{◌≡◌, ◌⊎◌, ⊤, ℕ, min, ◌+◌, ◌*◌, ◌<◌, true, List, [], ◌∷◌, length}
-use Rattle.std.specs.Prelude.{Option, Some, None, IfSome, IsSomeAnd, Result, Ok, Err}
+use Rattle.std.specs.Prelude.{MatchOption, ◌≡◌, ◌⊎◌, ⊤, ℕ, min, ◌+◌, ◌-◌, ◌*◌, ◌^◌, ◌<◌, true, List, []}
+use Rattle.std.specs.Prelude.{◌∷◌, length, Option, Some, None, IfSome, IsSomeAnd, Result, Ok, Err}
 use Rattle.std.specs.Borrow.{Bor}
 use Rattle.capnp_words.specs.Meter.{Meter}
 use Rattle.capnp_words.specs.declared.error.ErrorKind.{ErrorKind}
 use Rattle.capnp_words.specs.declared.error.ErrorKind.TheVariants.{NoSuchPlace}
 use Rattle.capnp_arena.specs.View.{View, KeepsLimits}
+use Rattle.capnp_format.specs.Bytes.{words_of}
 use Rattle.capnp_format.specs.Canonical.{word_count}
 use Rattle.capnp_format.specs.Forest.{IsForest, target}
-use Rattle.capnp_format.specs.Segments.{AreWords, Segments, segment}
+use Rattle.capnp_format.specs.Segments.{AreWords, Segments, segment, word_at}
+use Rattle.capnp_format.specs.Word.{struct_word}
 use Rattle.capnp_format.specs.Tree.{Tree, Null, count}
 use Rattle.capnp_making.specs.Existing.{struct_in}
 use Rattle.capnp_making.specs.Makes.{CallAt, call_at}
 use Rattle.capnp_making.specs.Memory.{HasRoom, IsRefusedFor, KeepsMemory, SpendsMemory}
 use Rattle.capnp_making.specs.Memory.{StandsBehind, TakesWords, start_of}
-use Rattle.capnp_making.specs.Near.{HasOwnRoom}
+use Rattle.capnp_making.specs.Near.{HasOwnRoom, LeadsToEnd}
 use Rattle.capnp_making.specs.Path.{PathLeads}
 use Rattle.capnp_making.specs.Stored.{IsStored}
 use Rattle.capnp_making.specs.Zeroed.{IsPruned}
@@ -24,7 +26,8 @@ use Rattle.capnp_objects.specs.Refusals.{Refused}
 use Rattle.capnp_objects.specs.Wanted.{plain}
 use Rattle.capnp_readers.specs.declared.readers.PointerPlace.{PointerPlace}
 use Rattle.capnp_readers.specs.declared.readers.struct_reader.StructPlace.{StructPlace}
-use Rattle.capnp_copies.specs.Changes.{ComesToObject, FindsNoRoom, IsTooLarge, RefusesToCopy, change}
+use Rattle.capnp_copies.specs.Changes.{ComesToObject, CopiesChildren, FindsNoRoom, IsTooLarge}
+use Rattle.capnp_copies.specs.Changes.{RefusesToCopy, change}
 use Rattle.capnp_copies.specs.Forms.{form_of}
 use Rattle.capnp_copies.specs.Growth.{TakesAtMost}
 use Rattle.capnp_copies.specs.Originals.{children_original, value_original}
@@ -34,7 +37,8 @@ use Rattle.capnp_widening.specs.Rooms.{HasRoomFor, RefusesToBecome}
 use Rattle.capnp_widening.specs.Widened.{list_widened}
 use Rattle.capnp_builders.specs.Content.{pointers_copied}
 use Rattle.capnp_builders.specs.Defaults.{RefusesDefault, DefaultFits, FitsWithDefault, WithDefault}
-use Rattle.capnp_builders.specs.Defaults.{default_copy, default_use, ignored}
+use Rattle.capnp_builders.specs.Defaults.{default_copy, default_use, ignored, IsIgnoredDefault}
+use Rattle.capnp_builders.specs.Kept.{PutsCopy}
 use Rattle.capnp_builders.specs.Laws.{TakesBytes}
 use Rattle.capnp_builders.specs.Places.{struct_place}
 use Rattle.capnp_edits.specs.declared.edit.Edit.{Edit}
@@ -44,6 +48,8 @@ use Rattle.capnp_edits.specs.declared.edit.copying.Wanted.TheVariants.{Struct as
 use Rattle.capnp_edits.specs.declared.edit.copying.Wanted.TheVariants.{List as AList}
 use Rattle.capnp_edits.specs.declared.edit.tasks.Task.{Task}
 use Rattle.capnp_edits.specs.declared.edit.tasks.Task.TheVariants.{Make, InStruct, Search, CopyRoot}
+use Rattle.capnp_edits.specs.declared.edit.tasks.NewObject.{NewObject}
+use Rattle.capnp_edits.specs.declared.edit.tasks.NewObject.TheVariants.{ZeroStruct}
 use Rattle.capnp_edits.specs.declared.edit.tasks.StructChange.{StructChange}
 use Rattle.capnp_edits.specs.declared.edit.tasks.StructChange.TheVariants.{Bits, Content}
 use Rattle.capnp_edits.specs.declared.edit.tasks.Sought.{Sought}
@@ -60,11 +66,28 @@ use Rattle.capnp_edits.specs.Sources.{OfWanted}
 use Rattle.capnp_edits.specs.Edits.{is_of_path, refusals_after, value_of, looked_for, Yields}
 use Rattle.capnp_edits.specs.Edits.{Changes, DoesAt, default_for, made_at, IsApplied, Takes}
 
--- An object of n words is made at a pointer, behind all words that were there: just these are
--- taken, and every segment has as much room as before.
-pub record TakesForObject (old new : View) (place : PointerPlace) (n : ℕ) : Type 0 where
-  pub taken : TakesWords old new place.segment n
-  pub behind : StandsBehind old place.segment n (start_of (target new.words place.segment place.word))
+-- Where an object is made that has no words: the pointer of a struct has the offset -1, and that of
+-- a list leads behind the words of its segment.
+abbrev pub LeadsThere : CallAt → NewObject → Type 0
+LeadsThere c (ZeroStruct size) = size.data_words + size.pointers ≡ 0 →
+    word_at c.new.words c.segment c.at ≡ struct_word (2 ^ 30 - 1) 0 0
+LeadsThere c object = LeadsToEnd c (word_count (value_of object))
+
+-- The same of a struct that is opened in place of null.
+abbrev pub OpensThere : CallAt → Sought → Option (Bor (List ℕ)) → Option ErrorKind → Type 0
+OpensThere c (ForStruct size) default r =
+    word_at c.old.words c.segment c.at ≡ 0 → IsIgnoredDefault default →
+    size.data_words + size.pointers ≡ 0 → r ≡ None →
+    word_at c.new.words c.segment c.at ≡ struct_word (2 ^ 30 - 1) 0 0
+OpensThere c sought default r = ⊤
+
+-- An object is made at a pointer, behind all words that were there: just its words are taken, and
+-- every segment has as much room as before.
+pub record TakesForObject (old new : View) (place : PointerPlace) (object : NewObject) : Type 0 where
+  pub taken : TakesWords old new place.segment (word_count (value_of object))
+  pub behind : StandsBehind old place.segment (word_count (value_of object))
+      (start_of (target new.words place.segment place.word))
+  pub leads : LeadsThere (call_at place.segment place.word old new) object
   pub memory : KeepsMemory old new
 
 -- The struct at the end of a path, if one is there: an element of a list; or what a pointer leads to,
@@ -81,14 +104,15 @@ result_of (Some k) = Err k
 
 -- The root of a source is copied as is wanted, with this outcome: there is nothing to be copied, and
 -- all is as it was; or the copy takes at most as many words as reading it costs, its own that cost
--- nothing, and the landing pads, in all or as far as it was read; and it is refused as the copy of
--- what was read is, an object finding no room or reading being refused.
+-- nothing, and the landing pads, in all or as far as it was read; and it stands where the builder's
+-- call puts it, or is refused as the copy of what was read is, an object finding no room or reading
+-- being refused.
 abbrev pub CopiesWhole : CallAt → Copying → Option ErrorKind → Type 0
 CopiesWhole call c r =
     (IsSomeAnd r (HasNothingToCopy c.source c.wanted) × (call.new ≡ call.old)) ⊎
     ((m : Meter) × OfWanted c.wanted (root_of c.source) (change (form_of c.canonicalize)
     call.segment call.at call.old call.new (once_at_root c.source) m)
-    (λ o d. TakesAtMost (result_of r) o d × IfSome r (RefusesToCopy o d)))
+    (λ o d. TakesAtMost (result_of r) o d × MatchOption r (PutsCopy o d) (RefusesToCopy o d)))
 
 -- Room.
 
@@ -178,6 +202,17 @@ IsRefusedAt old new task k there = ⊥
 
 -- Words that are taken.
 
+-- A struct takes the data of a source's struct, and then the pointers that both have are copied,
+-- where the builder's call puts what they mean.
+pub record FillsThere (old new : View) (place : StructPlace) (s : Sections) (m : Meter) : Type 0 where
+  pub bytes : List ℕ
+  pub are_words : words_of bytes ≡ s.words
+  pub taken : View
+  pub limits : KeepsLimits old taken
+  pub takes : TakesBytes old.words taken.words place (64 * length s.words) bytes
+  pub copies : CopiesChildren s.first (min place.pointers s.pointers)
+      (pointers_copied place taken new s.limiter m)
+
 -- A change of a struct takes no words for bits, and for content those of the copies of the pointers
 -- that both have alone.
 abbrev pub TakesForChange : View → View → ExistingStruct → StructChange → Option ErrorKind → Type 0
@@ -186,7 +221,9 @@ TakesForChange old new e (Content source) r =
     (IsSomeAnd r (HasNothingToCopy source AStruct) × (new ≡ old)) ⊎
     ((s : Sections) × (m : Meter) × LeadsToStruct (root_of source) (once_at_root source) s ×
     TakesAtMost (result_of r) (children_original s.first (min e.size.pointers s.pointers))
-    (pointers_copied (struct_place e) old new s.limiter m))
+    (pointers_copied (struct_place e) old new s.limiter m) ×
+    MatchOption r (0 < 64 * e.size.data_words + e.size.pointers →
+    FillsThere old new (struct_place e) s m) (λ k. ⊤))
 
 -- What is looked for is found where t stands, or refused: a struct or a list of structs is opened,
 -- where null is no list; a list, a text or data stays as it is, and nothing is changed.
@@ -199,15 +236,15 @@ FindsSought sought r c t = (o : Option Tree) × Yields (looked_for sought t) r o
 
 -- A task takes words as the builder's call says where it is done. An object that is refused takes none.
 abbrev pub TakesAt : View → View → Task → Option ErrorKind → PathEnd → Type 0
-TakesAt old new (Make object) None (AtPointer place) =
-    TakesForObject old new place (word_count (value_of object))
+TakesAt old new (Make object) None (AtPointer place) = TakesForObject old new place object
 TakesAt old new (Make object) (Some k) (AtPointer place) = IsPruned old.words new.words
 TakesAt old new (InStruct change) r there =
     (e : ExistingStruct) × IsStructAt old.words there e × TakesForChange old new e change r
 TakesAt old new (Search sought default) r (AtPointer place) =
-    (t : Tree) → IsStored old.words place.segment place.word t →
+    OpensThere (call_at place.segment place.word old new) sought default r ×
+    ((t : Tree) → IsStored old.words place.segment place.word t →
     WithDefault (default_for sought default t) (call_at place.segment place.word old new) t
-    (FindsSought sought r) (result_of r)
+    (FindsSought sought r) (result_of r))
 TakesAt old new (CopyRoot c) r (AtPointer place) =
     CopiesWhole (call_at place.segment place.word old new) c r
 TakesAt old new task r there = OnlyWrites old new
@@ -240,6 +277,13 @@ pub record IsChanged (old new : View) (e : ExistingStruct) (change : StructChang
   pub nowhere : r ≡ Some NoSuchPlace → new ≡ old
   pub taken : TakesForChange old new e change r
 
+-- What a task leaves where a path leads: words that the value there doesn't hold stay as they are.
+abbrev pub DoesThere : Segments → Segments → PathEnd → Task → Option ErrorKind → Type 0
+DoesThere S R (AtPointer place) task r = (t : Tree) → IsStored S place.segment place.word t →
+    DoesAt S R place (made_at task (PointerTo t)) t r
+DoesThere S R (AtElement e) (InStruct change) r = Changes S R e change r
+DoesThere S R (AtElement e) task r = R ≡ S
+
 -- Steps.
 
 -- From old to new an edit is done, with its outcome: whatever forest the message is, it is one
@@ -251,6 +295,8 @@ pub record IsStep (old new : View) (edit : Edit) (r : Option ErrorKind) : Type 0
   pub applied : IsApplied (Takes edit r) old.words new.words
   pub counted : new.refusals ≡ refusals_after r old.refusals
   pub path_end : Option PathEnd
+  pub done : IfSome path_end (λ there. IfSome (task_of edit.op)
+      (λ task. DoesThere old.words new.words there task r))
   pub leads : (t : Tree) → IsStored old.words 0 0 t →
       IsPathFound old.words 0 0 t (path_of edit.path.now) path_end
   pub missing : path_end ≡ None → r ≡ Some NoSuchPlace

@@ -1,4 +1,4 @@
-use Rattle.std.proofs.Common.{◌≡◌, true, Some, None, refl, sym, ap, ◌∙◌, subst}
+use Rattle.std.proofs.Common.{◌≡◌, true, Some, None, IfSome, refl, sym, ap, ◌∙◌, subst}
 use Rattle.std.proofs.lemmas.Bool.{false≢true}
 use Rattle.capnp_format.specs.Tree.{Tree}
 use Rattle.capnp_making.specs.Stored.{IsStored}
@@ -7,7 +7,9 @@ use Rattle.capnp_edits.specs.declared.edit.tasks.Task.TheVariants.{InStruct}
 use Rattle.capnp_edits.specs.Edits.{refusal_of}
 use Rattle.capnp_edits.specs.Paths.{path_of, IsPathFound}
 use Rattle.capnp_edits.specs.Tasks.{is_in_range, task_of}
-use Rattle.capnp_edits.proofs.Applied.{applied_pointer, applied_nowhere, none_applied, out_applied}
+use Rattle.capnp_words.specs.declared.error.ErrorKind.TheVariants.{NoSuchPlace}
+use Rattle.capnp_edits.specs.Steps.{DoesThere}
+use Rattle.capnp_edits.proofs.Applied.{applied_pointer, applied_nowhere, element_kept, none_applied, out_applied}
 use Rattle.capnp_edits.proofs.Filled.{element_applied}
 use Rattle.capnp_edits.proofs.Tasks.{task_in_range}
 use Rattle.capnp_edits.proofs.Stepped.{step_at, nothing_done, rootless_done}
@@ -18,12 +20,13 @@ returns-then-not-has_words g c =
     rootless_done (g.A.BuilderArena.view c.args.arena.now) c.args.edit.now (λ some. false≢true (sym c.if-not-has_words.true ∙ c.has_words.ensures.enough.1 some))
 
 pub returns-in_default : goal.returns-in_default
-returns-in_default g c = nothing_done (g.A.BuilderArena.view c.args.arena.now) c.args.edit.now None (applied_nowhere _ c.args.edit.now c.in_default.ensures.found) c.in_default.ensures.found
+returns-in_default g c = nothing_done (g.A.BuilderArena.view c.args.arena.now) c.args.edit.now None (applied_nowhere _ c.args.edit.now c.in_default.ensures.found) c.in_default.ensures.found tt
 
 pub returns-in_default-task_of : goal.returns-in_default-task_of
 returns-in_default-task_of g c =
     let v = g.A.BuilderArena.view c.args.arena.now in
     nothing_done v c.args.edit.now (Some c.in-Some.end) (out_applied v.words c.args.edit.now (sym c.in_default-task_of.ensures)) c.in-Some.ensures.found
+    (subst (λ o. IfSome o (λ task. DoesThere v.words v.words c.in-Some.end task (Some NoSuchPlace))) c.in_default-task_of.ensures tt)
 
 pub returns-in-Pointer : goal.returns-in-Pointer
 returns-in-Pointer g c =
@@ -37,7 +40,7 @@ returns-in-Pointer g c =
     let leads : (t : Tree) → IsStored old.words 0 0 t → IsPathFound old.words 0 0 t (path_of e.path.now) (Some (AtPointer there)) =
     λ t stored. subst (IsPathFound old.words 0 0 t (path_of e.path.now)) (ap Some c.in-Pointer.is) (c.in-Some.ensures.found t stored) in
     step_at old new e (AtPointer there) task (refusal_of c.edit_pointer.result) is (c.has_words.ensures.enough.0 c.if-not-has_words.false) (applied_pointer old.words new.words e there task _ is leads done.done) done.counted leads done.named
-    done.fits done.nowhere done.taken
+    done.fits done.nowhere done.taken done.done
 
 pub returns-in-InStruct : goal.returns-in-InStruct
 returns-in-InStruct g c =
@@ -51,7 +54,7 @@ returns-in-InStruct g c =
     let leads : (t : Tree) → IsStored old.words 0 0 t → IsPathFound old.words 0 0 t (path_of e.path.now) (Some (AtElement there)) =
     λ t stored. subst (IsPathFound old.words 0 0 t (path_of e.path.now)) (ap Some c.in-Element.is) (c.in-Some.ensures.found t stored) in
     step_at old new e (AtElement there) (InStruct change) (refusal_of c.change_struct.result) is (c.has_words.ensures.enough.0 c.if-not-has_words.false) (element_applied old.words new.words e there change _ is leads done.done) done.counted leads
-    done.named done.fits done.nowhere (λ some. (there, refl, done.taken))
+    done.named done.fits done.nowhere (λ some. (there, refl, done.taken)) done.done
 
 pub returns-in_default-task : goal.returns-in_default-task
 returns-in_default-task g c =
@@ -61,6 +64,8 @@ returns-in_default-task g c =
     let leads : (t : Tree) → IsStored v.words 0 0 t → IsPathFound v.words 0 0 t (path_of e.path.now) (Some (AtElement there)) =
     λ t stored. subst (IsPathFound v.words 0 0 t (path_of e.path.now)) (ap Some c.in-Element.is) (c.in-Some.ensures.found t stored) in
     nothing_done v e (Some (AtElement there)) (none_applied v.words e there c.in-Some-task_of.task (sym c.in-Some-task_of.ensures) c.in_default-task.not-InStruct leads) leads
+    (subst (λ o. IfSome o (λ task. DoesThere v.words v.words (AtElement there) task (Some NoSuchPlace))) c.in-Some-task_of.ensures
+    (element_kept v.words there c.in-Some-task_of.task (Some NoSuchPlace) c.in_default-task.not-InStruct))
 
 pub edit_pointer-requires-clause-range : goal.edit_pointer-requires-clause-range
 edit_pointer-requires-clause-range g c = task_in_range c.args.edit.now.op c.in-Some-task_of.task (sym c.in-Some-task_of.ensures)

@@ -74,7 +74,7 @@ returns-in-Some-clause-taken g c =
     let new = g.A.BuilderArena.view c.copy_over.new.arena in
     let value = c.in_ok-value.value in
     subst (λ p. TakesForContentFrom old new p c.args.source (refusal_of c.copy_over.result)) c.in-Some.ensures.place
-    (fill_taken c.copy_over.result _ c.args.source c.in_ok-root.root value _ _ _ old new c.in-Some.place c.in_ok-root.ensures.found value.content_is.1 c.in_ok-value.ensures.read c.copy_over.ensures.taken)
+    (fill_taken c.copy_over.result _ c.args.source c.in_ok-root.root value _ _ _ old new c.in-Some.place c.in_ok-root.ensures.found value.content_is.1 c.in_ok-value.ensures.read c.copy_over.ensures.taken c.copy_over.ensures.copied)
 
 -- Nothing is taken by a struct of no words.
 pub returns-in-None-clause-filled : goal.returns-in-None-clause-filled

@@ -16,7 +16,7 @@ returns-in-Struct-clause-sought g c =
     let new = g.A.BuilderArena.view c.find_struct.new.self.arena.now in
     rw c.done.ensures (
     subst (λ s. IsDoneAt old new (place_of c.args.pointer.now) (Search s c.args.default) (refusal_of c.find_struct.result)) (sym c.in-Struct.is)
-    (struct_sought c.find_struct.result c.in-Struct.size c.args.default (call_at c.args.pointer.now.segment c.args.pointer.now.at old new) c.requires.there c.find_struct.ensures.found c.find_struct.ensures.set c.find_struct.ensures.memory.granted c.find_struct.ensures.memory.refused c.find_struct.ensures.fits))
+    (struct_sought c.find_struct.result c.in-Struct.size c.args.default (call_at c.args.pointer.now.segment c.args.pointer.now.at old new) c.requires.there c.find_struct.ensures.found c.find_struct.ensures.set c.find_struct.ensures.memory.granted c.find_struct.ensures.memory.refused c.find_struct.ensures.fits c.find_struct.ensures.empty))
 
 pub find_list-requires-clause-few : goal.find_list-requires-clause-few
 find_list-requires-clause-few g c = few_words c.args.default (list_range c.in-List.size c.args.default (subst (λ s. is_in_range (Search s c.args.default) ≡ true) c.in-List.is c.requires.range)).1
