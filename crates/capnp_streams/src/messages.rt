@@ -7,7 +7,8 @@ ghost use Rattle.capnp_format.specs.Tree.{Tree};
 ghost use Rattle.capnp_arena.specs.Limits.{IsSmall};
 ghost use Rattle.capnp_layout.specs.Answers.{HoldsCanonicalWords, LacksMemoryOr};
 ghost use Rattle.capnp_layout.specs.CanonicalMessages.{IsCanonicalMessage};
-ghost use Rattle.capnp_streams.specs.Messages.{HasSizeOf, IsFaultOf, IsValueOf, RefusesCanon, RefusesCheck, RefusesSize};
+ghost use Rattle.capnp_layout.specs.Tries.{IsMadeByFirstTry, as_asked};
+ghost use Rattle.capnp_streams.specs.Messages.{HasSizeOf, IsFaultOf, IsValueOf, RefusesCanon, RefusesCheck, RefusesSize, root_within};
 
 use capnp_arena::arena::{
     Allocator, BuilderArena, BuilderArenaImpl, HeapAllocator, ReaderArenaImpl, ReaderOptions,
@@ -37,6 +38,11 @@ pub fn canonical_with<A: Allocator, S: ReaderSegments + Drop>(
     ensures copied { IfOk result (λ made. (t : Tree)
         × IsValueOf (message (S.segments segments)) limits t
         × HoldsCanonicalWords (⟦<BuilderArenaImpl<A> as BuilderArena>⟧.view made) t) }
+    ensures tries { IfOk result (λ made.
+        IsMadeByFirstTry (root_within (message (S.segments segments)) limits)
+        (A.offers allocator) ((⟦<BuilderArenaImpl<A> as BuilderArena>⟧.view made).room 0)) }
+    ensures granted { IfOk result (λ made.
+        (⟦<BuilderArenaImpl<A> as BuilderArena>⟧.view made).refusals ≡ A.refusals allocator) }
     ensures refused { IfErr result
         (λ e. LacksMemoryOr (A.refusals allocator) (A.refusals e.1) e.0
         (RefusesCanon (message (S.segments segments)) limits e.0)) }
@@ -59,6 +65,9 @@ pub fn canonical_of<S: ReaderSegments + Drop>(
     ensures copied { IfOk result (λ made. (t : Tree)
         × IsValueOf (message (S.segments segments)) limits t
         × HoldsCanonicalWords (⟦<CanonicalCopy as BuilderArena>⟧.view made) t) }
+    ensures tries { IfOk result (λ made.
+        IsMadeByFirstTry (root_within (message (S.segments segments)) limits)
+        as_asked ((⟦<CanonicalCopy as BuilderArena>⟧.view made).room 0)) }
     ensures refused { IfErr result (λ k. (k ≡ AllocationFailed)
         ⊎ RefusesCanon (message (S.segments segments)) limits k) }
 {
