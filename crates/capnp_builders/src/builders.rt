@@ -523,7 +523,7 @@ impl<'a, A: BuilderArena> PointerBuilder<'a, A> {
     /// A refusal is the first one of reading what the pointers mean; where the words don't fit there,
     /// `AllocationFailed`, or `MessageTooLarge` of an object's words and one more;
     /// `CannotCreateACanonicalMessageWithACapability` in canonical form; or `MessageTooLarge` with the
-    /// number of the data words to be kept where it is above 65535.
+    /// number of the data words to be kept where it is above 65535, and nothing is charged then.
     ///
     /// After a refusal the pointer is null, the words that were taken are zero and stay allocated, and
     /// what was charged stays charged.
@@ -543,6 +543,8 @@ impl<'a, A: BuilderArena> PointerBuilder<'a, A> {
             (copying A.view canonicalize self.old self.new lim.old lim.new)) }
         ensures taken { TakesAtMost result (struct_read B.ReaderArena value.now)
             (copying A.view canonicalize self.old self.new lim.old lim.new) }
+        ensures wide { (k : ErrorKind) → (struct_read B.ReaderArena value.now).exceeds
+            (form_of canonicalize) k → (result ≡ Err k) × (lim.new ≡ lim.old) }
         ensures there { IsThere (built A.view self.new) }
         ensures builder { KeepsBuilder self.old self.new }
     {

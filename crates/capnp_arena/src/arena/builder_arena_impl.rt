@@ -584,6 +584,7 @@ impl<A: Allocator> BuilderArenaImpl<NullAllocator<A>> {
             ≡ A.refusals allocator }
         ensures offers { (⟦<BuilderArenaImpl<A> as BuilderArena>⟧.view result).offers
             ≡ A.offers allocator }
+        ensures allocator { result.allocator ≡ allocator }
     {
         let BuilderArenaImpl {
             alloc,
