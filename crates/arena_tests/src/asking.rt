@@ -1,4 +1,5 @@
 //! What an arena asks its allocator for.
+use crate::steps::{take, take_of};
 use capnp_arena::arena::{
     Allocator, BuilderArena, BuilderArenaImpl, HeapAllocator, OutputSegments, ReaderArena,
     ReaderSegments,
@@ -8,6 +9,28 @@ use capnp_words::read_limiter::ReadLimiter;
 use std::process::Abort;
 use test_support::{FirstInArena, NotingAllocator, Request};
 
+fn write_words<A: BuilderArena>(rt: &impl Abort, arena: &mut A) {
+    assert!(rt; arena.get_segment(0).is_ok());
+    assert!(rt; arena.allocate(0, 3) == Some(0));
+    arena.set_word(0, 1, 7);
+    arena.copy_words(0, 0, b"99999999");
+    arena.zero_words(0, 1, 1);
+    assert!(rt; take_of(rt, arena, 0, 2) == None);
+    assert!(rt; take_of(rt, arena, 0, 0) == Some(3));
+    assert!(rt; take(arena, 1) == Ok((0, 3)));
+    assert!(rt; arena.allocated_mut(0).is_some());
+    assert!(rt; arena.allocated_mut(1).is_none());
+}
+
+fn read_words<A: BuilderArena>(rt: &impl Abort, arena: &A) {
+    let mut lim = ReadLimiter::new(Some(4));
+    assert!(rt; arena.get_segment(0).is_ok() && arena.size_in_words() == 4);
+    assert!(rt; arena.check_offset(0, 1, 2) == Ok(3));
+    assert!(rt; arena.contains_interval(0, 1, 3, &mut lim) == Ok(()));
+    assert!(rt; arena.amplified_read(1, &mut lim) == Ok(()));
+    assert!(rt; arena.refused() == 0);
+}
+
 /// Words in a segment with room, the words of a segment to be written, one segment to be given out, and
 /// what is read: none of it asks for anything.
 #[test]
@@ -15,37 +38,24 @@ fn nothing_is_asked(rt: HostRuntime) -> Result<(), ErrorKind> {
     let heap = HeapAllocator::new(rt.alloc(), 4);
     let mut arena = BuilderArenaImpl::new(rt.alloc(), NotingAllocator::new(rt.alloc(), heap));
     arena.allocate_segment(1)?;
-    assert!(rt; arena.allocate(0, 3) == Some(0));
-    arena.set_word(0, 1, 7);
-    arena.copy_words(0, 0, &[9; 8]);
-    arena.zero_words(0, 1, 1);
-    assert!(rt; arena.allocate(0, 2) == None);
-    assert!(rt; arena.allocate(0, 0) == Some(3));
-    assert!(rt; arena.allocate_anywhere(1) == Ok((0, 3)));
-    assert!(rt; arena.allocated_mut(0).is_some());
-    assert!(rt; arena.allocated_mut(1).is_none());
+    write_words(&rt, &mut arena);
     let output = arena.get_segments_for_output()?;
     assert!(rt; matches!(output, OutputSegments::SingleSegment(_)));
     drop(output);
-    let mut lim = ReadLimiter::new(Some(4));
-    assert!(rt; arena.get_segment(0).is_ok() && arena.size_in_words() == 4);
-    assert!(rt; arena.check_offset(0, 1, 2) == Ok(3));
-    assert!(rt; arena.contains_interval(0, 1, 3, &mut lim) == Ok(()));
-    assert!(rt; arena.amplified_read(1, &mut lim) == Ok(()));
-    assert!(rt; arena.len() == 1 && arena.refused() == 0);
-    let asked = [Request::Segment(1), Request::Row];
-    assert!(rt; arena.into_allocator().requests() == &asked[..]);
+    read_words(&rt, &arena);
+    assert!(rt; arena.len() == 1);
+    assert!(rt; asked_once(arena.into_allocator().requests(), 1, 1, 0));
     Ok(())
 }
 
 /// A segment is asked for with just the words that found no room, and its row.
 #[test]
-fn words_elsewhere(rt: HostRuntime) -> Result<(), ErrorKind> {
+fn words_elsewhere(rt: HostRuntime) {
     let heap = HeapAllocator::new(rt.alloc(), 4);
     let mut arena = BuilderArenaImpl::new(rt.alloc(), NotingAllocator::new(rt.alloc(), heap));
-    assert!(rt; arena.allocate_anywhere(3) == Ok((0, 0)));
-    assert!(rt; arena.allocate_anywhere(2) == Ok((1, 0)));
-    assert!(rt; arena.allocate_anywhere(1) == Ok((0, 3)));
+    assert!(rt; take(&mut arena, 3) == Ok((0, 0)));
+    assert!(rt; take(&mut arena, 2) == Ok((1, 0)));
+    assert!(rt; take(&mut arena, 1) == Ok((0, 3)));
     assert!(rt; arena.refused() == 0);
     let asked = [
         Request::Segment(3),
@@ -54,20 +64,17 @@ fn words_elsewhere(rt: HostRuntime) -> Result<(), ErrorKind> {
         Request::Row,
     ];
     assert!(rt; arena.into_allocator().requests() == &asked[..]);
-    Ok(())
 }
 
 /// Takes the two words of a segment, the second as the first that has room, and writes them.
-fn use_segment<A: Allocator>(rt: &impl Abort, arena: &mut BuilderArenaImpl<A>, id: u32) {
-    let there = (id as usize) < arena.len();
-    assert!(rt; there);
-    assert!(rt; arena.allocate(id, 1) == Some(0));
-    assert!(rt; arena.allocate_anywhere(1) == Ok((id, 1)));
+fn use_segment<A: BuilderArena>(rt: &impl Abort, arena: &mut A, id: u32) {
+    assert!(rt; take_of(rt, arena, id, 1) == Some(0));
+    assert!(rt; take(arena, 1) == Ok((id, 1)));
     match arena.allocated_mut(id) {
-        Some(bytes) => bytes.fill(3),
+        Some(bytes) => bytes.fill(b'3'),
         None => assert!(rt; false),
     }
-    assert!(rt; arena.get_segment(id) == Ok(&[3; 16][..]));
+    assert!(rt; arena.get_segment(id) == Ok(b"3333333333333333".as_slice()));
     let mut lim = ReadLimiter::new(Some(2));
     assert!(rt; arena.contains_interval(id, 0, 2, &mut lim) == Ok(()));
 }
@@ -88,11 +95,11 @@ fn use_all<A: Allocator>(
     Ok(())
 }
 
-/// Whether each segment of two words was asked for once, each with its row but for those that need none, and nothing else.
-fn asked_once(requests: &[Request], segments: usize, rowless: usize) -> bool {
+/// Whether each segment of so many words was asked for once, each with its row but for those that need none, and nothing else.
+fn asked_once(requests: &[Request], words: u32, segments: usize, rowless: usize) -> bool {
     let mut asked = requests.iter();
     for id in 0..segments {
-        if asked.next() != Some(&Request::Segment(2)) {
+        if asked.next() != Some(&Request::Segment(words)) {
             return false;
         }
         if id >= rowless && asked.next() != Some(&Request::Row) {
@@ -111,7 +118,7 @@ fn nothing_is_asked_of_many(rt: HostRuntime) -> Result<(), ErrorKind> {
         use_all(&rt, &mut arena, segments)?;
         assert!(rt; arena.get_segments_for_output()?.len() == segments as usize);
         let allocator = arena.into_allocator();
-        assert!(rt; asked_once(allocator.requests(), segments as usize, 0));
+        assert!(rt; asked_once(allocator.requests(), 2, segments as usize, 0));
     }
     Ok(())
 }
@@ -126,7 +133,7 @@ fn nothing_is_asked_behind_the_first(rt: HostRuntime) -> Result<(), ErrorKind> {
         use_all(&rt, &mut arena, segments)?;
         assert!(rt; arena.get_segments_for_output()?.len() == segments as usize);
         let allocator = arena.into_allocator();
-        assert!(rt; asked_once(allocator.inner().requests(), segments as usize, 1));
+        assert!(rt; asked_once(allocator.inner().requests(), 2, segments as usize, 1));
     }
     Ok(())
 }

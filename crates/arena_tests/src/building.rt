@@ -1,14 +1,14 @@
 //! Messages that are built.
+use crate::steps::{take, take_of};
 use capnp_arena::arena::{
     BuilderArena, BuilderArenaImpl, HeapAllocator, OutputSegments, ReaderArena, ReaderSegments,
 };
 use capnp_words::error::ErrorKind;
+use std::alloc::Global;
+use std::process::Abort;
+use test_support::has_words;
 
-/// Words are taken first fit over gaps, up to the end of a segment.
-#[test]
-fn first_fit_over_gaps(rt: HostRuntime) {
-    let mut arena = BuilderArenaImpl::new(rt.alloc(), HeapAllocator::new(rt.alloc(), 4));
-    assert!(rt; arena.is_empty());
+fn check_first_fit<A: BuilderArena>(rt: &impl Abort, arena: &mut A) {
     for (amount, id, at) in [
         (3, 0, 0),
         (4, 1, 0),
@@ -19,56 +19,98 @@ fn first_fit_over_gaps(rt: HostRuntime) {
         (2, 3, 2),
         (1, 4, 0),
     ] {
-        assert!(rt;
-            arena.allocate_anywhere(amount) == Ok((id, at)),
-            "of {amount}"
-        );
+        assert!(rt; take(arena, amount) == Ok((id, at)), "of {amount}");
     }
+    assert!(rt; arena.size_in_words() == 19 && arena.refused() == 0);
+    assert!(rt; take_of(rt, arena, 4, 4) == None);
+    assert!(rt; take_of(rt, arena, 4, 3) == Some(1));
+}
+
+/// Words are taken first fit over gaps, up to the end of a segment.
+#[test]
+fn first_fit_over_gaps(rt: HostRuntime) {
+    let mut arena = BuilderArenaImpl::new(rt.alloc(), HeapAllocator::new(rt.alloc(), 4));
+    assert!(rt; arena.is_empty());
+    check_first_fit(&rt, &mut arena);
     assert!(rt; arena.len() == 5);
-    assert!(rt; arena.size_in_words() == 19);
-    assert!(rt; arena.refused() == 0);
-    assert!(rt; arena.allocate(4, 4) == None);
-    assert!(rt; arena.allocate(4, 3) == Some(1));
+}
+
+/// Whether these segments are given out, as one where there is one.
+fn gives(arena: &BuilderArenaImpl<HeapAllocator>, want: &[&[u8]]) -> Result<bool, ErrorKind> {
+    let output = arena.get_segments_for_output()?;
+    let is_single = matches!(output, OutputSegments::SingleSegment(_));
+    let mut id = 0u32;
+    for segment in want {
+        if output.get_segment(id) != Some(*segment) {
+            return Ok(false);
+        }
+        id = id.saturating_add(1);
+    }
+    Ok(
+        output.len() == want.len()
+            && output.is_empty() == want.is_empty()
+            && output.get_segment(id).is_none()
+            && is_single == (want.len() == 1),
+    )
+}
+
+/// Takes two words, and writes the second.
+fn write_word<A: BuilderArena>(rt: &impl Abort, alloc: Global, arena: &mut A) {
+    assert!(rt; arena.get_segment(0).is_ok());
+    assert!(rt; arena.allocate(0, 2) == Some(0));
+    arena.set_word(0, 1, 0x0807_0605_0403_0201);
+    assert!(rt;
+        has_words(
+            alloc,
+            arena.as_reader(),
+            "0000000000000000 0102030405060708"
+        )
+    );
+}
+
+/// Writes the first of two words, and makes the second zero.
+fn write_words<A: BuilderArena>(rt: &impl Abort, arena: &mut A) {
+    let words = arena.get_segment(0).expect(rt, "a segment");
+    assert!(rt; words.len() == 16);
+    arena.copy_words(0, 0, b"99999999");
+    arena.zero_words(0, 1, 1);
 }
 
 /// No segment, one, and two are given out.
 #[test]
 fn words_given_out(rt: HostRuntime) -> Result<(), ErrorKind> {
     let mut arena = BuilderArenaImpl::new(rt.alloc(), HeapAllocator::new(rt.alloc(), 2));
-    assert!(rt; arena.get_segments_for_output()?.is_empty());
+    assert!(rt; gives(&arena, &[])?);
     arena.allocate_segment(1)?;
-    assert!(rt; arena.allocate(0, 2) == Some(0));
-    arena.set_word(0, 1, 0x0807_0605_0403_0201);
-    let bytes = [0, 0, 0, 0, 0, 0, 0, 0, 1, 2, 3, 4, 5, 6, 7, 8];
-    assert!(rt; arena.as_reader().get_segment(0) == Ok(&bytes[..]));
-    let single = arena.get_segments_for_output()?;
-    assert!(rt; matches!(single, OutputSegments::SingleSegment(_)));
-    drop(single);
-    arena.copy_words(0, 0, &[9; 8]);
-    arena.zero_words(0, 1, 1);
+    write_word(&rt, rt.alloc(), &mut arena);
+    assert!(rt;
+        gives(
+            &arena,
+            &[b"\0\0\0\0\0\0\0\0\x01\x02\x03\x04\x05\x06\x07\x08"]
+        )?
+    );
+    write_words(&rt, &mut arena);
     arena.allocate_segment(0)?;
-    let output = arena.get_segments_for_output()?;
-    assert!(rt; matches!(output, OutputSegments::MultiSegment(_)));
-    assert!(rt; output.len() == 2);
-    let first = [9, 9, 9, 9, 9, 9, 9, 9, 0, 0, 0, 0, 0, 0, 0, 0];
-    assert!(rt; output.get_segment(0) == Some(&first[..]));
-    assert!(rt; output.get_segment(1) == Some(&[][..]));
-    assert!(rt; output.get_segment(2).is_none());
+    assert!(rt; gives(&arena, &[b"99999999\0\0\0\0\0\0\0\0", b""])?);
     Ok(())
+}
+
+fn check_lent<A: BuilderArena>(rt: &impl Abort, alloc: Global, arena: &mut A) {
+    assert!(rt; arena.get_segment(0).is_ok());
+    arena.segment_mut(0).fill(1);
+    assert!(rt; take(arena, 1) == Ok((0, 0)));
+    if let Some(words) = arena.allocated_mut(0) {
+        words.fill(7);
+    }
+    assert!(rt; take(arena, 1) == Ok((0, 1)));
+    assert!(rt; arena.allocated_mut(1).is_none());
+    assert!(rt; has_words(alloc, arena, "0707070707070707 0000000000000000"));
 }
 
 #[test]
 fn words_lent(rt: HostRuntime) -> Result<(), ErrorKind> {
     let mut arena = BuilderArenaImpl::new(rt.alloc(), HeapAllocator::new(rt.alloc(), 4));
     arena.allocate_segment(0)?;
-    arena.segment_mut(0).fill(1);
-    assert!(rt; arena.allocate_anywhere(1)? == (0, 0));
-    if let Some(words) = arena.allocated_mut(0) {
-        words.fill(7);
-    }
-    assert!(rt; arena.allocate_anywhere(1)? == (0, 1));
-    assert!(rt; arena.allocated_mut(1).is_none());
-    let bytes = [7, 7, 7, 7, 7, 7, 7, 7, 0, 0, 0, 0, 0, 0, 0, 0];
-    assert!(rt; arena.get_segment(0) == Ok(&bytes[..]));
+    check_lent(&rt, rt.alloc(), &mut arena);
     Ok(())
 }

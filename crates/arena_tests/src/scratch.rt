@@ -1,28 +1,58 @@
 //! Segments of which the first is in memory that the caller lends.
+use crate::steps::{take, take_of};
 use capnp_arena::arena::{
-    Allocator, BuilderArena, BuilderArenaImpl, ReaderArena, ScratchSegment,
-    ScratchSpaceHeapAllocator, Segment,
+    Allocator, BuilderArena, BuilderArenaImpl, ScratchSegment, ScratchSpaceHeapAllocator, Segment,
 };
 use capnp_words::error::ErrorKind;
+use std::alloc::Global;
+use std::process::Abort;
+use test_support::{ScratchAlone, arena_of_root, has_words};
 
-/// An arena takes the memory for its first segment, whatever it held; it is handed out again, in zeros, once
-/// it came back, and a message outgrows it.
+/// Two words.
+const ZEROS: &[u8] = b"\0\0\0\0\0\0\0\0\0\0\0\0\0\0\0\0";
+
+/// The first segment is four words of zero. They are written, and outgrown.
+fn outgrow<A: BuilderArena>(rt: &impl Abort, alloc: Global, arena: &mut A) {
+    assert!(rt; take_of(rt, arena, 0, 4) == Some(0));
+    let zeros = "0000000000000000 0000000000000000 0000000000000000 0000000000000000";
+    assert!(rt; has_words(alloc, arena, zeros));
+    match arena.allocated_mut(0) {
+        Some(words) => words.fill(7),
+        None => assert!(rt; false),
+    }
+    assert!(rt; take(arena, 5) == Ok((1, 0)));
+    assert!(rt; take_of(rt, arena, 1, 1) == None);
+    assert!(rt; arena.refused() == 0);
+}
+
+/// An arena takes the memory for its first segment, whatever it held.
+fn use_once<'a>(
+    rt: &impl Abort,
+    alloc: Global,
+    allocator: ScratchSpaceHeapAllocator<'a>,
+) -> Result<ScratchSpaceHeapAllocator<'a>, ErrorKind> {
+    let mut arena = BuilderArenaImpl::new(alloc, allocator);
+    arena.allocate_segment(1)?;
+    outgrow(rt, alloc, &mut arena);
+    Ok(arena.into_allocator())
+}
+
+/// It is handed out again once it came back.
 #[test]
 fn handed_out_again(rt: HostRuntime) -> Result<(), ErrorKind> {
     let mut scratch = [0xff; 35];
-    let mut allocator = ScratchSpaceHeapAllocator::new(rt.alloc(), &mut scratch, 0);
-    for _ in 0..2 {
-        let mut arena = BuilderArenaImpl::new(rt.alloc(), allocator);
-        arena.allocate_segment(1)?;
-        assert!(rt; arena.allocate(0, 4) == Some(0));
-        assert!(rt; arena.get_segment(0) == Ok(&[0; 32][..]));
-        arena.copy_words(0, 0, &[7; 32]);
-        assert!(rt; arena.allocate_anywhere(5) == Ok((1, 0)));
-        assert!(rt; arena.allocate(1, 1) == None);
-        assert!(rt; arena.refused() == 0);
-        allocator = arena.into_allocator();
-    }
+    let allocator = ScratchSpaceHeapAllocator::new(rt.alloc(), &mut scratch, 0);
+    let allocator = use_once(&rt, rt.alloc(), allocator)?;
+    drop(use_once(&rt, rt.alloc(), allocator)?);
     Ok(())
+}
+
+/// Asks for a segment.
+fn segment<'a>(
+    allocator: &mut ScratchSpaceHeapAllocator<'a>,
+    words: u32,
+) -> Result<ScratchSegment<&'a mut [u8]>, ErrorKind> {
+    allocator.allocate_segment(words)
 }
 
 /// It is handed out once, for what it can hold, and not where it has no whole word.
@@ -30,18 +60,15 @@ fn handed_out_again(rt: HostRuntime) -> Result<(), ErrorKind> {
 fn borrowed_or_owned(rt: HostRuntime) -> Result<(), ErrorKind> {
     let mut scratch = [0xff; 16];
     let mut allocator = ScratchSpaceHeapAllocator::new(rt.alloc(), &mut scratch, 3);
-    let larger = allocator.allocate_segment(4)?;
+    let larger = segment(&mut allocator, 4)?;
     assert!(rt; matches!(larger, ScratchSegment::Owned(_)) && larger.bytes().len() == 32);
-    drop(larger);
-    let lent = allocator.allocate_segment(2)?;
-    assert!(rt; matches!(lent, ScratchSegment::Borrowed(_)) && lent.bytes() == [0; 16].as_slice());
-    let other = allocator.allocate_segment(2)?;
+    let lent = segment(&mut allocator, 2)?;
+    assert!(rt; matches!(lent, ScratchSegment::Borrowed(_)) && lent.bytes() == ZEROS);
+    let other = segment(&mut allocator, 2)?;
     assert!(rt; matches!(other, ScratchSegment::Owned(_)) && other.bytes().len() == 24);
-    drop(other);
-    drop(lent);
     let mut short = [0xff; 7];
     let mut allocator = ScratchSpaceHeapAllocator::new(rt.alloc(), &mut short, 0);
-    let none = allocator.allocate_segment(0)?;
+    let none = segment(&mut allocator, 0)?;
     assert!(rt; matches!(none, ScratchSegment::Owned(_)) && none.bytes().is_empty());
     Ok(())
 }
@@ -55,4 +82,41 @@ fn zeros_over_all_bytes(rt: HostRuntime) {
     let mut short = [0xff; 7];
     drop(ScratchSpaceHeapAllocator::new(rt.alloc(), &mut short, 0));
     assert!(rt; short == [0; 7]);
+}
+
+fn check_outgrown<A: BuilderArena>(rt: &impl Abort, arena: &mut A) {
+    for (amount, id, at) in [(3, 1, 0), (2, 2, 0), (2, 3, 0), (1, 0, 1), (1, 4, 0)] {
+        assert!(rt; take(arena, amount) == Ok((id, at)), "{amount}");
+    }
+    assert!(rt; arena.refused() == 0);
+}
+
+/// A message that outgrows it gets each other segment of the words that are asked for.
+#[test]
+fn outgrown(rt: HostRuntime) {
+    let mut scratch = [0xff; 16];
+    let allocator = ScratchSpaceHeapAllocator::new(rt.alloc(), &mut scratch, 0);
+    let mut arena = arena_of_root(rt.alloc(), allocator).expect(&rt, "memory");
+    check_outgrown(&rt, &mut arena);
+}
+
+fn check_alone<A: BuilderArena>(rt: &impl Abort, arena: &mut A) {
+    let refused = arena.refused();
+    assert!(rt; take(arena, 3) == Ok((0, 1)) && arena.refused() == refused);
+    assert!(rt; take(arena, 1_021) == Err(ErrorKind::AllocationFailed));
+    assert!(rt; take(arena, 1_020) == Ok((0, 4)));
+    assert!(rt; arena.refused() == refused.wrapping_add(1));
+}
+
+/// With every growth refused, what it has room for is taken, and what the next message needs too. What doesn't
+/// fit is refused.
+#[test]
+fn without_memory(rt: HostRuntime) {
+    let mut scratch = [0xff; 8_192];
+    let allocator = ScratchAlone::new(rt.alloc(), &mut scratch);
+    let mut arena = arena_of_root(rt.alloc(), allocator).expect(&rt, "memory");
+    check_alone(&rt, &mut arena);
+    assert!(rt; arena.refused() == 1);
+    let mut arena = arena_of_root(rt.alloc(), arena.into_allocator()).expect(&rt, "memory");
+    check_alone(&rt, &mut arena);
 }

@@ -3,9 +3,9 @@ use capnp_arena::arena::SegmentArray;
 use capnp_framing::devices::MemoryOutput;
 use capnp_framing::framing::{FrameError, write};
 
-const FAR: [u8; 8] = [2, 0, 0, 0, 1, 0, 0, 0];
+const FAR: &[u8] = b"\x02\0\0\0\x01\0\0\0";
 
-const STRUCT_OF_DATA: [u8; 16] = [0, 0, 0, 0, 1, 0, 0, 0, 0, 1, 2, 3, 4, 5, 6, 7];
+const STRUCT_OF_DATA: &[u8] = b"\0\0\0\0\x01\0\0\0\0\x01\x02\x03\x04\x05\x06\x07";
 
 /// Whether segments are written as these bytes.
 fn gives(rt: &HostRuntime, segments: &[&[u8]], bytes: &[u8]) -> bool {
@@ -30,23 +30,11 @@ fn refusal(rt: &HostRuntime, segments: &[&[u8]]) -> Option<FrameError> {
 
 #[test]
 fn frames(rt: HostRuntime) {
-    assert!(rt;
-        gives(
-            &rt,
-            &[&FAR, &STRUCT_OF_DATA],
-            &[
-                1, 0, 0, 0, 1, 0, 0, 0, 2, 0, 0, 0, 0, 0, 0, 0, 2, 0, 0, 0, 1, 0, 0, 0, 0, 0, 0, 0,
-                1, 0, 0, 0, 0, 1, 2, 3, 4, 5, 6, 7
-            ]
-        )
-    );
-    assert!(rt;
-        gives(
-            &rt,
-            &[&[0, 0, 0, 0, 0, 0, 0, 0, 255]],
-            &[0, 0, 0, 0, 1, 0, 0, 0, 0, 0, 0, 0, 0, 0, 0, 0]
-        )
-    );
+    let frame =
+        b"\x01\0\0\0\x01\0\0\0\x02\0\0\0\0\0\0\0\x02\0\0\0\x01\0\0\0\0\0\0\0\x01\0\0\0\0\x01\x02\x03\x04\x05\x06\x07";
+    assert!(rt; gives(&rt, &[FAR, STRUCT_OF_DATA], frame));
+    let frame = b"\0\0\0\0\x01\0\0\0\0\0\0\0\0\0\0\0";
+    assert!(rt; gives(&rt, &[b"\0\0\0\0\0\0\0\0\xff"], frame));
     assert!(rt; gives(&rt, &[&[]], &[0; 8]));
 }
 

@@ -32,7 +32,7 @@ fn made_again(pointer: WirePointer) -> WirePointer
 
 // The word whose bytes stand in a message as these digits do.
 fn pointer(digits: u64) -> WirePointer {
-    WirePointer(u64::from_le_bytes(digits.to_be_bytes()))
+    WirePointer(digits.swap_bytes())
 }
 
 #[test]
@@ -68,8 +68,10 @@ fn words(rt: HostRuntime) {
         (WirePointer::new_double_far(0, 2), 0x0600_0000_0200_0000),
         (WirePointer::new_capability(5), 0x0300_0000_0500_0000),
     ] {
-        assert!(rt; made == pointer(digits), "{digits:016x}");
-        assert!(rt; made_again(made) == made, "{digits:016x}");
+        assert!(rt;
+            made == pointer(digits) && made_again(made) == made,
+            "{digits:016x}"
+        );
     }
     let unknown = pointer(0x0700_0000_0500_0000);
     assert!(rt; made_again(unknown) == unknown);

@@ -1,10 +1,6 @@
 //! Tests of capnp_packing, by its public calls: words beside what they are packed to. The bytes of
 //! the examples are those of the encoding specification's "Packing".
-#![tactic(auto)]
 
-#[cfg(test)]
 mod examples;
-#[cfg(test)]
 mod in_memory;
-#[cfg(test)]
 mod streams;

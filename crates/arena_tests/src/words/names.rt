@@ -76,7 +76,10 @@ fn bytes_of_numbers(rt: HostRuntime) {
 #[test]
 fn limiter(rt: HostRuntime) {
     let mut limiter = ReadLimiter::new(Some(10));
-    assert!(rt; limiter.can_read(3).is_ok() && limiter.left() == Some(7));
+    let granted: error::Result<()> = limiter.can_read(3);
+    assert!(rt; granted == Ok(()) && limiter.left() == Some(7));
+    let refused: error::Result<()> = limiter.can_read(8);
+    assert!(rt; refused == Err(ErrorKind::ReadLimitExceeded));
     limiter.count();
     assert!(rt; limiter.followed() == 1);
 }
@@ -102,13 +105,4 @@ fn laws() {
     elements_are_bits();
     one_arena_value();
     worked_examples();
-}
-
-#[test]
-fn results(rt: HostRuntime) {
-    let mut lim = ReadLimiter::new(Some(3));
-    let granted: error::Result<()> = lim.can_read(2);
-    let refused: error::Result<()> = lim.can_read(2);
-    assert!(rt; granted == Ok(()));
-    assert!(rt; refused == Err(ErrorKind::ReadLimitExceeded));
 }

@@ -58,9 +58,9 @@ fn gives(packed: &[u8], words: &[u8]) -> bool {
 
 #[test]
 fn a_byte_at_each_read(rt: HostRuntime) {
-    assert!(rt; gives(&PACKED, &WORDS));
-    assert!(rt; gives(&PACKED_ZEROS, &ZERO_WORDS));
-    assert!(rt; gives(&PACKED_WHOLE, &WHOLE_WORDS));
+    assert!(rt; gives(PACKED, WORDS));
+    assert!(rt; gives(PACKED_ZEROS, ZERO_WORDS));
+    assert!(rt; gives(PACKED_WHOLE, WHOLE_WORDS));
 }
 
 /// How many bytes of the words the first packed bytes give.
@@ -68,7 +68,7 @@ const GIVEN: [usize; 9] = [0, 0, 4, 6, 8, 8, 12, 13, 16];
 
 /// Whether the bytes of so many reads are given, then the failure, and then no more.
 fn fails_behind(reads: usize, given: usize) -> bool {
-    let mut input = unpacking(&PACKED, reads);
+    let mut input = unpacking(PACKED, reads);
     let mut to = [0; 16];
     let first = input.read(&mut to);
     let failed_at_first = input.failed();
@@ -105,7 +105,7 @@ fn packs(rt: &HostRuntime, words: &[u8], packed: &[u8]) -> bool {
 
 #[test]
 fn a_word_at_each_write(rt: HostRuntime) {
-    assert!(rt; packs(&rt, &WORDS, &PACKED));
+    assert!(rt; packs(&rt, WORDS, PACKED));
 }
 
 #[test]

@@ -15,9 +15,9 @@ fn are_packed(rt: &HostRuntime, words: &[u8], packed: &[u8]) -> bool {
 
 #[test]
 fn of_the_specification(rt: HostRuntime) {
-    assert!(rt; are_packed(&rt, &WORDS, &PACKED));
-    assert!(rt; are_packed(&rt, &ZERO_WORDS, &PACKED_ZEROS));
-    assert!(rt; are_packed(&rt, &WHOLE_WORDS, &PACKED_WHOLE));
+    assert!(rt; are_packed(&rt, WORDS, PACKED));
+    assert!(rt; are_packed(&rt, ZERO_WORDS, PACKED_ZEROS));
+    assert!(rt; are_packed(&rt, WHOLE_WORDS, PACKED_WHOLE));
     assert!(rt; are_packed(&rt, &[], &[]));
 }
 
@@ -31,7 +31,7 @@ fn longer_than_a_number_tells(rt: HostRuntime) {
 #[test]
 fn refusals(rt: HostRuntime) {
     assert!(rt; pack(rt.alloc(), &WORDS[..15]).err() == Some(PackingError::CutWord));
-    assert!(rt; unpack(rt.alloc(), &PACKED, 15).err() == Some(PackingError::TooLong));
+    assert!(rt; unpack(rt.alloc(), PACKED, 15).err() == Some(PackingError::TooLong));
     for cut in [1, 2, 3, 5, 6, 7] {
         let refused = unpack(rt.alloc(), &PACKED[..cut], 16).err();
         assert!(rt; refused == Some(PackingError::Truncated), "{cut}");
@@ -42,14 +42,14 @@ fn refusals(rt: HostRuntime) {
 #[test]
 fn memory_refused(rt: HostRuntime) {
     for _ in 0..2 {
-        match pack(rt.alloc(), &WORDS) {
-            Ok(packed) => assert!(rt; packed.as_slice() == PACKED.as_slice()),
+        match pack(rt.alloc(), WORDS) {
+            Ok(packed) => assert!(rt; packed.as_slice() == PACKED),
             Err(error) => assert!(rt; error == PackingError::AllocationFailed),
         }
     }
     for _ in 0..2 {
-        match unpack(rt.alloc(), &PACKED, 16) {
-            Ok(words) => assert!(rt; words.as_slice() == WORDS.as_slice()),
+        match unpack(rt.alloc(), PACKED, 16) {
+            Ok(words) => assert!(rt; words.as_slice() == WORDS),
             Err(error) => assert!(rt; error == PackingError::AllocationFailed),
         }
     }

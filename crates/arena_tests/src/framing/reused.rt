@@ -38,11 +38,8 @@ impl Input for Dripping<'_> {
 }
 
 /// A frame of two segments; one of an empty segment; four words announced; a frame of one word.
-const STREAM: [u8; 72] = [
-    1, 0, 0, 0, 1, 0, 0, 0, 2, 0, 0, 0, 0, 0, 0, 0, 2, 0, 0, 0, 1, 0, 0, 0, 0, 0, 0, 0, 1, 0, 0, 0,
-    0, 1, 2, 3, 4, 5, 6, 7, 0, 0, 0, 0, 0, 0, 0, 0, 0, 0, 0, 0, 4, 0, 0, 0, 0, 0, 0, 0, 1, 0, 0, 0,
-    9, 9, 9, 9, 9, 9, 9, 9,
-];
+const STREAM: &[u8] =
+    b"\x01\0\0\0\x01\0\0\0\x02\0\0\0\0\0\0\0\x02\0\0\0\x01\0\0\0\0\0\0\0\x01\0\0\0\0\x01\x02\x03\x04\x05\x06\x07\0\0\0\0\0\0\0\0\0\0\0\0\x04\0\0\0\0\0\0\0\x01\0\0\0\x09\x09\x09\x09\x09\x09\x09\x09";
 
 /// Whether a message of at most three words is read, with these bytes in its first two segments.
 fn reads<R: Input>(
@@ -61,7 +58,7 @@ fn reads<R: Input>(
 
 #[test]
 fn one_behind_the_other(rt: HostRuntime) {
-    let mut input = MemoryInput::new(&STREAM);
+    let mut input = MemoryInput::new(STREAM);
     let mut into = OwnedSegments::new(rt.alloc());
     assert!(rt; into.is_empty());
     assert!(rt;
@@ -81,7 +78,7 @@ fn one_behind_the_other(rt: HostRuntime) {
 /// Whether a frame is read behind one of which only so many bytes come.
 fn reads_behind_failure(into: &mut OwnedSegments, reads_done: usize) -> bool {
     let mut failing = Dripping {
-        bytes: &STREAM,
+        bytes: STREAM,
         reads: reads_done,
         failed: false,
     };
@@ -103,7 +100,7 @@ fn each_read_failing(rt: HostRuntime) {
 fn memory_refused(rt: HostRuntime) {
     let mut into = OwnedSegments::new(rt.alloc());
     for _ in 0..4 {
-        let mut input = MemoryInput::new(&STREAM);
+        let mut input = MemoryInput::new(STREAM);
         match read_into(&mut input, 3, &mut into) {
             Ok(there) => assert!(rt; there && into.get_segment(1) == Some(&STREAM[24..40])),
             Err(error) => assert!(rt; error == FrameError::AllocationFailed),

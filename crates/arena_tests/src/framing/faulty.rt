@@ -82,7 +82,7 @@ impl Input for Announcing {
     fn read(&mut self, to: &mut [u8]) -> Result<usize, DeviceFault> {
         self.most = self.most.max(to.len());
         if self.table < 8 && !to.is_empty() {
-            to[0] = [0, 0, 0, 0, 255, 255, 255, 31][self.table];
+            to[0] = b"\0\0\0\0\xff\xff\xff\x1f"[self.table];
             self.table += 1;
             return Ok(1);
         }

@@ -1,0 +1,66 @@
+//! The lane functions beside their plain forms, at every length from 0 to 200.
+use capnp_words::lanes::{copy, is_zero, trailing_zero_words, zero};
+use std::process::Abort;
+
+const LENGTH: usize = 200;
+
+/// Bytes none of which is zero.
+fn numbers() -> [u8; LENGTH] {
+    let mut bytes = [0; LENGTH];
+    for i in 0..LENGTH {
+        bytes[i] = 1 + (i % 251) as u8;
+    }
+    bytes
+}
+
+/// One bit of so many bytes is set, each in turn, and none: how many whole words at the end are zero.
+fn check_one_bit(rt: &impl Abort, bytes: &mut [u8]) {
+    let words = bytes.len() / 8;
+    assert!(rt; is_zero(bytes) && trailing_zero_words(&bytes[..8 * words]) == words);
+    for i in 0..bytes.len() {
+        let behind = if i / 8 < words {
+            words - 1 - i / 8
+        } else {
+            words
+        };
+        for bit in 0..8u32 {
+            bytes[i] = 1 << bit;
+            assert!(rt; !is_zero(bytes) && trailing_zero_words(&bytes[..8 * words]) == behind);
+        }
+        bytes[i] = 0;
+    }
+}
+
+#[test]
+fn one_bit(rt: HostRuntime) {
+    let mut bytes = [0u8; 336];
+    for length in 0..LENGTH + 1 {
+        check_one_bit(&rt, &mut bytes[..length]);
+    }
+    for words in 31..43usize {
+        check_one_bit(&rt, &mut bytes[..8 * words]);
+    }
+}
+
+#[test]
+fn zeroed(rt: HostRuntime) {
+    for length in 0..LENGTH + 1 {
+        let mut bytes = numbers();
+        zero(&mut bytes[..length]);
+        for i in 0..LENGTH {
+            assert!(rt; (bytes[i] == 0) == (i < length));
+        }
+    }
+}
+
+#[test]
+fn copied(rt: HostRuntime) {
+    let from = numbers();
+    for length in 0..LENGTH + 1 {
+        let mut to = [0u8; LENGTH];
+        copy(&from[..length], &mut to[..length]);
+        for i in 0..LENGTH {
+            assert!(rt; to[i] == if i < length { from[i] } else { 0 });
+        }
+    }
+}

@@ -1,0 +1,45 @@
+//! Words in bytes.
+ghost use Rattle.std.specs.Prelude.{◌≤◌, length};
+
+use capnp_words::words::{
+    copy_words, count, move_words, part, put_word, used, used_part, word_at, zero_words,
+};
+use std::process::Abort;
+
+const WORD: u64 = 0x0706_0504_0302_0100;
+
+// The first four words.
+fn four(bytes: &[u8]) -> [u64; 4]
+    requires { 32 ≤ length bytes.now }
+{
+    [
+        word_at(bytes, 0),
+        word_at(bytes, 1),
+        word_at(bytes, 2),
+        word_at(bytes, 3),
+    ]
+}
+
+/// A word is put among zeros.
+fn check_put(rt: &impl Abort, bytes: &mut [u8; 36]) {
+    assert!(rt; count(bytes) == 4 && used(bytes) == 0);
+    put_word(bytes, 1, WORD);
+    assert!(rt; &bytes[8..16] == b"\x00\x01\x02\x03\x04\x05\x06\x07".as_slice());
+    assert!(rt; used(bytes) == 2 && used_part(bytes, 0, 1) == 0);
+    assert!(rt; word_at(part(bytes, 1, 2), 0) == WORD);
+}
+
+/// Words are copied behind it, all are moved, and one is made zero.
+fn check_moved(rt: &impl Abort, bytes: &mut [u8; 36]) {
+    copy_words(bytes, 2, b"\x09\0\0\0\0\0\0\0\x08\0\0\0\0\0\0\0");
+    move_words(bytes, 1, 0, 3);
+    zero_words(bytes, 1, 1);
+    assert!(rt; four(bytes) == [WORD, 0, 8, 8]);
+}
+
+#[test]
+fn words(rt: HostRuntime) {
+    let mut bytes = [0u8; 36];
+    check_put(&rt, &mut bytes);
+    check_moved(&rt, &mut bytes);
+}
