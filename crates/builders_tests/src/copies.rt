@@ -1,74 +1,85 @@
 //! Copies of what no row names: of nothing, of a message that is built, of data sections that are no whole
 //! words, and of a list that is too long.
-use crate::messages::{STRUCT, STRUCT_APART, arena_of_root, make_struct, root};
-use capnp_arena::arena::{HeapAllocator, NullArena, ReaderArena, ReaderOptions};
-use capnp_readers::readers::{ListPlace, ListReader, PointerReader, StructPlace, StructReader};
+use crate::edits::messages::{check_outcomes, edit};
+use crate::messages::{ONE_EACH, STRUCT, STRUCT_APART, arena_of_root, root, struct_at};
+use capnp_arena::arena::{BuilderArena, HeapAllocator, NullArena, ReaderArena, ReaderOptions};
+use capnp_edits::edit::Op::{InitStruct, SetField, SetText};
+use capnp_edits::edit::Step::Child;
+use capnp_readers::readers::{ListPlace, ListReader, PointerReader, StructReader};
 use capnp_words::error::ErrorKind;
 use capnp_words::read_limiter::ReadLimiter;
 use capnp_words::wire_pointer::{ElementSize, StructSize};
+use std::alloc::Global;
 use std::process::Abort;
 use test_support::{arena_of, has_words};
+
+/// Copies nothing to the root, which is null then.
+fn check_nothing<A: BuilderArena>(rt: &impl Abort, arena: &mut A, canonicalize: bool) {
+    let mut lim = ReadLimiter::new(Some(1));
+    let null: PointerReader<'_, NullArena> = PointerReader::new_default();
+    let mut pointer = root(rt, arena);
+    assert!(rt; pointer.copy_from(null, &mut lim, canonicalize) == Ok(()));
+    let reader = pointer.into_reader();
+    assert!(rt; reader.is_null() && reader.nesting_limit == i32::MAX);
+    assert!(rt; lim.followed() == 0);
+}
 
 /// A pointer from nothing is null, on null and on a capability.
 #[test]
 fn nothing(rt: HostRuntime) {
     for canonicalize in [true, false] {
         let mut arena = arena_of_root(&rt, rt.alloc(), HeapAllocator::new(rt.alloc(), 8));
-        let mut lim = ReadLimiter::new(Some(1));
-        let null: PointerReader<'_, NullArena> = PointerReader::new_default();
-        let mut pointer = root(&rt, &mut arena);
-        assert!(rt; pointer.copy_from(null, &mut lim, canonicalize) == Ok(()));
-        pointer.set_capability(5);
-        assert!(rt; pointer.copy_from(null, &mut lim, canonicalize) == Ok(()));
-        let reader = pointer.into_reader();
-        assert!(rt; reader.is_null() && reader.nesting_limit == i32::MAX);
-        assert!(rt; lim.followed() == 0);
+        check_nothing(&rt, &mut arena, canonicalize);
+        root(&rt, &mut arena).set_capability(5);
+        check_nothing(&rt, &mut arena, canonicalize);
         assert!(rt; has_words(rt.alloc(), &arena, "0000000000000000"));
     }
+}
+
+/// Reads a struct of the number 7 and of the text `a`, which are charged nothing, and copies it.
+fn check_source<A: ReaderArena>(rt: &impl Abort, alloc: Global, source: PointerReader<'_, A>) {
+    let mut lim = ReadLimiter::new(Some(0));
+    let reader = source.get_struct(&mut lim, None).expect(rt, "a struct");
+    assert!(rt; reader.get_data_field::<u64>(0) == 7);
+    let text = reader.get_pointer_field(0).get_text(&mut lim, None);
+    assert!(rt; text == Ok(&b"a"[..]));
+    let mut copy = arena_of_root(rt, alloc, HeapAllocator::new(alloc, 1024));
+    let result = root(rt, &mut copy).copy_from(source, &mut lim, true);
+    assert!(rt; result == Ok(()) && has_words(alloc, &copy, STRUCT));
 }
 
 /// What is read of a message that is built, and copied, is the same in one segment and in more, and
 /// charges nothing.
 #[test]
 fn built_messages(rt: HostRuntime) {
+    let edits = &[
+        edit(&[], InitStruct(ONE_EACH)),
+        edit(&[], SetField(ElementSize::EightBytes, 0, 7)),
+        edit(&[Child(0)], SetText(b"a")),
+    ];
     for (room, want) in [(1024, STRUCT), (2, STRUCT_APART)] {
         let mut arena = arena_of_root(&rt, rt.alloc(), HeapAllocator::new(rt.alloc(), room));
-        assert!(rt; make_struct(&rt, &mut arena) == Ok(()), "{room}");
+        check_outcomes(&rt, &mut arena, edits, &[None; 3]);
         assert!(rt; has_words(rt.alloc(), &arena, want), "{room}");
-        let mut lim = ReadLimiter::new(Some(0));
-        let source = root(&rt, &mut arena).into_reader();
-        let reader = source.get_struct(&mut lim, None).expect(&rt, "a struct");
-        assert!(rt; reader.get_data_field::<u64>(0) == 7, "{room}");
-        let text = reader.get_pointer_field(0).get_text(&mut lim, None);
-        assert!(rt; text == Ok(&b"a"[..]), "{room}");
-        let mut copy = arena_of_root(&rt, rt.alloc(), HeapAllocator::new(rt.alloc(), 1024));
-        let result = root(&rt, &mut copy).copy_from(source, &mut lim, true);
-        assert!(rt; result == Ok(()), "{room}");
-        assert!(rt; has_words(rt.alloc(), &copy, STRUCT), "{room}");
+        check_source(&rt, rt.alloc(), root(&rt, &mut arena).into_reader());
     }
 }
 
-/// So many bits of data from a byte of a message of a word or more on, and no pointers.
-fn struct_at<'a, A: ReaderArena>(
+/// Sets a struct without pointers at the root of an empty message, which then has these words.
+fn check_set<A: ReaderArena>(
     rt: &impl Abort,
-    arena: &'a A,
-    byte: u64,
-    bits: u32,
-) -> StructReader<'a, A> {
-    let Ok(bytes) = arena.get_segment(0) else {
-        panic!(rt; "a segment was expected");
-    };
-    if byte > 128 || bits > 1024 || byte as usize + (bits as usize + 7) / 8 > bytes.len() / 8 * 8 {
-        panic!(rt; "other words were expected");
-    }
-    let place = StructPlace {
-        segment: 0,
-        byte,
-        bits,
-        pointers_at: 0,
-        pointers: 0,
-    };
-    StructReader::at(arena, place, 64)
+    alloc: Global,
+    value: &StructReader<'_, A>,
+    canonicalize: bool,
+    want: &str,
+) {
+    let mut arena = arena_of_root(rt, alloc, HeapAllocator::new(alloc, 1024));
+    let mut lim = ReadLimiter::new(Some(1));
+    let result = root(rt, &mut arena).set_struct(value, &mut lim, canonicalize);
+    assert!(rt;
+        result == Ok(()) && has_words(alloc, &arena, want),
+        "{want}"
+    );
 }
 
 /// Data sections that are a byte, or end inside a word or a byte: the bits behind them are not copied.
@@ -111,11 +122,24 @@ fn narrow_structs(rt: HostRuntime) {
         (0, 0, false, empty),
     ] {
         let value = struct_at(&rt, &source, byte, bits);
-        let mut arena = arena_of_root(&rt, rt.alloc(), HeapAllocator::new(rt.alloc(), 1024));
-        let result = root(&rt, &mut arena).set_struct(&value, &mut lim, canonicalize);
-        assert!(rt; result == Ok(()), "{want}");
-        assert!(rt; has_words(rt.alloc(), &arena, want), "{want}");
+        check_set(&rt, rt.alloc(), &value, canonicalize, want);
     }
+}
+
+/// Sets a list at the root of an empty message, which then has these words.
+fn check_set_list<A: ReaderArena>(
+    rt: &impl Abort,
+    alloc: Global,
+    list: &ListReader<'_, A>,
+    (outcome, want): (Result<(), ErrorKind>, &str),
+) {
+    let mut arena = arena_of_root(rt, alloc, HeapAllocator::new(alloc, 1024));
+    let mut lim = ReadLimiter::new(Some(0));
+    let result = root(rt, &mut arena).set_list(list, &mut lim, false);
+    assert!(rt;
+        result == outcome && has_words(alloc, &arena, want),
+        "{want}"
+    );
 }
 
 /// More elements than a list pointer can say.
@@ -142,10 +166,6 @@ fn long_lists(rt: HostRuntime) {
             count,
         };
         let list = ListReader::at(&source, place, 64);
-        let mut arena = arena_of_root(&rt, rt.alloc(), HeapAllocator::new(rt.alloc(), 1024));
-        let mut lim = ReadLimiter::new(Some(0));
-        let result = root(&rt, &mut arena).set_list(&list, &mut lim, false);
-        assert!(rt; result == outcome, "{count}");
-        assert!(rt; has_words(rt.alloc(), &arena, want), "{count}");
+        check_set_list(&rt, rt.alloc(), &list, (outcome, want));
     }
 }

@@ -4,7 +4,7 @@ ghost use Rattle.capnp_readers.specs.Readers.{IsStructPlace};
 
 use capnp_arena::arena::{Allocator, BuilderArena, BuilderArenaImpl, ReaderArena};
 use capnp_builders::builders::{PointerBuilder, StructBuilder};
-use capnp_words::error::ErrorKind;
+use capnp_readers::readers::{StructPlace, StructReader};
 use capnp_words::wire_pointer::StructSize;
 use std::alloc::Global;
 use std::process::Abort;
@@ -55,9 +55,25 @@ pub fn check_struct<A: BuilderArena>(rt: &impl Abort, builder: &StructBuilder<'_
     assert!(rt; place.pointers_at as usize + place.pointers as usize <= words);
 }
 
-/// Makes the root a struct of the number 7, and its pointer the text `a`.
-pub fn make_struct<A: BuilderArena>(rt: &impl Abort, arena: &mut A) -> Result<(), ErrorKind> {
-    let mut builder = root(rt, arena).init_struct(ONE_EACH)?;
-    builder.set_data_field(0, 7u64);
-    builder.get_pointer_field(0).set_text(b"a")
+/// So many bits of data from a byte of a message of a word or more on, and no pointers.
+pub fn struct_at<'a, A: ReaderArena>(
+    rt: &impl Abort,
+    arena: &'a A,
+    byte: u64,
+    bits: u32,
+) -> StructReader<'a, A> {
+    let Ok(bytes) = arena.get_segment(0) else {
+        panic!(rt; "a segment was expected");
+    };
+    if byte > 128 || bits > 1024 || byte as usize + (bits as usize + 7) / 8 > bytes.len() / 8 * 8 {
+        panic!(rt; "other words were expected");
+    }
+    let place = StructPlace {
+        segment: 0,
+        byte,
+        bits,
+        pointers_at: 0,
+        pointers: 0,
+    };
+    StructReader::at(arena, place, 64)
 }

@@ -1,5 +1,5 @@
 //! Structs and lists at places that the caller names.
-use crate::messages::*;
+use super::messages::*;
 use capnp_arena::arena::ReaderArena;
 use capnp_readers::readers::{ListPlace, ListReader, StructPlace, StructReader};
 use capnp_words::wire_pointer::{ElementSize, StructSize};

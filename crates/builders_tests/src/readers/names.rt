@@ -1,5 +1,5 @@
 //! The fields of readers, the calls and the laws that no row names, and readers of other arenas.
-use crate::messages::*;
+use super::messages::*;
 use capnp_arena::arena::NullArena;
 use capnp_readers::laws::*;
 use capnp_readers::readers::{
@@ -62,6 +62,11 @@ fn readers_are_copied(rt: HostRuntime) {
     let arena = arena(&rt, rt.alloc(), STRUCTS);
     let mut lim = ReadLimiter::new(None);
     let pointer = root(&rt, &arena, &mut lim);
+    let want = MessageSize {
+        word_count: 3,
+        cap_count: 1,
+    };
+    assert!(rt; pointer.total_size(&mut lim) == Ok(want));
     let found = pointer.reborrow().next(&mut lim).expect(&rt, "an object");
     let same = found;
     for target in [found, same] {
@@ -101,26 +106,26 @@ fn a_default_without_an_arena(rt: HostRuntime) {
 }
 
 #[test]
-fn a_size(rt: HostRuntime) {
-    let arena = arena(&rt, rt.alloc(), STRUCTS);
-    let mut lim = ReadLimiter::new(None);
-    let want = MessageSize {
-        word_count: 3,
-        cap_count: 1,
-    };
-    assert!(rt; root(&rt, &arena, &mut lim).total_size(&mut lim) == Ok(want));
-}
-
-#[test]
 fn element_sizes(rt: HostRuntime) {
-    assert!(rt; u8::element_size() == ElementSize::Byte);
-    assert!(rt; u16::element_size() == ElementSize::TwoBytes);
-    assert!(rt; u32::element_size() == ElementSize::FourBytes);
-    assert!(rt; u64::element_size() == ElementSize::EightBytes);
-    assert!(rt; i8::element_size() == ElementSize::Byte);
-    assert!(rt; i16::element_size() == ElementSize::TwoBytes);
-    assert!(rt; i32::element_size() == ElementSize::FourBytes);
-    assert!(rt; i64::element_size() == ElementSize::EightBytes);
+    let unsigned = [
+        u8::element_size(),
+        u16::element_size(),
+        u32::element_size(),
+        u64::element_size(),
+    ];
+    let signed = [
+        i8::element_size(),
+        i16::element_size(),
+        i32::element_size(),
+        i64::element_size(),
+    ];
+    let want = [
+        ElementSize::Byte,
+        ElementSize::TwoBytes,
+        ElementSize::FourBytes,
+        ElementSize::EightBytes,
+    ];
+    assert!(rt; unsigned == want && signed == want);
     assert!(rt; bool::element_size() == ElementSize::Bit);
     assert!(rt; <() as PrimitiveElement>::element_size() == ElementSize::Void);
 }

@@ -1,5 +1,5 @@
 //! The objects that one pointer leads to, by the module that the readers stand on.
-use crate::messages::*;
+use super::messages::*;
 use capnp_arena::arena::ReaderArena;
 use capnp_readers::object::{Expected, Object, Place};
 use capnp_readers::readers::PointerReader;

@@ -1,0 +1,62 @@
+//! Edits in an arena without a root, no edit at all, and an edited message that is read where it stands.
+use super::messages::{check_outcomes, edit, size};
+use capnp_arena::arena::{BuilderArena, BuilderArenaImpl, HeapAllocator, ReaderArena};
+use capnp_edits::edit::Op::{
+    Clear, InitStruct, InitStructList, SetCapability, SetElement, SetField, SetText,
+};
+use capnp_edits::edit::Step::{Child, Element};
+use capnp_edits::edit::apply;
+use capnp_readers::readers::{MessageSize, PointerReader};
+use capnp_words::error::ErrorKind::NoSuchPlace;
+use capnp_words::read_limiter::ReadLimiter;
+use capnp_words::wire_pointer::ElementSize::EightBytes;
+use test_support::{arena_of_root, has_words};
+
+/// Without a word for the root there is no place.
+#[test]
+fn no_root(rt: HostRuntime) {
+    let alloc = rt.alloc();
+    let clear = edit(&[], Clear);
+    let mut arena = BuilderArenaImpl::new(alloc, HeapAllocator::new(alloc, 8));
+    assert!(rt; apply(&mut arena, &clear) == Err(NoSuchPlace));
+    assert!(rt; arena.is_empty());
+    let mut arena = BuilderArenaImpl::new(alloc, HeapAllocator::new(alloc, 8));
+    arena.allocate_segment(1).expect(&rt, "memory");
+    assert!(rt; apply(&mut arena, &clear) == Err(NoSuchPlace));
+    assert!(rt; arena.get_segment(0) == Ok(&[]));
+}
+
+/// No edits change nothing, and one that is done leaves no refusal.
+#[test]
+fn none_and_one(rt: HostRuntime) {
+    let alloc = rt.alloc();
+    let mut arena = arena_of_root(alloc, HeapAllocator::new(alloc, 8)).expect(&rt, "memory");
+    check_outcomes(&rt, &mut arena, &[], &[]);
+    assert!(rt; has_words(alloc, &arena, "0000000000000000"));
+    assert!(rt; apply(&mut arena, &edit(&[], SetCapability(1))) == Ok(()));
+    assert!(rt; has_words(alloc, &arena, "0300000001000000"));
+}
+
+/// A list of two structs that is edited is canonical, and has its size, where it stands.
+#[test]
+fn read_in_place(rt: HostRuntime) {
+    let alloc = rt.alloc();
+    let mut arena = arena_of_root(alloc, HeapAllocator::new(alloc, 1024)).expect(&rt, "memory");
+    let edits = &[
+        edit(&[], InitStructList(2, size(1, 1))),
+        edit(&[Element(0)], SetField(EightBytes, 0, 7)),
+        edit(&[Element(1), Child(0)], SetText(b"a")),
+        edit(&[], SetElement(EightBytes, 1, 9)),
+        edit(&[Element(0), Child(0)], InitStruct(size(0, 0))),
+    ];
+    check_outcomes(&rt, &mut arena, edits, &[None; 5]);
+    let mut lim = ReadLimiter::new(None);
+    let root = PointerReader::get_root_from_arena(&arena, &mut lim).expect(&rt, "a root");
+    let mut head = 1;
+    assert!(rt; root.is_canonical(&mut lim, &mut head) == Ok(true) && head == 7);
+    let size = MessageSize {
+        word_count: 6,
+        cap_count: 0,
+    };
+    assert!(rt; root.total_size(&mut lim) == Ok(size));
+}

@@ -1,0 +1,118 @@
+//! Segments of messages that are edited, with every request for memory refused in turn: each comes back once.
+use super::messages::{edit, size};
+use capnp_arena::arena::{
+    BuilderArena, HeapAllocator, ReaderArena, ReaderArenaImpl, ReaderOptions, SegmentArray,
+};
+use capnp_edits::edit::Op::{
+    Clear, CopyContent, CopyFrom, InitStruct, SetField, SetList, SetStruct, SetText,
+};
+use capnp_edits::edit::Step::Child;
+use capnp_edits::edit::{Edit, Source, apply, apply_all};
+use capnp_words::wire_pointer::ElementSize::EightBytes;
+use std::alloc::Global;
+use std::cell::Cell;
+use std::process::Abort;
+use test_support::{Granted, TestAllocator, arena_of_root};
+
+/// A struct of a data word, 7, and of a pointer to the bytes of the text `a`.
+const STRUCT: &[u8] = b"\0\0\0\0\x01\0\x01\0\x07\0\0\0\0\0\0\0\x01\0\0\0\x12\0\0\0a\0\0\0\0\0\0\0";
+
+/// A list of two structs of a pointer, the first to the bytes of the text `a`.
+const LIST: &[u8] =
+    b"\x01\0\0\0\x17\0\0\0\x08\0\0\0\0\0\x01\0\x05\0\0\0\x12\0\0\0\0\0\0\0\0\0\0\0a\0\0\0\0\0\0\0";
+
+/// Does edits in segments of a word or more, with so many requests for memory granted, of which each segment takes
+/// two. One that is cleared then takes no words and gives no segment back. Checks the words of each segment
+/// as they come back, and then those that were used.
+fn check(rt: &impl Abort, alloc: Global, edits: &[Edit<'_>], requests: u64, segments: u64) {
+    let returned = Cell::new(0);
+    let heap = HeapAllocator::new(alloc, 1);
+    let allocator = TestAllocator::new(heap, Granted::Requests(requests), &returned);
+    let mut arena = arena_of_root(alloc, allocator).expect(rt, "memory");
+    let mut all = [None; 3];
+    let outcomes = all.get_mut(..edits.len()).expect(rt, "few edits");
+    assert!(rt; outcomes.len() == edits.len());
+    apply_all(&mut arena, edits, outcomes);
+    assert!(rt; arena.refused() == u64::from(requests < 6), "{segments}");
+    let (size, early) = (arena.size_in_words(), returned.get());
+    assert!(rt; apply(&mut arena, &edit(&[], Clear)) == Ok(()));
+    assert!(rt; arena.size_in_words() == size && returned.get() == early);
+    drop(arena);
+    assert!(rt; returned.get() == segments, "{segments}");
+}
+
+/// Refuses in turn the memory for the first object, for its row, for the text and for its row, and then
+/// nothing. A segment without a row comes back at once.
+fn check_each(rt: &impl Abort, alloc: Global, edits: &[Edit<'_>], segments: [u64; 5]) {
+    for (requests, want) in (2..7).zip(segments) {
+        check(rt, alloc, edits, requests, want);
+    }
+}
+
+const OF_STRUCT: [u64; 5] = [
+    1_01,
+    3_00_01_01,
+    1_01_03_03,
+    2_00_01_01_03_03,
+    1_01_03_03_02_02,
+];
+
+const OF_LIST: [u64; 5] = [
+    1_01,
+    4_00_01_01,
+    1_01_04_04,
+    2_00_01_01_04_04,
+    1_01_04_04_02_02,
+];
+
+/// A struct and its text are made.
+#[test]
+fn made(rt: HostRuntime) {
+    let edits = &[
+        edit(&[], InitStruct(size(1, 1))),
+        edit(&[], SetField(EightBytes, 0, 7)),
+        edit(&[Child(0)], SetText(b"a")),
+    ];
+    check_each(&rt, rt.alloc(), edits, OF_STRUCT);
+}
+
+/// They are copied from another message, and so is a list of structs and its text.
+#[test]
+fn copied(rt: HostRuntime) {
+    for (message, is_list, segments) in [(STRUCT, false, OF_STRUCT), (LIST, true, OF_LIST)] {
+        let bytes: &[&[u8]] = &[message];
+        let array = SegmentArray::new(bytes).expect(&rt, "small");
+        let arena = &ReaderArenaImpl::new(array, ReaderOptions::default());
+        let source = Source {
+            arena,
+            budget: None,
+        };
+        for canonicalize in [false, true] {
+            let value = edit(&[], CopyFrom(source, canonicalize));
+            check_each(&rt, rt.alloc(), &[value], segments);
+            let op = if is_list {
+                SetList(source, canonicalize)
+            } else {
+                SetStruct(source, canonicalize)
+            };
+            check_each(&rt, rt.alloc(), &[edit(&[], op)], segments);
+        }
+    }
+}
+
+/// The content of a struct is copied over one that was made.
+#[test]
+fn content(rt: HostRuntime) {
+    let bytes: &[&[u8]] = &[STRUCT];
+    let array = SegmentArray::new(bytes).expect(&rt, "small");
+    let arena = &ReaderArenaImpl::new(array, ReaderOptions::default());
+    let source = Source {
+        arena,
+        budget: None,
+    };
+    let edits = &[
+        edit(&[], InitStruct(size(1, 1))),
+        edit(&[], CopyContent(source)),
+    ];
+    check_each(&rt, rt.alloc(), edits, OF_STRUCT);
+}
