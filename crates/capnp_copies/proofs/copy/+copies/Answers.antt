@@ -1,4 +1,4 @@
-use Rattle.std.proofs.Common.{◌≡◌, inl, ℕ, ◌+◌, ◌*◌, ◌<◌, ◌≤◌, ◌^◌, length, get_or, refl, ap, ap₂, sym, ◌∙◌, arith, rules, take}
+use Rattle.std.proofs.Common.{◌≡◌, ◌≢◌, inl, ℕ, ◌+◌, ◌*◌, ◌<◌, ◌≤◌, ◌^◌, length, get_or, refl, ap, ap₂, sym, ◌∙◌, arith, rules, take, subst, le_antisymm, le_refl, lt_of_le_of_lt}
 use Rattle.std.proofs.lemmas.Int.{to_z-of_z}
 use Rattle.std.proofs.lemmas.Bool.{false≢true}
 use mir.Syntax.{w32}
@@ -10,6 +10,7 @@ use Rattle.capnp_format.specs.Numbers.{words_for, unpacked}
 use Rattle.capnp_format.proofs.Slices.{length_words}
 use Rattle.capnp_making.specs.Made.{zero_structs, nulls, structs_words}
 use Rattle.capnp_making.specs.Memory.{HasRoom}
+use Rattle.capnp_making.specs.Near.{HasOwnRoom}
 use Rattle.capnp_making.proofs.FillingMade.{IsBegun, pointers_ready, structs_ready}
 use Rattle.capnp_format.specs.Word.{kind, data_words, pointer_count}
 use Rattle.capnp_objects.specs.declared.object.Place.{Place}
@@ -43,6 +44,112 @@ use Rattle.capnp_copies.proofs.TightElements.{all_rows}
 use Rattle.capnp_copies.proofs.TooLarge.{no_pointers_room, no_structs_room, no_sections_room}
 use Rattle.capnp_copies.proofs.copy.+copies.Goals as goal
 
+-- What lies within so many words lies within the segment, over plain numbers.
+child_there : (p n i : ℕ) {l m : ℕ} → p + n ≤ l → i < n → l ≤ m → p + i < m
+child_there p n i room less more = omega arith
+
+part_inside : (p k d q : ℕ) {l : ℕ} → p + (d + q) ≤ l → k ≤ d → p + k ≤ l
+part_inside p k d q room less = omega arith
+
+behind_inside : (p d q : ℕ) {l : ℕ} → p + (d + q) ≤ l → p + d + q ≤ l
+behind_inside p d q room = omega arith
+
+rows_inside : (p n : ℕ) {l : ℕ} → p + (1 + n) ≤ l → p + 1 + n ≤ l
+rows_inside p n room = omega arith
+
+one_more : {m n : ℕ} → m ≤ n → 1 + m ≤ 1 + n
+one_more less = omega arith
+
+some_more : (n : ℕ) → 0 < 1 + n
+some_more n = omega arith
+
+some_words : {k n : ℕ} → k ≡ n → k ≢ 0 → 0 < n
+some_words same some = omega (arith, same, some)
+
+fewer_words : {a b c d n : ℕ} → a ≤ c → b ≤ d → n ≡ c → a + b ≤ n + d
+fewer_words less fewer long = omega arith
+
+first_fits : (p d q : ℕ) {f l r : ℕ} → p + (d + q) ≤ l → l ≤ r → r < 2 ^ 29 → f ≡ d → p + f < 2 ^ 32
+first_fits p d q room within small same = omega arith
+
+-- and where each row of n rows of w words starts
+row_fits : (p w i n : ℕ) {t l b : ℕ} → p + n * w ≤ l → i < n → t ≡ w → b ≡ 8 * l → b < 8 * 2 ^ 32 →
+    p + i * t < 2 ^ 32
+row_fits p w i n {t} room less same bytes small =
+    let whole : i * t ≡ i * w = ap (λ k. i * k) same in omega (arith, row_within i n w less, whole)
+
+product_fits : (p i t : ℕ) → p + i * t < 2 ^ 32 → i * t < 2 ^ 32
+product_fits p i t small = omega arith
+
+kept_fits : (p w i n : ℕ) {t l r : ℕ} → p + n * w ≤ l → i < n → t ≡ w → l ≤ r → r < 2 ^ 29 → i * t < 2 ^ 32
+kept_fits p w i n {t} room less same within small =
+    let whole : i * t ≡ i * w = ap (λ k. i * k) same in omega (arith, row_within i n w less, whole)
+
+child_fits : (p n i : ℕ) {l b : ℕ} → p + n ≤ l → i < n → b ≡ 8 * l → b < 8 * 2 ^ 32 → p + i < 2 ^ 32
+child_fits p n i room less bytes small = omega arith
+
+null_fits : (p n i : ℕ) {l r : ℕ} → p + n ≤ l → i < n → l ≤ r → r < 2 ^ 29 → p + i < 2 ^ 32
+null_fits p n i room less within small = omega arith
+
+children_fit : (p d q : ℕ) {f l b : ℕ} → p + (d + q) ≤ l → f ≡ d → b ≡ 8 * l → b < 8 * 2 ^ 32 → p + f < 2 ^ 32
+children_fit p d q room same bytes small = omega arith
+
+kept_starts : (p w i n : ℕ) {t l r : ℕ} → p + n * w ≤ l → i < n → t ≡ w → l ≤ r → r < 2 ^ 29 →
+    p + i * t < 2 ^ 32
+kept_starts p w i n {t} room less same within small =
+    let whole : i * t ≡ i * w = ap (λ k. i * k) same in omega (arith, row_within i n w less, whole)
+
+-- Positions fit 32 bits.
+
+pub children::copy_in_line-overflow_add-child : goal.children::copy_in_line-overflow_add-child
+children::copy_in_line-overflow_add-child g t c =
+    record {
+      fits = child_fits c.args.from.place.at c.args.count c.loop-i.i c.requires.inside
+          c.loop-i-test.true c.args.from.held.1 c.args.from.held.2;
+    }
+
+pub children::copy_in_line-overflow_add-at : goal.children::copy_in_line-overflow_add-at
+children::copy_in_line-overflow_add-at g t c =
+    let now = c.args.arena.now in
+    record {
+      fits = null_fits c.args.at c.args.count c.loop-i.i c.requires.nulls.room c.loop-i-test.true
+          (g.met.A.BuilderArena.within now c.args.id) (g.met.A.BuilderArena.small now c.args.id);
+    }
+
+pub elements::copy_element-overflow_add-children : goal.elements::copy_element-overflow_add-children
+elements::copy_element-overflow_add-children g t c =
+    record {
+      fits = children_fit c.args.from.place.at c.args.sizes.source.data_words
+          c.args.sizes.source.pointers c.requires.inside c.from.ensures c.args.from.held.1
+          c.args.from.held.2;
+    }
+
+pub elements::copy_element-overflow_add-first : goal.elements::copy_element-overflow_add-first
+elements::copy_element-overflow_add-first g t c =
+    let now = c.args.arena.now in
+    record {
+      fits = first_fits c.args.to.at c.args.sizes.kept.data_words c.args.sizes.kept.pointers
+          c.requires.room (g.met.A.BuilderArena.within now c.args.to.segment)
+          (g.met.A.BuilderArena.small now c.args.to.segment) c.from-2.ensures;
+    }
+
+pub structs::copy_struct-overflow_add-children : goal.structs::copy_struct-overflow_add-children
+structs::copy_struct-overflow_add-children g t c =
+    record {
+      fits = children_fit c.args.from.place.at c.args.size.data_words c.args.size.pointers
+          c.requires.inside c.from.ensures c.args.from.held.1 c.args.from.held.2;
+    }
+
+pub elements::copy_elements-overflow_add-row : goal.elements::copy_elements-overflow_add-row
+elements::copy_elements-overflow_add-row g t c =
+    let now = c.args.arena.now in
+    record {
+      fits = kept_starts c.args.to.at (c.args.sizes.kept.data_words + c.args.sizes.kept.pointers)
+          c.loop-i.i c.args.count c.requires.room c.loop-i-test.true c.total-kept_words.ensures
+          (g.met.A.BuilderArena.within now c.args.to.segment)
+          (g.met.A.BuilderArena.small now c.args.to.segment);
+    }
+
 -- Pointers one behind the other.
 
 pub children::copy_in_line-loop-i-init : goal.children::copy_in_line-loop-i-init
@@ -52,8 +159,13 @@ children::copy_in_line-loop-i-init g t c =
 pub children::copy_in_line-copy_child-requires : goal.children::copy_in_line-copy_child-requires
 children::copy_in_line-copy_child-requires g t c κs within =
     let grows = children_grow c.loop-i.invariant.0 in
-    let PLACE : IsPlace (g.A.BuilderArena.view c.loop-i.arena).words c.args.id (c.args.at + c.loop-i.i) = omega (arith, c.requires.nulls.room, c.loop-i-test.true, grows.words c.args.id) in
-    let NULL : word_at (g.A.BuilderArena.view c.loop-i.arena).words c.args.id (c.args.at + c.loop-i.i) ≡ 0 = child_ahead c.loop-i.invariant.0 (omega (arith, c.requires.nulls.room, c.loop-i-test.true)) ∙ c.requires.nulls.null c.loop-i.i c.loop-i-test.true in
+    let PLACE : IsPlace (g.A.BuilderArena.view c.loop-i.arena).words c.args.id (c.args.at + c.loop-i.i) =
+    child_there c.args.at c.args.count c.loop-i.i c.requires.nulls.room c.loop-i-test.true (grows.words
+    c.args.id) in
+    let NULL : word_at (g.A.BuilderArena.view c.loop-i.arena).words c.args.id (c.args.at + c.loop-i.i) ≡ 0 =
+    child_ahead c.loop-i.invariant.0 (child_there c.args.at c.args.count c.loop-i.i
+    c.requires.nulls.room c.loop-i-test.true (le_refl _)) ∙ c.requires.nulls.null c.loop-i.i
+    c.loop-i-test.true in
     search rules
 
 pub children::copy_in_line-returns-in_err-copy_child : goal.children::copy_in_line-returns-in_err-copy_child
@@ -62,7 +174,9 @@ children::copy_in_line-returns-in_err-copy_child g t c =
     let p = err_from_is_err_and c.from_residual.result c.from_residual.ensures.1 in
     rw (p.1, p.2) (record {
       copied = tt;
-      refused = child_stops (omega (arith, c.requires.nulls.room, c.loop-i-test.true)) c.loop-i-test.true c.loop-i.invariant.0 c.loop-i.invariant.1 (rw nl at c.in_err-copy_child.ensures.refused);
+      refused = child_stops (child_there c.args.at c.args.count c.loop-i.i c.requires.nulls.room
+          c.loop-i-test.true (le_refl _)) c.loop-i-test.true c.loop-i.invariant.0 c.loop-i.invariant.1 (rw
+          nl at c.in_err-copy_child.ensures.refused);
       taken = stop_taken c.loop-i-test.true c.loop-i.invariant.1 (rw nl at c.in_err-copy_child.ensures.taken);
     })
 
@@ -70,14 +184,16 @@ pub children::copy_in_line-loop-i-preserved : goal.children::copy_in_line-loop-i
 children::copy_in_line-loop-i-preserved g t c =
     let nl = to_z-of_z w32 c.args.from.nesting_limit (search rules) in
     let few : length (segment (g.A.BuilderArena.view c.loop-i.arena).words c.args.id) < 2 ^ 29 =
-    omega (arith, g.met.A.BuilderArena.within c.loop-i.arena c.args.id, g.met.A.BuilderArena.small c.loop-i.arena c.args.id) in (
-      child_copied (omega (arith, c.requires.nulls.room, c.loop-i-test.true)) few c.loop-i.invariant.0 (rw nl at c.in_ok-copy_child.ensures.copied),
+    lt_of_le_of_lt (g.met.A.BuilderArena.within c.loop-i.arena c.args.id) (g.met.A.BuilderArena.small
+    c.loop-i.arena c.args.id) in (
+      child_copied (child_there c.args.at c.args.count c.loop-i.i c.requires.nulls.room c.loop-i-test.true
+          (le_refl _)) few c.loop-i.invariant.0 (rw nl at c.in_ok-copy_child.ensures.copied),
       one_taken c.loop-i.invariant.1 (rw nl at c.in_ok-copy_child.ensures.taken),
     )
 
 pub children::copy_in_line-returns : goal.children::copy_in_line-returns
 children::copy_in_line-returns g t c =
-    let all : c.loop-i.i ≡ c.args.count = omega arith in
+    let all : c.loop-i.i ≡ c.args.count = le_antisymm c.loop-i.auto.i-end c.loop-i-test.false in
     record { copied = rw all at c.loop-i.invariant.0; refused = tt; taken = all_taken all c.loop-i.invariant.1 }
 
 pub children::copy_children-returns-then-count-eq0 : goal.children::copy_children-returns-then-count-eq0
@@ -87,7 +203,8 @@ children::copy_children-returns-then-count-eq0 g t c =
     record {
       copied = rw c.if-count-eq0.true (no_child r (form_in c.args.form) c.args.id c.args.at view c.args.lim.now);
       refused = tt;
-      taken = all_taken {i = 0} (omega (arith, c.if-count-eq0.true)) (none_taken r (form_in c.args.form) c.args.id view c.args.lim.now);
+      taken = all_taken {i = 0} (sym c.if-count-eq0.true) (none_taken r (form_in c.args.form) c.args.id view
+          c.args.lim.now);
     }
 
 -- What a pointer means, told by its word.
@@ -247,7 +364,18 @@ copy_object-returns-in-Flat-clause-copied g t c =
     let nl = to_z-of_z w32 c.args.from.nesting_limit (search rules) in
     let object = rw (c.in-Flat.is, nl) at c.in_ok-object.ensures.object in
     let outcome : FlatOutcome c.copy_flat.result c.args.id c.args.at (words_for (size_number c.in-Flat.size) c.in-Flat.count) (g.A.BuilderArena.view c.args.arena.now) (g.A.BuilderArena.view c.copy_flat.new.arena) (Flat (size_number c.in-Flat.size) (unpacked (size_number c.in-Flat.size) c.in-Flat.count (words_of c.part-elements.result.now))) =
-    record { copied = c.copy_flat.ensures.copied; granted = c.copy_flat.ensures.granted; refused = c.copy_flat.ensures.refused; kept = c.copy_flat.ensures.kept; memory = c.copy_flat.ensures.memory; stands = c.copy_flat.ensures.stands; fits = λ room. c.copy_flat.ensures.fits (omega (arith, room, word_count-flat (size_number c.in-Flat.size) c.in-Flat.count (words_of c.part-elements.result.now))) } in
+    record {
+      copied = c.copy_flat.ensures.copied;
+      granted = c.copy_flat.ensures.granted;
+      refused =
+          c.copy_flat.ensures.refused;
+      kept = c.copy_flat.ensures.kept;
+      memory = c.copy_flat.ensures.memory;
+      stands = c.copy_flat.ensures.stands;
+      fits = λ room. c.copy_flat.ensures.fits (subst (HasOwnRoom
+          (g.A.BuilderArena.view c.args.arena.now) c.args.id) (word_count-flat (size_number c.in-Flat.size)
+          c.in-Flat.count (words_of c.part-elements.result.now)) room);
+    } in
     flat_value (form_in c.args.form) c.copy_flat.result c.in-Flat.start c.in-Flat.size object c.flat_words-words.ensures c.part-elements.ensures.words outcome
 
 pub copy_object-returns-in-Flat-clause-refused : goal.copy_object-returns-in-Flat-clause-refused
@@ -255,7 +383,18 @@ copy_object-returns-in-Flat-clause-refused g t c =
     let nl = to_z-of_z w32 c.args.from.nesting_limit (search rules) in
     let object = rw (c.in-Flat.is, nl) at c.in_ok-object.ensures.object in
     let outcome : FlatOutcome c.copy_flat.result c.args.id c.args.at (words_for (size_number c.in-Flat.size) c.in-Flat.count) (g.A.BuilderArena.view c.args.arena.now) (g.A.BuilderArena.view c.copy_flat.new.arena) (Flat (size_number c.in-Flat.size) (unpacked (size_number c.in-Flat.size) c.in-Flat.count (words_of c.part-elements.result.now))) =
-    record { copied = c.copy_flat.ensures.copied; granted = c.copy_flat.ensures.granted; refused = c.copy_flat.ensures.refused; kept = c.copy_flat.ensures.kept; memory = c.copy_flat.ensures.memory; stands = c.copy_flat.ensures.stands; fits = λ room. c.copy_flat.ensures.fits (omega (arith, room, word_count-flat (size_number c.in-Flat.size) c.in-Flat.count (words_of c.part-elements.result.now))) } in
+    record {
+      copied = c.copy_flat.ensures.copied;
+      granted = c.copy_flat.ensures.granted;
+      refused =
+          c.copy_flat.ensures.refused;
+      kept = c.copy_flat.ensures.kept;
+      memory = c.copy_flat.ensures.memory;
+      stands = c.copy_flat.ensures.stands;
+      fits = λ room. c.copy_flat.ensures.fits (subst (HasOwnRoom
+          (g.A.BuilderArena.view c.args.arena.now) c.args.id) (word_count-flat (size_number c.in-Flat.size)
+          c.in-Flat.count (words_of c.part-elements.result.now)) room);
+    } in
     flat_stops (form_in c.args.form) c.copy_flat.result c.in-Flat.start c.in-Flat.size object c.flat_words-words.ensures c.part-elements.ensures.words (c.requires.place, c.requires.null) outcome
 
 pub copy_object-returns-in-Flat-clause-taken : goal.copy_object-returns-in-Flat-clause-taken
@@ -315,7 +454,14 @@ elements::copy_element-returns-clause-copied g t c =
     let held : words_of c.args.from.place.bytes.now ≡ segment_read from = c.args.from.held.0 in
     let section : words_of c.part-data.result.now ≡ words_from from c.args.sizes.kept.data_words = rw (c.from-data_words.ensures, held) at c.part-data.ensures.words in
     let put : DataWritten from c.args.sizes (g.A.BuilderArena.view c.args.arena.now) (g.A.BuilderArena.view c.put_words.new.arena) c.args.to.segment c.args.to.at =
-    record { inside = omega (arith, c.requires.inside, c.requires.less_data); room = omega (arith, c.requires.room); writes = rw section at c.put_words.ensures.words } in
+    record {
+      inside = part_inside c.args.from.place.at c.args.sizes.kept.data_words
+          c.args.sizes.source.data_words c.args.sizes.source.pointers c.requires.inside c.requires.less_data;
+      room = part_inside c.args.to.at c.args.sizes.kept.data_words c.args.sizes.kept.data_words
+          c.args.sizes.kept.pointers c.requires.room (le_refl _);
+      writes = rw section at
+          c.put_words.ensures.words;
+    } in
     ok_so c.copy_in_line.result c.copy_in_line.ensures.copied (λ x made. element_copied put (rw (c.from.ensures, c.from-2.ensures, c.from-pointers.ensures, nl) at made))
 
 pub elements::copy_element-returns-clause-refused : goal.elements::copy_element-returns-clause-refused
@@ -325,7 +471,14 @@ elements::copy_element-returns-clause-refused g t c =
     let held : words_of c.args.from.place.bytes.now ≡ segment_read from = c.args.from.held.0 in
     let section : words_of c.part-data.result.now ≡ words_from from c.args.sizes.kept.data_words = rw (c.from-data_words.ensures, held) at c.part-data.ensures.words in
     let put : DataWritten from c.args.sizes (g.A.BuilderArena.view c.args.arena.now) (g.A.BuilderArena.view c.put_words.new.arena) c.args.to.segment c.args.to.at =
-    record { inside = omega (arith, c.requires.inside, c.requires.less_data); room = omega (arith, c.requires.room); writes = rw section at c.put_words.ensures.words } in
+    record {
+      inside = part_inside c.args.from.place.at c.args.sizes.kept.data_words
+          c.args.sizes.source.data_words c.args.sizes.source.pointers c.requires.inside c.requires.less_data;
+      room = part_inside c.args.to.at c.args.sizes.kept.data_words c.args.sizes.kept.data_words
+          c.args.sizes.kept.pointers c.requires.room (le_refl _);
+      writes = rw section at
+          c.put_words.ensures.words;
+    } in
     err_so c.copy_in_line.result c.copy_in_line.ensures.refused (λ k stop. element_stops put (rw (c.from.ensures, c.from-2.ensures, c.from-pointers.ensures, nl) at stop))
 
 pub elements::copy_element-returns-clause-taken : goal.elements::copy_element-returns-clause-taken
@@ -333,19 +486,24 @@ elements::copy_element-returns-clause-taken g t c =
     let nl = to_z-of_z w32 c.args.from.nesting_limit (search rules) in
     let none = c.put_words.ensures.taken in
     let last = none_itself (g.A.BuilderArena.view c.copy_in_line.new.arena) in
-    taken_so c.copy_in_line.result _ _ _ _ (λ x. all_within none last x) (λ x. among_within (omega arith) none last x) (rw (c.from.ensures, c.from-pointers.ensures, nl) at c.copy_in_line.ensures.taken)
+    taken_so c.copy_in_line.result _ _ _ _ (λ x. all_within none last x) (λ x. among_within (le_refl _) none
+    last x) (rw (c.from.ensures, c.from-pointers.ensures, nl) at c.copy_in_line.ensures.taken)
 
 pub elements::copy_elements-returns-then-kept_words-eq0-clause-copied : goal.elements::copy_elements-returns-then-kept_words-eq0-clause-copied
 elements::copy_elements-returns-then-kept_words-eq0-clause-copied g t c =
     let from : Reading = reading g.B.ReaderArena c.args.from in
     let fits : SourceKept (form_in c.args.form) from c.args.sizes c.args.count = record { inside = c.requires.inside; less_data = c.requires.less_data; less_pointers = c.requires.less_pointers; used = c.requires.pointers } in
-    no_width from c.args.sizes c.args.count (form_in c.args.form) c.args.to.segment c.args.to.at (g.A.BuilderArena.view c.args.arena.now) c.args.lim.now fits (omega (arith, c.total-kept_words.ensures, c.if-kept_words-eq0.true))
+    no_width from c.args.sizes c.args.count (form_in c.args.form) c.args.to.segment c.args.to.at
+    (g.A.BuilderArena.view c.args.arena.now) c.args.lim.now fits (sym c.total-kept_words.ensures ∙
+    c.if-kept_words-eq0.true)
 
 pub elements::copy_elements-returns-then-kept_words-eq0-clause-taken : goal.elements::copy_elements-returns-then-kept_words-eq0-clause-taken
 elements::copy_elements-returns-then-kept_words-eq0-clause-taken g t c =
     let from : Reading = reading g.B.ReaderArena c.args.from in
     let fits : SourceKept (form_in c.args.form) from c.args.sizes c.args.count = record { inside = c.requires.inside; less_data = c.requires.less_data; less_pointers = c.requires.less_pointers; used = c.requires.pointers } in
-    blank_taken from c.args.sizes c.args.count (form_in c.args.form) c.args.to.segment (g.A.BuilderArena.view c.args.arena.now) c.args.lim.now fits (omega (arith, c.total-kept_words.ensures, c.if-kept_words-eq0.true))
+    blank_taken from c.args.sizes c.args.count (form_in c.args.form) c.args.to.segment
+    (g.A.BuilderArena.view c.args.arena.now) c.args.lim.now fits (sym c.total-kept_words.ensures ∙
+    c.if-kept_words-eq0.true)
 
 pub elements::copy_elements-loop-i-init : goal.elements::copy_elements-loop-i-init
 elements::copy_elements-loop-i-init g t c =
@@ -353,15 +511,21 @@ elements::copy_elements-loop-i-init g t c =
 
 pub elements::copy_elements-overflow_mul-element : goal.elements::copy_elements-overflow_mul-element
 elements::copy_elements-overflow_mul-element g t c =
-    let end = row_within c.loop-i.i c.args.count (c.args.sizes.source.data_words + c.args.sizes.source.pointers) c.loop-i-test.true in
-    let same : c.loop-i.i * c.total-source_words.result ≡ c.loop-i.i * (c.args.sizes.source.data_words + c.args.sizes.source.pointers) = ap (λ w. c.loop-i.i * w) c.total-source_words.ensures in
-    omega (arith, end, same, c.requires.inside, c.args.from.held.1, c.args.from.held.2)
+    record {
+      fits = product_fits c.args.from.place.at c.loop-i.i c.total-source_words.result (row_fits
+          c.args.from.place.at (c.args.sizes.source.data_words + c.args.sizes.source.pointers) c.loop-i.i
+          c.args.count c.requires.inside c.loop-i-test.true c.total-source_words.ensures c.args.from.held.1
+          c.args.from.held.2);
+    }
 
 pub elements::copy_elements-overflow_mul-row : goal.elements::copy_elements-overflow_mul-row
 elements::copy_elements-overflow_mul-row g t c =
-    let end = row_within c.loop-i.i c.args.count (c.args.sizes.kept.data_words + c.args.sizes.kept.pointers) c.loop-i-test.true in
-    let same : c.loop-i.i * c.total-kept_words.result ≡ c.loop-i.i * (c.args.sizes.kept.data_words + c.args.sizes.kept.pointers) = ap (λ w. c.loop-i.i * w) c.total-kept_words.ensures in
-    omega (arith, end, same, c.requires.room, g.met.A.BuilderArena.within c.args.arena.now c.args.to.segment, g.met.A.BuilderArena.small c.args.arena.now c.args.to.segment)
+    record {
+      fits = kept_fits c.args.to.at (c.args.sizes.kept.data_words + c.args.sizes.kept.pointers)
+          c.loop-i.i c.args.count c.requires.room c.loop-i-test.true c.total-kept_words.ensures
+          (g.met.A.BuilderArena.within c.args.arena.now c.args.to.segment) (g.met.A.BuilderArena.small
+          c.args.arena.now c.args.to.segment);
+    }
 
 pub elements::copy_elements-copy_element-requires : goal.elements::copy_elements-copy_element-requires
 elements::copy_elements-copy_element-requires g t c κs within =
@@ -370,7 +534,7 @@ elements::copy_elements-copy_element-requires g t c κs within =
       fits = record { inside = c.requires.inside; less_data = c.requires.less_data; less_pointers = c.requires.less_pointers; used = c.requires.pointers };
       room = c.requires.room;
       zero = c.requires.zero;
-      wide = omega (arith, c.total-kept_words.ensures, c.if-kept_words-eq0.false);
+      wide = some_words c.total-kept_words.ensures c.if-kept_words-eq0.false;
       more = c.loop-i-test.true;
       rows = c.loop-i.invariant.0;
     } in
@@ -387,7 +551,7 @@ elements::copy_elements-returns-in_err-copy_element-clause-refused g t c =
       fits = record { inside = c.requires.inside; less_data = c.requires.less_data; less_pointers = c.requires.less_pointers; used = c.requires.pointers };
       room = c.requires.room;
       zero = c.requires.zero;
-      wide = omega (arith, c.total-kept_words.ensures, c.if-kept_words-eq0.false);
+      wide = some_words c.total-kept_words.ensures c.if-kept_words-eq0.false;
       more = c.loop-i-test.true;
       rows = c.loop-i.invariant.0;
     } in
@@ -402,7 +566,7 @@ elements::copy_elements-loop-i-preserved g t c =
       fits = record { inside = c.requires.inside; less_data = c.requires.less_data; less_pointers = c.requires.less_pointers; used = c.requires.pointers };
       room = c.requires.room;
       zero = c.requires.zero;
-      wide = omega (arith, c.total-kept_words.ensures, c.if-kept_words-eq0.false);
+      wide = some_words c.total-kept_words.ensures c.if-kept_words-eq0.false;
       more = c.loop-i-test.true;
       rows = c.loop-i.invariant.0;
     } in (
@@ -419,16 +583,20 @@ elements::copy_elements-returns-in_err-copy_element-clause-taken g t c =
     rw p.1 (row_stop_taken fits c.loop-i-test.true c.loop-i.invariant.1 (rw (c.total-source_words.ensures, nl) at c.in_err-copy_element.ensures.taken))
 
 pub elements::copy_elements-returns-clause-copied : goal.elements::copy_elements-returns-clause-copied
-elements::copy_elements-returns-clause-copied g t c = all_rows (omega arith) (omega arith) c.loop-i.invariant.0
+elements::copy_elements-returns-clause-copied g t c = all_rows c.loop-i-test.false c.loop-i.auto.i-end
+    c.loop-i.invariant.0
 
 pub elements::copy_elements-returns-clause-taken : goal.elements::copy_elements-returns-clause-taken
-elements::copy_elements-returns-clause-taken g t c = rows_taken c.args.sizes (omega arith) c.loop-i.invariant.1
+elements::copy_elements-returns-clause-taken g t c = rows_taken c.args.sizes (le_antisymm
+    c.loop-i.auto.i-end c.loop-i-test.false) c.loop-i.invariant.1
 
 pub elements::copy_elements-overflow_add-element : goal.elements::copy_elements-overflow_add-element
 elements::copy_elements-overflow_add-element g t c =
-    let end = row_within c.loop-i.i c.args.count (c.args.sizes.source.data_words + c.args.sizes.source.pointers) c.loop-i-test.true in
-    let same : c.loop-i.i * c.total-source_words.result ≡ c.loop-i.i * (c.args.sizes.source.data_words + c.args.sizes.source.pointers) = ap (λ w. c.loop-i.i * w) c.total-source_words.ensures in
-    omega (arith, end, same, c.requires.inside, c.args.from.held.1, c.args.from.held.2)
+    record {
+      fits = row_fits c.args.from.place.at (c.args.sizes.source.data_words +
+          c.args.sizes.source.pointers) c.loop-i.i c.args.count c.requires.inside c.loop-i-test.true
+          c.total-source_words.ensures c.args.from.held.1 c.args.from.held.2;
+    }
 
 -- Lists of pointers.
 
@@ -480,7 +648,9 @@ lists::copy_structs-copy_elements-requires g t c κs within =
     let S : Segments = (g.A.BuilderArena.view c.args.arena.now).words in
     let M : Segments = (g.A.BuilderArena.view c.make_struct_list.new.arena).words in
     let begun : IsBegun S M c.args.id c.args.at (1 + c.args.count * (least.data_words + least.pointers)) c.in_ok-list.list (zero_structs c.args.count least) = record { made = c.in_ok-list.ensures.made; start = c.in_ok-list.ensures.start.leads; inside = c.in_ok-list.ensures.start.inside } in
-    let ROOM : c.in_ok-list.list.at + 1 + c.args.count * (least.data_words + least.pointers) ≤ length (segment M c.in_ok-list.list.segment) = omega (arith, begun.inside.1) in
+    let ROOM : c.in_ok-list.list.at + 1 + c.args.count * (least.data_words + least.pointers) ≤ length
+    (segment M c.in_ok-list.list.segment) = rows_inside c.in_ok-list.list.at (c.args.count *
+    (least.data_words + least.pointers)) begun.inside.1 in
     let ZERO : (i : ℕ) → i < c.args.count * (least.data_words + least.pointers) → word_at M c.in_ok-list.list.segment (c.in_ok-list.list.at + 1 + i) ≡ 0 = structs_ready S M c.args.id c.args.at least.data_words least.pointers c.args.count c.in_ok-list.list begun in
     let POINTERS : KeepsPointers (form_in c.args.form) from (record { source = c.args.size; kept = least }) c.args.count = widths_keep (form_in c.args.form) from (record { source = c.args.size; kept = least }) c.args.count c.kept_widths-kept.ensures.kept in
     search rules
@@ -498,15 +668,39 @@ lists::copy_structs-returns-clause-refused g t c =
     let less = no_wider c.args.count least.data_words least.pointers c.args.size.data_words c.args.size.pointers c.kept_widths-kept.ensures.less_data c.kept_widths-kept.ensures.less_pointers in
     let begun : ObjectBegun c.args.id c.args.at (1 + c.args.count * (least.data_words + least.pointers)) (g.A.BuilderArena.view c.args.arena.now) (g.A.BuilderArena.view c.make_struct_list.new.arena) c.in_ok-list.list (zero_structs c.args.count least) =
     record { begun = record { made = c.in_ok-list.ensures.made; start = c.in_ok-list.ensures.start.leads; inside = c.in_ok-list.ensures.start.inside }; memory = c.in_ok-list.ensures.memory.granted } in
-    err_so c.copy_elements.result c.copy_elements.ensures.refused (λ k stop. structs_stop c.requires.inside c.kept_widths-kept.ensures.kept begun (record { place = c.requires.place; memory = c.in_ok-list.ensures.memory.granted; taken = c.in_ok-list.ensures.memory.taken; behind = c.in_ok-list.ensures.start.behind; near = c.in_ok-list.ensures.near }) (omega (arith, less)) stop)
+    err_so c.copy_elements.result c.copy_elements.ensures.refused (λ k stop. structs_stop c.requires.inside
+    c.kept_widths-kept.ensures.kept begun (record {
+      place = c.requires.place;
+      memory =
+          c.in_ok-list.ensures.memory.granted;
+      taken = c.in_ok-list.ensures.memory.taken;
+      behind =
+          c.in_ok-list.ensures.start.behind;
+      near = c.in_ok-list.ensures.near;
+    }) (one_more less) stop)
 
 pub lists::copy_structs-returns-clause-taken : goal.lists::copy_structs-returns-clause-taken
 lists::copy_structs-returns-clause-taken g t c =
     let least = c.kept_widths-kept.result in
     let less = no_wider c.args.count least.data_words least.pointers c.args.size.data_words c.args.size.pointers c.kept_widths-kept.ensures.less_data c.kept_widths-kept.ensures.less_pointers in
     let begun : Begins c.args.id c.in_ok-list.list.segment (1 + c.args.count * (least.data_words + least.pointers)) (g.A.BuilderArena.view c.args.arena.now) (g.A.BuilderArena.view c.make_struct_list.new.arena) =
-    record { there = there (g.A.BuilderArena.view c.args.arena.now).words c.args.id c.args.at c.requires.place; taken = c.in_ok-list.ensures.memory.taken; memory = c.in_ok-list.ensures.memory.granted; near = λ room. (c.in_ok-list.ensures.start.behind.near (omega arith) room).0; far = λ full. (c.in_ok-list.ensures.start.behind.far full).0 } in
-    taken_so c.copy_elements.result _ _ _ _ (λ x. structs_behind _ (record { source = c.args.size; kept = c.kept_widths-kept.result }) _ _ _ _ _ _ _ _ _ _ begun (omega (arith, less)) x) (λ x. structs_stop_behind _ (record { source = c.args.size; kept = c.kept_widths-kept.result }) _ _ _ _ _ _ _ _ _ _ begun (omega (arith, less)) x) c.copy_elements.ensures.taken
+    record {
+      there = there (g.A.BuilderArena.view c.args.arena.now).words c.args.id c.args.at
+          c.requires.place;
+      taken = c.in_ok-list.ensures.memory.taken;
+      memory =
+          c.in_ok-list.ensures.memory.granted;
+      near = λ room. (c.in_ok-list.ensures.start.behind.near
+          (some_more _) room).0;
+      far = λ full. (c.in_ok-list.ensures.start.behind.far full).0;
+    } in
+    taken_so c.copy_elements.result _ _ _ _ (λ x. structs_behind _ (record {
+      source = c.args.size;
+      kept =
+          c.kept_widths-kept.result;
+    }) _ _ _ _ _ _ _ _ _ _ begun (one_more less) x) (λ x. structs_stop_behind
+    _ (record { source = c.args.size; kept = c.kept_widths-kept.result }) _ _ _ _ _ _ _ _ _ _ begun
+    (one_more less) x) c.copy_elements.ensures.taken
 
 pub lists::copy_structs-returns-in_err-list-clause-refused : goal.lists::copy_structs-returns-in_err-list-clause-refused
 lists::copy_structs-returns-in_err-list-clause-refused g t c =
@@ -533,7 +727,14 @@ structs::copy_struct-returns-in_err-start-clause-refused g t c =
     let none = nothing_made (form_in c.args.form) c.args.id c.args.at (least.data_words + least.pointers) (g.A.BuilderArena.view c.args.arena.now) (g.A.BuilderArena.view c.make_struct.new.arena) c.args.lim.now c.args.lim.now c.in_err-start.field-0.0 c.requires.place c.requires.null
     c.in_err-start.ensures.memory.named c.in_err-start.ensures.refused full in
     let r : Reading = reading g.B.ReaderArena c.args.from in
-    let cut : SectionsCut (form_in c.args.form) (words_from r c.args.size.data_words) (behind r c.args.size.data_words) c.args.size.pointers least = record { inside = omega (arith, c.requires.inside); of_data = c.kept_sections-kept.ensures.data; of_pointers = c.kept_sections-kept.ensures.pointers } in
+    let cut : SectionsCut (form_in c.args.form) (words_from r c.args.size.data_words) (behind r
+    c.args.size.data_words) c.args.size.pointers least = record {
+      inside = behind_inside
+          c.args.from.place.at c.args.size.data_words c.args.size.pointers c.requires.inside;
+      of_data =
+          c.kept_sections-kept.ensures.data;
+      of_pointers = c.kept_sections-kept.ensures.pointers;
+    } in
     let makes = ap₂ (λ i j. i + j) cut.of_data cut.of_pointers in
     let p = err_from_is_err_and c.from_residual.result c.from_residual.ensures.1 in
     rw (p.1, p.2) (halfway (inl (
@@ -558,7 +759,13 @@ structs::copy_struct-returns-clause-copied g t c =
     let section : words_of c.part-data.result.now ≡ take least.data_words (words_from r c.args.size.data_words) =
     (rw (c.from-data_words.ensures, held) at c.part-data.ensures.words) ∙ sym (words_taken r.segments r.segment r.at least.data_words c.args.size.data_words c.kept_sections-kept.ensures.less_data) in
     let begun : SectionsBegun (form_in c.args.form) (words_from r c.args.size.data_words) (behind r c.args.size.data_words) c.args.size.pointers least c.args.id c.args.at (g.A.BuilderArena.view c.args.arena.now) (g.A.BuilderArena.view c.make_struct.new.arena) (g.A.BuilderArena.view c.put_words.new.arena) c.in_ok-start.start = record {
-      cut = record { inside = omega (arith, c.requires.inside); of_data = c.kept_sections-kept.ensures.data; of_pointers = c.kept_sections-kept.ensures.pointers };
+      cut = record {
+        inside = behind_inside c.args.from.place.at c.args.size.data_words c.args.size.pointers
+            c.requires.inside;
+        of_data = c.kept_sections-kept.ensures.data;
+        of_pointers =
+            c.kept_sections-kept.ensures.pointers;
+      };
       begun = record { made = c.in_ok-start.ensures.made; start = c.in_ok-start.ensures.start.leads; inside = c.in_ok-start.ensures.start.inside };
       memory = c.in_ok-start.ensures.memory.granted;
       writes = rw section at c.put_words.ensures.words;
@@ -580,7 +787,13 @@ structs::copy_struct-returns-clause-refused g t c =
     let section : words_of c.part-data.result.now ≡ take least.data_words (words_from r c.args.size.data_words) =
     (rw (c.from-data_words.ensures, held) at c.part-data.ensures.words) ∙ sym (words_taken r.segments r.segment r.at least.data_words c.args.size.data_words c.kept_sections-kept.ensures.less_data) in
     let begun : SectionsBegun (form_in c.args.form) (words_from r c.args.size.data_words) (behind r c.args.size.data_words) c.args.size.pointers least c.args.id c.args.at (g.A.BuilderArena.view c.args.arena.now) (g.A.BuilderArena.view c.make_struct.new.arena) (g.A.BuilderArena.view c.put_words.new.arena) c.in_ok-start.start = record {
-      cut = record { inside = omega (arith, c.requires.inside); of_data = c.kept_sections-kept.ensures.data; of_pointers = c.kept_sections-kept.ensures.pointers };
+      cut = record {
+        inside = behind_inside c.args.from.place.at c.args.size.data_words c.args.size.pointers
+            c.requires.inside;
+        of_data = c.kept_sections-kept.ensures.data;
+        of_pointers =
+            c.kept_sections-kept.ensures.pointers;
+      };
       begun = record { made = c.in_ok-start.ensures.made; start = c.in_ok-start.ensures.start.leads; inside = c.in_ok-start.ensures.start.inside };
       memory = c.in_ok-start.ensures.memory.granted;
       writes = rw section at c.put_words.ensures.words;
@@ -602,11 +815,23 @@ structs::copy_struct-returns-clause-taken g t c =
     let last = none_itself (g.A.BuilderArena.view c.copy_children.new.arena) in
     let fewer = c.kept_sections-kept.ensures.less_pointers in
     let r : Reading = reading g.B.ReaderArena c.args.from in
-    let cut : SectionsCut (form_in c.args.form) (words_from r c.args.size.data_words) (behind r c.args.size.data_words) c.args.size.pointers least = record { inside = omega (arith, c.requires.inside); of_data = c.kept_sections-kept.ensures.data; of_pointers = c.kept_sections-kept.ensures.pointers } in
-    let long = length_words r.segments r.segment r.at c.args.size.data_words (omega (arith, c.requires.inside)) in
-    let less : least.data_words + least.pointers ≤ length (words_from r c.args.size.data_words) + c.args.size.pointers = omega (arith, c.kept_sections-kept.ensures.less_data, fewer, long) in
+    let cut : SectionsCut (form_in c.args.form) (words_from r c.args.size.data_words) (behind r
+    c.args.size.data_words) c.args.size.pointers least = record {
+      inside = behind_inside
+          c.args.from.place.at c.args.size.data_words c.args.size.pointers c.requires.inside;
+      of_data =
+          c.kept_sections-kept.ensures.data;
+      of_pointers = c.kept_sections-kept.ensures.pointers;
+    } in
+    let long = length_words r.segments r.segment r.at c.args.size.data_words (part_inside
+    c.args.from.place.at c.args.size.data_words c.args.size.data_words c.args.size.pointers
+    c.requires.inside (le_refl _)) in
+    let less : least.data_words + least.pointers ≤ length (words_from r c.args.size.data_words) +
+    c.args.size.pointers = fewer_words c.kept_sections-kept.ensures.less_data fewer long in
     taken_so c.copy_children.result _ _ _ _ (λ x. sections_behind (words_from r c.args.size.data_words) (behind r c.args.size.data_words) c.args.size.pointers least.pointers (least.data_words + least.pointers) _ _ _ _ _ _ _ _ cut.inside cut.of_pointers made less (all_within put last x))
-    (λ x. sections_stop_behind (words_from r c.args.size.data_words) (behind r c.args.size.data_words) c.args.size.pointers least.pointers (least.data_words + least.pointers) _ _ _ _ _ _ _ _ fewer made less (among_within (omega arith) put last x))
+    (λ x. sections_stop_behind (words_from r c.args.size.data_words) (behind r c.args.size.data_words)
+    c.args.size.pointers least.pointers (least.data_words + least.pointers) _ _ _ _ _ _ _ _ fewer made
+    less (among_within (le_refl _) put last x))
     (rw (c.from.ensures, c.from-pointers.ensures, nl) at c.copy_children.ensures.taken)
 
 pub structs::copy_struct-copy_children-requires : goal.structs::copy_struct-copy_children-requires
@@ -618,7 +843,13 @@ structs::copy_struct-copy_children-requires g t c κs within =
     let section : words_of c.part-data.result.now ≡ take least.data_words (words_from r c.args.size.data_words) =
     (rw (c.from-data_words.ensures, held) at c.part-data.ensures.words) ∙ sym (words_taken r.segments r.segment r.at least.data_words c.args.size.data_words c.kept_sections-kept.ensures.less_data) in
     let begun : SectionsBegun (form_in c.args.form) (words_from r c.args.size.data_words) (behind r c.args.size.data_words) c.args.size.pointers least c.args.id c.args.at (g.A.BuilderArena.view c.args.arena.now) (g.A.BuilderArena.view c.make_struct.new.arena) (g.A.BuilderArena.view c.put_words.new.arena) c.in_ok-start.start = record {
-      cut = record { inside = omega (arith, c.requires.inside); of_data = c.kept_sections-kept.ensures.data; of_pointers = c.kept_sections-kept.ensures.pointers };
+      cut = record {
+        inside = behind_inside c.args.from.place.at c.args.size.data_words c.args.size.pointers
+            c.requires.inside;
+        of_data = c.kept_sections-kept.ensures.data;
+        of_pointers =
+            c.kept_sections-kept.ensures.pointers;
+      };
       begun = record { made = c.in_ok-start.ensures.made; start = c.in_ok-start.ensures.start.leads; inside = c.in_ok-start.ensures.start.inside };
       memory = c.in_ok-start.ensures.memory.granted;
       writes = rw section at c.put_words.ensures.words;
@@ -634,10 +865,10 @@ structs::copy_struct-copy_children-requires g t c κs within =
 
 pub structs::copy_struct-overflow_add-first : goal.structs::copy_struct-overflow_add-first
 structs::copy_struct-overflow_add-first g t c =
-    omega (
-      arith,
-      c.in_ok-start.ensures.start.inside.1,
-      g.met.A.BuilderArena.within c.make_struct.new.arena c.in_ok-start.start.segment,
-      g.met.A.BuilderArena.small c.make_struct.new.arena c.in_ok-start.start.segment,
-      c.from-2.ensures,
-    )
+    let now = c.make_struct.new.arena in
+    record {
+      fits = first_fits c.in_ok-start.start.at c.kept_sections-kept.result.data_words
+          c.kept_sections-kept.result.pointers c.in_ok-start.ensures.start.inside.1
+          (g.met.A.BuilderArena.within now c.in_ok-start.start.segment) (g.met.A.BuilderArena.small now
+          c.in_ok-start.start.segment) c.from-2.ensures;
+    }
