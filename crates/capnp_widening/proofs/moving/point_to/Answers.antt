@@ -280,6 +280,7 @@ returns-in_ok-segment-in-None-clause-pads g c =
     let stand = pads_stand S T U V R c.args.to.segment c.args.to.at k q f x h c.requires.to grown (ap words_in c.set_word-in-None.ensures) (ap words_in c.set_word-in-None-2.ensures) (ap words_in c.set_word-in-None-3.ensures) in
     two_pads R _ h k q f x stand.0 c.new_double_far-far.ensures.segment_of c.new_double_far-far.ensures.position_of stand.1 stand.2
     (record { far = c.new_far-start.ensures.kind_of; single = c.new_far-start.ensures.pads; no_offset = c.tag_of-tag.ensures.offset })
+
 -- Nothing but words is changed beside the room that is taken.
 pub returns-then-object-to-clause-granted : goal.returns-then-object-to-clause-granted
 returns-then-object-to-clause-granted g c =
