@@ -1,5 +1,5 @@
 -- A stream is read and answered message by message.
-use Rattle.std.proofs.Common.{◌≡◌, ◌≤◌, ℕ, ◌+◌, List, [], ◌∷◌, ◌++◌, Bool, true, false, ◌&&◌, Option, Some, None}
+use Rattle.std.proofs.Common.{◌≡◌, ◌≤◌, ℕ, ◌+◌, List, [], ◌∷◌, ◌++◌, Bool, true, false, ◌&&◌, Option, Some, None, length}
 use Rattle.std.proofs.Common.{IfSome, refl, sym, ap, ◌∙◌, append_assoc, append-nil, arith, length-append}
 use Rattle.std.specs.Io.KnownBytes.{Appends, Consumes}
 use Rattle.capnp_format.specs.Segments.{Segments}
@@ -8,7 +8,8 @@ use Rattle.capnp_framing.specs.Frames.{IsFrameOf}
 use Rattle.capnp_framing.specs.Reading.{total}
 use Rattle.capnp_framing.proofs.ReadingLemmas.{consumes_both}
 use Rattle.capnp_framing.proofs.WritingLemmas.{appends_both}
-use Rattle.capnp_streams.specs.Streams.{AnswerIs, AreAnswered, AreDone, AreFrames, IsOneDone, Stage}
+use Rattle.capnp_streams.specs.Streams.{AnswerIs, AreAnswered, AreDone, AreFrames, IsOneDone, Stage, TakesRefused, TakesUpToRefused}
+use Rattle.capnp_streams.specs.declared.streams.fault.Fault.{Fault}
 use Rattle.capnp_streams.specs.declared.streams.task.Task.{Task}
 
 -- one frame more
@@ -77,6 +78,15 @@ one_more_done {task} {old} {mid} {new} {count} {holds} {here} done one = record 
   answered = answers_more task one.message here one.answer one.answered done.messages holds done.answers done.answered;
   written = appends_both old.output mid.output new.output done.answers one.answer done.written one.written;
 }
+
+-- behind those that are done the frame of a message is taken that is refused
+pub refused_taken : {task : Task} {old mid : Stage} {count : ℕ} {holds : Bool} (new : Option (List ℕ)) (fault : Fault) →
+    AreDone task old mid (record { messages = count; holds = holds }) → TakesRefused task mid.input new fault →
+    TakesUpToRefused task old.input new (record { answered = count; fault = fault })
+refused_taken {task} {old} {mid} {count} {holds} new fault done taken = λ k same.
+    let (S, last, framed, short, consumed) = taken k same in
+    let many : length (done.messages ++ S ∷ []) ≡ count + 1 = omega (arith, length-append done.messages (S ∷ []), done.many) in
+    (done.messages ++ S ∷ [], done.bytes ++ last, many, frames_more _ S last done.messages done.bytes done.framed framed short, consumes_both old.input mid.input new done.bytes last done.consumed consumed)
 
 -- an input from which a frame is read begins with it
 pub begins : (from left : Option (List ℕ)) {most : ℕ} {S : Segments} {bytes : List ℕ} →

@@ -183,6 +183,26 @@ StopsBehind task old output failed stop =
     (record { messages = stop.answered; holds = holds })
     × StopsAt task left failed stop.answered stop.fault
 
+-- Where a message is refused, its frame was taken from the front of an input, and nothing behind it.
+abbrev pub TakesRefused : Task → Option (List ℕ) → Option (List ℕ) → Fault → Type 0
+TakesRefused task old new fault =
+    (k : ErrorKind) → fault ≡ Layout k →
+    (S : Segments) × (bytes : List ℕ) × IsFrameOf S bytes × (total S ≤ most_words task.limits)
+    × Consumes old new bytes
+
+-- So behind the frames of the messages that were answered.
+abbrev pub TakesUpToRefused : Task → Option (List ℕ) → Option (List ℕ) → Stop → Type 0
+TakesUpToRefused task old new stop =
+    (k : ErrorKind) → stop.fault ≡ Layout k →
+    (messages : List Segments) × (bytes : List ℕ) × (length messages ≡ stop.answered + 1)
+    × AreFrames (most_words task.limits) messages bytes × Consumes old new bytes
+
+-- So many messages at the front of an input are answered.
+abbrev pub WereAnswered : Task → Stage → ℕ → Type 0
+WereAnswered task old answered =
+    (new : Stage) × (holds : Bool)
+    × AreDone task old new (record { messages = answered; holds = holds })
+
 -- Bytes are frames of messages that a task has an answer to.
 abbrev pub CanBeAnswered : Task → List ℕ → Type 0
 CanBeAnswered task bytes =

@@ -1,8 +1,9 @@
 //! A task done with each message of a stream.
-ghost use Rattle.std.specs.Prelude.{◌≡◌, ◌⊎◌, ◌&&◌, ℕ, false, Ok, None, OnOk, IfOk, IfErr, IfSome};
+ghost use Rattle.std.specs.Prelude.{◌≡◌, ◌⊎◌, ◌&&◌, ℕ, false, true, Ok, None, OnOk, IfOk, IfErr, IfSome};
 ghost use Rattle.std.specs.Io.KnownBytes.{IsAtEnd};
+ghost use Rattle.capnp_framing.specs.declared.framing.frame_error.FrameError.TheVariants.{ReadFailed};
 ghost use Rattle.capnp_framing.specs.Wholeness.{KeepsWhole};
-ghost use Rattle.capnp_streams.specs.Streams.{AllAreDone, IsOneDone, IsWriteFault, StopsAt, StopsBehind, WhereAnswerable, most_words, stage_of};
+ghost use Rattle.capnp_streams.specs.Streams.{AllAreDone, IsOneDone, IsWriteFault, StopsAt, StopsBehind, TakesRefused, TakesUpToRefused, WereAnswered, WhereAnswerable, most_words, stage_of};
 
 use super::answers::{Memory, answer};
 use super::fault::Fault;
@@ -66,6 +67,10 @@ fn step<R: Input, W: Output>(
     ensures whole { OnOk result (KeepsWhole (R.ends_whole input.old) (R.ends_whole input.new)) }
     ensures reads { OnOk result (R.has_failed input.new ≡ false) }
     ensures writes { OnOk result (W.has_failed output.new ≡ false) }
+    ensures failed { IfErr result (λ e. R.has_failed input.new ≡ true
+        → e ≡ Fault.Frame ReadFailed) }
+    ensures taken { IfErr result
+        (TakesRefused task (R.remaining input.old) (R.remaining input.new)) }
     ensures refused { IfErr result (λ e. IsWriteFault W.Output output.new e
         ⊎ (((n : ℕ) → StopsAt task (R.remaining input.old) (R.has_failed input.new) n e)
         × (W.contents output.new ≡ W.contents output.old))) }
@@ -91,7 +96,8 @@ fn step<R: Input, W: Output>(
 /// refused, or the output fails. But for the last of these, the output has the answers to all
 /// messages before, and nothing of that one. Of a stream of frames whose messages all have an
 /// answer within the limits, only want of memory or a device is a refusal. Memory is taken for one
-/// message at a time, and none for one that is no larger than those before.
+/// message at a time, and none for one that is no larger than those before. Behind a message that
+/// is refused nothing is taken of the input.
 pub fn run<R: Input, W: Output>(
     alloc: Global,
     task: Task,
@@ -110,6 +116,12 @@ pub fn run<R: Input, W: Output>(
     ensures whole { OnOk result (KeepsWhole (R.ends_whole input.old) (R.ends_whole input.new)) }
     ensures reads { OnOk result (R.has_failed input.new ≡ false) }
     ensures works { OnOk result (W.has_failed output.new ≡ false) }
+    ensures failed { IfErr result (λ s. R.has_failed input.new ≡ true
+        → s.fault ≡ Fault.Frame ReadFailed) }
+    ensures taken { IfErr result
+        (TakesUpToRefused task (R.remaining input.old) (R.remaining input.new)) }
+    ensures answered { IfErr result (λ s. WereAnswered task
+        (stage_of R.Input W.Output input.old output.old) s.answered) }
 {
     let mut segments = OwnedSegments::new(alloc);
     let mut memory = Memory::new(alloc);

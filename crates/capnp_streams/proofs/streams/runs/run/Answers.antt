@@ -1,7 +1,7 @@
-use Rattle.std.proofs.Common.{rules}
+use Rattle.std.proofs.Common.{◌≡◌, ◌-◌, ◌^◌, rules}
 use Rattle.capnp_framing.proofs.WholenessLemmas.{keeps_whole, keeps_whole_both}
 use Rattle.capnp_streams.proofs.AnsweredLemmas.{step_answerable, stops_behind}
-use Rattle.capnp_streams.proofs.StreamLemmas.{none_done, one_more_done}
+use Rattle.capnp_streams.proofs.StreamLemmas.{none_done, one_more_done, refused_taken}
 use Rattle.capnp_streams.proofs.streams.runs.run.Goals as goal
 
 pub loop-number-init : goal.loop-number-init
@@ -25,5 +25,16 @@ loop-number-preserved g c =
 pub returns-in-Err-clause-refused : goal.returns-in-Err-clause-refused
 returns-in-Err-clause-refused g c = stops_behind _ _ _ _ _ c.in-Err.fault c.loop-number.invariant.done c.in-Err.ensures.refused
 
+pub returns-in-Err-clause-taken : goal.returns-in-Err-clause-taken
+returns-in-Err-clause-taken g c = refused_taken _ c.in-Err.fault c.loop-number.invariant.done c.in-Err.ensures.taken
+
+pub returns-in-Err-clause-answered : goal.returns-in-Err-clause-answered
+returns-in-Err-clause-answered g c = (_, c.loop-number.holds, c.loop-number.invariant.done)
+
 pub returns-in-Err-clause-exactly : goal.returns-in-Err-clause-exactly
 returns-in-Err-clause-exactly g c = step_answerable _ _ _ _ c.in-Err.fault c.loop-number.invariant.done c.in-Err.ensures.refused
+
+pub returns-clause-answered : goal.returns-clause-answered
+returns-clause-answered g c =
+    let every : c.loop-number.number ≡ 2 ^ 64 - 1 = search rules in
+    (_, c.loop-number.holds, rw every at c.loop-number.invariant.done)
