@@ -42,3 +42,4 @@ pub mod Growth
 pub mod BudgetRoom
 pub mod NoRoom
 pub mod ObjectsMade
+pub mod WordsInside

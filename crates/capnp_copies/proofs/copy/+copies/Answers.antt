@@ -1,4 +1,4 @@
-use Rattle.std.proofs.Common.{◌≡◌, ◌≢◌, inl, ℕ, ◌+◌, ◌*◌, ◌<◌, ◌≤◌, ◌^◌, length, get_or, refl, ap, ap₂, sym, ◌∙◌, arith, rules, take, subst, le_antisymm, le_refl, lt_of_le_of_lt}
+use Rattle.std.proofs.Common.{◌≡◌, ◌≢◌, inl, ℕ, ◌+◌, ◌*◌, ◌<◌, ◌≤◌, ◌^◌, length, get_or, refl, ap, ap₂, sym, ◌∙◌, rules, take, subst, le_antisymm, le_refl, lt_of_le_of_lt}
 use Rattle.std.proofs.lemmas.Int.{to_z-of_z}
 use Rattle.std.proofs.lemmas.Bool.{false≢true}
 use mir.Syntax.{w32}
@@ -22,7 +22,6 @@ use Rattle.capnp_readers.specs.Readers.{reading}
 use Rattle.capnp_readers.proofs.Checks.{struct_room}
 use Rattle.capnp_readers.proofs.NearRead.{struct_by_word}
 use Rattle.capnp_readers.proofs.Walking.{ok_so, err_so, one_level_in}
-use Rattle.capnp_objects.proofs.Walked.{row_within}
 use Rattle.std.proofs.lemmas.Result.{err_from_is_err_and}
 use Rattle.capnp_arena.specs.View.{View}
 use Rattle.capnp_copies.specs.Changes.{HasNulls}
@@ -42,62 +41,8 @@ use Rattle.capnp_copies.proofs.KeptForms.{SourceKept, SectionsCut}
 use Rattle.capnp_copies.proofs.Originals.{halfway, sections_large, pointers_large, structs_large}
 use Rattle.capnp_copies.proofs.TightElements.{all_rows}
 use Rattle.capnp_copies.proofs.TooLarge.{no_pointers_room, no_structs_room, no_sections_room}
+use Rattle.capnp_copies.proofs.WordsInside.{child_there, part_inside, behind_inside, rows_inside, one_more, some_more, some_words, fewer_words, first_fits, row_fits, product_fits, kept_fits, child_fits, null_fits, children_fit, kept_starts}
 use Rattle.capnp_copies.proofs.copy.+copies.Goals as goal
-
--- What lies within so many words lies within the segment, over plain numbers.
-child_there : (p n i : ℕ) {l m : ℕ} → p + n ≤ l → i < n → l ≤ m → p + i < m
-child_there p n i room less more = omega arith
-
-part_inside : (p k d q : ℕ) {l : ℕ} → p + (d + q) ≤ l → k ≤ d → p + k ≤ l
-part_inside p k d q room less = omega arith
-
-behind_inside : (p d q : ℕ) {l : ℕ} → p + (d + q) ≤ l → p + d + q ≤ l
-behind_inside p d q room = omega arith
-
-rows_inside : (p n : ℕ) {l : ℕ} → p + (1 + n) ≤ l → p + 1 + n ≤ l
-rows_inside p n room = omega arith
-
-one_more : {m n : ℕ} → m ≤ n → 1 + m ≤ 1 + n
-one_more less = omega arith
-
-some_more : (n : ℕ) → 0 < 1 + n
-some_more n = omega arith
-
-some_words : {k n : ℕ} → k ≡ n → k ≢ 0 → 0 < n
-some_words same some = omega (arith, same, some)
-
-fewer_words : {a b c d n : ℕ} → a ≤ c → b ≤ d → n ≡ c → a + b ≤ n + d
-fewer_words less fewer long = omega arith
-
-first_fits : (p d q : ℕ) {f l r : ℕ} → p + (d + q) ≤ l → l ≤ r → r < 2 ^ 29 → f ≡ d → p + f < 2 ^ 32
-first_fits p d q room within small same = omega arith
-
--- and where each row of n rows of w words starts
-row_fits : (p w i n : ℕ) {t l b : ℕ} → p + n * w ≤ l → i < n → t ≡ w → b ≡ 8 * l → b < 8 * 2 ^ 32 →
-    p + i * t < 2 ^ 32
-row_fits p w i n {t} room less same bytes small =
-    let whole : i * t ≡ i * w = ap (λ k. i * k) same in omega (arith, row_within i n w less, whole)
-
-product_fits : (p i t : ℕ) → p + i * t < 2 ^ 32 → i * t < 2 ^ 32
-product_fits p i t small = omega arith
-
-kept_fits : (p w i n : ℕ) {t l r : ℕ} → p + n * w ≤ l → i < n → t ≡ w → l ≤ r → r < 2 ^ 29 → i * t < 2 ^ 32
-kept_fits p w i n {t} room less same within small =
-    let whole : i * t ≡ i * w = ap (λ k. i * k) same in omega (arith, row_within i n w less, whole)
-
-child_fits : (p n i : ℕ) {l b : ℕ} → p + n ≤ l → i < n → b ≡ 8 * l → b < 8 * 2 ^ 32 → p + i < 2 ^ 32
-child_fits p n i room less bytes small = omega arith
-
-null_fits : (p n i : ℕ) {l r : ℕ} → p + n ≤ l → i < n → l ≤ r → r < 2 ^ 29 → p + i < 2 ^ 32
-null_fits p n i room less within small = omega arith
-
-children_fit : (p d q : ℕ) {f l b : ℕ} → p + (d + q) ≤ l → f ≡ d → b ≡ 8 * l → b < 8 * 2 ^ 32 → p + f < 2 ^ 32
-children_fit p d q room same bytes small = omega arith
-
-kept_starts : (p w i n : ℕ) {t l r : ℕ} → p + n * w ≤ l → i < n → t ≡ w → l ≤ r → r < 2 ^ 29 →
-    p + i * t < 2 ^ 32
-kept_starts p w i n {t} room less same within small =
-    let whole : i * t ≡ i * w = ap (λ k. i * k) same in omega (arith, row_within i n w less, whole)
 
 -- Positions fit 32 bits.
 
@@ -367,8 +312,7 @@ copy_object-returns-in-Flat-clause-copied g t c =
     record {
       copied = c.copy_flat.ensures.copied;
       granted = c.copy_flat.ensures.granted;
-      refused =
-          c.copy_flat.ensures.refused;
+      refused = c.copy_flat.ensures.refused;
       kept = c.copy_flat.ensures.kept;
       memory = c.copy_flat.ensures.memory;
       stands = c.copy_flat.ensures.stands;
@@ -386,8 +330,7 @@ copy_object-returns-in-Flat-clause-refused g t c =
     record {
       copied = c.copy_flat.ensures.copied;
       granted = c.copy_flat.ensures.granted;
-      refused =
-          c.copy_flat.ensures.refused;
+      refused = c.copy_flat.ensures.refused;
       kept = c.copy_flat.ensures.kept;
       memory = c.copy_flat.ensures.memory;
       stands = c.copy_flat.ensures.stands;
@@ -438,14 +381,14 @@ copy_object-returns-in-Structs-clause-refused g t c =
     let less = one_level_in c.args.from.nesting_limit (search rules) in
     err_so c.copy_structs.result c.copy_structs.ensures.refused (λ k stop. structs_value_stops c.in-Structs.start less object (rw c.in-Structs.is at c.in_ok-object.ensures.few) stop)
 
--- The elements of a list of structs.
-
 pub copy_object-returns-in-Structs-clause-taken : goal.copy_object-returns-in-Structs-clause-taken
 copy_object-returns-in-Structs-clause-taken g t c =
     let nl = to_z-of_z w32 c.args.from.nesting_limit (search rules) in
     let less = one_level_in c.args.from.nesting_limit (search rules) in
     let object = rw (c.in-Structs.is, nl) at c.in_ok-object.ensures.object in
     taken_so c.copy_structs.result _ _ _ _ (λ x. structs_take c.in-Structs.start less object x) (λ x. structs_stop_take c.in-Structs.start less object x) c.copy_structs.ensures.taken
+
+-- The elements of a list of structs.
 
 pub elements::copy_element-returns-clause-copied : goal.elements::copy_element-returns-clause-copied
 elements::copy_element-returns-clause-copied g t c =
@@ -459,8 +402,7 @@ elements::copy_element-returns-clause-copied g t c =
           c.args.sizes.source.data_words c.args.sizes.source.pointers c.requires.inside c.requires.less_data;
       room = part_inside c.args.to.at c.args.sizes.kept.data_words c.args.sizes.kept.data_words
           c.args.sizes.kept.pointers c.requires.room (le_refl _);
-      writes = rw section at
-          c.put_words.ensures.words;
+      writes = rw section at c.put_words.ensures.words;
     } in
     ok_so c.copy_in_line.result c.copy_in_line.ensures.copied (λ x made. element_copied put (rw (c.from.ensures, c.from-2.ensures, c.from-pointers.ensures, nl) at made))
 
@@ -476,8 +418,7 @@ elements::copy_element-returns-clause-refused g t c =
           c.args.sizes.source.data_words c.args.sizes.source.pointers c.requires.inside c.requires.less_data;
       room = part_inside c.args.to.at c.args.sizes.kept.data_words c.args.sizes.kept.data_words
           c.args.sizes.kept.pointers c.requires.room (le_refl _);
-      writes = rw section at
-          c.put_words.ensures.words;
+      writes = rw section at c.put_words.ensures.words;
     } in
     err_so c.copy_in_line.result c.copy_in_line.ensures.refused (λ k stop. element_stops put (rw (c.from.ensures, c.from-2.ensures, c.from-pointers.ensures, nl) at stop))
 
@@ -583,8 +524,8 @@ elements::copy_elements-returns-in_err-copy_element-clause-taken g t c =
     rw p.1 (row_stop_taken fits c.loop-i-test.true c.loop-i.invariant.1 (rw (c.total-source_words.ensures, nl) at c.in_err-copy_element.ensures.taken))
 
 pub elements::copy_elements-returns-clause-copied : goal.elements::copy_elements-returns-clause-copied
-elements::copy_elements-returns-clause-copied g t c = all_rows c.loop-i-test.false c.loop-i.auto.i-end
-    c.loop-i.invariant.0
+elements::copy_elements-returns-clause-copied g t c =
+    all_rows c.loop-i-test.false c.loop-i.auto.i-end c.loop-i.invariant.0
 
 pub elements::copy_elements-returns-clause-taken : goal.elements::copy_elements-returns-clause-taken
 elements::copy_elements-returns-clause-taken g t c = rows_taken c.args.sizes (le_antisymm
@@ -634,12 +575,12 @@ lists::copy_pointers-returns-in_err-start-clause-refused g t c =
     let p = err_from_is_err_and c.from_residual.result c.from_residual.ensures.1 in
     rw (p.1, p.2) (halfway (inl (inl (c.args.count, refl, refl, (none.0, no_own_room (g.A.BuilderArena.view c.args.arena.now) c.args.id c.args.count full)), pointers_large (form_in c.args.form) (reading g.B.ReaderArena c.args.from) c.args.count (length (segment (g.A.BuilderArena.view c.args.arena.now).words c.args.id)) ((g.A.BuilderArena.view c.args.arena.now).room c.args.id) (no_pointers_room (form_in c.args.form) (reading g.B.ReaderArena c.args.from) c.args.count c.args.id (g.A.BuilderArena.view c.args.arena.now) full))) none.1)
 
--- Lists of structs.
-
 pub lists::copy_pointers-returns-in_err-start-clause-taken : goal.lists::copy_pointers-returns-in_err-start-clause-taken
 lists::copy_pointers-returns-in_err-start-clause-taken g t c =
     let p = err_from_is_err_and c.from_residual.result c.from_residual.ensures.1 in
     rw p.1 (inl (refl, made_none (none_refused (g.A.BuilderArena.view c.args.arena.now) (g.A.BuilderArena.view c.make_list.new.arena) c.args.count c.in_err-start.field-0.0 c.in_err-start.ensures.memory.named c.in_err-start.ensures.refused)))
+
+-- Lists of structs.
 
 pub lists::copy_structs-copy_elements-requires : goal.lists::copy_structs-copy_elements-requires
 lists::copy_structs-copy_elements-requires g t c κs within =
@@ -648,9 +589,8 @@ lists::copy_structs-copy_elements-requires g t c κs within =
     let S : Segments = (g.A.BuilderArena.view c.args.arena.now).words in
     let M : Segments = (g.A.BuilderArena.view c.make_struct_list.new.arena).words in
     let begun : IsBegun S M c.args.id c.args.at (1 + c.args.count * (least.data_words + least.pointers)) c.in_ok-list.list (zero_structs c.args.count least) = record { made = c.in_ok-list.ensures.made; start = c.in_ok-list.ensures.start.leads; inside = c.in_ok-list.ensures.start.inside } in
-    let ROOM : c.in_ok-list.list.at + 1 + c.args.count * (least.data_words + least.pointers) ≤ length
-    (segment M c.in_ok-list.list.segment) = rows_inside c.in_ok-list.list.at (c.args.count *
-    (least.data_words + least.pointers)) begun.inside.1 in
+    let ROOM : c.in_ok-list.list.at + 1 + c.args.count * (least.data_words + least.pointers) ≤ length (segment M c.in_ok-list.list.segment) =
+    rows_inside c.in_ok-list.list.at (c.args.count * (least.data_words + least.pointers)) begun.inside.1 in
     let ZERO : (i : ℕ) → i < c.args.count * (least.data_words + least.pointers) → word_at M c.in_ok-list.list.segment (c.in_ok-list.list.at + 1 + i) ≡ 0 = structs_ready S M c.args.id c.args.at least.data_words least.pointers c.args.count c.in_ok-list.list begun in
     let POINTERS : KeepsPointers (form_in c.args.form) from (record { source = c.args.size; kept = least }) c.args.count = widths_keep (form_in c.args.form) from (record { source = c.args.size; kept = least }) c.args.count c.kept_widths-kept.ensures.kept in
     search rules
@@ -671,11 +611,9 @@ lists::copy_structs-returns-clause-refused g t c =
     err_so c.copy_elements.result c.copy_elements.ensures.refused (λ k stop. structs_stop c.requires.inside
     c.kept_widths-kept.ensures.kept begun (record {
       place = c.requires.place;
-      memory =
-          c.in_ok-list.ensures.memory.granted;
+      memory = c.in_ok-list.ensures.memory.granted;
       taken = c.in_ok-list.ensures.memory.taken;
-      behind =
-          c.in_ok-list.ensures.start.behind;
+      behind = c.in_ok-list.ensures.start.behind;
       near = c.in_ok-list.ensures.near;
     }) (one_more less) stop)
 
@@ -685,22 +623,16 @@ lists::copy_structs-returns-clause-taken g t c =
     let less = no_wider c.args.count least.data_words least.pointers c.args.size.data_words c.args.size.pointers c.kept_widths-kept.ensures.less_data c.kept_widths-kept.ensures.less_pointers in
     let begun : Begins c.args.id c.in_ok-list.list.segment (1 + c.args.count * (least.data_words + least.pointers)) (g.A.BuilderArena.view c.args.arena.now) (g.A.BuilderArena.view c.make_struct_list.new.arena) =
     record {
-      there = there (g.A.BuilderArena.view c.args.arena.now).words c.args.id c.args.at
-          c.requires.place;
+      there = there (g.A.BuilderArena.view c.args.arena.now).words c.args.id c.args.at c.requires.place;
       taken = c.in_ok-list.ensures.memory.taken;
-      memory =
-          c.in_ok-list.ensures.memory.granted;
-      near = λ room. (c.in_ok-list.ensures.start.behind.near
-          (some_more _) room).0;
+      memory = c.in_ok-list.ensures.memory.granted;
+      near = λ room. (c.in_ok-list.ensures.start.behind.near (some_more _) room).0;
       far = λ full. (c.in_ok-list.ensures.start.behind.far full).0;
     } in
-    taken_so c.copy_elements.result _ _ _ _ (λ x. structs_behind _ (record {
-      source = c.args.size;
-      kept =
-          c.kept_widths-kept.result;
-    }) _ _ _ _ _ _ _ _ _ _ begun (one_more less) x) (λ x. structs_stop_behind
-    _ (record { source = c.args.size; kept = c.kept_widths-kept.result }) _ _ _ _ _ _ _ _ _ _ begun
-    (one_more less) x) c.copy_elements.ensures.taken
+    taken_so c.copy_elements.result _ _ _ _
+    (λ x. structs_behind _ (record { source = c.args.size; kept = c.kept_widths-kept.result }) _ _ _ _ _ _ _ _ _ _ begun (one_more less) x)
+    (λ x. structs_stop_behind _ (record { source = c.args.size; kept = c.kept_widths-kept.result }) _ _ _ _ _ _ _ _ _ _ begun (one_more less) x)
+    c.copy_elements.ensures.taken
 
 pub lists::copy_structs-returns-in_err-list-clause-refused : goal.lists::copy_structs-returns-in_err-list-clause-refused
 lists::copy_structs-returns-in_err-list-clause-refused g t c =
@@ -709,16 +641,15 @@ lists::copy_structs-returns-in_err-list-clause-refused g t c =
     let none = nothing_made (form_in c.args.form) c.args.id c.args.at (1 + c.args.count * (least.data_words + least.pointers)) (g.A.BuilderArena.view c.args.arena.now) (g.A.BuilderArena.view c.make_struct_list.new.arena) c.args.lim.now c.args.lim.now c.in_err-list.field-0.0 c.requires.place c.requires.null
     c.in_err-list.ensures.memory.named c.in_err-list.ensures.refused full in
     let p = err_from_is_err_and c.from_residual.result c.from_residual.ensures.1 in
-    rw (p.1, p.2) (halfway (inl (inl (1 + c.args.count * (least.data_words + least.pointers), refl, ap (structs_words c.args.count) c.kept_widths-kept.ensures.kept, (none.0, no_own_room (g.A.BuilderArena.view c.args.arena.now) c.args.id (1 + c.args.count * (least.data_words + least.pointers)) full)), structs_large (form_in c.args.form) (reading g.B.ReaderArena c.args.from) c.args.size c.args.count (length (segment (g.A.BuilderArena.view c.args.arena.now).words c.args.id)) ((g.A.BuilderArena.view c.args.arena.now).room c.args.id) (no_structs_room (reading g.B.ReaderArena c.args.from) c.args.size least c.args.count c.args.id (g.A.BuilderArena.view c.args.arena.now) (form_in c.args.form) c.requires.inside c.kept_widths-kept.ensures.kept full)))
-    none.1)
-
--- Structs.
+    rw (p.1, p.2) (halfway (inl (inl (1 + c.args.count * (least.data_words + least.pointers), refl, ap (structs_words c.args.count) c.kept_widths-kept.ensures.kept, (none.0, no_own_room (g.A.BuilderArena.view c.args.arena.now) c.args.id (1 + c.args.count * (least.data_words + least.pointers)) full)), structs_large (form_in c.args.form) (reading g.B.ReaderArena c.args.from) c.args.size c.args.count (length (segment (g.A.BuilderArena.view c.args.arena.now).words c.args.id)) ((g.A.BuilderArena.view c.args.arena.now).room c.args.id) (no_structs_room (reading g.B.ReaderArena c.args.from) c.args.size least c.args.count c.args.id (g.A.BuilderArena.view c.args.arena.now) (form_in c.args.form) c.requires.inside c.kept_widths-kept.ensures.kept full))) none.1)
 
 pub lists::copy_structs-returns-in_err-list-clause-taken : goal.lists::copy_structs-returns-in_err-list-clause-taken
 lists::copy_structs-returns-in_err-list-clause-taken g t c =
     let least = c.kept_widths-kept.result in
     let p = err_from_is_err_and c.from_residual.result c.from_residual.ensures.1 in
     rw p.1 (inl (refl, made_none (none_refused (g.A.BuilderArena.view c.args.arena.now) (g.A.BuilderArena.view c.make_struct_list.new.arena) (1 + c.args.count * (least.data_words + least.pointers)) c.in_err-list.field-0.0 c.in_err-list.ensures.memory.named c.in_err-list.ensures.refused)))
+
+-- Structs.
 
 pub structs::copy_struct-returns-in_err-start-clause-refused : goal.structs::copy_struct-returns-in_err-start-clause-refused
 structs::copy_struct-returns-in_err-start-clause-refused g t c =
@@ -731,8 +662,7 @@ structs::copy_struct-returns-in_err-start-clause-refused g t c =
     c.args.size.data_words) c.args.size.pointers least = record {
       inside = behind_inside
           c.args.from.place.at c.args.size.data_words c.args.size.pointers c.requires.inside;
-      of_data =
-          c.kept_sections-kept.ensures.data;
+      of_data = c.kept_sections-kept.ensures.data;
       of_pointers = c.kept_sections-kept.ensures.pointers;
     } in
     let makes = ap₂ (λ i j. i + j) cut.of_data cut.of_pointers in
@@ -741,8 +671,7 @@ structs::copy_struct-returns-in_err-start-clause-refused g t c =
       inl (least.data_words + least.pointers, refl, makes, (none.0, no_own_room (g.A.BuilderArena.view c.args.arena.now) c.args.id (least.data_words + least.pointers) full)),
       sections_large (form_in c.args.form) (words_from r c.args.size.data_words) (behind r c.args.size.data_words) c.args.size.pointers (length (segment (g.A.BuilderArena.view c.args.arena.now).words c.args.id)) ((g.A.BuilderArena.view c.args.arena.now).room c.args.id)
           (no_sections_room c.args.id (g.A.BuilderArena.view c.args.arena.now) (form_in c.args.form) cut full),
-    ))
-    none.1)
+    )) none.1)
 
 pub structs::copy_struct-returns-in_err-start-clause-taken : goal.structs::copy_struct-returns-in_err-start-clause-taken
 structs::copy_struct-returns-in_err-start-clause-taken g t c =
@@ -763,8 +692,7 @@ structs::copy_struct-returns-clause-copied g t c =
         inside = behind_inside c.args.from.place.at c.args.size.data_words c.args.size.pointers
             c.requires.inside;
         of_data = c.kept_sections-kept.ensures.data;
-        of_pointers =
-            c.kept_sections-kept.ensures.pointers;
+        of_pointers = c.kept_sections-kept.ensures.pointers;
       };
       begun = record { made = c.in_ok-start.ensures.made; start = c.in_ok-start.ensures.start.leads; inside = c.in_ok-start.ensures.start.inside };
       memory = c.in_ok-start.ensures.memory.granted;
@@ -791,8 +719,7 @@ structs::copy_struct-returns-clause-refused g t c =
         inside = behind_inside c.args.from.place.at c.args.size.data_words c.args.size.pointers
             c.requires.inside;
         of_data = c.kept_sections-kept.ensures.data;
-        of_pointers =
-            c.kept_sections-kept.ensures.pointers;
+        of_pointers = c.kept_sections-kept.ensures.pointers;
       };
       begun = record { made = c.in_ok-start.ensures.made; start = c.in_ok-start.ensures.start.leads; inside = c.in_ok-start.ensures.start.inside };
       memory = c.in_ok-start.ensures.memory.granted;
@@ -819,8 +746,7 @@ structs::copy_struct-returns-clause-taken g t c =
     c.args.size.data_words) c.args.size.pointers least = record {
       inside = behind_inside
           c.args.from.place.at c.args.size.data_words c.args.size.pointers c.requires.inside;
-      of_data =
-          c.kept_sections-kept.ensures.data;
+      of_data = c.kept_sections-kept.ensures.data;
       of_pointers = c.kept_sections-kept.ensures.pointers;
     } in
     let long = length_words r.segments r.segment r.at c.args.size.data_words (part_inside
@@ -847,8 +773,7 @@ structs::copy_struct-copy_children-requires g t c κs within =
         inside = behind_inside c.args.from.place.at c.args.size.data_words c.args.size.pointers
             c.requires.inside;
         of_data = c.kept_sections-kept.ensures.data;
-        of_pointers =
-            c.kept_sections-kept.ensures.pointers;
+        of_pointers = c.kept_sections-kept.ensures.pointers;
       };
       begun = record { made = c.in_ok-start.ensures.made; start = c.in_ok-start.ensures.start.leads; inside = c.in_ok-start.ensures.start.inside };
       memory = c.in_ok-start.ensures.memory.granted;
