@@ -4,9 +4,10 @@ started took in the line before that one, and how many times the first proof of 
 
     minutes.py CRATE COMMAND WORD..
 
-The crate, which stands on no other one of the repository, is proved from nothing before, in a folder of its own: as its
-minutes are taken on the same machine and right before, the ratio says more than the minutes. The exit status is the
-command's own. Where the command ends without such a line, the last line is `0 passed, 1 failed`."""
+The crate, which stands on no other one of the repository, is proved from nothing right before and right after, in a
+folder of its own: as its minutes are taken on the same machine, the ratio says more than the minutes. Both are printed,
+since one first proof has taken a third more than another one within the hour, on a machine that did nothing else. The
+exit status is the command's own. Where the command ends without such a line, the last line is `0 passed, 1 failed`."""
 import pathlib
 import re
 import resource
@@ -40,11 +41,16 @@ def first_proof(crate):
         return None if run.returncode else minutes() - before
 
 
+def times(used, one, when):
+    """How many times a first proof that is, as text."""
+    return f'{used / one:.1f} times the one {when} ({one:.3f})' if one else f'not proved {when}'
+
+
 def main():
     # as it came, whatever the locale
     sys.stdout.reconfigure(encoding='utf-8', errors='surrogateescape')
     crate, *command = sys.argv[1:]
-    one = first_proof(crate)
+    first = first_proof(crate)
     before, held = minutes(), ''
     with subprocess.Popen(command, stdout=subprocess.PIPE, encoding='utf-8', errors='surrogateescape') as run:
         for line in run.stdout:
@@ -52,8 +58,8 @@ def main():
             held, shown = (line, held) if COUNTS.fullmatch(line) else ('', held + line)
             print(shown, end='', flush=True)
     used = minutes() - before
-    times = f'{used / one:.1f} times the first proof of {crate} ({one:.3f})' if one else f'{crate} alone was not proved'
-    print(f'processor minutes: {used:.1f}; {times}')
+    told = times(used, first, 'before'), times(used, first_proof(crate), 'after')
+    print(f'processor minutes: {used:.1f}; first proofs of {crate}: {", ".join(told)}')
     print(held or '0 passed, 1 failed\n', end='')
     return (run.returncode if run.returncode >= 0 else 128 - run.returncode) or int(not held)
 
