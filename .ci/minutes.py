@@ -6,8 +6,8 @@ started took in the line before that one, and how many times the first proof of 
 
 The crate, which stands on no other one of the repository, is proved from nothing right before and right after, in a
 folder of its own: as its minutes are taken on the same machine, the ratio says more than the minutes. Both are printed,
-since one first proof has taken a third more than another one within the hour, on a machine that did nothing else. The
-exit status is the command's own. Where the command ends without such a line, the last line is `0 passed, 1 failed`."""
+since one first proof has taken half as much again as another one two hours before, on a machine that did nothing else.
+The exit status is the command's own. Where the command ends without such a line, the last line is `0 passed, 1 failed`."""
 import pathlib
 import re
 import resource
