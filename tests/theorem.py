@@ -27,7 +27,7 @@ FIRST = ('canonical_copy', 'canonical_copy_in_room', 'canonical_test')
 SECOND = ('edited_tree',)
 # The files of the definitions, in the order in which one reads them; those that aren't named come at the end.
 ORDER = (
-    'callers/Copied', 'capnp_streams/Messages', 'capnp_layout/CanonicalMessages', 'capnp_layout/Answers', 'capnp_words/Meter', 'capnp_objects/Source',
+    'capnp_messages/Messages', 'capnp_messages/CanonicalMessages', 'capnp_messages/Roots', 'capnp_words/Meter', 'capnp_objects/Source',
     'capnp_arena/Limits', 'capnp_arena/Allocations', 'capnp_format/Tree', 'capnp_format/Value', 'capnp_format/Bytes', 'capnp_format/Means',
     'capnp_format/Segments', 'capnp_format/Word', 'capnp_format/Numbers', 'capnp_format/Canonical',
     'capnp_edits/Edits', 'capnp_format/Forest', 'capnp_edits/Paths', 'capnp_edits/Tasks', 'capnp_edits/Sources', 'capnp_making/Path', 'capnp_making/Stored',

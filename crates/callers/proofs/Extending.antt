@@ -2,8 +2,8 @@
 use Rattle.std.proofs.Common.{◌≡◌, ℕ, zero, suc, ◌+◌, ◌<◌, List, [], ◌∷◌, ◌++◌, length, replicate, slice_set, refl, ap, ◌∙◌, arith}
 use Rattle.std.proofs.lemmas.List.{append_assoc, length-append}
 use Rattle.capnp_format.specs.Segments.{Segments, segment}
-use Rattle.capnp_arena.specs.Written.{extended, with_word}
-use Rattle.capnp_arena.proofs.MessageLemmas.{length-message}
+use Rattle.capnp_arena_traits.specs.Written.{extended, with_word}
+use Rattle.capnp_arena_traits.proofs.MessageLemmas.{length-message}
 
 set_last : (xs : List ℕ) (old x : ℕ) → slice_set (xs ++ old ∷ []) (length xs) x ≡ xs ++ x ∷ []
 set_last [] old x = refl

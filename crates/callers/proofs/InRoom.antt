@@ -4,16 +4,16 @@ use Rattle.capnp_words.specs.Meter.{Meter, unused}
 use Rattle.capnp_format.specs.Segments.{Segments, segment}
 use Rattle.capnp_format.specs.Canonical.{trim, word_count}
 use Rattle.capnp_format.specs.Tree.{Tree}
-use Rattle.capnp_arena.specs.View.{View}
+use Rattle.capnp_arena_traits.specs.View.{View}
 use Rattle.capnp_arena.specs.declared.arena.reader_arena_impl.ReaderOptions.{ReaderOptions}
 use Rattle.capnp_objects.specs.Reading.{Reading}
 use Rattle.capnp_objects.specs.Spending.{pointers_in, after as left_after}
 use Rattle.capnp_objects.specs.Wanted.{canonical}
 use Rattle.capnp_copies.specs.Originals.{value_original}
 use Rattle.capnp_copies.specs.Rooms.{CanBeCopied}
-use Rattle.capnp_layout.proofs.RunLemmas.{covers_rest}
-use Rattle.capnp_streams.specs.Messages.{IsValueOf, left_of, root_within}
-use Rattle.capnp_streams.proofs.MessageLemmas.{AtRoot}
+use Rattle.capnp_messages.proofs.CanonLemmas.{covers_rest}
+use Rattle.capnp_messages.specs.Messages.{IsValueOf, left_of, root_within}
+use Rattle.capnp_messages.proofs.MessageLemmas.{AtRoot}
 
 pub fits_there : {S : Segments} {limits : ReaderOptions} {r : Reading} {m : Meter} (v : View) → AtRoot S limits r m →
     v.words ≡ (0 ∷ []) ∷ [] → (t : Tree) → IsValueOf S limits t → 1 + word_count (trim t) ≤ v.room 0 →

@@ -1,6 +1,6 @@
 -- What a caller knows of an object that was made where there was room for it.
 use Rattle.std.specs.Prelude.{ℕ, ◌≡◌, ◌+◌, length}
-use Rattle.capnp_arena.specs.View.{View}
+use Rattle.capnp_arena_traits.specs.View.{View}
 use Rattle.capnp_format.specs.Segments.{segment}
 use Rattle.capnp_readers.specs.declared.readers.struct_reader.StructPlace.{StructPlace}
 

@@ -5,8 +5,8 @@ ghost use Rattle.capnp_format.specs.Bytes.{message};
 ghost use Rattle.capnp_format.specs.Segments.{segment};
 ghost use Rattle.capnp_words.specs.Meter.{Affords, charged};
 ghost use Rattle.capnp_words.specs.declared.error.ErrorKind.TheVariants.{ReadLimitExceeded};
-ghost use Rattle.capnp_arena.specs.Checks.{Holds, misplaced};
-ghost use Rattle.capnp_arena.specs.Written.{with_more, with_segment, with_word};
+ghost use Rattle.capnp_arena_traits.specs.Checks.{Holds, misplaced};
+ghost use Rattle.capnp_arena_traits.specs.Written.{with_more, with_segment, with_word};
 
 use capnp_arena::arena::{BuilderArena, ReaderArena};
 use capnp_words::error::ErrorKind;

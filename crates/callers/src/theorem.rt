@@ -7,14 +7,13 @@ ghost use Rattle.capnp_format.specs.Canonical.{encoding, trim, word_count};
 ghost use Rattle.capnp_words.specs.Meter.{spent};
 ghost use Rattle.capnp_objects.specs.Source.{levels};
 ghost use Rattle.capnp_readers.specs.Readers.{reading};
-ghost use Rattle.capnp_layout.specs.Answers.{CoversRoot, message_root};
+ghost use Rattle.capnp_messages.specs.Roots.{CoversRoot, message_root};
 ghost use Rattle.capnp_format.specs.Tree.{Tree};
-ghost use Rattle.capnp_arena.specs.Allocations.{one_more};
-ghost use Rattle.capnp_arena.specs.Limits.{IsSmall};
+ghost use Rattle.capnp_arena_traits.specs.Allocations.{one_more};
+ghost use Rattle.capnp_arena_traits.specs.Limits.{IsSmall};
 ghost use Rattle.capnp_edits.specs.Edits.{IsApplied, TakesAll};
-ghost use Rattle.capnp_layout.specs.CanonicalMessages.{IsCanonicalMessage};
-ghost use Rattle.capnp_streams.specs.Messages.{IsReadable, IsValueOf};
-ghost use Rattle.callers.specs.Copied.{HasCanonicalCopy};
+ghost use Rattle.capnp_messages.specs.CanonicalMessages.{IsCanonicalMessage};
+ghost use Rattle.capnp_messages.specs.Messages.{HasCanonicalCopy, IsReadable, IsValueOf};
 
 use capnp_arena::arena::{
     Allocator, BuilderArena, BuilderArenaImpl, ReaderArena, ReaderArenaImpl, ReaderOptions,
@@ -22,8 +21,8 @@ use capnp_arena::arena::{
 };
 use capnp_builders::builders::PointerBuilder;
 use capnp_edits::edit::{Edit, apply_all};
+use capnp_messages::messages::{canonical_with, is_canonical};
 use capnp_readers::readers::PointerReader;
-use capnp_streams::messages::{canonical_with, is_canonical};
 use capnp_words::error::ErrorKind;
 use capnp_words::read_limiter::ReadLimiter;
 use std::alloc::Global;

@@ -4,7 +4,7 @@ use Rattle.std.proofs.lemmas.Bool.{cases_lt}
 use Rattle.std.proofs.lemmas.List.{length-map, length-set, map-append, map-set}
 use Rattle.capnp_format.specs.Bytes.{message}
 use Rattle.capnp_format.specs.Segments.{segment}
-use Rattle.capnp_arena.specs.Allocations.{max_segment_words}
+use Rattle.capnp_arena_traits.specs.Allocations.{max_segment_words}
 use Rattle.capnp_arena.specs.Row.{capacity, capacity_at, shown}
 use Rattle.capnp_arena.specs.Lent.{each_same}
 use Rattle.capnp_arena.specs.Bounds.{IsBoundAt, IsBounded, HasBounds, HaveNoRoom, room, rooms, bounds}

@@ -1,7 +1,7 @@
 -- Rows in a list, behind which one was put, or not.
 use Rattle.std.proofs.Common.{◌≡◌, ◌<◌, ◌≤◌, List, [], ◌∷◌, length, Option, Some, None, IsNone, IfSome, ◌++◌, refl, sym, ap, arith, subst}
 use Rattle.std.proofs.lemmas.List.{length-append}
-use Rattle.capnp_arena.specs.Allocations.{max_segments, max_segment_words}
+use Rattle.capnp_arena_traits.specs.Allocations.{max_segments, max_segment_words}
 use Rattle.capnp_arena.specs.Bounds.{HasBounds}
 use Rattle.capnp_arena.specs.declared.arena.allocator.Segment.{Ghosts}
 use Rattle.capnp_arena.specs.declared.arena.row.Row.{Row}

@@ -4,15 +4,15 @@ use Rattle.capnp_format.specs.Bytes.{words_of, message}
 use Rattle.capnp_format.specs.Segments.{segment}
 use Rattle.capnp_arena.specs.Row.{allocated, capacity, capacity_at, with_first, most_others, shown}
 use Rattle.capnp_arena.specs.Bounds.{HasBounds, view_of_rows}
-use Rattle.capnp_arena.specs.Taking.{IsFirstFit, IsFull}
-use Rattle.capnp_arena.specs.Written.{extended, with_segment}
+use Rattle.capnp_arena_traits.specs.Taking.{IsFirstFit, IsFull}
+use Rattle.capnp_arena_traits.specs.Written.{extended, with_segment}
 use Rattle.capnp_arena.specs.declared.arena.allocator.Segment.{Ghosts}
 use Rattle.capnp_arena.specs.declared.arena.row.Row.{Row}
 pub use Rattle.capnp_arena.specs.Rows.{first_kept, other_kept}
 use Rattle.std.specs.Global.{Vec}
 use Rattle.std.specs.Vec.{with_items}
 use Rattle.std.proofs.lemmas.List.{with_items_is, length-append}
-use Rattle.capnp_arena.specs.Allocations.{max_segments, max_segment_words}
+use Rattle.capnp_arena_traits.specs.Allocations.{max_segments, max_segment_words}
 use Rattle.capnp_arena.proofs.BoundsLemmas.{bounded_pushed}
 use Rattle.capnp_arena.proofs.RowsLemmas.{row_words}
 

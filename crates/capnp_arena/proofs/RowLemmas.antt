@@ -9,8 +9,8 @@ use Rattle.std.proofs.lemmas.Grind.{common_steps}
 use borrow.Rule.Slice.PartMut.{put_mid}
 use Rattle.capnp_format.specs.Bytes.{words_of}
 use Rattle.capnp_format.proofs.WordsOf.{words_of-append, words_of-zeros}
-use Rattle.capnp_arena.specs.Allocations.{IsClearFrom, IsRow, max_segment_words}
-use Rattle.capnp_arena.specs.Written.{overwritten, with_copied}
+use Rattle.capnp_arena_traits.specs.Allocations.{IsClearFrom, IsRow, max_segment_words}
+use Rattle.capnp_arena_traits.specs.Written.{overwritten, with_copied}
 use Rattle.capnp_arena.specs.declared.arena.allocator.Segment.{Ghosts}
 
 -- the first words with others of that length in their place

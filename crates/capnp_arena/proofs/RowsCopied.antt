@@ -4,7 +4,7 @@ use Rattle.std.proofs.lemmas.List.{get_or_append_left, get_or-append_right}
 use Rattle.capnp_format.specs.Bytes.{words_of, message}
 use Rattle.capnp_format.specs.Segments.{segment, words_at}
 use Rattle.capnp_arena.specs.Row.{allocated, capacity, shown, capacity_at}
-use Rattle.capnp_arena.specs.Written.{with_segment, with_words, with_copied}
+use Rattle.capnp_arena_traits.specs.Written.{with_segment, with_words, with_copied}
 use Rattle.capnp_arena.specs.declared.arena.allocator.Segment.{Ghosts}
 use Rattle.capnp_arena.specs.declared.arena.row.Row.{Row}
 use Rattle.capnp_arena.specs.Bounds.{HasBounds}

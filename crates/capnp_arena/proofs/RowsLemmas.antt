@@ -4,11 +4,11 @@ use Rattle.capnp_format.specs.Bytes.{words_of, message}
 use Rattle.capnp_format.specs.Segments.{segment}
 use Rattle.capnp_format.proofs.WordsOf.{words}
 use Rattle.capnp_arena.specs.Row.{allocated, capacity, shown, capacity_at}
-use Rattle.capnp_arena.specs.Allocations.{max_segments}
-use Rattle.capnp_arena.specs.Limits.{IsSmall}
-use Rattle.capnp_arena.specs.Checks.{total_words}
-use Rattle.capnp_arena.proofs.MessageLemmas.{total-more, length-message}
-use Rattle.capnp_arena.specs.Written.{with_segment}
+use Rattle.capnp_arena_traits.specs.Allocations.{max_segments}
+use Rattle.capnp_arena_traits.specs.Limits.{IsSmall}
+use Rattle.capnp_arena_traits.specs.Checks.{total_words}
+use Rattle.capnp_arena_traits.proofs.MessageLemmas.{total-more, length-message}
+use Rattle.capnp_arena_traits.specs.Written.{with_segment}
 pub use Rattle.capnp_arena.specs.Lent.{allocated_whole, room_same}
 use Rattle.capnp_arena.specs.declared.arena.allocator.Segment.{Ghosts}
 use Rattle.capnp_arena.specs.declared.arena.row.Row.{Row}

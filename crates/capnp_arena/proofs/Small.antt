@@ -3,7 +3,7 @@ use Rattle.std.proofs.Common.{◌≡◌, ℕ, zero, suc, ◌/◌, ◌^◌, ◌<�
 use Rattle.std.proofs.lemmas.List.{length-map}
 use Rattle.std.specs.Borrow.{Bor}
 use Rattle.std.specs.List.{All}
-use Rattle.capnp_arena.specs.Limits.{AreSmall, IsSmall}
+use Rattle.capnp_arena_traits.specs.Limits.{AreSmall, IsSmall}
 
 each : (B : List (Bor (List ℕ))) → All (λ s. length s.now / 8 < 2 ^ 32) B → (k : ℕ) (s : List ℕ) → slice_get (map (λ b. b.now) B) k ≡ Some s → length s / 8 < 2 ^ 32
 each [] h k s e = absurd (cc e)

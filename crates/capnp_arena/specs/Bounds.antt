@@ -5,7 +5,7 @@ use Rattle.std.specs.Prelude.{slice_get, slice_index_or, Option, Some, None}
 use Rattle.std.specs.Global.{Vec}
 use Rattle.std.proofs.Common.{ap, refl, sym, subst}
 use Rattle.capnp_format.specs.Bytes.{message}
-use Rattle.capnp_arena.specs.View.{View, view_of}
+use Rattle.capnp_arena_traits.specs.View.{View, view_of}
 use Rattle.capnp_arena.specs.Row.{capacity, capacity_at, shown, with_allocated, with_found, with_row}
 use Rattle.capnp_arena.specs.Lent.{each_same, found_at, same_capacity}
 use Rattle.capnp_arena.specs.declared.arena.row.Row.{Row}

@@ -5,7 +5,7 @@ use Rattle.std.specs.Prelude.{slice_get, slice_set, Option, Some, None}
 use Rattle.std.proofs.Common.{zero, suc, refl, sym, ap, ◌∙◌, arith, get_or, set, take_at, length-take}
 use Rattle.std.proofs.lemmas.Grind.{common_steps}
 use Rattle.std.specs.Global.{Vec}
-use Rattle.capnp_arena.specs.Written.{with_front}
+use Rattle.capnp_arena_traits.specs.Written.{with_front}
 use Rattle.capnp_arena.specs.Row.{allocated, capacity, capacity_at, shown, with_allocated}
 use Rattle.capnp_arena.specs.Row.{with_found, with_row, length-with_front}
 use Rattle.capnp_arena.specs.declared.arena.row.Row.{Row}

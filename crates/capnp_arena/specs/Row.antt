@@ -8,8 +8,8 @@ use Rattle.std.specs.Global.{Vec}
 use Rattle.std.proofs.Common.{arith, refl, sym, ap, ◌∙◌, subst, length-take, length-set}
 use Rattle.std.proofs.lemmas.Slice.{drop-append-drop}
 use Rattle.std.proofs.lemmas.Grind.{common_steps}
-use Rattle.capnp_arena.specs.Allocations.{IsRow, max_segments}
-use Rattle.capnp_arena.specs.Written.{with_front}
+use Rattle.capnp_arena_traits.specs.Allocations.{IsRow, max_segments}
+use Rattle.capnp_arena_traits.specs.Written.{with_front}
 use Rattle.capnp_arena.specs.declared.arena.row.Row.{Row}
 use Rattle.capnp_arena.specs.declared.arena.allocator.Segment.{Ghosts}
 

@@ -3,7 +3,7 @@
 use Rattle.std.specs.Prelude.{ℕ, Bool, List, ◌≡◌, ◌/◌, ◌-◌, ◌++◌, ◌&&◌, ◌||◌, ◌==◌, length}
 use Rattle.std.specs.Prelude.{replicate, min, Option, Some, None, nat_le, nat_lt, ⊤}
 use Rattle.std.specs.Borrow.{MutBor}
-use Rattle.capnp_arena.specs.Allocations.{max_segment_words}
+use Rattle.capnp_arena_traits.specs.Allocations.{max_segment_words}
 use Rattle.capnp_arena.specs.Heap.{all_ready, with_bytes, with_bytes-as_long, with_bytes-holds}
 use Rattle.capnp_arena.specs.declared.arena.allocator.Segment.{Ghosts}
 use Rattle.capnp_arena.specs.declared.arena.heap_allocator.HeapAllocator.{HeapAllocator}

@@ -2,14 +2,12 @@
 
 mod allocator;
 mod bounds;
-mod builder_arena;
 mod builder_arena_impl;
 mod heap_allocator;
 mod listed;
 mod null_allocator;
 mod null_arena;
 mod output_segments;
-mod reader_arena;
 mod reader_arena_impl;
 mod reader_segments;
 mod row;
@@ -17,19 +15,15 @@ mod rows;
 mod scratch_allocator;
 
 pub use allocator::{Allocator, Segment};
-pub use builder_arena::BuilderArena;
 pub use builder_arena_impl::BuilderArenaImpl;
+pub use capnp_arena_traits::arena::{BuilderArena, ReaderArena, SegmentId};
 pub use heap_allocator::{HeapAllocator, HeapSegment};
 pub use null_allocator::NullAllocator;
 pub use null_arena::NullArena;
 pub use output_segments::OutputSegments;
-pub use reader_arena::ReaderArena;
 pub use reader_arena_impl::{ReaderArenaImpl, ReaderOptions};
 pub use reader_segments::{ReaderSegments, SegmentArray};
 pub use scratch_allocator::{ScratchSegment, ScratchSpaceHeapAllocator};
-
-/// The number of a segment, counted from 0.
-pub type SegmentId = u32;
 
 /// The greatest number of words of a segment that is built, 536,870,911: each position fits the 29 bits that a
 /// far pointer has for it ("Inter-Segment Pointers").

@@ -1,6 +1,6 @@
 -- Numbers and bits of the elements of a list: which bits of their segment they are.
 use Rattle.std.proofs.Common.{◌≡◌, ℕ, ◌+◌, ◌*◌, ◌/◌, ◌%◌, ◌<◌, ◌≤◌, length, refl, arith}
-use Rattle.capnp_arena.specs.View.{View}
+use Rattle.capnp_arena_traits.specs.View.{View}
 use Rattle.capnp_format.specs.Segments.{Segments, segment}
 use Rattle.capnp_making.specs.Fields.{with_field, field_in}
 use Rattle.capnp_words.specs.declared.wire_pointer.ElementSize.{ElementSize}

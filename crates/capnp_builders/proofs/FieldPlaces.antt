@@ -3,7 +3,7 @@ use Rattle.std.proofs.Common.{◌≡◌, inl, inr, ◌⊎◌, ℕ, zero, suc, �
 use Rattle.std.proofs.Props.{props}
 use Rattle.std.proofs.lemmas.List.{length-set}
 use Rattle.capnp_format.specs.Segments.{segment}
-use Rattle.capnp_arena.specs.View.{View}
+use Rattle.capnp_arena_traits.specs.View.{View}
 use Rattle.capnp_making.specs.Fields.{with_bits, put_field, with_field}
 use Rattle.capnp_making.proofs.Zeros.{lengths_kept}
 use Rattle.capnp_readers.specs.Readers.{IsStructPlace}

@@ -9,7 +9,7 @@ use Rattle.capnp_words.specs.declared.error.ErrorKind.TheVariants.{MessageContai
 use Rattle.capnp_words.specs.Meter.{unused}
 use Rattle.capnp_format.specs.Bytes.{words_of}
 use Rattle.capnp_format.specs.Tree.{Tree, Null, capabilities}
-use Rattle.capnp_arena.specs.View.{View}
+use Rattle.capnp_arena_traits.specs.View.{View}
 use Rattle.capnp_making.specs.Memory.{KeepsMemory, SpendsMemory}
 use Rattle.capnp_making.specs.Stored.{IsReplaced}
 use Rattle.capnp_objects.specs.Faults.{HasFault}

@@ -5,7 +5,7 @@ use Rattle.capnp_words.specs.Meter.{Meter}
 use Rattle.capnp_format.specs.Segments.{segment}
 use Rattle.capnp_format.specs.Tree.{Tree, Null}
 use Rattle.capnp_format.specs.Canonical.{encoding, word_count}
-use Rattle.capnp_arena.specs.View.{View, KeepsLimits}
+use Rattle.capnp_arena_traits.specs.View.{View, KeepsLimits}
 use Rattle.capnp_making.specs.Memory.{KeepsMemory, SpendsMemory}
 use Rattle.capnp_making.specs.Stored.{Puts}
 use Rattle.capnp_making.specs.Zeroed.{IsPruned}

@@ -9,7 +9,7 @@ use Rattle.capnp_words.specs.declared.wire_pointer.ElementSize.TheVariants.{Void
 use Rattle.capnp_words.specs.declared.wire_pointer.StructSize.{StructSize}
 use Rattle.capnp_making.specs.Existing.{list_in, struct_in}
 use Rattle.capnp_making.specs.Stored.{IsStored}
-use Rattle.capnp_arena.specs.View.{View}
+use Rattle.capnp_arena_traits.specs.View.{View}
 use Rattle.capnp_readers.specs.Readers.{IsListPlace, IsStructPlace}
 use Rattle.capnp_readers.specs.declared.readers.list_reader.ListPlace.{ListPlace}
 use Rattle.capnp_readers.specs.declared.readers.struct_reader.StructPlace.{StructPlace}

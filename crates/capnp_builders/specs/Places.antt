@@ -1,6 +1,6 @@
 -- Where structs and lists of a message that is built are ("Structs", "Lists").
 use Rattle.std.specs.Prelude.{◌≡◌, ℕ, ◌+◌, ◌*◌, ◌/◌, ◌%◌, ◌<◌, min}
-use Rattle.capnp_arena.specs.View.{View}
+use Rattle.capnp_arena_traits.specs.View.{View}
 use Rattle.capnp_making.specs.Fields.{with_field, field_in}
 use Rattle.capnp_format.specs.Numbers.{element_bits}
 use Rattle.capnp_format.specs.Forest.{target}

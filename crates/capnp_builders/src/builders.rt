@@ -35,7 +35,7 @@ pub mod places;
 mod primitive_element;
 mod struct_builder;
 
-use capnp_arena::arena::{BuilderArena, ReaderArena};
+use capnp_arena_traits::arena::{BuilderArena, ReaderArena};
 use capnp_copies::copy;
 use capnp_making::existing::ExistingBytes;
 use capnp_making::{bytes, existing, lent, making};
@@ -69,7 +69,7 @@ pub struct PointerBuilder<'a, A> {
 
 impl<'a, A: BuilderArena> PointerBuilder<'a, A> {
     ghost use Rattle.std.specs.Borrow.{sem, follows, Array, u8 as byte};
-    ghost use Rattle.capnp_arena.specs.View.{KeepsLimits};
+    ghost use Rattle.capnp_arena_traits.specs.View.{KeepsLimits};
     ghost use Rattle.capnp_builders.specs.Building.{Becomes, ChangesWords, GivesList, GivesStruct, IsNull, IsThere, KeepsBuilder, built, calling, calling_last};
     ghost use Rattle.capnp_builders.specs.Kept.{PutsCopy, LeavesCleared, FillsSegment, FillsMessage, copying};
     ghost use Rattle.capnp_builders.specs.contracts.builders.PointerBuilder.{the_row};

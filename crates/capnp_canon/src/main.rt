@@ -7,7 +7,7 @@ ghost use Rattle.std.specs.Prelude.{◌≡◌, false};
 
 mod texts;
 
-use capnp_layout::devices::{DeviceFault, Input, Output, ReaderInput, WriterOutput};
+use capnp_framing::devices::{DeviceFault, Input, Output, ReaderInput, WriterOutput};
 use capnp_packing::packing::PackingOutput;
 use capnp_streams::streams::{self, Fault, Request, Stop, Summary, Task};
 use std::alloc::AllocError;

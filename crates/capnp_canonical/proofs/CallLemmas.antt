@@ -10,22 +10,22 @@ use Rattle.capnp_format.proofs.Bounds.{means_value}
 use Rattle.capnp_format.proofs.Lengths.{length-body}
 use Rattle.capnp_format.proofs.Trimmed.{trim-value}
 use Rattle.capnp_format.proofs.Trimming.{trim-words}
-use Rattle.capnp_arena.specs.Limits.{AreSmall}
+use Rattle.capnp_arena_traits.specs.Limits.{AreSmall}
 use Rattle.capnp_arena.specs.declared.arena.reader_arena_impl.ReaderOptions.{ReaderOptions}
 use Rattle.capnp_framing.specs.Flat.{BeginsWithFrame}
 use Rattle.capnp_framing.specs.Frames.{AreSegmentWords, bytes_of_words}
 use Rattle.capnp_framing.specs.Reading.{NoFrame}
 use Rattle.capnp_framing.proofs.FrameLemmas.{one_frame_begins}
 use Rattle.capnp_framing.proofs.ReadingLemmas.{frame_is_read}
-use Rattle.capnp_layout.specs.CanonicalMessages.{IsCanonicalMessage}
+use Rattle.capnp_messages.specs.CanonicalMessages.{IsCanonicalMessage}
 use Rattle.capnp_readers.specs.declared.readers.canonical_fault.CanonicalFault.{CanonicalFault}
-use Rattle.capnp_streams.specs.Messages.{HasSizeOf, IsFaultOf}
-use Rattle.capnp_streams.specs.Streams.{HasAnswerWithin, form_bytes}
-use Rattle.capnp_streams.specs.declared.streams.task.Command.TheVariants.{Canon, Check, Size}
-use Rattle.capnp_streams.specs.declared.streams.task.Form.{Form}
-use Rattle.capnp_streams.specs.declared.streams.task.Form.TheVariants.{Framed, Flat}
-use Rattle.capnp_streams.proofs.AnsweredLemmas.{answer_refused, check_refused, size_refused}
-use Rattle.capnp_streams.proofs.FramesLemmas.{no_bytes_begin}
+use Rattle.capnp_messages.specs.Messages.{HasSizeOf, IsFaultOf}
+use Rattle.capnp_messages.specs.Commands.{HasAnswerWithin, form_bytes}
+use Rattle.capnp_messages.specs.declared.messages.command.Command.TheVariants.{Canon, Check, Size}
+use Rattle.capnp_messages.specs.declared.messages.command.Form.{Form}
+use Rattle.capnp_messages.specs.declared.messages.command.Form.TheVariants.{Framed, Flat}
+use Rattle.capnp_messages.proofs.AnsweredLemmas.{answer_refused, check_refused, size_refused}
+use Rattle.capnp_messages.proofs.FramesLemmas.{no_bytes_begin}
 use Rattle.capnp_canonical.specs.Calls.{AreWholeWords, InFrame, IsCopyOf, IsGranted, RefusesBytes, RefusesMeaning, RefusesRoom, RefusesSegments, TestFinds, TestIs, no_fault, table_bytes, told_fault}
 use Rattle.capnp_canonical.specs.Numbers.{answer_number}
 use Rattle.capnp_canonical.specs.declared.fault.Fault.{Fault}
@@ -125,7 +125,7 @@ check_granted limits S (k, named, refused) can = check_refused S limits (can ref
 
 pub size_granted : (limits : ReaderOptions) {r : Refusal} (S : Segments) →
     RefusesMeaning Size limits S r → HasAnswerWithin Size limits S → ⊥
-size_granted limits S (k, named, refused) (covers, has) = size_refused S limits covers has refused
+size_granted limits S (k, named, refused) has = size_refused S limits has refused
 
 -- where all that is asked is that there is a frame
 pub frame_granted : {bytes : List ℕ} {words : ℕ} {r : Refusal} {P : Segments → Type 0} →

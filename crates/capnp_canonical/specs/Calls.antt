@@ -8,19 +8,19 @@ use Rattle.capnp_format.specs.Bytes.{message}
 use Rattle.capnp_format.specs.Canonical.{encoding, trim}
 use Rattle.capnp_format.specs.Segments.{Segments}
 use Rattle.capnp_format.specs.Tree.{Tree}
-use Rattle.capnp_arena.specs.Limits.{AreSmall}
+use Rattle.capnp_arena_traits.specs.Limits.{AreSmall}
 use Rattle.capnp_arena.specs.declared.arena.reader_arena_impl.ReaderOptions.{ReaderOptions}
 use Rattle.capnp_framing.specs.Flat.{BeginsWithFrame}
 use Rattle.capnp_framing.specs.Reading.{NoFrame}
 use Rattle.capnp_framing.specs.declared.framing.frame_error.FrameError.{FrameError}
-use Rattle.capnp_layout.specs.CanonicalMessages.{IsCanonicalMessage}
+use Rattle.capnp_messages.specs.CanonicalMessages.{IsCanonicalMessage}
 use Rattle.capnp_readers.specs.declared.readers.canonical_fault.CanonicalFault.{CanonicalFault}
-use Rattle.capnp_streams.specs.Messages.{IsFaultOf, IsValueOf}
-use Rattle.capnp_streams.specs.Streams.{RefusesAnswer, form_bytes}
-use Rattle.capnp_streams.specs.declared.streams.task.Command.{Command}
-use Rattle.capnp_streams.specs.declared.streams.task.Command.TheVariants.{Canon}
-use Rattle.capnp_streams.specs.declared.streams.task.Form.{Form}
-use Rattle.capnp_streams.specs.declared.streams.task.Form.TheVariants.{Framed, Flat}
+use Rattle.capnp_messages.specs.Messages.{IsFaultOf, IsValueOf}
+use Rattle.capnp_messages.specs.Commands.{RefusesAnswer, form_bytes}
+use Rattle.capnp_messages.specs.declared.messages.command.Command.{Command}
+use Rattle.capnp_messages.specs.declared.messages.command.Command.TheVariants.{Canon}
+use Rattle.capnp_messages.specs.declared.messages.command.Form.{Form}
+use Rattle.capnp_messages.specs.declared.messages.command.Form.TheVariants.{Framed, Flat}
 use Rattle.capnp_canonical.specs.Numbers.{reason_number, answer_number}
 use Rattle.capnp_canonical.specs.declared.fault.Fault.{Fault}
 use Rattle.capnp_canonical.specs.declared.refusal.Refusal.{Refusal}

@@ -4,19 +4,17 @@ ghost use Rattle.std.specs.Int.{to_le_bytes, w32};
 ghost use Rattle.capnp_format.specs.Bytes.{message};
 ghost use Rattle.capnp_format.specs.Canonical.{encoding, trim};
 ghost use Rattle.capnp_format.specs.Tree.{Tree};
-ghost use Rattle.capnp_arena.specs.Limits.{IsSmall};
+ghost use Rattle.capnp_arena_traits.specs.Limits.{IsSmall};
 ghost use Rattle.capnp_framing.specs.Frames.{bytes_of_words, frame};
-ghost use Rattle.capnp_streams.specs.Messages.{HasSizeOf, IsFaultOf};
-ghost use Rattle.capnp_streams.specs.Streams.{RefusesAnswer, form_bytes};
-ghost use Rattle.capnp_streams.specs.declared.streams.task.Command.{Command};
+ghost use Rattle.capnp_messages.specs.Messages.{HasSizeOf, IsFaultOf};
+ghost use Rattle.capnp_messages.specs.Commands.{RefusesAnswer, form_bytes};
+ghost use Rattle.capnp_messages.specs.declared.messages.command.Command.{Command};
 ghost use Rattle.capnp_canonical.specs.Calls.{IsCopyOf, RefusesRoom, limits_of, table_bytes};
 ghost use Rattle.capnp_canonical.specs.declared.refusal.Refusal.{Refusal};
 
 use crate::refusal::Refusal;
 use capnp_arena::arena::{ReaderOptions, ReaderSegments};
-use capnp_layout::framing::canonical_bytes;
-use capnp_streams::messages::canonical_of;
-use capnp_streams::streams::Form;
+use capnp_messages::messages::{Form, canonical_bytes, canonical_of};
 use std::alloc::Global;
 
 /// The limits within which a message is read.

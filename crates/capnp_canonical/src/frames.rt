@@ -2,22 +2,20 @@
 //! Stream").
 ghost use Rattle.std.specs.Prelude.{◌≡◌, ◌⊎◌, ◌≤◌, length, take, drop, IfOk, IfErr, OnErr};
 ghost use Rattle.capnp_format.specs.Bytes.{message};
-ghost use Rattle.capnp_arena.specs.Limits.{IsSmall};
+ghost use Rattle.capnp_arena_traits.specs.Limits.{IsSmall};
 ghost use Rattle.capnp_framing.specs.Flat.{BeginsWithFrame};
 ghost use Rattle.capnp_framing.specs.Frames.{frame};
-ghost use Rattle.capnp_layout.specs.CanonicalMessages.{IsCanonicalMessage};
-ghost use Rattle.capnp_streams.specs.Messages.{HasSizeOf};
-ghost use Rattle.capnp_streams.specs.declared.streams.task.Command.{Command};
+ghost use Rattle.capnp_messages.specs.CanonicalMessages.{IsCanonicalMessage};
+ghost use Rattle.capnp_messages.specs.Messages.{HasSizeOf};
+ghost use Rattle.capnp_messages.specs.declared.messages.command.Command.{Command};
 ghost use Rattle.capnp_canonical.specs.Calls.{InFrame, IsCopyOf, RefusesBytes, RefusesMeaning, RefusesRoom, TestFinds, limits_of};
 
 use crate::calls::{copy, limits};
 use crate::refusal::Refusal;
 use capnp_arena::arena::ReaderSegments;
 use capnp_framing::framing::{FrameSegments, read_from_flat_slice};
-use capnp_layout::framing::CanonicalFault;
-use capnp_readers::readers::MessageSize;
-use capnp_streams::messages::{canonical_fault_of, size_of};
-use capnp_streams::streams::Form;
+use capnp_messages::messages::{Form, canonical_fault_of, size_of};
+use capnp_readers::readers::{CanonicalFault, MessageSize};
 use std::alloc::Global;
 
 /// The message whose frame, of at most so many words, the bytes begin with.

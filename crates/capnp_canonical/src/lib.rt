@@ -8,10 +8,10 @@ ghost use Rattle.std.specs.Prelude.{◌≡◌, ◌≢◌, ◌⊎◌, ◌≤◌, 
 ghost use Rattle.capnp_format.specs.Segments.{Segments};
 ghost use Rattle.capnp_framing.specs.Frames.{IsFrameOf};
 ghost use Rattle.capnp_framing.specs.Reading.{total};
-ghost use Rattle.capnp_streams.specs.Messages.{HasSizeOf};
-ghost use Rattle.capnp_streams.specs.Streams.{HasAnswerWithin};
-ghost use Rattle.capnp_streams.specs.declared.streams.task.Command.{Command};
-ghost use Rattle.capnp_streams.specs.declared.streams.task.Form.{Form};
+ghost use Rattle.capnp_messages.specs.Messages.{HasSizeOf};
+ghost use Rattle.capnp_messages.specs.Commands.{HasAnswerWithin};
+ghost use Rattle.capnp_messages.specs.declared.messages.command.Command.{Command};
+ghost use Rattle.capnp_messages.specs.declared.messages.command.Form.{Form};
 ghost use Rattle.capnp_canonical.specs.Calls.{InFrame, InSegments, IsCopyOf, IsGranted, IsNumberWhere, RefusesBytes, RefusesMeaning, RefusesRoom, RefusesSegments, TestIs, limits_of, no_fault};
 ghost use Rattle.capnp_canonical.specs.Numbers.{wanted_room};
 ghost use Rattle.capnp_canonical.specs.Texts.{PutsText, IsNameOf, IsReasonText};
@@ -23,7 +23,7 @@ mod names;
 mod refusal;
 mod segments;
 
-use capnp_streams::streams::Form;
+use capnp_messages::messages::Form;
 use fault::{Fault, NO_FAULT};
 use frames::{check_frame, copy_frame, frame_size, size_frame};
 use names::{name_of_number, put_text, text_of_reason};

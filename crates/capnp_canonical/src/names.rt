@@ -6,7 +6,7 @@ ghost use Rattle.capnp_canonical.specs.declared.refusal.Refusal.{Refusal};
 
 use crate::refusal::Refusal;
 use capnp_framing::framing::FrameError;
-use capnp_layout::framing::CanonicalFaultReason;
+use capnp_readers::readers::CanonicalFaultReason;
 use capnp_words::error::ErrorKind;
 
 /// The refusals of a frame, from the number 16 on.

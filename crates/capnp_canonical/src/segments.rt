@@ -1,18 +1,16 @@
 //! A message whose segments the caller has.
 ghost use Rattle.std.specs.Prelude.{◌≡◌, ◌⊎◌, ◌≤◌, map, length, take, drop, IfOk, IfErr, OnErr};
-ghost use Rattle.capnp_arena.specs.Limits.{AreSmall, IsSmall};
-ghost use Rattle.capnp_layout.specs.CanonicalMessages.{IsCanonicalMessage};
-ghost use Rattle.capnp_streams.specs.Messages.{HasSizeOf};
-ghost use Rattle.capnp_streams.specs.declared.streams.task.Command.{Command};
+ghost use Rattle.capnp_arena_traits.specs.Limits.{AreSmall, IsSmall};
+ghost use Rattle.capnp_messages.specs.CanonicalMessages.{IsCanonicalMessage};
+ghost use Rattle.capnp_messages.specs.Messages.{HasSizeOf};
+ghost use Rattle.capnp_messages.specs.declared.messages.command.Command.{Command};
 ghost use Rattle.capnp_canonical.specs.Calls.{AreWholeWords, InSegments, IsCopyOf, RefusesMeaning, RefusesRoom, RefusesSegments, TestFinds, lent_bytes, limits_of};
 
 use crate::calls::{copy, limits};
 use crate::refusal::Refusal;
 use capnp_arena::arena::{ReaderSegments, SegmentArray};
-use capnp_layout::framing::CanonicalFault;
-use capnp_readers::readers::MessageSize;
-use capnp_streams::messages::{canonical_fault_of, size_of};
-use capnp_streams::streams::Form;
+use capnp_messages::messages::{Form, canonical_fault_of, size_of};
+use capnp_readers::readers::{CanonicalFault, MessageSize};
 use capnp_words::error::ErrorKind;
 use std::alloc::Global;
 

@@ -3,8 +3,8 @@ use Rattle.std.specs.Prelude.{◌≡◌, ℕ, ◌+◌, List, length, take}
 use Rattle.capnp_words.specs.Meter.{Meter}
 use Rattle.capnp_format.specs.Segments.{segment}
 use Rattle.capnp_format.specs.Tree.{Tree, Trees, Elements, count, element_count}
-use Rattle.capnp_arena.specs.View.{View}
-use Rattle.capnp_arena.specs.Written.{with_segment, overwritten, extended}
+use Rattle.capnp_arena_traits.specs.View.{View}
+use Rattle.capnp_arena_traits.specs.Written.{with_segment, overwritten, extended}
 use Rattle.capnp_objects.specs.Outcomes.{Reads, ReadsAll, ReadsElements}
 use Rattle.capnp_objects.specs.Reading.{Reading, behind, words_from}
 use Rattle.capnp_objects.specs.Wanted.{Form}

@@ -3,7 +3,7 @@ use Rattle.std.proofs.Common.{◌≡◌, ℕ, zero, suc, ◌<◌, [], ◌∷◌,
 use Rattle.capnp_format.specs.Segments.{Segments, segment, IsPlace}
 use Rattle.capnp_format.specs.Tree.{Tree}
 use Rattle.capnp_format.specs.Canonical.{encoding}
-use Rattle.capnp_arena.proofs.WordsOver.{segment_here}
+use Rattle.capnp_arena_traits.proofs.WordsOver.{segment_here}
 use Rattle.capnp_copies.specs.Copied.{copied}
 use Rattle.capnp_copies.proofs.InPlace.{IsCopied}
 

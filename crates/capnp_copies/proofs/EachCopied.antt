@@ -4,7 +4,7 @@ use Rattle.capnp_words.specs.declared.error.ErrorKind.{ErrorKind}
 use Rattle.capnp_words.specs.Meter.{Meter}
 use Rattle.capnp_format.specs.Segments.{segment, IsPlace}
 use Rattle.capnp_format.specs.Tree.{Null, count}
-use Rattle.capnp_arena.specs.View.{View}
+use Rattle.capnp_arena_traits.specs.View.{View}
 use Rattle.capnp_making.specs.Stored.{IsReplaced}
 use Rattle.capnp_making.proofs.Memory.{keeps_then_spends, words_refused_after}
 use Rattle.capnp_objects.specs.Refusals.{Refused, StopsWithin}

@@ -5,8 +5,8 @@ use Rattle.capnp_format.specs.Segments.{Segments, segment, word_at, words_at, Is
 use Rattle.capnp_format.specs.Tree.{Trees, Elements, element_count}
 use Rattle.capnp_format.specs.Canonical.{cut_to, word_count_elements}
 use Rattle.capnp_format.proofs.Slices.{length_words}
-use Rattle.capnp_arena.specs.View.{View}
-use Rattle.capnp_arena.specs.Written.{with_segment, with_words, overwritten}
+use Rattle.capnp_arena_traits.specs.View.{View}
+use Rattle.capnp_arena_traits.specs.Written.{with_segment, with_words, overwritten}
 use Rattle.capnp_objects.specs.Outcomes.{ReadsElements}
 use Rattle.capnp_objects.specs.Reading.{Reading, behind, segment_read, words_from}
 use Rattle.capnp_objects.specs.Wanted.{Form}

@@ -6,7 +6,7 @@ use Rattle.capnp_format.specs.Segments.{words_at}
 use Rattle.capnp_format.specs.Tree.{Trees, Elements, no_elements, element, count, element_count}
 use Rattle.capnp_format.specs.Canonical.{used_words, take_trees, cut_to, trim_each, trim_elements, word_count_all, word_count_elements, pointers, rows, bodies, element_bodies}
 use Rattle.capnp_words.specs.Meter.{Meter}
-use Rattle.capnp_arena.specs.Written.{overwritten}
+use Rattle.capnp_arena_traits.specs.Written.{overwritten}
 use Rattle.capnp_objects.proofs.Walked.{row_within}
 use Rattle.capnp_copies.specs.Copied.{with_children, rows_laid}
 use Rattle.capnp_copies.proofs.Scanning.{pointers_used, next_used}

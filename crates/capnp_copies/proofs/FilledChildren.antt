@@ -5,8 +5,8 @@ use Rattle.capnp_words.specs.Meter.{Meter}
 use Rattle.capnp_format.specs.Segments.{Grows, segment, word_at, IsPlace}
 use Rattle.capnp_format.specs.Tree.{Tree, Null, Trees, no_trees, count}
 use Rattle.capnp_format.proofs.Children.{with_last, count-with_last}
-use Rattle.capnp_arena.specs.View.{View}
-use Rattle.capnp_arena.specs.Written.{with_segment}
+use Rattle.capnp_arena_traits.specs.View.{View}
+use Rattle.capnp_arena_traits.specs.Written.{with_segment}
 use Rattle.capnp_making.specs.Filled.{AreFilled}
 use Rattle.capnp_making.specs.Stored.{IsReplaced}
 use Rattle.capnp_making.proofs.FillingChains.{filled_grows, filled_ahead, filled_more}

@@ -6,8 +6,8 @@ use Rattle.capnp_format.specs.Segments.{Segments, Grows, segment, word_at, IsPla
 use Rattle.capnp_format.specs.Tree.{Trees, Elements, no_elements, element, count, element_count}
 use Rattle.capnp_format.specs.Canonical.{cut_to}
 use Rattle.capnp_format.proofs.Slices.{length_words}
-use Rattle.capnp_arena.specs.View.{View}
-use Rattle.capnp_arena.specs.Written.{with_segment, with_words}
+use Rattle.capnp_arena_traits.specs.View.{View}
+use Rattle.capnp_arena_traits.specs.Written.{with_segment, with_words}
 use Rattle.capnp_making.specs.Filled.{AreFilled, IsElementFilled, AreElementsFilled}
 use Rattle.capnp_making.proofs.FillingChains.{element_grows, elements_grow, elements_ahead}
 use Rattle.capnp_making.proofs.Memory.{keeps_itself, keeps_both, keeps_written, keeps_then_spends, words_refused_after}

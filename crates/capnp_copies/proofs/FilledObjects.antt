@@ -5,7 +5,7 @@ use Rattle.capnp_words.specs.Meter.{Meter}
 use Rattle.capnp_format.specs.Segments.{Segments, segment, word_at, IsPlace}
 use Rattle.capnp_format.specs.Tree.{Tree, Null, Pointers, Structs, Trees}
 use Rattle.capnp_format.specs.Canonical.{cut_to}
-use Rattle.capnp_arena.specs.View.{View}
+use Rattle.capnp_arena_traits.specs.View.{View}
 use Rattle.capnp_making.specs.Made.{zero_structs, nulls, structs_words}
 use Rattle.capnp_making.specs.Memory.{HasRoom, KeepsMemory, IsRefusedFor, RefusesWords}
 use Rattle.capnp_making.specs.Near.{HasOwnRoom, StartsBehind}

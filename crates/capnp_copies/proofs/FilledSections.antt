@@ -8,8 +8,8 @@ use Rattle.capnp_format.specs.Tree.{Null, Struct, Trees, count}
 use Rattle.capnp_format.specs.Canonical.{used_words, take_trees, trim_each}
 use Rattle.capnp_format.specs.Word.{struct_word}
 use Rattle.capnp_format.proofs.Slices.{length_words}
-use Rattle.capnp_arena.specs.View.{View}
-use Rattle.capnp_arena.specs.Written.{with_word, with_words}
+use Rattle.capnp_arena_traits.specs.View.{View}
+use Rattle.capnp_arena_traits.specs.Written.{with_word, with_words}
 use Rattle.capnp_making.specs.Made.{zero_struct, words_of_zero, nulls}
 use Rattle.capnp_making.specs.Memory.{KeepsMemory, StandsBehind, TakesWords}
 use Rattle.capnp_making.specs.Near.{HasStructRoom, with_struct}

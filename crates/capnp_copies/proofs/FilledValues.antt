@@ -12,8 +12,8 @@ use Rattle.capnp_format.specs.Segments.{segment, word_at, words_at, IsPlace}
 use Rattle.capnp_format.specs.Tree.{Tree, Null, Capability, Flat}
 use Rattle.capnp_format.specs.Word.{capability_word}
 use Rattle.capnp_format.specs.Canonical.{word_count}
-use Rattle.capnp_arena.specs.View.{View}
-use Rattle.capnp_arena.specs.Written.{with_word, with_segment}
+use Rattle.capnp_arena_traits.specs.View.{View}
+use Rattle.capnp_arena_traits.specs.Written.{with_word, with_segment}
 use Rattle.capnp_making.specs.Memory.{KeepsMemory, SpendsMemory, RefusesWords}
 use Rattle.capnp_making.specs.Near.{HasOwnRoom}
 use Rattle.capnp_making.specs.Stored.{IsReplaced}

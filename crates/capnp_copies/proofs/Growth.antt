@@ -10,9 +10,9 @@ use Rattle.capnp_format.specs.Segments.{Segments, Target, segment, words_at}
 use Rattle.capnp_format.specs.Tree.{Null, Capability, Struct, Flat, Pointers, Structs, no_trees, no_elements, count, element_count}
 use Rattle.capnp_format.specs.Word.{capability_word, offset_bits, data_words, pointer_count, element_size, list_count}
 use Rattle.capnp_format.proofs.Children.{with_last, count-with_last}
-use Rattle.capnp_arena.specs.View.{View, KeepsLimits}
-use Rattle.capnp_arena.specs.Written.{with_words, with_word}
-use Rattle.capnp_arena.proofs.WordsOver.{lengths_kept}
+use Rattle.capnp_arena_traits.specs.View.{View, KeepsLimits}
+use Rattle.capnp_arena_traits.specs.Written.{with_words, with_word}
+use Rattle.capnp_arena_traits.proofs.WordsOver.{lengths_kept}
 use Rattle.capnp_words.specs.declared.wire_pointer.StructSize.{StructSize}
 use Rattle.capnp_words.specs.declared.wire_pointer.ElementSize.{ElementSize}
 use Rattle.capnp_words.specs.declared.wire_pointer.ElementSize.TheVariants.{Void, Bit, Byte, TwoBytes, FourBytes, EightBytes, Pointer, InlineComposite}

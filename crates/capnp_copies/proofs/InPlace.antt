@@ -2,7 +2,7 @@
 use Rattle.std.proofs.Common.{◌≡◌, ℕ}
 use Rattle.capnp_format.specs.Segments.{Segments, segment}
 use Rattle.capnp_format.specs.Tree.{Tree, Trees}
-use Rattle.capnp_arena.specs.Written.{with_segment}
+use Rattle.capnp_arena_traits.specs.Written.{with_segment}
 use Rattle.capnp_copies.specs.Copied.{copied, with_children}
 
 abbrev pub IsCopied : Segments → Segments → ℕ → ℕ → Tree → Type 0

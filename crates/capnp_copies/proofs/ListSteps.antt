@@ -7,8 +7,8 @@ use Rattle.capnp_format.specs.Word.{struct_word, list_word}
 use Rattle.capnp_format.specs.Segments.{Segments, segment, IsPlace}
 use Rattle.capnp_format.specs.Tree.{Structs, Elements, element_count}
 use Rattle.capnp_format.specs.Canonical.{trim, trim_elements, cut_to, pointer, rows, element_bodies, offset_to}
-use Rattle.capnp_arena.specs.View.{View}
-use Rattle.capnp_arena.specs.Written.{with_segment, with_word}
+use Rattle.capnp_arena_traits.specs.View.{View}
+use Rattle.capnp_arena_traits.specs.Written.{with_segment, with_word}
 use Rattle.capnp_objects.specs.Outcomes.{ElementsMean}
 use Rattle.capnp_objects.specs.Reading.{Reading, segment_read}
 use Rattle.capnp_objects.specs.Wanted.{Form}

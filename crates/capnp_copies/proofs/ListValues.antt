@@ -13,7 +13,7 @@ use Rattle.capnp_format.specs.Segments.{Segments, segment, word_at, words_at, Is
 use Rattle.capnp_format.specs.Canonical.{word_count}
 use Rattle.capnp_format.specs.Tree.{Tree, Null, Flat}
 use Rattle.capnp_format.proofs.WordsOf.{words, words_of-take, words_of-drop}
-use Rattle.capnp_arena.specs.View.{View}
+use Rattle.capnp_arena_traits.specs.View.{View}
 use Rattle.capnp_making.specs.Near.{HasOwnRoom}
 use Rattle.capnp_making.specs.Stored.{IsReplaced}
 use Rattle.capnp_making.proofs.Memory.{keeps_itself, spends_nothing}
@@ -31,7 +31,7 @@ use Rattle.capnp_copies.proofs.FilledObjects.{nothing_left}
 use Rattle.capnp_copies.proofs.FilledValues.{FlatOutcome, kept_flat}
 use Rattle.capnp_copies.proofs.FlatRead.{word_count-flat}
 use Rattle.capnp_copies.proofs.Originals.{ExceedsRoom, halfway, list_exceeds}
-use Rattle.capnp_arena.specs.declared.arena.reader_arena.ReaderArena.{Ghosts}
+use Rattle.capnp_arena_traits.specs.declared.arena.reader_arena.ReaderArena.{Ghosts}
 use Rattle.capnp_readers.specs.declared.readers.list_reader.ListReader.{ListReader}
 
 -- the place of the first element of a list that is read

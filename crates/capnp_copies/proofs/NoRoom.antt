@@ -6,7 +6,7 @@ use Rattle.capnp_words.specs.declared.wire_pointer.StructSize.{StructSize}
 use Rattle.capnp_words.specs.Meter.{Meter}
 use Rattle.capnp_format.specs.Segments.{Target, segment}
 use Rattle.capnp_format.specs.Tree.{count, element_count}
-use Rattle.capnp_arena.specs.View.{View}
+use Rattle.capnp_arena_traits.specs.View.{View}
 use Rattle.capnp_making.specs.Made.{structs_words}
 use Rattle.capnp_making.specs.Memory.{KeepsMemory}
 use Rattle.capnp_making.proofs.Memory.{words_refused_after}

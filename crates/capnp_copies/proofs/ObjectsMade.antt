@@ -6,8 +6,8 @@ use Rattle.capnp_words.specs.declared.wire_pointer.StructSize.{StructSize}
 use Rattle.capnp_format.specs.Forest.{target_in}
 use Rattle.capnp_format.specs.Segments.{Segments, segment, IsPlace}
 use Rattle.capnp_format.specs.Word.{struct_word}
-use Rattle.capnp_arena.specs.View.{View}
-use Rattle.capnp_arena.specs.Written.{with_word}
+use Rattle.capnp_arena_traits.specs.View.{View}
+use Rattle.capnp_arena_traits.specs.Written.{with_word}
 use Rattle.capnp_making.specs.Made.{LeadsToStart}
 use Rattle.capnp_making.specs.Memory.{HasRoom, IsNextRoom, TakesWords, StandsBehind, KeepsMemory}
 use Rattle.capnp_making.specs.Near.{HasOwnRoom}

@@ -9,7 +9,7 @@ use Rattle.capnp_words.specs.Meter.{Meter, Affords, unused}
 use Rattle.capnp_format.specs.Tree.{Tree, Null, Struct, Pointers, Structs, Trees, Elements, count, element_count}
 use Rattle.capnp_format.specs.Canonical.{cut_to, word_count, word_count_all, word_count_elements}
 use Rattle.capnp_format.specs.Segments.{segment}
-use Rattle.capnp_arena.specs.View.{View}
+use Rattle.capnp_arena_traits.specs.View.{View}
 use Rattle.capnp_making.specs.Memory.{SpendsMemory, RefusesWords}
 use Rattle.capnp_making.specs.Stored.{IsReplaced}
 use Rattle.capnp_objects.specs.Outcomes.{MeansThere, MeanThere, ElementsMean, Reads, ReadsAll, ReadsElements}

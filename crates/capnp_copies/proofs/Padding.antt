@@ -10,7 +10,7 @@ use Rattle.capnp_format.specs.Segments.{Segments, segment}
 use Rattle.capnp_format.specs.Value.{AreBelow}
 use Rattle.capnp_format.proofs.Digits.{length-digits, digits-from_digits, from_digits-below}
 use Rattle.capnp_format.proofs.Lies.{pow_pow}
-use Rattle.capnp_arena.specs.Written.{overwritten, with_word, with_words, extended}
+use Rattle.capnp_arena_traits.specs.Written.{overwritten, with_word, with_words, extended}
 use Rattle.capnp_making.proofs.FieldBytes.{low, high}
 
 -- remainders

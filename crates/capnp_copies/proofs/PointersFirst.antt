@@ -4,8 +4,8 @@ use Rattle.std.proofs.lemmas.List.{length-set, set-append_left, set-get_or, get_
 use Rattle.capnp_format.specs.Segments.{Segments, segment, word_at, IsPlace}
 use Rattle.capnp_format.specs.Tree.{Tree}
 use Rattle.capnp_format.specs.Canonical.{body, pointer, offset_to}
-use Rattle.capnp_arena.specs.Written.{with_segment, with_word, extended}
-use Rattle.capnp_arena.proofs.WordsOver.{segment_here}
+use Rattle.capnp_arena_traits.specs.Written.{with_segment, with_word, extended}
+use Rattle.capnp_arena_traits.proofs.WordsOver.{segment_here}
 use Rattle.capnp_making.proofs.NearMade.{long_as}
 use Rattle.capnp_copies.specs.Copied.{copied}
 use Rattle.capnp_copies.proofs.Copying.{there}

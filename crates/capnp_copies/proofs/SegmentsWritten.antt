@@ -2,8 +2,8 @@
 use Rattle.std.proofs.Common.{◌≡◌, ℕ, zero, suc, ◌+◌, ◌-◌, ◌<◌, ◌≤◌, List, [], ◌∷◌, ◌++◌, length, take, drop, replicate, refl, sym, ap, ap₂, ◌∙◌, arith, length-append, take_at, drop_at, length-take, set-set, get_or, get_or-drop}
 use Rattle.std.proofs.lemmas.List.{length-replicate, drop-replicate, set-get_or, get_or-append_right}
 use Rattle.capnp_format.specs.Segments.{Segments, segment, word_at}
-use Rattle.capnp_arena.specs.Written.{with_segment, overwritten, with_words, extended}
-use Rattle.capnp_arena.proofs.WordsOver.{segment_here, length-over}
+use Rattle.capnp_arena_traits.specs.Written.{with_segment, overwritten, with_words, extended}
+use Rattle.capnp_arena_traits.proofs.WordsOver.{segment_here, length-over}
 use Rattle.capnp_making.proofs.NearMade.{long_as}
 use Rattle.capnp_copies.proofs.Copying.{there}
 

@@ -1,7 +1,7 @@
 -- Words that stay in the segment of their pointer: those that fit there, and all where the message has but one segment afterwards.
 use Rattle.std.proofs.Common.{◌≡◌, inl, inr, ℕ, ◌+◌, ◌<◌, ◌≤◌, max, length, subst, arith}
 use Rattle.capnp_format.specs.Segments.{segment, IsPlace}
-use Rattle.capnp_arena.specs.View.{View}
+use Rattle.capnp_arena_traits.specs.View.{View}
 use Rattle.capnp_making.specs.Memory.{TakesWords}
 use Rattle.capnp_making.specs.Near.{HasOwnRoom}
 use Rattle.capnp_copies.specs.Changes.{StayInSegment}

@@ -6,8 +6,8 @@ use Rattle.capnp_format.specs.Word.{struct_word, list_word}
 use Rattle.capnp_format.specs.Segments.{Segments, segment, IsPlace}
 use Rattle.capnp_format.specs.Tree.{Struct, Pointers, Trees, count}
 use Rattle.capnp_format.specs.Canonical.{pointer, pointers, bodies, offset_to}
-use Rattle.capnp_arena.specs.View.{View}
-use Rattle.capnp_arena.specs.Written.{with_segment, with_word}
+use Rattle.capnp_arena_traits.specs.View.{View}
+use Rattle.capnp_arena_traits.specs.Written.{with_segment, with_word}
 use Rattle.capnp_objects.specs.Reading.{Reading}
 use Rattle.capnp_objects.specs.Wanted.{Form}
 use Rattle.capnp_readers.proofs.Accepts.{struct_pointer}

@@ -5,7 +5,7 @@ use Rattle.capnp_format.specs.Segments.{segment, IsPlace}
 use Rattle.capnp_format.specs.Tree.{Tree, Trees}
 use Rattle.capnp_format.specs.Canonical.{word_count, word_count_all}
 use Rattle.capnp_format.proofs.Children.{with_last}
-use Rattle.capnp_arena.specs.View.{View}
+use Rattle.capnp_arena_traits.specs.View.{View}
 use Rattle.capnp_making.specs.Memory.{KeepsMemory}
 use Rattle.capnp_objects.specs.Reading.{Reading, behind}
 use Rattle.capnp_objects.specs.Wanted.{Form}

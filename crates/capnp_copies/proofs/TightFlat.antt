@@ -5,7 +5,7 @@ use Rattle.capnp_format.specs.Numbers.{words_for, packed}
 use Rattle.capnp_format.specs.Segments.{Segments, segment, IsPlace}
 use Rattle.capnp_format.specs.Tree.{Flat}
 use Rattle.capnp_format.specs.Word.{list_word}
-use Rattle.capnp_arena.specs.Written.{with_segment, with_word, with_words, extended}
+use Rattle.capnp_arena_traits.specs.Written.{with_segment, with_word, with_words, extended}
 use Rattle.capnp_making.specs.Near.{offset_behind, with_object}
 use Rattle.capnp_making.proofs.NearMade.{long_as}
 use Rattle.capnp_copies.specs.Copied.{copied}

@@ -7,14 +7,14 @@ use Rattle.capnp_format.specs.Word.{struct_word, list_word}
 use Rattle.capnp_format.specs.Segments.{Segments, segment, word_at, IsPlace}
 use Rattle.capnp_format.specs.Tree.{Tree, Struct, Pointers, Structs, Trees, no_trees, tree, Elements, count}
 use Rattle.capnp_format.specs.Canonical.{word_count, word_count_all, word_count_elements, pointers, bodies, rows, element_bodies, offset_to}
-use Rattle.capnp_arena.specs.View.{View}
-use Rattle.capnp_arena.specs.Written.{with_segment, with_word, with_words, extended}
+use Rattle.capnp_arena_traits.specs.View.{View}
+use Rattle.capnp_arena_traits.specs.Written.{with_segment, with_word, with_words, extended}
 use Rattle.capnp_making.specs.Memory.{KeepsMemory, StandsBehind, TakesWords as TakesRoom}
 use Rattle.capnp_making.specs.Near.{HasOwnRoom, HasStructRoom, HasStructsRoom, StartsBehind, offset_behind, with_struct, with_list, with_struct_list}
 use Rattle.capnp_making.specs.declared.making.Start.{Start}
 use Rattle.capnp_objects.specs.Reading.{Reading, segment_read}
 use Rattle.capnp_objects.specs.Wanted.{Form}
-use Rattle.capnp_arena.proofs.WordsOver.{segment_here}
+use Rattle.capnp_arena_traits.proofs.WordsOver.{segment_here}
 use Rattle.capnp_making.proofs.NearMade.{long_as}
 use Rattle.capnp_making.proofs.WordsPut.{none_over}
 use Rattle.capnp_copies.specs.Changes.{change, StayInSegment, IsCopiedInRoom, EndsInZeros, CopiesChildren, CopiesRows}

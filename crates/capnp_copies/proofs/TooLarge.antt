@@ -9,7 +9,7 @@ use Rattle.capnp_format.specs.Canonical.{take_trees, word_count, word_count_all,
 use Rattle.capnp_format.specs.Word.{offset_bits, data_words, pointer_count, list_count}
 use Rattle.capnp_format.proofs.Trimming.{take_trees-count}
 use Rattle.capnp_format.proofs.Levels.{one_value}
-use Rattle.capnp_arena.specs.View.{View}
+use Rattle.capnp_arena_traits.specs.View.{View}
 use Rattle.capnp_making.specs.Memory.{HasRoom, KeepsMemory, StandsBehind, TakesWords}
 use Rattle.capnp_making.specs.Near.{HasOwnRoom, StartsBehind}
 use Rattle.capnp_making.specs.declared.making.Start.{Start}

@@ -7,8 +7,8 @@ use Rattle.capnp_format.specs.Segments.{Segments, Target, segment, words_at, wor
 use Rattle.capnp_format.specs.Word.{kind, offset_bits, data_words, pointer_count, element_size, list_count}
 use Rattle.capnp_format.specs.Tree.{Tree, Null, Trees, Elements, count, element_count}
 use Rattle.capnp_format.specs.Canonical.{cut_to, word_count, word_count_all, word_count_elements}
-use Rattle.capnp_arena.specs.View.{View}
-use Rattle.capnp_arena.specs.Written.{with_segment, overwritten}
+use Rattle.capnp_arena_traits.specs.View.{View}
+use Rattle.capnp_arena_traits.specs.Written.{with_segment, overwritten}
 use Rattle.capnp_making.specs.Filled.{AreFilled, IsElementFilled, AreElementsFilled, ArePartlyFilled}
 use Rattle.capnp_making.specs.Made.{structs_words}
 use Rattle.capnp_making.specs.Memory.{KeepsMemory, SpendsMemory, RefusesWords}

@@ -1,6 +1,6 @@
 -- The copy of a list that is read: its elements' words are at hand, and its first element is read
 -- at its place.
-use Rattle.capnp_arena.specs.declared.arena.reader_arena.ReaderArena.{Ghosts}
+use Rattle.capnp_arena_traits.specs.declared.arena.reader_arena.ReaderArena.{Ghosts}
 use Rattle.capnp_format.specs.Tree.{Tree}
 use Rattle.capnp_objects.specs.Reading.{reading_at}
 use Rattle.capnp_readers.specs.declared.readers.list_reader.ListReader.{ListReader}

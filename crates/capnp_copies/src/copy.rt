@@ -7,7 +7,7 @@ ghost use Rattle.std.specs.Prelude.{◌≡◌, ◌⊎◌, IsOk, IfOk, IfErr, OnO
 ghost use Rattle.capnp_words.specs.declared.error.ErrorKind.TheVariants.{CannotCreateACanonicalMessageWithACapability, UnknownPointerType};
 ghost use Rattle.capnp_format.specs.Segments.{word_at, IsPlace};
 ghost use Rattle.capnp_format.specs.Word.{capability_word};
-ghost use Rattle.capnp_arena.specs.Written.{with_word};
+ghost use Rattle.capnp_arena_traits.specs.Written.{with_word};
 ghost use Rattle.capnp_objects.specs.Wanted.{plain, canonical, of_default};
 ghost use Rattle.capnp_format.specs.Tree.{Null};
 ghost use Rattle.capnp_readers.specs.Readers.{reading};
@@ -27,7 +27,7 @@ mod struct_value;
 mod structs;
 
 use crate::form::CopyForm;
-use capnp_arena::arena::{BuilderArena, ReaderArena};
+use capnp_arena_traits::arena::{BuilderArena, ReaderArena};
 use capnp_making::making::clear;
 use capnp_objects::object::Object;
 use capnp_readers::readers::PointerReader;

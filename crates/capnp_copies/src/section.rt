@@ -3,14 +3,14 @@
 ghost use Rattle.std.specs.Prelude.{◌≡◌, ◌+◌, ◌*◌, ◌/◌, ◌%◌, ◌^◌, ◌≤◌, length, take, drop};
 ghost use Rattle.capnp_format.specs.Numbers.{from_digits};
 ghost use Rattle.capnp_format.specs.Segments.{segment};
-ghost use Rattle.capnp_arena.specs.Written.{with_words};
+ghost use Rattle.capnp_arena_traits.specs.Written.{with_words};
 ghost use Rattle.capnp_readers.specs.Sections.{bytes_for};
 ghost use Rattle.capnp_copies.specs.Forms.{form_of};
 ghost use Rattle.capnp_copies.specs.StructValues.{section_words};
 ghost use Rattle.capnp_copies.specs.Originals.{kept_count};
 
 use crate::copy::elements::put_words;
-use capnp_arena::arena::BuilderArena;
+use capnp_arena_traits::arena::BuilderArena;
 use capnp_words::words::{part, used_part};
 
 /// How many words of a data section a copy keeps: in canonical form those up to the last that is not

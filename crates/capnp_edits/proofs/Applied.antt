@@ -6,8 +6,8 @@ use Rattle.std.proofs.lemmas.Bool.Decides.{nat_tests}
 use Rattle.std.proofs.lemmas.List.{append-nil, length-replicate}
 use Rattle.capnp_words.specs.declared.error.ErrorKind.{ErrorKind}
 use Rattle.capnp_words.specs.declared.error.ErrorKind.TheVariants.{AllocationFailed, NoSuchPlace}
-use Rattle.capnp_arena.specs.Taking.{IsAllocationRefusal}
-use Rattle.capnp_arena.specs.View.{View, KeepsLimits}
+use Rattle.capnp_arena_traits.specs.Taking.{IsAllocationRefusal}
+use Rattle.capnp_arena_traits.specs.View.{View, KeepsLimits}
 use Rattle.capnp_format.specs.Segments.{Segments, Target, segment, word_at}
 use Rattle.capnp_format.specs.Word.{struct_word}
 use Rattle.capnp_format.specs.Tree.{Tree, Null, Capability, Struct, Flat, Pointers, Structs, Trees, Elements, no_elements, element, count, element_count}

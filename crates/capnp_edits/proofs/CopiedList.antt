@@ -9,8 +9,8 @@ use Rattle.capnp_words.specs.declared.wire_pointer.ElementSize.{ElementSize}
 use Rattle.capnp_words.specs.declared.wire_pointer.ElementSize.TheVariants.{Void, Bit, Byte, TwoBytes, FourBytes, EightBytes, Pointer, InlineComposite}
 use Rattle.capnp_words.specs.declared.wire_pointer.StructSize.{StructSize}
 use Rattle.capnp_words.specs.Sizes.{size_number}
-use Rattle.capnp_arena.specs.View.{View}
-use Rattle.capnp_arena.specs.declared.arena.reader_arena.ReaderArena.{Ghosts}
+use Rattle.capnp_arena_traits.specs.View.{View}
+use Rattle.capnp_arena_traits.specs.declared.arena.reader_arena.ReaderArena.{Ghosts}
 use Rattle.capnp_format.specs.Means.{IsTag, Claims, count_cost}
 use Rattle.capnp_format.specs.Numbers.{words_for, unpacked}
 use Rattle.capnp_format.specs.Segments.{Segments, Target, segment, leads, AreWords}

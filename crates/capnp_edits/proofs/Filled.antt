@@ -4,8 +4,8 @@ use Rattle.std.specs.Prelude.{MatchOption, ⊤}
 use Rattle.capnp_words.specs.Meter.{Meter}
 use Rattle.capnp_words.specs.declared.error.ErrorKind.{ErrorKind}
 use Rattle.capnp_words.specs.declared.error.ErrorKind.TheVariants.{NoSuchPlace}
-use Rattle.capnp_arena.specs.View.{View, KeepsLimits}
-use Rattle.capnp_arena.specs.declared.arena.reader_arena.ReaderArena.{Ghosts}
+use Rattle.capnp_arena_traits.specs.View.{View, KeepsLimits}
+use Rattle.capnp_arena_traits.specs.declared.arena.reader_arena.ReaderArena.{Ghosts}
 use Rattle.capnp_format.specs.Bytes.{words_of}
 use Rattle.capnp_format.specs.Forest.{IsForest, target}
 use Rattle.capnp_format.specs.Segments.{Segments, Target}

@@ -17,7 +17,7 @@ use Rattle.capnp_format.specs.Segments.{Segments, Target, word_at, IsPlace}
 use Rattle.capnp_format.specs.Word.{struct_word}
 use Rattle.capnp_format.specs.Tree.{Tree, Null, Capability, Struct, Flat, Pointers, Structs, capabilities, count}
 use Rattle.capnp_format.proofs.Levels.{one_value}
-use Rattle.capnp_arena.specs.View.{View}
+use Rattle.capnp_arena_traits.specs.View.{View}
 use Rattle.capnp_making.specs.declared.existing.ExistingBytes.{ExistingBytes}
 use Rattle.capnp_making.specs.declared.existing.ExistingList.{ExistingList}
 use Rattle.capnp_making.specs.Existing.{is_unfound, list_in, data_in, text_in}

@@ -3,7 +3,7 @@ use Rattle.std.proofs.Common.{◌≡◌, ℕ, ◌+◌, ◌*◌, length, Option, 
 use Rattle.std.proofs.lemmas.List.{length-set}
 use Rattle.capnp_words.specs.declared.error.ErrorKind.{ErrorKind}
 use Rattle.capnp_words.specs.declared.wire_pointer.ElementSize.{ElementSize}
-use Rattle.capnp_arena.proofs.WordsOver.{lengths_kept}
+use Rattle.capnp_arena_traits.proofs.WordsOver.{lengths_kept}
 use Rattle.capnp_format.specs.Segments.{Segments, segment}
 use Rattle.capnp_making.specs.Fields.{put_field, with_field}
 use Rattle.capnp_making.specs.declared.existing.ExistingBytes.{ExistingBytes}
@@ -15,7 +15,7 @@ use Rattle.capnp_copies.specs.Originals.{Original}
 use Rattle.capnp_builders.specs.Places.{Field}
 use Rattle.capnp_edits.specs.Edits.{refusal_of, are_written, are_outside, PutsBits, PutsElement, element_put, element_past, no_list, list_denied, PutsByte, byte_put, byte_past, no_bytes_there, bytes_denied}
 use Rattle.capnp_edits.specs.Steps.{result_of}
-use Rattle.capnp_arena.specs.View.{View, KeepsLimits}
+use Rattle.capnp_arena_traits.specs.View.{View, KeepsLimits}
 use Rattle.capnp_widening.specs.Anew.{OnlyWrites}
 
 -- Every segment has as many words as before.

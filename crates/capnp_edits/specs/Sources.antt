@@ -14,10 +14,10 @@ use Rattle.capnp_format.specs.Segments.{Target, segment, words_at}
 use Rattle.capnp_format.specs.Tree.{Tree, Null, Struct, Flat, Pointers, Structs, Trees, no_trees}
 use Rattle.capnp_format.specs.Tree.{count}
 use Rattle.capnp_format.specs.Word.{kind, offset_bits, data_words, pointer_count, element_size, list_count}
-use Rattle.capnp_arena.specs.Checks.{Holds, misplaced}
-use Rattle.capnp_arena.specs.Limits.{whole}
-use Rattle.capnp_arena.specs.View.{View}
-use Rattle.capnp_arena.specs.declared.arena.reader_arena.ReaderArena.{Ghosts}
+use Rattle.capnp_arena_traits.specs.Checks.{Holds, misplaced}
+use Rattle.capnp_arena_traits.specs.Limits.{whole}
+use Rattle.capnp_arena_traits.specs.View.{View}
+use Rattle.capnp_arena_traits.specs.declared.arena.reader_arena.ReaderArena.{Ghosts}
 use Rattle.capnp_making.specs.Near.{HasOwnRoom}
 use Rattle.capnp_objects.specs.Demands.{IsStructList, tag}
 use Rattle.capnp_objects.specs.Expected.{struct_expected, list_expected, Withheld}

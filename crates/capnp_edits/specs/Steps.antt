@@ -5,7 +5,7 @@ use Rattle.std.specs.Borrow.{Bor}
 use Rattle.capnp_words.specs.Meter.{Meter}
 use Rattle.capnp_words.specs.declared.error.ErrorKind.{ErrorKind}
 use Rattle.capnp_words.specs.declared.error.ErrorKind.TheVariants.{NoSuchPlace}
-use Rattle.capnp_arena.specs.View.{View, KeepsLimits}
+use Rattle.capnp_arena_traits.specs.View.{View, KeepsLimits}
 use Rattle.capnp_format.specs.Bytes.{words_of}
 use Rattle.capnp_format.specs.Canonical.{word_count}
 use Rattle.capnp_format.specs.Forest.{IsForest, target}

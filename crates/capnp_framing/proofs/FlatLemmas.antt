@@ -9,12 +9,12 @@ use Rattle.std.proofs.lemmas.Nat.{le_bytes_4}
 use Rattle.capnp_format.specs.Bytes.{message, words_of}
 use Rattle.capnp_format.specs.Segments.{Segments}
 use Rattle.capnp_format.proofs.WordsOf.{small_word, words}
-use Rattle.capnp_arena.specs.Limits.{IsSmall}
+use Rattle.capnp_arena_traits.specs.Limits.{IsSmall}
 use Rattle.capnp_framing.specs.Flat.{BeginsWithFrame, first_told, part_at, parts}
 use Rattle.capnp_framing.specs.Frames.{AreSegmentWords, contents, frame, lengths, padding_size}
 use Rattle.capnp_framing.specs.Reading.{max_length, table_size, total, words_told}
 use Rattle.capnp_framing.proofs.ReadingLemmas.{AtTable, frame_read, length-frame_with, small_from_short}
-use Rattle.capnp_arena.proofs.MessageLemmas.{length-message}
+use Rattle.capnp_arena_traits.proofs.MessageLemmas.{length-message}
 use Rattle.capnp_framing.proofs.TableLemmas.{below_take, bytes-words}
 
 pub length-parts : (n : ℕ) (table bytes : List ℕ) → length (parts n table bytes) ≡ n

@@ -5,7 +5,7 @@ use Rattle.std.proofs.Math.Seq.{get_or-append_seam}
 use Rattle.std.specs.Int.{from_le_bytes, w32}
 use borrow.Author.Count.{below_more}
 use Rattle.capnp_format.specs.Bytes.{message}
-use Rattle.capnp_arena.specs.Limits.{IsSmall}
+use Rattle.capnp_arena_traits.specs.Limits.{IsSmall}
 use Rattle.capnp_framing.specs.Flat.{parts}
 use Rattle.capnp_framing.specs.Frames.{IsFrameOf, contents, padding_size}
 use Rattle.capnp_framing.specs.Reading.{words_told}

@@ -1,7 +1,8 @@
 -- One word or three are a command, and three its limits.
 use Rattle.std.proofs.Common.{◌≡◌, ◌∙◌, ◌<◌, ◌≤◌, ℕ, List, [], ◌∷◌, Option, Some, None, IfSome, String, Global, codes, length, map, slice_index_or, string_bytes, refl, ap, sym, subst, arith}
 use Rattle.capnp_arena.specs.declared.arena.reader_arena_impl.ReaderOptions.{ReaderOptions}
-use Rattle.capnp_layout.specs.Arguments.{AreArguments, IsBudget, IsCommand, IsNamed, IsNamedAlone, IsNesting}
+use Rattle.capnp_layout.specs.Arguments.{AreArguments, IsCommand, IsNamed, IsNamedAlone}
+use Rattle.capnp_messages.specs.Text.{IsBudget, IsNesting}
 use Rattle.capnp_layout.specs.declared.tool.args.Args.{Args}
 use Rattle.capnp_layout.specs.declared.tool.args.Args.TheVariants.{Canon, Check, Size, Frame, Unframe, FramedCanon, FramedCheck}
 

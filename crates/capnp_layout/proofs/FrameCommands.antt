@@ -1,8 +1,6 @@
 -- What the commands on frames answer and refuse follows from the lines that they are given.
-use Rattle.std.proofs.Common.{◌≡◌, ◌⊎◌, inl, inr, refl, zero, suc, ℕ, ◌<◌, ◌≤◌, List, [], ◌∷◌, ◌∙◌, length, slice_get, Some, sym, ap, subst, arith, length-append}
+use Rattle.std.proofs.Common.{◌≡◌, ℕ, ◌<◌, ◌≤◌, List, [], ◌∷◌, ◌∙◌, length, slice_get, Some, sym, ap, subst, arith, length-append}
 use Rattle.capnp_format.specs.Segments.{Segments}
-use Rattle.capnp_format.specs.Bytes.{message}
-use Rattle.capnp_arena.proofs.MessageLemmas.{length-message}
 use Rattle.capnp_framing.specs.Reading.{NoFrame}
 use Rattle.capnp_framing.proofs.FrameLemmas.{one_frame_begins}
 use Rattle.capnp_framing.proofs.ReadingLemmas.{frame_is_read}
@@ -40,19 +38,3 @@ pub one_message : {lines : List (List ℕ)} {S R : Segments} → HoldsFrame line
 one_message {S = S} {R = R} a b =
     let same : a.line ≡ b.line = (let lines : a.line ∷ [] ≡ b.line ∷ [] = sym a.only ∙ b.only in cc) in
     (one_frame_begins S R a.begins.front b.begins.front a.begins.behind b.begins.behind a.begins.framed b.begins.framed (sym a.begins.is ∙ same ∙ b.begins.is)).0
-
--- a number is one or isn't
-pub one_or_not : (n : ℕ) → (n ≡ 1) ⊎ (n ≡ 1 → ⊥)
-one_or_not zero = inr (λ e. absurd (omega arith))
-one_or_not (suc zero) = inl refl
-one_or_not (suc (suc n)) = inr (λ e. absurd (omega arith))
-
--- the test of a message isn't refused whose frame the only line holds, where it is answered wherever it covers that message
-pub frame_is_tested : (B : List (List ℕ)) {lines : List (List ℕ)} {S F : Segments} {U : Type 0} (P : Segments → Type 0) → HoldsFrame lines F → message B ≡ F → (P (message B) → ⊥) → ((length B ≡ 1 → ⊥) → U) → (U → ⊥)
-    → HoldsFrame lines S → (length S ≡ 1 → P S) → ⊥
-frame_is_tested B {S = S} P there same answered unread never holds tested =
-    let message_is : S ≡ message B = one_message holds there ∙ sym same in
-    elim (one_or_not (length B)) [
-      | inl one ↦ answered (subst P message_is (tested (ap length message_is ∙ length-message B ∙ one)))
-      | inr other ↦ never (unread other)
-    ]

@@ -2,13 +2,7 @@ pub mod Three
 pub mod CommandLemmas
 pub mod LineLemmas
 pub mod WritingLemmas
-pub mod CanonLemmas
-pub mod TryLemmas
 pub mod RunLemmas
-pub mod NumberLemmas
-pub mod SizeLemmas
 pub mod CheckLemmas
-pub mod CanonicalMessageLemmas
-pub mod CanonicalFrameLemmas
 pub mod FrameLines
 pub mod FrameCommands

@@ -1,13 +1,10 @@
 -- What a run answers follows from what it read.
-use Rattle.std.proofs.Common.{◌≡◌, refl, inl, inr, ℕ, ◌+◌, ◌≤◌, List, Option, Some, None, IfSome, sym, ap, ◌∙◌, subst, arith}
+use Rattle.std.proofs.Common.{◌≡◌, refl, inl, inr, ℕ, List, Option, Some, None, IfSome, sym, ap, ◌∙◌, subst}
 use Rattle.capnp_words.specs.declared.error.ErrorKind.{ErrorKind}
 use Rattle.capnp_words.specs.declared.error.ErrorKind.TheVariants.{AllocationFailed}
-use Rattle.capnp_format.specs.Tree.{Tree}
-use Rattle.capnp_format.specs.Canonical.{trim, word_count}
-use Rattle.capnp_words.specs.Meter.{FitsIn, less}
-use Rattle.capnp_arena.specs.Allocations.{max_segment_words, one_more}
-use Rattle.capnp_arena.specs.Limits.{IsSmall}
-use Rattle.capnp_objects.proofs.Refusals.{unreadable}
+use Rattle.capnp_format.specs.Bytes.{message}
+use Rattle.capnp_arena_traits.specs.Allocations.{one_more}
+use Rattle.capnp_arena_traits.specs.Limits.{IsSmall}
 use Rattle.capnp_arena.specs.declared.arena.reader_arena_impl.ReaderOptions.{ReaderOptions}
 use Rattle.capnp_layout.specs.declared.tool.args.Args.{Args}
 use Rattle.capnp_layout.specs.declared.tool.args.Args.TheVariants.{Canon}
@@ -17,43 +14,35 @@ use Rattle.capnp_layout.specs.Lines.{segments_of}
 use Rattle.capnp_layout.specs.Refusals.{refusal_line}
 use Rattle.capnp_layout.specs.declared.tool.refusal.Refusal.TheVariants.{Layout}
 use Rattle.capnp_layout.specs.Runs.{HasMoreLines, IsBadInput, WhereItIsAnswered, WritesCountedRefusal}
-use Rattle.capnp_layout.specs.Answers.{IsDoneOr, IsRefusedOutcome, LacksMemoryOr, RefusesMessage, ValueOf}
+use Rattle.capnp_messages.specs.Messages.{RefusesCanon}
+use Rattle.capnp_messages.proofs.AnsweredLemmas.{copy_lacks_memory}
+use Rattle.capnp_layout.specs.Answers.{IsDoneOr, IsRefusedOutcome, RefusesMessage}
+use Rattle.capnp_messages.specs.Copies.{LacksMemoryOr}
 use Rattle.capnp_layout.specs.Commands.{AnswersRefusal, HasAnswer, IsWithin, WantsMemory, WhereAnswered}
-use Rattle.capnp_layout.specs.Answers.RefusesMessage.{beyond_limits, at_root, below_root}
-use Rattle.capnp_layout.specs.Answers.RefusesRoot.{no_root, no_budget}
 
 pub if_some : {X : Type 0} (P : X → Type 0) (o : Option X) → ((x : X) → P x) → IfSome o P
 if_some P (Some x) f = f x
 if_some P None f = tt
 
--- what the budget covers besides the root pointer it covers behind it
-pub covers_rest : (budget : Option ℕ) (c : ℕ) → FitsIn budget (1 + c) → FitsIn (less budget 1) c
-covers_rest None c h = tt
-covers_rest (Some b) c h = omega arith
+-- what refuses a message, or the memory that it lacks, refuses its segments
+pub refuses_segments : (options : ReaderOptions) (segments : List (List ℕ)) {old new : ℕ} {k : ErrorKind}
+    → LacksMemoryOr old new k (RefusesCanon (message segments) options k) → LacksMemoryOr old new k (RefusesMessage segments (Canon options) k)
+refuses_segments options segments (inl memory) = inl memory
+refuses_segments options segments (inr (refused, same)) = inr (inr refused, same)
 
--- a message is not refused of which the root means a value whose canonical words fit a segment
-pub not_refused : (options : ReaderOptions) {segments : List (List ℕ)} {k : ErrorKind} {t : Tree}
-    → IsSmall segments → ValueOf segments options t → 1 + word_count (trim t) ≤ max_segment_words → RefusesMessage segments (Canon options) k → ⊥
-not_refused options small value fits (beyond_limits named large) = large small
-not_refused options small value fits (at_root (no_root named none)) = none value.root
-not_refused options small value fits (at_root (no_budget named root none)) =
-    absurd (let covered : FitsIn (Some 0) (1 + value.cost) = subst (λ (b : Option ℕ). FitsIn b (1 + value.cost)) none value.covered in omega arith)
-not_refused options {t = t} small value fits (below_root covers (inl (named, large, out))) =
-    absurd (let more = large t value.cost value.means in omega arith)
-not_refused options {t = t} small value fits (below_root covers (inr (m, refused))) =
-    (unreadable refused).only t value.cost value.means (λ _. value.free) (covers_rest options.traversal_limit_in_words value.cost value.covered)
-
--- a message with canonical words is refused for want of memory alone
-pub only_memory : (options : ReaderOptions) {segments : List (List ℕ)} {old new : ℕ} {k : ErrorKind}
+-- segments that have a canonical copy are refused one for want of memory alone
+pub only_memory : (options : ReaderOptions) (segments : List (List ℕ)) {old new : ℕ} {k : ErrorKind}
     → IsSmall segments → HasAnswer segments (Canon options) → LacksMemoryOr old new k (RefusesMessage segments (Canon options) k)
     → (k ≡ AllocationFailed) × (new ≡ one_more old)
-only_memory options small answered (inl memory) = memory
-only_memory options small (t, value, fits) (inr (refused, same)) = absurd (not_refused options small value fits refused)
+only_memory options segments small has (inl memory) = memory
+only_memory options segments small has (inr (inl (named, large), same)) = absurd (large small)
+only_memory options segments small has (inr (inr refused, same)) =
+    copy_lacks_memory (message segments) options has (inr (refused, same))
 
 -- what refuses a copy of what segments mean, or the memory that it lacks, is what `canon` and `framed-canon` answer
-pub answers_copy : {lines : List (List ℕ)} {old new : ℕ} {k : ErrorKind} (options : ReaderOptions) (P : List ℕ → Type 0) → LacksMemoryOr old new k (RefusesMessage lines (Canon options) k) → P (refusal_line (Layout k)) → AnswersRefusal lines (Canon options) old new P
-answers_copy options P (inl (named, risen)) written = inl (risen, subst (λ (k : ErrorKind). P (refusal_line (Layout k))) named written)
-answers_copy {k = k} options P (inr (refused, same)) written = inr ((Layout k, (k, refl, refused), written), same)
+pub answers_copy : {old new : ℕ} {k : ErrorKind} (options : ReaderOptions) (lines : List (List ℕ)) (P : List ℕ → Type 0) → LacksMemoryOr old new k (RefusesMessage lines (Canon options) k) → P (refusal_line (Layout k)) → AnswersRefusal lines (Canon options) old new P
+answers_copy options lines P (inl (named, risen)) written = inl (risen, subst (λ (k : ErrorKind). P (refusal_line (Layout k))) named written)
+answers_copy {k = k} options lines P (inr (refused, same)) written = inr ((Layout k, (k, refl, refused), written), same)
 
 -- what refuses the lines of a text refuses the text
 pub text_refused : (text : Option (List ℕ)) (args : Args) (lines : List (List ℕ)) (P : List ℕ → Type 0) {old mid new : ℕ}

@@ -5,16 +5,14 @@ use Rattle.std.specs.Prelude.{false, IsTrue, codes, length, ⊤}
 use Rattle.hex.specs.Hex.{encode_lower}
 use Rattle.capnp_words.specs.declared.error.ErrorKind.{ErrorKind}
 use Rattle.capnp_words.specs.declared.error.ErrorKind.TheVariants.{AllocationFailed, MessageTooLarge}
-use Rattle.capnp_words.specs.Meter.{Meter, unused}
 use Rattle.capnp_format.specs.Segments.{Segments}
 use Rattle.capnp_format.specs.Bytes.{message}
 use Rattle.capnp_format.specs.Tree.{Tree}
-use Rattle.capnp_format.specs.Canonical.{encoding, trim, word_count}
-use Rattle.capnp_arena.specs.Allocations.{max_segment_words, one_more}
-use Rattle.capnp_arena.specs.Limits.{IsSmall}
-use Rattle.capnp_arena.specs.View.{View}
+use Rattle.capnp_format.specs.Canonical.{encoding, trim}
+use Rattle.capnp_arena_traits.specs.Allocations.{one_more}
+use Rattle.capnp_arena_traits.specs.Limits.{IsSmall}
+use Rattle.capnp_arena_traits.specs.View.{View}
 use Rattle.capnp_arena.specs.declared.arena.reader_arena_impl.ReaderOptions.{ReaderOptions}
-use Rattle.capnp_objects.specs.Source.{levels}
 use Rattle.capnp_framing.specs.Flat.{BeginsWithFrame}
 use Rattle.capnp_framing.specs.Frames.{frame, max_frame_segments}
 use Rattle.capnp_framing.specs.Reading.{IsRefusedNumber, NoFrame}
@@ -27,9 +25,11 @@ use Rattle.capnp_layout.specs.declared.tool.refusal.Refusal.{Refusal}
 use Rattle.capnp_layout.specs.declared.tool.refusal.Refusal.TheVariants.{Layout}
 use Rattle.capnp_layout.specs.declared.tool.refusal.Refusal.TheVariants.{Frame as NoFrameFor}
 use Rattle.capnp_layout.specs.declared.tool.refusal.Refusal.TheVariants.{NoMessage}
-use Rattle.capnp_layout.specs.Answers.{CheckOf, HasSizeWithin, RefusesMessage, SizeOf, ValueOf}
-use Rattle.capnp_layout.specs.Answers.{check_line, digits_of, size_line}
-use Rattle.capnp_layout.specs.CanonicalMessages.{CanBeTested, IsCanonicalMessage, RefusesTest}
+use Rattle.capnp_messages.specs.Messages.{HasCanonicalCopy, HasSizeOf, HasSizeWithin, IsReadable, IsValueOf, RefusesCheck}
+use Rattle.capnp_layout.specs.Answers.{CheckOf, RefusesMessage}
+use Rattle.capnp_messages.specs.Text.{check_line, size_line}
+use Rattle.capnp_layout.specs.Answers.{digits_of}
+use Rattle.capnp_messages.specs.CanonicalMessages.{IsCanonicalMessage}
 use Rattle.capnp_layout.specs.Refusals.{refusal_line}
 
 -- the line of a message's frame
@@ -75,15 +75,15 @@ IsWithin _ lines = IsSmall lines
 -- P holds of the lines that a command answers with.
 abbrev pub Answers : List (List ℕ) → Args → (List ℕ → Type 0) → Type 0
 Answers lines (Canon options) P =
-    (t : Tree) × ValueOf lines options t × P (digits_of (encoding (trim t)) ++ 10 ∷ [])
-Answers lines (Check options) P = (yes : Bool) × CheckOf lines options yes × P (check_line yes)
+    (t : Tree) × IsValueOf (message lines) options t × P (digits_of (encoding (trim t)) ++ 10 ∷ [])
+Answers lines (Check options) P = (yes : Bool) × CheckOf (message lines) options yes × P (check_line yes)
 Answers lines (Size options) P =
-    (words : ℕ) × (caps : ℕ) × SizeOf lines options words caps × P (size_line words caps)
+    (words : ℕ) × (caps : ℕ) × HasSizeOf (message lines) options words caps × P (size_line words caps)
 Answers lines Frame P =
     (1 ≤ length lines) × (length lines ≤ max_frame_segments) × P (frame_line (message lines))
 Answers lines Unframe P = (S : Segments) × HoldsFrame lines S × P (segment_lines S)
 Answers lines (FramedCanon options) P =
-    (t : Tree) × ValueOf lines options t × P (frame_line (encoding (trim t) ∷ []))
+    (t : Tree) × IsValueOf (message lines) options t × P (frame_line (encoding (trim t) ∷ []))
 Answers lines (FramedCheck options) P = (yes : Bool) × TellsCanonical lines yes × P (message_line yes)
 
 -- The frame of a message that was made is written as a line, of which P holds.
@@ -92,20 +92,18 @@ AnswersFrame made P = (S : Segments) → made.words ≡ S → P (frame_line S)
 
 -- Wherever this holds there is an answer: there is a value whose canonical words fit a segment;
 -- canonical words; a size; as many segments as a frame holds; a frame; and, where that is of one
--- segment, a canonical message in it whose test the limits cover.
+-- segment, a message in it that means a value within the limits.
 abbrev pub HasAnswer : List (List ℕ) → Args → Type 0
 HasAnswer lines (Canon options) =
-    (t : Tree) × ValueOf lines options t × (1 + word_count (trim t) ≤ max_segment_words)
-HasAnswer lines (Check options) = CheckOf lines options true
-HasAnswer lines (Size options) = HasSizeWithin lines options
+    HasCanonicalCopy (message lines) options
+HasAnswer lines (Check options) = CheckOf (message lines) options true
+HasAnswer lines (Size options) = HasSizeWithin (message lines) options
 HasAnswer lines Frame = (1 ≤ length lines) × (length lines ≤ max_frame_segments)
 HasAnswer lines Unframe = (S : Segments) × HoldsFrame lines S
 HasAnswer lines (FramedCanon options) =
-    (t : Tree) × ValueOf lines options t × (1 + word_count (trim t) ≤ max_segment_words)
+    HasCanonicalCopy (message lines) options
 HasAnswer lines (FramedCheck options) =
-    (S : Segments) × HoldsFrame lines S ×
-    (length S ≡ 1 → CanBeTested S (levels options.nesting_limit)
-    (unused options.traversal_limit_in_words))
+    (S : Segments) × HoldsFrame lines S × (length S ≡ 1 → IsReadable S options)
 
 -- P holds wherever the lines are within the limits, and have an answer.
 abbrev pub WhereAnswered : List (List ℕ) → Args → Type 0 → Type 0
@@ -127,14 +125,9 @@ pub data RefusesFrame (lines : List (List ℕ)) (r : Refusal) : Type 0 where
       NoFrame line max_frame_words e → RefusesFrame lines r
 
 -- The message whose frame the only line holds has one segment, and its test is refused.
-pub record RefusesFramedTest (lines : List (List ℕ)) (options : ReaderOptions) (r : Refusal) : Type 0 where
-  pub message : Segments
-  pub kind : ErrorKind
-  pub after : Meter
-  pub holds : HoldsFrame lines message
-  pub named : r ≡ Layout kind
-  pub refused : RefusesTest message (levels options.nesting_limit)
-      (unused options.traversal_limit_in_words) after kind
+abbrev pub RefusesFramedTest : List (List ℕ) → ReaderOptions → Refusal → Type 0
+RefusesFramedTest lines options r =
+    (S : Segments) × HoldsFrame lines S × ((k : ErrorKind) × (r ≡ Layout k) × RefusesCheck S options k)
 
 -- The message is refused as a command refuses it that reads a value.
 abbrev pub RefusesLines : List (List ℕ) → Args → Refusal → Type 0

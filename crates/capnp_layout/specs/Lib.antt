@@ -3,9 +3,5 @@ pub mod Lines
 pub mod Messages
 pub mod Answers
 pub mod Refusals
-pub mod Tries
 pub mod Runs
-pub mod CanonicalMessages
-pub mod CanonicalErrors
 pub mod Commands
-pub mod CopyMemory

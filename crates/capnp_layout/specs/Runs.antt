@@ -1,7 +1,7 @@
 -- What a run of the program reads, and why it is refused.
 use Rattle.std.specs.Prelude.{◌≡◌, ◌⊎◌, ℕ, ◌≤◌, List, Option, Some, None, IfSome, length}
 use Rattle.capnp_words.specs.declared.error.ErrorKind.TheVariants.{AllocationFailed}
-use Rattle.capnp_arena.specs.Allocations.{one_more}
+use Rattle.capnp_arena_traits.specs.Allocations.{one_more}
 use Rattle.capnp_layout.specs.declared.tool.args.Args.{Args}
 use Rattle.capnp_layout.specs.declared.tool.refusal.Refusal.{Refusal}
 use Rattle.capnp_layout.specs.declared.tool.refusal.Refusal.TheVariants.{Layout}

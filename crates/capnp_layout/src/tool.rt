@@ -6,14 +6,14 @@ mod check;
 mod engine;
 mod framed;
 mod frames;
+mod limits;
 mod lines;
 mod reading;
 mod refusal;
-mod root;
 mod size;
 mod writing;
 
-pub use args::{Args, parse_args, parse_budget, parse_nesting};
+pub use args::{Args, parse_args};
+pub use capnp_messages::text::{parse_budget, parse_nesting, write_number, write_size};
 pub use engine::{Outcome, run, run_with};
 pub use refusal::Refusal;
-pub use writing::{write_number, write_size};

@@ -14,7 +14,7 @@ use Rattle.capnp_format.proofs.BytesLemmas.{words_are_bytes}
 use Rattle.capnp_format.proofs.Digits.{digits_again, from_digits-below, from_digits-digits}
 use Rattle.capnp_format.proofs.Lies.{pow_pow}
 use Rattle.capnp_format.proofs.WordsOf.{length-words_of, words_of-part, small_word}
-use Rattle.capnp_arena.specs.Written.{overwritten}
+use Rattle.capnp_arena_traits.specs.Written.{overwritten}
 use Rattle.capnp_making.specs.InPlace.{segments_with, Overwrites}
 use Rattle.capnp_making.specs.Made.{words_of_zero, LeadsToStart}
 use Rattle.capnp_making.specs.Stored.{IsStored, IsReplaced}

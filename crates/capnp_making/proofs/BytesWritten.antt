@@ -14,8 +14,8 @@ use Rattle.capnp_format.proofs.Bounds.{below_each}
 use Rattle.capnp_format.proofs.BytesLemmas.{words_are_bytes}
 use Rattle.capnp_format.proofs.Digits.{digits_again}
 use Rattle.capnp_format.proofs.WordsOf.{words, length-words_of, words_of-put_mid, words_of-part, small_word}
-use Rattle.capnp_arena.proofs.MessageLemmas.{segment-message}
-use Rattle.capnp_arena.specs.Written.{with_segment, with_words, overwritten}
+use Rattle.capnp_arena_traits.proofs.MessageLemmas.{segment-message}
+use Rattle.capnp_arena_traits.specs.Written.{with_segment, with_words, overwritten}
 use Rattle.capnp_making.specs.declared.making.Start.{Start}
 use Rattle.capnp_making.specs.Made.{words_of_zero, LeadsToStart}
 use Rattle.capnp_making.specs.Zeroed.{row}

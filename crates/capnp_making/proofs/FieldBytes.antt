@@ -14,7 +14,7 @@ use Rattle.capnp_format.proofs.WordsOf.{words, words_of-append}
 use Rattle.capnp_format.specs.Segments.{Segments, segment}
 use Rattle.capnp_words.proofs.LittleEndian.{eight_bytes}
 use Rattle.capnp_making.specs.Fields.{with_bits, put_field, with_field}
-use Rattle.capnp_arena.proofs.MessageLemmas.{segment-message}
+use Rattle.capnp_arena_traits.proofs.MessageLemmas.{segment-message}
 
 regrouped : (x b y p z : ℕ) → x + b * (y + p * z) ≡ x + b * y + p * b * z
 regrouped x b y p z = omega arith

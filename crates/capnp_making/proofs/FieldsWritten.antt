@@ -11,7 +11,7 @@ use Rattle.capnp_format.specs.Tree.{Struct, Flat, Structs, Trees, Elements, no_e
 use Rattle.capnp_format.specs.Means.{Means, MeansElements}
 use Rattle.capnp_format.specs.Forest.{Interval, times, object_of, target, target_in}
 use Rattle.capnp_format.proofs.Bounds.{digits_below}
-use Rattle.capnp_arena.specs.Written.{with_word}
+use Rattle.capnp_arena_traits.specs.Written.{with_word}
 use Rattle.capnp_making.specs.Fields.{with_bits, put_field, with_field}
 use Rattle.capnp_making.specs.Path.{struct_at, put_struct, word_interval}
 use Rattle.capnp_making.specs.Stored.{IsStored, IsReplaced}

@@ -10,7 +10,7 @@ use Rattle.capnp_format.specs.Tree.{Tree, Null, Struct, Flat, Pointers, Structs,
 use Rattle.capnp_format.specs.Means.{Leads, MeansAll, MeansElements}
 use Rattle.capnp_format.specs.Forest.{times, target, target_in}
 use Rattle.capnp_format.proofs.Digits.{length-digits}
-use Rattle.capnp_arena.specs.Written.{with_words}
+use Rattle.capnp_arena_traits.specs.Written.{with_words}
 use Rattle.capnp_making.specs.Filled.{AreFilled, AreElementsFilled, ArePartlyFilled}
 use Rattle.capnp_making.specs.Made.{LeadsToStart, WordsLieFrom, words_of_zero, nulls, zero_elements}
 use Rattle.capnp_making.specs.Path.{Child, Element, word_interval}

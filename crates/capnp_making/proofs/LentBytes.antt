@@ -23,7 +23,7 @@ use borrow.Rule.Slice.Know.{AllWt, cells_fit}
 use borrow.Rule.Slice.Shared.{Sh}
 use borrow.Table.Referent.{f_int, rt_f}
 use borrow.Table.Elements.{at, at_mul, cut_app, join_app, length-take-le}
-use Rattle.capnp_arena.specs.Written.{overwritten}
+use Rattle.capnp_arena_traits.specs.Written.{overwritten}
 
 module _ {M : Type 1} {𝓤 : Ura M} (𝓛 : Logic 𝓤) (κ : Lft) (q : Share) (b o : ℕ) (γ : GName) (a n : ℕ) (xs : List ℕ) (le : a + n ≤ length xs) where
   open 𝓛 use {H, A}

@@ -10,8 +10,8 @@ use Rattle.capnp_format.specs.Means.{Leads}
 use Rattle.capnp_format.specs.Forest.{times, pads_of}
 use Rattle.capnp_format.proofs.Lies.{reaches_offset, near_leads}
 use Rattle.capnp_format.proofs.Following.{IsOffsetTo}
-use Rattle.capnp_arena.specs.Taking.{IsTaken, with_another}
-use Rattle.capnp_arena.specs.Written.{with_word, extended}
+use Rattle.capnp_arena_traits.specs.Taking.{IsTaken, with_another}
+use Rattle.capnp_arena_traits.specs.Written.{with_word, extended}
 use Rattle.capnp_making.specs.Path.{word_interval}
 use Rattle.capnp_making.proofs.Leading.{single_far_leads}
 use Rattle.capnp_making.specs.Zeroed.{row, IsPruned, IsPrunedBut}

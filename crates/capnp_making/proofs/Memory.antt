@@ -3,9 +3,9 @@ use Rattle.std.proofs.Common.{◌≡◌, inl, inr, ℕ, ◌+◌, ◌≤◌, leng
 use Rattle.capnp_words.specs.declared.error.ErrorKind.{ErrorKind}
 use Rattle.capnp_words.specs.declared.error.ErrorKind.TheVariants.{AllocationFailed}
 use Rattle.capnp_format.specs.Segments.{Segments, segment}
-use Rattle.capnp_arena.specs.Allocations.{one_more}
-use Rattle.capnp_arena.specs.Taking.{IsAllocationRefusal}
-use Rattle.capnp_arena.specs.View.{View, KeepsLimits}
+use Rattle.capnp_arena_traits.specs.Allocations.{one_more}
+use Rattle.capnp_arena_traits.specs.Taking.{IsAllocationRefusal}
+use Rattle.capnp_arena_traits.specs.View.{View, KeepsLimits}
 use Rattle.capnp_making.specs.Memory.{HasRoom, KeepsMemory, refusals_for, SpendsMemory, IsRefusedFor, RefusesWords}
 use Rattle.capnp_making.specs.Zeroed.{IsPruned}
 

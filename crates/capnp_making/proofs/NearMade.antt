@@ -3,7 +3,7 @@ use Rattle.std.proofs.Common.{◌≡◌, ℕ, zero, suc, ◌+◌, List, [], ◌�
 use Rattle.std.proofs.lemmas.List.{set-append_left, length-set}
 use Rattle.std.proofs.Math.Seq.{set-append_seam}
 use Rattle.capnp_format.specs.Segments.{Segments, segment, IsPlace}
-use Rattle.capnp_arena.specs.Written.{with_word, extended}
+use Rattle.capnp_arena_traits.specs.Written.{with_word, extended}
 use Rattle.capnp_making.specs.Near.{with_object}
 
 -- a word of a segment is written before or after more words are taken behind its own

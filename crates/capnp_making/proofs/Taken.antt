@@ -3,9 +3,9 @@ use Rattle.std.proofs.Common.{◌≡◌, ◌⊎◌, inl, inr, ℕ, zero, suc, �
 use Rattle.std.proofs.lemmas.List.{length-set, length-append, length-replicate, get_or_append_left, get_or-append_right, get_or_past}
 use Rattle.std.proofs.lemmas.Bool.{cases_lt, cases_eq}
 use Rattle.capnp_format.specs.Segments.{Segments, segment}
-use Rattle.capnp_arena.specs.Taking.{IsFirstFit, IsFull, GrowsSegment, GainsSegment, with_another}
-use Rattle.capnp_arena.specs.View.{View, KeepsLimits}
-use Rattle.capnp_arena.specs.Written.{extended}
+use Rattle.capnp_arena_traits.specs.Taking.{IsFirstFit, IsFull, GrowsSegment, GainsSegment, with_another}
+use Rattle.capnp_arena_traits.specs.View.{View, KeepsLimits}
+use Rattle.capnp_arena_traits.specs.Written.{extended}
 use Rattle.capnp_format.specs.Forest.{target}
 use Rattle.capnp_making.specs.Made.{LeadsToStart}
 use Rattle.capnp_making.specs.Makes.{call_at}

@@ -5,7 +5,7 @@ use Rattle.std.proofs.Math.Seq.{take-append_seam}
 use Rattle.std.proofs.lemmas.Bool.{cases_eq, cases_lt}
 use Rattle.capnp_format.specs.Segments.{Segments, segment, word_at, HasWords}
 use Rattle.capnp_format.specs.Forest.{times}
-use Rattle.capnp_arena.specs.Written.{with_words, overwritten}
+use Rattle.capnp_arena_traits.specs.Written.{with_words, overwritten}
 use Rattle.capnp_making.specs.Zeroed.{row}
 use Rattle.capnp_making.proofs.Zeros.{there, segment_here, word_here, word_other, lengths_kept, length-over, over_beside, of_row}
 use Rattle.capnp_making.proofs.Written.{SameLengths, SameBut}

@@ -5,8 +5,8 @@ use Rattle.std.proofs.lemmas.Bool.{cases_lt, cases_eq}
 use Rattle.std.proofs.lemmas.Bool.Decides.{nat_tests}
 use Rattle.capnp_format.specs.Segments.{Segments, segment, word_at}
 use Rattle.capnp_format.specs.Forest.{Interval, times}
-use Rattle.capnp_arena.specs.Written.{with_segment, overwritten, with_words, with_word}
-pub use Rattle.capnp_arena.proofs.WordsOver.{segment_here, segment_other, word_here, word_other, lengths_kept, length-over, over_within, over_beside}
+use Rattle.capnp_arena_traits.specs.Written.{with_segment, overwritten, with_words, with_word}
+pub use Rattle.capnp_arena_traits.proofs.WordsOver.{segment_here, segment_other, word_here, word_other, lengths_kept, length-over, over_within, over_beside}
 pub use Rattle.capnp_format.proofs.Frame.{in_row, of_row}
 pub use Rattle.capnp_format.proofs.Slices.{there}
 use Rattle.capnp_making.specs.Path.{word_interval}

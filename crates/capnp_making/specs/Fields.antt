@@ -2,7 +2,7 @@
 -- lowest bit on.
 use Rattle.std.specs.Prelude.{ℕ, ◌+◌, ◌*◌, ◌/◌, ◌%◌, ◌^◌, List, get_or, slice_set}
 use Rattle.capnp_format.specs.Segments.{Segments, segment}
-use Rattle.capnp_arena.specs.Written.{with_segment}
+use Rattle.capnp_arena_traits.specs.Written.{with_segment}
 
 -- the number x with v in place of its w bits from bit o on
 abbrev pub with_bits : ℕ → ℕ → ℕ → ℕ → ℕ

@@ -4,7 +4,7 @@ use Rattle.std.specs.Prelude.{◌≡◌, ℕ, ◌+◌, ◌*◌, ◌<◌, ◌≤�
 use Rattle.capnp_format.specs.Segments.{Segments}
 use Rattle.capnp_format.specs.Tree.{Null, Trees, no_trees, tree, count, Elements, no_elements}
 use Rattle.capnp_format.specs.Tree.{element, element_count}
-use Rattle.capnp_arena.specs.Written.{with_words}
+use Rattle.capnp_arena_traits.specs.Written.{with_words}
 use Rattle.capnp_making.specs.Stored.{IsReplaced}
 
 -- From S to R the null pointers from position p on, one behind the other, get these values, one

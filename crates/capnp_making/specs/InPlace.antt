@@ -7,7 +7,7 @@ use Rattle.capnp_format.specs.Forest.{target}
 use Rattle.capnp_format.specs.Numbers.{words_for}
 use Rattle.capnp_format.specs.Segments.{Segments}
 use Rattle.capnp_format.specs.Tree.{Tree, Flat}
-use Rattle.capnp_arena.specs.Written.{overwritten}
+use Rattle.capnp_arena_traits.specs.Written.{overwritten}
 use Rattle.capnp_making.specs.Made.{LeadsToStart, zero_list}
 use Rattle.capnp_making.specs.Makes.{CallAt, MakesObject}
 use Rattle.capnp_making.specs.Stored.{IsStored, IsReplaced}

@@ -4,7 +4,7 @@ use Rattle.capnp_words.specs.declared.error.ErrorKind.{ErrorKind}
 use Rattle.capnp_format.specs.Forest.{cover, target, times}
 use Rattle.capnp_format.specs.Segments.{word_at}
 use Rattle.capnp_format.specs.Tree.{Tree, Null}
-use Rattle.capnp_arena.specs.View.{View}
+use Rattle.capnp_arena_traits.specs.View.{View}
 use Rattle.capnp_making.specs.Made.{LeadsToStart, WordsLieFrom}
 use Rattle.capnp_making.specs.Memory.{HasRoom, KeepsMemory, TakesWords, StandsBehind, start_of, IsRefusedFor}
 use Rattle.capnp_making.specs.Stored.{IsStored, Puts}

@@ -4,9 +4,9 @@ use Rattle.std.specs.Prelude.{ℕ, ◌≡◌, ◌≢◌, ◌⊎◌, ◌+◌, ◌
 use Rattle.capnp_format.specs.Segments.{Segments, segment, Target}
 use Rattle.capnp_words.specs.declared.error.ErrorKind.{ErrorKind}
 use Rattle.capnp_words.specs.declared.error.ErrorKind.TheVariants.{AllocationFailed}
-use Rattle.capnp_arena.specs.Allocations.{one_more}
-use Rattle.capnp_arena.specs.View.{View}
-use Rattle.capnp_arena.specs.Taking.{IsFirstFit, IsFull, IsAllocationRefusal, SameRoomBelow}
+use Rattle.capnp_arena_traits.specs.Allocations.{one_more}
+use Rattle.capnp_arena_traits.specs.View.{View}
+use Rattle.capnp_arena_traits.specs.Taking.{IsFirstFit, IsFull, IsAllocationRefusal, SameRoomBelow}
 use Rattle.capnp_making.specs.declared.making.Start.{Start}
 
 -- Segment id has room for n words more, or some segment has room for them and a pad.

@@ -5,7 +5,7 @@ ghost use Rattle.std.specs.Prelude.{◌≡◌, ℕ, ◌<◌, ◌≤◌, ◌+◌,
 ghost use Rattle.capnp_format.specs.Numbers.{words_for};
 ghost use Rattle.capnp_format.specs.Segments.{segment, IsPlace};
 ghost use Rattle.capnp_format.specs.Tree.{Flat};
-ghost use Rattle.capnp_arena.specs.View.{KeepsLimits};
+ghost use Rattle.capnp_arena_traits.specs.View.{KeepsLimits};
 ghost use Rattle.capnp_making.specs.InPlace.{segments_with};
 ghost use Rattle.capnp_making.specs.Made.{words_of_zero};
 ghost use Rattle.capnp_making.specs.Makes.{MakesObject, call_at};
@@ -13,7 +13,7 @@ ghost use Rattle.capnp_making.specs.Near.{LeadsToEnd};
 ghost use Rattle.capnp_making.specs.Stored.{PutsOnceZeroed};
 
 use crate::making::{Start, init_list};
-use capnp_arena::arena::BuilderArena;
+use capnp_arena_traits::arena::BuilderArena;
 use capnp_words::error::ErrorKind;
 use capnp_words::lanes;
 use capnp_words::wire_pointer::ElementSize;

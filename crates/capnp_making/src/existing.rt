@@ -13,7 +13,7 @@ ghost use Rattle.capnp_making.specs.Stored.{IsStored};
 ghost use Rattle.capnp_making.specs.Existing.{BytesLieIn, capability_of, capability_in, listed, landing_in, is_unfound, plain_misfit, structs_misfit, unless, plain_list, struct_list, list_in, data_in, text_in, struct_in, AreInside, StructLiesIn, bytes_in, ends_in_zero};
 
 use crate::landing::{Landing, landing_of, length_of, word_of};
-use capnp_arena::arena::BuilderArena;
+use capnp_arena_traits::arena::BuilderArena;
 use capnp_words::error::ErrorKind;
 use capnp_words::wire_pointer::{
     ElementSize, StructSize, WirePointer, WirePointerKind, data_bits_per_element,

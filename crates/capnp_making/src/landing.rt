@@ -4,7 +4,7 @@ ghost use Rattle.capnp_format.specs.Segments.{segment, word_at, leads, near, far
 ghost use Rattle.capnp_format.specs.Word.{kind, is_double};
 ghost use Rattle.capnp_making.specs.Landings.{target_of};
 
-use capnp_arena::arena::BuilderArena;
+use capnp_arena_traits::arena::BuilderArena;
 use capnp_words::wire_pointer::{WirePointer, WirePointerKind};
 use capnp_words::words;
 

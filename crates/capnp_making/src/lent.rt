@@ -3,14 +3,14 @@ ghost use Rattle.std.specs.Prelude.{◌≡◌, ℕ, ◌+◌, ◌-◌, ◌^◌, �
 ghost use Rattle.std.specs.Borrow.{sem, Lends, Array, u8 as byte};
 ghost use Rattle.capnp_format.specs.Segments.{IsPlace};
 ghost use Rattle.capnp_format.specs.Value.{AreBelow};
-ghost use Rattle.capnp_arena.specs.Written.{overwritten};
+ghost use Rattle.capnp_arena_traits.specs.Written.{overwritten};
 ghost use Rattle.capnp_making.specs.Existing.{AreInside};
 ghost use Rattle.capnp_making.specs.InPlace.{bytes_there, rewritten, segments_with, AreZeroOnce, LendsBytes, MakesBytes, Overwrites};
 ghost use Rattle.capnp_making.specs.Makes.{ReachesArena, call_at};
 
 use crate::existing::ExistingBytes;
 use crate::making::init_list;
-use capnp_arena::arena::BuilderArena;
+use capnp_arena_traits::arena::BuilderArena;
 use capnp_words::error::ErrorKind;
 use capnp_words::wire_pointer::ElementSize;
 

@@ -9,18 +9,18 @@ ghost use Rattle.capnp_format.specs.Segments.{segment, word_at, IsPlace};
 ghost use Rattle.capnp_format.specs.Tree.{Null, Capability};
 ghost use Rattle.capnp_format.specs.Word.{offset_bits, struct_word, capability_word};
 ghost use Rattle.capnp_words.specs.Sizes.{size_number};
-ghost use Rattle.capnp_arena.specs.Taking.{IsFirstFit};
-ghost use Rattle.capnp_arena.specs.View.{KeepsLimits};
+ghost use Rattle.capnp_arena_traits.specs.Taking.{IsFirstFit};
+ghost use Rattle.capnp_arena_traits.specs.View.{KeepsLimits};
 ghost use Rattle.capnp_making.specs.Made.{IsShape, CountFits, AsksWords, zero_struct, zero_structs, zero_list, list_words, words_of_zero, IsMadeAt};
 ghost use Rattle.capnp_making.specs.Makes.{Allocates, MakesObject, ObjectStartsAt, call_at};
 ghost use Rattle.capnp_making.specs.Memory.{KeepsMemory, IsNextRoom, Lengthens, StandsBehind, IsRefusedFor};
 ghost use Rattle.capnp_making.specs.Near.{HasOwnRoom, HasStructRoom, HasStructsRoom, StartsBehind, offset_behind, shape_word, with_object, with_struct, with_list, with_struct_list};
 ghost use Rattle.capnp_making.specs.Stored.{IsReplaced, Puts, PutsOnceZeroed};
 ghost use Rattle.capnp_making.specs.Zeroed.{IsPruned, IsPrunedBut};
-ghost use Rattle.capnp_arena.specs.Written.{with_word};
+ghost use Rattle.capnp_arena_traits.specs.Written.{with_word};
 
 use crate::zeroing::zero_object;
-use capnp_arena::arena::BuilderArena;
+use capnp_arena_traits::arena::BuilderArena;
 use capnp_words::error::ErrorKind;
 use capnp_words::wire_pointer::{
     ElementSize, StructSize, WirePointer, data_bits_per_element, offset_between,

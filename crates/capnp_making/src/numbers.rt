@@ -5,7 +5,7 @@ ghost use Rattle.capnp_format.specs.Bytes.{words_of};
 ghost use Rattle.capnp_format.specs.Segments.{segment};
 ghost use Rattle.capnp_making.specs.Fields.{with_field, field_in};
 
-use capnp_arena::arena::BuilderArena;
+use capnp_arena_traits::arena::BuilderArena;
 use capnp_words::primitive::Primitive;
 
 /// Writes a number over the bytes of a segment from a position on, which is in bytes and a multiple

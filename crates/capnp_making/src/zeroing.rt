@@ -1,6 +1,6 @@
 //! What a pointer holds made zero: the object, all below it, and the landing pads.
 ghost use Rattle.std.specs.Prelude.{◌≡◌, ℕ, ◌<◌, ◌≤◌, ◌+◌, ◌*◌, ◌^◌, ◌∷◌, [], length, IsTrue, ◌↔◌};
-ghost use Rattle.capnp_arena.specs.View.{KeepsLimits};
+ghost use Rattle.capnp_arena_traits.specs.View.{KeepsLimits};
 ghost use Rattle.capnp_format.specs.Segments.{segment, word_at, IsPlace};
 ghost use Rattle.capnp_format.specs.Tree.{Tree};
 ghost use Rattle.capnp_format.specs.Word.{far_position, is_double, kind, upper_half};
@@ -10,7 +10,7 @@ ghost use Rattle.capnp_making.specs.Landings.{target_of};
 ghost use Rattle.capnp_making.specs.Zeroed.{IsZeroed, IsPruned, IsApart, IsObjectZeroed, IsStructZeroed, ArePointersZeroed, IsStructListZeroed, AreElementsZeroed};
 
 use crate::landing::{Landing, follow, length_of, word_of};
-use capnp_arena::arena::BuilderArena;
+use capnp_arena_traits::arena::BuilderArena;
 use capnp_words::wire_pointer::{
     ElementSize, StructSize, WirePointer, WirePointerKind, data_bits_per_element,
 };

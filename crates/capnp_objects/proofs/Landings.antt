@@ -11,7 +11,7 @@ use Rattle.capnp_format.specs.Segments.{Segments, segment, word_at, Target, ◌>
 use Rattle.capnp_words.specs.Meter.{Meter, less, raised, Affords, charged, counted_once}
 use Rattle.capnp_objects.specs.declared.object.Object.{Object}
 use Rattle.capnp_objects.specs.declared.object.Object.TheVariants.{Null as ObjectNull, Capability as ObjectCapability, Struct as ObjectStruct, Flat as ObjectFlat, Pointers as ObjectPointers, Structs as ObjectStructs}
-use Rattle.capnp_arena.specs.declared.arena.reader_arena.ReaderArena.{Ghosts}
+use Rattle.capnp_arena_traits.specs.declared.arena.reader_arena.ReaderArena.{Ghosts}
 use Rattle.capnp_objects.specs.declared.source.Source.{Source}
 use Rattle.capnp_objects.specs.declared.source.Source.TheVariants.{Arena, Default, Nothing}
 use Rattle.std.specs.Borrow.{Bor}
@@ -19,8 +19,8 @@ use Rattle.capnp_objects.specs.declared.source.Found.{Found}
 use Rattle.capnp_objects.specs.declared.object.Place.{Place}
 use Rattle.capnp_words.specs.declared.wire_pointer.WirePointer.{WirePointer}
 use Rattle.capnp_format.specs.Bytes.{words_of, message}
-use Rattle.capnp_arena.specs.Checks.{IsUnknown}
-use Rattle.capnp_arena.proofs.MessageLemmas.{length-message}
+use Rattle.capnp_arena_traits.specs.Checks.{IsUnknown}
+use Rattle.capnp_arena_traits.proofs.MessageLemmas.{length-message}
 use Rattle.capnp_objects.proofs.Decided.{within_or_not}
 use Rattle.capnp_objects.specs.Spending.{after, Paid}
 use Rattle.capnp_objects.specs.Source.{default_segments}

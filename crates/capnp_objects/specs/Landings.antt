@@ -22,7 +22,7 @@ use Rattle.capnp_objects.specs.declared.object.Object.TheVariants.{Pointers as O
 use Rattle.capnp_objects.specs.declared.object.Object.TheVariants.{Structs as ObjectStructs}
 use Rattle.capnp_objects.specs.declared.source.Found.{Found}
 use Rattle.capnp_objects.specs.declared.source.landing.Entrance.{Entrance}
-use Rattle.capnp_arena.specs.declared.arena.reader_arena.ReaderArena.{Ghosts}
+use Rattle.capnp_arena_traits.specs.declared.arena.reader_arena.ReaderArena.{Ghosts}
 use Rattle.capnp_objects.specs.declared.object.Purpose.{Purpose}
 use Rattle.capnp_objects.specs.Demands.{claim, tag, amplified, Meets}
 use Rattle.capnp_objects.specs.Wanted.{BreaksObject, follow_at}

@@ -21,7 +21,7 @@ mod measure;
 mod types;
 
 use crate::object::{Object, Place, Purpose};
-use capnp_arena::arena::ReaderArena;
+use capnp_arena_traits::arena::ReaderArena;
 use capnp_words::error::ErrorKind;
 use capnp_words::read_limiter::ReadLimiter;
 use capnp_words::wire_pointer::{WirePointer, WirePointerKind};

@@ -15,7 +15,7 @@ use Rattle.capnp_objects.specs.Objects.{IsHeld}
 use Rattle.capnp_objects.specs.declared.object.Place.{Place}
 use Rattle.capnp_readers.specs.Sections.{IsInside, IsPart, bytes_for, HoldsPointer, elements_words, pointers_behind}
 use Rattle.capnp_objects.specs.Source.{default_segments}
-use Rattle.capnp_arena.specs.declared.arena.reader_arena.ReaderArena.{Ghosts}
+use Rattle.capnp_arena_traits.specs.declared.arena.reader_arena.ReaderArena.{Ghosts}
 use Rattle.capnp_readers.specs.declared.readers.list_reader.ListReader.{ListReader}
 use Rattle.capnp_objects.proofs.Defaults.{default_at}
 

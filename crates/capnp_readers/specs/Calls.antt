@@ -12,7 +12,7 @@ use Rattle.capnp_format.specs.Segments.{Target, word_at, words_at}
 use Rattle.capnp_format.specs.Word.{list_count}
 use Rattle.capnp_words.specs.declared.wire_pointer.ElementSize.{ElementSize}
 use Rattle.capnp_words.specs.declared.wire_pointer.ElementSize.TheVariants.{Void}
-use Rattle.capnp_arena.specs.declared.arena.reader_arena.ReaderArena.{Ghosts}
+use Rattle.capnp_arena_traits.specs.declared.arena.reader_arena.ReaderArena.{Ghosts}
 use Rattle.capnp_objects.specs.declared.source.Source.TheVariants.{Default, Nothing}
 use Rattle.capnp_objects.specs.Expected.{Expectation, Withheld}
 use Rattle.capnp_objects.specs.Outcomes.{Entered}

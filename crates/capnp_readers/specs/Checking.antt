@@ -33,7 +33,7 @@ use Rattle.capnp_objects.specs.Reading.{pointers_of, sized, tag_size}
 use Rattle.capnp_objects.specs.Refusals.{Stopped, GoesBefore}
 use Rattle.capnp_objects.specs.Spending.{Paid, pointers_in, pointers_in_all, pointers_in_elements}
 use Rattle.capnp_objects.specs.Wanted.{plain}
-use Rattle.capnp_arena.specs.declared.arena.reader_arena.ReaderArena.{Ghosts}
+use Rattle.capnp_arena_traits.specs.declared.arena.reader_arena.ReaderArena.{Ghosts}
 use Rattle.capnp_objects.specs.declared.source.Source.TheVariants.{Nothing}
 use Rattle.capnp_objects.specs.declared.object.Purpose.TheVariants.{Value}
 use Rattle.capnp_readers.specs.Sizes.{own_words, pointers_read}

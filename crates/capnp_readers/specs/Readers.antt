@@ -9,7 +9,7 @@ use Rattle.capnp_format.specs.Word.{kind, offset_bits, data_words, pointer_count
 use Rattle.capnp_format.specs.Word.{list_count, upper_half}
 use Rattle.capnp_words.specs.declared.wire_pointer.ElementSize.{ElementSize}
 use Rattle.capnp_words.specs.declared.wire_pointer.ElementSize.TheVariants.{Pointer, InlineComposite}
-use Rattle.capnp_arena.specs.declared.arena.reader_arena.ReaderArena.{Ghosts}
+use Rattle.capnp_arena_traits.specs.declared.arena.reader_arena.ReaderArena.{Ghosts}
 use Rattle.capnp_objects.specs.Demands.{tag}
 use Rattle.capnp_objects.specs.Reading.{Reading, source_start, reading_at, word_of}
 use Rattle.capnp_objects.specs.Outcomes.{Entered}

@@ -4,7 +4,7 @@ ghost use Rattle.capnp_format.specs.Bytes.{message};
 ghost use Rattle.capnp_words.specs.Meter.{Meter, Affords, charged};
 ghost use Rattle.capnp_format.specs.Segments.{word_at, segment, IsPlace};
 ghost use Rattle.capnp_words.specs.declared.error.ErrorKind.TheVariants.{MessageContainsOutOfBoundsPointer, ReadLimitExceeded};
-ghost use Rattle.capnp_arena.specs.Checks.{Holds, misplaced};
+ghost use Rattle.capnp_arena_traits.specs.Checks.{Holds, misplaced};
 ghost use Rattle.capnp_objects.specs.Source.{default_segment, levels};
 ghost use Rattle.capnp_objects.specs.Refusals.{Stopped, CanBeRead};
 ghost use Rattle.capnp_objects.specs.Objects.{IsHeld};
@@ -26,7 +26,7 @@ mod struct_reader;
 mod target;
 
 pub use canonical_fault::{CanonicalFault, CanonicalFaultReason};
-use capnp_arena::arena::ReaderArena;
+use capnp_arena_traits::arena::ReaderArena;
 use capnp_objects::object::{Expected, Object, Place};
 use capnp_objects::source::Source;
 use capnp_words::error::ErrorKind;

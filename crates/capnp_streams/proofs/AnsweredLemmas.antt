@@ -1,79 +1,26 @@
 -- Of messages that have an answer none is refused: a fault is that of memory or of a device.
-use Rattle.std.proofs.Common.{◌≡◌, ◌⊎◌, inl, inr, ℕ, ◌+◌, ◌++◌, ◌≤◌, List, [], ◌∷◌, Bool, Option, Some, None}
+use Rattle.std.proofs.Common.{◌≡◌, ◌⊎◌, inl, inr, ℕ, ◌+◌, ◌++◌, List, [], ◌∷◌, Bool, Option, Some, None}
 use Rattle.std.proofs.Common.{All, IfSome, IsSomeAnd}
-use Rattle.std.proofs.Common.{refl, sym, ◌∙◌, subst, arith}
+use Rattle.std.proofs.Common.{refl, sym, ◌∙◌, subst}
 use Rattle.std.proofs.lemmas.List.Elements.{All-head, All-tail}
 use Rattle.std.specs.Io.KnownBytes.{Consumes}
-use Rattle.capnp_words.specs.Meter.{FitsIn, unused}
-use Rattle.capnp_words.specs.declared.error.ErrorKind.{ErrorKind}
-use Rattle.capnp_words.specs.declared.error.ErrorKind.TheVariants.{AllocationFailed}
 use Rattle.capnp_format.specs.Segments.{Segments}
-use Rattle.capnp_format.specs.Canonical.{trim, word_count}
-use Rattle.capnp_format.specs.Tree.{Tree}
-use Rattle.capnp_arena.specs.Allocations.{max_segment_words}
-use Rattle.capnp_arena.specs.declared.arena.reader_arena_impl.ReaderOptions.{ReaderOptions}
-use Rattle.capnp_objects.specs.Sizing.{HasSize}
-use Rattle.capnp_objects.proofs.Refusals.{unreadable}
 use Rattle.capnp_framing.specs.Flat.{BeginsWithFrame}
 use Rattle.capnp_framing.specs.Reading.{NoFrame}
 use Rattle.capnp_framing.proofs.FrameLemmas.{one_frame_begins}
 use Rattle.capnp_framing.proofs.ReadingLemmas.{frame_is_read}
-use Rattle.capnp_readers.proofs.Walking.{no_size}
-use Rattle.capnp_layout.specs.Answers.{CoversRoot, RefusesRoot}
-use Rattle.capnp_layout.specs.Answers.RefusesRoot.{no_root, no_budget}
-use Rattle.capnp_layout.proofs.RunLemmas.{covers_rest}
-use Rattle.capnp_streams.specs.Messages.{IsReadable, IsValueOf, RefusesCanon, RefusesCheck, RefusesSize}
-use Rattle.capnp_streams.specs.Messages.{left_of, root_within}
-use Rattle.capnp_streams.specs.Streams.{AreDone, AreFrames, CanBeAnswered, HasAnswerWithin, IsOfDevices}
-use Rattle.capnp_streams.specs.Streams.{RefusesAnswer, RefusesBy, Stage, StopsAt, StopsBehind, WhereAnswerable, most_words}
+use Rattle.capnp_messages.specs.Commands.{HasAnswerWithin}
+use Rattle.capnp_messages.proofs.AnsweredLemmas.{answer_refused}
+use Rattle.capnp_messages.proofs.FramesLemmas.{no_bytes_begin}
+use Rattle.capnp_streams.specs.Streams.{AreDone, AreFrames, CanBeAnswered, IsOfDevices}
+use Rattle.capnp_streams.specs.Streams.{RefusesBy, Stage, StopsAt, StopsBehind, WhereAnswerable, most_words}
 use Rattle.capnp_framing.specs.declared.framing.frame_error.FrameError.{FrameError}
 use Rattle.capnp_framing.specs.declared.framing.frame_error.FrameError.TheVariants.{WriteFailed}
 use Rattle.capnp_streams.specs.declared.streams.fault.Fault.{Fault}
 use Rattle.capnp_streams.specs.declared.streams.fault.Fault.TheVariants.{Frame, Layout, TooManyMessages}
 use Rattle.capnp_streams.specs.declared.streams.runs.Summary.{Summary}
-use Rattle.capnp_streams.specs.declared.streams.task.Command.{Command}
-use Rattle.capnp_streams.specs.declared.streams.task.Command.TheVariants.{Canon, Check, Size}
 use Rattle.capnp_streams.specs.declared.streams.task.Task.{Task}
-use Rattle.capnp_streams.proofs.FramesLemmas.{frames_behind, no_bytes_begin, no_bytes_refused}
-use Rattle.capnp_streams.proofs.TestLemmas.{never_stops}
-
--- a root pointer that the limit covers is not refused
-root_refused : {S : Segments} {limit : Option ℕ} {k : ErrorKind} → CoversRoot S limit → RefusesRoot S limit k → ⊥
-root_refused covers (no_root named none) = none covers.root
-root_refused covers (no_budget named root none) =
-    let covered : FitsIn (Some 0) 1 = subst (λ (b : Option ℕ). FitsIn b 1) none covers.covered in omega arith
-
--- nor is a copy of a value, whose canonical words fit a segment
-pub canon_refused : (S : Segments) (limits : ReaderOptions) (t : Tree) {k : ErrorKind} →
-    IsValueOf S limits t → 1 + word_count (trim t) ≤ max_segment_words → RefusesCanon S limits k → ⊥
-canon_refused S limits t value fits (inl root) = root_refused value.root root
-canon_refused S limits t value fits (inr (covers, inl (named, large, out))) =
-    absurd (let more = large t value.cost value.means in omega arith)
-canon_refused S limits t value fits (inr (covers, inr (m, refused))) =
-    (unreadable refused).only t value.cost value.means (λ _. value.free)
-    (covers_rest limits.traversal_limit_in_words value.cost value.covered)
-
--- nor the test of a message that can be read
-pub check_refused : (S : Segments) (limits : ReaderOptions) {k : ErrorKind} →
-    IsReadable S limits → RefusesCheck S limits k → ⊥
-check_refused S limits read (one, (m, inl (root, same))) = root_refused read.root root
-check_refused S limits read (one, (m, inr (covers, stops))) =
-    never_stops stops read.value read.cost read.means
-    (covers_rest limits.traversal_limit_in_words read.cost read.covered)
-
-pub size_refused : (S : Segments) (limits : ReaderOptions) {k : ErrorKind} →
-    CoversRoot S limits.traversal_limit_in_words → HasSize (root_within S limits) (unused (left_of limits)) → RefusesSize S limits k → ⊥
-size_refused S limits covers has (inl root) = root_refused covers root
-size_refused S limits covers has (inr (same, (m, refused))) = no_size refused has
-
--- where there is an answer, memory alone is refused
-pub answer_refused : (command : Command) (limits : ReaderOptions) (S : Segments) {k : ErrorKind} →
-    HasAnswerWithin command limits S → RefusesAnswer command limits S k → k ≡ AllocationFailed
-answer_refused (Canon form) limits S (t, value, fits) (inl memory) = memory
-answer_refused (Canon form) limits S (t, value, fits) (inr refused) =
-    absurd (canon_refused S limits t value fits refused)
-answer_refused Check limits S can refused = absurd (check_refused S limits (can refused.0) refused)
-answer_refused Size limits S (covers, has) refused = absurd (size_refused S limits covers has refused)
+use Rattle.capnp_streams.proofs.FramesLemmas.{frames_behind, no_bytes_refused}
 
 -- what is left is frames of messages that have an answer
 frame_is_there : (most : ℕ) (more : List Segments) (left : List ℕ) (e : FrameError) →

@@ -3,7 +3,7 @@ use Rattle.std.proofs.Common.{◌≡◌, ◌∙◌, inl, inr, ℕ, ℤ, List, []
 use Rattle.std.proofs.Common.{String, Global, codes, length, map, slice_index, string_bytes}
 use Rattle.std.proofs.Common.{ap, sym, subst, refl, arith}
 use Rattle.std.specs.Str.Parse.{IsNumeral}
-use Rattle.capnp_layout.specs.Arguments.{IsBudget}
+use Rattle.capnp_messages.specs.Text.{IsBudget}
 use Rattle.capnp_streams.specs.Arguments.{AreOptions, IsFlag, IsSetting}
 use Rattle.capnp_streams.specs.declared.streams.task.Task.{Task}
 

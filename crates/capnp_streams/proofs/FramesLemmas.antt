@@ -1,22 +1,13 @@
 -- Which messages stand in a stream, behind those that were read.
-use Rattle.std.proofs.Common.{◌≡◌, ◌<◌, ◌-◌, ℕ, List, [], ◌∷◌, ◌++◌, length}
+use Rattle.std.proofs.Common.{◌≡◌, ◌<◌, ℕ, List, [], ◌∷◌, ◌++◌, length}
 use Rattle.std.proofs.Common.{refl, sym, ap, ap₂, ◌∙◌, subst}
 use Rattle.std.proofs.Common.{append_assoc, arith, length-append}
-use Rattle.std.specs.Int.{to_le_bytes, w32}
 use Rattle.capnp_format.specs.Segments.{Segments}
-use Rattle.capnp_framing.specs.Flat.{BeginsWithFrame}
-use Rattle.capnp_framing.specs.Frames.{IsFrameOf, contents, lengths}
 use Rattle.capnp_framing.specs.Reading.{NoFrame, count_cut, too_many, table_cut, too_long, words_cut}
 use Rattle.capnp_framing.specs.declared.framing.frame_error.FrameError.{FrameError}
 use Rattle.capnp_framing.proofs.FrameLemmas.{one_frame_begins}
+use Rattle.capnp_messages.proofs.FramesLemmas.{frame_some}
 use Rattle.capnp_streams.specs.Streams.{AreFrames}
-
--- a frame has some bytes
-pub frame_some : (S : Segments) (bytes : List ℕ) → IsFrameOf S bytes → 0 < length bytes
-frame_some S bytes f =
-    let number : List ℕ = to_le_bytes w32 (length S - 1) in
-    let four : length number ≡ 4 = refl in
-    omega (arith, four, ap length f.is, length-append number (lengths S ++ (f.padding ++ contents S)))
 
 -- what stands behind frames that were read are those of the other messages
 pub frames_behind : (most : ℕ) (done all : List Segments) (front left bytes : List ℕ) →
@@ -43,8 +34,3 @@ no_bytes_refused most e (too_many four many named) = omega arith
 no_bytes_refused most e (table_cut four few short named) = omega arith
 no_bytes_refused most e (too_long has long named) = let count = has.count in omega arith
 no_bytes_refused most e (words_cut has fit short named) = let count = has.count in omega arith
-
-pub no_bytes_begin : (most : ℕ) (S : Segments) → BeginsWithFrame [] most S → ⊥
-no_bytes_begin most S begins =
-    let some : 0 < length begins.front = frame_some S begins.front begins.framed in
-    omega (arith, some, ap length begins.is, length-append begins.front begins.behind)

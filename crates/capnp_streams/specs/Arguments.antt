@@ -1,10 +1,10 @@
 -- The words behind the program's name: a command, and options in any order.
 use Rattle.std.specs.Prelude.{◌≡◌, ◌⊎◌, ℕ, ℤ, pos, List, [], ◌∷◌, codes, Option, Some, true, false}
-use Rattle.capnp_layout.specs.Arguments.{IsBudget, IsNesting}
-use Rattle.capnp_streams.specs.declared.streams.task.Command.{Command}
-use Rattle.capnp_streams.specs.declared.streams.task.Command.TheVariants.{Canon, Check, Size}
-use Rattle.capnp_streams.specs.declared.streams.task.Form.{Form}
-use Rattle.capnp_streams.specs.declared.streams.task.Form.TheVariants.{Framed, Flat}
+use Rattle.capnp_messages.specs.Text.{IsBudget, IsNesting}
+use Rattle.capnp_messages.specs.declared.messages.command.Command.{Command}
+use Rattle.capnp_messages.specs.declared.messages.command.Command.TheVariants.{Canon, Check, Size}
+use Rattle.capnp_messages.specs.declared.messages.command.Form.{Form}
+use Rattle.capnp_messages.specs.declared.messages.command.Form.TheVariants.{Framed, Flat}
 use Rattle.capnp_streams.specs.declared.streams.task.Request.{Request}
 use Rattle.capnp_streams.specs.declared.streams.task.Request.TheVariants.{Help, Version, Run}
 use Rattle.capnp_streams.specs.declared.streams.task.Task.{Task}

@@ -1,4 +1,3 @@
 pub mod Arguments
-pub mod Messages
 pub mod Packed
 pub mod Streams

@@ -3,19 +3,16 @@ use Rattle.std.specs.Prelude.{◌≡◌, ◌⊎◌, ℕ, ◌+◌, ◌-◌, ◌^�
 use Rattle.std.specs.Prelude.{Bool, true, false, ◌&&◌, Option, IfSome, IsSomeAnd, unwrap_or}
 use Rattle.std.specs.Fmt.{decimal}
 use Rattle.std.specs.Io.KnownBytes.{Appends, Consumes, IsAtEnd}
-use Rattle.capnp_words.specs.Meter.{unused}
 use Rattle.capnp_words.specs.Names.{name_of}
 use Rattle.capnp_words.specs.declared.error.ErrorKind.{ErrorKind}
 use Rattle.capnp_words.specs.declared.error.ErrorKind.TheVariants.{AllocationFailed}
-use Rattle.capnp_format.specs.Canonical.{encoding, trim, word_count}
+use Rattle.capnp_format.specs.Canonical.{encoding, trim}
 use Rattle.capnp_format.specs.Segments.{Segments}
 use Rattle.capnp_format.specs.Tree.{Tree}
-use Rattle.capnp_arena.specs.Allocations.{max_segment_words}
-use Rattle.capnp_arena.specs.View.{View}
+use Rattle.capnp_arena_traits.specs.View.{View}
 use Rattle.capnp_arena.specs.declared.arena.reader_arena_impl.ReaderOptions.{ReaderOptions}
-use Rattle.capnp_objects.specs.Sizing.{HasSize}
 use Rattle.capnp_framing.specs.Flat.{BeginsWithFrame}
-use Rattle.capnp_framing.specs.Frames.{IsFrameOf, bytes_of_words, frame}
+use Rattle.capnp_framing.specs.Frames.{IsFrameOf}
 use Rattle.capnp_framing.specs.Names.{frame_error_name}
 use Rattle.capnp_framing.specs.Reading.{NoFrame, total}
 use Rattle.capnp_framing.specs.declared.devices.Input.{Ghosts as InputGhosts}
@@ -24,19 +21,18 @@ use Rattle.capnp_framing.specs.declared.framing.frame_error.FrameError.TheVarian
 use Rattle.capnp_framing.specs.declared.framing.frame_error.FrameError.TheVariants.{ReadFailed, WriteFailed}
 use Rattle.capnp_readers.specs.Faults.{fault_reason_text}
 use Rattle.capnp_readers.specs.declared.readers.canonical_fault.CanonicalFault.{CanonicalFault}
-use Rattle.capnp_layout.specs.Answers.{CoversRoot, check_line, size_line}
-use Rattle.capnp_layout.specs.CanonicalMessages.{IsCanonicalMessage}
-use Rattle.capnp_streams.specs.Messages.{HasSizeOf, IsFaultOf, IsReadable, IsValueOf}
-use Rattle.capnp_streams.specs.Messages.{RefusesCanon, RefusesCheck, RefusesSize, left_of, root_within}
+use Rattle.capnp_messages.specs.Text.{check_line, size_line}
+use Rattle.capnp_messages.specs.CanonicalMessages.{IsCanonicalMessage}
+use Rattle.capnp_messages.specs.Messages.{HasSizeOf, IsFaultOf, IsValueOf}
 use Rattle.capnp_streams.specs.declared.streams.fault.Fault.{Fault}
 use Rattle.capnp_streams.specs.declared.streams.fault.Fault.TheVariants.{Frame, Layout, TooManyMessages}
 use Rattle.capnp_streams.specs.declared.streams.runs.Stop.{Stop}
 use Rattle.capnp_streams.specs.declared.streams.runs.Summary.{Summary}
-use Rattle.capnp_streams.specs.declared.streams.task.Command.{Command}
-use Rattle.capnp_streams.specs.declared.streams.task.Command.TheVariants.{Canon, Check, Size}
-use Rattle.capnp_streams.specs.declared.streams.task.Form.{Form}
-use Rattle.capnp_streams.specs.declared.streams.task.Form.TheVariants.{Framed, Flat}
+use Rattle.capnp_messages.specs.declared.messages.command.Command.{Command}
+use Rattle.capnp_messages.specs.declared.messages.command.Command.TheVariants.{Canon, Check, Size}
+use Rattle.capnp_messages.specs.declared.messages.command.Form.{Form}
 use Rattle.capnp_streams.specs.declared.streams.task.Task.{Task}
+use Rattle.capnp_messages.specs.Commands.{HasAnswerWithin, RefusesAnswer, form_bytes}
 
 -- the name of a refusal
 abbrev pub fault_name : Fault → List ℕ
@@ -47,11 +43,6 @@ fault_name TooManyMessages = codes "TooManyMessages"
 -- How many words a message may have of which the frame is read: those of the traversal limit.
 abbrev pub most_words : ReaderOptions → ℕ
 most_words limits = unwrap_or limits.traversal_limit_in_words (2 ^ 64 - 1)
-
--- The bytes of a canonical message in a form.
-abbrev pub form_bytes : Form → List ℕ → List ℕ
-form_bytes Framed words = frame (words ∷ [])
-form_bytes Flat words = bytes_of_words words
 
 -- The words of a message of one segment are written in a form, of which P holds.
 abbrev pub WritesCopy : Form → View → (List ℕ → Type 0) → Type 0
@@ -86,12 +77,6 @@ AnswerIs Size limits S holds bytes =
 abbrev pub AnswersWith : Command → ReaderOptions → Segments → Bool → (List ℕ → Type 0) → Type 0
 AnswersWith command limits S holds P = (bytes : List ℕ) × AnswerIs command limits S holds bytes × P bytes
 
--- Why it gives none.
-abbrev pub RefusesAnswer : Command → ReaderOptions → Segments → ErrorKind → Type 0
-RefusesAnswer (Canon form) limits S k = (k ≡ AllocationFailed) ⊎ RefusesCanon S limits k
-RefusesAnswer Check limits S k = RefusesCheck S limits k
-RefusesAnswer Size limits S k = RefusesSize S limits k
-
 -- A fault says why.
 abbrev pub RefusesBy : Command → ReaderOptions → Segments → Fault → Type 0
 RefusesBy command limits S (Layout k) = RefusesAnswer command limits S k
@@ -101,15 +86,6 @@ module _ {W : Type 0} (g : OutputGhosts W) where
   -- A fault is that of an output, which has failed.
   abbrev pub IsWriteFault : W → Fault → Type 0
   IsWriteFault output fault = (fault ≡ Frame WriteFailed) × (g.has_failed output ≡ true)
-
--- Wherever this holds there is an answer: there is a value without capabilities, whose canonical words fit a
--- segment; a value, or not one segment; a size.
-abbrev pub HasAnswerWithin : Command → ReaderOptions → Segments → Type 0
-HasAnswerWithin (Canon form) limits S =
-    (t : Tree) × IsValueOf S limits t × (1 + word_count (trim t) ≤ max_segment_words)
-HasAnswerWithin Check limits S = length S ≡ 1 → IsReadable S limits
-HasAnswerWithin Size limits S =
-    CoversRoot S limits.traversal_limit_in_words × HasSize (root_within S limits) (unused (left_of limits))
 
 -- Bytes are the frames of these messages, one behind the other, each of at most so many words.
 abbrev pub AreFrames : ℕ → List Segments → List ℕ → Type 0

@@ -3,5 +3,4 @@
 //! program `capnp_canon`.
 #![tactic(auto)]
 
-pub mod messages;
 pub mod streams;

@@ -7,7 +7,8 @@ mod runs;
 mod task;
 mod writing;
 
+pub use capnp_messages::messages::{Command, Form};
 pub use fault::Fault;
 pub use packed::run_packed;
 pub use runs::{Stop, Summary, run};
-pub use task::{Command, Form, Request, Task, parse_args};
+pub use task::{Request, Task, parse_args};

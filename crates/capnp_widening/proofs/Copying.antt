@@ -3,7 +3,7 @@ use Rattle.std.proofs.Common.{◌≡◌, ℕ, ◌+◌, ◌<◌, ◌≤◌, [], �
 use Rattle.capnp_format.specs.Segments.{Segments, segment, word_at, words_at}
 use Rattle.capnp_format.specs.Forest.{times}
 use Rattle.capnp_format.proofs.Slices.{length_words}
-use Rattle.capnp_arena.specs.Written.{with_word, with_words}
+use Rattle.capnp_arena_traits.specs.Written.{with_word, with_words}
 use Rattle.capnp_making.specs.Zeroed.{row}
 use Rattle.capnp_making.proofs.MadeWords.{word_put}
 use Rattle.capnp_making.proofs.WordsPut.{words_put}

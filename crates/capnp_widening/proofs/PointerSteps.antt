@@ -7,7 +7,7 @@ use Rattle.capnp_format.specs.Means.{Leads, Means, IsTag}
 use Rattle.capnp_format.specs.Forest.{target, target_in, cover, cover_all}
 use Rattle.capnp_words.specs.declared.wire_pointer.StructSize.{StructSize}
 use Rattle.capnp_making.specs.Made.{zero_elements}
-use Rattle.capnp_arena.specs.View.{View}
+use Rattle.capnp_arena_traits.specs.View.{View}
 use Rattle.capnp_making.specs.Makes.{call_at}
 use Rattle.capnp_making.specs.Memory.{start_of}
 use Rattle.capnp_making.specs.declared.making.Start.{Start}

@@ -2,8 +2,8 @@
 use Rattle.std.proofs.Common.{◌≡◌, inl, inr, true, ℕ, ◌+◌, ◌≤◌, length, sym, ap, ◌∙◌, subst}
 use Rattle.capnp_words.specs.declared.error.ErrorKind.{ErrorKind}
 use Rattle.capnp_format.specs.Segments.{Segments, segment}
-use Rattle.capnp_arena.specs.Taking.{IsAllocationRefusal, IsFirstFit}
-use Rattle.capnp_arena.specs.View.{View}
+use Rattle.capnp_arena_traits.specs.Taking.{IsAllocationRefusal, IsFirstFit}
+use Rattle.capnp_arena_traits.specs.View.{View}
 use Rattle.capnp_making.specs.Memory.{RefusesWords}
 use Rattle.capnp_making.proofs.Memory.{made_refused, words_in}
 use Rattle.capnp_widening.specs.Rooms.{RefusesGrowth, is_allocation_name}

@@ -5,8 +5,8 @@ use Rattle.capnp_format.specs.Segments.{Segments, segment, word_at, Target}
 use Rattle.capnp_format.specs.Means.{Leads}
 use Rattle.capnp_format.specs.Forest.{times, pads_of, object_of, target, target_in}
 use Rattle.capnp_format.proofs.Frame.{leads_agree}
-use Rattle.capnp_arena.specs.View.{View}
-use Rattle.capnp_arena.specs.Written.{with_word}
+use Rattle.capnp_arena_traits.specs.View.{View}
+use Rattle.capnp_arena_traits.specs.Written.{with_word}
 use Rattle.capnp_making.specs.Makes.{call_at}
 use Rattle.capnp_making.specs.Memory.{KeepsMemory, StandsBehind, TakesWords, start_of}
 use Rattle.capnp_making.specs.declared.making.Start.{Start}

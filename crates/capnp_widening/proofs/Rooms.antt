@@ -6,9 +6,9 @@ use Rattle.std.proofs.lemmas.List.Sums.{sum_by-cons}
 use Rattle.std.proofs.lemmas.Bool.{cases_lt, cases_eq}
 use Rattle.capnp_words.specs.declared.error.ErrorKind.{ErrorKind}
 use Rattle.capnp_format.specs.Segments.{Segments, Grows, segment}
-use Rattle.capnp_arena.specs.Taking.{IsFirstFit, IsFull, IsTaken, SameRoomBelow, with_another}
-use Rattle.capnp_arena.specs.View.{View, KeepsLimits}
-use Rattle.capnp_arena.specs.Written.{extended, with_word}
+use Rattle.capnp_arena_traits.specs.Taking.{IsFirstFit, IsFull, IsTaken, SameRoomBelow, with_another}
+use Rattle.capnp_arena_traits.specs.View.{View, KeepsLimits}
+use Rattle.capnp_arena_traits.specs.Written.{extended, with_word}
 use Rattle.capnp_making.specs.Memory.{HasRoom, RefusesWords}
 use Rattle.capnp_widening.specs.Rooms.{GrowsByAtMost, HasSomeRoom}
 

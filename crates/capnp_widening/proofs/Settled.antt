@@ -7,7 +7,7 @@ use Rattle.capnp_format.specs.Means.{Leads}
 use Rattle.capnp_format.specs.Forest.{times, pads_of}
 use Rattle.capnp_format.proofs.Lies.{near_leads}
 use Rattle.capnp_format.proofs.Following.{IsOffsetTo}
-use Rattle.capnp_arena.specs.Written.{with_word}
+use Rattle.capnp_arena_traits.specs.Written.{with_word}
 use Rattle.capnp_making.specs.Zeroed.{row}
 use Rattle.capnp_making.proofs.Leading.{single_far_leads}
 use Rattle.capnp_making.proofs.MadeWords.{word_put, not_far, outside}

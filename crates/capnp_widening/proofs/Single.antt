@@ -10,7 +10,7 @@ use Rattle.capnp_format.specs.Means.{Leads, Means}
 use Rattle.capnp_format.specs.Forest.{Interval, times, pads_of, object_of, target, cover, cover_all, cover_elements}
 use Rattle.capnp_format.proofs.Following.{offset_is}
 use Rattle.capnp_format.proofs.Frame.{Agree, times-append, frame, leads_agree}
-use Rattle.capnp_arena.specs.Written.{with_word}
+use Rattle.capnp_arena_traits.specs.Written.{with_word}
 use Rattle.capnp_making.specs.Path.{word_interval}
 use Rattle.capnp_making.specs.Made.{IsShape}
 use Rattle.capnp_making.specs.declared.making.Shape.{Shape}

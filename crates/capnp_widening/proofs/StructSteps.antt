@@ -3,7 +3,7 @@ use Rattle.std.proofs.Common.{ap, ◌∙◌, ◌≡◌, ℕ, ◌+◌, ◌≤◌,
 use Rattle.std.proofs.lemmas.List.{get_or_past}
 use Rattle.capnp_format.specs.Word.{upper_half}
 use Rattle.capnp_format.specs.Segments.{Segments, segment, word_at, IsPlace, Target}
-use Rattle.capnp_arena.specs.View.{View}
+use Rattle.capnp_arena_traits.specs.View.{View}
 use Rattle.capnp_format.specs.Tree.{Tree, Null, Capability, Struct, Flat, Pointers, Structs, Trees, count}
 use Rattle.capnp_format.specs.Forest.{times, pads_of, object_of, target, target_in, cover, cover_all}
 use Rattle.capnp_format.proofs.Frame.{times-append}

@@ -1,9 +1,9 @@
 -- Words that are taken in a segment, or where the arena has room next.
 use Rattle.std.proofs.Common.{◌≡◌, ℕ, ◌+◌, ◌<◌, ◌≤◌, length, refl, sym, ap, ◌∙◌, subst, arith}
 use Rattle.capnp_format.specs.Segments.{Segments, segment}
-use Rattle.capnp_arena.specs.Taking.{IsFirstFit, IsFull, GrowsSegment, GainsSegment}
-use Rattle.capnp_arena.specs.View.{View, KeepsLimits}
-use Rattle.capnp_arena.specs.Written.{with_word}
+use Rattle.capnp_arena_traits.specs.Taking.{IsFirstFit, IsFull, GrowsSegment, GainsSegment}
+use Rattle.capnp_arena_traits.specs.View.{View, KeepsLimits}
+use Rattle.capnp_arena_traits.specs.Written.{with_word}
 use Rattle.capnp_making.specs.Memory.{Lengthens, StandsBehind, TakesWords}
 use Rattle.capnp_making.specs.Zeroed.{IsPruned}
 use Rattle.capnp_making.specs.declared.making.Start.{Start}

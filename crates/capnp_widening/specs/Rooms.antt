@@ -7,7 +7,7 @@ use Rattle.capnp_format.specs.Segments.{Segments, word_at}
 use Rattle.capnp_format.specs.Tree.{Tree, Struct, Pointers, Structs, Trees, count, element_count}
 use Rattle.capnp_format.specs.Forest.{target}
 use Rattle.capnp_words.specs.declared.wire_pointer.StructSize.{StructSize}
-use Rattle.capnp_arena.specs.View.{View}
+use Rattle.capnp_arena_traits.specs.View.{View}
 use Rattle.capnp_making.specs.Made.{structs_words}
 use Rattle.capnp_making.specs.Memory.{HasRoom, SpendsMemory, RefusesWords}
 use Rattle.capnp_making.specs.Near.{HasOwnRoom}

@@ -11,7 +11,7 @@ ghost use Rattle.capnp_widening.specs.Widened.{rewriting};
 use crate::numbers::widen_numbers;
 use crate::remaking::{ElementRows, widen_rows};
 use crate::widening::greater;
-use capnp_arena::arena::BuilderArena;
+use capnp_arena_traits::arena::BuilderArena;
 use capnp_making::existing::{self, ExistingList};
 use capnp_making::landing::word_of;
 use capnp_words::error::ErrorKind;

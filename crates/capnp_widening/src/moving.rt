@@ -5,7 +5,7 @@
 //! where the arena finds room. A far pointer and a capability are copied as they are. The old pointer
 //! stays as it was, so for a while two pointers lead to one object.
 ghost use Rattle.std.specs.Prelude.{ℕ, ◌⊎◌, ◌*◌, ◌≡◌, ◌≢◌, ◌<◌, ◌≤◌, ◌+◌, ◌-◌, ◌^◌, ◌∷◌, [], length, true, false, IsOk, OnOk, IfErr, OnErr};
-ghost use Rattle.capnp_arena.specs.View.{KeepsLimits};
+ghost use Rattle.capnp_arena_traits.specs.View.{KeepsLimits};
 ghost use Rattle.capnp_format.specs.Canonical.{Reaches, offset_to};
 ghost use Rattle.capnp_format.specs.Segments.{segment, word_at, IsPlace, Grows};
 ghost use Rattle.capnp_format.specs.Word.{kind, offset_bits, struct_word, upper_half};
@@ -20,7 +20,7 @@ ghost use Rattle.capnp_widening.specs.Moved.{a_move, row_of_moves, Moves, Unmove
 ghost use Rattle.capnp_widening.specs.Pointed.{HasPlainPads, PointsTo};
 ghost use Rattle.capnp_widening.specs.Rooms.{GrowsByAtMost, HasSomeRoom};
 
-use capnp_arena::arena::BuilderArena;
+use capnp_arena_traits::arena::BuilderArena;
 use capnp_making::landing::{length_of, word_of};
 use capnp_making::making::{Shape, Start, pointer_to};
 use capnp_making::zeroing::zero_pads;

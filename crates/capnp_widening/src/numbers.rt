@@ -1,6 +1,6 @@
 //! Lists of numbers made lists of structs: each number becomes the low bytes of a first data word.
 ghost use Rattle.std.specs.Prelude.{◌≡◌, ◌↔◌, ◌<◌, ◌≤◌, ◌+◌, ◌*◌, ◌^◌, IsTrue, length, IsOk, IfOk, OnOk, IfErr, OnErr};
-ghost use Rattle.capnp_arena.specs.View.{KeepsLimits};
+ghost use Rattle.capnp_arena_traits.specs.View.{KeepsLimits};
 ghost use Rattle.capnp_format.specs.Numbers.{element_bits, words_for};
 ghost use Rattle.capnp_format.specs.Segments.{segment, IsPlace};
 ghost use Rattle.capnp_words.specs.Sizes.{size_number};
@@ -14,7 +14,7 @@ ghost use Rattle.capnp_widening.specs.Widened.{rewriting};
 
 use crate::remaking::begin_list;
 use crate::widening::{greater, settle};
-use capnp_arena::arena::BuilderArena;
+use capnp_arena_traits::arena::BuilderArena;
 use capnp_making::existing::ExistingList;
 use capnp_making::landing::{length_of, word_of};
 use capnp_making::making::{Shape, Start};

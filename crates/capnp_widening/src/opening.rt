@@ -17,7 +17,7 @@ ghost use Rattle.capnp_words.specs.declared.wire_pointer.ElementSize.TheVariants
 
 use crate::lists::get_struct_list;
 use crate::widening::{greater, widen_known};
-use capnp_arena::arena::BuilderArena;
+use capnp_arena_traits::arena::BuilderArena;
 use capnp_making::existing::{self, ExistingList, ExistingStruct};
 use capnp_making::landing::word_of;
 use capnp_making::making::{Start, make_struct};

@@ -2,7 +2,7 @@
 //! pointers are moved there, and at last its pointer is overwritten. Until then the old object stands
 //! as it was, and a refusal leaves nothing but zeros.
 ghost use Rattle.std.specs.Prelude.{ℕ, Some, ◌≡◌, ◌<◌, ◌≤◌, ◌+◌, ◌*◌, ◌^◌, max, length, IsOk, IfOk, OnOk, IfErr, OnErr};
-ghost use Rattle.capnp_arena.specs.View.{KeepsLimits};
+ghost use Rattle.capnp_arena_traits.specs.View.{KeepsLimits};
 ghost use Rattle.capnp_format.specs.Segments.{segment, word_at, IsPlace, Grows};
 ghost use Rattle.capnp_format.specs.Forest.{target};
 ghost use Rattle.capnp_format.specs.Tree.{Tree};
@@ -19,7 +19,7 @@ ghost use Rattle.capnp_widening.specs.Rooms.{GrowsByAtMost, HasSomeRoom, Refuses
 ghost use Rattle.capnp_widening.specs.Widened.{IsStruct, rewriting};
 
 use crate::moving::{move_row, unmove_row};
-use capnp_arena::arena::BuilderArena;
+use capnp_arena_traits::arena::BuilderArena;
 use capnp_making::existing::ExistingStruct;
 use capnp_making::landing::word_of;
 use capnp_making::making::{Shape, Start, pointer_to};

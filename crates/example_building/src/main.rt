@@ -3,7 +3,7 @@
 
 ghost use Rattle.std.specs.Prelude.{◌≤◌, IfOk};
 ghost use Rattle.capnp_format.specs.Segments.{IsPlace};
-ghost use Rattle.capnp_arena.specs.Allocations.{max_segment_words};
+ghost use Rattle.capnp_arena_traits.specs.Allocations.{max_segment_words};
 
 use capnp_arena::arena::{
     BuilderArena, BuilderArenaImpl, HeapAllocator, ReaderArena, ReaderArenaImpl, ReaderOptions,

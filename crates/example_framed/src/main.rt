@@ -7,13 +7,14 @@ ghost use Rattle.capnp_format.specs.Bytes.{message};
 ghost use Rattle.capnp_format.specs.Canonical.{encoding, trim};
 ghost use Rattle.capnp_format.specs.Means.{Means};
 ghost use Rattle.capnp_format.specs.Tree.{Tree};
-ghost use Rattle.capnp_arena.specs.Limits.{IsSmall};
+ghost use Rattle.capnp_arena_traits.specs.Limits.{IsSmall};
 ghost use Rattle.capnp_framing.specs.Frames.{frame};
 ghost use Rattle.capnp_framing.specs.Writing.{Prints};
 
 use capnp_arena::arena::{ReaderArenaImpl, ReaderOptions, ReaderSegments};
 use capnp_framing::devices::{Output, ReaderInput, WriterOutput};
-use capnp_layout::framing::{CanonicalError, OwnedSegments, read, write_canonical};
+use capnp_framing::framing::{OwnedSegments, read};
+use capnp_messages::messages::{CanonicalError, write_canonical};
 use capnp_readers::readers::PointerReader;
 use capnp_words::read_limiter::ReadLimiter;
 use std::alloc::Global;

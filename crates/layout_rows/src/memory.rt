@@ -1,6 +1,6 @@
 //! The memory of a message that is built, and its words once it is built.
 ghost use Rattle.std.specs.Prelude.{◌≡◌, ◌≤◌, true};
-ghost use Rattle.capnp_arena.specs.Allocations.{max_segment_words};
+ghost use Rattle.capnp_arena_traits.specs.Allocations.{max_segment_words};
 
 use crate::output::Output;
 use crate::parse::{self, Fault};

@@ -1,6 +1,6 @@
 //! A message of many segments, which is written as a frame, read back from it and made canonical, while memory is scarce.
 ghost use Rattle.std.specs.Prelude.{◌≡◌, false};
-ghost use Rattle.capnp_arena.specs.Limits.{IsSmall};
+ghost use Rattle.capnp_arena_traits.specs.Limits.{IsSmall};
 
 use crate::segments::{are_all, build};
 use capnp_layout::arena::{

@@ -14,12 +14,12 @@ use Rattle.capnp_format.specs.Segments.{Segments, segment, word_at}
 use Rattle.capnp_format.specs.Forest.{times}
 use Rattle.capnp_format.proofs.WordsOf.{words}
 use Rattle.std.specs.List.{All}
-use Rattle.capnp_arena.specs.Limits.{AreSmall}
-use Rattle.capnp_arena.specs.Written.{with_segment, overwritten, with_words}
+use Rattle.capnp_arena_traits.specs.Limits.{AreSmall}
+use Rattle.capnp_arena_traits.specs.Written.{with_segment, overwritten, with_words}
 use Rattle.capnp_format.specs.Forest.{row}
 use Rattle.capnp_format.proofs.Frame.{of_row}
 use Rattle.capnp_format.proofs.Slices.{there}
-use Rattle.capnp_arena.proofs.WordsOver.{word_here, word_other, lengths_kept, length-over, over_within, over_beside}
+use Rattle.capnp_arena_traits.proofs.WordsOver.{word_here, word_other, lengths_kept, length-over, over_within, over_beside}
 use Rattle.layout_vectors.specs.Counts.{IsOnce}
 use Rattle.layout_vectors.specs.Marks.{AreFreeWithin, free, KeepsRows, TakesRow, blank_rows}
 use Rattle.layout_vectors.specs.Walks.{FitsRows}

@@ -1,7 +1,7 @@
 //! Devices that move few bytes at a time, and fail behind so many calls.
 ghost use Rattle.std.specs.Prelude.{◌≡◌, Some, true};
 
-use capnp_layout::devices::{DeviceFault, Input, Output};
+use capnp_framing::devices::{DeviceFault, Input, Output};
 
 /// How a device works.
 #[derive(Clone, Copy)]

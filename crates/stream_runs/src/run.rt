@@ -2,7 +2,7 @@
 ghost use Rattle.std.specs.Prelude.{◌≡◌, false};
 
 use crate::devices::{Strain, StrainedInput, StrainedOutput};
-use capnp_layout::devices::Output;
+use capnp_framing::devices::Output;
 use capnp_packing::packing::PackingOutput;
 use capnp_streams::streams::{self, Request, Stop, Summary, Task};
 use std::alloc::{AllocError, Global};

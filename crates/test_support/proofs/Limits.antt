@@ -2,7 +2,7 @@
 use Rattle.std.proofs.Common.{◌≡◌, ℕ, zero, suc, ◌/◌, ◌^◌, ◌<◌, List, [], ◌∷◌, length, map, Vec, Global, vec_items, slice_get, Some, subst, arith}
 use Rattle.std.proofs.lemmas.List.{length-map}
 use Rattle.std.specs.List.{All}
-use Rattle.capnp_arena.specs.Limits.{IsSmall}
+use Rattle.capnp_arena_traits.specs.Limits.{IsSmall}
 
 each : (rows : List (Vec ℕ Global)) → All (λ r. length r.items / 8 < 2 ^ 32) rows
     → (k : ℕ) (s : List ℕ) → slice_get (map vec_items rows) k ≡ Some s → length s / 8 < 2 ^ 32

@@ -1,7 +1,7 @@
 //! Messages written as hex digits.
 ghost use Rattle.std.specs.Prelude.{◌≡◌, ◌<◌, ◌/◌, ◌^◌, ℕ, List, length, map, IsTrue, vec_items};
 ghost use Rattle.std.specs.List.{All};
-ghost use Rattle.capnp_arena.specs.Limits.{IsSmall};
+ghost use Rattle.capnp_arena_traits.specs.Limits.{IsSmall};
 
 use capnp_arena::arena::{
     Allocator, BuilderArena, BuilderArenaImpl, ReaderArena, ReaderArenaImpl, ReaderOptions,

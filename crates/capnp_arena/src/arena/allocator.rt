@@ -1,7 +1,7 @@
 //! Where a builder's segments come from.
 ghost use Rattle.std.specs.Prelude.{◌≡◌, ◌<◌, ◌≤◌, ◌+◌, ◌-◌, ◌*◌, ◌/◌, ◌^◌, ◌++◌, ◌∷◌, [], ℕ, Bool, false, List, length, replicate, IsTrue, IsNone, IfSome, IsOk, IfOk, OnOk, IfErr};
 ghost use Rattle.std.specs.Borrow.{sem, Lends, Array, u8 as byte};
-ghost use Rattle.capnp_arena.specs.Allocations.{IsFresh, IsClearFrom, one_more, max_segment_words};
+ghost use Rattle.capnp_arena_traits.specs.Allocations.{IsFresh, IsClearFrom, one_more, max_segment_words};
 ghost use Rattle.capnp_words.specs.declared.error.ErrorKind.TheVariants.{AllocationFailed, MessageTooLarge};
 
 use capnp_words::error::ErrorKind;

@@ -9,10 +9,10 @@
 //! to be too great leads to a row without room, and is lowered then.
 ghost use Rattle.std.specs.Prelude.{◌≡◌, ◌<◌, ◌≤◌, ◌+◌, ◌-◌, ℕ, length, IfSome, IsNone, slice_index_or};
 ghost use Rattle.capnp_format.specs.Bytes.{message};
-ghost use Rattle.capnp_arena.specs.Allocations.{max_segments};
+ghost use Rattle.capnp_arena_traits.specs.Allocations.{max_segments};
 ghost use Rattle.capnp_arena.specs.Bounds.{HasBounds, HaveNoRoom, IsBoundAt, rooms, view_of_rows};
 ghost use Rattle.capnp_arena.specs.Row.{shown, capacity_at};
-ghost use Rattle.capnp_arena.specs.Taking.{IsFirstFit, IsFull};
+ghost use Rattle.capnp_arena_traits.specs.Taking.{IsFirstFit, IsFull};
 
 use crate::arena::Segment;
 use crate::arena::row::Row;

@@ -4,19 +4,18 @@ ghost use Rattle.std.specs.Prelude.{◌≡◌, ◌⊎◌, ◌<◌, ◌≤◌, �
 ghost use Rattle.capnp_format.specs.Bytes.{message};
 ghost use Rattle.capnp_format.specs.Segments.{segment};
 ghost use Rattle.capnp_words.specs.declared.error.ErrorKind.TheVariants.{AllocationFailed, InvalidSegmentId, MessageTooLarge};
-ghost use Rattle.capnp_arena.specs.Allocations.{IsFresh, max_segments, max_segment_words, one_more};
-ghost use Rattle.capnp_arena.specs.View.{view_of, same_room};
-ghost use Rattle.capnp_arena.specs.Limits.{IsSmall};
+ghost use Rattle.capnp_arena_traits.specs.Allocations.{IsFresh, max_segments, max_segment_words, one_more};
+ghost use Rattle.capnp_arena_traits.specs.View.{view_of, same_room};
+ghost use Rattle.capnp_arena_traits.specs.Limits.{IsSmall};
 ghost use Rattle.capnp_arena.specs.Output.{output_bytes, is_single};
 ghost use Rattle.capnp_arena.specs.Room.{rows_within, rows_small};
 ghost use Rattle.capnp_arena.specs.Row.{GainsRow, shown, capacity_at};
 ghost use Rattle.capnp_arena.specs.Kept.{arena_rows, listed_with_bytes, apart_with_bytes, kept_shown, kept_capacity};
 ghost use Rattle.capnp_arena.specs.Rows.{all};
-ghost use Rattle.capnp_arena.specs.Checks.{total_words};
-ghost use Rattle.capnp_arena.specs.Taking.{IsFull, IsFirstFit, IsAllocationRefusal, SameRoomBelow, with_another};
-ghost use Rattle.capnp_arena.specs.Written.{with_more};
+ghost use Rattle.capnp_arena_traits.specs.Checks.{total_words};
+ghost use Rattle.capnp_arena_traits.specs.Taking.{IsFull, IsFirstFit, IsAllocationRefusal, SameRoomBelow, with_another};
+ghost use Rattle.capnp_arena_traits.specs.Written.{with_more};
 
-use crate::arena::builder_arena::sealed::Closed;
 use crate::arena::listed::Listed;
 use crate::arena::row::Row;
 use crate::arena::rows::{Place, Rows};
@@ -24,6 +23,7 @@ use crate::arena::{
     Allocator, BuilderArena, MAX_SEGMENTS, NullAllocator, OutputSegments, ReaderArena, Segment,
     SegmentId,
 };
+use capnp_arena_traits::arena::sealed::Closed;
 use capnp_words::error::ErrorKind;
 use std::alloc::Global;
 

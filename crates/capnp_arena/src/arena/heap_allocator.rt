@@ -1,6 +1,6 @@
 //! Segments on the heap.
 ghost use Rattle.std.specs.Prelude.{◌≡◌, ◌≤◌, ◌==◌, max};
-ghost use Rattle.capnp_arena.specs.Allocations.{max_segment_words};
+ghost use Rattle.capnp_arena_traits.specs.Allocations.{max_segment_words};
 
 use crate::arena::{Allocator, MAX_SEGMENT_WORDS, Segment};
 use capnp_words::error::ErrorKind;

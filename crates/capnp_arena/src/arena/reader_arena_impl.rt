@@ -1,8 +1,8 @@
 //! The arena of a message that is read.
 ghost use Rattle.std.specs.Prelude.{◌≡◌, ◌<◌, ◌+◌, ◌*◌, ◌/◌, ◌^◌, ℕ, ℤ, pos, List, length, map, true, refl, Some, None};
 ghost use Rattle.capnp_format.specs.Bytes.{message};
-ghost use Rattle.capnp_arena.specs.Limits.{whole, IsSmall};
-ghost use Rattle.capnp_arena.specs.Checks.{total_words};
+ghost use Rattle.capnp_arena_traits.specs.Limits.{whole, IsSmall};
+ghost use Rattle.capnp_arena_traits.specs.Checks.{total_words};
 ghost use Rattle.capnp_words.specs.declared.error.ErrorKind.TheVariants.{InvalidSegmentId};
 
 use crate::arena::{ReaderArena, ReaderSegments};
@@ -41,7 +41,7 @@ pub struct ReaderArenaImpl<S: ReaderSegments> {
 
 impl<S: ReaderSegments> ReaderArenaImpl<S> {
     /// The arena of these segments. There are fewer than 2^32 segments, and each has fewer than 2^32 words.
-    #[tactic(auto, using(crate::proofs::MessageLemmas::message_wholes))]
+    #[tactic(auto, using(capnp_arena_traits::proofs::MessageLemmas::message_wholes))]
     pub fn new(segments: S, options: ReaderOptions) -> Self
         requires { IsSmall (S.segments segments) }
         ensures segments { result.segments ≡ segments }
@@ -88,7 +88,7 @@ impl<S: ReaderSegments> ReaderArena for ReaderArenaImpl<S> {
 
     ghost absent_named = { λ _ _. inl refl };
 
-    #[tactic(auto, using(crate::proofs::MessageLemmas::wholes))]
+    #[tactic(auto, using(capnp_arena_traits::proofs::MessageLemmas::wholes))]
     fn get_segment(&self, id: u32) -> Result<&[u8], ErrorKind> {
         match self.segments.get_segment(id) {
             Some(s) => Ok(&s[..8 * (s.len() / 8)]),

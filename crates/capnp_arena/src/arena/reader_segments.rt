@@ -1,6 +1,6 @@
 //! Where a reader's segments come from.
 ghost use Rattle.std.specs.Prelude.{◌≡◌, ◌<◌, ◌↔◌, ℕ, List, length, map, IsTrue, IsSome, IfSome, Some, slice_get};
-ghost use Rattle.capnp_arena.specs.Limits.{AreSmall, IsSmall};
+ghost use Rattle.capnp_arena_traits.specs.Limits.{AreSmall, IsSmall};
 
 /// The segments of a message, as bytes. Section "Messages" of the encoding specification.
 pub trait ReaderSegments {

@@ -1,8 +1,8 @@
 //! A segment of a builder arena, and how much of it is allocated.
 ghost use Rattle.std.specs.Prelude.{◌≡◌, ◌<◌, ◌≤◌, ◌+◌, ◌-◌, ◌*◌, ◌/◌, ◌↔◌, ◌++◌, [], ℕ, List, length, take, drop, replicate, slice_set, slice_index, IsTrue};
 ghost use Rattle.capnp_format.specs.Bytes.{words_of};
-ghost use Rattle.capnp_arena.specs.Allocations.{IsRow, max_segment_words, zeros};
-ghost use Rattle.capnp_arena.specs.Written.{overwritten, with_copied, with_front};
+ghost use Rattle.capnp_arena_traits.specs.Allocations.{IsRow, max_segment_words, zeros};
+ghost use Rattle.capnp_arena_traits.specs.Written.{overwritten, with_copied, with_front};
 ghost use Rattle.std.specs.Borrow.{sem, Lends, Array, u8 as byte};
 
 use crate::arena::{MAX_SEGMENT_WORDS, Segment};

@@ -7,11 +7,11 @@ ghost use Rattle.std.specs.Prelude.{◌≡◌, ◌≢◌, ◌<◌, ◌≤◌, �
 ghost use Rattle.std.specs.Borrow.{sem, Lends, Array, u8 as byte};
 ghost use Rattle.capnp_format.specs.Bytes.{words_of, message};
 ghost use Rattle.capnp_format.specs.Segments.{segment, word_at, words_at, IsPlace};
-ghost use Rattle.capnp_arena.specs.Allocations.{IsFresh};
+ghost use Rattle.capnp_arena_traits.specs.Allocations.{IsFresh};
 ghost use Rattle.capnp_arena.specs.Bounds.{HasBounds, view_of_rows};
 ghost use Rattle.capnp_arena.specs.Row.{GainsRow, most_others, shown, capacity_at};
-ghost use Rattle.capnp_arena.specs.Taking.{IsFirstFit, IsFull};
-ghost use Rattle.capnp_arena.specs.Written.{extended, with_word, with_words};
+ghost use Rattle.capnp_arena_traits.specs.Taking.{IsFirstFit, IsFull};
+ghost use Rattle.capnp_arena_traits.specs.Written.{extended, with_word, with_words};
 
 use crate::arena::row::Row;
 use crate::arena::{Segment, bounds};

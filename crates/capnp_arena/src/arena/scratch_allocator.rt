@@ -1,6 +1,6 @@
 //! Segments of which the first is in memory that the caller lends.
 ghost use Rattle.std.specs.Prelude.{◌++◌, ◌∷◌, [], ◌≡◌, ◌≤◌, ◌<◌, ◌+◌, ◌*◌, ◌/◌, ◌==◌, ℕ, List, length, replicate, min, max, refl, true, false, IsTrue, IsFalse, IsSome, IsNone, IfSome, ◌↔◌, IsOk, IfOk, IsOkAnd, OnOk, IfErr, Err};
-ghost use Rattle.capnp_arena.specs.Allocations.{IsClearFrom, IsFresh, max_segment_words, one_more};
+ghost use Rattle.capnp_arena_traits.specs.Allocations.{IsClearFrom, IsFresh, max_segment_words, one_more};
 ghost use Rattle.capnp_words.specs.declared.error.ErrorKind.TheVariants.{AllocationFailed, MessageTooLarge};
 
 use crate::arena::{Allocator, HeapAllocator, HeapSegment, MAX_SEGMENT_WORDS, Segment};
@@ -175,7 +175,7 @@ pub struct ScratchSpaceHeapAllocator<'a> {
 impl<'a> Model for ScratchSpaceHeapAllocator<'a> {
     ghost use Rattle.std.specs.Prelude.{◌≡◌, ◌≤◌, ◌/◌, min, is_some};
     ghost use Rattle.std.specs.Option.{ForSome};
-    ghost use Rattle.capnp_arena.specs.Allocations.{max_segment_words};
+    ghost use Rattle.capnp_arena_traits.specs.Allocations.{max_segment_words};
     ghost use Rattle.capnp_arena.specs.Scratch.{Scratch, bytes_at_hand};
 
     ghost Value = { Scratch };

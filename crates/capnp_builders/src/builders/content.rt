@@ -1,13 +1,13 @@
 //! The data section of a struct written from other content, and its pointers cleared ("Structs").
 ghost use Rattle.std.specs.Prelude.{◌≡◌, ℕ, ◌+◌, ◌*◌, ◌/◌, ◌%◌, ◌^◌, ◌<◌, ◌≤◌, length, slice_index};
-ghost use Rattle.capnp_arena.specs.View.{KeepsLimits};
+ghost use Rattle.capnp_arena_traits.specs.View.{KeepsLimits};
 ghost use Rattle.capnp_format.specs.Segments.{segment, word_at};
 ghost use Rattle.capnp_making.specs.Zeroed.{IsPruned};
 ghost use Rattle.capnp_readers.specs.Readers.{IsStructPlace};
 ghost use Rattle.capnp_readers.specs.Sections.{bytes_for};
 ghost use Rattle.capnp_builders.specs.Content.{content_byte, with_fields, with_content, AreCleared};
 
-use capnp_arena::arena::BuilderArena;
+use capnp_arena_traits::arena::BuilderArena;
 use capnp_making::making::clear;
 use capnp_making::numbers::{set_bit, set_number};
 use capnp_readers::readers::StructPlace;

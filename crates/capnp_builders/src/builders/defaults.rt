@@ -7,7 +7,7 @@ ghost use Rattle.capnp_making.specs.Makes.{call_at};
 ghost use Rattle.capnp_builders.specs.Building.{ChangesWords};
 ghost use Rattle.capnp_builders.specs.Defaults.{DropsDefault, PutsDefault, IsShortDefault, IsNullDefault, object_default, blob_default, PutsDefaultOver, DefaultCopyFits, DefaultFits};
 
-use capnp_arena::arena::BuilderArena;
+use capnp_arena_traits::arena::BuilderArena;
 use capnp_copies::copy;
 use capnp_copies::form::CopyForm;
 use capnp_making::landing::word_of;

@@ -24,7 +24,7 @@ use super::found::{found_list, look_for_data, look_for_list, look_for_text};
 use super::list_builder::ListBuilder;
 use super::places::struct_place;
 use super::struct_builder::StructBuilder;
-use capnp_arena::arena::BuilderArena;
+use capnp_arena_traits::arena::BuilderArena;
 use capnp_making::existing::ExistingBytes;
 use capnp_making::lent;
 use capnp_readers::readers::{ListPlace, StructPlace};

@@ -11,7 +11,7 @@ ghost use Rattle.capnp_builders.specs.Found.{list_given, bytes_given, no_bytes};
 
 use super::NO_SECTIONS;
 use super::places::list_place;
-use capnp_arena::arena::BuilderArena;
+use capnp_arena_traits::arena::BuilderArena;
 use capnp_making::existing::{self, ExistingBytes, ExistingList, are_inside};
 use capnp_readers::readers::ListPlace;
 use capnp_words::error::ErrorKind;

@@ -10,7 +10,7 @@ ghost use Rattle.capnp_builders.specs.Elements.{lowest_bits};
 ghost use Rattle.capnp_builders.specs.Reads.{IsArenaOf, IsListReadAt};
 
 use crate::builders::{PointerBuilder, StructBuilder};
-use capnp_arena::arena::BuilderArena;
+use capnp_arena_traits::arena::BuilderArena;
 use capnp_making::numbers;
 use capnp_readers::readers::{ListPlace, ListReader, StructPlace};
 use capnp_words::primitive::Primitive;

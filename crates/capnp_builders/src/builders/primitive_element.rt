@@ -12,7 +12,7 @@ ghost use Rattle.capnp_builders.specs.Building.{KeepsListBuilder};
 ghost use Rattle.capnp_builders.specs.Places.{HasField, WritesField};
 
 use crate::builders::ListBuilder;
-use capnp_arena::arena::{BuilderArena, ReaderArena};
+use capnp_arena_traits::arena::{BuilderArena, ReaderArena};
 use capnp_readers::readers;
 use capnp_readers::readers::ListReader;
 use capnp_words::primitive::Primitive;

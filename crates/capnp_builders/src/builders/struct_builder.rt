@@ -6,12 +6,12 @@ ghost use Rattle.capnp_readers.specs.Readers.{IsStructPlace};
 ghost use Rattle.capnp_builders.specs.Reads.{IsArenaOf, IsReadAt};
 ghost use Rattle.capnp_builders.specs.Places.{HasField, IsAligned, WritesField, number_field, field};
 ghost use Rattle.capnp_readers.specs.Sections.{IsInside};
-ghost use Rattle.capnp_arena.specs.View.{View};
+ghost use Rattle.capnp_arena_traits.specs.View.{View};
 ghost use Rattle.capnp_builders.specs.Content.{TakesContent, StopsAtContent, ContentFits, TakesForContent, pointers_copied};
 
 use super::content::{clear_pointers, write_content};
 use crate::builders::PointerBuilder;
-use capnp_arena::arena::{BuilderArena, ReaderArena};
+use capnp_arena_traits::arena::{BuilderArena, ReaderArena};
 use capnp_copies::copy;
 use capnp_making::numbers;
 use capnp_readers::readers::{PointerReader, StructPlace, StructReader};

@@ -1,7 +1,7 @@
 use Rattle.std.proofs.Common.{◌∙◌, sym, subst, arith}
 use Rattle.std.proofs.lemmas.Int.{to_z-of_z}
 use mir.Syntax.{w32}
-use Rattle.capnp_streams.specs.declared.streams.task.Form.TheVariants.{Flat}
+use Rattle.capnp_messages.specs.declared.messages.command.Form.TheVariants.{Flat}
 use Rattle.capnp_canonical.specs.Calls.{IsGranted, limits_of}
 use Rattle.capnp_canonical.proofs.CallLemmas.{room_enough, room_granted, where_framed}
 use Rattle.capnp_canonical.proofs.capnp_canonical_copy_flat.Goals as goal

@@ -13,7 +13,7 @@ ghost use Rattle.capnp_copies.specs.Originals.{value_original};
 use super::flat::{copy_flat, flat_words};
 use super::structs::copy_struct;
 use crate::form::CopyForm;
-use capnp_arena::arena::{BuilderArena, ReaderArena};
+use capnp_arena_traits::arena::{BuilderArena, ReaderArena};
 use capnp_objects::object::Place;
 use capnp_readers::readers::PointerReader;
 use capnp_words::error::ErrorKind;

@@ -10,7 +10,7 @@ ghost use Rattle.capnp_copies.specs.Rooms.{CanBeCopied};
 ghost use Rattle.capnp_copies.specs.Originals.{children_original};
 
 use super::copy_value;
-use capnp_arena::arena::{BuilderArena, ReaderArena};
+use capnp_arena_traits::arena::{BuilderArena, ReaderArena};
 use capnp_objects::object::Place;
 use capnp_readers::readers::PointerReader;
 use capnp_words::error::ErrorKind;

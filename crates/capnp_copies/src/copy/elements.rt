@@ -2,7 +2,7 @@
 ghost use Rattle.std.specs.Prelude.{◌≡◌, ℕ, ◌+◌, ◌*◌, ◌<◌, ◌≤◌, length, IfOk, IfErr};
 ghost use Rattle.capnp_format.specs.Bytes.{words_of};
 ghost use Rattle.capnp_format.specs.Segments.{segment, word_at};
-ghost use Rattle.capnp_arena.specs.Written.{with_words};
+ghost use Rattle.capnp_arena_traits.specs.Written.{with_words};
 ghost use Rattle.capnp_objects.specs.Reading.{behind, segment_read};
 ghost use Rattle.capnp_readers.specs.Readers.{reading};
 ghost use Rattle.capnp_copies.specs.Growth.{TakesNone, TakesAtMost};
@@ -14,7 +14,7 @@ ghost use Rattle.capnp_copies.specs.Widths.{KeepsPointers};
 use super::children::copy_in_line;
 use crate::form::CopyForm;
 use crate::widths::ElementSizes;
-use capnp_arena::arena::{BuilderArena, ReaderArena};
+use capnp_arena_traits::arena::{BuilderArena, ReaderArena};
 use capnp_making::making::Start;
 use capnp_objects::object::Place;
 use capnp_readers::readers::PointerReader;

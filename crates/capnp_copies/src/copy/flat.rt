@@ -3,7 +3,7 @@ ghost use Rattle.std.specs.Prelude.{◌≡◌, ◌+◌, ◌*◌, ◌/◌, ◌<�
 ghost use Rattle.capnp_format.specs.Bytes.{words_of};
 ghost use Rattle.capnp_format.specs.Numbers.{words_for, unpacked};
 ghost use Rattle.capnp_format.specs.Segments.{segment, IsPlace};
-ghost use Rattle.capnp_arena.specs.Written.{with_words};
+ghost use Rattle.capnp_arena_traits.specs.Written.{with_words};
 ghost use Rattle.capnp_copies.specs.Growth.{MakesAtMost, TakesNone};
 ghost use Rattle.capnp_copies.specs.Copied.{low_bits};
 ghost use Rattle.capnp_format.specs.Tree.{Null, Flat};
@@ -13,7 +13,7 @@ ghost use Rattle.capnp_making.specs.Stored.{IsReplaced};
 ghost use Rattle.capnp_words.specs.Sizes.{size_number};
 ghost use Rattle.capnp_copies.specs.Changes.{IsCopiedInRoom};
 
-use capnp_arena::arena::BuilderArena;
+use capnp_arena_traits::arena::BuilderArena;
 use capnp_making::making::make_list;
 use capnp_words::error::ErrorKind;
 use capnp_words::wire_pointer::{ElementSize, data_bits_per_element};

@@ -13,7 +13,7 @@ ghost use Rattle.capnp_copies.specs.Originals.{FitsListPointer};
 use super::flat::copy_flat;
 use super::lists::{copy_pointers, copy_structs};
 use crate::form::CopyForm;
-use capnp_arena::arena::{BuilderArena, ReaderArena};
+use capnp_arena_traits::arena::{BuilderArena, ReaderArena};
 use capnp_making::making::clear;
 use capnp_readers::readers::{ListReader, PointerReader};
 use capnp_words::error::ErrorKind;

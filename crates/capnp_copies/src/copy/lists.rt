@@ -13,7 +13,7 @@ use super::children::copy_in_line;
 use super::elements::copy_elements;
 use crate::form::CopyForm;
 use crate::widths::{ElementSizes, least_widths};
-use capnp_arena::arena::{BuilderArena, ReaderArena};
+use capnp_arena_traits::arena::{BuilderArena, ReaderArena};
 use capnp_making::making::{Start, make_list, make_struct_list};
 use capnp_readers::readers::PointerReader;
 use capnp_words::error::ErrorKind;

@@ -16,7 +16,7 @@ ghost use Rattle.capnp_copies.specs.StructValues.{data_of, struct_read};
 use super::children::copy_children;
 use crate::form::CopyForm;
 use crate::section::{kept_words, put_section};
-use capnp_arena::arena::{BuilderArena, ReaderArena};
+use capnp_arena_traits::arena::{BuilderArena, ReaderArena};
 use capnp_making::making::{clear, make_struct};
 use capnp_readers::readers::{PointerReader, StructReader};
 use capnp_words::error::ErrorKind;

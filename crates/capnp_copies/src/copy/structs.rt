@@ -12,7 +12,7 @@ ghost use Rattle.capnp_copies.specs.Originals.{sections_original, kept_count};
 use super::children::copy_children;
 use super::elements::put_words;
 use crate::form::CopyForm;
-use capnp_arena::arena::{BuilderArena, ReaderArena};
+use capnp_arena_traits::arena::{BuilderArena, ReaderArena};
 use capnp_making::making::make_struct;
 use capnp_objects::object::Place;
 use capnp_readers::readers::PointerReader;

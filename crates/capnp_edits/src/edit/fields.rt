@@ -1,7 +1,7 @@
 //! Edits of the data section of a struct.
 ghost use Rattle.std.specs.Prelude.{◌≡◌, true, cond, IfErr, OnErr};
 ghost use Rattle.capnp_words.specs.declared.error.ErrorKind.TheVariants.{NoSuchPlace};
-ghost use Rattle.capnp_arena.specs.View.{KeepsLimits};
+ghost use Rattle.capnp_arena_traits.specs.View.{KeepsLimits};
 ghost use Rattle.capnp_making.specs.Existing.{StructLiesIn};
 ghost use Rattle.capnp_builders.specs.Places.{field, number_field};
 ghost use Rattle.capnp_edits.specs.Tasks.{is_number};

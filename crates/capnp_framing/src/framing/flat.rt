@@ -1,7 +1,7 @@
 //! A message read where its frame stands in memory ("Serialization Over a Stream").
 ghost use Rattle.std.specs.Prelude.{◌≡◌, ◌+◌, ◌*◌, ◌<◌, ◌≤◌, [], Ok, None, IfSome, IfOk, IfErr, length};
 ghost use Rattle.capnp_format.specs.Bytes.{message};
-ghost use Rattle.capnp_arena.specs.Limits.{IsSmall};
+ghost use Rattle.capnp_arena_traits.specs.Limits.{IsSmall};
 ghost use Rattle.capnp_framing.specs.Flat.{AreStarts, BeginsWithFrame, part_at, parts};
 ghost use Rattle.capnp_framing.specs.Frames.{frame};
 ghost use Rattle.capnp_framing.specs.Reading.{NoFrame, max_length, table_size, words_told};

@@ -3,7 +3,7 @@ ghost use Rattle.std.specs.Prelude.{◌≡◌, ◌⊎◌, ◌<◌, ◌≤◌, �
 ghost use Rattle.std.specs.Int.{to_le_bytes, w32};
 ghost use Rattle.capnp_format.specs.Bytes.{message, words_of};
 ghost use Rattle.capnp_format.specs.Segments.{segment};
-ghost use Rattle.capnp_arena.specs.Limits.{IsSmall};
+ghost use Rattle.capnp_arena_traits.specs.Limits.{IsSmall};
 ghost use Rattle.capnp_framing.specs.Frames.{CanBeFramed, AreSegmentWords, bytes_of_words, contents, frame, lengths, max_frame_segments, padding_size};
 ghost use Rattle.capnp_framing.specs.Reading.{IsRefusedNumber};
 ghost use Rattle.capnp_framing.specs.Writing.{IsUnwritten, Prints, Writes};

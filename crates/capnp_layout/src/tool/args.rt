@@ -1,10 +1,11 @@
 //! The words behind the program's name.
-ghost use Rattle.std.specs.Prelude.{◌≡◌, Some, None, IfSome, IsNone, ℤ, ℕ, Option, map, string_bytes};
-ghost use Rattle.capnp_layout.specs.Arguments.{IsNesting, IsBudget, AreArguments, IsNamed, IsNamedAlone};
+ghost use Rattle.std.specs.Prelude.{Some, None, IfSome, IsNone, Option, map, string_bytes};
+ghost use Rattle.capnp_layout.specs.Arguments.{AreArguments, IsNamed, IsNamedAlone};
 ghost use Rattle.capnp_layout.specs.declared.tool.args.Args.{Args};
 ghost use Rattle.capnp_arena.specs.declared.arena.reader_arena_impl.ReaderOptions.{ReaderOptions};
 
 use capnp_arena::arena::ReaderOptions;
+use capnp_messages::text::{parse_budget, parse_nesting};
 
 /// What the program is asked for.
 #[derive(Clone, Copy)]
@@ -83,34 +84,5 @@ fn within_limits(command: &str, options: ReaderOptions) -> Option<Args>
         Some(Args::FramedCheck(options))
     } else {
         None
-    }
-}
-
-/// Reads a nesting limit: an optional `-` and decimal digits; a `+` is refused.
-pub fn parse_nesting(text: &str) -> Option<i32>
-    ensures read { IfSome result (λ n. IsNesting text.now n) }
-    ensures none { IsNone result → (n : ℤ) → IsNesting text.now n → ⊥ }
-{
-    if text.starts_with('+') {
-        None
-    } else {
-        text.parse().ok()
-    }
-}
-
-/// Reads a traversal limit: decimal digits, or `none`; a `+` is refused.
-pub fn parse_budget(text: &str) -> Option<Option<usize>>
-    ensures read { IfSome result (λ n. IsBudget text.now n) }
-    ensures none { IsNone result → (n : Option ℕ) → IsBudget text.now n → ⊥ }
-{
-    if text == "none" {
-        return Some(None);
-    }
-    if text.starts_with('+') {
-        return None;
-    }
-    match text.parse() {
-        Ok(n) => Some(Some(n)),
-        Err(_) => None,
     }
 }

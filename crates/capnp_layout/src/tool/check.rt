@@ -1,14 +1,15 @@
 //! Whether a message is in canonical form.
 ghost use Rattle.std.specs.Prelude.{true, IsOk, IfOk, OnOk, IfErr};
-ghost use Rattle.capnp_arena.specs.Limits.{IsSmall};
+ghost use Rattle.capnp_format.specs.Bytes.{message};
+ghost use Rattle.capnp_arena_traits.specs.Limits.{IsSmall};
 ghost use Rattle.capnp_layout.specs.Answers.{CheckOf, RefusesMessage};
 ghost use Rattle.capnp_layout.specs.Messages.{segments_in};
 
 use super::args::Args;
+use super::limits::within_limits;
 use super::lines::Message;
-use super::root::open;
-use crate::framing::read_root;
-use capnp_arena::arena::ReaderOptions;
+use capnp_arena::arena::{ReaderArenaImpl, ReaderOptions};
+use capnp_messages::messages::read_root;
 use capnp_words::error::ErrorKind;
 use capnp_words::read_limiter::ReadLimiter;
 
@@ -16,12 +17,13 @@ use capnp_words::read_limiter::ReadLimiter;
 /// pointer ("Canonicalization").
 pub(crate) fn is_canonical(source: Message, options: ReaderOptions) -> Result<bool, ErrorKind>
     ensures small { OnOk result (IsSmall (segments_in source)) }
-    ensures check { IfOk result (CheckOf (segments_in source) options) }
-    ensures answered { IsSmall (segments_in source) → CheckOf (segments_in source) options true
+    ensures check { IfOk result (CheckOf (message (segments_in source)) options) }
+    ensures answered { IsSmall (segments_in source) → CheckOf (message (segments_in source)) options true
         → IsOk result }
     ensures refused { IfErr result (RefusesMessage (segments_in source) (Args.Check options)) }
 {
-    let arena = open(source, options)?;
+    within_limits(&source)?;
+    let arena = ReaderArenaImpl::new(source, options);
     let mut lim = ReadLimiter::new(options.traversal_limit_in_words);
     let root = read_root(&arena, &mut lim)?;
     let mut head = 1;

@@ -1,12 +1,13 @@
 //! One run of the program: an input is read, and what a command answers is written.
 ghost use Rattle.std.specs.Prelude.{◌≡◌, ◌≢◌, ◌⊎◌, ◌∷◌, ◌++◌, [], ℕ, List, length, ◌≤◌, ◌+◌, true, false, Some, None, IfSome, OnOk, OnErr, IfOk, IfErr};
 ghost use Rattle.std.specs.Io.KnownBytes.{Keeps};
-ghost use Rattle.capnp_arena.specs.Allocations.{one_more};
+ghost use Rattle.capnp_arena_traits.specs.Allocations.{one_more};
 ghost use Rattle.capnp_layout.specs.Lines.{segments_of};
 ghost use Rattle.capnp_layout.specs.Messages.{segments_in};
-ghost use Rattle.capnp_arena.specs.Limits.{IsSmall};
+ghost use Rattle.capnp_arena_traits.specs.Limits.{IsSmall};
 ghost use Rattle.capnp_words.specs.declared.error.ErrorKind.TheVariants.{AllocationFailed};
-ghost use Rattle.capnp_layout.specs.Answers.{AnswersWords, IsDone, IsDoneOr, IsRefusedOutcome, LacksMemoryOr, RefusesMessage, ValueOf, digits_of};
+ghost use Rattle.capnp_layout.specs.Answers.{AnswersWords, IsDone, IsDoneOr, IsRefusedOutcome, digits_of};
+ghost use Rattle.capnp_messages.specs.Copies.{LacksMemoryOr};
 ghost use Rattle.capnp_layout.specs.Commands.{Answers, AnswersRefusal, IsWithin, NamesRefusal, WantsMemory, WhereAnswered};
 ghost use Rattle.capnp_layout.specs.Refusals.{refusal_line};
 ghost use Rattle.capnp_framing.specs.Writing.{Prints};
@@ -21,13 +22,13 @@ use super::lines::{InputFault, Message, read_lines};
 use super::reading::read_text;
 use super::refusal::Refusal;
 use super::size::size_of;
-use super::writing::{write_check, write_refusal, write_size, write_words};
+use super::writing::{write_check, write_refusal, write_words};
 use crate::devices::{DeviceFault, Input, Output};
-use crate::framing::CopyMemory;
 use capnp_arena::arena::{
-    Allocator, BuilderArena, BuilderArenaImpl, OutputSegments, ReaderArena, ReaderOptions,
-    ReaderSegments,
+    Allocator, BuilderArena, BuilderArenaImpl, ReaderArena, ReaderOptions, ReaderSegments,
 };
+use capnp_messages::messages::{CopyMemory, canonical_bytes};
+use capnp_messages::text::write_size;
 use capnp_words::error::ErrorKind;
 use std::alloc::Global;
 
@@ -83,18 +84,6 @@ pub(super) fn refuse<W: Output>(output: &mut W, refusal: Refusal) -> Outcome
     }
 }
 
-/// The words of a message of one segment.
-fn only_segment<A: Allocator>(made: &BuilderArenaImpl<A>) -> &[u8]
-    requires { length (⟦<BuilderArenaImpl<A> as ReaderArena>⟧.segments made.now) ≡ 1 }
-    ensures { message (⟦<BuilderArenaImpl<A> as ReaderArena>⟧.segments made.now)
-        ≡ words_of result.now ∷ [] }
-{
-    match made.get_segments_for_output() {
-        Ok(OutputSegments::SingleSegment(segment)) => segment,
-        _ => &[],
-    }
-}
-
 /// Writes the words of a message of one segment as a line.
 fn answer<A: Allocator, W: Output>(output: &mut W, made: &BuilderArenaImpl<A>) -> Outcome
     requires works { W.has_failed output.old ≡ false }
@@ -106,7 +95,7 @@ fn answer<A: Allocator, W: Output>(output: &mut W, made: &BuilderArenaImpl<A>) -
     ensures works { result ≡ Outcome.Done → W.has_failed output.new ≡ false }
     ensures failed { result ≡ Outcome.WriteFailed → W.has_failed output.new ≡ true }
 {
-    match write_words(output, only_segment(made)) {
+    match write_words(output, canonical_bytes(made)) {
         Ok(()) => Outcome::Done,
         Err(DeviceFault) => Outcome::WriteFailed,
     }

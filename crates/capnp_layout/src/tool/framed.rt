@@ -1,7 +1,7 @@
 //! The commands that read or write frames ("Serialization Over a Stream").
 ghost use Rattle.std.specs.Prelude.{◌≡◌, ◌≢◌, ◌⊎◌, ◌≤◌, ℕ, length, true, false, IsOk, IfOk, IfErr, OnErr, OnOk};
 ghost use Rattle.capnp_format.specs.Bytes.{message};
-ghost use Rattle.capnp_arena.specs.Limits.{IsSmall};
+ghost use Rattle.capnp_arena_traits.specs.Limits.{IsSmall};
 ghost use Rattle.capnp_framing.specs.Writing.{Prints, Writes};
 ghost use Rattle.capnp_layout.specs.Answers.{IsDone, IsDoneOr};
 ghost use Rattle.capnp_layout.specs.Commands.{Answers, AnswersFrame, AnswersRefusal, HasAnswer, HoldsFrame, NamesRefusal, RefusesFrame, TellsCanonical, WantsMemory, WhereAnswered, WhyRefused, frame_line};
@@ -16,14 +16,12 @@ use super::lines::Message;
 use super::refusal::Refusal;
 use super::writing::write_message_check;
 use crate::devices::{DeviceFault, Output};
-use crate::framing::is_canonical_message;
 use capnp_arena::arena::{
-    Allocator, BuilderArena, BuilderArenaImpl, ReaderArena, ReaderArenaImpl, ReaderOptions,
-    ReaderSegments,
+    Allocator, BuilderArena, BuilderArenaImpl, ReaderArena, ReaderOptions, ReaderSegments,
 };
 use capnp_framing::framing::{FrameError, FrameSegments, MAX_SEGMENTS, read_from_flat_slice};
+use capnp_messages::messages::is_canonical;
 use capnp_words::error::ErrorKind;
-use capnp_words::read_limiter::ReadLimiter;
 use std::alloc::Global;
 
 /// The greatest number of words of a message whose frame is read.
@@ -56,9 +54,7 @@ fn is_canonical_frame(lines: &Message, options: ReaderOptions) -> Result<bool, R
     ensures refused { IfErr result (WhyRefused (segments_in lines.now) (Args.FramedCheck options)) }
 {
     let frame = frame_in(lines)?;
-    let arena = ReaderArenaImpl::new(frame, options);
-    let mut lim = ReadLimiter::new(options.traversal_limit_in_words);
-    match is_canonical_message(&arena, &mut lim) {
+    match is_canonical(frame, options) {
         Ok(yes) => Ok(yes),
         Err(kind) => Err(Refusal::Layout(kind)),
     }

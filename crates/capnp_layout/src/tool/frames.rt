@@ -4,7 +4,7 @@ ghost use Rattle.std.specs.Int.{to_le_bytes, w32};
 ghost use Rattle.hex.specs.Hex.{encode_lower};
 ghost use Rattle.capnp_format.specs.Bytes.{message, words_of};
 ghost use Rattle.capnp_format.specs.Segments.{segment};
-ghost use Rattle.capnp_arena.specs.Limits.{IsSmall};
+ghost use Rattle.capnp_arena_traits.specs.Limits.{IsSmall};
 ghost use Rattle.capnp_framing.specs.Frames.{contents, lengths, max_frame_segments, padding_size};
 ghost use Rattle.capnp_framing.specs.Writing.{Writes};
 ghost use Rattle.capnp_layout.specs.Commands.{frame_line, segment_lines};

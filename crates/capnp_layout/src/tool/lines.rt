@@ -2,8 +2,8 @@
 ghost use Rattle.std.specs.Prelude.{◌≡◌, ◌↔◌, ◌<◌, ◌≤◌, ◌+◌, ◌/◌, ◌^◌, ◌++◌, ◌∷◌, ◌==◌, [], ℕ, List, length, map, Some, None, Ok, IsTrue, IsSome, IfSome, IsErr, IfOk, OnOk, OnErr, IfErr, slice_get, vec_items};
 ghost use Rattle.std.specs.List.{All, position, position_or_len};
 ghost use Rattle.hex.specs.Hex.{decode_of};
-ghost use Rattle.capnp_arena.specs.Allocations.{one_more};
-ghost use Rattle.capnp_arena.specs.Limits.{IsSmall};
+ghost use Rattle.capnp_arena_traits.specs.Allocations.{one_more};
+ghost use Rattle.capnp_arena_traits.specs.Limits.{IsSmall};
 ghost use Rattle.capnp_layout.specs.Lines.{lines_of, segments_of};
 ghost use Rattle.capnp_words.specs.declared.error.ErrorKind.TheVariants.{AllocationFailed};
 

@@ -1,6 +1,6 @@
 //! All bytes of an input, kept in memory.
 ghost use Rattle.std.specs.Prelude.{◌≡◌, ◌++◌, false, true, OnOk, IfOk, IfErr, IfSome};
-ghost use Rattle.capnp_arena.specs.Allocations.{one_more};
+ghost use Rattle.capnp_arena_traits.specs.Allocations.{one_more};
 
 use super::lines::{InputFault, keep_bytes};
 use crate::devices::Input;

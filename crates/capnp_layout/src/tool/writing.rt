@@ -1,15 +1,14 @@
 //! The lines that the program prints.
 ghost use Rattle.std.specs.Prelude.{◌≡◌, ◌+◌, ◌++◌, ◌∷◌, [], false, true, OnOk, OnErr};
 ghost use Rattle.capnp_format.specs.Bytes.{words_of};
-ghost use Rattle.std.specs.Fmt.{decimal};
-ghost use Rattle.capnp_layout.specs.Answers.{check_line, word_digits, digits_of, size_line};
+ghost use Rattle.capnp_messages.specs.Text.{check_line};
+ghost use Rattle.capnp_layout.specs.Answers.{word_digits, digits_of};
 ghost use Rattle.capnp_layout.specs.Commands.{message_line};
 ghost use Rattle.capnp_layout.specs.Refusals.{refusal_line};
 ghost use Rattle.capnp_framing.specs.Writing.{Writes};
 
 use super::refusal::Refusal;
 use crate::devices::{DeviceFault, Output, write_all};
-use capnp_readers::readers::MessageSize;
 use capnp_words::words::word_at;
 
 /// Writes the bytes of a word, the lowest first, as 16 hex digits.
@@ -71,30 +70,6 @@ pub(crate) fn write_message_check<W: Output>(
     } else {
         write_all(output, b"not a canonical message\n")
     }
-}
-
-/// Writes a number in decimal digits.
-pub fn write_number<W: Output>(output: &mut W, n: u64) -> Result<(), DeviceFault>
-    requires { W.has_failed output.old ≡ false }
-    ensures { Writes W.Output result output.old output.new (decimal n) }
-{
-    if n >= 10 {
-        write_number(output, n / 10)?;
-    }
-    write_all(output, &[b'0' + (n % 10) as u8])
-}
-
-/// Writes the line of a size, `words N caps M`.
-pub fn write_size<W: Output>(output: &mut W, size: MessageSize) -> Result<(), DeviceFault>
-    requires { W.has_failed output.old ≡ false }
-    ensures { Writes W.Output result output.old output.new
-        (size_line size.word_count size.cap_count) }
-{
-    write_all(output, b"words ")?;
-    write_number(output, size.word_count)?;
-    write_all(output, b" caps ")?;
-    write_number(output, u64::from(size.cap_count))?;
-    write_all(output, b"\n")
 }
 
 /// Writes the line that names a refusal.

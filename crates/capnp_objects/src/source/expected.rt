@@ -12,7 +12,7 @@ ghost use Rattle.capnp_objects.specs.Entering.{object_misfit, place_byte, IsAtHa
 use super::landing::Entrance;
 use super::{Source, depth_of};
 use crate::object::{Expected, Object, Place, Purpose};
-use capnp_arena::arena::ReaderArena;
+use capnp_arena_traits::arena::ReaderArena;
 use capnp_words::error::ErrorKind;
 use capnp_words::read_limiter::ReadLimiter;
 use capnp_words::wire_pointer::{

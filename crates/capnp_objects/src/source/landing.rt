@@ -6,7 +6,7 @@ ghost use Rattle.capnp_objects.specs.Reading.{source_start};
 
 use super::{Found, Source};
 use crate::object::{Object, Place, Purpose};
-use capnp_arena::arena::ReaderArena;
+use capnp_arena_traits::arena::ReaderArena;
 use capnp_words::error::ErrorKind;
 use capnp_words::read_limiter::ReadLimiter;
 use capnp_words::wire_pointer::{ElementSize, WirePointerKind, data_bits_per_element};

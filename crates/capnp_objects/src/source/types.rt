@@ -6,7 +6,7 @@ ghost use Rattle.capnp_objects.specs.Types.{type_of, IsOfType, HasType, HasNoTyp
 
 use super::Source;
 use crate::object::Place;
-use capnp_arena::arena::ReaderArena;
+use capnp_arena_traits::arena::ReaderArena;
 use capnp_words::error::ErrorKind;
 use capnp_words::read_limiter::ReadLimiter;
 use capnp_words::wire_pointer::{PointerType, WirePointer, WirePointerKind};

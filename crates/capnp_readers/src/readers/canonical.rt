@@ -16,7 +16,7 @@ use crate::readers::canonical_answer::{Answer, Stopped, fault_at, reason_of, ref
 use crate::readers::canonical_fault::{CanonicalFault, CanonicalFaultReason};
 use crate::readers::sizes::{flat_words, is_of_bits};
 use crate::readers::{PointerReader, StructReader};
-use capnp_arena::arena::ReaderArena;
+use capnp_arena_traits::arena::ReaderArena;
 use capnp_objects::object::{Object, Place};
 use capnp_objects::source::Source;
 use capnp_words::error::ErrorKind;

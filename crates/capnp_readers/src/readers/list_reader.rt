@@ -10,7 +10,7 @@ ghost use Rattle.capnp_objects.specs.Objects.{IsHeld};
 ghost use Rattle.capnp_readers.specs.Sections.{IsPart, HasWordsFrom, IsSized, HoldsPointer, elements_words, pointers_behind, bit_at, step_bits, data_bits, low_data};
 
 use crate::readers::{NO_SECTIONS, PointerReader, StructReader};
-use capnp_arena::arena::ReaderArena;
+use capnp_arena_traits::arena::ReaderArena;
 use capnp_objects::object::Place;
 use capnp_objects::source::Source;
 use capnp_words::primitive::Primitive;

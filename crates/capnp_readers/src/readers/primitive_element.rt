@@ -8,7 +8,7 @@ ghost use Rattle.capnp_readers.specs.Sections.{bit_at, data_bits};
 ghost use Rattle.capnp_readers.specs.Readers.{element_start};
 
 use crate::readers::ListReader;
-use capnp_arena::arena::ReaderArena;
+use capnp_arena_traits::arena::ReaderArena;
 use capnp_words::primitive::Primitive;
 use capnp_words::wire_pointer::ElementSize;
 

@@ -11,7 +11,7 @@ ghost use Rattle.capnp_readers.specs.Readers.{reading};
 ghost use Rattle.capnp_readers.specs.Sizes.{begun, pointers_read, reading_on, so_far, object_words, HasRows, HasNoRows};
 
 use crate::readers::{PointerReader, StructReader};
-use capnp_arena::arena::ReaderArena;
+use capnp_arena_traits::arena::ReaderArena;
 use capnp_objects::object::{Object, Place};
 use capnp_words::error::ErrorKind;
 use capnp_words::read_limiter::ReadLimiter;

@@ -7,7 +7,7 @@ ghost use Rattle.capnp_objects.specs.Objects.{IsHeld};
 ghost use Rattle.capnp_readers.specs.Sections.{IsPart, IsInside, HasWordsFrom, bit_at, bytes_for};
 
 use crate::readers::{ListReader, NO_SECTIONS, PointerReader};
-use capnp_arena::arena::ReaderArena;
+use capnp_arena_traits::arena::ReaderArena;
 use capnp_objects::object::Place;
 use capnp_objects::source::Source;
 use capnp_words::mask::Mask;

@@ -2,7 +2,7 @@
 ghost use Rattle.std.specs.Prelude.{◌≡◌, ⊤};
 
 use crate::readers::{ListReader, StructReader};
-use capnp_arena::arena::ReaderArena;
+use capnp_arena_traits::arena::ReaderArena;
 use std::alloc::AllocError;
 
 /// What a pointer leads to. The words of a struct or a list are checked and charged; of its

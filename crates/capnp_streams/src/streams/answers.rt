@@ -1,18 +1,20 @@
 //! The answer to one message.
 ghost use Rattle.std.specs.Prelude.{◌≡◌, ◌⊎◌, false, OnOk, IfOk, IfErr};
 ghost use Rattle.capnp_format.specs.Bytes.{message};
-ghost use Rattle.capnp_arena.specs.Limits.{IsSmall};
+ghost use Rattle.capnp_arena_traits.specs.Limits.{IsSmall};
 ghost use Rattle.capnp_framing.specs.Writing.{IsUnwritten, Prints};
 ghost use Rattle.capnp_streams.specs.Streams.{AnswersWith, IsWriteFault, RefusesBy};
 
 use super::fault::Fault;
-use super::task::{Command, Form, Task};
+use super::task::Task;
 use super::writing::{write_canonical, write_fault, write_form};
-use crate::messages::{canonical_fault_of, canonical_with, size_of};
 use capnp_arena::arena::{ReaderOptions, ReaderSegments};
-use capnp_layout::devices::{DeviceFault, Output};
-use capnp_layout::framing::{CopyMemory, FrameError};
-use capnp_layout::tool::write_size;
+use capnp_framing::devices::{DeviceFault, Output};
+use capnp_framing::framing::FrameError;
+use capnp_messages::messages::{
+    Command, CopyMemory, Form, canonical_fault_of, canonical_with, size_of,
+};
+use capnp_messages::text::write_size;
 use std::alloc::Global;
 use std::mem;
 

@@ -2,7 +2,7 @@
 ghost use Rattle.std.specs.Prelude.{◌≡◌};
 ghost use Rattle.capnp_streams.specs.Streams.{fault_name};
 
-use capnp_layout::framing::FrameError;
+use capnp_framing::framing::FrameError;
 use capnp_words::error::ErrorKind;
 
 /// Why a message of a stream isn't answered.

@@ -7,8 +7,8 @@ ghost use Rattle.capnp_streams.specs.Streams.{IsWriteFault, StopsBehind, stage_o
 use super::fault::Fault;
 use super::runs::{Stop, Summary, run};
 use super::task::Task;
-use capnp_layout::devices::{DeviceFault, Input, Output};
-use capnp_layout::framing::FrameError;
+use capnp_framing::devices::{DeviceFault, Input, Output};
+use capnp_framing::framing::FrameError;
 use capnp_packing::packing::UnpackingInput;
 use std::alloc::Global;
 

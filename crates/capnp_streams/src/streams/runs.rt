@@ -9,8 +9,8 @@ use super::answers::{Memory, answer};
 use super::fault::Fault;
 use super::task::Task;
 use capnp_arena::arena::ReaderOptions;
-use capnp_layout::devices::{Input, Output};
-use capnp_layout::framing::{OwnedSegments, read_into};
+use capnp_framing::devices::{Input, Output};
+use capnp_framing::framing::{OwnedSegments, read_into};
 use std::alloc::Global;
 
 /// What was done with a stream that is answered to its end.

@@ -1,32 +1,13 @@
 //! What is asked of each message, and the words behind the program's name that ask for it.
 ghost use Rattle.std.specs.Prelude.{◌≡◌, IfSome, IsNone, map, string_bytes};
 ghost use Rattle.capnp_streams.specs.Arguments.{AsksFor, AreOptions, IsFlag, NamesCommand, IsSetting, plain_task};
-ghost use Rattle.capnp_streams.specs.declared.streams.task.Command.{Command};
+ghost use Rattle.capnp_messages.specs.declared.messages.command.Command.{Command};
 ghost use Rattle.capnp_streams.specs.declared.streams.task.Request.{Request};
 ghost use Rattle.capnp_streams.specs.declared.streams.task.Task.{Task};
 
 use capnp_arena::arena::ReaderOptions;
-use capnp_layout::tool::{parse_budget, parse_nesting};
-
-/// How a canonical message is written.
-#[derive(Clone, Copy, Debug, PartialEq, Eq)]
-pub enum Form {
-    /// As a frame of one segment ("Serialization Over a Stream").
-    Framed,
-    /// As its bare words.
-    Flat,
-}
-
-/// What is asked of a message.
-#[derive(Clone, Copy, Debug, PartialEq, Eq)]
-pub enum Command {
-    /// Its canonical words ("Canonicalization").
-    Canon(Form),
-    /// Whether it is canonical as a whole.
-    Check,
-    /// How many words and capabilities it has, without landing pads.
-    Size,
-}
+use capnp_messages::messages::{Command, Form};
+use capnp_messages::text::{parse_budget, parse_nesting};
 
 /// What is asked of each message of a stream, which is read within these limits.
 #[derive(Clone, Copy)]

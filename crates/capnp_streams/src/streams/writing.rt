@@ -1,14 +1,14 @@
 //! What is written of a message: its canonical words in a form, or a line.
 ghost use Rattle.std.specs.Prelude.{◌≡◌, ◌∷◌, [], length, codes, false, true, OnOk, OnErr};
 ghost use Rattle.capnp_framing.specs.Writing.{Prints};
-ghost use Rattle.capnp_layout.specs.Answers.{check_line};
+ghost use Rattle.capnp_messages.specs.Text.{check_line};
 ghost use Rattle.capnp_streams.specs.Streams.{WritesCopy, fault_line, no_text, segment_text, word_text};
 
-use super::task::Form;
 use capnp_arena::arena::{Allocator, BuilderArena, BuilderArenaImpl, ReaderArena};
-use capnp_layout::devices::{DeviceFault, Output, write_all};
-use capnp_layout::framing::{CanonicalFault, canonical_bytes, write_copy};
-use capnp_layout::tool::write_number;
+use capnp_framing::devices::{DeviceFault, Output, write_all};
+use capnp_messages::messages::{Form, canonical_bytes, write_copy};
+use capnp_messages::text::write_number;
+use capnp_readers::readers::CanonicalFault;
 
 /// Writes a canonical message, as a frame or as its bare words.
 pub(super) fn write_form<W: Output, A: Allocator>(

@@ -1,6 +1,6 @@
 //! An allocator of so many segments.
 ghost use Rattle.std.specs.Prelude.{◌≡◌, ◌≤◌};
-ghost use Rattle.capnp_arena.specs.Allocations.{max_segment_words};
+ghost use Rattle.capnp_arena_traits.specs.Allocations.{max_segment_words};
 
 use capnp_arena::arena::{Allocator, HeapAllocator, HeapSegment, MAX_SEGMENT_WORDS};
 use capnp_words::error::ErrorKind;

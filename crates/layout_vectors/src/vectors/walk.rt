@@ -1,6 +1,6 @@
 //! The audit: a walk over a message from its root, with each word that is reached marked.
 ghost use Rattle.std.specs.Prelude.{◌≡◌, ℕ, ◌+◌, ◌<◌, ◌↔◌, ◌∷◌, [], IsTrue, IfOk, IfErr, false, length, map};
-ghost use Rattle.capnp_arena.specs.Limits.{AreSmall};
+ghost use Rattle.capnp_arena_traits.specs.Limits.{AreSmall};
 ghost use Rattle.capnp_format.specs.Bytes.{words_of, message};
 ghost use Rattle.capnp_format.specs.Forest.{IsForest};
 ghost use Rattle.capnp_format.specs.Segments.{IsPlace, segment, word_at};

@@ -1,6 +1,6 @@
 use Rattle.std.proofs.Common.{rules, IsOk, ap}
 use Rattle.capnp_format.specs.Bytes.{message}
-use Rattle.capnp_streams.proofs.MessageLemmas.{AtRoot, at_root}
+use Rattle.capnp_messages.proofs.MessageLemmas.{AtRoot, at_root}
 use Rattle.callers.proofs.InRoom.{fits_at}
 use Rattle.callers.proofs.theorem.canonical_copy_in_room.Goals as goal
 

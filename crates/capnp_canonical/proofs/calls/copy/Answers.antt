@@ -1,7 +1,7 @@
 use Rattle.std.proofs.Common.{◌≡◌, ◌∙◌, ◌+◌, ◌<◌, ap, inr, length, refl, sym, subst, arith}
 use Rattle.std.proofs.lemmas.Result.{IfOk-weaker, IfErr-weaker}
 use Rattle.capnp_format.specs.Canonical.{encoding, trim}
-use Rattle.capnp_streams.specs.Streams.{form_bytes}
+use Rattle.capnp_messages.specs.Commands.{form_bytes}
 use Rattle.capnp_canonical.specs.Calls.{table_bytes}
 use Rattle.capnp_canonical.specs.declared.refusal.Refusal.TheVariants.{NoRoom}
 use Rattle.capnp_canonical.proofs.CallLemmas.{copy_bytes}

@@ -23,7 +23,7 @@ use Rattle.capnp_readers.proofs.Checks.{struct_room}
 use Rattle.capnp_readers.proofs.NearRead.{struct_by_word}
 use Rattle.capnp_readers.proofs.Walking.{ok_so, err_so, one_level_in}
 use Rattle.std.proofs.lemmas.Result.{err_from_is_err_and}
-use Rattle.capnp_arena.specs.View.{View}
+use Rattle.capnp_arena_traits.specs.View.{View}
 use Rattle.capnp_copies.specs.Changes.{HasNulls}
 use Rattle.capnp_copies.proofs.ElementsLaid.{words_taken}
 use Rattle.capnp_copies.proofs.FilledSections.{SectionsBegun, sections_fit, sections_null, sections_copied, sections_stop}

@@ -2,7 +2,7 @@ use Rattle.std.proofs.Common.{ℕ, ◌*◌, ◌≤◌, length, ap, refl, rules, 
 use Rattle.capnp_format.specs.Numbers.{words_for}
 use Rattle.capnp_format.specs.Segments.{Segments}
 use Rattle.capnp_format.specs.Tree.{Null}
-use Rattle.capnp_arena.specs.View.{View}
+use Rattle.capnp_arena_traits.specs.View.{View}
 use Rattle.capnp_making.specs.Made.{LeadsToStart}
 use Rattle.capnp_making.proofs.BytesWritten.{WritesBytes, bytes_target, bytes_written, written_lengths}
 use Rattle.capnp_making.proofs.OldWords.{old_beside}

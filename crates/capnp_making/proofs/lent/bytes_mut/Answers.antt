@@ -1,6 +1,6 @@
 use Rattle.std.proofs.Common.{◌≡◌, ℕ, ◌+◌, ◌-◌, ◌*◌, List, [], length, drop, take, slice_index_or, refl, ap, ◌∙◌, arith}
 use Rattle.capnp_format.specs.Segments.{Segments}
-use Rattle.capnp_arena.specs.Written.{overwritten}
+use Rattle.capnp_arena_traits.specs.Written.{overwritten}
 use Rattle.capnp_making.specs.InPlace.{bytes_there, rewritten, segments_with}
 use Rattle.capnp_making.proofs.InPlaceBytes.{there_got, inside_bytes, count_bytes}
 use Rattle.capnp_making.proofs.BytesOver.{overwrites}

@@ -32,11 +32,11 @@ use denote.Triple.Clauses.{Ended, lasts}
 use denote.Triple.Spec.{triple_of}
 use denote.Triple.Table.{framed}
 use denote.Triple.Walked.{says, Stays, stay_dropped, walk_of, ends_at, Goes-dropped, Goes-spent_ref}
-use Rattle.capnp_arena.specs.Written.{overwritten}
-use Rattle.capnp_arena.specs.declared.arena.builder_arena.BuilderArena.{Ghosts}
-use Rattle.capnp_arena.specs.declared.arena.builder_arena.sealed.Closed.{Ghosts as Closes}
-use Rattle.capnp_arena.specs.declared.arena.reader_arena.ReaderArena.{Ghosts as Reads}
-use Rattle.capnp_arena.specs.contracts.arena.builder_arena.BuilderArena.segment_mut as B
+use Rattle.capnp_arena_traits.specs.Written.{overwritten}
+use Rattle.capnp_arena_traits.specs.declared.arena.builder_arena.BuilderArena.{Ghosts}
+use Rattle.capnp_arena_traits.specs.declared.arena.builder_arena.sealed.Closed.{Ghosts as Closes}
+use Rattle.capnp_arena_traits.specs.declared.arena.reader_arena.ReaderArena.{Ghosts as Reads}
+use Rattle.capnp_arena_traits.specs.contracts.arena.builder_arena.BuilderArena.segment_mut as B
 use Rattle.capnp_making.specs.contracts.lent.part_of as f
 use Rattle.capnp_making.proofs.lent.part_of.Statement.{statement}
 use Rattle.capnp_making.proofs.lent.part_of.Code as code

@@ -1,6 +1,6 @@
 use Rattle.capnp_format.specs.Segments.{Segments}
 use Rattle.capnp_words.specs.Sizes.{size_number}
-use Rattle.capnp_arena.specs.View.{View}
+use Rattle.capnp_arena_traits.specs.View.{View}
 use Rattle.capnp_making.specs.Made.{zero_list, list_words}
 use Rattle.capnp_making.proofs.ObjectsMade.{makes_after_zeros, starts_after_zeros}
 use Rattle.capnp_making.proofs.Outcomes.{if_ok_so, on_made_so}

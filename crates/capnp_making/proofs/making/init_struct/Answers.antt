@@ -1,6 +1,6 @@
 use Rattle.std.proofs.Common.{◌+◌, sym}
 use Rattle.capnp_format.specs.Segments.{Segments}
-use Rattle.capnp_arena.specs.View.{View}
+use Rattle.capnp_arena_traits.specs.View.{View}
 use Rattle.capnp_making.specs.Made.{zero_struct}
 use Rattle.capnp_making.proofs.MadeWords.{word_put}
 use Rattle.capnp_making.proofs.ObjectsMade.{makes_after_zeros, starts_after_zeros}

@@ -4,7 +4,7 @@ use Rattle.capnp_making.proofs.Memory.{words_in}
 use Rattle.capnp_making.proofs.MadeWords.{word_put}
 use Rattle.capnp_making.proofs.Placed.{struct_made, empty_made}
 use Rattle.capnp_making.proofs.Outcomes.{on_ok_so}
-use Rattle.capnp_arena.specs.View.{View}
+use Rattle.capnp_arena_traits.specs.View.{View}
 use Rattle.capnp_making.specs.Makes.{Allocates, ObjectStartsAt, call_at}
 use Rattle.capnp_making.specs.declared.making.Shape.TheVariants.{Struct as StructShape}
 use Rattle.capnp_making.proofs.ObjectsMade.{made_starts}

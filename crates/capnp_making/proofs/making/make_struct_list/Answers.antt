@@ -1,7 +1,7 @@
 use Rattle.std.proofs.Common.{◌≡◌, ◌+◌, ◌*◌, ◌∷◌, ℕ, replicate, ap, sym, ap₂, ◌∙◌, refl, rules, arith}
 use Rattle.capnp_format.specs.Means.{IsTag}
 use Rattle.capnp_format.specs.Segments.{Segments}
-use Rattle.capnp_arena.specs.Written.{with_word}
+use Rattle.capnp_arena_traits.specs.Written.{with_word}
 use Rattle.capnp_format.specs.Word.{list_word}
 use Rattle.capnp_making.specs.Near.{HasOwnRoom, StartsBehind, offset_behind, with_object}
 use Rattle.capnp_making.proofs.NearMade.{first_put, long_as}

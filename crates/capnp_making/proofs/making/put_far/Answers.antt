@@ -1,14 +1,14 @@
 use Rattle.std.proofs.Common.{◌+◌, ◌≤◌, length, ◌∙◌, ℕ, refl, ap, arith, ◌≡◌, sym, ◌<◌, ◌^◌}
 use Rattle.capnp_format.specs.Canonical.{Reaches}
 use Rattle.capnp_format.specs.Segments.{Segments, segment}
-use Rattle.capnp_arena.specs.View.{View}
-use Rattle.capnp_arena.specs.Taking.{IsTaken}
+use Rattle.capnp_arena_traits.specs.View.{View}
+use Rattle.capnp_arena_traits.specs.Taking.{IsTaken}
 use Rattle.capnp_making.specs.Made.{IsGrown, IsShape}
 use Rattle.capnp_making.proofs.Memory.{words_in, keeps_both, keeps_written}
 use Rattle.capnp_making.proofs.MadeWords.{made_far, taken_grown, word_put}
 use Rattle.capnp_making.proofs.Shapes.{shape_near}
 use Rattle.capnp_making.proofs.Taken.{anywhere_lengthens, lengthens_more, lengthens_written}
-use Rattle.capnp_arena.specs.Written.{with_word}
+use Rattle.capnp_arena_traits.specs.Written.{with_word}
 use Rattle.capnp_making.proofs.making.put_far.Goals as goal
 
 -- The word behind a pointer is in its reach.

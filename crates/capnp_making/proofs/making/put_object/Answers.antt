@@ -1,9 +1,9 @@
 use Rattle.std.proofs.Common.{◌≡◌, ◌∙◌, ◌<◌, ◌≤◌, ℕ, length, replicate, refl, sym, ap, subst, arith, ◌+◌, inl, inr, Result, Ok, IsOk, IfOk, OnOk, OnErr, IfErr}
 use Rattle.capnp_format.specs.Canonical.{Reaches, offset_to}
 use Rattle.capnp_format.specs.Segments.{Segments, segment, IsPlace}
-use Rattle.capnp_arena.specs.View.{View}
+use Rattle.capnp_arena_traits.specs.View.{View}
 use Rattle.capnp_making.specs.Made.{IsGrown, IsMade, IsShape, IsMadeAt}
-use Rattle.capnp_arena.specs.Written.{with_word, with_more, extended}
+use Rattle.capnp_arena_traits.specs.Written.{with_word, with_more, extended}
 use Rattle.capnp_making.specs.Near.{offset_behind, shape_word, with_object, HasOwnRoom}
 use Rattle.capnp_making.proofs.Memory.{words_in, keeps_written}
 use Rattle.capnp_making.proofs.MadeWords.{made_near, extended_grown, word_put}
@@ -12,7 +12,7 @@ use Rattle.capnp_making.proofs.Shapes.{shape_some, shape_near}
 use Rattle.capnp_making.proofs.Zeros.{there}
 use Rattle.std.proofs.lemmas.Bool.{false≢true}
 use Rattle.capnp_words.specs.declared.error.ErrorKind.{ErrorKind}
-use Rattle.capnp_arena.specs.Taking.{IsFirstFit}
+use Rattle.capnp_arena_traits.specs.Taking.{IsFirstFit}
 use Rattle.capnp_making.specs.Makes.{Allocates, call_at}
 use Rattle.capnp_making.specs.Memory.{IsNextRoom, IsRefusedFor, KeepsMemory, Lengthens}
 use Rattle.capnp_making.specs.declared.making.Start.{Start}

@@ -1,7 +1,7 @@
 use Rattle.std.proofs.Common.{ap, sym, ◌∙◌}
 use Rattle.capnp_format.specs.Segments.{Segments}
 use Rattle.capnp_format.specs.Tree.{Null}
-use Rattle.capnp_arena.specs.Written.{with_word}
+use Rattle.capnp_arena_traits.specs.Written.{with_word}
 use Rattle.capnp_making.proofs.MadeWords.{word_put, pruned_but}
 use Rattle.capnp_making.proofs.Memory.{words_in}
 use Rattle.capnp_making.proofs.Replaced.{replaced_again}

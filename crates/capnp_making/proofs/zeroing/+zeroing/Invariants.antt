@@ -2,7 +2,7 @@ use Rattle.std.proofs.Common.{◌≡◌, ℕ, ◌+◌, ◌*◌, List}
 use Rattle.capnp_format.specs.Tree.{Trees, Elements, element_count}
 use Rattle.capnp_format.specs.Tree.{count as number}
 use Rattle.capnp_format.specs.Forest.{Interval, times}
-use Rattle.capnp_arena.specs.View.{KeepsLimits}
+use Rattle.capnp_arena_traits.specs.View.{KeepsLimits}
 use Rattle.capnp_making.specs.Zeroed.{IsZeroed, IsPruned, AreApart, AreApartElements, element_extents}
 use Rattle.capnp_making.proofs.Zeros.{nonzeros}
 use Rattle.capnp_making.proofs.Below.{child_extents, rest}

@@ -3,7 +3,7 @@ use Rattle.std.proofs.lemmas.Bool.{false≢true}
 use Rattle.std.proofs.lemmas.Result.{err_from_is_err_and}
 use Rattle.capnp_format.specs.Bytes.{message}
 use Rattle.capnp_format.specs.Word.{is_double, upper_half}
-use Rattle.capnp_arena.proofs.MessageLemmas.{length-message}
+use Rattle.capnp_arena_traits.proofs.MessageLemmas.{length-message}
 use Rattle.capnp_objects.proofs.Landings.{beyond, known, double_absent, double_followed, single_followed, single_nowhere}
 use Rattle.capnp_objects.proofs.source.follow_far.Goals as goal
 

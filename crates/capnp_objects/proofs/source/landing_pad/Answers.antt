@@ -4,7 +4,7 @@ use Rattle.std.proofs.lemmas.Result.{err_from_is_err_and}
 use Rattle.capnp_format.specs.Bytes.{message}
 use Rattle.capnp_format.specs.Word.{is_double, far_position, upper_half}
 use Rattle.capnp_format.specs.Segments.{Segments, segment}
-use Rattle.capnp_arena.proofs.MessageLemmas.{length-message}
+use Rattle.capnp_arena_traits.proofs.MessageLemmas.{length-message}
 use Rattle.capnp_objects.proofs.Landings.{beyond, known, pad_absent, pad_beyond, pad_exceeds}
 use Rattle.capnp_objects.proofs.source.landing_pad.Goals as goal
 use Rattle.capnp_objects.proofs.source.landing_pad.Goals.{then-is_double_far, else-is_double_far}

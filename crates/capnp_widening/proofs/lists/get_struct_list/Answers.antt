@@ -6,7 +6,7 @@ use Rattle.capnp_making.specs.declared.existing.ExistingList.{ExistingList}
 use Rattle.capnp_making.specs.Existing.{struct_list}
 use Rattle.capnp_format.specs.Segments.{Segments}
 use Rattle.capnp_format.specs.Forest.{target}
-use Rattle.capnp_arena.specs.View.{View}
+use Rattle.capnp_arena_traits.specs.View.{View}
 use Rattle.capnp_making.proofs.Memory.{keeps_itself}
 use Rattle.capnp_widening.proofs.AnyList.{none_is_null, null_stays, null_leads, list_widens, list_leads, unfound_refused}
 use Rattle.capnp_widening.proofs.Listed.{same_list, not_a_list}

@@ -1,5 +1,5 @@
 use Rattle.std.proofs.Common.{inl, refl, ap, arith}
-use Rattle.capnp_arena.specs.View.{View}
+use Rattle.capnp_arena_traits.specs.View.{View}
 use Rattle.capnp_words.specs.Sizes.{size_number}
 use Rattle.capnp_widening.proofs.AnyList.{bits_refused}
 use Rattle.capnp_widening.proofs.ListRooms.{not_refused}

@@ -1,7 +1,7 @@
 use Rattle.std.proofs.Common.{inl, inr, refl}
 use Rattle.capnp_format.specs.Segments.{Segments}
 use Rattle.capnp_words.specs.declared.wire_pointer.StructSize.{StructSize}
-use Rattle.capnp_arena.specs.View.{View}
+use Rattle.capnp_arena_traits.specs.View.{View}
 use Rattle.capnp_making.proofs.Outcomes.{on_err_so, on_made_so}
 use Rattle.capnp_widening.proofs.Listed.{if_ok_both, if_err_so}
 use Rattle.capnp_widening.proofs.AnyRows.{rows_inside}

@@ -7,8 +7,8 @@ use Rattle.capnp_format.proofs.Following.{IsOffsetTo}
 use Rattle.capnp_making.specs.Made.{IsShape, IsGrown}
 use Rattle.capnp_making.proofs.MadeWords.{word_put, taken_grown, extended_grown}
 use Rattle.std.proofs.Common.{◌∙◌}
-use Rattle.capnp_arena.specs.View.{View}
-use Rattle.capnp_arena.specs.Written.{extended, with_word}
+use Rattle.capnp_arena_traits.specs.View.{View}
+use Rattle.capnp_arena_traits.specs.Written.{extended, with_word}
 use Rattle.capnp_widening.proofs.Refusing.{anywhere_refused}
 use Rattle.capnp_widening.proofs.Rooms.{all_words, not_true, words_put, words_extended, words_taken, room_still, none_refused}
 use Rattle.capnp_making.specs.Memory.{KeepsMemory}

@@ -1,4 +1,4 @@
-use Rattle.capnp_arena.specs.View.{KeepsLimits}
+use Rattle.capnp_arena_traits.specs.View.{KeepsLimits}
 use Rattle.capnp_making.specs.Zeroed.{IsPruned}
 use Rattle.capnp_widening.specs.Moved.{row_of_moves, Unmoves}
 use Rattle.capnp_widening.proofs.moving.unmove_row.Given as goal

@@ -1,5 +1,5 @@
 use Rattle.std.proofs.Common.{◌≡◌, ◌+◌, ◌*◌}
-use Rattle.capnp_arena.specs.View.{KeepsLimits}
+use Rattle.capnp_arena_traits.specs.View.{KeepsLimits}
 use Rattle.capnp_making.specs.Zeroed.{IsPruned}
 use Rattle.capnp_widening.specs.Moved.{rows_of_moves, Unmoves}
 use Rattle.capnp_widening.proofs.moving.unmove_rows.Given as goal

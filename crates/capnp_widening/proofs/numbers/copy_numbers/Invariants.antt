@@ -1,5 +1,5 @@
 use Rattle.std.proofs.Common.{◌≡◌, ◌+◌, ◌*◌}
-use Rattle.capnp_arena.specs.View.{KeepsLimits}
+use Rattle.capnp_arena_traits.specs.View.{KeepsLimits}
 use Rattle.capnp_format.specs.Numbers.{element_bits}
 use Rattle.capnp_words.specs.Sizes.{size_number}
 use Rattle.capnp_widening.specs.RowsRemade.{AreNumbersCopied}

@@ -2,7 +2,7 @@ use Rattle.std.proofs.Common.{◌≡◌, ◌∙◌, ◌≤◌, ◌<◌, ◌+◌,
 use Rattle.capnp_words.specs.declared.error.ErrorKind.TheVariants.{MessageTooLarge}
 use Rattle.capnp_words.specs.declared.wire_pointer.StructSize.{StructSize}
 use Rattle.capnp_format.specs.Segments.{Segments}
-use Rattle.capnp_arena.specs.View.{View}
+use Rattle.capnp_arena_traits.specs.View.{View}
 use Rattle.capnp_making.proofs.Outcomes.{if_ok_so, on_err_so, on_made_so}
 use Rattle.capnp_widening.specs.Widened.{limited}
 use Rattle.capnp_widening.proofs.Listed.{err_both, if_err_both, too_many}

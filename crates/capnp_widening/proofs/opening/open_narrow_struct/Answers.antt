@@ -1,5 +1,5 @@
 use Rattle.std.proofs.lemmas.Result.{err_from_is_err_and}
-use Rattle.capnp_arena.specs.View.{View}
+use Rattle.capnp_arena_traits.specs.View.{View}
 use Rattle.capnp_widening.specs.Opening.{existing_struct}
 use Rattle.capnp_widening.proofs.StructsOpened.{struct_wider, struct_kept, struct_unwidened}
 use Rattle.capnp_widening.proofs.opening.open_narrow_struct.Goals as goal

@@ -1,6 +1,6 @@
 use Rattle.std.proofs.lemmas.Result.{err_from_is_err_and}
 use Rattle.std.proofs.Common.{inl, refl, sym, ap, ◌∙◌, Ok}
-use Rattle.capnp_arena.specs.View.{View}
+use Rattle.capnp_arena_traits.specs.View.{View}
 use Rattle.capnp_widening.proofs.ListsOpened.{HasWideStructs}
 use Rattle.capnp_widening.proofs.ListsOpened.{list_made, list_refused, list_refuses, no_list_fits}
 use Rattle.capnp_widening.proofs.StructsOpened.{no_truth, nothing_spent}

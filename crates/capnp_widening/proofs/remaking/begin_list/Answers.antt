@@ -1,6 +1,6 @@
 use Rattle.std.proofs.lemmas.Result.{err_from_is_err_and}
 use Rattle.std.proofs.Common.{ℕ, ◌+◌, ◌*◌, ◌<◌, length, refl, sym, ap, ◌∙◌, subst, arith}
-use Rattle.capnp_arena.specs.View.{View, KeepsLimits}
+use Rattle.capnp_arena_traits.specs.View.{View, KeepsLimits}
 use Rattle.capnp_format.specs.Segments.{Segments, segment}
 use Rattle.capnp_format.specs.Means.{IsTag}
 use Rattle.capnp_making.proofs.MadeWords.{word_put}

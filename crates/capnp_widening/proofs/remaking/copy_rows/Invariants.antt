@@ -1,5 +1,5 @@
 use Rattle.std.proofs.Common.{◌≡◌, ◌+◌, ◌*◌}
-use Rattle.capnp_arena.specs.View.{KeepsLimits}
+use Rattle.capnp_arena_traits.specs.View.{KeepsLimits}
 use Rattle.capnp_widening.specs.RowsRemade.{AreRowsCopied}
 use Rattle.capnp_widening.proofs.remaking.copy_rows.Given as goal
 

@@ -5,8 +5,8 @@ use Rattle.capnp_making.specs.Made.{IsGrown}
 use Rattle.capnp_making.proofs.MadeWords.{taken_grown, extended_grown}
 use Rattle.std.proofs.Common.{◌∙◌}
 use Rattle.std.proofs.lemmas.List.{length-replicate}
-use Rattle.capnp_arena.specs.View.{View}
-use Rattle.capnp_arena.specs.Written.{extended}
+use Rattle.capnp_arena_traits.specs.View.{View}
+use Rattle.capnp_arena_traits.specs.Written.{extended}
 use Rattle.capnp_making.specs.Memory.{StandsBehind}
 use Rattle.capnp_widening.specs.Rooms.{GrowsByAtMost}
 use Rattle.capnp_widening.proofs.Refusing.{anywhere_refused}

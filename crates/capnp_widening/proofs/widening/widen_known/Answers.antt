@@ -1,6 +1,6 @@
 use Rattle.std.proofs.Common.{inl, inr, subst, ◌≡◌, ◌+◌, ◌*◌, sym, ap, ◌∙◌, arith}
 use Rattle.capnp_format.specs.Tree.{Struct, count}
-use Rattle.capnp_arena.specs.View.{View}
+use Rattle.capnp_arena_traits.specs.View.{View}
 use Rattle.capnp_making.specs.Memory.{HasRoom}
 use Rattle.capnp_making.specs.Near.{HasOwnRoom}
 use Rattle.capnp_making.proofs.Outcomes.{on_err_so, on_made_so, if_ok_so}

@@ -1,7 +1,7 @@
 use Rattle.std.proofs.lemmas.Result.{err_from_is_err_and}
 use Rattle.std.proofs.Common.{◌≡◌, inl, inr, ◌+◌, ◌*◌, ◌^◌, ◌<◌, ◌≤◌, ℕ, length, sym, ap, subst, ◌∙◌}
 use Rattle.std.proofs.Common.{le_of_eq, le_trans, lt_of_lt_of_le, arith}
-use Rattle.capnp_arena.specs.View.{View}
+use Rattle.capnp_arena_traits.specs.View.{View}
 use Rattle.capnp_format.specs.Segments.{Segments, segment}
 use Rattle.capnp_format.proofs.Slices.{there}
 use Rattle.capnp_making.specs.declared.making.Start.{Start}

@@ -2,7 +2,7 @@ use Rattle.std.proofs.Common.{◌≡◌, ℕ, ◌<◌, length, false, refl, arit
 use Rattle.std.proofs.lemmas.Bool.Decides.{nat_tests}
 use Rattle.std.specs.Bool.{◌==◌}
 use Rattle.capnp_arena.specs.Row.{shown}
-use Rattle.capnp_arena.proofs.MessageLemmas.{length-message}
+use Rattle.capnp_arena_traits.proofs.MessageLemmas.{length-message}
 use Rattle.capnp_arena.proofs.RowsLemmas.{length_shown}
 use Rattle.capnp_arena.proofs.BoundsLemmas.{room_as_before}
 use Rattle.capnp_arena.proofs.arena.bounds.first_fit.Goals as goal

@@ -1,5 +1,5 @@
 use Rattle.std.proofs.Common.{sym, subst}
-use Rattle.capnp_arena.specs.Limits.{IsSmall}
+use Rattle.capnp_arena_traits.specs.Limits.{IsSmall}
 use Rattle.capnp_arena.proofs.RowsLemmas.{shown_small}
 use Rattle.capnp_arena.proofs.arena.builder_arena_impl.output_of_list.Goals as goal
 

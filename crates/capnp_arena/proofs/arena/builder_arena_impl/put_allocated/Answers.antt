@@ -3,7 +3,7 @@ use Rattle.std.proofs.lemmas.List.{map-append, append_assoc}
 use Rattle.std.specs.Borrow.{Bor}
 use Rattle.std.specs.Result.{is_ok}
 use Rattle.capnp_arena.specs.Row.{shown}
-use Rattle.capnp_arena.proofs.MessageLemmas.{take_whole}
+use Rattle.capnp_arena_traits.proofs.MessageLemmas.{take_whole}
 use Rattle.capnp_arena.proofs.RowsLemmas.{shown_more, length_shown}
 use Rattle.capnp_arena.proofs.arena.builder_arena_impl.put_allocated.Goals as goal
 

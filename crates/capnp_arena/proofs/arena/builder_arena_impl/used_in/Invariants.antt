@@ -1,6 +1,6 @@
 use Rattle.std.proofs.Common.{◌≡◌, ◌≤◌, ◌*◌, take}
-use Rattle.capnp_arena.specs.Allocations.{max_segment_words}
-use Rattle.capnp_arena.specs.Checks.{total_words}
+use Rattle.capnp_arena_traits.specs.Allocations.{max_segment_words}
+use Rattle.capnp_arena_traits.specs.Checks.{total_words}
 use Rattle.capnp_arena.specs.Row.{shown}
 use Rattle.capnp_arena.proofs.arena.builder_arena_impl.used_in.Given as goal
 

@@ -31,7 +31,7 @@ use denote.Triple.Spec.{triple_of}
 use denote.Triple.Table.{framed}
 use denote.Triple.Walked.{says, Stays, stay_dropped, walk_of, ends_at, Goes-dropped, Goes-spent_ref}
 use borrow.Table.Elements.{length-take-le}
-use Rattle.capnp_arena.specs.Written.{with_front}
+use Rattle.capnp_arena_traits.specs.Written.{with_front}
 use Rattle.capnp_arena.specs.declared.arena.allocator.Segment.{Ghosts}
 use Rattle.capnp_arena.specs.contracts.arena.allocator.Segment.bytes_mut as B
 use Rattle.capnp_arena.specs.contracts.arena.row.front_of as f

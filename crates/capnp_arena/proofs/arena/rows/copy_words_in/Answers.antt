@@ -1,7 +1,7 @@
 use Rattle.std.proofs.Common.{sym, ap, ◌∙◌, arith}
 use Rattle.capnp_format.specs.Bytes.{words_of, message}
 use Rattle.capnp_arena.specs.Row.{capacity, shown}
-use Rattle.capnp_arena.specs.Written.{overwritten, with_segment}
+use Rattle.capnp_arena_traits.specs.Written.{overwritten, with_segment}
 use Rattle.capnp_arena.proofs.RowsLemmas.{room_same, row_changed, segment_row, row_old}
 use Rattle.capnp_arena.proofs.BoundsLemmas.{bounded_over}
 use Rattle.capnp_arena.proofs.arena.rows.copy_words_in.Goals as goal

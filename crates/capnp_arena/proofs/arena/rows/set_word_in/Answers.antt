@@ -2,7 +2,7 @@ use Rattle.std.proofs.Common.{◌<◌, length, sym, ap, ◌∙◌, arith}
 use Rattle.std.specs.Prelude.{slice_set}
 use Rattle.capnp_format.specs.Bytes.{message}
 use Rattle.capnp_arena.specs.Row.{capacity, shown}
-use Rattle.capnp_arena.specs.Written.{with_segment}
+use Rattle.capnp_arena_traits.specs.Written.{with_segment}
 use Rattle.capnp_arena.proofs.RowsLemmas.{room_same, row_changed, segment_row, row_there, row_old}
 use Rattle.capnp_arena.proofs.BoundsLemmas.{bounded_over}
 use Rattle.capnp_arena.proofs.arena.rows.set_word_in.Goals as goal

@@ -1,5 +1,5 @@
 use Rattle.std.proofs.Common.{◌≡◌, refl, rules, arith}
-use Rattle.capnp_arena.specs.View.{View}
+use Rattle.capnp_arena_traits.specs.View.{View}
 use Rattle.capnp_format.specs.Segments.{word_at}
 use Rattle.capnp_format.specs.Tree.{Null}
 use Rattle.capnp_making.proofs.Filling.{unchanged}

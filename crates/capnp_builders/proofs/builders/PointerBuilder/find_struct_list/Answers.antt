@@ -1,7 +1,7 @@
 use Rattle.std.proofs.Common.{Ok, Err, subst}
 use Rattle.std.proofs.lemmas.Bool.{false≢true}
 use Rattle.std.proofs.lemmas.Result.{err_from_is_err_and}
-use Rattle.capnp_arena.specs.View.{View}
+use Rattle.capnp_arena_traits.specs.View.{View}
 use Rattle.capnp_making.specs.Stored.{IsStored}
 use Rattle.capnp_widening.specs.Rooms.{WiderListFits}
 use Rattle.capnp_widening.specs.RowsRemade.{RefusesWider}

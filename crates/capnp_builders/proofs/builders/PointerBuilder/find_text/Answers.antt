@@ -1,5 +1,5 @@
 use Rattle.std.proofs.Common.{refl}
-use Rattle.capnp_arena.specs.View.{View}
+use Rattle.capnp_arena_traits.specs.View.{View}
 use Rattle.capnp_builders.specs.Defaults.{blob_default}
 use Rattle.capnp_builders.specs.Found.{GivesFoundBytes}
 use Rattle.capnp_making.specs.Existing.{text_in}

@@ -1,5 +1,5 @@
 use Rattle.std.proofs.Common.{◌≡◌, ℕ, ◌+◌, ◌<◌}
-use Rattle.capnp_arena.specs.View.{KeepsLimits}
+use Rattle.capnp_arena_traits.specs.View.{KeepsLimits}
 use Rattle.capnp_format.specs.Segments.{word_at}
 use Rattle.capnp_making.specs.Zeroed.{IsPruned}
 use Rattle.capnp_builders.specs.Content.{AreCleared}

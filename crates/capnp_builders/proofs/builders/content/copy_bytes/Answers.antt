@@ -1,5 +1,5 @@
 use Rattle.std.proofs.Common.{rules, ◌≡◌, ℕ, ◌+◌, ◌-◌, ◌*◌, ◌/◌, ◌<◌, ◌≤◌, List, length, get_or, Fits, w8, sym, ap, ◌∙◌, arith}
-use Rattle.capnp_arena.specs.Written.{overwritten}
+use Rattle.capnp_arena_traits.specs.Written.{overwritten}
 use Rattle.capnp_format.specs.Bytes.{message}
 use Rattle.capnp_format.specs.Segments.{Segments}
 use Rattle.capnp_making.proofs.BytesWritten.{put_over}

@@ -1,5 +1,5 @@
 use Rattle.std.proofs.Common.{◌≡◌, ℕ, suc, List, length, get_or, take, subst, arith}
-use Rattle.capnp_arena.specs.View.{View}
+use Rattle.capnp_arena_traits.specs.View.{View}
 use Rattle.capnp_format.specs.Segments.{segment}
 use Rattle.capnp_builders.specs.Content.{content_byte}
 use Rattle.capnp_builders.proofs.BytesAsFields.{Wrote, wrote_long, wrote_front, wrote_next, wrote_rest}

@@ -2,7 +2,7 @@ use Rattle.std.proofs.Common.{◌≡◌, ℕ, List, IfOk, IfErr, None}
 use Rattle.std.proofs.lemmas.Bool.{false≢true}
 use Rattle.capnp_words.specs.Meter.{unused}
 use Rattle.capnp_format.specs.Tree.{Null}
-use Rattle.capnp_arena.specs.View.{View}
+use Rattle.capnp_arena_traits.specs.View.{View}
 use Rattle.capnp_objects.specs.Wanted.{of_default}
 use Rattle.capnp_copies.specs.Changes.{change, MakesCopy, StopsCopy}
 use Rattle.capnp_copies.specs.Growth.{TakesAtMost}

@@ -1,6 +1,6 @@
 use Rattle.std.proofs.Common.{ap, rules}
 use Rattle.capnp_format.specs.Bytes.{words_of}
-use Rattle.capnp_arena.specs.View.{View}
+use Rattle.capnp_arena_traits.specs.View.{View}
 use Rattle.capnp_copies.proofs.Growth.{none_written}
 use Rattle.capnp_copies.proofs.SegmentsWritten.{WrittenOver, behind_over}
 use Rattle.capnp_copies.proofs.copy.elements.put_words.Goals as goal

@@ -6,8 +6,8 @@ use Rattle.capnp_format.specs.Segments.{Segments, segment}
 use Rattle.capnp_format.specs.Tree.{Null, Pointers, Flat}
 use Rattle.capnp_format.proofs.Bounds.{digits_below}
 use Rattle.capnp_format.proofs.Digits.{length-digits}
-use Rattle.capnp_arena.specs.View.{View}
-use Rattle.capnp_arena.specs.Written.{with_words}
+use Rattle.capnp_arena_traits.specs.View.{View}
+use Rattle.capnp_arena_traits.specs.Written.{with_words}
 use Rattle.capnp_making.specs.Made.{words_of_zero, nulls, list_words, WordsLieFrom}
 use Rattle.capnp_making.specs.Memory.{RefusesWords}
 use Rattle.capnp_making.specs.Stored.{IsReplaced}

@@ -1,8 +1,8 @@
 use Rattle.std.proofs.Common.{◌≡◌, ◌+◌, ◌*◌, ◌%◌, ◌^◌, length, ℕ, ◌-◌, List, bit_and, set, refl, sym, ap, ◌∙◌, arith}
 use Rattle.capnp_format.specs.Bytes.{words_of}
 use Rattle.capnp_format.specs.Segments.{Segments, segment}
-use Rattle.capnp_arena.specs.View.{View}
-use Rattle.capnp_arena.specs.Written.{with_words, with_word}
+use Rattle.capnp_arena_traits.specs.View.{View}
+use Rattle.capnp_arena_traits.specs.Written.{with_words, with_word}
 use Rattle.capnp_copies.proofs.Padding.{HasRoom, words_small, none_masked, last_behind_mask, with_words_set}
 use Rattle.capnp_copies.proofs.copy.flat.put_elements.Goals as goal
 

@@ -4,7 +4,7 @@ use Rattle.std.proofs.lemmas.Bool.{false≢true}
 use mir.Syntax.{w32}
 use Rattle.capnp_format.specs.Segments.{segment}
 use Rattle.capnp_format.proofs.Slices.{length_words}
-use Rattle.capnp_arena.specs.View.{View}
+use Rattle.capnp_arena_traits.specs.View.{View}
 use Rattle.capnp_objects.specs.Reading.{Reading, words_from}
 use Rattle.capnp_readers.specs.Sizes.{pointers_read}
 use Rattle.capnp_readers.proofs.Walking.{ok_so, err_so}

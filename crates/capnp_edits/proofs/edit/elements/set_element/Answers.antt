@@ -1,7 +1,7 @@
 use Rattle.std.proofs.Common.{rules, ◌≡◌, inl, inr, true, false, None, refl, sym, ap, ◌∙◌, subst}
 use Rattle.std.proofs.lemmas.Bool.{cases_lt}
 use Rattle.std.proofs.lemmas.Result.{err_from_is_err_and}
-use Rattle.capnp_arena.specs.View.{View}
+use Rattle.capnp_arena_traits.specs.View.{View}
 use Rattle.capnp_edits.specs.Edits.{PutsElement, element_put, element_past, list_denied}
 use Rattle.capnp_edits.proofs.Contents.{is_found}
 use Rattle.capnp_edits.proofs.edit.elements.set_element.Goals as goal

@@ -1,6 +1,6 @@
 use Rattle.std.proofs.Common.{◌≡◌, true, false, refl, sym, ap, ◌∙◌}
 use Rattle.std.proofs.lemmas.Result.{err_from_is_err_and}
-use Rattle.capnp_arena.specs.View.{View}
+use Rattle.capnp_arena_traits.specs.View.{View}
 use Rattle.capnp_edits.specs.Edits.{byte_put, byte_past, bytes_denied}
 use Rattle.capnp_edits.proofs.Contents.{is_found}
 use Rattle.capnp_edits.proofs.edit.elements.write_byte.Goals as goal

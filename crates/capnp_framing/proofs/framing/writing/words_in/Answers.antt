@@ -1,7 +1,7 @@
 use Rattle.std.proofs.Common.{List, ℕ, [], sym, ◌∙◌, arith, take_all}
 use Rattle.std.proofs.lemmas.List.{get_or_past}
 use Rattle.capnp_format.specs.Bytes.{message}
-use Rattle.capnp_arena.proofs.MessageLemmas.{length-message, segment-message}
+use Rattle.capnp_arena_traits.proofs.MessageLemmas.{length-message, segment-message}
 use Rattle.capnp_format.specs.Bytes.{words_of}
 use Rattle.capnp_format.proofs.WordsOf.{words}
 use Rattle.capnp_framing.proofs.framing.writing.words_in.Goals as goal

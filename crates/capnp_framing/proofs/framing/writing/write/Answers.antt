@@ -1,5 +1,5 @@
 use Rattle.std.proofs.Common.{List, ℕ, arith}
-use Rattle.capnp_arena.proofs.MessageLemmas.{length-message}
+use Rattle.capnp_arena_traits.proofs.MessageLemmas.{length-message}
 use Rattle.capnp_framing.proofs.TableLemmas.{short_segments}
 use Rattle.capnp_framing.proofs.framing.writing.write.Goals as goal
 

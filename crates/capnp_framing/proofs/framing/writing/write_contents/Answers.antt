@@ -4,7 +4,7 @@ use Rattle.std.proofs.lemmas.List.Elements.{All-more}
 use Rattle.capnp_format.specs.Bytes.{message}
 use Rattle.capnp_format.specs.Segments.{Segments}
 use Rattle.capnp_framing.specs.Frames.{AreSegmentWords, bytes_of_words, contents}
-use Rattle.capnp_arena.proofs.MessageLemmas.{length-message}
+use Rattle.capnp_arena_traits.proofs.MessageLemmas.{length-message}
 use Rattle.capnp_framing.proofs.TableLemmas.{contents-drop}
 use Rattle.capnp_framing.proofs.WritingLemmas.{left_over_less}
 use Rattle.capnp_framing.proofs.framing.writing.write_contents.Goals as goal

@@ -2,7 +2,7 @@ use Rattle.std.proofs.Common.{rules, ◌≡◌, ◌<◌, ◌+◌, ◌-◌, ◌*�
 use Rattle.std.specs.Int.{to_le_bytes, w32}
 use Rattle.capnp_format.specs.Bytes.{message}
 use Rattle.capnp_format.specs.Segments.{Segments, segment}
-use Rattle.capnp_arena.proofs.MessageLemmas.{length-message}
+use Rattle.capnp_arena_traits.proofs.MessageLemmas.{length-message}
 use Rattle.capnp_framing.proofs.TableLemmas.{lengths_left, table_end, table_first, table_next}
 use Rattle.capnp_framing.proofs.WritingLemmas.{left_over_all, left_over_end, left_over_less}
 use Rattle.capnp_framing.proofs.framing.writing.write_table.Goals as goal

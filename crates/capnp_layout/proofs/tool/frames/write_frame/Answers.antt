@@ -1,7 +1,7 @@
 use Rattle.std.proofs.Common.{List, ℕ, arith}
 use Rattle.std.proofs.lemmas.Result.{on_ok_weaker}
 use Rattle.capnp_format.specs.Bytes.{message}
-use Rattle.capnp_arena.proofs.MessageLemmas.{length-message}
+use Rattle.capnp_arena_traits.proofs.MessageLemmas.{length-message}
 use Rattle.capnp_layout.proofs.FrameLines.{frame_written}
 use Rattle.capnp_layout.proofs.tool.frames.write_frame.Goals as goal
 

@@ -5,7 +5,7 @@ use Rattle.capnp_framing.specs.Frames.{lengths}
 use Rattle.capnp_format.specs.Bytes.{message, words_of}
 use Rattle.capnp_format.specs.Segments.{Segments, segment}
 use Rattle.capnp_format.proofs.WordsOf.{words}
-use Rattle.capnp_arena.proofs.MessageLemmas.{length-message}
+use Rattle.capnp_arena_traits.proofs.MessageLemmas.{length-message}
 use Rattle.capnp_framing.proofs.WritingLemmas.{left_over_less, left_over_end}
 use Rattle.capnp_layout.proofs.FrameLines.{lengths-drop, lengths-end}
 use Rattle.capnp_layout.proofs.tool.frames.write_lengths.Goals as goal

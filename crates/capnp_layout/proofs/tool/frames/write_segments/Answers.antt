@@ -3,7 +3,7 @@ use Rattle.capnp_layout.specs.Answers.{digits_of}
 use Rattle.capnp_layout.specs.Commands.{segment_lines}
 use Rattle.capnp_format.specs.Bytes.{message, words_of}
 use Rattle.capnp_format.specs.Segments.{Segments, segment}
-use Rattle.capnp_arena.proofs.MessageLemmas.{length-message}
+use Rattle.capnp_arena_traits.proofs.MessageLemmas.{length-message}
 use Rattle.capnp_framing.proofs.WritingLemmas.{left_over_less, left_over_end}
 use Rattle.capnp_layout.proofs.FrameLines.{lines-drop, lines-end}
 use Rattle.capnp_layout.proofs.tool.frames.write_segments.Goals as goal

@@ -1,6 +1,6 @@
 use Rattle.std.proofs.Common.{refl}
 use Rattle.capnp_format.specs.Canonical.{encoding, trim}
-use Rattle.capnp_streams.specs.Streams.{form_bytes}
+use Rattle.capnp_messages.specs.Commands.{form_bytes}
 use Rattle.capnp_streams.proofs.streams.answers.canon.Goals as goal
 
 pub returns-in-Ok-written-clause-answered : goal.returns-in-Ok-written-clause-answered

@@ -2,8 +2,8 @@ use Rattle.std.proofs.Common.{◌≡◌, ℕ, ◌∙◌, sym, subst, IsTrue, ap,
 use Rattle.capnp_arena.specs.Kept.{arena_rows}
 use Rattle.capnp_arena.specs.Row.{shown, capacity_at}
 use Rattle.capnp_format.specs.Segments.{Segments}
-use Rattle.capnp_arena.specs.View.{View}
-use Rattle.capnp_arena.proofs.MessageLemmas.{same_at}
+use Rattle.capnp_arena_traits.specs.View.{View}
+use Rattle.capnp_arena_traits.proofs.MessageLemmas.{same_at}
 use Rattle.capnp_arena.proofs.TakingLemmas.{taken_another}
 use Rattle.capnp_arena.proofs.RowsLemmas.{length_shown}
 use Rattle.capnp_arena.proofs.arena.builder_arena_impl.BuilderArenaImpl.take_another.Goals as goal

@@ -2,8 +2,8 @@ use Rattle.std.proofs.Common.{◌≤◌, ◌+◌, ℕ, length, ap, sym, subst, �
 use Rattle.capnp_format.specs.Segments.{segment}
 use Rattle.capnp_arena.specs.Kept.{arena_rows}
 use Rattle.capnp_arena.specs.Row.{shown}
-use Rattle.capnp_arena.specs.View.{View}
-use Rattle.capnp_arena.proofs.MessageLemmas.{length-message}
+use Rattle.capnp_arena_traits.specs.View.{View}
+use Rattle.capnp_arena_traits.proofs.MessageLemmas.{length-message}
 use Rattle.capnp_arena.proofs.arena.builder_arena_impl.BuilderArenaImplBuilderArena.allocate_anywhere.Goals as goal
 
 -- Looking for a segment with room leaves the view as it is.

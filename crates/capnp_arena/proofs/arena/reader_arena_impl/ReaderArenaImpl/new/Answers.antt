@@ -1,5 +1,5 @@
 use Rattle.std.proofs.Common.{arith, ◌≡◌, true, false}
-use Rattle.capnp_arena.proofs.MessageLemmas.{total-more}
+use Rattle.capnp_arena_traits.proofs.MessageLemmas.{total-more}
 use Rattle.capnp_arena.proofs.arena.reader_arena_impl.ReaderArenaImpl.new.Goals as goal
 use Rattle.capnp_arena.proofs.arena.reader_arena_impl.ReaderArenaImpl.new.Goals.{in-Some, in_default}
 

@@ -1,5 +1,5 @@
 use Rattle.std.proofs.Common.{◌≡◌, ◌*◌, ◌^◌, ◌-◌, ◌≤◌, take}
-use Rattle.capnp_arena.specs.Checks.{total_words}
+use Rattle.capnp_arena_traits.specs.Checks.{total_words}
 use Rattle.capnp_arena.proofs.arena.reader_arena_impl.ReaderArenaImpl.new.Given as goal
 
 abbrev pub invariant-loop-id : goal.invariant-loop-id

@@ -3,7 +3,7 @@ use Rattle.capnp_format.specs.Bytes.{words_of, message}
 use Rattle.capnp_format.specs.Segments.{segment}
 use Rattle.capnp_arena.specs.Row.{allocated, shown}
 use Rattle.capnp_arena.specs.Rows.{all}
-use Rattle.capnp_arena.specs.Written.{overwritten, with_copied, with_segment}
+use Rattle.capnp_arena_traits.specs.Written.{overwritten, with_copied, with_segment}
 use Rattle.capnp_arena.proofs.RowsLemmas.{row_is, row_old}
 use Rattle.capnp_arena.proofs.ListedLemmas.{first_words, first_changed, other_there, other_words, others_bounded, others_few, others_kept, others_written}
 use Rattle.capnp_arena.proofs.arena.rows.Rows.copy_across.Goals as goal

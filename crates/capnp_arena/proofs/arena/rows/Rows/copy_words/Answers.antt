@@ -2,7 +2,7 @@ use Rattle.std.proofs.Common.{ap, sym, ◌∙◌, arith}
 use Rattle.capnp_format.specs.Bytes.{words_of, message}
 use Rattle.capnp_arena.specs.Row.{shown}
 use Rattle.capnp_arena.specs.Rows.{all}
-use Rattle.capnp_arena.specs.Written.{overwritten, with_segment}
+use Rattle.capnp_arena_traits.specs.Written.{overwritten, with_segment}
 use Rattle.capnp_arena.proofs.ListedLemmas.{first_changed, first_kept, first_words, others_bounded, others_few, others_kept, others_written}
 use Rattle.capnp_arena.proofs.arena.rows.Rows.copy_words.Goals as goal
 

@@ -2,7 +2,7 @@ use Rattle.std.proofs.Common.{◌≡◌, ◌+◌, ◌≤◌, length, refl, sym, 
 use Rattle.std.proofs.lemmas.Bool.{false≢true}
 use Rattle.capnp_arena.specs.Bounds.{view_of_rows}
 use Rattle.capnp_arena.specs.Row.{capacity}
-use Rattle.capnp_arena.specs.Taking.{IsFirstFit, IsFull}
+use Rattle.capnp_arena_traits.specs.Taking.{IsFirstFit, IsFull}
 use Rattle.capnp_arena.proofs.RowsLemmas.{length_shown}
 use Rattle.capnp_arena.proofs.ListedLemmas.{fit_first, fit_other, full_others, others_kept}
 use Rattle.capnp_arena.proofs.arena.rows.Rows.first_fit.Goals as goal

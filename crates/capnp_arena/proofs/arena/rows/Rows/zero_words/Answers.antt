@@ -1,5 +1,5 @@
 use Rattle.std.proofs.Common.{replicate, arith}
-use Rattle.capnp_arena.specs.Written.{overwritten}
+use Rattle.capnp_arena_traits.specs.Written.{overwritten}
 use Rattle.capnp_arena.proofs.ListedLemmas.{others_kept, others_written}
 use Rattle.capnp_arena.proofs.arena.rows.Rows.zero_words.Goals as goal
 

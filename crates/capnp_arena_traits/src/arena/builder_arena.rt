@@ -1,0 +1,136 @@
+//! Arenas that are written.
+ghost use Rattle.std.specs.Prelude.{◌≡◌, ◌⊎◌, ◌<◌, ◌≤◌, ◌+◌, ◌-◌, ◌*◌, ◌/◌, ◌^◌, ◌↔◌, ◌++◌, ◌∷◌, [], ℕ, Bool, List, length, replicate, slice_get, slice_set, Some, IsTrue, IsNone, IsSome, IfSome, IsOk, IfOk, IsOkAnd, OnOk, OnErr, IfErr};
+ghost use Rattle.std.specs.Borrow.{sem, Lends, Array, u8 as byte};
+ghost use Rattle.capnp_format.specs.Segments.{segment, word_at, words_at, IsPlace};
+ghost use Rattle.capnp_format.specs.Bytes.{words_of, message};
+ghost use Rattle.capnp_words.specs.declared.error.ErrorKind.TheVariants.{InvalidSegmentId, MessageTooLarge};
+ghost use Rattle.capnp_arena_traits.specs.Allocations.{max_segments, max_segment_words};
+ghost use Rattle.capnp_arena_traits.specs.View.{View};
+ghost use Rattle.capnp_arena_traits.specs.Taking.{GrowsSegment, IsFull, GainsSegment, IsAllocationRefusal, IsFirstFit, IsTaken, SameRoomBelow};
+ghost use Rattle.capnp_arena_traits.specs.Written.{with_word, with_words};
+
+use crate::arena::{ReaderArena, SegmentId};
+use capnp_words::error::ErrorKind;
+
+pub mod sealed {
+    pub trait Closed {}
+}
+
+/// An arena that is written. Only `capnp_arena` implements it.
+pub trait BuilderArena: ReaderArena + sealed::Closed {
+    // The words of each segment, how many it can hold, how often memory was refused, and how a request may be met.
+    ghost view: { Self → View };
+
+    // The arena with other bytes in the allocated words of a segment.
+    ghost with_bytes: { Self → ℕ → List ℕ → Self };
+
+    /// Lends the allocated words of a segment, as bytes, to be written. Whatever is written, the words behind them stay zero.
+    fn segment_mut(&mut self, id: u32) -> &mut [u8]
+        requires { id < length (Self.segments self.old) }
+        ensures* lends { sem 𝓛 (Lends Self.row (Array byte 0) self.entry result
+            (with_bytes self.old id)) }
+        ensures bytes { slice_get (Self.segments self.old) id ≡ Some result.now };
+
+    /// Lends the allocated words of a segment, as bytes, to be written; `None` exactly where `id` is not below the number of segments,
+    /// and the arena is then as it was. What is left of the arena afterwards is no clause here, and is shown by rows alone. `segment_mut`
+    /// lends the same bytes of a segment that is there, and its contract says exactly what the arena is afterwards.
+    fn allocated_mut(&mut self, id: u32) -> Option<&mut [u8]>
+        ensures there { IsSome result ↔ (id < length (Self.segments self.old)) }
+        ensures bytes { IfSome result (λ s. slice_get (Self.segments self.old) id ≡ Some s.now) };
+
+    /// Reads a word.
+    fn get_word(&self, id: u32, at: u32) -> u64
+        requires { IsPlace (view self.now).words id at }
+        ensures { result ≡ word_at (view self.now).words id at };
+
+    /// Writes a word.
+    fn set_word(&mut self, id: u32, at: u32, word: u64)
+        requires { IsPlace (view self.old).words id at }
+        ensures { view self.new
+            ≡ record (view self.old) { words = with_word (view self.old).words id at word } };
+
+    /// Writes words over others. There may be none, and then nothing changes.
+    fn copy_words(&mut self, id: u32, at: u32, from: &[u8])
+        requires whole { length from.now ≡ 8 * length (words_of from.now) }
+        requires inside { at + length (words_of from.now)
+            ≤ length (segment (view self.old).words id) }
+        ensures { view self.new
+            ≡ record (view self.old)
+            { words = with_words (view self.old).words id at (words_of from.now) } };
+
+    /// Copies `n` words over others of the same segment or of another one, as they were before. Where `n` is 0, nothing changes.
+    fn move_words(&mut self, from: u32, from_at: u32, to: u32, to_at: u32, n: u32)
+        requires there { from_at + n ≤ length (segment (view self.old).words from) }
+        requires inside { to_at + n ≤ length (segment (view self.old).words to) }
+        ensures { view self.new
+            ≡ record (view self.old) {
+              words = with_words (view self.old).words to to_at
+                  (words_at (view self.old).words from from_at n);
+            } };
+
+    /// Writes `n` words of zero over others. Where `n` is 0, nothing changes.
+    fn zero_words(&mut self, id: u32, at: u32, n: u32)
+        requires { at + n ≤ length (segment (view self.old).words id) }
+        ensures { view self.new
+            ≡ record (view self.old)
+            { words = with_words (view self.old).words id at (replicate n 0) } };
+
+    /// Takes words at the end of what is allocated of a segment; they are zero.
+    fn allocate(&mut self, id: u32, amount: u32) -> Option<u32>
+        requires { id < length (view self.old).words }
+        ensures exactly { IsSome result
+            ↔ (length (segment (view self.old).words id) + amount ≤ (view self.old).room id) }
+        ensures taken { IfSome result (GrowsSegment (view self.old) (view self.new) amount id) }
+        ensures none { IsNone result → view self.new ≡ view self.old };
+
+    /// Takes words in the first segment with room, in order of number, else in a new segment for which it asks `amount` words. Gives the segment and the position; the words are zero.
+    ///
+    /// Where no segment has room, `MessageTooLarge(usize::MAX)` says that there are 4,294,967,295 segments, else `MessageTooLarge(amount)` that `amount` is above 536,870,911. `AllocationFailed` is want of memory. A refusal changes nothing but `refused`.
+    fn allocate_anywhere(&mut self, amount: u32) -> Result<(SegmentId, u32), ErrorKind>
+        ensures taken { IfOk result (λ r. IsTaken (view self.old).words
+            (view self.new).words amount r.0 r.1) }
+        ensures first { (k : ℕ) → IsFirstFit (view self.old) amount k
+            → IsOkAnd result
+            (λ r. (r.0 ≡ k) × GrowsSegment (view self.old) (view self.new) amount k r.1) }
+        ensures another { IsFull (view self.old) amount
+            → IfOk result (λ r. GainsSegment (view self.old) (view self.new) amount r.0 r.1) }
+        ensures room { SameRoomBelow (length (view self.old).words) (view self.old).room
+            (view self.new).room }
+        ensures granted { OnOk result (view self.new ≡ record
+            (view self.old) { words = (view self.new).words; room = (view self.new).room }) }
+        ensures many { IsFull (view self.old) amount → length (view self.old).words ≡ max_segments
+            → result ≡ Err (MessageTooLarge usize.MAX) }
+        ensures large { max_segment_words < amount → length (view self.old).words < max_segments
+            → result ≡ Err (MessageTooLarge amount) }
+        ensures named { IfErr result
+            (λ e. IsAllocationRefusal (view self.old) (view self.new)
+            (length (view self.old).words) amount e) }
+        ensures refused { OnErr result
+            (view self.new ≡ record (view self.old) { refusals = (view self.new).refusals }) };
+
+    /// The arena itself, to be read.
+    fn as_reader(&self) -> &Self
+        ensures { result.now ≡ self.now };
+
+    /// How often memory was refused, up to the greatest u64: the `refused` of its allocator.
+    fn refused(&self) -> u64
+        ensures { result ≡ (view self.now).refusals };
+
+    // An unknown number is refused by its own name.
+    ghost known: { (a : Self) (id : ℕ) → Self.ReaderArena.absent a id ≡ InvalidSegmentId id };
+
+    // The words are those of the bytes that are read.
+    ghost read: { (a : Self) → (view a).words ≡ message (Self.ReaderArena.segments a) };
+
+    // A segment has no more words allocated than it has room for.
+    ghost within: { (a : Self) (id : ℕ) → length (segment (view a).words id) ≤ (view a).room id };
+
+    // A segment has room for fewer than 2^29 words.
+    ghost small: { (a : Self) (id : ℕ) → (view a).room id < 2 ^ 29 };
+
+    // Other bytes, as many as there were: that segment has them, and the others stay.
+    ghost with_bytes_segments: { (a : Self) (id : ℕ) (old ws : List ℕ) → slice_get (Self.ReaderArena.segments a) id ≡ Some old → length ws ≡ length old → Self.ReaderArena.segments (with_bytes a id ws) ≡ slice_set (Self.ReaderArena.segments a) id ws };
+
+    // Nothing else changes.
+    ghost with_bytes_view: { (a : Self) (id : ℕ) (ws : List ℕ) → view (with_bytes a id ws) ≡ record (view a) { words = (view (with_bytes a id ws)).words } };
+}

@@ -1,0 +1,141 @@
+//! Arenas that are read.
+ghost use Rattle.std.specs.Prelude.{IsTrue, IsSome, IfSome, ◌≡◌, ◌<◌, ◌≤◌, ◌+◌, ◌*◌, ◌/◌, ◌^◌, ◌↔◌, ◌⊎◌, ℕ, ℤ, pos, ◌+ℤ◌, List, Bool, length, IsOk, IfOk, OnOk, OnErr, IfErr, Some, slice_get};
+ghost use Rattle.capnp_format.specs.Segments.{segment};
+ghost use Rattle.capnp_format.specs.Bytes.{words_of, message};
+ghost use Rattle.capnp_words.specs.Meter.{Affords, charged};
+ghost use Rattle.capnp_arena_traits.specs.Checks.{Holds, IsUnknown, LeadsInside, StaysWithin, misplaced, total_words};
+ghost use Rattle.capnp_words.specs.declared.error.ErrorKind.{ErrorKind};
+ghost use Rattle.capnp_words.specs.declared.error.ErrorKind.TheVariants.{ReadLimitExceeded};
+
+use capnp_words::error::ErrorKind;
+use capnp_words::read_limiter::ReadLimiter;
+
+/// What readers ask of a message: the words of its segments, whether a place lies in them, and what reading costs. Sections "Messages", "Inter-Segment Pointers" and "Security Considerations" of the encoding specification.
+pub trait ReaderArena {
+    // The whole words of each segment, as bytes.
+    ghost segments: { Self → List (List ℕ) };
+
+    ghost nesting: { Self → ℤ };
+
+    // Whether reading is charged and counted at all.
+    ghost charging: { Self → Bool };
+
+    // The refusal of a segment that is not there.
+    ghost absent: { Self → ℕ → ErrorKind };
+
+    // It names the number, or says that there is no segment at all.
+    ghost absent_named: { (a : Self) (id : ℕ) → IsUnknown (segments a) id (absent a id) };
+
+    /// The whole words of segment `id`, as bytes, fewer than 2^35 of them. Segments are numbered from 0.
+    ///
+    /// A number that no segment has is `InvalidSegmentId(id)`. Only an arena without any segment may say `TriedToReadFromNullArena` instead, as `NullArena` does.
+    fn get_segment(&self, id: u32) -> Result<&[u8], ErrorKind>
+        ensures there { IsOk result ↔ (id < length (segments self.now)) }
+        ensures bytes { IfOk result (λ s. slice_get (segments self.now) id ≡ Some s.now) }
+        ensures words { IfOk result (λ s. words_of s.now
+            ≡ segment (message (segments self.now)) id) }
+        ensures whole { IfOk result (λ s. length s.now ≡ 8
+            * length (segment (message (segments self.now)) id)) }
+        ensures small { IfOk result (λ s. length s.now < 8 * 2 ^ 32) }
+        ensures named { IfErr result (λ e. e ≡ absent self.now id) };
+
+    /// How many levels of structs and lists may be entered, one inside the other, from the root on. Zero or less leaves none.
+    fn nesting_limit(&self) -> i32
+        ensures { result ≡ nesting self.now };
+
+    /// Whether reading is charged to a read limiter, and pointers are counted there. Where it isn't, every charge is granted and leaves the limiter as it was.
+    fn charges(&self) -> bool
+        ensures { result ≡ charging self.now };
+
+    /// The sum of the whole words of all segments; in an arena that is built, of those that are allocated.
+    fn size_in_words(&self) -> usize
+        ensures { result ≡ total_words (segments self.now) };
+
+    /// The word position `start + offset` of segment `id`. `start` and the sum are positions in words, from 0 to the segment's length, which is included in both.
+    ///
+    /// A position beyond these bounds is `MessageContainsOutOfBoundsPointer`. A segment that isn't there is refused as by `get_segment`.
+    #[tactic(auto, using(crate::proofs::MessageLemmas::placing))]
+    fn check_offset(&self, id: u32, start: u32, offset: i32) -> Result<u32, ErrorKind>
+        ensures exactly { IsOk result ↔ LeadsInside (message (segments self.now)) id start offset }
+        ensures value { IfOk result (λ r. pos r ≡ pos start +ℤ offset) }
+        ensures named { IfErr result
+            (λ e. e ≡ misplaced (message (segments self.now)) id (absent self.now id)) }
+    {
+        let length = self.get_segment(id)?.len() / 8;
+        match position_within(length, start, offset) {
+            Some(at) => Ok(at),
+            None => Err(ErrorKind::MessageContainsOutOfBoundsPointer),
+        }
+    }
+
+    /// Charges `amount` words that a message claims and doesn't hold, as those of a list of empty structs.
+    ///
+    /// `ReadLimitExceeded` where fewer are left; `lim` is then as it was. Where the arena doesn't charge, this is granted and `lim` stays.
+    fn amplified_read(&self, amount: u64, lim: &mut ReadLimiter) -> Result<(), ErrorKind>
+        ensures exactly { IsOk result ↔ Affords (charging self.now) lim.old amount }
+        ensures granted { OnOk result (lim.new ≡ charged (charging self.now) lim.old amount) }
+        ensures refused { OnErr result (lim.new ≡ lim.old) }
+        ensures named { IfErr result (λ e. e ≡ ReadLimitExceeded) }
+    {
+        if self.charges() {
+            lim.can_read(amount as usize)
+        } else {
+            Ok(())
+        }
+    }
+
+    /// Grants the `size` words from position `start` of segment `id`, and then charges them. The interval may be empty, and may end where the segment does.
+    ///
+    /// An interval that doesn't lie in the segment is `MessageContainsOutOfBoundsPointer`, and a segment that isn't there is refused as by `get_segment`; neither is charged. `ReadLimitExceeded` where fewer words are left. After each refusal `lim` is as it was.
+    #[tactic(auto, using(crate::proofs::MessageLemmas::placing))]
+    fn contains_interval(
+        &self,
+        id: u32,
+        start: u32,
+        size: usize,
+        lim: &mut ReadLimiter,
+    ) -> Result<(), ErrorKind>
+        ensures exactly { IsOk result ↔ Holds (message (segments self.now)) id start size
+            × Affords (charging self.now) lim.old size }
+        ensures granted { OnOk result (lim.new ≡ charged (charging self.now) lim.old size) }
+        ensures refused { OnErr result (lim.new ≡ lim.old) }
+        ensures outside { IfErr result (λ e. (Holds (message (segments self.now)) id start size → ⊥)
+            → e ≡ misplaced (message (segments self.now)) id (absent self.now id)) }
+        ensures budget { IfErr result (λ e. Holds (message (segments self.now)) id start size
+            → e ≡ ReadLimitExceeded) }
+    {
+        let length = self.get_segment(id)?.len() / 8;
+        if is_within(length, start, size) {
+            if self.charges() {
+                lim.can_read(size)
+            } else {
+                Ok(())
+            }
+        } else {
+            Err(ErrorKind::MessageContainsOutOfBoundsPointer)
+        }
+    }
+}
+
+// The position `start + offset`, where both `start` and it are from 0 to `length`.
+#[inline]
+fn position_within(length: usize, start: u32, offset: i32) -> Option<u32>
+    requires { length < 2 ^ 32 }
+    ensures exactly { IsSome result ↔ StaysWithin length start offset }
+    ensures value { IfSome result (λ r. pos r ≡ pos start +ℤ offset) }
+{
+    let at = start as i64 + offset as i64;
+    if start as usize <= length && 0 <= at && at <= length as i64 {
+        Some(at as u32)
+    } else {
+        None
+    }
+}
+
+// Whether `size` words from position `start` on end within `length` words.
+#[inline]
+fn is_within(length: usize, start: u32, size: usize) -> bool
+    ensures { IsTrue result ↔ (start + size ≤ length) }
+{
+    start as usize <= length && size <= length - start as usize
+}

@@ -1,9 +1,0 @@
-use Rattle.std.proofs.Common.{◌≡◌, true, rules}
-use Rattle.capnp_layout.specs.Answers.{wants_room}
-use Rattle.capnp_layout.proofs.CanonLemmas.{refused_try}
-use Rattle.capnp_layout.proofs.framing.canonical_copy.copy_to_segment.Goals as goal
-
-pub returns-then-is_want_of_room-clause-refused : goal.returns-then-is_want_of_room-clause-refused
-returns-then-is_want_of_room-clause-refused g c =
-    let want : wants_room c.in-Err.kind ≡ true = search rules in
-    refused_try _ c.args.room c.requires.room want c.in-Err.ensures.refused

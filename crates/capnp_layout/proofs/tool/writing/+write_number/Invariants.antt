@@ -1,4 +1,0 @@
-use Rattle.capnp_layout.proofs.tool.writing.+write_number.Given as goal
-
-abbrev pub decreases-write_number : goal.decreases-write_number
-decreases-write_number g l = l.n

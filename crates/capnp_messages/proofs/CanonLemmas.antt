@@ -1,0 +1,156 @@
+-- What a copy to the root of a fresh message leaves, and what a refused one says of the message that was read.
+use Rattle.std.proofs.Common.{◌≡◌, ◌⊎◌, inl, inr, Some, None, ℕ, ◌+◌, ◌<◌, ◌≤◌, List, [], ◌∷◌, length, Bool, true, false, IsTrue, Option, IfSome, IsNone, refl, ap, sym, ◌∙◌, subst, arith, length-set}
+use Rattle.capnp_words.specs.declared.error.ErrorKind.{ErrorKind}
+use Rattle.capnp_words.specs.declared.error.ErrorKind.TheVariants.{AllocationFailed, MessageTooLarge}
+use Rattle.capnp_format.specs.Segments.{Segments, IsPlace, segment, word_at}
+use Rattle.capnp_words.specs.Meter.{Meter, unused, less, FitsIn}
+use Rattle.capnp_objects.specs.Refusals.{Refused}
+use Rattle.capnp_objects.specs.Reading.{Reading}
+use Rattle.capnp_objects.specs.Wanted.{canonical}
+use Rattle.capnp_objects.proofs.Limits.{not_for_memory, not_for_size}
+use Rattle.capnp_format.specs.Canonical.{encoding, trim, word_count}
+use Rattle.capnp_format.specs.Tree.{Tree, Null}
+use Rattle.capnp_format.proofs.Levels.{one_value}
+use Rattle.capnp_objects.specs.Outcomes.{Reads}
+use Rattle.std.proofs.lemmas.Bool.{cases_lt}
+use Rattle.capnp_making.specs.Memory.{KeepsMemory, RefusesWords}
+use Rattle.capnp_copies.specs.Changes.{ComesToObject, MakesCopy, StopsCopy, change}
+use Rattle.capnp_copies.specs.Originals.{value_original}
+use Rattle.capnp_copies.proofs.Copying.{fresh_made}
+use Rattle.capnp_copies.proofs.Originals.{value_beyond}
+use Rattle.capnp_messages.specs.Copies.{IsMadeWhereAlone, LacksMemoryOr, OutgrowsRoom, RefusesCopy, RefusesCopyAnywhere, is_message_too_large, wants_room}
+use Rattle.capnp_messages.specs.Tries.{NeedsMoreRoom}
+use Rattle.capnp_arena_traits.specs.Allocations.{max_segment_words, one_more}
+use Rattle.capnp_arena_traits.specs.View.{View}
+
+-- the root of a fresh message is its only word, which is zero
+root_alone : (S : Segments) → S ≡ (0 ∷ []) ∷ [] → segment S 0 ≡ 0 ∷ []
+root_alone S fresh = ap (λ (M : Segments). segment M 0) fresh
+
+pub root_there : (S : Segments) → S ≡ (0 ∷ []) ∷ [] → IsPlace S 0 0
+root_there S fresh = omega (arith, ap length (root_alone S fresh))
+
+pub root_null : (S : Segments) → S ≡ (0 ∷ []) ∷ [] → word_at S 0 0 ≡ 0
+root_null S fresh = ap (λ (M : Segments). word_at M 0 0) fresh
+
+-- a message of one segment is that segment
+only_segment : (S : Segments) (ws : List ℕ) → length S ≡ 1 → segment S 0 ≡ ws → S ≡ ws ∷ []
+only_segment [] ws one e = absurd (omega (arith, one))
+only_segment (x ∷ []) ws one e = ap (λ (s : List ℕ). s ∷ []) e
+only_segment (x ∷ y ∷ S) ws one e = absurd (omega (arith, one))
+
+-- a copy to the root is all of the message, if that has one segment afterwards
+pub made_copy : (r : Reading) (left : Option ℕ) (old made : View) (l m : Meter) → old.words ≡ (0 ∷ []) ∷ [] → l ≡ unused left →
+    MakesCopy (value_original r) (change canonical 0 0 old made l m) → (t : Tree) × Reads canonical r (unused left) m t × IsMadeWhereAlone made t
+made_copy r left old made l m fresh begun copied =
+    let t = copied.value in
+    let place = root_there old.words fresh in
+    let only = root_alone old.words fresh in (
+      t,
+      subst (λ (x : Meter). Reads canonical r x m t) begun copied.is_read,
+      λ one. only_segment made.words (encoding (trim t)) one (fresh_made old.words 0 0 (trim t) (place, only) (copied.stands (inr one))),
+    )
+
+-- where it has more, not all words fit in the first
+pub spread_copy : (r : Reading) (old new : View) (l m : Meter) → old.words ≡ (0 ∷ []) ∷ [] →
+    MakesCopy (value_original r) (change canonical 0 0 old new l m) → (length new.words ≡ 1) ⊎ NeedsMoreRoom r (old.room 0)
+spread_copy r old new l m fresh copied =
+    let t = copied.value in
+    let reads : Reads canonical r l m t = copied.is_read in
+    elim (cases_lt (old.room 0) (1 + word_count (trim t))) [
+      | inl beyond ↦ inr (λ u c means. (let same = ap (λ v. word_count (trim v)) (one_value r.segments r.levels r.levels r.segment r.at t u reads.cost c reads.means means).0 in omega (arith, same, beyond)))
+      | inr fits ↦
+          let used : length (segment old.words 0) ≡ 1 = ap length (root_alone old.words fresh) in
+          let same = copied.stands (inl (omega (arith, fits, used))) in
+          inl (ap length same ∙ length-set old.words 0 _ ∙ ap length fresh)
+    ]
+
+-- a copy leaves the room of the segment where it begins
+pub kept_room : (old new : View) → old.words ≡ (0 ∷ []) ∷ [] → KeepsMemory old new → new.room 0 ≡ old.room 0
+kept_room old new fresh kept =
+    let some : 0 < length old.words = omega (arith, ap length fresh) in
+    kept.1 0 some
+
+-- the names by which words are refused are want of room
+want_of_words : (old new : View) (n : ℕ) (k : ErrorKind) → RefusesWords old new n k → wants_room k ≡ true
+want_of_words old new n k (inl memory, none) = ap wants_room memory.0
+want_of_words old new n k (inr (inl large), none) = ap wants_room large.0
+want_of_words old new n k (inr (inr many), none) = ap wants_room many.0
+
+-- what refuses a copy to the root of a fresh message
+pub refused_copy : (r : Reading) (left : Option ℕ) (old new : View) (l m : Meter) (k : ErrorKind) → old.words ≡ (0 ∷ []) ∷ [] → l ≡ unused left →
+    StopsCopy (value_original r) (change canonical 0 0 old new l m) Null k → RefusesCopyAnywhere r left (old.room 0) k
+refused_copy r left old new l m k fresh begun stop =
+    let used : length (segment old.words 0) ≡ 1 = ap length (root_alone old.words fresh) in
+    elim stop.why [
+      | inl (inl none, large) ↦ absurd none.2
+      | inl (inr (n, stops, (refused, full)), large) ↦
+          let out : ComesToObject (value_original r) canonical l m (λ i all. old.room 0 < 1 + all) = (n, stops, omega (arith, full, used)) in
+          inl (
+            want_of_words old new n k refused,
+            λ t c means. (let beyond = value_beyond canonical r (length (segment old.words 0)) (old.room 0) large t c means in omega (arith, beyond, used)),
+            (m, subst (λ (x : Meter). ComesToObject (value_original r) canonical x m (λ i all. old.room 0 < 1 + all)) begun out),
+          )
+      | inr y ↦ elim y [ inl refused ↦ inr (m, subst (λ (x : Meter). Refused canonical r x m k) begun refused) | inr none ↦ absurd none ]
+    ]
+
+-- words that are taken, if there is room for them, leave the room
+pub room_kept : (o : Option ℕ) {old new : View} (P : ℕ → Type 0) (words : Segments) → IfSome o (λ at. P at × (new ≡ record old { words = words })) → (IsNone o → new ≡ old) → new.room ≡ old.room
+room_kept (Some at) P words some none = ap (λ (v : View). v.room) some.1
+room_kept None P words some none = ap (λ (v : View). v.room) (none refl)
+
+-- and what may be offered for further ones
+pub offers_kept : (o : Option ℕ) {old new : View} (P : ℕ → Type 0) (words : Segments) → IfSome o (λ at. P at × (new ≡ record old { words = words })) → (IsNone o → new ≡ old) → new.offers ≡ old.offers
+offers_kept (Some at) P words some none = ap (λ (v : View). v.offers) some.1
+offers_kept None P words some none = ap (λ (v : View). v.offers) (none refl)
+
+-- what is offered for a request, where the room is written otherwise
+pub moved_offer : {old new : ℕ → ℕ → Bool} (asked : ℕ) {room there : ℕ} → old ≡ new → room ≡ there → IsTrue (old asked there) → IsTrue (new asked room)
+moved_offer {new = new} asked {there = there} same kept offered =
+    subst (λ n. IsTrue (new asked n)) (sym kept) (subst (λ (offers : ℕ → ℕ → Bool). IsTrue (offers asked there)) same offered)
+
+-- want of room is no name of a reading that is refused
+pub never_read : {r : Reading} {l m : Meter} (k : ErrorKind) → wants_room k ≡ true → Refused canonical r l m k → ⊥
+never_read AllocationFailed want refused = not_for_memory refused
+never_read (MessageTooLarge w) want refused = not_for_size w refused
+never_read _ want refused = absurd (cc)
+
+-- what says that something is too large wants room
+pub large_wants : (k : ErrorKind) → is_message_too_large k ≡ true → wants_room k ≡ true
+large_wants (MessageTooLarge w) large = refl
+large_wants _ large = absurd (cc)
+
+-- a room that is outgrown is outgrown if it is less
+less_outgrown : {r : Reading} {left : Option ℕ} (more room : ℕ) → room ≤ more → OutgrowsRoom r left more → OutgrowsRoom r left room
+less_outgrown more room least (m, (n, stops, full)) = (m, (n, stops, omega (arith, full, least)))
+
+-- a copy that finds no room anywhere needs more words than fewer than there are in its segment
+pub refused_try : {r : Reading} {left : Option ℕ} {k : ErrorKind} (more room : ℕ) → room ≤ more → wants_room k ≡ true → RefusesCopyAnywhere r left more k → RefusesCopy r left room (MessageTooLarge room)
+refused_try more room least want (inl (named, large, out)) = inl (refl, λ t c means. (let beyond = large t c means in omega arith), inr (less_outgrown more room least out))
+refused_try {k = k} more room least want (inr (m, refused)) = absurd (never_read k want refused)
+
+-- the last try speaks for all room there can be
+pub last_try : {r : Reading} {left : Option ℕ} {room old new : ℕ} {k : ErrorKind} → (room ≡ max_segment_words) ⊎ (is_message_too_large k ≡ false) → LacksMemoryOr old new k (RefusesCopy r left room k) → LacksMemoryOr old new k (RefusesCopy r left max_segment_words k)
+last_try last (inl memory) = inl memory
+last_try last (inr (inr refused, same)) = inr (inr refused, same)
+last_try {r = r} {left = left} {k = k} (inl most) (inr (refused, same)) = inr (subst (λ n. RefusesCopy r left n k) most refused, same)
+last_try (inr other) (inr (inl (named, large, out), same)) = absurd (let wrong : true ≡ false = sym (ap is_message_too_large named) ∙ other in cc)
+
+pub moved_try : {old new old' new' : ℕ} {k : ErrorKind} {P : Type 0} → old ≡ old' → new' ≡ new → LacksMemoryOr old new k P → LacksMemoryOr old' new' k P
+moved_try before after (inl (named, risen)) = inl (named, after ∙ risen ∙ ap one_more before)
+moved_try before after (inr (refused, same)) = inr (refused, after ∙ same ∙ before)
+
+-- want of memory that was counted is want of memory
+pub or_memory : {old new : ℕ} {k : ErrorKind} {P : Type 0} → LacksMemoryOr old new k P → (k ≡ AllocationFailed) ⊎ P
+or_memory (inl memory) = inl memory.0
+or_memory (inr refused) = inr refused.0
+
+-- what the budget covers beside the word of the root pointer
+pub covers_root : (budget : Option ℕ) (c : ℕ) → FitsIn budget 1 → FitsIn (less budget 1) c → FitsIn budget (1 + c)
+covers_root None c one rest = tt
+covers_root (Some b) c one rest = omega arith
+
+-- what the budget covers besides the root pointer it covers behind it
+pub covers_rest : (budget : Option ℕ) (c : ℕ) → FitsIn budget (1 + c) → FitsIn (less budget 1) c
+covers_rest None c h = tt
+covers_rest (Some b) c h = omega arith

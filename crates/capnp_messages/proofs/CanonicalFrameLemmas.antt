@@ -1,0 +1,68 @@
+-- What writing a canonical frame says, by what its copy says, and what a limiter has left behind a copy.
+use Rattle.std.proofs.Common.{◌≡◌, ℕ, Bool, true, false, List, [], ◌∷◌, Option, Some, None, Result, Ok, Err, OnOk, sym, ap, ◌∙◌, subst, arith}
+use Rattle.capnp_words.specs.Meter.{Meter, Affords, FitsIn, less, raised, unused}
+use Rattle.capnp_format.specs.Segments.{Segments}
+use Rattle.capnp_format.specs.Tree.{Tree}
+use Rattle.capnp_format.specs.Canonical.{encoding, trim}
+use Rattle.capnp_framing.specs.Frames.{frame}
+use Rattle.capnp_objects.specs.Outcomes.{Reads}
+use Rattle.capnp_objects.specs.Reading.{Reading}
+use Rattle.capnp_objects.specs.Spending.{after, pointers_in}
+use Rattle.capnp_objects.specs.Wanted.{canonical}
+use Rattle.capnp_messages.specs.CanonicalErrors.{IsLeftOf}
+
+-- the frame of what was made is that of the canonical words
+pub frame_written : {X E : Type 0} (r : Reading) (words : Segments) (old new : Meter) (o : Result X E) (P : List ℕ → Type 0) → (t : Tree) × Reads canonical r old new t × (words ≡ encoding (trim t) ∷ []) → OnOk o (P (frame words)) →
+    OnOk o ((t : Tree) × Reads canonical r old new t × P (frame (encoding (trim t) ∷ [])))
+frame_written r words old new (Ok x) P (t, read, is_made) printed = (t, read, subst (λ (S : Segments). P (frame S)) is_made printed)
+frame_written r words old new (Err k) P copied printed = tt
+
+none_raised : (f : ℕ) → raised f 0 ≡ f
+none_raised f = omega arith
+
+raised_together : (f i : ℕ) → raised f (raised 0 i) ≡ raised f i
+raised_together f i = omega arith
+
+less_left : (l : Option ℕ) (n : ℕ) → FitsIn l n → IsLeftOf (less l n) l
+less_left None n fits = tt
+less_left (Some left) n fits = omega arith
+
+same_left : (l : Option ℕ) → IsLeftOf l l
+same_left None = tt
+same_left (Some left) = omega arith
+
+-- a copy leaves no more of a limit than there was
+left_within : (charging : Bool) (l : Option ℕ) (n p : ℕ) → Affords charging (unused l) n → IsLeftOf (after charging (unused l) n p).left l
+left_within true l n p covers = less_left l n covers
+left_within false l n p covers = same_left l
+
+pub copy_left : {r : Reading} (l : Option ℕ) (own : Meter) {t : Tree} → Reads canonical r (unused l) own t → IsLeftOf own.left l
+copy_left {r} l own {t} reads =
+    subst (λ (m : Meter). IsLeftOf m.left l) (sym reads.spent) (left_within r.charging l reads.cost (pointers_in t) reads.covers)
+
+covered : (charging : Bool) (old : Meter) (n : ℕ) → Affords charging (unused old.left) n → Affords charging old n
+covered true old n covers = covers
+covered false old n covers = tt
+
+-- a limiter that is charged and counts what another of as many words spent has spent the same
+settled_after : (charging : Bool) (old own new : Meter) (n p : ℕ) → own ≡ after charging (unused old.left) n p → new.left ≡ own.left → new.followed ≡ raised old.followed own.followed → new ≡ after charging old n p
+settled_after true old own new n p spent left counted =
+    let words = left ∙ ap (λ (m : Meter). m.left) spent in
+    let pointers = counted ∙ ap (λ (m : Meter). raised old.followed m.followed) spent ∙ raised_together old.followed p in
+    ap (λ (l : Option ℕ). record { left = l; followed = new.followed }) words ∙ ap (λ f. record { left = less old.left n; followed = f }) pointers
+settled_after false old own new n p spent left counted =
+    let words = left ∙ ap (λ (m : Meter). m.left) spent in
+    let pointers = counted ∙ ap (λ (m : Meter). raised old.followed m.followed) spent ∙ none_raised old.followed in
+    ap (λ (l : Option ℕ). record { left = l; followed = new.followed }) words ∙ ap (λ f. record { left = old.left; followed = f }) pointers
+
+pub copy_settled : (r : Reading) (old own new : Meter) {left : Option ℕ} {words now : Segments} → left ≡ old.left → new.left ≡ own.left → new.followed ≡ raised old.followed own.followed → now ≡ words → (t : Tree) × Reads canonical r (unused left) own t × (words ≡ encoding (trim t) ∷ []) → (t : Tree) × Reads canonical r old new t × (now ≡ encoding (trim t) ∷ [])
+copy_settled r old own new begun rest counted same (t, read, is_made) =
+    let reads = subst (λ (l : Option ℕ). Reads canonical r (unused l) own t) begun read in
+    let there : Reads canonical r old new t = record {
+      cost = reads.cost;
+      means = reads.means;
+      takes = reads.takes;
+      covers = covered r.charging old reads.cost reads.covers;
+      spent = settled_after r.charging old own new reads.cost (pointers_in t) reads.spent rest counted;
+    } in
+    (t, there, same ∙ is_made)

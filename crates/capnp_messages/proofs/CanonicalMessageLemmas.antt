@@ -1,0 +1,180 @@
+-- What the test at the root of a message of one segment says of the whole message.
+use Rattle.std.proofs.Common.{◌≡◌, ◌↔◌, inl, inr, ℕ, ◌+◌, ◌-◌, ◌<◌, ◌≤◌, List, [], ◌∷◌, take, drop, get_or, length, Bool, true, false, Option, Some, None, refl, ap, sym, ◌∙◌, subst, arith, length-drop, length-take}
+use Rattle.std.specs.Prelude.{IsNone, IfNone, IfSome, is_some, not}
+use Rattle.std.proofs.lemmas.List.{take_all}
+use Rattle.capnp_words.specs.declared.error.ErrorKind.{ErrorKind}
+use Rattle.capnp_words.specs.Meter.{Meter, FitsIn, less, raised, spent}
+use Rattle.capnp_format.specs.Bytes.{message}
+use Rattle.capnp_format.specs.Segments.{Segments, segment}
+use Rattle.capnp_format.specs.Tree.{Tree}
+use Rattle.capnp_format.specs.Canonical.{Lies, Reaches, Stands, body, charge, encoding, pointer, word_count}
+use Rattle.capnp_format.proofs.Lengths.{length-body}
+use Rattle.capnp_format.proofs.Unique.{for_offset, one_stands, stands_means}
+use Rattle.capnp_arena_traits.specs.Checks.{total_words}
+use Rattle.capnp_arena_traits.proofs.MessageLemmas.{length-message}
+use Rattle.capnp_objects.specs.Reading.{Reading}
+use Rattle.capnp_objects.specs.Spending.{Paid}
+use Rattle.capnp_readers.specs.declared.readers.canonical_fault.CanonicalFault.{CanonicalFault}
+use Rattle.capnp_readers.specs.declared.readers.canonical_fault.CanonicalFaultReason.TheVariants.{WordsBehind}
+use Rattle.capnp_readers.specs.Faults.{FaultIs}
+use Rattle.capnp_readers.specs.Checking.{IsCanonicalAt, IsFound, TestStops, progress}
+use Rattle.capnp_readers.proofs.Fails.{ends_so, fault_unfit}
+use Rattle.capnp_readers.proofs.NeverStops.{stops_never}
+use Rattle.capnp_messages.specs.Roots.{CoversRoot, message_root}
+use Rattle.capnp_framing.specs.Frames.{frame}
+use Rattle.capnp_framing.specs.Reading.{total}
+use Rattle.capnp_framing.proofs.FrameLemmas.{same_frames}
+use Rattle.capnp_messages.specs.CanonicalMessages.{CanBeTested, IsCanonicalMessage, IsCanonicalOf, IsMessageFault, IsPaid, IsRootFault, MeansItsValue, MessageTestFails, OneCanonicalValue, SameCanonicalFrames}
+use Rattle.capnp_messages.proofs.CanonLemmas.{covers_root}
+use Rattle.capnp_messages.proofs.CanonLemmas.{covers_rest}
+use Rattle.capnp_messages.proofs.TryLemmas.{total-message}
+
+-- a message of one segment
+only_segment : (S : Segments) → length S ≡ 1 → S ≡ segment S 0 ∷ []
+only_segment [] one = absurd (omega arith)
+only_segment (ws ∷ []) one = refl
+only_segment (ws ∷ vs ∷ S) one = absurd (omega arith)
+
+-- words of which the first is w, and all others are these
+all_words : (ws vs : List ℕ) (w : ℕ) → length vs + 1 ≡ length ws → get_or ws 0 0 ≡ w → take (length vs) (drop 1 ws) ≡ vs → ws ≡ w ∷ vs
+all_words [] vs w many first behind = absurd (omega arith)
+all_words (x ∷ ws) vs w many first behind =
+    let others : ws ≡ vs = sym (take_all (length vs) ws (omega arith)) ∙ behind in
+    ap (λ y. y ∷ ws) first ∙ ap (λ (ys : List ℕ). w ∷ ys) others
+
+-- canonical words that stand at the root of the only segment, up to its end, are a canonical message
+pub stands_alone : {S : Segments} {t : Tree} → length S ≡ 1 → Stands S 0 0 1 t → 1 + word_count t ≡ length (segment S 0) → IsCanonicalOf S t
+stands_alone {S} {t} one stands full = record {
+  value = stands.1;
+  trimmed = stands.2;
+  free = stands.3;
+  encodable = stands.4;
+  is = only_segment S one ∙ ap (λ (ws : List ℕ). ws ∷ []) (all_words (segment S 0) (body t) (pointer t 0) (omega (arith, length-body t stands.1, full)) stands.5.1 stands.5.2);
+}
+
+-- and those of a canonical message stand there
+pub canonical_stands : {S : Segments} {t : Tree} → IsCanonicalOf S t → Stands S 0 0 1 t
+canonical_stands {t = t} canonical =
+    let lies : Lies (encoding t ∷ []) 0 0 1 t = (for_offset t (Reaches 0 1) (omega arith, omega arith), refl, take_all (length (body t)) (body t) (omega arith)) in
+    subst (λ (S : Segments). Stands S 0 0 1 t) (sym canonical.is) (omega arith, canonical.value, canonical.trimmed, canonical.free, canonical.encodable, lies)
+
+pub canonical_length : {S : Segments} {t : Tree} → IsCanonicalOf S t → length (segment S 0) ≡ 1 + word_count t
+canonical_length {t = t} canonical = ap (λ (S : Segments). length (segment S 0)) canonical.is ∙ (let whole : length (encoding t) ≡ 1 + word_count t = omega (arith, length-body t canonical.value) in whole)
+
+-- they lie within the segment
+within : (S : Segments) (t : Tree) → Stands S 0 0 1 t → 1 + word_count t ≤ length (segment S 0)
+within S t stands =
+    let place : 0 < length (segment S 0) = stands.0 in
+    let some : length (take (length (body t)) (drop 1 (segment S 0))) ≡ length (body t) = ap length stands.5.2 in
+    omega (arith, place, some, length-body t stands.1, length-take (length (body t)) (drop 1 (segment S 0)), length-drop 1 (segment S 0))
+
+-- what is charged for the root and behind it
+both_less : (budget : Option ℕ) (c : ℕ) → less (less budget 1) c ≡ less budget (1 + c)
+both_less None c = refl
+both_less (Some b) c = ap Some (let same : b - 1 - c ≡ b - (1 + c) = omega arith in same)
+
+paid_both : {m m' : Meter} {c i : ℕ} → FitsIn m.left 1 → Paid true (spent m 1) m' c i → Paid true m m' (1 + c) i
+paid_both {m} {c = c} {i = i} one paid = record {
+  covers = covers_root m.left c one paid.covers;
+  spent = paid.spent ∙ ap (λ (left : Option ℕ). let now : Meter = record { left = left; followed = raised m.followed i } in now) (both_less m.left c);
+}
+
+-- where the test finds a value whose words end with the segment, the message is canonical
+pub found_whole : {S : Segments} {n h : ℕ} {m m' : Meter} → length S ≡ 1 → CoversRoot S m.left → IsFound (message_root S n) (progress 1 (spent m 1)) (progress h m') → h ≡ length (segment S 0) → IsPaid S m m'
+found_whole one covers (t, finds) full = (t, stands_alone one finds.stands (sym finds.head_is ∙ full), paid_both covers.covered finds.paid)
+
+-- where there are words behind these, it isn't
+pub found_more : {S : Segments} {n h : ℕ} {m' : Meter} {from : Meter} → IsFound (message_root S n) (progress 1 from) (progress h m') → (h ≡ length (segment S 0) → ⊥) → IsCanonicalMessage S → ⊥
+found_more {S} (t, finds) more (u, canonical) =
+    let there : 1 ≤ length (segment S 0) = omega (arith, finds.stands.0) in
+    let value : t ≡ u = one_stands {S = S} {s = 0} {h = 1} there (record { stands = finds.stands }) (record { stands = canonical_stands canonical }) in
+    more (finds.head_is ∙ ap (λ v. 1 + word_count v) value ∙ sym (canonical_length canonical))
+
+pub more_fault : {S : Segments} {n h : ℕ} {m m' : Meter} {f : CanonicalFault} → CoversRoot S m.left → IsFound (message_root S n) (progress 1 (spent m 1)) (progress h m') → (h ≡ length (segment S 0) → ⊥) → FaultIs f WordsBehind 0 h → IsRootFault f S n m m'
+more_fault {S} {h = h} covers (t, finds) more fault =
+    let in_segment = within S t finds.stands in
+    let head = finds.head_is in
+    let fewer : 1 + word_count t < length (segment S 0) = omega (arith, in_segment, head, more) in
+    (covers, inr (t, h, finds, fewer, fault))
+
+-- a canonical message has a word for its root
+has_root : {S : Segments} {t : Tree} → IsCanonicalOf S t → 1 ≤ length (segment S 0)
+has_root canonical = omega (arith, canonical_length canonical)
+
+pub one_canonical_value : OneCanonicalValue
+one_canonical_value S t u a b = one_stands {S = S} {s = 0} {h = 1} (has_root a) (record { stands = canonical_stands a }) (record { stands = canonical_stands b })
+
+pub means_its_value : MeansItsValue
+means_its_value S t n canonical levels = stands_means S n 0 0 1 t levels (has_root canonical) (canonical_stands canonical)
+
+pub same_canonical_frames : SameCanonicalFrames
+same_canonical_frames S R t u framed as_framed canonical other = (
+  λ frames. one_canonical_value R t u (subst (λ (T : Segments). IsCanonicalOf T t) (same_frames S R framed as_framed frames) canonical) other,
+  λ values. ap frame (canonical.is ∙ ap (λ (v : Tree). encoding v ∷ []) values ∙ sym other.is),
+)
+
+-- The root of a message is read: r is its place, m what the limiter has left of what it had.
+pub record IsRootRead (S : Segments) (n : ℕ) (old : Meter) (r : Reading) (m : Meter) : Type 0 where
+  pub place : r ≡ message_root S n
+  pub left : m ≡ spent old 1
+  pub covers : CoversRoot S old.left
+
+-- what holds where the root is read holds at the root
+pub moved : {S : Segments} {n : ℕ} {old : Meter} {r : Reading} {m : Meter} (P : Reading → Meter → Type 0) → IsRootRead S n old r m → P r m → P (message_root S n) (spent old 1)
+moved {S} {n} {m = m} P root held = subst (P (message_root S n)) root.left (subst (λ (x : Reading). P x m) root.place held)
+
+-- where the root's test finds a fault, the message isn't canonical
+pub some_exactly : {S : Segments} {n : ℕ} {old : Meter} {r : Reading} {m : Meter} {f : CanonicalFault} (o : Option CanonicalFault) → IsRootRead S n old r m → o ≡ Some f → IsNone o ↔ IsCanonicalAt r 1 → IsNone (Some f) ↔ IsCanonicalMessage S
+some_exactly {S} {n} {r = r} {f = f} o root is same =
+    let at_root : IsNone (Some f) ↔ IsCanonicalAt (message_root S n) 1 = moved (λ r m. IsNone (Some f) ↔ IsCanonicalAt r 1) root (subst (λ x. IsNone x ↔ IsCanonicalAt r 1) is same) in
+    (λ wrong. absurd (let never : true ≡ false = wrong in cc), λ (t, canonical). at_root.1 (t, canonical_stands canonical))
+
+-- where it finds a value whose words end with the segment, the message is canonical and paid
+pub whole_paid : {S : Segments} {n h : ℕ} {old : Meter} {r : Reading} {m m' : Meter} (o : Option CanonicalFault) → IsRootRead S n old r m → length S ≡ 1 → o ≡ None → IfNone o (IsFound r (progress 1 m) (progress h m')) → h ≡ length (segment S 0) → IsPaid S old m'
+whole_paid {h = h} {r = r} {m = m} {m' = m'} o root one is found full =
+    let finds : IsFound r (progress 1 m) (progress h m') = subst (λ (x : Option CanonicalFault). IfNone x (IsFound r (progress 1 m) (progress h m'))) is found in
+    found_whole one root.covers (moved (λ r m. IsFound r (progress 1 m) (progress h m')) root finds) full
+
+-- where there are words behind these, it isn't, and the fault is the first of them
+pub more_never : {S : Segments} {n h : ℕ} {old : Meter} {r : Reading} {m : Meter} (m' : Meter) (o : Option CanonicalFault) → IsRootRead S n old r m → o ≡ None → IfNone o (IsFound r (progress 1 m) (progress h m')) → (h ≡ length (segment S 0) → ⊥) → IsCanonicalMessage S → ⊥
+more_never {h = h} {r = r} {m = m} m' o root is found more =
+    let finds : IsFound r (progress 1 m) (progress h m') = subst (λ (x : Option CanonicalFault). IfNone x (IsFound r (progress 1 m) (progress h m'))) is found in
+    found_more (moved (λ r m. IsFound r (progress 1 m) (progress h m')) root finds) more
+
+pub more_is_fault : {S : Segments} {n h : ℕ} {old : Meter} {r : Reading} {m m' : Meter} {f : CanonicalFault} (o : Option CanonicalFault) → IsRootRead S n old r m → o ≡ None → IfNone o (IsFound r (progress 1 m) (progress h m')) → (h ≡ length (segment S 0) → ⊥) → FaultIs f WordsBehind 0 h → IsRootFault f S n old m'
+more_is_fault {h = h} {r = r} {m = m} {m' = m'} o root is found more fault =
+    let finds : IsFound r (progress 1 m) (progress h m') = subst (λ (x : Option CanonicalFault). IfNone x (IsFound r (progress 1 m) (progress h m'))) is found in
+    more_fault root.covers (moved (λ r m. IsFound r (progress 1 m) (progress h m')) root finds) more fault
+
+-- A fault of a message of one segment is a no of its test.
+pub root_fault_fails : {f : CanonicalFault} {S : Segments} {n : ℕ} {m m' : Meter} → IsRootFault f S n m m' → MessageTestFails S n m m'
+root_fault_fails {f} (covers, inl ends) = (covers, inl (ends_so (fault_unfit f) ends))
+root_fault_fails (covers, inr (t, h, finds, fewer, fault)) = (covers, inr (t, h, finds, fewer))
+
+-- A fault of a message of one segment is a no of its test, and so of what is said of the message.
+pub message_fault_fails : {S : Segments} {n : ℕ} {m m' : Meter} (o : Option CanonicalFault) (b : Bool) → is_some o ≡ not b → b ≡ false → IfSome o (λ f. IsMessageFault f S n m m') → length S ≡ 1 → MessageTestFails S n m m'
+message_fault_fails None b is fails fault one = absurd (let wrong : false ≡ true = is ∙ ap not fails in cc)
+message_fault_fails (Some f) b is fails (inl (other, fault, same)) one = absurd (other one)
+message_fault_fails (Some f) b is fails (inr (same, root)) one = root_fault_fails root
+
+-- the test of a canonical message isn't refused within its limits
+pub never_refused : {S : Segments} {n : ℕ} {old : Meter} {r : Reading} {m m' : Meter} {k : ErrorKind} → IsRootRead S n old r m → TestStops k r (progress 1 m) m' → CanBeTested S n old → ⊥
+never_refused {S} {n} {old} {m' = m'} {k = k} root stops (t, canonical, levels, fits) =
+    let stopped = moved (λ r m. TestStops k r (progress 1 m) m') root stops in
+    stops_never stopped (t, canonical_stands canonical, for_offset t (1 ≤ length (segment S 0)) (has_root canonical), levels, covers_rest old.left (charge t) fits)
+
+-- the words of all segments are those of the only one
+only_total : (S : Segments) → length S ≡ 1 → total S ≡ length (segment S 0)
+only_total [] one = absurd (omega arith)
+only_total (ws ∷ []) one = omega arith
+only_total (ws ∷ vs ∷ S) one = absurd (omega arith)
+
+-- a head is behind the last word of all segments, of which there is one, or elsewhere
+only_words : (B : List (List ℕ)) (n : ℕ) → length B ≡ 1 → n ≡ total_words B → n ≡ length (segment (message B) 0)
+only_words B n one all = all ∙ total-message B ∙ only_total (message B) (length-message B ∙ one)
+
+pub head_ends : (B : List (List ℕ)) (h n : ℕ) → length B ≡ 1 → n ≡ total_words B → h ≡ n → h ≡ length (segment (message B) 0)
+head_ends B h n one all same = same ∙ only_words B n one all
+
+pub head_stays : (B : List (List ℕ)) (h n : ℕ) → length B ≡ 1 → n ≡ total_words B → (h ≡ n → ⊥) → h ≡ length (segment (message B) 0) → ⊥
+head_stays B h n one all other is = other (is ∙ sym (only_words B n one all))

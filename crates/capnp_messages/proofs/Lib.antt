@@ -1,0 +1,10 @@
+pub mod NumberLemmas
+pub mod CanonLemmas
+pub mod TryLemmas
+pub mod SizeLemmas
+pub mod CanonicalMessageLemmas
+pub mod CanonicalFrameLemmas
+pub mod TestLemmas
+pub mod MessageLemmas
+pub mod AnsweredLemmas
+pub mod FramesLemmas

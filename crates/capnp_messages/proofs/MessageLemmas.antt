@@ -1,0 +1,106 @@
+-- What reading the root of a message says of the message.
+use Rattle.std.proofs.Common.{◌≡◌, inl, inr, ℕ, zero, suc, ℤ, List, [], ◌∷◌, length, Option, Some, None, Result, Ok, Err}
+use Rattle.std.proofs.Common.{IsOk, IfOk, IfSome, IfErr, true, false, refl, sym, ap, ◌∙◌, subst, arith}
+use Rattle.capnp_words.specs.declared.error.ErrorKind.{ErrorKind}
+use Rattle.capnp_words.specs.Meter.{Meter, spent, unused}
+use Rattle.capnp_format.specs.Canonical.{encoding, trim}
+use Rattle.capnp_format.specs.Segments.{Segments}
+use Rattle.capnp_format.specs.Tree.{Tree}
+use Rattle.capnp_arena_traits.specs.Allocations.{max_segment_words}
+use Rattle.capnp_arena.specs.declared.arena.reader_arena_impl.ReaderOptions.{ReaderOptions}
+use Rattle.capnp_objects.specs.Outcomes.{Reads}
+use Rattle.capnp_objects.specs.Reading.{Reading}
+use Rattle.capnp_objects.specs.Source.{levels}
+use Rattle.capnp_objects.specs.Wanted.{canonical}
+use Rattle.capnp_messages.specs.Roots.{CoversRoot, message_root}
+use Rattle.capnp_messages.specs.Copies.{LacksMemoryOr, RefusesCopy}
+use Rattle.capnp_messages.proofs.CanonLemmas.{covers_root}
+use Rattle.capnp_messages.specs.CanonicalMessages.{IsMessageFault, RefusesTest}
+use Rattle.capnp_format.specs.Bytes.{message}
+use Rattle.capnp_arena_traits.proofs.MessageLemmas.{length-message}
+use Rattle.capnp_readers.specs.declared.readers.canonical_fault.CanonicalFault.{CanonicalFault}
+use Rattle.capnp_messages.specs.Messages.{IsFaultOf, IsValueOf, RefusesCanon, RefusesCheck, left_of, root_within}
+
+-- The root of a message is read, and m is what the limit has left.
+pub record AtRoot (S : Segments) (limits : ReaderOptions) (r : Reading) (m : Meter) : Type 0 where
+  pub place : r ≡ root_within S limits
+  pub left : m ≡ unused (left_of limits)
+  pub covers : CoversRoot S limits.traversal_limit_in_words
+
+pub at_root : {S T : Segments} {limits : ReaderOptions} {r : Reading} {n : ℤ} {before after : Meter} →
+    T ≡ S → n ≡ limits.nesting_limit → before ≡ unused limits.traversal_limit_in_words →
+    r ≡ message_root T (levels n) → after ≡ spent before 1 → CoversRoot T before.left → AtRoot S limits r after
+at_root {S} {T} {limits} {r} {n} {before} {after} same nesting begun place paid covers =
+    let here = subst (λ (X : Segments). CoversRoot X before.left) same covers in
+    record {
+      place =
+          place ∙ ap (λ (X : Segments). message_root X (levels n)) same
+          ∙ ap (λ (z : ℤ). message_root S (levels z)) nesting;
+      left = paid ∙ ap (λ (x : Meter). spent x 1) begun;
+      covers = subst (λ (l : Option ℕ). CoversRoot S l) (ap (λ (x : Meter). x.left) begun) here;
+    }
+
+-- what a root leads to is the value of its message
+pub value_of : {S : Segments} {limits : ReaderOptions} {r : Reading} {m after : Meter} {t : Tree} →
+    AtRoot S limits r m → Reads canonical r m after t → IsValueOf S limits t
+value_of {S} {limits} {r} {m} {after} {t} root read =
+    let placed = subst (λ (x : Reading). Reads canonical x m after t) root.place read in
+    let there = subst (λ (x : Meter). Reads canonical (root_within S limits) x after t) root.left placed in
+    record {
+      root = root.covers;
+      cost = there.cost;
+      means = there.means;
+      free = there.takes tt;
+      covered = covers_root limits.traversal_limit_in_words there.cost root.covers.covered there.covers;
+    }
+
+-- so is what was made a copy of that
+pub copy_of : {S : Segments} {limits : ReaderOptions} {r : Reading} {m after : Meter} {words : Segments} →
+    AtRoot S limits r m → (t : Tree) × Reads canonical r m after t × (words ≡ encoding (trim t) ∷ []) →
+    (t : Tree) × IsValueOf S limits t × (words ≡ encoding (trim t) ∷ [])
+copy_of root (t, read, is_made) = (t, value_of root read, is_made)
+
+-- a copy of what the root leads to that is refused refuses the message
+pub copy_refused : {S : Segments} {limits : ReaderOptions} {r : Reading} {m : Meter} {old new : ℕ} {k : ErrorKind} →
+    AtRoot S limits r m → LacksMemoryOr old new k (RefusesCopy r m.left max_segment_words k) →
+    LacksMemoryOr old new k (RefusesCanon S limits k)
+copy_refused root (inl memory) = inl memory
+copy_refused {S} {limits} {r} {m} {k = k} root (inr (refused, kept)) =
+    let there = subst (λ (x : Reading). RefusesCopy x m.left max_segment_words k) root.place refused in
+    let left = ap (λ (x : Meter). x.left) root.left in
+    let here = subst (λ (l : Option ℕ). RefusesCopy (root_within S limits) l max_segment_words k) left there in
+    inr (inr (root.covers, here), kept)
+
+-- the test of a message, within the limits: what it finds, and why it is refused
+pub fault_of_message : {S T : Segments} {limits : ReaderOptions} {z : ℤ} {old : Meter}
+    (r : Result (Option CanonicalFault) ErrorKind) (new : Meter) →
+    T ≡ S → z ≡ limits.nesting_limit → old ≡ unused limits.traversal_limit_in_words →
+    IfOk r (λ o. IfSome o (λ f. IsMessageFault f T (levels z) old new)) → IfOk r (λ o. IfSome o (IsFaultOf S limits))
+fault_of_message (Ok None) new same nesting begun found = tt
+fault_of_message {S} {T} {limits} {z} {old} (Ok (Some f)) new same nesting begun found =
+    let m : Meter = unused limits.traversal_limit_in_words in
+    let there = subst (λ (x : Meter). IsMessageFault f T (levels z) x new) begun found in
+    let within = subst (λ (x : ℤ). IsMessageFault f T (levels x) m new) nesting there in
+    (new, subst (λ (X : Segments). IsMessageFault f X (levels limits.nesting_limit) m new) same within)
+fault_of_message (Err k) new same nesting begun found = tt
+
+is_one : (n : ℕ) → ((n ≡ 1 → ⊥) → ⊥) → n ≡ 1
+is_one zero other = absurd (other (λ e. omega arith))
+is_one (suc zero) other = refl
+is_one (suc (suc n)) other = absurd (other (λ e. omega arith))
+
+pub check_of_message : {S : Segments} {limits : ReaderOptions} {z : ℤ} {old : Meter} {X P : Type 0}
+    (r : Result X ErrorKind) (segments : List (List ℕ)) (new : Meter) →
+    message segments ≡ S → z ≡ limits.nesting_limit → old ≡ unused limits.traversal_limit_in_words →
+    ((length segments ≡ 1 → ⊥) → IsOk r × P) → IfErr r (RefusesTest (message segments) (levels z) old new) →
+    IfErr r (RefusesCheck S limits)
+check_of_message (Ok x) segments new same nesting begun answered refused = tt
+check_of_message {S} {limits} {z} {old} (Err k) segments new same nesting begun answered refused =
+    let m : Meter = unused limits.traversal_limit_in_words in
+    let T : Segments = message segments in
+    let alone : length segments ≡ 1 =
+    is_one (length segments) (λ no. let wrong : false ≡ true = (answered no).0 in cc) in
+    let there = subst (λ (x : Meter). RefusesTest T (levels z) x new k) begun refused in
+    let within = subst (λ (x : ℤ). RefusesTest T (levels x) m new k) nesting there in
+    let here = subst (λ (X : Segments). RefusesTest X (levels limits.nesting_limit) m new k) same within in
+    (ap length (sym same) ∙ length-message segments ∙ alone, (new, here))

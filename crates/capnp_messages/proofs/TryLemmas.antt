@@ -1,0 +1,64 @@
+-- How much room a try asks for, and when there is another.
+use Rattle.std.proofs.Common.{◌≡◌, inl, inr, ℕ, ◌+◌, ◌*◌, ◌/◌, ◌<◌, ◌==◌, suc, max, min, IsTrue, Bool, true, false, List, [], ◌∷◌, length, Option, refl, ap, sym, ◌∙◌, subst, arith}
+use Rattle.std.proofs.lemmas.Bool.{cases_lt}
+use Rattle.capnp_words.specs.declared.error.ErrorKind.{ErrorKind}
+use Rattle.capnp_format.specs.Bytes.{message, words_of}
+use Rattle.capnp_format.proofs.WordsOf.{length-words_of}
+use Rattle.capnp_arena_traits.specs.Allocations.{max_segment_words}
+use Rattle.capnp_arena_traits.specs.Checks.{total_words}
+use Rattle.capnp_arena_traits.proofs.MessageLemmas.{total-cons}
+use Rattle.capnp_objects.specs.Reading.{Reading}
+use Rattle.capnp_framing.specs.Reading.{total}
+use Rattle.capnp_messages.specs.Copies.{LacksMemoryOr, RefusesCopy, is_message_too_large}
+use Rattle.capnp_messages.specs.Tries.{IsMadeByFirstTry, NeedsMoreRoom, as_asked, room_of_try, words_read}
+use Rattle.capnp_messages.proofs.CanonLemmas.{large_wants, never_read}
+
+-- The tries have come to one that asks for this room: what those before it ask for is too little.
+pub record ComesTo (r : Reading) (room : ℕ) : Type 0 where
+  pub try : ℕ
+  pub asks : room ≡ room_of_try (words_read r) try
+  pub before : (j : ℕ) → j < try → NeedsMoreRoom r (room_of_try (words_read r) j)
+
+pub next_comes : {r : Reading} {room next : ℕ} → ComesTo r room → next ≡ min (2 * room) max_segment_words → NeedsMoreRoom r room → ComesTo r next
+next_comes {r} come doubled little = record {
+  try = suc come.try;
+  asks = doubled ∙ ap (λ n. min (2 * n) max_segment_words) come.asks;
+  before = λ j below. elim (cases_lt j come.try) [
+    | inl less ↦ come.before j less
+    | inr least ↦
+        let same : come.try ≡ j = omega (arith, below, least) in
+        subst (λ i. NeedsMoreRoom r (room_of_try (words_read r) i)) same (subst (NeedsMoreRoom r) come.asks little)
+  ];
+}
+
+offered : (least room asked : ℕ) → least ≡ 0 → IsTrue (room == max least asked) → IsTrue (room == asked)
+offered least room asked none is = grind arith
+
+-- the same, where the place is written otherwise
+pub moved_tries : {r q : Reading} (offers : ℕ → ℕ → Bool) (room : ℕ) → r ≡ q → IsMadeByFirstTry r offers room → IsMadeByFirstTry q offers room
+moved_tries offers room place tries = subst (λ (x : Reading). IsMadeByFirstTry x offers room) place tries
+
+-- the words that a heap offers which adds none are those that are asked for
+pub tries_as_asked : {r : Reading} (least room : ℕ) → least ≡ 0 →
+    IsMadeByFirstTry r (λ asked words. words == max least asked) room → IsMadeByFirstTry r as_asked room
+tries_as_asked {r} least room none tries =
+    let asks : ℕ = room_of_try (words_read r) tries.try in
+    record { try = tries.try; asked = offered least room asks none tries.asked; before = tries.before }
+
+-- a try that says that something is too large has too little room
+pub try_too_small : {r : Reading} {left : Option ℕ} {room old new : ℕ} {k : ErrorKind} → is_message_too_large k ≡ true → LacksMemoryOr old new k (RefusesCopy r left room k) → NeedsMoreRoom r room
+try_too_small large (inl (named, risen)) = absurd (let wrong : false ≡ true = sym (ap is_message_too_large named) ∙ large in cc)
+try_too_small large (inr (inl (named, little, out), same)) = little
+try_too_small {k = k} large (inr (inr (m, refused), same)) = absurd (never_read k (large_wants k large) refused)
+
+-- and memory wasn't refused
+pub try_is_granted : {old new : ℕ} {k : ErrorKind} {P : Type 0} → is_message_too_large k ≡ true → LacksMemoryOr old new k P → new ≡ old
+try_is_granted large (inl (named, risen)) = absurd (let wrong : false ≡ true = sym (ap is_message_too_large named) ∙ large in cc)
+try_is_granted large (inr (refused, same)) = same
+
+-- the words of all segments, each by its bytes
+pub total-message : (B : List (List ℕ)) → total_words B ≡ total (message B)
+total-message [] = refl
+total-message (b ∷ B) =
+    let here : length (words_of b) ≡ length b / 8 = length-words_of (length b / 8) b (omega arith) (omega arith) in
+    total-cons b B ∙ ap (λ n. n + total_words B) (sym here) ∙ ap (λ n. length (words_of b) + n) (total-message B)

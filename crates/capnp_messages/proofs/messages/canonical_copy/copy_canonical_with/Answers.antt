@@ -1,0 +1,43 @@
+use Rattle.std.proofs.Common.{◌≡◌, ◌∙◌, true, false, inl, inr, refl, rules, arith, subst}
+use Rattle.capnp_words.specs.Meter.{Meter}
+use Rattle.capnp_arena_traits.specs.Allocations.{max_segment_words}
+use Rattle.capnp_objects.specs.Outcomes.{Reads}
+use Rattle.capnp_objects.specs.Wanted.{canonical}
+use Rattle.capnp_readers.specs.Readers.{reading}
+use Rattle.capnp_messages.specs.Copies.{LacksMemoryOr, RefusesCopy, is_message_too_large}
+use Rattle.capnp_messages.proofs.CanonLemmas.{last_try, moved_try}
+use Rattle.capnp_messages.proofs.TryLemmas.{next_comes, try_is_granted, try_too_small}
+use Rattle.capnp_messages.proofs.messages.canonical_copy.copy_canonical_with.Goals as goal
+use Rattle.capnp_messages.proofs.messages.canonical_copy.copy_canonical_with.Goals.{then-room-eq-MAX_SEGMENT_WORDS-via-then-room-eq-MAX_SEGMENT_WORDS, then-room-eq-MAX_SEGMENT_WORDS-via-else-room-eq-MAX_SEGMENT_WORDS+then-not-is_too_large}
+
+-- the last try speaks for all the room that there can be
+pub returns-then-room-eq-MAX_SEGMENT_WORDS-clause-refused : goal.returns-then-room-eq-MAX_SEGMENT_WORDS-clause-refused
+returns-then-room-eq-MAX_SEGMENT_WORDS-clause-refused g c =
+    let refusals = g.A.Allocator.refusals in
+    let e = c.in-Err.kind in
+    let last = last_try
+    (elim c.then-room-eq-MAX_SEGMENT_WORDS.branch [
+      | then-room-eq-MAX_SEGMENT_WORDS-via-then-room-eq-MAX_SEGMENT_WORDS w ↦ inl w.if-room-eq-MAX_SEGMENT_WORDS.true
+      | then-room-eq-MAX_SEGMENT_WORDS-via-else-room-eq-MAX_SEGMENT_WORDS+then-not-is_too_large w ↦ inr (let e : is_message_too_large c.in-Err.kind ≡ false = search rules in e)
+    ])
+    (moved_try c.loop-made.invariant.granted refl c.in-Err.ensures.refused) in
+    subst (λ (m : Meter). LacksMemoryOr (refusals c.args.allocator) (refusals c.in-Err.returned) e (RefusesCopy (reading g.B.ReaderArena c.args.from) m.left max_segment_words e)) c.loop-made.invariant.unread last
+
+-- a try that found too little room is followed by one with twice as much
+pub loop-made-preserved : goal.loop-made-preserved
+loop-made-preserved g c =
+    let large : is_message_too_large c.in-Err.kind ≡ true = search rules in
+    let old = c.loop-made.invariant in
+    record {
+      some = omega (arith, old.some, old.most);
+      most = omega arith;
+      granted = try_is_granted large c.in-Err.ensures.refused ∙ old.granted;
+      offers = c.in-Err.ensures.given_back ∙ old.offers;
+      comes = next_comes old.comes c.next_room-room.ensures (try_too_small large c.in-Err.ensures.refused);
+      unread = c.in-Err.ensures.unread ∙ old.unread;
+    }
+
+pub returns-in-Ok-clause-copied : goal.returns-in-Ok-clause-copied
+returns-in-Ok-clause-copied g c =
+    let (t, reads, holds) = c.in-Ok.ensures.copied in
+    (t, subst (λ (m : Meter). Reads canonical (reading g.B.ReaderArena c.args.from) m c.copy_to_message.new.lim t) c.loop-made.invariant.unread reads, holds)

@@ -1,0 +1,89 @@
+-- Messages in canonical form as a whole, and the test for it ("Canonicalization").
+use Rattle.std.specs.Prelude.{◌≡◌, ◌≢◌, ◌⊎◌, ◌↔◌, ℕ, ◌+◌, ◌<◌, ◌≤◌, min, [], ◌∷◌, true, length}
+use Rattle.capnp_words.specs.declared.error.ErrorKind.{ErrorKind}
+use Rattle.capnp_words.specs.Meter.{Meter, FitsIn, spent}
+use Rattle.capnp_format.specs.Segments.{Segments, segment}
+use Rattle.capnp_format.specs.Tree.{Tree, depth}
+use Rattle.capnp_format.specs.Value.{IsValue}
+use Rattle.capnp_format.specs.Means.{Means}
+use Rattle.capnp_format.specs.Canonical.{IsEncodable, IsFree, IsTrimmed, charge, encoding, word_count}
+use Rattle.capnp_framing.specs.Frames.{CanBeFramed, frame}
+use Rattle.capnp_objects.specs.Spending.{Paid, pointers_in}
+use Rattle.capnp_readers.specs.declared.readers.canonical_fault.CanonicalFault.{CanonicalFault}
+use Rattle.capnp_readers.specs.declared.readers.canonical_fault.CanonicalFaultReason.TheVariants.{SegmentCount}
+use Rattle.capnp_readers.specs.declared.readers.canonical_fault.CanonicalFaultReason.TheVariants.{WordsBehind}
+use Rattle.capnp_readers.specs.Faults.{FaultIs}
+use Rattle.capnp_readers.specs.Checking.{Finds, TestEnds, IsFault, IsUnfit, TestStops, progress}
+use Rattle.capnp_messages.specs.Roots.{CoversRoot, RefusesRoot, message_root}
+
+-- A message is the canonical one of t: one segment, which holds t's canonical words and nothing else
+-- ("Canonicalization").
+pub record IsCanonicalOf (S : Segments) (t : Tree) : Type 0 where
+  pub value : IsValue t
+  pub trimmed : IsTrimmed t
+  pub free : IsFree t
+  pub encodable : IsEncodable t
+  pub is : S ≡ encoding t ∷ []
+
+-- It is that of some value ("Canonicalization").
+abbrev pub IsCanonicalMessage : Segments → Type 0
+IsCanonicalMessage S = (t : Tree) × IsCanonicalOf S t
+
+-- The test of a canonical message charges what reading its value costs and a word for the root
+-- pointer, and counts each pointer.
+abbrev pub IsPaid : Segments → Meter → Meter → Type 0
+IsPaid S m m' = (t : Tree) × IsCanonicalOf S t × Paid true m m' (1 + charge t) (pointers_in t)
+
+-- A canonical message is no deeper than n levels, and the limiter covers what its test charges.
+abbrev pub CanBeTested : Segments → ℕ → Meter → Type 0
+CanBeTested S n m = (t : Tree) × IsCanonicalOf S t × (depth t ≤ n) × FitsIn m.left (1 + charge t)
+
+-- The test of a message is refused by the name k, and leaves the limiter as m': its root pointer is
+-- refused, and nothing is charged; or a word is charged for that, and the test of what the root
+-- leads to stops.
+abbrev pub RefusesTest : Segments → ℕ → Meter → Meter → ErrorKind → Type 0
+RefusesTest S n m m' k =
+    (RefusesRoot S m.left k × (m' ≡ m)) ⊎
+    (CoversRoot S m.left × TestStops k (message_root S n) (progress 1 (spent m 1)) m')
+
+-- The test of a message of one segment finds the fault f, and leaves the limiter as m': a word is
+-- charged for the root pointer, and the test of what it leads to ends at f, or it finds the
+-- canonical words of some value, and f names the word behind them.
+abbrev pub IsRootFault : CanonicalFault → Segments → ℕ → Meter → Meter → Type 0
+IsRootFault f S n m m' =
+    CoversRoot S m.left
+    × (TestEnds (IsFault f) (message_root S n) (progress 1 (spent m 1)) m'
+    ⊎ ((t : Tree) × (h : ℕ) × Finds (message_root S n) (progress 1 (spent m 1)) (progress h m') t ×
+    (1 + word_count t < length (segment S 0)) × FaultIs f WordsBehind 0 h))
+
+-- The test of a message finds the fault f: there isn't exactly one segment, and nothing is charged;
+-- or that of its only segment.
+abbrev pub IsMessageFault : CanonicalFault → Segments → ℕ → Meter → Meter → Type 0
+IsMessageFault f S n m m' =
+    ((length S ≢ 1) × FaultIs f SegmentCount (min 1 (length S)) 0 × (m' ≡ m)) ⊎
+    ((length S ≡ 1) × IsRootFault f S n m m')
+
+-- The test of a message of one segment says no, and leaves the limiter as m': a word is charged for
+-- the root pointer, and the test of what it leads to fails, or it finds the canonical words of some
+-- value, with more words behind them.
+abbrev pub MessageTestFails : Segments → ℕ → Meter → Meter → Type 0
+MessageTestFails S n m m' =
+    CoversRoot S m.left
+    × (TestEnds IsUnfit (message_root S n) (progress 1 (spent m 1)) m'
+    ⊎ ((t : Tree) × (h : ℕ) × Finds (message_root S n) (progress 1 (spent m 1)) (progress h m') t ×
+    (1 + word_count t < length (segment S 0))))
+
+-- A message is the canonical one of one value at most.
+abbrev pub OneCanonicalValue : Type 0
+OneCanonicalValue = (S : Segments) (t u : Tree) → IsCanonicalOf S t → IsCanonicalOf S u → t ≡ u
+
+-- Its root means that value, within as many levels as the value is deep, at the value's least cost.
+abbrev pub MeansItsValue : Type 0
+MeansItsValue =
+    (S : Segments) (t : Tree) (n : ℕ) → IsCanonicalOf S t → depth t ≤ n → Means S n 0 0 t (charge t)
+
+-- The frames of two canonical messages are equal exactly if their values are.
+abbrev pub SameCanonicalFrames : Type 0
+SameCanonicalFrames =
+    (S R : Segments) (t u : Tree) → CanBeFramed S → CanBeFramed R → IsCanonicalOf S t →
+    IsCanonicalOf R u → (frame S ≡ frame R) ↔ (t ≡ u)

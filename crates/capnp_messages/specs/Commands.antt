@@ -1,0 +1,29 @@
+-- What is asked of a whole message, when there is an answer, and why there is none.
+use Rattle.std.specs.Prelude.{◌≡◌, ◌⊎◌, ℕ, List, [], ◌∷◌, length}
+use Rattle.capnp_words.specs.declared.error.ErrorKind.{ErrorKind}
+use Rattle.capnp_words.specs.declared.error.ErrorKind.TheVariants.{AllocationFailed}
+use Rattle.capnp_format.specs.Segments.{Segments}
+use Rattle.capnp_arena.specs.declared.arena.reader_arena_impl.ReaderOptions.{ReaderOptions}
+use Rattle.capnp_framing.specs.Frames.{bytes_of_words, frame}
+use Rattle.capnp_messages.specs.Messages.{HasCanonicalCopy, HasSizeWithin, IsReadable, RefusesCanon, RefusesCheck, RefusesSize}
+use Rattle.capnp_messages.specs.declared.messages.command.Command.{Command}
+use Rattle.capnp_messages.specs.declared.messages.command.Command.TheVariants.{Canon, Check, Size}
+use Rattle.capnp_messages.specs.declared.messages.command.Form.{Form}
+use Rattle.capnp_messages.specs.declared.messages.command.Form.TheVariants.{Framed, Flat}
+
+-- The bytes of a canonical message in a form.
+abbrev pub form_bytes : Form → List ℕ → List ℕ
+form_bytes Framed words = frame (words ∷ [])
+form_bytes Flat words = bytes_of_words words
+
+-- Why a command gives no answer.
+abbrev pub RefusesAnswer : Command → ReaderOptions → Segments → ErrorKind → Type 0
+RefusesAnswer (Canon form) limits S k = (k ≡ AllocationFailed) ⊎ RefusesCanon S limits k
+RefusesAnswer Check limits S k = RefusesCheck S limits k
+RefusesAnswer Size limits S k = RefusesSize S limits k
+
+-- Wherever this holds there is an answer: there is a canonical copy; a value, or not one segment; a size.
+abbrev pub HasAnswerWithin : Command → ReaderOptions → Segments → Type 0
+HasAnswerWithin (Canon form) limits S = HasCanonicalCopy S limits
+HasAnswerWithin Check limits S = length S ≡ 1 → IsReadable S limits
+HasAnswerWithin Size limits S = HasSizeWithin S limits

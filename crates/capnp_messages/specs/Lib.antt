@@ -1,0 +1,9 @@
+pub mod Text
+pub mod Roots
+pub mod Tries
+pub mod Copies
+pub mod CopyMemory
+pub mod CanonicalErrors
+pub mod CanonicalMessages
+pub mod Messages
+pub mod Commands

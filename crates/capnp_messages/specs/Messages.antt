@@ -1,0 +1,91 @@
+-- What is said of a whole message, within the limits of a reader's options, and why it isn't.
+use Rattle.std.specs.Prelude.{◌≡◌, ◌⊎◌, ℕ, ◌+◌, ◌≤◌, Option, length}
+use Rattle.capnp_words.specs.declared.error.ErrorKind.{ErrorKind}
+use Rattle.capnp_words.specs.Meter.{Meter, FitsIn, less, unused}
+use Rattle.capnp_format.specs.Canonical.{trim, word_count}
+use Rattle.capnp_format.specs.Segments.{Segments}
+use Rattle.capnp_format.specs.Tree.{Tree, capabilities}
+use Rattle.capnp_format.specs.Means.{Means}
+use Rattle.capnp_arena_traits.specs.Allocations.{max_segment_words}
+use Rattle.capnp_arena.specs.declared.arena.reader_arena_impl.ReaderOptions.{ReaderOptions}
+use Rattle.capnp_objects.specs.Reading.{Reading}
+use Rattle.capnp_objects.specs.Sizing.{HasSize, SizeRefused, Totals}
+use Rattle.capnp_objects.specs.Source.{levels}
+use Rattle.capnp_readers.specs.declared.readers.canonical_fault.CanonicalFault.{CanonicalFault}
+use Rattle.capnp_messages.specs.Roots.{CoversRoot, RefusesRoot, message_root}
+use Rattle.capnp_messages.specs.Copies.{RefusesCopy}
+use Rattle.capnp_messages.specs.CanonicalMessages.{IsMessageFault, RefusesTest}
+
+-- The root of a message means t without capabilities, within the nesting limit, and the traversal limit
+-- covers what reading it costs, and one word for the root pointer ("Messages", "Security Considerations").
+pub record IsValueOf (S : Segments) (limits : ReaderOptions) (t : Tree) : Type 0 where
+  pub root : CoversRoot S limits.traversal_limit_in_words
+  pub cost : ℕ
+  pub means : Means S (levels limits.nesting_limit) 0 0 t cost
+  pub free : capabilities t ≡ 0
+  pub covered : FitsIn limits.traversal_limit_in_words (1 + cost)
+
+-- It has a canonical copy: a value so, whose canonical words, a pointer and a body, fit a segment
+-- ("Canonicalization").
+abbrev pub HasCanonicalCopy : Segments → ReaderOptions → Type 0
+HasCanonicalCopy S limits = (t : Tree) × IsValueOf S limits t × (1 + word_count (trim t) ≤ max_segment_words)
+
+-- It means some value so, with capabilities or without ("Messages", "Security Considerations").
+pub record IsReadable (S : Segments) (limits : ReaderOptions) : Type 0 where
+  pub root : CoversRoot S limits.traversal_limit_in_words
+  pub value : Tree
+  pub cost : ℕ
+  pub means : Means S (levels limits.nesting_limit) 0 0 value cost
+  pub covered : FitsIn limits.traversal_limit_in_words (1 + cost)
+
+-- The walk that takes a size gives so many words and capabilities at the root of a message, within
+-- n levels, and with what the budget leaves behind the root pointer. Where the root means a value
+-- within the levels, they are the value's.
+pub record HasTotals (S : Segments) (n : ℕ) (budget : Option ℕ) (words caps : ℕ) : Type 0 where
+  pub at_root : CoversRoot S budget
+  pub after : Meter
+  pub totals : Totals (message_root S n) (unused (less budget 1)) after words caps
+  pub of_value : (t : Tree) (m cost : ℕ) → Means S m 0 0 t cost → (words ≡ word_count t) ×
+      (caps ≡ capabilities t)
+
+-- The walk that takes a size gives so many words and capabilities there.
+abbrev pub HasSizeOf : Segments → ReaderOptions → ℕ → ℕ → Type 0
+HasSizeOf S limits words caps =
+    HasTotals S (levels limits.nesting_limit) limits.traversal_limit_in_words words caps
+
+-- The test for canonical form finds this fault: its reason is true of the word that it names.
+abbrev pub IsFaultOf : Segments → ReaderOptions → CanonicalFault → Type 0
+IsFaultOf S limits f =
+    (m : Meter) × IsMessageFault f S (levels limits.nesting_limit) (unused limits.traversal_limit_in_words) m
+
+-- The root of a message, and the limit behind its word.
+abbrev pub root_within : Segments → ReaderOptions → Reading
+root_within S limits = message_root S (levels limits.nesting_limit)
+
+abbrev pub left_of : ReaderOptions → Option ℕ
+left_of limits = less limits.traversal_limit_in_words 1
+
+-- The walk that takes a size goes to its end within the limits, and what it counts fits.
+abbrev pub HasSizeWithin : Segments → ReaderOptions → Type 0
+HasSizeWithin S limits =
+    CoversRoot S limits.traversal_limit_in_words × HasSize (root_within S limits) (unused (left_of limits))
+
+-- The root pointer is refused by the name k, or the limit covers it and P holds.
+abbrev pub RefusesAt : Segments → ReaderOptions → ErrorKind → Type 0 → Type 0
+RefusesAt S limits k P =
+    RefusesRoot S limits.traversal_limit_in_words k ⊎ (CoversRoot S limits.traversal_limit_in_words × P)
+
+-- The canonical copy of a message is refused by the name k; so its size; and the test of one that has one
+-- segment.
+abbrev pub RefusesCanon : Segments → ReaderOptions → ErrorKind → Type 0
+RefusesCanon S limits k =
+    RefusesAt S limits k (RefusesCopy (root_within S limits) (left_of limits) max_segment_words k)
+
+abbrev pub RefusesSize : Segments → ReaderOptions → ErrorKind → Type 0
+RefusesSize S limits k =
+    RefusesAt S limits k ((m : Meter) × SizeRefused (root_within S limits) (unused (left_of limits)) m k)
+
+abbrev pub RefusesCheck : Segments → ReaderOptions → ErrorKind → Type 0
+RefusesCheck S limits k =
+    (length S ≡ 1)
+    × ((m : Meter) × RefusesTest S (levels limits.nesting_limit) (unused limits.traversal_limit_in_words) m k)

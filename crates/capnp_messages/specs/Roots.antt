@@ -1,0 +1,26 @@
+-- The root of a message, and why it isn't read.
+use Rattle.std.specs.Prelude.{◌≡◌, ℕ, true, false, Option, Some}
+use Rattle.capnp_words.specs.declared.error.ErrorKind.{ErrorKind}
+use Rattle.capnp_words.specs.declared.error.ErrorKind.TheVariants.{InvalidSegmentId}
+use Rattle.capnp_words.specs.declared.error.ErrorKind.TheVariants.{ReadLimitExceeded}
+use Rattle.capnp_words.specs.Meter.{FitsIn}
+use Rattle.capnp_format.specs.Segments.{Segments, IsPlace}
+use Rattle.capnp_arena_traits.specs.Checks.{misplaced}
+use Rattle.capnp_objects.specs.Reading.{Reading}
+
+-- The root of a message, where reading is charged and n levels may be entered.
+abbrev pub message_root : Segments → ℕ → Reading
+message_root S n =
+    record { segments = S; charging = true; of_default = false; levels = n; segment = 0; at = 0 }
+
+-- A message has a root pointer, and the budget covers its word ("Messages").
+pub record CoversRoot (S : Segments) (budget : Option ℕ) : Type 0 where
+  pub root : IsPlace S 0 0
+  pub covered : FitsIn budget 1
+
+-- The root pointer of a message is refused by the name k.
+pub data RefusesRoot (S : Segments) (budget : Option ℕ) (k : ErrorKind) : Type 0 where
+  -- there is none
+  no_root : k ≡ misplaced S 0 (InvalidSegmentId 0) → (IsPlace S 0 0 → ⊥) → RefusesRoot S budget k
+  -- there is one, and the budget doesn't cover it
+  no_budget : k ≡ ReadLimitExceeded → IsPlace S 0 0 → budget ≡ Some 0 → RefusesRoot S budget k

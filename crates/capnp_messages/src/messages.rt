@@ -1,0 +1,22 @@
+//! Whole messages: made canonical, tested for canonical form, and measured ("Canonicalization").
+
+mod canonical_copy;
+mod canonical_error;
+mod canonical_message;
+mod command;
+mod copy_memory;
+pub mod laws;
+mod message_fault;
+mod root;
+mod whole;
+mod writing;
+
+pub use canonical_copy::{CanonicalCopy, copy_canonical, copy_canonical_with};
+pub use canonical_error::CanonicalError;
+pub use canonical_message::is_canonical_message;
+pub use command::{Command, Form};
+pub use copy_memory::CopyMemory;
+pub use message_fault::canonical_fault;
+pub use root::read_root;
+pub use whole::{canonical_fault_of, canonical_of, canonical_with, is_canonical, size_of};
+pub use writing::{canonical_bytes, write_canonical, write_copy};

@@ -1,0 +1,290 @@
+//! A copy in canonical form ("Canonicalization"), in a segment of which the size is found by tries: the
+//! first asks for the words of the message that is read and one more, each further one for twice those
+//! of the one before, so that all together take no longer than twice the last. While one runs, its
+//! allocator is taken out, so that it ends where that segment does.
+ghost use Rattle.std.specs.Prelude.{◌≡◌, ◌⊎◌, ◌<◌, ◌≤◌, ◌+◌, ◌*◌, ◌++◌, ◌∷◌, [], false, min, ℕ, IsTrue, OnOk, IfOk, OnErr, IfErr};
+ghost use Rattle.capnp_format.specs.Canonical.{trim, encoding};
+ghost use Rattle.capnp_format.specs.Tree.{Tree};
+ghost use Rattle.capnp_words.specs.Meter.{raised, unused};
+ghost use Rattle.capnp_words.specs.declared.error.ErrorKind.TheVariants.{AllocationFailed};
+ghost use Rattle.capnp_arena_traits.specs.Allocations.{max_segment_words, one_more};
+ghost use Rattle.capnp_objects.specs.Outcomes.{Reads};
+ghost use Rattle.capnp_objects.specs.Wanted.{canonical};
+ghost use Rattle.capnp_readers.specs.Readers.{reading};
+ghost use Rattle.capnp_messages.specs.Copies.{IsAloneOr, HoldsCanonicalWords, IsMadeWhereAlone, LacksMemoryOr, RefusesCopy, RefusesCopyAnywhere, is_message_too_large, wants_room};
+ghost use Rattle.capnp_messages.specs.CanonicalErrors.{IsLeftOf};
+ghost use Rattle.capnp_messages.specs.Tries.{IsMadeByFirstTry, NeedsMoreRoom, as_asked, room_of_try, words_read};
+
+use capnp_arena::arena::{
+    Allocator, BuilderArena, BuilderArenaImpl, HeapAllocator, MAX_SEGMENT_WORDS, ReaderArena,
+};
+use capnp_copies::copy::copy_value;
+use capnp_objects::source::Source;
+use capnp_readers::readers::PointerReader;
+use capnp_words::error::ErrorKind;
+use capnp_words::read_limiter::ReadLimiter;
+use std::alloc::Global;
+
+/// Whether a refusal says that there is no room, or no memory for more.
+fn is_want_of_room(kind: ErrorKind) -> bool
+    ensures { result ≡ wants_room kind }
+{
+    matches!(
+        kind,
+        ErrorKind::AllocationFailed | ErrorKind::MessageTooLarge(_)
+    )
+}
+
+/// Copies what a pointer means to the root of a message whose only word is that root, which is null.
+/// Words that don't fit behind it go into further segments, if there are any to get. The limiter of
+/// so many words that the copy was charged to is given.
+fn copy_root<A: BuilderArena, B: ReaderArena>(
+    arena: &mut A,
+    from: PointerReader<'_, B>,
+    left: Option<usize>,
+) -> Result<ReadLimiter, ErrorKind>
+    requires root { (A.view arena.old).words ≡ (0 ∷ []) ∷ [] }
+    ensures copied { IfOk result (λ after. (t : Tree)
+        × Reads canonical (reading B.ReaderArena from.entry) (unused left) after t
+        × IsMadeWhereAlone (A.view arena.new) t) }
+    ensures room { OnOk result ((A.view arena.new).room 0 ≡ (A.view arena.old).room 0) }
+    ensures alone { OnOk result (IsAloneOr (A.view arena.new)
+        (NeedsMoreRoom (reading B.ReaderArena from.entry) ((A.view arena.old).room 0))) }
+    ensures refused { IfErr result
+        (RefusesCopyAnywhere (reading B.ReaderArena from.entry) left ((A.view arena.old).room 0)) }
+{
+    let mut lim = ReadLimiter::new(left);
+    copy_value(arena, 0, 0, from, &mut lim, true)?;
+    Ok(lim)
+}
+
+/// The same into its only segment, which has room for so many words. What doesn't fit there is
+/// `MessageTooLarge` with that number.
+fn copy_to_segment<A: Allocator, B: ReaderArena>(
+    arena: &mut BuilderArenaImpl<A>,
+    from: PointerReader<'_, B>,
+    left: Option<usize>,
+    room: u32,
+) -> Result<ReadLimiter, ErrorKind>
+    requires root { (⟦<BuilderArenaImpl<A> as BuilderArena>⟧.view arena.old).words ≡ (0 ∷ []) ∷ [] }
+    requires room { room ≤ (⟦<BuilderArenaImpl<A> as BuilderArena>⟧.view arena.old).room 0 }
+    ensures copied { IfOk result (λ after. (t : Tree)
+        × Reads canonical (reading B.ReaderArena from.entry) (unused left) after t
+        × HoldsCanonicalWords (⟦<BuilderArenaImpl<A> as BuilderArena>⟧.view arena.new) t) }
+    ensures room { OnOk result ((⟦<BuilderArenaImpl<A> as BuilderArena>⟧.view arena.new).room 0
+        ≡ (⟦<BuilderArenaImpl<A> as BuilderArena>⟧.view arena.old).room 0) }
+    ensures refused { IfErr result (RefusesCopy (reading B.ReaderArena from.entry) left room) }
+{
+    let too_large = ErrorKind::MessageTooLarge(room as usize);
+    match copy_root(arena, from, left) {
+        Ok(after) => {
+            if arena.len() == 1 {
+                Ok(after)
+            } else {
+                Err(too_large)
+            }
+        }
+        Err(kind) => {
+            if is_want_of_room(kind) {
+                Err(too_large)
+            } else {
+                Err(kind)
+            }
+        }
+    }
+}
+
+/// Takes a segment with room for so many words in a message that has none, and one of these words: the
+/// root, which is null.
+fn make_root<A: Allocator>(made: &mut BuilderArenaImpl<A>, room: u32) -> Result<(), ErrorKind>
+    requires none { ⟦<BuilderArenaImpl<A> as ReaderArena>⟧.segments made.old ≡ [] }
+    requires some { 1 ≤ room }
+    requires most { room ≤ max_segment_words }
+    ensures root { OnOk result ((⟦<BuilderArenaImpl<A> as BuilderArena>⟧.view made.new).words
+        ≡ (0 ∷ []) ∷ []) }
+    ensures room { OnOk result
+        (room ≤ (⟦<BuilderArenaImpl<A> as BuilderArena>⟧.view made.new).room 0) }
+    ensures asked { OnOk result (IsTrue
+        ((⟦<BuilderArenaImpl<A> as BuilderArena>⟧.view made.old).offers room
+        ((⟦<BuilderArenaImpl<A> as BuilderArena>⟧.view made.new).room 0))) }
+    ensures granted { OnOk result ((⟦<BuilderArenaImpl<A> as BuilderArena>⟧.view made.new).refusals
+        ≡ (⟦<BuilderArenaImpl<A> as BuilderArena>⟧.view made.old).refusals) }
+    ensures offers { (⟦<BuilderArenaImpl<A> as BuilderArena>⟧.view made.new).offers
+        ≡ (⟦<BuilderArenaImpl<A> as BuilderArena>⟧.view made.old).offers }
+    ensures refused { IfErr result (λ e. (e ≡ AllocationFailed)
+        × ((⟦<BuilderArenaImpl<A> as BuilderArena>⟧.view made.new).refusals
+        ≡ one_more (⟦<BuilderArenaImpl<A> as BuilderArena>⟧.view made.old).refusals)) }
+{
+    made.allocate_segment(room)?;
+    let _root = made.allocate(0, 1);
+    Ok(())
+}
+
+/// Counts so many pointers more as followed.
+fn count_pointers(lim: &mut ReadLimiter, pointers: u64)
+    ensures left { lim.new.left ≡ lim.old.left }
+    ensures counted { lim.new.followed ≡ raised lim.old.followed pointers }
+{
+    for _ in 0..pointers {
+        lim.count();
+    }
+}
+
+/// Charges and counts what a copy has spent, of which its own limiter is given: it had as many words
+/// as this one, and no pointer was followed.
+fn settle(lim: &mut ReadLimiter, own: ReadLimiter)
+    requires { IsLeftOf own.left lim.old.left }
+    ensures left { lim.new.left ≡ own.left }
+    ensures counted { lim.new.followed ≡ raised lim.old.followed own.followed }
+{
+    if let (Some(left), Some(after)) = (lim.left(), own.left()) {
+        let _ = lim.can_read(left - after);
+    }
+    count_pointers(lim, own.followed());
+}
+
+/// Makes the canonical words of what a pointer means in a fresh message with a segment of so many
+/// words, and in that one alone: while it is copied there is no allocator to give another. A refusal
+/// gives the allocator back, and leaves the limiter as it was.
+fn copy_to_message<A: Allocator, B: ReaderArena>(
+    alloc: Global,
+    allocator: A,
+    from: PointerReader<'_, B>,
+    lim: &mut ReadLimiter,
+    room: u32,
+) -> Result<BuilderArenaImpl<A>, (ErrorKind, A)>
+    requires some { 1 ≤ room }
+    requires most { room ≤ max_segment_words }
+    ensures copied { IfOk result (λ made. (t : Tree)
+        × Reads canonical (reading B.ReaderArena from.entry) lim.old lim.new t
+        × HoldsCanonicalWords (⟦<BuilderArenaImpl<A> as BuilderArena>⟧.view made) t) }
+    ensures asked { IfOk result (λ made. IsTrue (A.offers allocator room
+        ((⟦<BuilderArenaImpl<A> as BuilderArena>⟧.view made).room 0))) }
+    ensures granted { IfOk result (λ made.
+        (⟦<BuilderArenaImpl<A> as BuilderArena>⟧.view made).refusals ≡ A.refusals allocator) }
+    ensures given_back { IfErr result (λ e. A.offers e.1 ≡ A.offers allocator) }
+    ensures refused { IfErr result
+        (λ e. LacksMemoryOr (A.refusals allocator) (A.refusals e.1) e.0
+        (RefusesCopy (reading B.ReaderArena from.entry) lim.old.left room e.0)) }
+    ensures unread { OnErr result (lim.new ≡ lim.old) }
+{
+    let mut made = BuilderArenaImpl::new(alloc, allocator);
+    if let Err(kind) = make_root(&mut made, room) {
+        return Err((kind, made.into_allocator()));
+    }
+    let (mut segments, allocator) = made.without_allocator();
+    let copied = copy_to_segment(&mut segments, from, lim.left(), room);
+    let made = segments.with_allocator(allocator);
+    match copied {
+        Ok(own) => {
+            settle(lim, own);
+            Ok(made)
+        }
+        Err(kind) => Err((kind, made.into_allocator())),
+    }
+}
+
+/// Whether a refusal says that something would be too large.
+fn is_too_large(kind: ErrorKind) -> bool
+    ensures { result ≡ is_message_too_large kind }
+{
+    matches!(kind, ErrorKind::MessageTooLarge(_))
+}
+
+/// The room of the first try: the words of the input and one more, up to the greatest segment.
+fn first_room(words: usize) -> u32
+    ensures room { result ≡ room_of_try words 0 }
+    ensures some { 1 ≤ result }
+    ensures most { result ≤ max_segment_words }
+{
+    if words < MAX_SEGMENT_WORDS as usize {
+        words as u32 + 1
+    } else {
+        MAX_SEGMENT_WORDS
+    }
+}
+
+/// The room of the try behind one with this room: twice as much, up to the greatest segment.
+fn next_room(room: u32) -> u32
+    requires { room ≤ max_segment_words }
+    ensures { result ≡ min (2 * room) max_segment_words }
+{
+    (2 * room).min(MAX_SEGMENT_WORDS)
+}
+
+/// How many words there are where a pointer is read: those of an arena, else none.
+fn words_of_source<B: ReaderArena>(from: &PointerReader<'_, B>) -> usize
+    ensures { result ≡ words_read (reading B.ReaderArena from.now) }
+{
+    match from.source {
+        Source::Arena(arena) => arena.size_in_words(),
+        _ => 0,
+    }
+}
+
+/// Makes what a pointer means canonical: a message of one segment, its canonical words
+/// ("Canonicalization"), with memory of an allocator. A refusal gives the allocator back, and leaves
+/// the limiter as it was.
+///
+/// The limiter is charged what the copy costs, and counts each pointer that isn't null, once, however
+/// many tries it takes to find the room: the first asks for the words of the message that is read and
+/// one more, each further one for twice those of the one before. More than 536,870,911 words are
+/// `MessageTooLarge(536870911)`. `AllocationFailed` is want of memory, which the allocator has counted.
+pub fn copy_canonical_with<A: Allocator, B: ReaderArena>(
+    alloc: Global,
+    allocator: A,
+    from: PointerReader<'_, B>,
+    lim: &mut ReadLimiter,
+) -> Result<BuilderArenaImpl<A>, (ErrorKind, A)>
+    ensures copied { IfOk result (λ made. (t : Tree)
+        × Reads canonical (reading B.ReaderArena from.entry) lim.old lim.new t
+        × HoldsCanonicalWords (⟦<BuilderArenaImpl<A> as BuilderArena>⟧.view made) t) }
+    ensures tries { IfOk result (λ made. IsMadeByFirstTry (reading B.ReaderArena from.entry)
+        (A.offers allocator)
+        ((⟦<BuilderArenaImpl<A> as BuilderArena>⟧.view made).room 0)) }
+    ensures granted { IfOk result (λ made.
+        (⟦<BuilderArenaImpl<A> as BuilderArena>⟧.view made).refusals ≡ A.refusals allocator) }
+    ensures refused { IfErr result
+        (λ e. LacksMemoryOr (A.refusals allocator) (A.refusals e.1) e.0
+        (RefusesCopy (reading B.ReaderArena from.entry) lim.old.left max_segment_words e.0)) }
+    ensures unread { OnErr result (lim.new ≡ lim.old) }
+{
+    let mut room = first_room(words_of_source(&from));
+    let mut unused = allocator;
+    loop {
+        match copy_to_message(alloc, unused, from, lim, room) {
+            Ok(made) => return Ok(made),
+            Err((kind, returned)) => {
+                if room == MAX_SEGMENT_WORDS || !is_too_large(kind) {
+                    return Err((kind, returned));
+                }
+                unused = returned;
+                room = next_room(room);
+            }
+        }
+    }
+}
+
+/// A message in canonical form, in a segment on the heap.
+pub type CanonicalCopy = BuilderArenaImpl<HeapAllocator>;
+
+/// The same as `copy_canonical_with`, with memory of the heap: just as many words as each try asks for.
+pub fn copy_canonical<B: ReaderArena>(
+    alloc: Global,
+    from: PointerReader<'_, B>,
+    lim: &mut ReadLimiter,
+) -> Result<CanonicalCopy, ErrorKind>
+    ensures copied { IfOk result (λ made. (t : Tree)
+        × Reads canonical (reading B.ReaderArena from.entry) lim.old lim.new t
+        × HoldsCanonicalWords (⟦<CanonicalCopy as BuilderArena>⟧.view made) t) }
+    ensures tries { IfOk result (λ made. IsMadeByFirstTry (reading B.ReaderArena from.entry)
+        as_asked ((⟦<CanonicalCopy as BuilderArena>⟧.view made).room 0)) }
+    ensures refused { IfErr result (λ k. (k ≡ AllocationFailed)
+        ⊎ RefusesCopy (reading B.ReaderArena from.entry) lim.old.left max_segment_words k) }
+    ensures unread { OnErr result (lim.new ≡ lim.old) }
+{
+    match copy_canonical_with(alloc, HeapAllocator::new(alloc, 0), from, lim) {
+        Ok(made) => Ok(made),
+        Err((kind, _)) => Err(kind),
+    }
+}

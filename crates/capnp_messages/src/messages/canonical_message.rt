@@ -1,0 +1,48 @@
+//! Whether a whole message is in canonical form ("Canonicalization").
+ghost use Rattle.std.specs.Prelude.{◌≡◌, ◌↔◌, false, true, length, Ok, IsTrue, IsOk, IfOk, OnOk, IfErr};
+ghost use Rattle.capnp_words.specs.Meter.{spent};
+ghost use Rattle.capnp_format.specs.Bytes.{message};
+ghost use Rattle.capnp_objects.specs.Source.{levels};
+ghost use Rattle.capnp_readers.specs.Readers.{reading};
+ghost use Rattle.capnp_messages.specs.Roots.{CoversRoot, RefusesRoot, message_root};
+ghost use Rattle.capnp_messages.specs.CanonicalMessages.{CanBeTested, IsCanonicalMessage, IsPaid, MessageTestFails, RefusesTest};
+
+use super::message_fault::canonical_fault;
+use capnp_arena::arena::{ReaderArena, ReaderArenaImpl, ReaderSegments};
+use capnp_words::error::ErrorKind;
+use capnp_words::read_limiter::ReadLimiter;
+
+/// Whether a message is canonical as a whole: one segment, which holds the canonical words of a value and
+/// nothing else ("Canonicalization"). So two canonical messages are equal exactly if their values are.
+///
+/// Where there isn't exactly one segment it is not, and nothing is read. Else the root pointer is read,
+/// which costs a word, and what it leads to is tested as by `PointerReader::is_canonical`: it is
+/// charged, takes levels and is refused so. It is answered for each canonical message whose value is no
+/// deeper than the arena's nesting limit, where the limiter covers its cost and the word for the root.
+pub fn is_canonical_message<S: ReaderSegments>(
+    arena: &ReaderArenaImpl<S>,
+    lim: &mut ReadLimiter,
+) -> Result<bool, ErrorKind>
+    ensures exactly { IfOk result (λ yes. IsTrue yes
+        ↔ IsCanonicalMessage (message (⟦<ReaderArenaImpl<S> as ReaderArena>⟧.segments arena.now))) }
+    ensures unread { (length (⟦<ReaderArenaImpl<S> as ReaderArena>⟧.segments arena.now) ≡ 1 → ⊥)
+        → (result ≡ Ok false) × (lim.new ≡ lim.old) }
+    ensures paid { result ≡ Ok true →
+        IsPaid (message (⟦<ReaderArenaImpl<S> as ReaderArena>⟧.segments arena.now))
+        lim.old lim.new }
+    ensures answered { CanBeTested (message
+        (⟦<ReaderArenaImpl<S> as ReaderArena>⟧.segments arena.now))
+        (levels arena.now.nesting_limit) lim.old
+        → IsOk result }
+    ensures failed { result ≡ Ok false
+        → length (⟦<ReaderArenaImpl<S> as ReaderArena>⟧.segments arena.now) ≡ 1 →
+        MessageTestFails (message (⟦<ReaderArenaImpl<S> as ReaderArena>⟧.segments arena.now))
+        (levels arena.now.nesting_limit)
+        lim.old lim.new }
+    ensures refused { IfErr result (
+        RefusesTest (message (⟦<ReaderArenaImpl<S> as ReaderArena>⟧.segments arena.now))
+        (levels arena.now.nesting_limit)
+        lim.old lim.new) }
+{
+    Ok(canonical_fault(arena, lim)?.is_none())
+}

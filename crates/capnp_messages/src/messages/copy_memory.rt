@@ -1,0 +1,160 @@
+//! Memory for copies that are made one after the other.
+ghost use Rattle.std.specs.Prelude.{◌≡◌, ◌==◌, ◌≤◌, ◌+◌, length, true, vec_len};
+ghost use Rattle.std.specs.Vec.{vec_capacity};
+
+use capnp_arena::arena::{Allocator, MAX_SEGMENT_WORDS, Segment};
+use capnp_words::error::ErrorKind;
+use std::alloc::{AllocError, Global};
+use std::mem;
+
+/// How many bytes are made zero at once where fewer are needed: as many as stay in a processor's cache until they are written.
+const PIECE: usize = 64 * 1024;
+
+/// A segment on the heap, whose memory can be used again. It is reserved at once, and made zero as words are allocated, 64 KiB or more
+/// at a time: what lies behind these is never touched.
+#[derive(Drop)]
+pub struct CopySegment {
+    /// The bytes that are ready, in memory that has room for the others.
+    bytes: Vec<u8>,
+    /// How many bytes there are besides.
+    unready: usize,
+    ghost room: { vec_len bytes + unready ≤ vec_capacity bytes },
+}
+
+impl CopySegment {
+    ghost use Rattle.capnp_messages.specs.CopyMemory.{copy_content};
+
+    /// Makes at least so many bytes ready.
+    #[cold]
+    #[inline(never)]
+    fn zero_up_to(&mut self, bytes: usize)
+        requires { bytes ≤ length (copy_content self.old) }
+        ensures ready { bytes ≤ length self.new.bytes.items }
+        ensures content { copy_content self.new ≡ copy_content self.old }
+    {
+        let missing = bytes.saturating_sub(self.bytes.len());
+        let more = missing.max(PIECE).min(self.unready);
+        let ready = self.bytes.len() + more;
+        self.unready -= more;
+        match self.bytes.resize(ready, 0) {
+            Ok(()) => {}
+            // Never: it has the capacity for them.
+            Err(AllocError) => {}
+        }
+    }
+}
+
+impl Segment for CopySegment {
+    ghost use Rattle.capnp_messages.specs.CopyMemory.{copy_content, copy_zeros_behind, with_copy_bytes, with_copy_bytes-as_long, with_copy_bytes-holds};
+
+    ghost content = { copy_content };
+
+    ghost ready = { λ s. s.bytes.items };
+
+    ghost with_ready = { with_copy_bytes };
+
+    ghost holds = { with_copy_bytes-holds };
+
+    ghost as_long = { with_copy_bytes-as_long };
+
+    ghost zeros_behind = { copy_zeros_behind };
+
+    fn empty(alloc: Global) -> Self {
+        CopySegment {
+            bytes: Vec::new(alloc),
+            unready: 0,
+        }
+    }
+
+    fn len(&self) -> usize {
+        self.bytes.len() + self.unready
+    }
+
+    fn bytes(&self) -> &[u8] {
+        self.bytes.as_slice()
+    }
+
+    fn bytes_mut(&mut self) -> &mut [u8] {
+        self.bytes.as_mut_slice()
+    }
+
+    #[inline(always)]
+    fn make_ready(&mut self, bytes: usize) {
+        if bytes > self.bytes.len() {
+            self.zero_up_to(bytes);
+        }
+    }
+}
+
+/// Makes segments on the heap, each of what is asked for. The memory of the one that was given back last is kept for
+/// the next one: a message of one segment takes none where one as large was made before.
+#[derive(Drop)]
+pub struct CopyMemory {
+    alloc: Global,
+    kept: Vec<u8>,
+    refused: u64,
+}
+
+impl CopyMemory {
+    /// Nothing is kept yet, and nothing refused.
+    pub fn new(alloc: Global) -> Self
+        ensures refused { result.refused ≡ 0 }
+    {
+        CopyMemory {
+            alloc,
+            kept: Vec::new(alloc),
+            refused: 0,
+        }
+    }
+}
+
+impl Allocator for CopyMemory {
+    type Segment = CopySegment;
+
+    ghost first_in_arena = { true };
+
+    #[inline(always)]
+    fn keeps_first_in_arena() -> bool {
+        true
+    }
+
+    ghost refusals = { λ a. a.refused };
+
+    ghost offers = { λ _ asked words. words == asked };
+
+    fn allocate_segment(&mut self, min_words: u32) -> Result<CopySegment, ErrorKind> {
+        if min_words > MAX_SEGMENT_WORDS {
+            return Err(ErrorKind::MessageTooLarge(min_words as usize));
+        }
+        let mut bytes = mem::replace(&mut self.kept, Vec::new(self.alloc));
+        bytes.clear();
+        let unready = 8 * min_words as usize;
+        match bytes.reserve(unready) {
+            Ok(()) => Ok(CopySegment { bytes, unready }),
+            Err(AllocError) => {
+                self.refused = self.refused.saturating_add(1);
+                Err(ErrorKind::AllocationFailed)
+            }
+        }
+    }
+
+    fn deallocate_segment(&mut self, segment: CopySegment, _used_words: u32) {
+        let CopySegment { bytes, unready: _ } = segment;
+        self.kept = bytes;
+    }
+
+    fn keep<T>(&mut self, list: &mut Vec<T>, row: T) -> Option<T> {
+        match list.push(row) {
+            Ok(()) => None,
+            Err(e) => {
+                self.refused = self.refused.saturating_add(1);
+                let row = e.value;
+                Some(row)
+            }
+        }
+    }
+
+    fn refused(&self) -> u64 {
+        self.refused
+    }
+}

@@ -1,0 +1,107 @@
+//! Where and why a whole message isn't in canonical form ("Canonicalization").
+ghost use Rattle.std.specs.Prelude.{◌≡◌, ◌≢◌, ◌↔◌, None, Some, Ok, length, min, IsNone, IsOk, IfNone, IfSome, IfOk, OnOk, IfErr};
+ghost use Rattle.capnp_words.specs.Meter.{spent};
+ghost use Rattle.capnp_format.specs.Bytes.{message};
+ghost use Rattle.capnp_objects.specs.Source.{levels};
+ghost use Rattle.capnp_readers.specs.Faults.{FaultIs};
+ghost use Rattle.capnp_readers.specs.Readers.{reading};
+ghost use Rattle.capnp_messages.specs.Roots.{CoversRoot, RefusesRoot, message_root};
+ghost use Rattle.capnp_messages.specs.CanonicalMessages.{CanBeTested, IsCanonicalMessage, IsMessageFault, IsPaid, IsRootFault, RefusesTest};
+
+use super::root::read_root;
+use capnp_arena::arena::{ReaderArena, ReaderArenaImpl, ReaderSegments};
+use capnp_readers::readers::{CanonicalFault, CanonicalFaultReason};
+use capnp_words::error::ErrorKind;
+use capnp_words::read_limiter::ReadLimiter;
+
+/// The fault of a message that hasn't exactly one segment.
+fn segment_count_fault<A: ReaderArena>(arena: &A) -> Option<CanonicalFault>
+    ensures one { IsNone result ↔ (length (A.segments arena.now) ≡ 1) }
+    ensures other { IfSome result (λ f. (length (A.segments arena.now) ≢ 1)
+        × FaultIs f CanonicalFaultReason.SegmentCount (min 1 (length (A.segments arena.now))) 0) }
+{
+    let is_empty = arena.get_segment(0).is_err();
+    if !is_empty && arena.get_segment(1).is_err() {
+        return None;
+    }
+    Some(CanonicalFault {
+        segment: if is_empty { 0 } else { 1 },
+        word: 0,
+        reason: CanonicalFaultReason::SegmentCount,
+    })
+}
+
+/// Where and why the words of the only segment aren't the canonical ones of a value.
+fn segment_fault<S: ReaderSegments>(
+    arena: &ReaderArenaImpl<S>,
+    lim: &mut ReadLimiter,
+) -> Result<Option<CanonicalFault>, ErrorKind>
+    requires { length (⟦<ReaderArenaImpl<S> as ReaderArena>⟧.segments arena.now) ≡ 1 }
+    ensures exactly { IfOk result (λ o. IsNone o
+        ↔ IsCanonicalMessage (message (⟦<ReaderArenaImpl<S> as ReaderArena>⟧.segments arena.now))) }
+    ensures paid { IfOk result (λ o. IfNone o (
+        IsPaid (message (⟦<ReaderArenaImpl<S> as ReaderArena>⟧.segments arena.now))
+        lim.old lim.new)) }
+    ensures answered { CanBeTested (message
+        (⟦<ReaderArenaImpl<S> as ReaderArena>⟧.segments arena.now))
+        (levels arena.now.nesting_limit) lim.old
+        → IsOk result }
+    ensures fault { IfOk result (λ o. IfSome o (λ f.
+        IsRootFault f (message (⟦<ReaderArenaImpl<S> as ReaderArena>⟧.segments arena.now))
+        (levels arena.now.nesting_limit)
+        lim.old lim.new)) }
+    ensures refused { IfErr result (
+        RefusesTest (message (⟦<ReaderArenaImpl<S> as ReaderArena>⟧.segments arena.now))
+        (levels arena.now.nesting_limit)
+        lim.old lim.new) }
+{
+    let root = read_root(arena, lim)?;
+    let mut head = 1;
+    if let Some(fault) = root.canonical_fault(lim, &mut head)? {
+        return Ok(Some(fault));
+    }
+    if head as usize == arena.size_in_words() {
+        return Ok(None);
+    }
+    Ok(Some(CanonicalFault {
+        segment: 0,
+        word: head,
+        reason: CanonicalFaultReason::WordsBehind,
+    }))
+}
+
+/// Where and why a message isn't canonical as a whole, or `None` where it is: `is_canonical_message` with
+/// the place of the no. What is read, charged and refused is as there.
+///
+/// The fault is the first that is met: that there isn't exactly one segment, then that of
+/// `PointerReader::canonical_fault` at the root, at last that there are words behind the value. Its
+/// reason is true of the word that it names.
+pub fn canonical_fault<S: ReaderSegments>(
+    arena: &ReaderArenaImpl<S>,
+    lim: &mut ReadLimiter,
+) -> Result<Option<CanonicalFault>, ErrorKind>
+    ensures exactly { IfOk result (λ o. IsNone o
+        ↔ IsCanonicalMessage (message (⟦<ReaderArenaImpl<S> as ReaderArena>⟧.segments arena.now))) }
+    ensures paid { IfOk result (λ o. IfNone o (
+        IsPaid (message (⟦<ReaderArenaImpl<S> as ReaderArena>⟧.segments arena.now))
+        lim.old lim.new)) }
+    ensures answered { CanBeTested (message
+        (⟦<ReaderArenaImpl<S> as ReaderArena>⟧.segments arena.now))
+        (levels arena.now.nesting_limit) lim.old
+        → IsOk result }
+    ensures fault { IfOk result (λ o. IfSome o (λ f.
+        IsMessageFault f (message (⟦<ReaderArenaImpl<S> as ReaderArena>⟧.segments arena.now))
+        (levels arena.now.nesting_limit)
+        lim.old lim.new)) }
+    ensures unread { (length (⟦<ReaderArenaImpl<S> as ReaderArena>⟧.segments arena.now) ≡ 1 → ⊥)
+        → IsOk result × (lim.new ≡ lim.old) }
+    ensures refused { IfErr result (
+        RefusesTest (message (⟦<ReaderArenaImpl<S> as ReaderArena>⟧.segments arena.now))
+        (levels arena.now.nesting_limit)
+        lim.old lim.new) }
+{
+    match segment_count_fault(arena) {
+        Some(fault) => Ok(Some(fault)),
+        None => segment_fault(arena, lim),
+    }
+}

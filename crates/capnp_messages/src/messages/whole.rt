@@ -1,0 +1,130 @@
+//! What is said of a whole message, whatever holds its segments: its canonical copy, the test for
+//! canonical form, its size.
+ghost use Rattle.std.specs.Prelude.{◌≡◌, ◌⊎◌, ◌↔◌, IsOk, IfOk, IfSome, IfErr, IsNone, IsTrue};
+ghost use Rattle.capnp_words.specs.declared.error.ErrorKind.TheVariants.{AllocationFailed};
+ghost use Rattle.capnp_format.specs.Bytes.{message};
+ghost use Rattle.capnp_format.specs.Tree.{Tree};
+ghost use Rattle.capnp_arena_traits.specs.Limits.{IsSmall};
+ghost use Rattle.capnp_messages.specs.Copies.{HoldsCanonicalWords, LacksMemoryOr};
+ghost use Rattle.capnp_messages.specs.CanonicalMessages.{IsCanonicalMessage};
+ghost use Rattle.capnp_messages.specs.Tries.{IsMadeByFirstTry, as_asked};
+ghost use Rattle.capnp_messages.specs.Messages.{HasSizeOf, HasSizeWithin, IsFaultOf, IsValueOf, RefusesCanon, RefusesCheck, RefusesSize, root_within};
+
+use super::canonical_copy::{CanonicalCopy, copy_canonical_with};
+use super::message_fault::canonical_fault;
+use super::root::read_root;
+use capnp_arena::arena::{
+    Allocator, BuilderArena, BuilderArenaImpl, HeapAllocator, ReaderArenaImpl, ReaderOptions,
+    ReaderSegments,
+};
+use capnp_readers::readers::{CanonicalFault, MessageSize};
+use capnp_words::error::ErrorKind;
+use capnp_words::read_limiter::ReadLimiter;
+use std::alloc::Global;
+
+/// Makes the value of a message canonical: a message of one segment, its canonical words
+/// ("Canonicalization"), with memory of an allocator. A refusal gives the allocator back.
+///
+/// The value is read within the limits, from the root on, whose word costs one. Want of memory is
+/// `AllocationFailed`, which the allocator has counted; more than 536,870,911 canonical words are
+/// `MessageTooLarge(536870911)`.
+pub fn canonical_with<A: Allocator, S: ReaderSegments + Drop>(
+    alloc: Global,
+    allocator: A,
+    segments: S,
+    limits: ReaderOptions,
+) -> Result<BuilderArenaImpl<A>, (ErrorKind, A)>
+    requires { IsSmall (S.segments segments) }
+    ensures copied { IfOk result (λ made. (t : Tree)
+        × IsValueOf (message (S.segments segments)) limits t
+        × HoldsCanonicalWords (⟦<BuilderArenaImpl<A> as BuilderArena>⟧.view made) t) }
+    ensures tries { IfOk result (λ made.
+        IsMadeByFirstTry (root_within (message (S.segments segments)) limits)
+        (A.offers allocator) ((⟦<BuilderArenaImpl<A> as BuilderArena>⟧.view made).room 0)) }
+    ensures granted { IfOk result (λ made.
+        (⟦<BuilderArenaImpl<A> as BuilderArena>⟧.view made).refusals ≡ A.refusals allocator) }
+    ensures refused { IfErr result
+        (λ e. LacksMemoryOr (A.refusals allocator) (A.refusals e.1) e.0
+        (RefusesCanon (message (S.segments segments)) limits e.0)) }
+{
+    let arena = ReaderArenaImpl::new(segments, limits);
+    let mut lim = ReadLimiter::new(limits.traversal_limit_in_words);
+    match read_root(&arena, &mut lim) {
+        Ok(root) => copy_canonical_with(alloc, allocator, root, &mut lim),
+        Err(kind) => Err((kind, allocator)),
+    }
+}
+
+/// The same, with memory of the heap.
+pub fn canonical_of<S: ReaderSegments + Drop>(
+    alloc: Global,
+    segments: S,
+    limits: ReaderOptions,
+) -> Result<CanonicalCopy, ErrorKind>
+    requires { IsSmall (S.segments segments) }
+    ensures copied { IfOk result (λ made. (t : Tree)
+        × IsValueOf (message (S.segments segments)) limits t
+        × HoldsCanonicalWords (⟦<CanonicalCopy as BuilderArena>⟧.view made) t) }
+    ensures tries { IfOk result (λ made.
+        IsMadeByFirstTry (root_within (message (S.segments segments)) limits)
+        as_asked ((⟦<CanonicalCopy as BuilderArena>⟧.view made).room 0)) }
+    ensures refused { IfErr result (λ k. (k ≡ AllocationFailed)
+        ⊎ RefusesCanon (message (S.segments segments)) limits k) }
+{
+    match canonical_with(alloc, HeapAllocator::new(alloc, 0), segments, limits) {
+        Ok(made) => Ok(made),
+        Err((kind, _)) => Err(kind),
+    }
+}
+
+/// Where and why a message isn't canonical as a whole, or `None` where it is: one segment, which
+/// holds the canonical words of a value and nothing else ("Canonicalization"). It takes no memory.
+///
+/// The fault is the first that is met, as of `canonical_fault`. A message of one segment
+/// is read within the limits, and no other is refused.
+pub fn canonical_fault_of<S: ReaderSegments + Drop>(
+    segments: S,
+    limits: ReaderOptions,
+) -> Result<Option<CanonicalFault>, ErrorKind>
+    requires { IsSmall (S.segments segments) }
+    ensures exactly { IfOk result (λ o. IsNone o
+        ↔ IsCanonicalMessage (message (S.segments segments))) }
+    ensures fault { IfOk result (λ o. IfSome o (IsFaultOf (message (S.segments segments)) limits)) }
+    ensures refused { IfErr result (RefusesCheck (message (S.segments segments)) limits) }
+{
+    let arena = ReaderArenaImpl::new(segments, limits);
+    let mut lim = ReadLimiter::new(limits.traversal_limit_in_words);
+    canonical_fault(&arena, &mut lim)
+}
+
+/// Whether a message is canonical as a whole, as `canonical_fault_of` has it. It takes no memory.
+pub fn is_canonical<S: ReaderSegments + Drop>(
+    segments: S,
+    limits: ReaderOptions,
+) -> Result<bool, ErrorKind>
+    requires { IsSmall (S.segments segments) }
+    ensures exactly { IfOk result (λ holds. IsTrue holds
+        ↔ IsCanonicalMessage (message (S.segments segments))) }
+    ensures refused { IfErr result (RefusesCheck (message (S.segments segments)) limits) }
+{
+    let fault = canonical_fault_of(segments, limits)?;
+    Ok(fault.is_none())
+}
+
+/// How many words and capabilities the root of a message leads to, without landing pads ("Structs",
+/// "Lists"). It takes no memory.
+pub fn size_of<S: ReaderSegments + Drop>(
+    segments: S,
+    limits: ReaderOptions,
+) -> Result<MessageSize, ErrorKind>
+    requires { IsSmall (S.segments segments) }
+    ensures exactly { IsOk result ↔ HasSizeWithin (message (S.segments segments)) limits }
+    ensures size { IfOk result (λ z.
+        HasSizeOf (message (S.segments segments)) limits z.word_count z.cap_count) }
+    ensures refused { IfErr result (RefusesSize (message (S.segments segments)) limits) }
+{
+    let arena = ReaderArenaImpl::new(segments, limits);
+    let mut lim = ReadLimiter::new(limits.traversal_limit_in_words);
+    let root = read_root(&arena, &mut lim)?;
+    root.total_size(&mut lim)
+}

@@ -1,0 +1,117 @@
+//! A message made canonical and written as a frame ("Canonicalization", "Serialization Over a Stream").
+ghost use Rattle.std.specs.Prelude.{◌≡◌, ◌⊎◌, ◌∷◌, ◌<◌, ◌≤◌, ◌*◌, ◌/◌, ◌^◌, [], ℕ, List, false, true, length, OnOk, IfErr};
+ghost use Rattle.capnp_words.specs.declared.error.ErrorKind.{ErrorKind};
+ghost use Rattle.capnp_words.specs.declared.error.ErrorKind.TheVariants.{AllocationFailed};
+ghost use Rattle.capnp_format.specs.Bytes.{message, words_of};
+ghost use Rattle.capnp_format.specs.Canonical.{encoding, trim};
+ghost use Rattle.capnp_format.specs.Tree.{Tree};
+ghost use Rattle.capnp_arena_traits.specs.Allocations.{max_segment_words};
+ghost use Rattle.capnp_framing.specs.Frames.{bytes_of_words, frame};
+ghost use Rattle.capnp_framing.specs.Writing.{IsUnwritten, Prints};
+ghost use Rattle.capnp_framing.specs.declared.framing.frame_error.FrameError.{FrameError};
+ghost use Rattle.capnp_framing.specs.declared.framing.frame_error.FrameError.TheVariants.{WriteFailed};
+ghost use Rattle.capnp_objects.specs.Outcomes.{Reads};
+ghost use Rattle.capnp_objects.specs.Wanted.{canonical};
+ghost use Rattle.capnp_readers.specs.Readers.{reading};
+ghost use Rattle.capnp_messages.specs.Copies.{RefusesCopy};
+
+use super::canonical_copy::copy_canonical_with;
+use super::canonical_error::CanonicalError;
+use super::copy_memory::CopyMemory;
+use capnp_arena::arena::{Allocator, BuilderArena, BuilderArenaImpl, OutputSegments, ReaderArena};
+use capnp_framing::devices::Output;
+use capnp_framing::framing::write;
+use capnp_readers::readers::PointerReader;
+use capnp_words::read_limiter::ReadLimiter;
+use capnp_words::words::{count, part};
+use std::alloc::Global;
+
+/// Bytes are those of their words. It does nothing; its contract says so.
+fn are_words(bytes: &[u8])
+    requires { length bytes.now ≡ 8 * length (words_of bytes.now) }
+    ensures { bytes_of_words (words_of bytes.now) ≡ bytes.now }
+{}
+
+/// The bytes of the whole words of a segment.
+fn whole_words(segment: &[u8]) -> &[u8]
+    ensures bytes { result.now ≡ bytes_of_words (words_of segment.now) }
+    ensures words { words_of result.now ≡ words_of segment.now }
+    ensures shorter { length result.now ≤ 8 * (length segment.now / 8) }
+{
+    let words = part(segment, 0, count(segment));
+    are_words(words);
+    words
+}
+
+/// The bytes of a message of one segment, eight for each word.
+pub fn canonical_bytes<A: Allocator>(made: &BuilderArenaImpl<A>) -> &[u8]
+    requires { length (⟦<BuilderArenaImpl<A> as ReaderArena>⟧.segments made.now) ≡ 1 }
+    ensures bytes { (words : List ℕ) →
+        (⟦<BuilderArenaImpl<A> as BuilderArena>⟧.view made.now).words ≡ words ∷ []
+        → result.now ≡ bytes_of_words words }
+    ensures words { message (⟦<BuilderArenaImpl<A> as ReaderArena>⟧.segments made.now)
+        ≡ words_of result.now ∷ [] }
+    ensures short { length result.now < 2 ^ 35 }
+{
+    match made.get_segments_for_output() {
+        Ok(OutputSegments::SingleSegment(segment)) => whole_words(segment),
+        _ => &[],
+    }
+}
+
+/// Writes a message of one segment as a frame. The refusal is the output's.
+pub fn write_copy<W: Output, A: Allocator>(
+    output: &mut W,
+    made: &BuilderArenaImpl<A>,
+) -> Result<(), CanonicalError>
+    requires works { W.has_failed output.old ≡ false }
+    requires single { length (⟦<BuilderArenaImpl<A> as ReaderArena>⟧.segments made.now) ≡ 1 }
+    ensures written { OnOk result (Prints W.Output output.old output.new
+        (frame (⟦<BuilderArenaImpl<A> as BuilderArena>⟧.view made.now).words)) }
+    ensures works { OnOk result (W.has_failed output.new ≡ false) }
+    ensures refused { IfErr result (λ e. (e ≡ CanonicalError.Frame WriteFailed)
+        × (W.has_failed output.new ≡ true)) }
+{
+    match made.get_segments_for_output() {
+        Ok(segments) => match write(output, &segments) {
+            Ok(()) => Ok(()),
+            Err(error) => Err(CanonicalError::Frame(error)),
+        },
+        Err(kind) => Err(CanonicalError::Layout(kind)),
+    }
+}
+
+/// Writes what a pointer means as the frame of a canonical message: one segment, its canonical words.
+///
+/// The limiter is charged what the copy costs, and counts each pointer that isn't null, once, however
+/// many tries it takes to find the room. A value that isn't copied is `Layout`, with the refusal of the
+/// copy; nothing is written, and the limiter is left as it was. More than 536,870,911 words are
+/// `MessageTooLarge(536870911)`. `Frame` says that the output has failed; how much it took isn't said,
+/// and the copy is charged.
+pub fn write_canonical<W: Output, B: ReaderArena>(
+    alloc: Global,
+    output: &mut W,
+    from: PointerReader<'_, B>,
+    lim: &mut ReadLimiter,
+) -> Result<(), CanonicalError>
+    requires { W.has_failed output.old ≡ false }
+    ensures written { OnOk result ((t : Tree)
+        × Reads canonical (reading B.ReaderArena from.entry) lim.old lim.new t
+        × Prints W.Output output.old output.new (frame (encoding (trim t) ∷ []))) }
+    ensures works { OnOk result (W.has_failed output.new ≡ false) }
+    ensures layout { IfErr result (λ e. (k : ErrorKind) → e ≡ CanonicalError.Layout k →
+        ((k ≡ AllocationFailed)
+        ⊎ RefusesCopy (reading B.ReaderArena from.entry) lim.old.left max_segment_words k)
+        × IsUnwritten W.Output output.old output.new) }
+    ensures unread { IfErr result (λ e. (k : ErrorKind) → e ≡ CanonicalError.Layout k
+        → lim.new ≡ lim.old) }
+    ensures frame { IfErr result (λ e. (f : FrameError) → e ≡ CanonicalError.Frame f →
+        (f ≡ WriteFailed) × (W.has_failed output.new ≡ true)) }
+    ensures charged { IfErr result (λ e. (f : FrameError) → e ≡ CanonicalError.Frame f →
+        (t : Tree) × Reads canonical (reading B.ReaderArena from.entry) lim.old lim.new t) }
+{
+    match copy_canonical_with(alloc, CopyMemory::new(alloc), from, lim) {
+        Ok(made) => write_copy(output, &made),
+        Err((kind, _)) => Err(CanonicalError::Layout(kind)),
+    }
+}

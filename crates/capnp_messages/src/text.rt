@@ -1,0 +1,61 @@
+//! The limits of a reader as words of a command, and numbers and sizes as lines.
+ghost use Rattle.std.specs.Prelude.{◌≡◌, false, Option, IfSome, IsNone, ℤ, ℕ};
+ghost use Rattle.std.specs.Fmt.{decimal};
+ghost use Rattle.capnp_framing.specs.Writing.{Writes};
+ghost use Rattle.capnp_messages.specs.Text.{IsBudget, IsNesting, size_line};
+
+use capnp_framing::devices::{DeviceFault, Output, write_all};
+use capnp_readers::readers::MessageSize;
+
+/// Reads a nesting limit: an optional `-` and decimal digits; a `+` is refused.
+pub fn parse_nesting(text: &str) -> Option<i32>
+    ensures read { IfSome result (λ n. IsNesting text.now n) }
+    ensures none { IsNone result → (n : ℤ) → IsNesting text.now n → ⊥ }
+{
+    if text.starts_with('+') {
+        None
+    } else {
+        text.parse().ok()
+    }
+}
+
+/// Reads a traversal limit: decimal digits, or `none`; a `+` is refused.
+pub fn parse_budget(text: &str) -> Option<Option<usize>>
+    ensures read { IfSome result (λ n. IsBudget text.now n) }
+    ensures none { IsNone result → (n : Option ℕ) → IsBudget text.now n → ⊥ }
+{
+    if text == "none" {
+        return Some(None);
+    }
+    if text.starts_with('+') {
+        return None;
+    }
+    match text.parse() {
+        Ok(n) => Some(Some(n)),
+        Err(_) => None,
+    }
+}
+
+/// Writes a number in decimal digits.
+pub fn write_number<W: Output>(output: &mut W, n: u64) -> Result<(), DeviceFault>
+    requires { W.has_failed output.old ≡ false }
+    ensures { Writes W.Output result output.old output.new (decimal n) }
+{
+    if n >= 10 {
+        write_number(output, n / 10)?;
+    }
+    write_all(output, &[b'0' + (n % 10) as u8])
+}
+
+/// Writes the line of a size, `words N caps M`.
+pub fn write_size<W: Output>(output: &mut W, size: MessageSize) -> Result<(), DeviceFault>
+    requires { W.has_failed output.old ≡ false }
+    ensures { Writes W.Output result output.old output.new
+        (size_line size.word_count size.cap_count) }
+{
+    write_all(output, b"words ")?;
+    write_number(output, size.word_count)?;
+    write_all(output, b" caps ")?;
+    write_number(output, u64::from(size.cap_count))?;
+    write_all(output, b"\n")
+}
