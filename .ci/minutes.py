@@ -30,7 +30,7 @@ def first_proof(crate):
     """The processor minutes of a proof of the crate alone, or None if it isn't proved. `rt verdict` takes nothing that an earlier check kept."""
     with tempfile.TemporaryDirectory(prefix='first-proof-') as room:
         top = pathlib.Path(room)
-        shutil.copytree(TOP / 'crates' / crate, top / 'crates' / crate, ignore=shutil.ignore_patterns('out', 'must-fail'))
+        shutil.copytree(TOP / 'crates' / crate, top / 'crates' / crate, ignore=shutil.ignore_patterns('out'))
         shutil.copy2(TOP / 'HANDLES', top)
         (top / 'crates.txt').write_text(f'{crate}:\n', encoding='utf-8')
         before = minutes()

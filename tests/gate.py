@@ -1,6 +1,7 @@
 #!/usr/bin/env python3
 """The gate: the names of definitions, what pages quote of the sources, what the header for C says, `rt ci`, and then the
-outside vectors, the rows, the hostile runs and the streams over the programs that it has just proved and built.
+must-fail edits over the libraries, and the outside vectors, the rows, the hostile runs and the streams over the programs
+that it has just proved and built.
 
     gate.py [--anew]
 
@@ -21,6 +22,8 @@ import re
 import shutil
 import subprocess
 import sys
+
+from edits.run import side_by_side
 
 TOP = pathlib.Path(__file__).resolve().parents[1]
 TOOL, ROWS, RUNS, CANON, STREAM_RUNS = PROGRAMS = [
@@ -45,13 +48,6 @@ def remove(path):
         shutil.rmtree(path)
     else:
         path.unlink(missing_ok=True)
-
-
-def side_by_side():
-    """How many checks run side by side: one a processor, and no more than memory holds at 4 GB each."""
-    free = re.search(r'MemAvailable:\s*(\d+)', pathlib.Path('/proc/meminfo').read_text(encoding='utf-8'))
-    held = int(free[1]) // 4_000_000 if free else 1
-    return max(min(len(os.sched_getaffinity(0)), held), 1)
 
 
 def counted(name, command, **settings):
@@ -103,6 +99,7 @@ def main():
         counted('pages', [sys.executable, str(TOP / 'tests/theorem.py'), '--check']),
         counted('header', [sys.executable, str(TOP / 'tests/library/header.py')]),
         counted('rt ci', proving(sys.argv[1:]), RT_JOBS=str(side_by_side())),
+        counted('edits', [sys.executable, str(TOP / 'tests/edits/run.py')]),
         *(over_programs(*it) for it in OVER_PROGRAMS),
     ]
     passed, failed = (sum(it) for it in zip(*parts))

@@ -182,8 +182,8 @@ def lines_of(pattern, without=''):
 
 def tries():
     rows = (
-        ('bugs that the prover refuses', '`crates/*/must-fail/`', len(list(TOP.glob('crates/*/must-fail/*.edit')))),
-        ('further ones, tried by `./test --every-edit`', '`tests/edits/`', len(list(TOP.glob('tests/edits/*/*.edit')))),
+        ('bugs that the prover refuses, tried by `./test --every-edit`', '`tests/edits/`', len(list(TOP.glob('tests/edits/*/*.edit')))),
+        ('of these, tried by the gate', '`tests/edits/gate.txt`', len((TOP / 'tests/edits/gate.txt').read_text(encoding='utf-8').split())),
         ('outside vectors', '`tests/vectors/`', lines_of('tests/vectors/*.jsonl', 'worked.jsonl')),
         ('worked runs of `layout_tool`', '`tests/vectors/worked.jsonl`', lines_of('tests/vectors/worked.jsonl')),
         ('rows: calls of readers, builders and edits', '`tests/rows/`', lines_of('tests/rows/*.jsonl')),
