@@ -53,18 +53,17 @@ class BadEdit(Exception):
 
 @dataclasses.dataclass(frozen=True)
 class Function:
-    """A function in which an edit stands: its path, its file, its first and last line, and the cycle of functions that it is proved with."""
+    """A function in which an edit stands: its path, of which a method has the end from its type on, wherever that is declared; its file, its first and last
+    line, and the cycle of functions that it is proved with."""
     path: str
     file: str
     first: int
     last: int
     cycle: str
 
-    def folders(self):
-        """Where the answers for it stand."""
-        parts = self.path.split('::')
-        own = 'proofs/' + '/'.join(parts) + '/'
-        return (own, '/'.join(['proofs', *self.file[4:-3].split('/'), f'+{self.cycle}', ''])) if self.cycle else (own,)
+    def has_answer(self, file):
+        """Whether an answer for it stands in this file."""
+        return f'/{self.path.replace("::", "/")}/' in file or self.cycle and f'/+{self.cycle}/' in file
 
 
 @dataclasses.dataclass
@@ -123,7 +122,7 @@ def function_at(file, lines, number):
     first, last, head = found
     module = [it for it in file[4:-3].split('/') if it not in ('lib', 'main')]
     block = enclosing(lines, first - 1, BLOCK) if head[1] and first else None
-    path = '::'.join([*module, *([type_of(block[2][2])] if block else []), head[2]])
+    path = '::'.join([*([type_of(block[2][2])] if block else module), head[2]])
     cycle = ''
     while first and lines[first - 1].lstrip().startswith('#['):
         first -= 1
@@ -233,9 +232,9 @@ def open_goal(function, lines):
         said = SAID.match(line)
         if said and 'error' not in said[3] and not line.startswith('note: '):
             continue
-        if said and (said[1] == function.file and function.first <= int(said[2]) <= function.last or said[1].startswith(function.folders())):
+        if said and (said[1] == function.file and function.first <= int(said[2]) <= function.last or function.has_answer(said[1])):
             found.append(line.removeprefix('note: ').removeprefix('./'))
-    limit = next((it for it in lines if it.startswith('fn ') and f'::{function.path}: could not tell' in it), None)
+    limit = next((it for it in lines if it.startswith('fn ') and f'{function.path}: could not tell' in it), None)
     return next((it for it in found if not NAMES.search(it)), None) or next(iter(found), limit)
 
 
@@ -273,7 +272,7 @@ def tried(crates, edits):
     if len(edits) > 1:
         half = len(edits) // 2
         return tried(crates, edits[:half]) + tried(crates, edits[half:])
-    why = bad or next((it for it in lines if 'error' in it), lines[0])
+    why = bad or next((it for it in lines if re.search(r'\berror[:\[]', it)), lines[0])
     return [(edits[0], False, f'BAD EDIT: it did not reach the prover: {why}')]
 
 
