@@ -1,4 +1,4 @@
-use Rattle.std.proofs.Common.{◌≡◌, ℕ, slice_index, nat_eq, cond, pred, ◌+◌, ◌*◌, ◌-◌, ◌<◌, ◌≤◌, ◌↔◌, ◌⊎◌, IsTrue, length, Some, None, inl, inr, refl, sym, ap, ap₂, ◌∙◌, subst, arith, rules}
+use Rattle.std.proofs.Common.{◌≡◌, ℕ, slice_index, nat_eq, cond, pred, ◌+◌, ◌*◌, ◌-◌, ◌<◌, ◌≤◌, ◌↔◌, ◌⊎◌, IsTrue, OnOk, OnErr, length, Some, None, inl, inr, refl, sym, ap, ap₂, ◌∙◌, subst, arith, rules}
 use Rattle.std.proofs.lemmas.Bool.{false≢true, ne_eqb}
 use Rattle.std.proofs.lemmas.Int.{to_z-of_z}
 use mir.Syntax.{w32}
@@ -14,7 +14,7 @@ use Rattle.capnp_objects.specs.declared.object.Purpose.TheVariants.{Value}
 use Rattle.capnp_objects.proofs.Walked.{row_within}
 use Rattle.capnp_readers.specs.Sizes.{reading_on}
 use Rattle.capnp_readers.specs.Faults.{other_reason}
-use Rattle.capnp_readers.specs.Checking.{level_refusal_name, IsTested, Progress, progress, StartsRight, TellsStruct, TellsAll, TellsClaimed, TestsStop, RowTestsStop, TestsEnd, IsFault, SectionsFail, ClaimedFails, AreFoundRows, here, no_pointer, other_pointer}
+use Rattle.capnp_readers.specs.Checking.{level_refusal_name, IsTested, Progress, progress, StartsRight, Tells, TellsStruct, TellsAll, TellsClaimed, TestsStop, RowTestsStop, TestsEnd, IsFault, SectionsFail, ClaimedFails, AreFoundRows, here, no_pointer, other_pointer}
 use Rattle.capnp_readers.proofs.Walking.{ok_so, err_so, err_with, on_err, on_err_so, on_err_both, on_ok_so}
 use Rattle.capnp_readers.proofs.Checks.{tested, finds_none, pointer_found, pointer_never, unplaced_never, null_found_at, empty_tells, flat_tells, struct_tells, pointers_tell, structs_tell, pointer_ends, row_ends, struct_ends, pointers_end, structs_end, pointers_room, structs_room, some_right, level_falls, place_begins, elements_begin, pointers_here, structs_here, none_seen, row_seen, row_never, rows_unused, empties_found, lists_alone, no_list_else, still_seen, seen_now, RowDataUsed, RowPointersUsed}
 use Rattle.capnp_readers.proofs.NearRead.{struct_by_word}
@@ -24,7 +24,7 @@ use Rattle.capnp_readers.proofs.readers.canonical.+tests.Goals as goal
 
 pub test_children-loop-i-init : goal.test_children-loop-i-init
 test_children-loop-i-init g t c =
-    let nl = to_z-of_z w32 c.args.nesting_limit (search rules) in
+    let nl = to_z-of_z w32 c.args.nesting_limit c.ranges.nesting_limit in
     rw nl (no_trees, refl, finds_none (reading_on g.A.ReaderArena c.args.from.now c.args.at c.args.nesting_limit) (progress c.args.first c.args.lim.now))
 
 pub test_children-returns-in_err-head-clause-never : goal.test_children-returns-in_err-head-clause-never
@@ -48,21 +48,21 @@ pub test_struct-returns-in-Err-clause-refused : goal.test_struct-returns-in-Err-
 test_struct-returns-in-Err-clause-refused g t c =
     let r : Reading = reading_on g.A.ReaderArena c.args.from.now c.args.at c.args.nesting_limit in
     let ready : IsTested r = c.requires.tested in
-    let nl = to_z-of_z w32 c.args.nesting_limit (search rules) in
+    let nl = to_z-of_z w32 c.args.nesting_limit c.ranges.nesting_limit in
     rw c.refused.ensures (here (record { name = c.in-Err.kind; near = ready.near; stopped = rw nl at c.in-Err.ensures.refused; named = ap (λ w. level_refusal_name w c.in-Err.kind) c.requires.there }))
 
 pub test_list-returns-in-Err-clause-refused : goal.test_list-returns-in-Err-clause-refused
 test_list-returns-in-Err-clause-refused g t c =
     let r : Reading = reading_on g.A.ReaderArena c.args.from.now c.args.at c.args.nesting_limit in
     let ready : IsTested r = c.requires.tested in
-    let nl = to_z-of_z w32 c.args.nesting_limit (search rules) in
+    let nl = to_z-of_z w32 c.args.nesting_limit c.ranges.nesting_limit in
     rw c.refused.ensures (here (record { name = c.in-Err.kind; near = ready.near; stopped = rw nl at c.in-Err.ensures.refused; named = ap (λ w. level_refusal_name w c.in-Err.kind) c.requires.there }))
 
 pub test_list-returns-then-not-starts_right-clause-never : goal.test_list-returns-then-not-starts_right-clause-never
 test_list-returns-then-not-starts_right-clause-never g t c =
     let r : Reading = reading_on g.A.ReaderArena c.args.from.now c.args.at c.args.nesting_limit in
     let ready : IsTested r = c.requires.tested in
-    let nl = to_z-of_z w32 c.args.nesting_limit (search rules) in
+    let nl = to_z-of_z w32 c.args.nesting_limit c.ranges.nesting_limit in
     let object : IsObject Value r c.args.lim.now c.read_object.new.lim c.in-Ok.object = rw nl at c.in-Ok.ensures.object in
     rw c.fault_at.ensures (unplaced_never r c.args.lim.now c.read_object.new.lim c.args.head c.in-Ok.object ready object (λ right. false≢true (sym c.if-not-starts_right.true ∙ c.starts_right.ensures.1 right)))
 
@@ -70,7 +70,7 @@ pub test_list-returns-in-Flat-clause-tells : goal.test_list-returns-in-Flat-clau
 test_list-returns-in-Flat-clause-tells g t c =
     let r : Reading = reading_on g.A.ReaderArena c.args.from.now c.args.at c.args.nesting_limit in
     let ready : IsTested r = c.requires.tested in
-    let nl = to_z-of_z w32 c.args.nesting_limit (search rules) in
+    let nl = to_z-of_z w32 c.args.nesting_limit c.ranges.nesting_limit in
     let object : IsObject Value r c.args.lim.now c.read_object.new.lim (ObjectFlat c.in-Flat.start c.in-Flat.size c.in-Flat.count) = rw nl at (rw c.in-Flat.is at c.in-Ok.ensures.object) in
     let right : StartsRight (ObjectFlat c.in-Flat.start c.in-Flat.size c.in-Flat.count) c.args.at c.args.head = rw c.in-Flat.is at (c.starts_right.ensures.0 c.if-not-starts_right.false) in
     ok_so c.test_flat.result c.test_flat.ensures.tells (λ e h. flat_tells {r = r} (progress c.args.head c.args.lim.now) c.in-Flat.start c.in-Flat.size c.in-Flat.count (Some e) ready object right h)
@@ -79,7 +79,7 @@ pub test_list-returns-in-Flat-clause-never : goal.test_list-returns-in-Flat-clau
 test_list-returns-in-Flat-clause-never g t c =
     let r : Reading = reading_on g.A.ReaderArena c.args.from.now c.args.at c.args.nesting_limit in
     let ready : IsTested r = c.requires.tested in
-    let nl = to_z-of_z w32 c.args.nesting_limit (search rules) in
+    let nl = to_z-of_z w32 c.args.nesting_limit c.ranges.nesting_limit in
     let object : IsObject Value r c.args.lim.now c.read_object.new.lim (ObjectFlat c.in-Flat.start c.in-Flat.size c.in-Flat.count) = rw nl at (rw c.in-Flat.is at c.in-Ok.ensures.object) in
     let right : StartsRight (ObjectFlat c.in-Flat.start c.in-Flat.size c.in-Flat.count) c.args.at c.args.head = rw c.in-Flat.is at (c.starts_right.ensures.0 c.if-not-starts_right.false) in
     on_err_both c.test_flat.result c.test_flat.ensures.never c.test_flat.ensures.failed (λ fails is. rw is (flat_tells {r = r} (progress c.args.head c.args.lim.now) c.in-Flat.start c.in-Flat.size c.in-Flat.count None ready object right fails))
@@ -92,7 +92,7 @@ pub test_list-returns-in-Pointers-clause-tells : goal.test_list-returns-in-Point
 test_list-returns-in-Pointers-clause-tells g t c =
     let r : Reading = reading_on g.A.ReaderArena c.args.from.now c.args.at c.args.nesting_limit in
     let ready : IsTested r = c.requires.tested in
-    let nl = to_z-of_z w32 c.args.nesting_limit (search rules) in
+    let nl = to_z-of_z w32 c.args.nesting_limit c.ranges.nesting_limit in
     let object : IsObject Value r c.args.lim.now c.read_object.new.lim (ObjectPointers c.in-Pointers.start c.in-Pointers.count) = rw nl at (rw c.in-Pointers.is at c.in-Ok.ensures.object) in
     let right : StartsRight (ObjectPointers c.in-Pointers.start c.in-Pointers.count) c.args.at c.args.head = rw c.in-Pointers.is at (c.starts_right.ensures.0 c.if-not-starts_right.false) in
     let nm = to_z-of_z w32 c.less.result (search rules) in
@@ -104,7 +104,7 @@ pub test_list-returns-in-Pointers-clause-never : goal.test_list-returns-in-Point
 test_list-returns-in-Pointers-clause-never g t c =
     let r : Reading = reading_on g.A.ReaderArena c.args.from.now c.args.at c.args.nesting_limit in
     let ready : IsTested r = c.requires.tested in
-    let nl = to_z-of_z w32 c.args.nesting_limit (search rules) in
+    let nl = to_z-of_z w32 c.args.nesting_limit c.ranges.nesting_limit in
     let object : IsObject Value r c.args.lim.now c.read_object.new.lim (ObjectPointers c.in-Pointers.start c.in-Pointers.count) = rw nl at (rw c.in-Pointers.is at c.in-Ok.ensures.object) in
     let right : StartsRight (ObjectPointers c.in-Pointers.start c.in-Pointers.count) c.args.at c.args.head = rw c.in-Pointers.is at (c.starts_right.ensures.0 c.if-not-starts_right.false) in
     let nm = to_z-of_z w32 c.less.result (search rules) in
@@ -116,7 +116,7 @@ pub test_list-returns-in-Pointers-clause-refused : goal.test_list-returns-in-Poi
 test_list-returns-in-Pointers-clause-refused g t c =
     let r : Reading = reading_on g.A.ReaderArena c.args.from.now c.args.at c.args.nesting_limit in
     let ready : IsTested r = c.requires.tested in
-    let nl = to_z-of_z w32 c.args.nesting_limit (search rules) in
+    let nl = to_z-of_z w32 c.args.nesting_limit c.ranges.nesting_limit in
     let object : IsObject Value r c.args.lim.now c.read_object.new.lim (ObjectPointers c.in-Pointers.start c.in-Pointers.count) = rw nl at (rw c.in-Pointers.is at c.in-Ok.ensures.object) in
     let right : StartsRight (ObjectPointers c.in-Pointers.start c.in-Pointers.count) c.args.at c.args.head = rw c.in-Pointers.is at (c.starts_right.ensures.0 c.if-not-starts_right.false) in
     let nm = to_z-of_z w32 c.less.result (search rules) in
@@ -128,7 +128,7 @@ pub test_list-returns-in-Structs-clause-tells : goal.test_list-returns-in-Struct
 test_list-returns-in-Structs-clause-tells g t c =
     let r : Reading = reading_on g.A.ReaderArena c.args.from.now c.args.at c.args.nesting_limit in
     let ready : IsTested r = c.requires.tested in
-    let nl = to_z-of_z w32 c.args.nesting_limit (search rules) in
+    let nl = to_z-of_z w32 c.args.nesting_limit c.ranges.nesting_limit in
     let object : IsObject Value r c.args.lim.now c.read_object.new.lim (ObjectStructs c.in-Structs.start c.in-Structs.size c.in-Structs.count) = rw nl at (rw c.in-Structs.is at c.in-Ok.ensures.object) in
     let right : StartsRight (ObjectStructs c.in-Structs.start c.in-Structs.size c.in-Structs.count) c.args.at c.args.head = rw c.in-Structs.is at (c.starts_right.ensures.0 c.if-not-starts_right.false) in
     let nk = to_z-of_z w32 c.less-inner.result (search rules) in
@@ -141,7 +141,7 @@ pub test_list-returns-in-Structs-clause-never : goal.test_list-returns-in-Struct
 test_list-returns-in-Structs-clause-never g t c =
     let r : Reading = reading_on g.A.ReaderArena c.args.from.now c.args.at c.args.nesting_limit in
     let ready : IsTested r = c.requires.tested in
-    let nl = to_z-of_z w32 c.args.nesting_limit (search rules) in
+    let nl = to_z-of_z w32 c.args.nesting_limit c.ranges.nesting_limit in
     let object : IsObject Value r c.args.lim.now c.read_object.new.lim (ObjectStructs c.in-Structs.start c.in-Structs.size c.in-Structs.count) = rw nl at (rw c.in-Structs.is at c.in-Ok.ensures.object) in
     let right : StartsRight (ObjectStructs c.in-Structs.start c.in-Structs.size c.in-Structs.count) c.args.at c.args.head = rw c.in-Structs.is at (c.starts_right.ensures.0 c.if-not-starts_right.false) in
     let nk = to_z-of_z w32 c.less-inner.result (search rules) in
@@ -156,7 +156,7 @@ pub test_list-returns-in-Structs-clause-refused : goal.test_list-returns-in-Stru
 test_list-returns-in-Structs-clause-refused g t c =
     let r : Reading = reading_on g.A.ReaderArena c.args.from.now c.args.at c.args.nesting_limit in
     let ready : IsTested r = c.requires.tested in
-    let nl = to_z-of_z w32 c.args.nesting_limit (search rules) in
+    let nl = to_z-of_z w32 c.args.nesting_limit c.ranges.nesting_limit in
     let object : IsObject Value r c.args.lim.now c.read_object.new.lim (ObjectStructs c.in-Structs.start c.in-Structs.size c.in-Structs.count) = rw nl at (rw c.in-Structs.is at c.in-Ok.ensures.object) in
     let right : StartsRight (ObjectStructs c.in-Structs.start c.in-Structs.size c.in-Structs.count) c.args.at c.args.head = rw c.in-Structs.is at (c.starts_right.ensures.0 c.if-not-starts_right.false) in
     let nk = to_z-of_z w32 c.less-inner.result (search rules) in
@@ -169,7 +169,7 @@ pub test_rows-loop-i-init : goal.test_rows-loop-i-init
 test_rows-loop-i-init g t c =
     let r : Reading = reading_on g.A.ReaderArena c.args.from.now c.args.start c.args.nesting_limit in
     let head : ℕ = c.args.start + c.args.count * (c.args.size.data_words + c.args.size.pointers) in
-    let nl = to_z-of_z w32 c.args.nesting_limit (search rules) in
+    let nl = to_z-of_z w32 c.args.nesting_limit c.ranges.nesting_limit in
     rw (nl, c.from-data_words.ensures, c.from-pointers.ensures) (none_seen r c.args.size (progress head c.args.lim.now) (nat_eq c.args.size.data_words 0) (nat_eq c.args.size.pointers 0) (search rules) (search rules))
 
 pub test_rows-returns-in_err-head-clause-never : goal.test_rows-returns-in_err-head-clause-never
@@ -222,7 +222,7 @@ pub test_struct-returns-then-start-at-clause-tells : goal.test_struct-returns-th
 test_struct-returns-then-start-at-clause-tells g t c =
     let r : Reading = reading_on g.A.ReaderArena c.args.from.now c.args.at c.args.nesting_limit in
     let ready : IsTested r = c.requires.tested in
-    let nl = to_z-of_z w32 c.args.nesting_limit (search rules) in
+    let nl = to_z-of_z w32 c.args.nesting_limit c.ranges.nesting_limit in
     let start = record c.args.from.now.place { at = c.in-Ok.start } in
     let size = c.struct_size-size.result in
     let object : IsObject Value r c.args.lim.now c.read_near_struct.new.lim (ObjectStruct start size) =
@@ -234,7 +234,7 @@ pub test_struct-returns-clause-tells : goal.test_struct-returns-clause-tells
 test_struct-returns-clause-tells g t c =
     let r : Reading = reading_on g.A.ReaderArena c.args.from.now c.args.at c.args.nesting_limit in
     let ready : IsTested r = c.requires.tested in
-    let nl = to_z-of_z w32 c.args.nesting_limit (search rules) in
+    let nl = to_z-of_z w32 c.args.nesting_limit c.ranges.nesting_limit in
     let start = record c.args.from.now.place { at = c.in-Ok.start } in
     let size = c.struct_size-size.result in
     let object : IsObject Value r c.args.lim.now c.read_near_struct.new.lim (ObjectStruct start size) =
@@ -249,7 +249,7 @@ pub test_struct-returns-clause-never : goal.test_struct-returns-clause-never
 test_struct-returns-clause-never g t c =
     let r : Reading = reading_on g.A.ReaderArena c.args.from.now c.args.at c.args.nesting_limit in
     let ready : IsTested r = c.requires.tested in
-    let nl = to_z-of_z w32 c.args.nesting_limit (search rules) in
+    let nl = to_z-of_z w32 c.args.nesting_limit c.ranges.nesting_limit in
     let start = record c.args.from.now.place { at = c.in-Ok.start } in
     let size = c.struct_size-size.result in
     let object : IsObject Value r c.args.lim.now c.read_near_struct.new.lim (ObjectStruct start size) =
@@ -264,7 +264,7 @@ pub test_struct-returns-clause-refused : goal.test_struct-returns-clause-refused
 test_struct-returns-clause-refused g t c =
     let r : Reading = reading_on g.A.ReaderArena c.args.from.now c.args.at c.args.nesting_limit in
     let ready : IsTested r = c.requires.tested in
-    let nl = to_z-of_z w32 c.args.nesting_limit (search rules) in
+    let nl = to_z-of_z w32 c.args.nesting_limit c.ranges.nesting_limit in
     let start = record c.args.from.now.place { at = c.in-Ok.start } in
     let size = c.struct_size-size.result in
     let object : IsObject Value r c.args.lim.now c.read_near_struct.new.lim (ObjectStruct start size) =
@@ -279,7 +279,7 @@ pub test_list-test_children-requires : goal.test_list-test_children-requires
 test_list-test_children-requires g t c κs within =
     let r : Reading = reading_on g.A.ReaderArena c.args.from.now c.args.at c.args.nesting_limit in
     let ready : IsTested r = c.requires.tested in
-    let nl = to_z-of_z w32 c.args.nesting_limit (search rules) in
+    let nl = to_z-of_z w32 c.args.nesting_limit c.ranges.nesting_limit in
     let object : IsObject Value r c.args.lim.now c.read_object.new.lim (ObjectPointers c.in-Pointers.start c.in-Pointers.count) = rw nl at (rw c.in-Pointers.is at c.in-Ok.ensures.object) in
     let room = subst (λ i. c.in-Pointers.start.at + c.in-Pointers.count ≤ length (segment r.segments i)) (sym (pointers_here {r = r} c.in-Pointers.start c.in-Pointers.count ready object)) (pointers_room {r = r} c.in-Pointers.start c.in-Pointers.count object) in
     (search rules, (search rules, room))
@@ -288,7 +288,7 @@ pub test_list-test_structs-requires : goal.test_list-test_structs-requires
 test_list-test_structs-requires g t c κs within =
     let r : Reading = reading_on g.A.ReaderArena c.args.from.now c.args.at c.args.nesting_limit in
     let ready : IsTested r = c.requires.tested in
-    let nl = to_z-of_z w32 c.args.nesting_limit (search rules) in
+    let nl = to_z-of_z w32 c.args.nesting_limit c.ranges.nesting_limit in
     let object : IsObject Value r c.args.lim.now c.read_object.new.lim (ObjectStructs c.in-Structs.start c.in-Structs.size c.in-Structs.count) = rw nl at (rw c.in-Structs.is at c.in-Ok.ensures.object) in
     let nk = to_z-of_z w32 c.less-inner.result (search rules) in
     let falls = level_falls (levels c.args.nesting_limit) object.1.meets.levels in
@@ -300,14 +300,14 @@ test_list-test_structs-requires g t c κs within =
 
 pub test_children-returns-in_err-head-clause-failed : goal.test_children-returns-in_err-head-clause-failed
 test_children-returns-in_err-head-clause-failed g t c =
-    let nl = to_z-of_z w32 c.args.nesting_limit (search rules) in
+    let nl = to_z-of_z w32 c.args.nesting_limit c.ranges.nesting_limit in
     on_err c.from_residual.result (ok_so c.test_place.new.answer c.in_err-head.ensures.failed (λ f h. pointer_ends c.args.count (rw nl at c.loop-i.invariant) c.loop-i-test.true (rw nl at h)))
 
 pub test_struct-returns-then-total-eq0-clause-failed : goal.test_struct-returns-then-total-eq0-clause-failed
 test_struct-returns-then-total-eq0-clause-failed g t c =
     let r : Reading = reading_on g.A.ReaderArena c.args.from.now c.args.at c.args.nesting_limit in
     let ready : IsTested r = c.requires.tested in
-    let nl = to_z-of_z w32 c.args.nesting_limit (search rules) in
+    let nl = to_z-of_z w32 c.args.nesting_limit c.ranges.nesting_limit in
     let start = record c.args.from.now.place { at = c.in-Ok.start } in
     let size = c.struct_size-size.result in
     let object : IsObject Value r c.args.lim.now c.read_near_struct.new.lim (ObjectStruct start size) =
@@ -323,7 +323,7 @@ pub test_struct-returns-then-start-head-clause-never : goal.test_struct-returns-
 test_struct-returns-then-start-head-clause-never g t c =
     let r : Reading = reading_on g.A.ReaderArena c.args.from.now c.args.at c.args.nesting_limit in
     let ready : IsTested r = c.requires.tested in
-    let nl = to_z-of_z w32 c.args.nesting_limit (search rules) in
+    let nl = to_z-of_z w32 c.args.nesting_limit c.ranges.nesting_limit in
     let start = record c.args.from.now.place { at = c.in-Ok.start } in
     let size = c.struct_size-size.result in
     let object : IsObject Value r c.args.lim.now c.read_near_struct.new.lim (ObjectStruct start size) =
@@ -335,7 +335,7 @@ pub test_struct-returns-then-start-head-clause-failed : goal.test_struct-returns
 test_struct-returns-then-start-head-clause-failed g t c =
     let r : Reading = reading_on g.A.ReaderArena c.args.from.now c.args.at c.args.nesting_limit in
     let ready : IsTested r = c.requires.tested in
-    let nl = to_z-of_z w32 c.args.nesting_limit (search rules) in
+    let nl = to_z-of_z w32 c.args.nesting_limit c.ranges.nesting_limit in
     let start = record c.args.from.now.place { at = c.in-Ok.start } in
     let size = c.struct_size-size.result in
     let object : IsObject Value r c.args.lim.now c.read_near_struct.new.lim (ObjectStruct start size) =
@@ -347,7 +347,7 @@ pub test_struct-returns-clause-failed : goal.test_struct-returns-clause-failed
 test_struct-returns-clause-failed g t c =
     let r : Reading = reading_on g.A.ReaderArena c.args.from.now c.args.at c.args.nesting_limit in
     let ready : IsTested r = c.requires.tested in
-    let nl = to_z-of_z w32 c.args.nesting_limit (search rules) in
+    let nl = to_z-of_z w32 c.args.nesting_limit c.ranges.nesting_limit in
     let start = record c.args.from.now.place { at = c.in-Ok.start } in
     let size = c.struct_size-size.result in
     let object : IsObject Value r c.args.lim.now c.read_near_struct.new.lim (ObjectStruct start size) =
@@ -362,7 +362,7 @@ pub test_list-returns-then-not-starts_right-clause-failed : goal.test_list-retur
 test_list-returns-then-not-starts_right-clause-failed g t c =
     let r : Reading = reading_on g.A.ReaderArena c.args.from.now c.args.at c.args.nesting_limit in
     let ready : IsTested r = c.requires.tested in
-    let nl = to_z-of_z w32 c.args.nesting_limit (search rules) in
+    let nl = to_z-of_z w32 c.args.nesting_limit c.ranges.nesting_limit in
     let object : IsObject Value r c.args.lim.now c.read_object.new.lim c.in-Ok.object = rw nl at c.in-Ok.ensures.object in
     rw c.fault_at.ensures (unplaced_fails {r = r} {from = progress c.args.head c.args.lim.now} c.in-Ok.object (refl, refl, refl) ready (rw c.requires.there at c.requires.is_list) object (λ right. false≢true (sym c.if-not-starts_right.true ∙ c.starts_right.ensures.1 right)))
 
@@ -370,7 +370,7 @@ pub test_list-returns-in-Flat-clause-failed : goal.test_list-returns-in-Flat-cla
 test_list-returns-in-Flat-clause-failed g t c =
     let r : Reading = reading_on g.A.ReaderArena c.args.from.now c.args.at c.args.nesting_limit in
     let ready : IsTested r = c.requires.tested in
-    let nl = to_z-of_z w32 c.args.nesting_limit (search rules) in
+    let nl = to_z-of_z w32 c.args.nesting_limit c.ranges.nesting_limit in
     let object : IsObject Value r c.args.lim.now c.read_object.new.lim (ObjectFlat c.in-Flat.start c.in-Flat.size c.in-Flat.count) = rw nl at (rw c.in-Flat.is at c.in-Ok.ensures.object) in
     let right : StartsRight (ObjectFlat c.in-Flat.start c.in-Flat.size c.in-Flat.count) c.args.at c.args.head = rw c.in-Flat.is at (c.starts_right.ensures.0 c.if-not-starts_right.false) in
     on_err_both c.test_flat.result c.test_flat.ensures.never c.test_flat.ensures.failed (λ fails is. rw is (flat_fails {r = r} {from = progress c.args.head c.args.lim.now} c.in-Flat.start c.in-Flat.size c.in-Flat.count ready object right fails (refl, refl, refl)))
@@ -379,7 +379,7 @@ pub test_list-returns-in-Pointers-clause-failed : goal.test_list-returns-in-Poin
 test_list-returns-in-Pointers-clause-failed g t c =
     let r : Reading = reading_on g.A.ReaderArena c.args.from.now c.args.at c.args.nesting_limit in
     let ready : IsTested r = c.requires.tested in
-    let nl = to_z-of_z w32 c.args.nesting_limit (search rules) in
+    let nl = to_z-of_z w32 c.args.nesting_limit c.ranges.nesting_limit in
     let object : IsObject Value r c.args.lim.now c.read_object.new.lim (ObjectPointers c.in-Pointers.start c.in-Pointers.count) = rw nl at (rw c.in-Pointers.is at c.in-Ok.ensures.object) in
     let right : StartsRight (ObjectPointers c.in-Pointers.start c.in-Pointers.count) c.args.at c.args.head = rw c.in-Pointers.is at (c.starts_right.ensures.0 c.if-not-starts_right.false) in
     let nm = to_z-of_z w32 c.less.result (search rules) in
@@ -391,7 +391,7 @@ pub test_list-returns-in-Structs-clause-failed : goal.test_list-returns-in-Struc
 test_list-returns-in-Structs-clause-failed g t c =
     let r : Reading = reading_on g.A.ReaderArena c.args.from.now c.args.at c.args.nesting_limit in
     let ready : IsTested r = c.requires.tested in
-    let nl = to_z-of_z w32 c.args.nesting_limit (search rules) in
+    let nl = to_z-of_z w32 c.args.nesting_limit c.ranges.nesting_limit in
     let object : IsObject Value r c.args.lim.now c.read_object.new.lim (ObjectStructs c.in-Structs.start c.in-Structs.size c.in-Structs.count) = rw nl at (rw c.in-Structs.is at c.in-Ok.ensures.object) in
     let right : StartsRight (ObjectStructs c.in-Structs.start c.in-Structs.size c.in-Structs.count) c.args.at c.args.head = rw c.in-Structs.is at (c.starts_right.ensures.0 c.if-not-starts_right.false) in
     let nk = to_z-of_z w32 c.less-inner.result (search rules) in
@@ -402,18 +402,18 @@ test_list-returns-in-Structs-clause-failed g t c =
 
 pub test_rows-returns-in_err-head-clause-failed : goal.test_rows-returns-in_err-head-clause-failed
 test_rows-returns-in_err-head-clause-failed g t c =
-    let nl = to_z-of_z w32 c.args.nesting_limit (search rules) in
+    let nl = to_z-of_z w32 c.args.nesting_limit c.ranges.nesting_limit in
     on_err c.from_residual.result (ok_so c.test_row.new.answer c.in_err-head.ensures.failed (λ f h. inl (row_ends c.args.count (rw nl at c.loop-i.invariant) c.loop-i-test.true (rw (nl, c.from-data_words.ensures, c.from-pointers.ensures) at h))))
 
 pub test_rows-returns-then-not-is_data_used-clause-failed : goal.test_rows-returns-then-not-is_data_used-clause-failed
 test_rows-returns-then-not-is_data_used-clause-failed g t c =
-    let nl = to_z-of_z w32 c.args.nesting_limit (search rules) in
+    let nl = to_z-of_z w32 c.args.nesting_limit c.ranges.nesting_limit in
     let all : c.loop-i.i ≡ c.args.count = omega (arith, c.loop-i.auto.i-end, c.loop-i-test.false) in
     rw c.fault_at.ensures (inr (c.loop-i.head, rows_wide_data (refl, refl, refl) (rw all at (rw nl at c.loop-i.invariant)) (λ used. false≢true (sym c.if-not-is_data_used.true ∙ used))))
 
 pub test_rows-returns-then-not-are_pointers_used-clause-failed : goal.test_rows-returns-then-not-are_pointers_used-clause-failed
 test_rows-returns-then-not-are_pointers_used-clause-failed g t c =
-    let nl = to_z-of_z w32 c.args.nesting_limit (search rules) in
+    let nl = to_z-of_z w32 c.args.nesting_limit c.ranges.nesting_limit in
     let all : c.loop-i.i ≡ c.args.count = omega (arith, c.loop-i.auto.i-end, c.loop-i-test.false) in
     rw c.fault_at-then-not-are_pointers_used.ensures (inr (c.loop-i.head, rows_wide_pointers (refl, refl, refl) (rw all at (rw nl at c.loop-i.invariant)) c.if-not-is_data_used.false (λ used. false≢true (sym c.if-not-are_pointers_used.true ∙ used))))
 
@@ -438,7 +438,7 @@ test_row-returns-then-count-eq0-clause-tells g t c =
 
 pub test_structs-returns-clause-failed : goal.test_structs-returns-clause-failed
 test_structs-returns-clause-failed g t c =
-    let nl = to_z-of_z w32 c.args.nesting_limit (search rules) in
+    let nl = to_z-of_z w32 c.args.nesting_limit c.ranges.nesting_limit in
     let exact : c.args.count * (c.args.size.data_words + c.args.size.pointers) ≡ c.args.claimed = sym (ap₂ (λ x y. x * y) c.from.ensures (c.from-2.ensures ∙ c.total.ensures)) ∙ c.if-from.false ∙ c.from-3.ensures in
     on_err_so c.test_rows.result c.test_rows.ensures.failed (λ x. ok_so c.test_rows.new.answer x (λ f fails. inr (exact, rw nl at fails)))
 
@@ -447,7 +447,7 @@ pub test_list-returns-in_default-clause-never : goal.test_list-returns-in_defaul
 test_list-returns-in_default-clause-never g t c =
     let r : Reading = reading_on g.A.ReaderArena c.args.from.now c.args.at c.args.nesting_limit in
     let ready : IsTested r = c.requires.tested in
-    let nl = to_z-of_z w32 c.args.nesting_limit (search rules) in
+    let nl = to_z-of_z w32 c.args.nesting_limit c.ranges.nesting_limit in
     let object : IsObject Value r c.args.lim.now c.read_object.new.lim c.in-Ok.object = rw nl at c.in-Ok.ensures.object in
     absurd (no_list_else c.in-Ok.object (lists_alone {r = r} c.args.lim.now c.read_object.new.lim c.in-Ok.object ready (rw c.requires.there at c.requires.is_list) object) c.in_default.not-Flat c.in_default.not-Pointers c.in_default.not-Structs)
 
@@ -455,15 +455,67 @@ pub test_list-returns-in_default-clause-failed : goal.test_list-returns-in_defau
 test_list-returns-in_default-clause-failed g t c =
     let r : Reading = reading_on g.A.ReaderArena c.args.from.now c.args.at c.args.nesting_limit in
     let ready : IsTested r = c.requires.tested in
-    let nl = to_z-of_z w32 c.args.nesting_limit (search rules) in
+    let nl = to_z-of_z w32 c.args.nesting_limit c.ranges.nesting_limit in
     let object : IsObject Value r c.args.lim.now c.read_object.new.lim c.in-Ok.object = rw nl at c.in-Ok.ensures.object in
     absurd (no_list_else c.in-Ok.object (lists_alone {r = r} c.args.lim.now c.read_object.new.lim c.in-Ok.object ready (rw c.requires.there at c.requires.is_list) object) c.in_default.not-Flat c.in_default.not-Pointers c.in_default.not-Structs)
 
 -- The pointer section is looked at where the data section is used.
 pub test_sections-returns-then-not-ends_used-2-clause-failed : goal.test_sections-returns-then-not-ends_used-2-clause-failed
 test_sections-returns-then-not-ends_used-2-clause-failed g t c =
-    let nl = to_z-of_z w32 c.args.nesting_limit (search rules) in
+    let nl = to_z-of_z w32 c.args.nesting_limit c.ranges.nesting_limit in
     let used = rw (c.from-data_words.ensures, c.args.from.now.held.0) at (c.ends_used.ensures.used.0 c.if-not-ends_used.false) in
     let unused = rw (c.if-not-ends_used-2.true, c.from-data_words.ensures, c.from-pointers.ensures, c.args.from.now.held.0) at c.ends_used-2.ensures.unused in
     let word = ap₂ (λ d q. c.args.start + d + q - 1) c.from-data_words.ensures c.from-pointers.ensures in
     rw c.fault_at-then-not-ends_used-2.ensures (inr (c.in_ok-end.end, rw (nl, c.from-data_words.ensures, c.from-pointers.ensures) at c.in_ok-end.ensures.tells, inr ((refl, refl, word), used, unused)))
+
+-- What a test that is handed on tells.
+pub test_place-returns-in-Struct-clause-tells : goal.test_place-returns-in-Struct-clause-tells
+test_place-returns-in-Struct-clause-tells g t c = rw (to_z-of_z w32 c.args.nesting_limit c.ranges.nesting_limit) at c.test_struct.ensures.tells
+
+pub test_row-returns-clause-tells : goal.test_row-returns-clause-tells
+test_row-returns-clause-tells g t c = rw (to_z-of_z w32 c.args.nesting_limit c.ranges.nesting_limit) at c.test_children.ensures.tells
+
+pub test_place-returns-in-Struct-clause-never : goal.test_place-returns-in-Struct-clause-never
+test_place-returns-in-Struct-clause-never g t c =
+    subst (λ z. OnErr c.test_struct.result (OnOk c.test_struct.new.answer (Tells (reading_on g.A.ReaderArena c.args.from.now c.args.at z) (progress c.args.head c.args.lim.now) c.test_struct.new.lim None))) (to_z-of_z w32 c.args.nesting_limit c.ranges.nesting_limit) c.test_struct.ensures.never
+
+pub test_row-returns-clause-never : goal.test_row-returns-clause-never
+test_row-returns-clause-never g t c =
+    subst (λ z. OnErr c.test_children.result (OnOk c.test_children.new.answer (TellsAll (reading_on g.A.ReaderArena c.args.from.now c.args.at z) c.args.count (progress c.args.first c.args.lim.now) c.test_children.new.lim None))) (to_z-of_z w32 c.args.nesting_limit c.ranges.nesting_limit) c.test_children.ensures.never
+
+pub test_place-returns-in-Struct-clause-refused : goal.test_place-returns-in-Struct-clause-refused
+test_place-returns-in-Struct-clause-refused g t c = rw (to_z-of_z w32 c.args.nesting_limit c.ranges.nesting_limit) at c.test_struct.ensures.refused
+
+pub test_row-returns-clause-refused : goal.test_row-returns-clause-refused
+test_row-returns-clause-refused g t c = rw (to_z-of_z w32 c.args.nesting_limit c.ranges.nesting_limit) at c.test_children.ensures.refused
+
+pub test_structs-returns-clause-refused : goal.test_structs-returns-clause-refused
+test_structs-returns-clause-refused g t c =
+    let exact : c.args.count * (c.args.size.data_words + c.args.size.pointers) ≡ c.args.claimed = sym (ap₂ (λ x y. x * y) c.from.ensures (c.from-2.ensures ∙ c.total.ensures)) ∙ c.if-from.false ∙ c.from-3.ensures in
+    rw (to_z-of_z w32 c.args.nesting_limit c.ranges.nesting_limit, exact) at c.test_rows.ensures.refused
+
+pub test_place-returns-in-Struct-clause-failed : goal.test_place-returns-in-Struct-clause-failed
+test_place-returns-in-Struct-clause-failed g t c = rw (to_z-of_z w32 c.args.nesting_limit c.ranges.nesting_limit) at c.test_struct.ensures.failed
+
+pub test_row-returns-clause-failed : goal.test_row-returns-clause-failed
+test_row-returns-clause-failed g t c = rw (to_z-of_z w32 c.args.nesting_limit c.ranges.nesting_limit) at c.test_children.ensures.failed
+
+pub test_place-returns-in_default : goal.test_place-returns-in_default
+test_place-returns-in_default g t c =
+    let nl = to_z-of_z w32 c.args.nesting_limit c.ranges.nesting_limit in
+    record {
+      tells = rw nl at c.test_near_flat.ensures.tells;
+      never = subst (λ z. OnErr c.test_near_flat.result (OnOk c.test_near_flat.new.answer (Tells (reading_on g.A.ReaderArena c.args.from.now c.args.at z) (progress c.args.head c.args.lim.now) c.test_near_flat.new.lim None))) nl c.test_near_flat.ensures.never;
+      refused = rw nl at c.test_near_flat.ensures.refused;
+      failed = rw nl at c.test_near_flat.ensures.failed;
+    }
+
+pub test_place-returns-in_default-2 : goal.test_place-returns-in_default-2
+test_place-returns-in_default-2 g t c =
+    let nl = to_z-of_z w32 c.args.nesting_limit c.ranges.nesting_limit in
+    record {
+      tells = rw nl at c.test_list.ensures.tells;
+      never = subst (λ z. OnErr c.test_list.result (OnOk c.test_list.new.answer (Tells (reading_on g.A.ReaderArena c.args.from.now c.args.at z) (progress c.args.head c.args.lim.now) c.test_list.new.lim None))) nl c.test_list.ensures.never;
+      refused = rw nl at c.test_list.ensures.refused;
+      failed = rw nl at c.test_list.ensures.failed;
+    }
