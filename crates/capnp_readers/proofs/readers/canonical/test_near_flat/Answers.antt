@@ -1,4 +1,4 @@
-use Rattle.std.proofs.Common.{◌≡◌, ◌≤◌, Some, None, ap, ◌∙◌, rules, refl}
+use Rattle.std.proofs.Common.{◌≡◌, ◌≤◌, Some, None, ap, ◌∙◌, refl}
 use Rattle.std.proofs.lemmas.Int.{to_z-of_z}
 use mir.Syntax.{w32}
 use Rattle.capnp_format.specs.Word.{kind, element_size, list_count}
@@ -17,13 +17,13 @@ use Rattle.capnp_readers.proofs.readers.canonical.test_near_flat.Goals as goal
 
 pub returns-in-Err-clause-refused : goal.returns-in-Err-clause-refused
 returns-in-Err-clause-refused g c =
-    let nl = to_z-of_z w32 c.args.nesting_limit (search rules) in
+    let nl = to_z-of_z w32 c.args.nesting_limit c.ranges.nesting_limit in
     rw c.refused.ensures (here (record { name = c.in-Err.kind; near = c.requires.tested.near; stopped = rw nl at c.in-Err.ensures.refused; named = ap (λ w. level_refusal_name w c.in-Err.kind) c.requires.there }))
 
 pub returns-then-start-head-clause-never : goal.returns-then-start-head-clause-never
 returns-then-start-head-clause-never g c =
     let r : Reading = reading_on g.A.ReaderArena c.args.from.now c.args.at c.args.nesting_limit in
-    let nl = to_z-of_z w32 c.args.nesting_limit (search rules) in
+    let nl = to_z-of_z w32 c.args.nesting_limit c.ranges.nesting_limit in
     let start = record c.args.from.now.place { at = c.in-Ok.start } in
     let size = c.list_element_size-size.result in
     let count = c.list_element_count-count.result in
@@ -37,7 +37,7 @@ returns-then-start-head-clause-never g c =
 pub returns-then-start-head-clause-failed : goal.returns-then-start-head-clause-failed
 returns-then-start-head-clause-failed g c =
     let r : Reading = reading_on g.A.ReaderArena c.args.from.now c.args.at c.args.nesting_limit in
-    let nl = to_z-of_z w32 c.args.nesting_limit (search rules) in
+    let nl = to_z-of_z w32 c.args.nesting_limit c.ranges.nesting_limit in
     let start = record c.args.from.now.place { at = c.in-Ok.start } in
     let size = c.list_element_size-size.result in
     let count = c.list_element_count-count.result in
@@ -51,7 +51,7 @@ returns-then-start-head-clause-failed g c =
 pub returns-clause-tells : goal.returns-clause-tells
 returns-clause-tells g c =
     let r : Reading = reading_on g.A.ReaderArena c.args.from.now c.args.at c.args.nesting_limit in
-    let nl = to_z-of_z w32 c.args.nesting_limit (search rules) in
+    let nl = to_z-of_z w32 c.args.nesting_limit c.ranges.nesting_limit in
     let start = record c.args.from.now.place { at = c.in-Ok.start } in
     let size = c.list_element_size-size.result in
     let count = c.list_element_count-count.result in
@@ -65,7 +65,7 @@ returns-clause-tells g c =
 pub returns-clause-never : goal.returns-clause-never
 returns-clause-never g c =
     let r : Reading = reading_on g.A.ReaderArena c.args.from.now c.args.at c.args.nesting_limit in
-    let nl = to_z-of_z w32 c.args.nesting_limit (search rules) in
+    let nl = to_z-of_z w32 c.args.nesting_limit c.ranges.nesting_limit in
     let start = record c.args.from.now.place { at = c.in-Ok.start } in
     let size = c.list_element_size-size.result in
     let count = c.list_element_count-count.result in
@@ -83,7 +83,7 @@ returns-clause-refused g c =
 pub returns-clause-failed : goal.returns-clause-failed
 returns-clause-failed g c =
     let r : Reading = reading_on g.A.ReaderArena c.args.from.now c.args.at c.args.nesting_limit in
-    let nl = to_z-of_z w32 c.args.nesting_limit (search rules) in
+    let nl = to_z-of_z w32 c.args.nesting_limit c.ranges.nesting_limit in
     let start = record c.args.from.now.place { at = c.in-Ok.start } in
     let size = c.list_element_size-size.result in
     let count = c.list_element_count-count.result in
