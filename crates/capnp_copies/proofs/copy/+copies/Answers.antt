@@ -2,6 +2,7 @@ use Rattle.std.proofs.Common.{◌≡◌, ◌≢◌, inl, ℕ, ◌+◌, ◌*◌, 
 use Rattle.std.proofs.lemmas.Int.{to_z-of_z}
 use Rattle.std.proofs.lemmas.Bool.{false≢true}
 use mir.Syntax.{w32}
+use mir.Val.{SFits}
 use Rattle.capnp_format.specs.Bytes.{words_of}
 use Rattle.capnp_words.specs.Sizes.{size_number}
 use Rattle.capnp_format.specs.Segments.{Segments, segment, word_at, IsPlace}
@@ -166,64 +167,44 @@ children::copy_child-returns-then-is_null-clause-taken g t c =
     let word : c.word-word.result.0 ≡ word_of r = c.word-word.ensures.value ∙ ap (λ ws. get_or ws c.args.from.place.at 0) c.args.from.held.0 in
     null_takes {r = r} (sym word ∙ c.if-is_null.ensures.0 refl, refl)
 
-pub children::copy_near_struct-returns-in_err-start-clause-refused : goal.children::copy_near_struct-returns-in_err-start-clause-refused
-children::copy_near_struct-returns-in_err-start-clause-refused g t c =
+pub children::copy_near_struct-returns-in_err-start : goal.children::copy_near_struct-returns-in_err-start
+children::copy_near_struct-returns-in_err-start g t c =
     let nl = to_z-of_z w32 c.args.from.nesting_limit (search rules) in
     let p = err_from_is_err_and c.from_residual.result c.from_residual.ensures.1 in
-    rw (p.1, p.2) (read_stops c.requires.place c.requires.null (rw nl at c.in_err-start.ensures.refused))
+    record {
+      copied = rw p.1 tt;
+      refused = rw (p.1, p.2) (read_stops c.requires.place c.requires.null (rw nl at c.in_err-start.ensures.refused));
+      taken = rw p.1 (read_stop_taken (rw nl at c.in_err-start.ensures.refused));
+    }
 
-pub children::copy_near_struct-returns-in_err-start-clause-taken : goal.children::copy_near_struct-returns-in_err-start-clause-taken
-children::copy_near_struct-returns-in_err-start-clause-taken g t c =
-    let nl = to_z-of_z w32 c.args.from.nesting_limit (search rules) in
-    let p = err_from_is_err_and c.from_residual.result c.from_residual.ensures.1 in
-    rw p.1 (read_stop_taken (rw nl at c.in_err-start.ensures.refused))
-
-pub children::copy_near_struct-returns-clause-copied : goal.children::copy_near_struct-returns-clause-copied
-children::copy_near_struct-returns-clause-copied g t c =
+pub children::copy_near_struct-returns : goal.children::copy_near_struct-returns
+children::copy_near_struct-returns g t c =
     let r : Reading = reading g.B.ReaderArena c.args.from in
-    let nl = to_z-of_z w32 c.args.from.nesting_limit (search rules) in
+    let fits : SFits w32 c.args.from.nesting_limit = search rules in
+    let nl = to_z-of_z w32 c.args.from.nesting_limit fits in
     let near : kind (word_of r) ≡ 0 = rw c.requires.there at c.requires.is_struct in
     let start : Place = record c.args.from.place { at = c.in_ok-start.start } in
     let wide : c.struct_size.result.data_words ≡ data_words (word_of r) = c.struct_size.ensures.data_of ∙ ap data_words c.requires.there in
     let many : c.struct_size.result.pointers ≡ pointer_count (word_of r) = c.struct_size.ensures.pointers_of ∙ ap pointer_count c.requires.there in
     let object : IsObject Value r c.args.lim.now c.read_near_struct.new.lim (ObjectStruct start c.struct_size.result) = struct_by_word start c.struct_size.result near c.args.from.held refl (rw nl at c.in_ok-start.ensures.object) wide many in
-    let less = one_level_in c.args.from.nesting_limit (search rules) in
-    ok_so c.copy_struct.result c.copy_struct.ensures.copied (λ x made. struct_value start less object made)
-
-pub children::copy_near_struct-returns-clause-refused : goal.children::copy_near_struct-returns-clause-refused
-children::copy_near_struct-returns-clause-refused g t c =
-    let r : Reading = reading g.B.ReaderArena c.args.from in
-    let nl = to_z-of_z w32 c.args.from.nesting_limit (search rules) in
-    let near : kind (word_of r) ≡ 0 = rw c.requires.there at c.requires.is_struct in
-    let start : Place = record c.args.from.place { at = c.in_ok-start.start } in
-    let wide : c.struct_size.result.data_words ≡ data_words (word_of r) = c.struct_size.ensures.data_of ∙ ap data_words c.requires.there in
-    let many : c.struct_size.result.pointers ≡ pointer_count (word_of r) = c.struct_size.ensures.pointers_of ∙ ap pointer_count c.requires.there in
-    let object : IsObject Value r c.args.lim.now c.read_near_struct.new.lim (ObjectStruct start c.struct_size.result) = struct_by_word start c.struct_size.result near c.args.from.held refl (rw nl at c.in_ok-start.ensures.object) wide many in
-    let less = one_level_in c.args.from.nesting_limit (search rules) in
-    err_so c.copy_struct.result c.copy_struct.ensures.refused (λ k stop. struct_value_stops start less object stop)
-
-pub children::copy_near_struct-returns-clause-taken : goal.children::copy_near_struct-returns-clause-taken
-children::copy_near_struct-returns-clause-taken g t c =
-    let r : Reading = reading g.B.ReaderArena c.args.from in
-    let nl = to_z-of_z w32 c.args.from.nesting_limit (search rules) in
-    let near : kind (word_of r) ≡ 0 = rw c.requires.there at c.requires.is_struct in
-    let start : Place = record c.args.from.place { at = c.in_ok-start.start } in
-    let wide : c.struct_size.result.data_words ≡ data_words (word_of r) = c.struct_size.ensures.data_of ∙ ap data_words c.requires.there in
-    let many : c.struct_size.result.pointers ≡ pointer_count (word_of r) = c.struct_size.ensures.pointers_of ∙ ap pointer_count c.requires.there in
-    let object : IsObject Value r c.args.lim.now c.read_near_struct.new.lim (ObjectStruct start c.struct_size.result) = struct_by_word start c.struct_size.result near c.args.from.held refl (rw nl at c.in_ok-start.ensures.object) wide many in
-    let less = one_level_in c.args.from.nesting_limit (search rules) in
-    taken_so c.copy_struct.result _ _ _ _ (λ x. struct_takes start less object x) (λ x. struct_stop_takes start less object x) c.copy_struct.ensures.taken
+    let less = one_level_in c.args.from.nesting_limit fits in
+    record {
+      copied = ok_so c.copy_struct.result c.copy_struct.ensures.copied (λ x made. struct_value start less object made);
+      refused = err_so c.copy_struct.result c.copy_struct.ensures.refused (λ k stop. struct_value_stops start less object stop);
+      taken = taken_so c.copy_struct.result _ _ _ _ (λ x. struct_takes start less object x) (λ x. struct_stop_takes start less object x) c.copy_struct.ensures.taken;
+    }
 
 pub children::copy_near_struct-copy_struct-requires : goal.children::copy_near_struct-copy_struct-requires
 children::copy_near_struct-copy_struct-requires g t c κs within =
     let r : Reading = reading g.B.ReaderArena c.args.from in
-    let nl = to_z-of_z w32 c.args.from.nesting_limit (search rules) in
+    let fits : SFits w32 c.args.from.nesting_limit = search rules in
+    let nl = to_z-of_z w32 c.args.from.nesting_limit fits in
     let near : kind (word_of r) ≡ 0 = rw c.requires.there at c.requires.is_struct in
     let start : Place = record c.args.from.place { at = c.in_ok-start.start } in
     let wide : c.struct_size.result.data_words ≡ data_words (word_of r) = c.struct_size.ensures.data_of ∙ ap data_words c.requires.there in
     let many : c.struct_size.result.pointers ≡ pointer_count (word_of r) = c.struct_size.ensures.pointers_of ∙ ap pointer_count c.requires.there in
     let object : IsObject Value r c.args.lim.now c.read_near_struct.new.lim (ObjectStruct start c.struct_size.result) = struct_by_word start c.struct_size.result near c.args.from.held refl (rw nl at c.in_ok-start.ensures.object) wide many in
-    let less = one_level_in c.args.from.nesting_limit (search rules) in
+    let less = one_level_in c.args.from.nesting_limit fits in
     let LESS = less object.1.meets.levels in
     let SOME = object.1.meets.levels in
     let INSIDE : c.in_ok-start.start + (c.struct_size.result.data_words + c.struct_size.result.pointers) ≤ length (segment r.segments c.args.from.place.segment) = struct_room start c.struct_size.result object in
@@ -231,17 +212,15 @@ children::copy_near_struct-copy_struct-requires g t c κs within =
 
 -- What a pointer means.
 
-pub copy_object-returns-in_err-object-clause-refused : goal.copy_object-returns-in_err-object-clause-refused
-copy_object-returns-in_err-object-clause-refused g t c =
+pub copy_object-returns-in_err-object : goal.copy_object-returns-in_err-object
+copy_object-returns-in_err-object g t c =
     let nl = to_z-of_z w32 c.args.from.nesting_limit (search rules) in
     let p = err_from_is_err_and c.from_residual.result c.from_residual.ensures.1 in
-    rw (p.1, p.2) (read_stops c.requires.place c.requires.null (rw nl at c.in_err-object.ensures.refused))
-
-pub copy_object-returns-in_err-object-clause-taken : goal.copy_object-returns-in_err-object-clause-taken
-copy_object-returns-in_err-object-clause-taken g t c =
-    let nl = to_z-of_z w32 c.args.from.nesting_limit (search rules) in
-    let p = err_from_is_err_and c.from_residual.result c.from_residual.ensures.1 in
-    rw p.1 (read_stop_taken (rw nl at c.in_err-object.ensures.refused))
+    record {
+      copied = rw p.1 tt;
+      refused = rw (p.1, p.2) (read_stops c.requires.place c.requires.null (rw nl at c.in_err-object.ensures.refused));
+      taken = rw p.1 (read_stop_taken (rw nl at c.in_err-object.ensures.refused));
+    }
 
 pub copy_object-copy_pointers-requires : goal.copy_object-copy_pointers-requires
 copy_object-copy_pointers-requires g t c κs within =
@@ -262,50 +241,31 @@ copy_object-returns-in-Null-clause-copied g t c =
 pub copy_object-returns-in-Null-clause-taken : goal.copy_object-returns-in-Null-clause-taken
 copy_object-returns-in-Null-clause-taken g t c = null_takes (rw c.in-Null.is at c.in_ok-object.ensures.object)
 
-pub copy_object-returns-in-Capability-clause-copied : goal.copy_object-returns-in-Capability-clause-copied
-copy_object-returns-in-Capability-clause-copied g t c =
+pub copy_object-returns-in-Capability : goal.copy_object-returns-in-Capability
+copy_object-returns-in-Capability g t c =
     let object = rw c.in-Capability.is at c.in_ok-object.ensures.object in
     let outcome : CapabilityCopied c.copy_capability.result (form_in c.args.form) c.args.id c.args.at c.in-Capability.index (g.A.BuilderArena.view c.args.arena.now) (g.A.BuilderArena.view c.copy_capability.new.arena) =
     record { as_it_stands = c.copy_capability.ensures.as_it_stands; copied = c.copy_capability.ensures.copied; refused = c.copy_capability.ensures.refused; unchanged = c.copy_capability.ensures.unchanged } in
-    capability_value (reading g.B.ReaderArena c.args.from) _ _ c.copy_capability.result object c.requires.place outcome
+    record {
+      copied = capability_value (reading g.B.ReaderArena c.args.from) _ _ c.copy_capability.result object c.requires.place outcome;
+      refused = capability_value_stops (reading g.B.ReaderArena c.args.from) _ _ c.copy_capability.result object c.requires.place c.requires.null outcome;
+      taken = capability_value_takes (reading g.B.ReaderArena c.args.from) _ _ c.copy_capability.result object outcome;
+    }
 
-pub copy_object-returns-in-Capability-clause-refused : goal.copy_object-returns-in-Capability-clause-refused
-copy_object-returns-in-Capability-clause-refused g t c =
-    let object = rw c.in-Capability.is at c.in_ok-object.ensures.object in
-    let outcome : CapabilityCopied c.copy_capability.result (form_in c.args.form) c.args.id c.args.at c.in-Capability.index (g.A.BuilderArena.view c.args.arena.now) (g.A.BuilderArena.view c.copy_capability.new.arena) =
-    record { as_it_stands = c.copy_capability.ensures.as_it_stands; copied = c.copy_capability.ensures.copied; refused = c.copy_capability.ensures.refused; unchanged = c.copy_capability.ensures.unchanged } in
-    capability_value_stops (reading g.B.ReaderArena c.args.from) _ _ c.copy_capability.result object c.requires.place c.requires.null outcome
-
-pub copy_object-returns-in-Capability-clause-taken : goal.copy_object-returns-in-Capability-clause-taken
-copy_object-returns-in-Capability-clause-taken g t c =
-    let object = rw c.in-Capability.is at c.in_ok-object.ensures.object in
-    let outcome : CapabilityCopied c.copy_capability.result (form_in c.args.form) c.args.id c.args.at c.in-Capability.index (g.A.BuilderArena.view c.args.arena.now) (g.A.BuilderArena.view c.copy_capability.new.arena) =
-    record { as_it_stands = c.copy_capability.ensures.as_it_stands; copied = c.copy_capability.ensures.copied; refused = c.copy_capability.ensures.refused; unchanged = c.copy_capability.ensures.unchanged } in
-    capability_value_takes (reading g.B.ReaderArena c.args.from) _ _ c.copy_capability.result object outcome
-
-pub copy_object-returns-in-Struct-clause-copied : goal.copy_object-returns-in-Struct-clause-copied
-copy_object-returns-in-Struct-clause-copied g t c =
-    let nl = to_z-of_z w32 c.args.from.nesting_limit (search rules) in
+pub copy_object-returns-in-Struct : goal.copy_object-returns-in-Struct
+copy_object-returns-in-Struct g t c =
+    let fits : SFits w32 c.args.from.nesting_limit = search rules in
+    let nl = to_z-of_z w32 c.args.from.nesting_limit fits in
     let object = rw (c.in-Struct.is, nl) at c.in_ok-object.ensures.object in
-    let less = one_level_in c.args.from.nesting_limit (search rules) in
-    ok_so c.copy_struct.result c.copy_struct.ensures.copied (λ x made. struct_value c.in-Struct.start less object made)
+    let less = one_level_in c.args.from.nesting_limit fits in
+    record {
+      copied = ok_so c.copy_struct.result c.copy_struct.ensures.copied (λ x made. struct_value c.in-Struct.start less object made);
+      refused = err_so c.copy_struct.result c.copy_struct.ensures.refused (λ k stop. struct_value_stops c.in-Struct.start less object stop);
+      taken = taken_so c.copy_struct.result _ _ _ _ (λ x. struct_takes c.in-Struct.start less object x) (λ x. struct_stop_takes c.in-Struct.start less object x) c.copy_struct.ensures.taken;
+    }
 
-pub copy_object-returns-in-Struct-clause-refused : goal.copy_object-returns-in-Struct-clause-refused
-copy_object-returns-in-Struct-clause-refused g t c =
-    let nl = to_z-of_z w32 c.args.from.nesting_limit (search rules) in
-    let object = rw (c.in-Struct.is, nl) at c.in_ok-object.ensures.object in
-    let less = one_level_in c.args.from.nesting_limit (search rules) in
-    err_so c.copy_struct.result c.copy_struct.ensures.refused (λ k stop. struct_value_stops c.in-Struct.start less object stop)
-
-pub copy_object-returns-in-Struct-clause-taken : goal.copy_object-returns-in-Struct-clause-taken
-copy_object-returns-in-Struct-clause-taken g t c =
-    let nl = to_z-of_z w32 c.args.from.nesting_limit (search rules) in
-    let less = one_level_in c.args.from.nesting_limit (search rules) in
-    let object = rw (c.in-Struct.is, nl) at c.in_ok-object.ensures.object in
-    taken_so c.copy_struct.result _ _ _ _ (λ x. struct_takes c.in-Struct.start less object x) (λ x. struct_stop_takes c.in-Struct.start less object x) c.copy_struct.ensures.taken
-
-pub copy_object-returns-in-Flat-clause-copied : goal.copy_object-returns-in-Flat-clause-copied
-copy_object-returns-in-Flat-clause-copied g t c =
+pub copy_object-returns-in-Flat : goal.copy_object-returns-in-Flat
+copy_object-returns-in-Flat g t c =
     let nl = to_z-of_z w32 c.args.from.nesting_limit (search rules) in
     let object = rw (c.in-Flat.is, nl) at c.in_ok-object.ensures.object in
     let outcome : FlatOutcome c.copy_flat.result c.args.id c.args.at (words_for (size_number c.in-Flat.size) c.in-Flat.count) (g.A.BuilderArena.view c.args.arena.now) (g.A.BuilderArena.view c.copy_flat.new.arena) (Flat (size_number c.in-Flat.size) (unpacked (size_number c.in-Flat.size) c.in-Flat.count (words_of c.part-elements.result.now))) =
@@ -320,78 +280,40 @@ copy_object-returns-in-Flat-clause-copied g t c =
           (g.A.BuilderArena.view c.args.arena.now) c.args.id) (word_count-flat (size_number c.in-Flat.size)
           c.in-Flat.count (words_of c.part-elements.result.now)) room);
     } in
-    flat_value (form_in c.args.form) c.copy_flat.result c.in-Flat.start c.in-Flat.size object c.flat_words-words.ensures c.part-elements.ensures.words outcome
-
-pub copy_object-returns-in-Flat-clause-refused : goal.copy_object-returns-in-Flat-clause-refused
-copy_object-returns-in-Flat-clause-refused g t c =
-    let nl = to_z-of_z w32 c.args.from.nesting_limit (search rules) in
-    let object = rw (c.in-Flat.is, nl) at c.in_ok-object.ensures.object in
-    let outcome : FlatOutcome c.copy_flat.result c.args.id c.args.at (words_for (size_number c.in-Flat.size) c.in-Flat.count) (g.A.BuilderArena.view c.args.arena.now) (g.A.BuilderArena.view c.copy_flat.new.arena) (Flat (size_number c.in-Flat.size) (unpacked (size_number c.in-Flat.size) c.in-Flat.count (words_of c.part-elements.result.now))) =
     record {
-      copied = c.copy_flat.ensures.copied;
-      granted = c.copy_flat.ensures.granted;
-      refused = c.copy_flat.ensures.refused;
-      kept = c.copy_flat.ensures.kept;
-      memory = c.copy_flat.ensures.memory;
-      stands = c.copy_flat.ensures.stands;
-      fits = λ room. c.copy_flat.ensures.fits (subst (HasOwnRoom
-          (g.A.BuilderArena.view c.args.arena.now) c.args.id) (word_count-flat (size_number c.in-Flat.size)
-          c.in-Flat.count (words_of c.part-elements.result.now)) room);
-    } in
-    flat_stops (form_in c.args.form) c.copy_flat.result c.in-Flat.start c.in-Flat.size object c.flat_words-words.ensures c.part-elements.ensures.words (c.requires.place, c.requires.null) outcome
+      copied = flat_value (form_in c.args.form) c.copy_flat.result c.in-Flat.start c.in-Flat.size object c.flat_words-words.ensures c.part-elements.ensures.words outcome;
+      refused = flat_stops (form_in c.args.form) c.copy_flat.result c.in-Flat.start c.in-Flat.size object c.flat_words-words.ensures c.part-elements.ensures.words (c.requires.place, c.requires.null) outcome;
+      taken = taken_so c.copy_flat.result _ _ _ _ (λ made. flat_takes c.in-Flat.size c.in-Flat.start object made) (λ none. flat_stop_takes c.in-Flat.size c.in-Flat.start object none) c.copy_flat.ensures.taken;
+    }
 
-pub copy_object-returns-in-Flat-clause-taken : goal.copy_object-returns-in-Flat-clause-taken
-copy_object-returns-in-Flat-clause-taken g t c =
-    let nl = to_z-of_z w32 c.args.from.nesting_limit (search rules) in
-    let object = rw (c.in-Flat.is, nl) at c.in_ok-object.ensures.object in
-    taken_so c.copy_flat.result _ _ _ _ (λ made. flat_takes c.in-Flat.size c.in-Flat.start object made) (λ none. flat_stop_takes c.in-Flat.size c.in-Flat.start object none) c.copy_flat.ensures.taken
-
-pub copy_object-returns-in-Pointers-clause-copied : goal.copy_object-returns-in-Pointers-clause-copied
-copy_object-returns-in-Pointers-clause-copied g t c =
-    let nl = to_z-of_z w32 c.args.from.nesting_limit (search rules) in
+pub copy_object-returns-in-Pointers : goal.copy_object-returns-in-Pointers
+copy_object-returns-in-Pointers g t c =
+    let fits : SFits w32 c.args.from.nesting_limit = search rules in
+    let nl = to_z-of_z w32 c.args.from.nesting_limit fits in
     let object = rw (c.in-Pointers.is, nl) at c.in_ok-object.ensures.object in
-    let less = one_level_in c.args.from.nesting_limit (search rules) in
-    ok_so c.copy_pointers.result c.copy_pointers.ensures.copied (λ x made. pointers_value c.in-Pointers.start less object made)
+    let less = one_level_in c.args.from.nesting_limit fits in
+    record {
+      copied = ok_so c.copy_pointers.result c.copy_pointers.ensures.copied (λ x made. pointers_value c.in-Pointers.start less object made);
+      refused = err_so c.copy_pointers.result c.copy_pointers.ensures.refused (λ k stop. pointers_value_stops c.in-Pointers.start less object (rw c.in-Pointers.is at c.in_ok-object.ensures.few) stop);
+      taken = taken_so c.copy_pointers.result _ _ _ _ (λ x. pointers_take c.in-Pointers.start less object x) (λ x. pointers_stop_take c.in-Pointers.start less object x) c.copy_pointers.ensures.taken;
+    }
 
-pub copy_object-returns-in-Pointers-clause-refused : goal.copy_object-returns-in-Pointers-clause-refused
-copy_object-returns-in-Pointers-clause-refused g t c =
-    let nl = to_z-of_z w32 c.args.from.nesting_limit (search rules) in
-    let object = rw (c.in-Pointers.is, nl) at c.in_ok-object.ensures.object in
-    let less = one_level_in c.args.from.nesting_limit (search rules) in
-    err_so c.copy_pointers.result c.copy_pointers.ensures.refused (λ k stop. pointers_value_stops c.in-Pointers.start less object (rw c.in-Pointers.is at c.in_ok-object.ensures.few) stop)
-
-pub copy_object-returns-in-Pointers-clause-taken : goal.copy_object-returns-in-Pointers-clause-taken
-copy_object-returns-in-Pointers-clause-taken g t c =
-    let nl = to_z-of_z w32 c.args.from.nesting_limit (search rules) in
-    let less = one_level_in c.args.from.nesting_limit (search rules) in
-    let object = rw (c.in-Pointers.is, nl) at c.in_ok-object.ensures.object in
-    taken_so c.copy_pointers.result _ _ _ _ (λ x. pointers_take c.in-Pointers.start less object x) (λ x. pointers_stop_take c.in-Pointers.start less object x) c.copy_pointers.ensures.taken
-
-pub copy_object-returns-in-Structs-clause-copied : goal.copy_object-returns-in-Structs-clause-copied
-copy_object-returns-in-Structs-clause-copied g t c =
-    let nl = to_z-of_z w32 c.args.from.nesting_limit (search rules) in
+pub copy_object-returns-in-Structs : goal.copy_object-returns-in-Structs
+copy_object-returns-in-Structs g t c =
+    let fits : SFits w32 c.args.from.nesting_limit = search rules in
+    let nl = to_z-of_z w32 c.args.from.nesting_limit fits in
     let object = rw (c.in-Structs.is, nl) at c.in_ok-object.ensures.object in
-    let less = one_level_in c.args.from.nesting_limit (search rules) in
-    ok_so c.copy_structs.result c.copy_structs.ensures.copied (λ x made. structs_value c.in-Structs.start less object made)
-
-pub copy_object-returns-in-Structs-clause-refused : goal.copy_object-returns-in-Structs-clause-refused
-copy_object-returns-in-Structs-clause-refused g t c =
-    let nl = to_z-of_z w32 c.args.from.nesting_limit (search rules) in
-    let object = rw (c.in-Structs.is, nl) at c.in_ok-object.ensures.object in
-    let less = one_level_in c.args.from.nesting_limit (search rules) in
-    err_so c.copy_structs.result c.copy_structs.ensures.refused (λ k stop. structs_value_stops c.in-Structs.start less object (rw c.in-Structs.is at c.in_ok-object.ensures.few) stop)
-
-pub copy_object-returns-in-Structs-clause-taken : goal.copy_object-returns-in-Structs-clause-taken
-copy_object-returns-in-Structs-clause-taken g t c =
-    let nl = to_z-of_z w32 c.args.from.nesting_limit (search rules) in
-    let less = one_level_in c.args.from.nesting_limit (search rules) in
-    let object = rw (c.in-Structs.is, nl) at c.in_ok-object.ensures.object in
-    taken_so c.copy_structs.result _ _ _ _ (λ x. structs_take c.in-Structs.start less object x) (λ x. structs_stop_take c.in-Structs.start less object x) c.copy_structs.ensures.taken
+    let less = one_level_in c.args.from.nesting_limit fits in
+    record {
+      copied = ok_so c.copy_structs.result c.copy_structs.ensures.copied (λ x made. structs_value c.in-Structs.start less object made);
+      refused = err_so c.copy_structs.result c.copy_structs.ensures.refused (λ k stop. structs_value_stops c.in-Structs.start less object (rw c.in-Structs.is at c.in_ok-object.ensures.few) stop);
+      taken = taken_so c.copy_structs.result _ _ _ _ (λ x. structs_take c.in-Structs.start less object x) (λ x. structs_stop_take c.in-Structs.start less object x) c.copy_structs.ensures.taken;
+    }
 
 -- The elements of a list of structs.
 
-pub elements::copy_element-returns-clause-copied : goal.elements::copy_element-returns-clause-copied
-elements::copy_element-returns-clause-copied g t c =
+pub elements::copy_element-returns : goal.elements::copy_element-returns
+elements::copy_element-returns g t c =
     let nl = to_z-of_z w32 c.args.from.nesting_limit (search rules) in
     let from : Reading = reading g.B.ReaderArena c.args.from in
     let held : words_of c.args.from.place.bytes.now ≡ segment_read from = c.args.from.held.0 in
@@ -404,31 +326,12 @@ elements::copy_element-returns-clause-copied g t c =
           c.args.sizes.kept.pointers c.requires.room (le_refl _);
       writes = rw section at c.put_words.ensures.words;
     } in
-    ok_so c.copy_in_line.result c.copy_in_line.ensures.copied (λ x made. element_copied put (rw (c.from.ensures, c.from-2.ensures, c.from-pointers.ensures, nl) at made))
-
-pub elements::copy_element-returns-clause-refused : goal.elements::copy_element-returns-clause-refused
-elements::copy_element-returns-clause-refused g t c =
-    let nl = to_z-of_z w32 c.args.from.nesting_limit (search rules) in
-    let from : Reading = reading g.B.ReaderArena c.args.from in
-    let held : words_of c.args.from.place.bytes.now ≡ segment_read from = c.args.from.held.0 in
-    let section : words_of c.part-data.result.now ≡ words_from from c.args.sizes.kept.data_words = rw (c.from-data_words.ensures, held) at c.part-data.ensures.words in
-    let put : DataWritten from c.args.sizes (g.A.BuilderArena.view c.args.arena.now) (g.A.BuilderArena.view c.put_words.new.arena) c.args.to.segment c.args.to.at =
     record {
-      inside = part_inside c.args.from.place.at c.args.sizes.kept.data_words
-          c.args.sizes.source.data_words c.args.sizes.source.pointers c.requires.inside c.requires.less_data;
-      room = part_inside c.args.to.at c.args.sizes.kept.data_words c.args.sizes.kept.data_words
-          c.args.sizes.kept.pointers c.requires.room (le_refl _);
-      writes = rw section at c.put_words.ensures.words;
-    } in
-    err_so c.copy_in_line.result c.copy_in_line.ensures.refused (λ k stop. element_stops put (rw (c.from.ensures, c.from-2.ensures, c.from-pointers.ensures, nl) at stop))
-
-pub elements::copy_element-returns-clause-taken : goal.elements::copy_element-returns-clause-taken
-elements::copy_element-returns-clause-taken g t c =
-    let nl = to_z-of_z w32 c.args.from.nesting_limit (search rules) in
-    let none = c.put_words.ensures.taken in
-    let last = none_itself (g.A.BuilderArena.view c.copy_in_line.new.arena) in
-    taken_so c.copy_in_line.result _ _ _ _ (λ x. all_within none last x) (λ x. among_within (le_refl _) none
-    last x) (rw (c.from.ensures, c.from-pointers.ensures, nl) at c.copy_in_line.ensures.taken)
+      copied = ok_so c.copy_in_line.result c.copy_in_line.ensures.copied (λ x made. element_copied put (rw (c.from.ensures, c.from-2.ensures, c.from-pointers.ensures, nl) at made));
+      refused = err_so c.copy_in_line.result c.copy_in_line.ensures.refused (λ k stop. element_stops put (rw (c.from.ensures, c.from-2.ensures, c.from-pointers.ensures, nl) at stop));
+      taken = (let none = c.put_words.ensures.taken in let last = none_itself (g.A.BuilderArena.view c.copy_in_line.new.arena) in taken_so c.copy_in_line.result _ _ _ _ (λ x. all_within none last x) (λ x. among_within (le_refl _) none
+    last x) (rw (c.from.ensures, c.from-pointers.ensures, nl) at c.copy_in_line.ensures.taken));
+    }
 
 pub elements::copy_elements-returns-then-kept_words-eq0-clause-copied : goal.elements::copy_elements-returns-then-kept_words-eq0-clause-copied
 elements::copy_elements-returns-then-kept_words-eq0-clause-copied g t c =
@@ -484,21 +387,6 @@ elements::copy_elements-copy_element-requires g t c κs within =
     let INSIDE : c.args.from.place.at + c.loop-i.i * c.total-source_words.result + (c.args.sizes.source.data_words + c.args.sizes.source.pointers) ≤ length (segment from.segments from.segment) = rw c.total-source_words.ensures (next_inside here) in
     search rules
 
-pub elements::copy_elements-returns-in_err-copy_element-clause-refused : goal.elements::copy_elements-returns-in_err-copy_element-clause-refused
-elements::copy_elements-returns-in_err-copy_element-clause-refused g t c =
-    let nl = to_z-of_z w32 c.args.from.nesting_limit (search rules) in
-    let from : Reading = reading g.B.ReaderArena c.args.from in
-    let here : AtRow from c.args.sizes c.args.count c.loop-i.i (form_in c.args.form) c.args.to.segment c.args.to.at (g.A.BuilderArena.view c.args.arena.now) (g.A.BuilderArena.view c.loop-i.arena) c.args.lim.now c.loop-i.lim = record {
-      fits = record { inside = c.requires.inside; less_data = c.requires.less_data; less_pointers = c.requires.less_pointers; used = c.requires.pointers };
-      room = c.requires.room;
-      zero = c.requires.zero;
-      wide = some_words c.total-kept_words.ensures c.if-kept_words-eq0.false;
-      more = c.loop-i-test.true;
-      rows = c.loop-i.invariant.0;
-    } in
-    let p = err_from_is_err_and c.from_residual.result c.from_residual.ensures.1 in
-    rw (p.1, p.2) (row_stops here c.loop-i.invariant.1 (rw (c.total-source_words.ensures, c.total-kept_words.ensures, nl) at c.in_err-copy_element.ensures.refused))
-
 pub elements::copy_elements-loop-i-preserved : goal.elements::copy_elements-loop-i-preserved
 elements::copy_elements-loop-i-preserved g t c =
     let nl = to_z-of_z w32 c.args.from.nesting_limit (search rules) in
@@ -515,13 +403,23 @@ elements::copy_elements-loop-i-preserved g t c =
       row_taken here.fits c.loop-i-test.true c.loop-i.invariant.1 (rw (c.total-source_words.ensures, nl) at c.in_ok-copy_element.ensures.taken),
     )
 
-pub elements::copy_elements-returns-in_err-copy_element-clause-taken : goal.elements::copy_elements-returns-in_err-copy_element-clause-taken
-elements::copy_elements-returns-in_err-copy_element-clause-taken g t c =
+pub elements::copy_elements-returns-in_err-copy_element : goal.elements::copy_elements-returns-in_err-copy_element
+elements::copy_elements-returns-in_err-copy_element g t c =
     let nl = to_z-of_z w32 c.args.from.nesting_limit (search rules) in
     let from : Reading = reading g.B.ReaderArena c.args.from in
-    let fits : SourceKept (form_in c.args.form) from c.args.sizes c.args.count = record { inside = c.requires.inside; less_data = c.requires.less_data; less_pointers = c.requires.less_pointers; used = c.requires.pointers } in
     let p = err_from_is_err_and c.from_residual.result c.from_residual.ensures.1 in
-    rw p.1 (row_stop_taken fits c.loop-i-test.true c.loop-i.invariant.1 (rw (c.total-source_words.ensures, nl) at c.in_err-copy_element.ensures.taken))
+    record {
+      copied = rw p.1 tt;
+      refused = (let here : AtRow from c.args.sizes c.args.count c.loop-i.i (form_in c.args.form) c.args.to.segment c.args.to.at (g.A.BuilderArena.view c.args.arena.now) (g.A.BuilderArena.view c.loop-i.arena) c.args.lim.now c.loop-i.lim = record {
+      fits = record { inside = c.requires.inside; less_data = c.requires.less_data; less_pointers = c.requires.less_pointers; used = c.requires.pointers };
+      room = c.requires.room;
+      zero = c.requires.zero;
+      wide = some_words c.total-kept_words.ensures c.if-kept_words-eq0.false;
+      more = c.loop-i-test.true;
+      rows = c.loop-i.invariant.0;
+    } in rw (p.1, p.2) (row_stops here c.loop-i.invariant.1 (rw (c.total-source_words.ensures, c.total-kept_words.ensures, nl) at c.in_err-copy_element.ensures.refused)));
+      taken = (let fits : SourceKept (form_in c.args.form) from c.args.sizes c.args.count = record { inside = c.requires.inside; less_data = c.requires.less_data; less_pointers = c.requires.less_pointers; used = c.requires.pointers } in rw p.1 (row_stop_taken fits c.loop-i-test.true c.loop-i.invariant.1 (rw (c.total-source_words.ensures, nl) at c.in_err-copy_element.ensures.taken)));
+    }
 
 pub elements::copy_elements-returns-clause-copied : goal.elements::copy_elements-returns-clause-copied
 elements::copy_elements-returns-clause-copied g t c =
@@ -549,36 +447,26 @@ lists::copy_pointers-copy_in_line-requires g t c κs within =
     let NULLS : HasNulls M c.in_ok-start.start.segment c.in_ok-start.start.at c.args.count = record { room = begun.inside.1; null = pointers_ready S M c.args.id c.args.at c.args.count c.in_ok-start.start begun } in
     search rules
 
-pub lists::copy_pointers-returns-clause-copied : goal.lists::copy_pointers-returns-clause-copied
-lists::copy_pointers-returns-clause-copied g t c =
-    let begun : ObjectBegun c.args.id c.args.at c.args.count (g.A.BuilderArena.view c.args.arena.now) (g.A.BuilderArena.view c.make_list.new.arena) c.in_ok-start.start (Pointers (nulls c.args.count)) =
-    record { begun = record { made = c.in_ok-start.ensures.made; start = c.in_ok-start.ensures.start.leads; inside = c.in_ok-start.ensures.start.inside }; memory = c.in_ok-start.ensures.memory.granted } in
-    ok_so c.copy_in_line.result c.copy_in_line.ensures.copied (λ x made. pointers_copied begun (record { place = c.requires.place; memory = c.in_ok-start.ensures.memory.granted; taken = c.in_ok-start.ensures.memory.taken; near = c.in_ok-start.ensures.near; at_end = c.in_ok-start.ensures.at_end }) made)
+pub lists::copy_pointers-returns : goal.lists::copy_pointers-returns
+lists::copy_pointers-returns g t c =
+    record {
+      copied = (let begun : ObjectBegun c.args.id c.args.at c.args.count (g.A.BuilderArena.view c.args.arena.now) (g.A.BuilderArena.view c.make_list.new.arena) c.in_ok-start.start (Pointers (nulls c.args.count)) =
+    record { begun = record { made = c.in_ok-start.ensures.made; start = c.in_ok-start.ensures.start.leads; inside = c.in_ok-start.ensures.start.inside }; memory = c.in_ok-start.ensures.memory.granted } in ok_so c.copy_in_line.result c.copy_in_line.ensures.copied (λ x made. pointers_copied begun (record { place = c.requires.place; memory = c.in_ok-start.ensures.memory.granted; taken = c.in_ok-start.ensures.memory.taken; near = c.in_ok-start.ensures.near; at_end = c.in_ok-start.ensures.at_end }) made));
+      refused = (let begun : ObjectBegun c.args.id c.args.at c.args.count (g.A.BuilderArena.view c.args.arena.now) (g.A.BuilderArena.view c.make_list.new.arena) c.in_ok-start.start (Pointers (nulls c.args.count)) =
+    record { begun = record { made = c.in_ok-start.ensures.made; start = c.in_ok-start.ensures.start.leads; inside = c.in_ok-start.ensures.start.inside }; memory = c.in_ok-start.ensures.memory.granted } in err_so c.copy_in_line.result c.copy_in_line.ensures.refused (λ k stop. pointers_stop begun (record { place = c.requires.place; memory = c.in_ok-start.ensures.memory.granted; taken = c.in_ok-start.ensures.memory.taken; behind = c.in_ok-start.ensures.start.behind }) c.in_ok-start.ensures.at_end stop));
+      taken = (let begun : Begins c.args.id c.in_ok-start.start.segment c.args.count (g.A.BuilderArena.view c.args.arena.now) (g.A.BuilderArena.view c.make_list.new.arena) =
+    record { there = there (g.A.BuilderArena.view c.args.arena.now).words c.args.id c.args.at c.requires.place; taken = c.in_ok-start.ensures.memory.taken; memory = c.in_ok-start.ensures.memory.granted; near = λ room. (c.in_ok-start.ensures.at_end room).0; far = λ full. (c.in_ok-start.ensures.start.behind.far full).0 } in taken_so c.copy_in_line.result _ _ _ _ (λ x. pointers_behind _ _ _ _ _ _ _ _ _ _ begun x) (λ x. pointers_stop_behind _ _ _ _ _ _ _ _ _ _ begun x) c.copy_in_line.ensures.taken);
+    }
 
-pub lists::copy_pointers-returns-clause-refused : goal.lists::copy_pointers-returns-clause-refused
-lists::copy_pointers-returns-clause-refused g t c =
-    let begun : ObjectBegun c.args.id c.args.at c.args.count (g.A.BuilderArena.view c.args.arena.now) (g.A.BuilderArena.view c.make_list.new.arena) c.in_ok-start.start (Pointers (nulls c.args.count)) =
-    record { begun = record { made = c.in_ok-start.ensures.made; start = c.in_ok-start.ensures.start.leads; inside = c.in_ok-start.ensures.start.inside }; memory = c.in_ok-start.ensures.memory.granted } in
-    err_so c.copy_in_line.result c.copy_in_line.ensures.refused (λ k stop. pointers_stop begun (record { place = c.requires.place; memory = c.in_ok-start.ensures.memory.granted; taken = c.in_ok-start.ensures.memory.taken; behind = c.in_ok-start.ensures.start.behind }) c.in_ok-start.ensures.at_end stop)
-
-pub lists::copy_pointers-returns-clause-taken : goal.lists::copy_pointers-returns-clause-taken
-lists::copy_pointers-returns-clause-taken g t c =
-    let begun : Begins c.args.id c.in_ok-start.start.segment c.args.count (g.A.BuilderArena.view c.args.arena.now) (g.A.BuilderArena.view c.make_list.new.arena) =
-    record { there = there (g.A.BuilderArena.view c.args.arena.now).words c.args.id c.args.at c.requires.place; taken = c.in_ok-start.ensures.memory.taken; memory = c.in_ok-start.ensures.memory.granted; near = λ room. (c.in_ok-start.ensures.at_end room).0; far = λ full. (c.in_ok-start.ensures.start.behind.far full).0 } in
-    taken_so c.copy_in_line.result _ _ _ _ (λ x. pointers_behind _ _ _ _ _ _ _ _ _ _ begun x) (λ x. pointers_stop_behind _ _ _ _ _ _ _ _ _ _ begun x) c.copy_in_line.ensures.taken
-
-pub lists::copy_pointers-returns-in_err-start-clause-refused : goal.lists::copy_pointers-returns-in_err-start-clause-refused
-lists::copy_pointers-returns-in_err-start-clause-refused g t c =
-    let full : HasRoom (g.A.BuilderArena.view c.args.arena.now) c.args.id c.args.count → ⊥ = λ room. absurd (false≢true (c.in_err-start.ensures.memory.fits room)) in
-    let none = nothing_made (form_in c.args.form) c.args.id c.args.at c.args.count (g.A.BuilderArena.view c.args.arena.now) (g.A.BuilderArena.view c.make_list.new.arena) c.args.lim.now c.args.lim.now c.in_err-start.field-0.0 c.requires.place c.requires.null
-    c.in_err-start.ensures.memory.named c.in_err-start.ensures.refused full in
+pub lists::copy_pointers-returns-in_err-start : goal.lists::copy_pointers-returns-in_err-start
+lists::copy_pointers-returns-in_err-start g t c =
     let p = err_from_is_err_and c.from_residual.result c.from_residual.ensures.1 in
-    rw (p.1, p.2) (halfway (inl (inl (c.args.count, refl, refl, (none.0, no_own_room (g.A.BuilderArena.view c.args.arena.now) c.args.id c.args.count full)), pointers_large (form_in c.args.form) (reading g.B.ReaderArena c.args.from) c.args.count (length (segment (g.A.BuilderArena.view c.args.arena.now).words c.args.id)) ((g.A.BuilderArena.view c.args.arena.now).room c.args.id) (no_pointers_room (form_in c.args.form) (reading g.B.ReaderArena c.args.from) c.args.count c.args.id (g.A.BuilderArena.view c.args.arena.now) full))) none.1)
-
-pub lists::copy_pointers-returns-in_err-start-clause-taken : goal.lists::copy_pointers-returns-in_err-start-clause-taken
-lists::copy_pointers-returns-in_err-start-clause-taken g t c =
-    let p = err_from_is_err_and c.from_residual.result c.from_residual.ensures.1 in
-    rw p.1 (inl (refl, made_none (none_refused (g.A.BuilderArena.view c.args.arena.now) (g.A.BuilderArena.view c.make_list.new.arena) c.args.count c.in_err-start.field-0.0 c.in_err-start.ensures.memory.named c.in_err-start.ensures.refused)))
+    record {
+      copied = rw p.1 tt;
+      refused = (let full : HasRoom (g.A.BuilderArena.view c.args.arena.now) c.args.id c.args.count → ⊥ = λ room. absurd (false≢true (c.in_err-start.ensures.memory.fits room)) in let none = nothing_made (form_in c.args.form) c.args.id c.args.at c.args.count (g.A.BuilderArena.view c.args.arena.now) (g.A.BuilderArena.view c.make_list.new.arena) c.args.lim.now c.args.lim.now c.in_err-start.field-0.0 c.requires.place c.requires.null
+    c.in_err-start.ensures.memory.named c.in_err-start.ensures.refused full in rw (p.1, p.2) (halfway (inl (inl (c.args.count, refl, refl, (none.0, no_own_room (g.A.BuilderArena.view c.args.arena.now) c.args.id c.args.count full)), pointers_large (form_in c.args.form) (reading g.B.ReaderArena c.args.from) c.args.count (length (segment (g.A.BuilderArena.view c.args.arena.now).words c.args.id)) ((g.A.BuilderArena.view c.args.arena.now).room c.args.id) (no_pointers_room (form_in c.args.form) (reading g.B.ReaderArena c.args.from) c.args.count c.args.id (g.A.BuilderArena.view c.args.arena.now) full))) none.1));
+      taken = rw p.1 (inl (refl, made_none (none_refused (g.A.BuilderArena.view c.args.arena.now) (g.A.BuilderArena.view c.make_list.new.arena) c.args.count c.in_err-start.field-0.0 c.in_err-start.ensures.memory.named c.in_err-start.ensures.refused)));
+    }
 
 -- Lists of structs.
 
@@ -595,99 +483,79 @@ lists::copy_structs-copy_elements-requires g t c κs within =
     let POINTERS : KeepsPointers (form_in c.args.form) from (record { source = c.args.size; kept = least }) c.args.count = widths_keep (form_in c.args.form) from (record { source = c.args.size; kept = least }) c.args.count c.kept_widths-kept.ensures.kept in
     search rules
 
-pub lists::copy_structs-returns-clause-copied : goal.lists::copy_structs-returns-clause-copied
-lists::copy_structs-returns-clause-copied g t c =
-    let least = c.kept_widths-kept.result in
-    let begun : ObjectBegun c.args.id c.args.at (1 + c.args.count * (least.data_words + least.pointers)) (g.A.BuilderArena.view c.args.arena.now) (g.A.BuilderArena.view c.make_struct_list.new.arena) c.in_ok-list.list (zero_structs c.args.count least) =
-    record { begun = record { made = c.in_ok-list.ensures.made; start = c.in_ok-list.ensures.start.leads; inside = c.in_ok-list.ensures.start.inside }; memory = c.in_ok-list.ensures.memory.granted } in
-    ok_so c.copy_elements.result c.copy_elements.ensures.copied (λ x made. structs_copied c.requires.inside c.kept_widths-kept.ensures.kept begun (record { place = c.requires.place; memory = c.in_ok-list.ensures.memory.granted; taken = c.in_ok-list.ensures.memory.taken; behind = c.in_ok-list.ensures.start.behind; near = c.in_ok-list.ensures.near }) made)
-
-pub lists::copy_structs-returns-clause-refused : goal.lists::copy_structs-returns-clause-refused
-lists::copy_structs-returns-clause-refused g t c =
+pub lists::copy_structs-returns : goal.lists::copy_structs-returns
+lists::copy_structs-returns g t c =
     let least = c.kept_widths-kept.result in
     let less = no_wider c.args.count least.data_words least.pointers c.args.size.data_words c.args.size.pointers c.kept_widths-kept.ensures.less_data c.kept_widths-kept.ensures.less_pointers in
-    let begun : ObjectBegun c.args.id c.args.at (1 + c.args.count * (least.data_words + least.pointers)) (g.A.BuilderArena.view c.args.arena.now) (g.A.BuilderArena.view c.make_struct_list.new.arena) c.in_ok-list.list (zero_structs c.args.count least) =
-    record { begun = record { made = c.in_ok-list.ensures.made; start = c.in_ok-list.ensures.start.leads; inside = c.in_ok-list.ensures.start.inside }; memory = c.in_ok-list.ensures.memory.granted } in
-    err_so c.copy_elements.result c.copy_elements.ensures.refused (λ k stop. structs_stop c.requires.inside
+    record {
+      copied = (let begun : ObjectBegun c.args.id c.args.at (1 + c.args.count * (least.data_words + least.pointers)) (g.A.BuilderArena.view c.args.arena.now) (g.A.BuilderArena.view c.make_struct_list.new.arena) c.in_ok-list.list (zero_structs c.args.count least) =
+    record { begun = record { made = c.in_ok-list.ensures.made; start = c.in_ok-list.ensures.start.leads; inside = c.in_ok-list.ensures.start.inside }; memory = c.in_ok-list.ensures.memory.granted } in ok_so c.copy_elements.result c.copy_elements.ensures.copied (λ x made. structs_copied c.requires.inside c.kept_widths-kept.ensures.kept begun (record { place = c.requires.place; memory = c.in_ok-list.ensures.memory.granted; taken = c.in_ok-list.ensures.memory.taken; behind = c.in_ok-list.ensures.start.behind; near = c.in_ok-list.ensures.near }) made));
+      refused = (let begun : ObjectBegun c.args.id c.args.at (1 + c.args.count * (least.data_words + least.pointers)) (g.A.BuilderArena.view c.args.arena.now) (g.A.BuilderArena.view c.make_struct_list.new.arena) c.in_ok-list.list (zero_structs c.args.count least) =
+    record { begun = record { made = c.in_ok-list.ensures.made; start = c.in_ok-list.ensures.start.leads; inside = c.in_ok-list.ensures.start.inside }; memory = c.in_ok-list.ensures.memory.granted } in err_so c.copy_elements.result c.copy_elements.ensures.refused (λ k stop. structs_stop c.requires.inside
     c.kept_widths-kept.ensures.kept begun (record {
       place = c.requires.place;
       memory = c.in_ok-list.ensures.memory.granted;
       taken = c.in_ok-list.ensures.memory.taken;
       behind = c.in_ok-list.ensures.start.behind;
       near = c.in_ok-list.ensures.near;
-    }) (one_more less) stop)
-
-pub lists::copy_structs-returns-clause-taken : goal.lists::copy_structs-returns-clause-taken
-lists::copy_structs-returns-clause-taken g t c =
-    let least = c.kept_widths-kept.result in
-    let less = no_wider c.args.count least.data_words least.pointers c.args.size.data_words c.args.size.pointers c.kept_widths-kept.ensures.less_data c.kept_widths-kept.ensures.less_pointers in
-    let begun : Begins c.args.id c.in_ok-list.list.segment (1 + c.args.count * (least.data_words + least.pointers)) (g.A.BuilderArena.view c.args.arena.now) (g.A.BuilderArena.view c.make_struct_list.new.arena) =
+    }) (one_more less) stop));
+      taken = (let begun : Begins c.args.id c.in_ok-list.list.segment (1 + c.args.count * (least.data_words + least.pointers)) (g.A.BuilderArena.view c.args.arena.now) (g.A.BuilderArena.view c.make_struct_list.new.arena) =
     record {
       there = there (g.A.BuilderArena.view c.args.arena.now).words c.args.id c.args.at c.requires.place;
       taken = c.in_ok-list.ensures.memory.taken;
       memory = c.in_ok-list.ensures.memory.granted;
       near = λ room. (c.in_ok-list.ensures.start.behind.near (some_more _) room).0;
       far = λ full. (c.in_ok-list.ensures.start.behind.far full).0;
-    } in
-    taken_so c.copy_elements.result _ _ _ _
+    } in taken_so c.copy_elements.result _ _ _ _
     (λ x. structs_behind _ (record { source = c.args.size; kept = c.kept_widths-kept.result }) _ _ _ _ _ _ _ _ _ _ begun (one_more less) x)
     (λ x. structs_stop_behind _ (record { source = c.args.size; kept = c.kept_widths-kept.result }) _ _ _ _ _ _ _ _ _ _ begun (one_more less) x)
-    c.copy_elements.ensures.taken
+    c.copy_elements.ensures.taken);
+    }
 
-pub lists::copy_structs-returns-in_err-list-clause-refused : goal.lists::copy_structs-returns-in_err-list-clause-refused
-lists::copy_structs-returns-in_err-list-clause-refused g t c =
-    let least = c.kept_widths-kept.result in
-    let full : HasRoom (g.A.BuilderArena.view c.args.arena.now) c.args.id (1 + c.args.count * (least.data_words + least.pointers)) → ⊥ = λ room. absurd (false≢true (c.in_err-list.ensures.memory.fits room)) in
-    let none = nothing_made (form_in c.args.form) c.args.id c.args.at (1 + c.args.count * (least.data_words + least.pointers)) (g.A.BuilderArena.view c.args.arena.now) (g.A.BuilderArena.view c.make_struct_list.new.arena) c.args.lim.now c.args.lim.now c.in_err-list.field-0.0 c.requires.place c.requires.null
-    c.in_err-list.ensures.memory.named c.in_err-list.ensures.refused full in
-    let p = err_from_is_err_and c.from_residual.result c.from_residual.ensures.1 in
-    rw (p.1, p.2) (halfway (inl (inl (1 + c.args.count * (least.data_words + least.pointers), refl, ap (structs_words c.args.count) c.kept_widths-kept.ensures.kept, (none.0, no_own_room (g.A.BuilderArena.view c.args.arena.now) c.args.id (1 + c.args.count * (least.data_words + least.pointers)) full)), structs_large (form_in c.args.form) (reading g.B.ReaderArena c.args.from) c.args.size c.args.count (length (segment (g.A.BuilderArena.view c.args.arena.now).words c.args.id)) ((g.A.BuilderArena.view c.args.arena.now).room c.args.id) (no_structs_room (reading g.B.ReaderArena c.args.from) c.args.size least c.args.count c.args.id (g.A.BuilderArena.view c.args.arena.now) (form_in c.args.form) c.requires.inside c.kept_widths-kept.ensures.kept full))) none.1)
-
-pub lists::copy_structs-returns-in_err-list-clause-taken : goal.lists::copy_structs-returns-in_err-list-clause-taken
-lists::copy_structs-returns-in_err-list-clause-taken g t c =
+pub lists::copy_structs-returns-in_err-list : goal.lists::copy_structs-returns-in_err-list
+lists::copy_structs-returns-in_err-list g t c =
     let least = c.kept_widths-kept.result in
     let p = err_from_is_err_and c.from_residual.result c.from_residual.ensures.1 in
-    rw p.1 (inl (refl, made_none (none_refused (g.A.BuilderArena.view c.args.arena.now) (g.A.BuilderArena.view c.make_struct_list.new.arena) (1 + c.args.count * (least.data_words + least.pointers)) c.in_err-list.field-0.0 c.in_err-list.ensures.memory.named c.in_err-list.ensures.refused)))
+    record {
+      copied = rw p.1 tt;
+      refused = (let full : HasRoom (g.A.BuilderArena.view c.args.arena.now) c.args.id (1 + c.args.count * (least.data_words + least.pointers)) → ⊥ = λ room. absurd (false≢true (c.in_err-list.ensures.memory.fits room)) in let none = nothing_made (form_in c.args.form) c.args.id c.args.at (1 + c.args.count * (least.data_words + least.pointers)) (g.A.BuilderArena.view c.args.arena.now) (g.A.BuilderArena.view c.make_struct_list.new.arena) c.args.lim.now c.args.lim.now c.in_err-list.field-0.0 c.requires.place c.requires.null
+    c.in_err-list.ensures.memory.named c.in_err-list.ensures.refused full in rw (p.1, p.2) (halfway (inl (inl (1 + c.args.count * (least.data_words + least.pointers), refl, ap (structs_words c.args.count) c.kept_widths-kept.ensures.kept, (none.0, no_own_room (g.A.BuilderArena.view c.args.arena.now) c.args.id (1 + c.args.count * (least.data_words + least.pointers)) full)), structs_large (form_in c.args.form) (reading g.B.ReaderArena c.args.from) c.args.size c.args.count (length (segment (g.A.BuilderArena.view c.args.arena.now).words c.args.id)) ((g.A.BuilderArena.view c.args.arena.now).room c.args.id) (no_structs_room (reading g.B.ReaderArena c.args.from) c.args.size least c.args.count c.args.id (g.A.BuilderArena.view c.args.arena.now) (form_in c.args.form) c.requires.inside c.kept_widths-kept.ensures.kept full))) none.1));
+      taken = rw p.1 (inl (refl, made_none (none_refused (g.A.BuilderArena.view c.args.arena.now) (g.A.BuilderArena.view c.make_struct_list.new.arena) (1 + c.args.count * (least.data_words + least.pointers)) c.in_err-list.field-0.0 c.in_err-list.ensures.memory.named c.in_err-list.ensures.refused)));
+    }
 
 -- Structs.
 
-pub structs::copy_struct-returns-in_err-start-clause-refused : goal.structs::copy_struct-returns-in_err-start-clause-refused
-structs::copy_struct-returns-in_err-start-clause-refused g t c =
+pub structs::copy_struct-returns-in_err-start : goal.structs::copy_struct-returns-in_err-start
+structs::copy_struct-returns-in_err-start g t c =
     let least = c.kept_sections-kept.result in
-    let full : HasRoom (g.A.BuilderArena.view c.args.arena.now) c.args.id (least.data_words + least.pointers) → ⊥ = λ room. absurd (false≢true (c.in_err-start.ensures.memory.fits room)) in
-    let none = nothing_made (form_in c.args.form) c.args.id c.args.at (least.data_words + least.pointers) (g.A.BuilderArena.view c.args.arena.now) (g.A.BuilderArena.view c.make_struct.new.arena) c.args.lim.now c.args.lim.now c.in_err-start.field-0.0 c.requires.place c.requires.null
-    c.in_err-start.ensures.memory.named c.in_err-start.ensures.refused full in
-    let r : Reading = reading g.B.ReaderArena c.args.from in
-    let cut : SectionsCut (form_in c.args.form) (words_from r c.args.size.data_words) (behind r
+    let p = err_from_is_err_and c.from_residual.result c.from_residual.ensures.1 in
+    record {
+      copied = rw p.1 tt;
+      refused = (let full : HasRoom (g.A.BuilderArena.view c.args.arena.now) c.args.id (least.data_words + least.pointers) → ⊥ = λ room. absurd (false≢true (c.in_err-start.ensures.memory.fits room)) in let none = nothing_made (form_in c.args.form) c.args.id c.args.at (least.data_words + least.pointers) (g.A.BuilderArena.view c.args.arena.now) (g.A.BuilderArena.view c.make_struct.new.arena) c.args.lim.now c.args.lim.now c.in_err-start.field-0.0 c.requires.place c.requires.null
+    c.in_err-start.ensures.memory.named c.in_err-start.ensures.refused full in let r : Reading = reading g.B.ReaderArena c.args.from in let cut : SectionsCut (form_in c.args.form) (words_from r c.args.size.data_words) (behind r
     c.args.size.data_words) c.args.size.pointers least = record {
       inside = behind_inside
           c.args.from.place.at c.args.size.data_words c.args.size.pointers c.requires.inside;
       of_data = c.kept_sections-kept.ensures.data;
       of_pointers = c.kept_sections-kept.ensures.pointers;
-    } in
-    let makes = ap₂ (λ i j. i + j) cut.of_data cut.of_pointers in
-    let p = err_from_is_err_and c.from_residual.result c.from_residual.ensures.1 in
-    rw (p.1, p.2) (halfway (inl (
+    } in let makes = ap₂ (λ i j. i + j) cut.of_data cut.of_pointers in rw (p.1, p.2) (halfway (inl (
       inl (least.data_words + least.pointers, refl, makes, (none.0, no_own_room (g.A.BuilderArena.view c.args.arena.now) c.args.id (least.data_words + least.pointers) full)),
       sections_large (form_in c.args.form) (words_from r c.args.size.data_words) (behind r c.args.size.data_words) c.args.size.pointers (length (segment (g.A.BuilderArena.view c.args.arena.now).words c.args.id)) ((g.A.BuilderArena.view c.args.arena.now).room c.args.id)
           (no_sections_room c.args.id (g.A.BuilderArena.view c.args.arena.now) (form_in c.args.form) cut full),
-    )) none.1)
+    )) none.1));
+      taken = rw p.1 (inl (refl, made_none (none_refused (g.A.BuilderArena.view c.args.arena.now) (g.A.BuilderArena.view c.make_struct.new.arena) (least.data_words + least.pointers) c.in_err-start.field-0.0 c.in_err-start.ensures.memory.named c.in_err-start.ensures.refused)));
+    }
 
-pub structs::copy_struct-returns-in_err-start-clause-taken : goal.structs::copy_struct-returns-in_err-start-clause-taken
-structs::copy_struct-returns-in_err-start-clause-taken g t c =
-    let least = c.kept_sections-kept.result in
-    let p = err_from_is_err_and c.from_residual.result c.from_residual.ensures.1 in
-    rw p.1 (inl (refl, made_none (none_refused (g.A.BuilderArena.view c.args.arena.now) (g.A.BuilderArena.view c.make_struct.new.arena) (least.data_words + least.pointers) c.in_err-start.field-0.0 c.in_err-start.ensures.memory.named c.in_err-start.ensures.refused)))
-
-pub structs::copy_struct-returns-clause-copied : goal.structs::copy_struct-returns-clause-copied
-structs::copy_struct-returns-clause-copied g t c =
+pub structs::copy_struct-returns : goal.structs::copy_struct-returns
+structs::copy_struct-returns g t c =
     let nl = to_z-of_z w32 c.args.from.nesting_limit (search rules) in
     let least = c.kept_sections-kept.result in
     let r : Reading = reading g.B.ReaderArena c.args.from in
     let held : words_of c.args.from.place.bytes.now ≡ segment_read r = c.args.from.held.0 in
     let section : words_of c.part-data.result.now ≡ take least.data_words (words_from r c.args.size.data_words) =
     (rw (c.from-data_words.ensures, held) at c.part-data.ensures.words) ∙ sym (words_taken r.segments r.segment r.at least.data_words c.args.size.data_words c.kept_sections-kept.ensures.less_data) in
-    let begun : SectionsBegun (form_in c.args.form) (words_from r c.args.size.data_words) (behind r c.args.size.data_words) c.args.size.pointers least c.args.id c.args.at (g.A.BuilderArena.view c.args.arena.now) (g.A.BuilderArena.view c.make_struct.new.arena) (g.A.BuilderArena.view c.put_words.new.arena) c.in_ok-start.start = record {
+    record {
+      copied = (let begun : SectionsBegun (form_in c.args.form) (words_from r c.args.size.data_words) (behind r c.args.size.data_words) c.args.size.pointers least c.args.id c.args.at (g.A.BuilderArena.view c.args.arena.now) (g.A.BuilderArena.view c.make_struct.new.arena) (g.A.BuilderArena.view c.put_words.new.arena) c.in_ok-start.start = record {
       cut = record {
         inside = behind_inside c.args.from.place.at c.args.size.data_words c.args.size.pointers
             c.requires.inside;
@@ -703,18 +571,8 @@ structs::copy_struct-returns-clause-copied g t c =
       behind = c.in_ok-start.ensures.start.behind;
       near = c.in_ok-start.ensures.near;
       empty = c.in_ok-start.ensures.empty;
-    } in
-    ok_so c.copy_children.result c.copy_children.ensures.copied (λ x made. sections_copied begun (rw (c.from.ensures, c.from-2.ensures, c.from-pointers.ensures, nl) at made))
-
-pub structs::copy_struct-returns-clause-refused : goal.structs::copy_struct-returns-clause-refused
-structs::copy_struct-returns-clause-refused g t c =
-    let nl = to_z-of_z w32 c.args.from.nesting_limit (search rules) in
-    let least = c.kept_sections-kept.result in
-    let r : Reading = reading g.B.ReaderArena c.args.from in
-    let held : words_of c.args.from.place.bytes.now ≡ segment_read r = c.args.from.held.0 in
-    let section : words_of c.part-data.result.now ≡ take least.data_words (words_from r c.args.size.data_words) =
-    (rw (c.from-data_words.ensures, held) at c.part-data.ensures.words) ∙ sym (words_taken r.segments r.segment r.at least.data_words c.args.size.data_words c.kept_sections-kept.ensures.less_data) in
-    let begun : SectionsBegun (form_in c.args.form) (words_from r c.args.size.data_words) (behind r c.args.size.data_words) c.args.size.pointers least c.args.id c.args.at (g.A.BuilderArena.view c.args.arena.now) (g.A.BuilderArena.view c.make_struct.new.arena) (g.A.BuilderArena.view c.put_words.new.arena) c.in_ok-start.start = record {
+    } in ok_so c.copy_children.result c.copy_children.ensures.copied (λ x made. sections_copied begun (rw (c.from.ensures, c.from-2.ensures, c.from-pointers.ensures, nl) at made)));
+      refused = (let begun : SectionsBegun (form_in c.args.form) (words_from r c.args.size.data_words) (behind r c.args.size.data_words) c.args.size.pointers least c.args.id c.args.at (g.A.BuilderArena.view c.args.arena.now) (g.A.BuilderArena.view c.make_struct.new.arena) (g.A.BuilderArena.view c.put_words.new.arena) c.in_ok-start.start = record {
       cut = record {
         inside = behind_inside c.args.from.place.at c.args.size.data_words c.args.size.pointers
             c.requires.inside;
@@ -730,35 +588,22 @@ structs::copy_struct-returns-clause-refused g t c =
       behind = c.in_ok-start.ensures.start.behind;
       near = c.in_ok-start.ensures.near;
       empty = c.in_ok-start.ensures.empty;
-    } in
-    err_so c.copy_children.result c.copy_children.ensures.refused (λ k stop. sections_stop begun (rw (c.from.ensures, c.from-2.ensures, c.from-pointers.ensures, nl) at stop))
-
-pub structs::copy_struct-returns-clause-taken : goal.structs::copy_struct-returns-clause-taken
-structs::copy_struct-returns-clause-taken g t c =
-    let least = c.kept_sections-kept.result in
-    let made = struct_begins c.args.id c.args.at least (g.A.BuilderArena.view c.args.arena.now) (g.A.BuilderArena.view c.make_struct.new.arena) c.in_ok-start.start c.requires.place c.in_ok-start.ensures.memory.taken c.in_ok-start.ensures.memory.granted c.in_ok-start.ensures.start.behind c.in_ok-start.ensures.start.leads c.in_ok-start.ensures.empty in
-    let nl = to_z-of_z w32 c.args.from.nesting_limit (search rules) in
-    let put = c.put_words.ensures.taken in
-    let last = none_itself (g.A.BuilderArena.view c.copy_children.new.arena) in
-    let fewer = c.kept_sections-kept.ensures.less_pointers in
-    let r : Reading = reading g.B.ReaderArena c.args.from in
-    let cut : SectionsCut (form_in c.args.form) (words_from r c.args.size.data_words) (behind r
+    } in err_so c.copy_children.result c.copy_children.ensures.refused (λ k stop. sections_stop begun (rw (c.from.ensures, c.from-2.ensures, c.from-pointers.ensures, nl) at stop)));
+      taken = (let made = struct_begins c.args.id c.args.at least (g.A.BuilderArena.view c.args.arena.now) (g.A.BuilderArena.view c.make_struct.new.arena) c.in_ok-start.start c.requires.place c.in_ok-start.ensures.memory.taken c.in_ok-start.ensures.memory.granted c.in_ok-start.ensures.start.behind c.in_ok-start.ensures.start.leads c.in_ok-start.ensures.empty in let put = c.put_words.ensures.taken in let last = none_itself (g.A.BuilderArena.view c.copy_children.new.arena) in let fewer = c.kept_sections-kept.ensures.less_pointers in let cut : SectionsCut (form_in c.args.form) (words_from r c.args.size.data_words) (behind r
     c.args.size.data_words) c.args.size.pointers least = record {
       inside = behind_inside
           c.args.from.place.at c.args.size.data_words c.args.size.pointers c.requires.inside;
       of_data = c.kept_sections-kept.ensures.data;
       of_pointers = c.kept_sections-kept.ensures.pointers;
-    } in
-    let long = length_words r.segments r.segment r.at c.args.size.data_words (part_inside
+    } in let long = length_words r.segments r.segment r.at c.args.size.data_words (part_inside
     c.args.from.place.at c.args.size.data_words c.args.size.data_words c.args.size.pointers
-    c.requires.inside (le_refl _)) in
-    let less : least.data_words + least.pointers ≤ length (words_from r c.args.size.data_words) +
-    c.args.size.pointers = fewer_words c.kept_sections-kept.ensures.less_data fewer long in
-    taken_so c.copy_children.result _ _ _ _ (λ x. sections_behind (words_from r c.args.size.data_words) (behind r c.args.size.data_words) c.args.size.pointers least.pointers (least.data_words + least.pointers) _ _ _ _ _ _ _ _ cut.inside cut.of_pointers made less (all_within put last x))
+    c.requires.inside (le_refl _)) in let less : least.data_words + least.pointers ≤ length (words_from r c.args.size.data_words) +
+    c.args.size.pointers = fewer_words c.kept_sections-kept.ensures.less_data fewer long in taken_so c.copy_children.result _ _ _ _ (λ x. sections_behind (words_from r c.args.size.data_words) (behind r c.args.size.data_words) c.args.size.pointers least.pointers (least.data_words + least.pointers) _ _ _ _ _ _ _ _ cut.inside cut.of_pointers made less (all_within put last x))
     (λ x. sections_stop_behind (words_from r c.args.size.data_words) (behind r c.args.size.data_words)
     c.args.size.pointers least.pointers (least.data_words + least.pointers) _ _ _ _ _ _ _ _ fewer made
     less (among_within (le_refl _) put last x))
-    (rw (c.from.ensures, c.from-pointers.ensures, nl) at c.copy_children.ensures.taken)
+    (rw (c.from.ensures, c.from-pointers.ensures, nl) at c.copy_children.ensures.taken));
+    }
 
 pub structs::copy_struct-copy_children-requires : goal.structs::copy_struct-copy_children-requires
 structs::copy_struct-copy_children-requires g t c κs within =
