@@ -31,7 +31,7 @@ ORDER = (
     'capnp_arena/Limits', 'capnp_arena/Allocations', 'capnp_format/Tree', 'capnp_format/Value', 'capnp_format/Bytes', 'capnp_format/Means',
     'capnp_format/Segments', 'capnp_format/Word', 'capnp_format/Numbers', 'capnp_format/Canonical',
     'capnp_edits/Edits', 'capnp_format/Forest', 'capnp_edits/Paths', 'capnp_edits/Tasks', 'capnp_edits/Sources', 'capnp_making/Path', 'capnp_making/Stored',
-    'capnp_making/Made', 'capnp_making/Fields', 'capnp_making/Existing', 'capnp_widening/Opening', 'capnp_widening/Widened', 'capnp_builders/Defaults',
+    'capnp_making/Made', 'capnp_making/Fields', 'capnp_contents/Existing', 'capnp_widening/Opening', 'capnp_widening/Widened', 'capnp_builders/Defaults',
     'capnp_builders/Laws', 'capnp_builders/Content', 'capnp_builders/Places', 'capnp_copies/Forms', 'capnp_readers/Readers', 'capnp_readers/Sections',
     'capnp_objects/Reading', 'capnp_objects/Outcomes', 'capnp_objects/Spending', 'capnp_objects/Wanted', 'capnp_objects/Faults', 'capnp_objects/Demands',
     'capnp_objects/Refusals', 'capnp_objects/Expected', 'capnp_objects/Follow', 'capnp_words/Sizes', 'capnp_arena/View', 'capnp_arena/Checks',

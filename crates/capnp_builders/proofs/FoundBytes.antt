@@ -8,8 +8,8 @@ use Rattle.capnp_format.specs.Segments.{Segments, segment, Target}
 use Rattle.capnp_format.specs.Tree.{Tree, Null, Capability, Struct, Flat, Pointers, Structs}
 use Rattle.capnp_format.specs.Means.{Means}
 use Rattle.capnp_format.specs.Forest.{target, target_in}
-use Rattle.capnp_making.specs.declared.existing.ExistingBytes.{ExistingBytes}
-use Rattle.capnp_making.specs.Existing.{BytesLieIn, bytes_at, data_in, text_in, ends_in_zero}
+use Rattle.capnp_contents.specs.declared.existing.ExistingBytes.{ExistingBytes}
+use Rattle.capnp_contents.specs.Existing.{BytesLieIn, bytes_at, data_in, text_in, ends_in_zero}
 use Rattle.capnp_making.specs.Stored.{IsStored}
 use Rattle.capnp_making.proofs.Leading.{leads_segment}
 use Rattle.capnp_builders.specs.Found.{bytes_given, no_bytes}

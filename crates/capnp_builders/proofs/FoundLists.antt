@@ -8,8 +8,8 @@ use Rattle.capnp_format.specs.Means.{Means}
 use Rattle.capnp_format.specs.Forest.{target, target_in}
 use Rattle.capnp_words.specs.declared.wire_pointer.ElementSize.{ElementSize}
 use Rattle.capnp_words.specs.declared.wire_pointer.ElementSize.TheVariants.{Pointer}
-use Rattle.capnp_making.specs.declared.existing.ExistingList.{ExistingList}
-use Rattle.capnp_making.specs.Existing.{size_of, plain_misfit, structs_misfit, plain_list, struct_list, unless, list_in}
+use Rattle.capnp_contents.specs.declared.existing.ExistingList.{ExistingList}
+use Rattle.capnp_contents.specs.Existing.{size_of, plain_misfit, structs_misfit, plain_list, struct_list, unless, list_in}
 use Rattle.capnp_making.specs.Stored.{IsStored}
 use Rattle.capnp_making.proofs.Leading.{leads_segment}
 use Rattle.capnp_making.proofs.Zeros.{there}

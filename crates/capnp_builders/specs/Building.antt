@@ -4,7 +4,7 @@ use Rattle.capnp_words.specs.declared.error.ErrorKind.{ErrorKind}
 use Rattle.capnp_format.specs.Segments.{Segments, word_at, IsPlace}
 use Rattle.capnp_format.specs.Tree.{Tree}
 use Rattle.capnp_arena_traits.specs.View.{View}
-use Rattle.capnp_making.specs.Existing.{is_unfound}
+use Rattle.capnp_contents.specs.Existing.{is_unfound}
 use Rattle.capnp_making.specs.Memory.{KeepsMemory, SpendsMemory}
 use Rattle.capnp_making.specs.Stored.{IsStored, Puts}
 use Rattle.capnp_making.specs.Makes.{CallAt, call_at}

@@ -7,7 +7,7 @@ use Rattle.capnp_format.specs.Segments.{Segments}
 use Rattle.capnp_format.specs.Tree.{Tree, Null}
 use Rattle.capnp_words.specs.declared.wire_pointer.ElementSize.TheVariants.{Void}
 use Rattle.capnp_words.specs.declared.wire_pointer.StructSize.{StructSize}
-use Rattle.capnp_making.specs.Existing.{list_in, struct_in}
+use Rattle.capnp_contents.specs.Existing.{list_in, struct_in}
 use Rattle.capnp_making.specs.Stored.{IsStored}
 use Rattle.capnp_arena_traits.specs.View.{View}
 use Rattle.capnp_readers.specs.Readers.{IsListPlace, IsStructPlace}

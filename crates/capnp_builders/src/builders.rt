@@ -6,8 +6,8 @@ ghost use Rattle.capnp_format.specs.Tree.{Null, Capability, Flat, count};
 ghost use Rattle.capnp_format.specs.Word.{capability_word, struct_word};
 ghost use Rattle.capnp_format.specs.Numbers.{words_for};
 ghost use Rattle.capnp_format.specs.Value.{AreBelow};
-ghost use Rattle.capnp_making.specs.Existing.{AreInside, capability_of, plain_list, struct_list};
-ghost use Rattle.capnp_making.specs.InPlace.{bytes_there, rewritten, AreZeroOnce, LendsBytes, MakesBytes, Overwrites};
+ghost use Rattle.capnp_contents.specs.Existing.{AreInside, capability_of, plain_list, struct_list};
+ghost use Rattle.capnp_contents.specs.InPlace.{bytes_there, rewritten, AreZeroOnce, LendsBytes, MakesBytes, Overwrites};
 ghost use Rattle.capnp_words.specs.Sizes.{size_number};
 ghost use Rattle.capnp_making.specs.Made.{zero_struct, zero_structs, zero_list, list_words};
 ghost use Rattle.capnp_making.specs.Makes.{MakesObject, ReachesArena};
@@ -36,9 +36,10 @@ mod primitive_element;
 mod struct_builder;
 
 use capnp_arena_traits::arena::{BuilderArena, ReaderArena};
+use capnp_contents::existing::ExistingBytes;
+use capnp_contents::{bytes, existing, initializing, lent};
 use capnp_copies::copy;
-use capnp_making::existing::ExistingBytes;
-use capnp_making::{bytes, existing, lent, making};
+use capnp_making::making;
 use capnp_objects::object::Place;
 use capnp_objects::source::Source;
 use capnp_readers::readers::{ListPlace, ListReader, PointerReader, StructPlace, StructReader};
@@ -159,7 +160,7 @@ impl<'a, A: BuilderArena> PointerBuilder<'a, A> {
         ensures limits { KeepsLimits (A.view self.old.arena.now) (A.view self.new.arena.now) }
         ensures builder { KeepsBuilder self.old self.new }
     {
-        making::set_capability(&mut *self.arena, self.segment, self.at, index);
+        initializing::set_capability(&mut *self.arena, self.segment, self.at, index);
     }
 
     /// Makes a struct, all zero, where the pointer leads, and says where it is; `into_struct` is its
@@ -180,7 +181,7 @@ impl<'a, A: BuilderArena> PointerBuilder<'a, A> {
         ensures builder { KeepsBuilder self.old self.new }
     {
         // No `?`: with it a caller that hands the place on is slower (docs/SPEED.md).
-        match making::init_struct(&mut *self.arena, self.segment, self.at, size) {
+        match initializing::init_struct(&mut *self.arena, self.segment, self.at, size) {
             Ok(start) => Ok(StructPlace {
                 segment: start.segment,
                 byte: 8 * u64::from(start.at),
@@ -248,7 +249,7 @@ impl<'a, A: BuilderArena> PointerBuilder<'a, A> {
             (list_words (size_number size) count)) }
         ensures builder { KeepsBuilder self.old self.new }
     {
-        let start = making::init_list(&mut *self.arena, self.segment, self.at, size, count)?;
+        let start = initializing::init_list(&mut *self.arena, self.segment, self.at, size, count)?;
         Ok(ListPlace {
             segment: start.segment,
             byte: 8 * u64::from(start.at),
@@ -315,7 +316,13 @@ impl<'a, A: BuilderArena> PointerBuilder<'a, A> {
             (λ a. struct_list a size.data_words size.pointers count)) }
         ensures builder { KeepsBuilder self.old self.new }
     {
-        let start = making::init_struct_list(&mut *self.arena, self.segment, self.at, count, size)?;
+        let start = initializing::init_struct_list(
+            &mut *self.arena,
+            self.segment,
+            self.at,
+            count,
+            size,
+        )?;
         Ok(ListPlace {
             segment: start.segment,
             byte: 8 * (u64::from(start.at) + 1),

@@ -12,8 +12,8 @@ use Rattle.capnp_format.specs.Segments.{Segments, Target}
 use Rattle.capnp_format.specs.Tree.{Tree, Null, Capability, Struct, Flat, Pointers, Structs, Trees, no_trees, count}
 use Rattle.capnp_format.specs.Word.{data_words, pointer_count}
 use Rattle.capnp_making.specs.Memory.{refusals_for}
-use Rattle.capnp_making.specs.declared.existing.ExistingStruct.{ExistingStruct}
-use Rattle.capnp_making.specs.Existing.{struct_in}
+use Rattle.capnp_contents.specs.declared.existing.ExistingStruct.{ExistingStruct}
+use Rattle.capnp_contents.specs.Existing.{struct_in}
 use Rattle.capnp_making.specs.Path.{Element, update, put_struct, struct_at}
 use Rattle.capnp_making.specs.Stored.{IsStored, IsReplaced}
 use Rattle.capnp_making.proofs.Replaced.{forest_stored, forest_updated, stored_within}

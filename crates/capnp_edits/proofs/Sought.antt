@@ -18,9 +18,9 @@ use Rattle.capnp_format.specs.Word.{struct_word}
 use Rattle.capnp_format.specs.Tree.{Tree, Null, Capability, Struct, Flat, Pointers, Structs, capabilities, count}
 use Rattle.capnp_format.proofs.Levels.{one_value}
 use Rattle.capnp_arena_traits.specs.View.{View}
-use Rattle.capnp_making.specs.declared.existing.ExistingBytes.{ExistingBytes}
-use Rattle.capnp_making.specs.declared.existing.ExistingList.{ExistingList}
-use Rattle.capnp_making.specs.Existing.{is_unfound, list_in, data_in, text_in}
+use Rattle.capnp_contents.specs.declared.existing.ExistingBytes.{ExistingBytes}
+use Rattle.capnp_contents.specs.declared.existing.ExistingList.{ExistingList}
+use Rattle.capnp_contents.specs.Existing.{is_unfound, list_in, data_in, text_in}
 use Rattle.capnp_making.specs.Made.{nulls, words_of_zero, zero_struct}
 use Rattle.capnp_making.specs.Memory.{HasRoom, KeepsMemory, SpendsMemory}
 use Rattle.capnp_making.specs.Near.{HasOwnRoom}

@@ -9,9 +9,9 @@ use Rattle.capnp_format.specs.Segments.{Segments, segment, IsPlace}
 use Rattle.capnp_format.specs.Tree.{Tree, Null, Capability, Struct, Flat, Pointers, Structs, Elements, count, element_count}
 use Rattle.capnp_format.specs.Forest.{target, target_in, cover}
 use Rattle.capnp_words.specs.declared.wire_pointer.ElementSize.TheVariants.{Void, Pointer}
-use Rattle.capnp_making.specs.declared.existing.ExistingList.{ExistingList}
-use Rattle.capnp_making.specs.declared.existing.ExistingStruct.{ExistingStruct}
-use Rattle.capnp_making.specs.Existing.{struct_in, list_in, size_of, plain_list, struct_list, plain_misfit, unless}
+use Rattle.capnp_contents.specs.declared.existing.ExistingList.{ExistingList}
+use Rattle.capnp_contents.specs.declared.existing.ExistingStruct.{ExistingStruct}
+use Rattle.capnp_contents.specs.Existing.{struct_in, list_in, size_of, plain_list, struct_list, plain_misfit, unless}
 use Rattle.capnp_making.specs.Path.{Step, Child, Element, tree_at, struct_at, next, PathLeads, word_interval}
 use Rattle.capnp_making.specs.Stored.{IsStored}
 use Rattle.capnp_making.proofs.Extents.{once_held, times-first}

@@ -6,9 +6,9 @@ use Rattle.capnp_words.specs.declared.wire_pointer.ElementSize.{ElementSize}
 use Rattle.capnp_arena_traits.proofs.WordsOver.{lengths_kept}
 use Rattle.capnp_format.specs.Segments.{Segments, segment}
 use Rattle.capnp_making.specs.Fields.{put_field, with_field}
-use Rattle.capnp_making.specs.declared.existing.ExistingBytes.{ExistingBytes}
-use Rattle.capnp_making.specs.declared.existing.ExistingList.{ExistingList}
-use Rattle.capnp_making.specs.declared.existing.ExistingStruct.{ExistingStruct}
+use Rattle.capnp_contents.specs.declared.existing.ExistingBytes.{ExistingBytes}
+use Rattle.capnp_contents.specs.declared.existing.ExistingList.{ExistingList}
+use Rattle.capnp_contents.specs.declared.existing.ExistingStruct.{ExistingStruct}
 use Rattle.capnp_copies.specs.Changes.{Change}
 use Rattle.capnp_copies.specs.Growth.{TakesAtMost}
 use Rattle.capnp_copies.specs.Originals.{Original}

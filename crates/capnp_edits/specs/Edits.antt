@@ -16,16 +16,16 @@ use Rattle.capnp_format.specs.Numbers.{element_bits}
 use Rattle.capnp_format.specs.Segments.{Segments, Target}
 use Rattle.capnp_format.specs.Tree.{Tree, Null, Capability, Struct, Flat, Structs, count, capabilities}
 use Rattle.capnp_format.specs.Forest.{IsForest}
-use Rattle.capnp_making.specs.Existing.{is_unfound, list_in, data_in, text_in, BytesLieIn}
+use Rattle.capnp_contents.specs.Existing.{is_unfound, list_in, data_in, text_in, BytesLieIn}
 use Rattle.capnp_making.specs.Fields.{with_bits, put_field, with_field}
 use Rattle.capnp_making.specs.Filled.{AreFilled}
 use Rattle.capnp_making.specs.Memory.{refusals_for}
 use Rattle.capnp_making.specs.Made.{zero_struct, zero_structs, zero_list}
 use Rattle.capnp_making.specs.Path.{struct_at, put_struct, update}
 use Rattle.capnp_making.specs.Stored.{IsReplaced, Puts}
-use Rattle.capnp_making.specs.declared.existing.ExistingBytes.{ExistingBytes}
-use Rattle.capnp_making.specs.declared.existing.ExistingList.{ExistingList}
-use Rattle.capnp_making.specs.declared.existing.ExistingStruct.{ExistingStruct}
+use Rattle.capnp_contents.specs.declared.existing.ExistingBytes.{ExistingBytes}
+use Rattle.capnp_contents.specs.declared.existing.ExistingList.{ExistingList}
+use Rattle.capnp_contents.specs.declared.existing.ExistingStruct.{ExistingStruct}
 use Rattle.capnp_objects.specs.Faults.{HasFault}
 use Rattle.capnp_objects.specs.Outcomes.{MeansThere}
 use Rattle.capnp_objects.specs.Wanted.{of_default}

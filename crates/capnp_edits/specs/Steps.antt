@@ -12,7 +12,7 @@ use Rattle.capnp_format.specs.Forest.{IsForest, target}
 use Rattle.capnp_format.specs.Segments.{AreWords, Segments, segment, word_at}
 use Rattle.capnp_format.specs.Word.{struct_word}
 use Rattle.capnp_format.specs.Tree.{Tree, Null, count}
-use Rattle.capnp_making.specs.Existing.{struct_in}
+use Rattle.capnp_contents.specs.Existing.{struct_in}
 use Rattle.capnp_making.specs.Makes.{CallAt, call_at}
 use Rattle.capnp_making.specs.Memory.{HasRoom, IsRefusedFor, KeepsMemory, SpendsMemory}
 use Rattle.capnp_making.specs.Memory.{StandsBehind, TakesWords, start_of}
@@ -20,7 +20,7 @@ use Rattle.capnp_making.specs.Near.{HasOwnRoom, LeadsToEnd}
 use Rattle.capnp_making.specs.Path.{PathLeads}
 use Rattle.capnp_making.specs.Stored.{IsStored}
 use Rattle.capnp_making.specs.Zeroed.{IsPruned}
-use Rattle.capnp_making.specs.declared.existing.ExistingStruct.{ExistingStruct}
+use Rattle.capnp_contents.specs.declared.existing.ExistingStruct.{ExistingStruct}
 use Rattle.capnp_objects.specs.Reading.{behind}
 use Rattle.capnp_objects.specs.Refusals.{Refused}
 use Rattle.capnp_objects.specs.Wanted.{plain}

@@ -4,10 +4,7 @@ pub mod Landings
 pub mod Zeroed
 pub mod Memory
 pub mod Made
-pub mod Existing
 pub mod Fields
-pub mod InPlace
-pub mod Laws
 pub mod Filled
 pub mod Near
 pub mod Makes

@@ -10,15 +10,15 @@ use capnp_words::words;
 
 /// Where a pointer leads, its landing pads read.
 #[derive(Clone, Copy)]
-pub(crate) struct Landing {
+pub struct Landing {
     /// The word that describes the object: the pointer itself, its landing pad, or the pad's tag.
-    pub(crate) word: WirePointer,
+    pub word: WirePointer,
     /// The segment of the object.
-    pub(crate) segment: u32,
+    pub segment: u32,
     /// Where the object starts.
-    pub(crate) start: u32,
+    pub start: u32,
     /// How many words the landing pads have.
-    pub(crate) pads: u32,
+    pub pads: u32,
 }
 
 /// How many words a segment has, none where there is no such segment.
@@ -61,7 +61,7 @@ pub(crate) fn follow<A: BuilderArena>(arena: &A, id: u32, at: u32) -> Option<Lan
 
 /// Where the word of the pointer at a place leads, which is not zero.
 #[inline(always)]
-pub(crate) fn landing_of<A: BuilderArena>(
+pub fn landing_of<A: BuilderArena>(
     arena: &A,
     id: u32,
     at: u32,

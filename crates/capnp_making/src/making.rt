@@ -3,20 +3,20 @@
 //! An object goes behind the words of its pointer's segment where it fits, with a near pointer. Else
 //! it goes behind a landing pad of one word, where the arena finds room. What a pointer held before
 //! becomes zero first, with all below it and its landing pads; these words stay allocated.
-ghost use Rattle.std.specs.Prelude.{◌≡◌, ◌≢◌, ℕ, length, ◌<◌, ◌≤◌, ◌+◌, ◌-◌, ◌*◌, ◌^◌, IfOk, IsOk, OnOk, OnErr, IfErr};
+ghost use Rattle.std.specs.Prelude.{◌≡◌, ℕ, length, ◌<◌, ◌≤◌, ◌+◌, ◌-◌, ◌*◌, ◌^◌, IfOk, IsOk, OnOk, OnErr, IfErr};
 ghost use Rattle.capnp_format.specs.Canonical.{offset_to, Reaches};
 ghost use Rattle.capnp_format.specs.Segments.{segment, word_at, IsPlace};
-ghost use Rattle.capnp_format.specs.Tree.{Null, Capability};
-ghost use Rattle.capnp_format.specs.Word.{offset_bits, struct_word, capability_word};
+ghost use Rattle.capnp_format.specs.Tree.{Null};
+ghost use Rattle.capnp_format.specs.Word.{offset_bits, struct_word};
 ghost use Rattle.capnp_words.specs.Sizes.{size_number};
 ghost use Rattle.capnp_arena_traits.specs.Taking.{IsFirstFit};
 ghost use Rattle.capnp_arena_traits.specs.View.{KeepsLimits};
 ghost use Rattle.capnp_making.specs.Made.{IsShape, CountFits, AsksWords, zero_struct, zero_structs, zero_list, list_words, words_of_zero, IsMadeAt};
-ghost use Rattle.capnp_making.specs.Makes.{Allocates, MakesObject, ObjectStartsAt, call_at};
+ghost use Rattle.capnp_making.specs.Makes.{Allocates, ObjectStartsAt, call_at};
 ghost use Rattle.capnp_making.specs.Memory.{KeepsMemory, IsNextRoom, Lengthens, StandsBehind, IsRefusedFor};
 ghost use Rattle.capnp_making.specs.Near.{HasOwnRoom, HasStructRoom, HasStructsRoom, StartsBehind, offset_behind, shape_word, with_object, with_struct, with_list, with_struct_list};
-ghost use Rattle.capnp_making.specs.Stored.{IsReplaced, Puts, PutsOnceZeroed};
-ghost use Rattle.capnp_making.specs.Zeroed.{IsPruned, IsPrunedBut};
+ghost use Rattle.capnp_making.specs.Stored.{IsReplaced, Puts};
+ghost use Rattle.capnp_making.specs.Zeroed.{IsPruned};
 ghost use Rattle.capnp_arena_traits.specs.Written.{with_word};
 
 use crate::zeroing::zero_object;
@@ -157,20 +157,6 @@ pub fn clear<A: BuilderArena>(arena: &mut A, id: u32, at: u32)
     zero_object(arena, id, at);
 }
 
-/// Makes the pointer at a place a capability, by its index ("Capabilities (Interfaces)").
-pub fn set_capability<A: BuilderArena>(arena: &mut A, id: u32, at: u32, index: u32)
-    requires place { IsPlace (A.view arena.old).words id at }
-    ensures made { Puts (A.view arena.old).words (A.view arena.new).words id at (Capability index) }
-    ensures lengths { (v : ℕ) → length (segment (A.view arena.new).words v)
-        ≡ length (segment (A.view arena.old).words v) }
-    ensures only { IsPrunedBut (A.view arena.old).words (A.view arena.new).words id at
-        (capability_word index) }
-    ensures limits { KeepsLimits (A.view arena.old) (A.view arena.new) }
-{
-    zero_object(arena, id, at);
-    arena.set_word(id, at, WirePointer::new_capability(index).0);
-}
-
 /// Makes a struct, all zero, and sets the pointer at a place to it, which isn't looked at. One
 /// without sections takes no words.
 ///
@@ -206,31 +192,6 @@ pub fn make_struct<A: BuilderArena>(
     put_object(arena, id, at, Shape::Struct(size), words)
 }
 
-/// Makes a struct, all zero, where the pointer at a place leads. One without sections takes no words.
-///
-/// A refusal is that of memory, or `MessageTooLarge`; the pointer is null then.
-#[inline(always)]
-pub fn init_struct<A: BuilderArena>(
-    arena: &mut A,
-    id: u32,
-    at: u32,
-    size: StructSize,
-) -> Result<Start, ErrorKind>
-    requires place { IsPlace (A.view arena.old).words id at }
-    ensures object { MakesObject result (call_at id at (A.view arena.old) (A.view arena.new))
-        (zero_struct size) (size.data_words + size.pointers) }
-    ensures once_zeroed { OnOk result (PutsOnceZeroed (A.view arena.old).words
-        (A.view arena.new).words id at (zero_struct size)) }
-    ensures start { IfOk result
-        (ObjectStartsAt (call_at id at (A.view arena.old) (A.view arena.new))
-        (size.data_words + size.pointers)) }
-    ensures empty { size.data_words + size.pointers ≡ 0
-        → OnOk result (word_at (A.view arena.new).words id at ≡ struct_word (2 ^ 30 - 1) 0 0) }
-{
-    zero_object(arena, id, at);
-    make_struct(arena, id, at, size)
-}
-
 /// Makes a list of elements that are no structs, all zero or null, and sets the pointer at a place to
 /// it, which isn't looked at.
 ///
@@ -263,34 +224,6 @@ pub fn make_list<A: BuilderArena>(
 {
     let words = words_of_list(size, count);
     put_object(arena, id, at, Shape::List(size, count), words)
-}
-
-/// Makes a list of elements that are no structs, all zero or null, where the pointer at a place leads.
-///
-/// A refusal is that of memory, or `MessageTooLarge`; the pointer is null then.
-#[inline(always)]
-pub fn init_list<A: BuilderArena>(
-    arena: &mut A,
-    id: u32,
-    at: u32,
-    size: ElementSize,
-    count: u32,
-) -> Result<Start, ErrorKind>
-    requires place { IsPlace (A.view arena.old).words id at }
-    requires few { count < 2 ^ 29 }
-    requires plain { size_number size ≤ 6 }
-    ensures object { MakesObject result (call_at id at (A.view arena.old) (A.view arena.new))
-        (zero_list (size_number size) count) (list_words (size_number size) count) }
-    ensures once_zeroed { OnOk result (PutsOnceZeroed (A.view arena.old).words
-        (A.view arena.new).words id at (zero_list (size_number size) count)) }
-    ensures start { IfOk result
-        (ObjectStartsAt (call_at id at (A.view arena.old) (A.view arena.new))
-        (list_words (size_number size) count)) }
-    ensures at_end { HasOwnRoom (A.view arena.old) id (list_words (size_number size) count)
-        → IfOk result (StartsBehind (A.view arena.old).words id) }
-{
-    zero_object(arena, id, at);
-    make_list(arena, id, at, size, count)
 }
 
 /// How many words a list takes of so many elements that are no structs.
@@ -338,29 +271,4 @@ pub fn make_struct_list<A: BuilderArena>(
     let tag = WirePointer::new_tag(count, size);
     arena.set_word(start.segment, start.at, tag.0);
     Ok(start)
-}
-
-/// Makes a list of structs, all zero, where the pointer at a place leads; its first word is the tag.
-///
-/// A refusal is that of memory, or `MessageTooLarge`; the pointer is null then.
-pub fn init_struct_list<A: BuilderArena>(
-    arena: &mut A,
-    id: u32,
-    at: u32,
-    count: u32,
-    size: StructSize,
-) -> Result<Start, ErrorKind>
-    requires place { IsPlace (A.view arena.old).words id at }
-    requires few { count < 2 ^ 30 }
-    requires words { count * (size.data_words + size.pointers) < 2 ^ 29 }
-    ensures object { MakesObject result (call_at id at (A.view arena.old) (A.view arena.new))
-        (zero_structs count size) (1 + count * (size.data_words + size.pointers)) }
-    ensures once_zeroed { OnOk result (PutsOnceZeroed (A.view arena.old).words
-        (A.view arena.new).words id at (zero_structs count size)) }
-    ensures start { IfOk result
-        (ObjectStartsAt (call_at id at (A.view arena.old) (A.view arena.new))
-        (1 + count * (size.data_words + size.pointers))) }
-{
-    zero_object(arena, id, at);
-    make_struct_list(arena, id, at, count, size)
 }

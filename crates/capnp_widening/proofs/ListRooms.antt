@@ -9,7 +9,7 @@ use Rattle.capnp_format.specs.Tree.{Tree, Structs, count, element_count}
 use Rattle.capnp_format.specs.Forest.{target}
 use Rattle.capnp_words.specs.Sizes.{size_number}
 use Rattle.capnp_words.specs.declared.wire_pointer.StructSize.{StructSize}
-use Rattle.capnp_making.specs.declared.existing.ExistingList.{ExistingList}
+use Rattle.capnp_contents.specs.declared.existing.ExistingList.{ExistingList}
 use Rattle.capnp_making.specs.Memory.{HasRoom, SpendsMemory, RefusesWords}
 use Rattle.capnp_making.specs.Near.{HasOwnRoom}
 use Rattle.capnp_making.specs.Made.{structs_words, zero_elements}

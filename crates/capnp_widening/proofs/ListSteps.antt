@@ -16,7 +16,7 @@ use Rattle.capnp_making.specs.Memory.{KeepsMemory, StandsBehind, TakesWords, sta
 use Rattle.capnp_making.specs.Path.{word_interval}
 use Rattle.capnp_making.specs.Stored.{IsStored}
 use Rattle.capnp_making.specs.Zeroed.{row, IsZeroed, PadsInside}
-use Rattle.capnp_making.specs.declared.existing.ExistingList.{ExistingList}
+use Rattle.capnp_contents.specs.declared.existing.ExistingList.{ExistingList}
 use Rattle.capnp_making.specs.declared.making.Shape.TheVariants.{List as ListShape}
 use Rattle.capnp_making.specs.declared.making.Start.{Start}
 use Rattle.capnp_making.proofs.Below.{pads_inside}

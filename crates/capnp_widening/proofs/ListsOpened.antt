@@ -10,8 +10,8 @@ use Rattle.capnp_words.specs.declared.wire_pointer.ElementSize.{ElementSize}
 use Rattle.capnp_words.specs.declared.wire_pointer.ElementSize.TheVariants.{Void, Bit, Byte, TwoBytes, FourBytes, EightBytes, Pointer, InlineComposite}
 use Rattle.capnp_words.specs.declared.wire_pointer.StructSize.{StructSize}
 use Rattle.capnp_arena_traits.specs.View.{View}
-use Rattle.capnp_making.specs.declared.existing.ExistingList.{ExistingList}
-use Rattle.capnp_making.specs.Existing.{list_in}
+use Rattle.capnp_contents.specs.declared.existing.ExistingList.{ExistingList}
+use Rattle.capnp_contents.specs.Existing.{list_in}
 use Rattle.capnp_making.specs.Memory.{KeepsMemory}
 use Rattle.capnp_making.specs.Stored.{IsStored}
 use Rattle.capnp_making.specs.Makes.{call_at, CallAt}

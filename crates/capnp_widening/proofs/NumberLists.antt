@@ -7,11 +7,11 @@ use Rattle.capnp_format.specs.Forest.{pads_of, target}
 use Rattle.capnp_words.specs.Sizes.{size_number}
 use Rattle.capnp_words.specs.declared.wire_pointer.StructSize.{StructSize}
 use Rattle.capnp_words.specs.declared.wire_pointer.ElementSize.TheVariants.{InlineComposite}
-use Rattle.capnp_making.specs.declared.existing.ExistingList.{ExistingList}
+use Rattle.capnp_contents.specs.declared.existing.ExistingList.{ExistingList}
 use Rattle.capnp_making.specs.declared.making.Shape.TheVariants.{List as ListShape}
 use Rattle.capnp_arena_traits.specs.View.{View}
 use Rattle.capnp_making.specs.Makes.{call_at}
-use Rattle.capnp_making.specs.Existing.{plain_list}
+use Rattle.capnp_contents.specs.Existing.{plain_list}
 use Rattle.capnp_widening.specs.Anew.{BecomesAnew}
 use Rattle.capnp_making.specs.Stored.{IsStored}
 use Rattle.capnp_making.specs.Zeroed.{row, IsZeroed, PadsInside}

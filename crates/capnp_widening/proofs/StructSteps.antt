@@ -12,10 +12,10 @@ use Rattle.capnp_making.specs.Made.{IsShape}
 use Rattle.capnp_making.specs.Makes.{call_at}
 use Rattle.capnp_making.specs.Memory.{KeepsMemory, StandsBehind, TakesWords, start_of}
 use Rattle.capnp_making.specs.Path.{word_interval}
-use Rattle.capnp_making.specs.Existing.{struct_in}
+use Rattle.capnp_contents.specs.Existing.{struct_in}
 use Rattle.capnp_making.specs.Stored.{IsStored, IsReplaced}
 use Rattle.capnp_making.specs.Zeroed.{row, IsZeroed, PadsInside}
-use Rattle.capnp_making.specs.declared.existing.ExistingStruct.{ExistingStruct}
+use Rattle.capnp_contents.specs.declared.existing.ExistingStruct.{ExistingStruct}
 use Rattle.capnp_making.specs.declared.making.Start.{Start}
 use Rattle.capnp_making.specs.declared.making.Shape.TheVariants.{Struct as StructShape}
 use Rattle.capnp_making.proofs.Below.{pads_inside}

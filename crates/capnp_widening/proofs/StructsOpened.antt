@@ -9,9 +9,9 @@ use Rattle.capnp_format.specs.Means.{Means}
 use Rattle.capnp_format.specs.Forest.{target, target_in}
 use Rattle.capnp_words.specs.declared.wire_pointer.StructSize.{StructSize}
 use Rattle.capnp_arena_traits.specs.View.{View}
-use Rattle.capnp_making.specs.declared.existing.ExistingStruct.{ExistingStruct}
+use Rattle.capnp_contents.specs.declared.existing.ExistingStruct.{ExistingStruct}
 use Rattle.capnp_making.specs.declared.making.Start.{Start}
-use Rattle.capnp_making.specs.Existing.{struct_in, StructLiesIn}
+use Rattle.capnp_contents.specs.Existing.{struct_in, StructLiesIn}
 use Rattle.capnp_making.specs.Made.{zero_struct, words_of_zero, nulls, LeadsToStart}
 use Rattle.capnp_making.specs.Memory.{HasRoom, KeepsMemory, SpendsMemory, IsRefusedFor, RefusesWords, StandsBehind, TakesWords, start_of}
 use Rattle.capnp_making.specs.Stored.{IsStored, IsReplaced}

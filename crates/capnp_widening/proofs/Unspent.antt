@@ -3,7 +3,7 @@ use Rattle.std.proofs.Common.{◌≡◌, ℕ, true, refl}
 use Rattle.capnp_words.specs.declared.error.ErrorKind.{ErrorKind}
 use Rattle.capnp_words.specs.declared.error.ErrorKind.TheVariants.{AllocationFailed, FoundBitListWhereStructListWasExpected, MessageContainsOutOfBoundsPointer, MessageTooLarge}
 use Rattle.capnp_arena_traits.specs.View.{View}
-use Rattle.capnp_making.specs.Existing.{is_unfound}
+use Rattle.capnp_contents.specs.Existing.{is_unfound}
 use Rattle.capnp_making.specs.Memory.{refusals_for, SpendsMemory}
 use Rattle.capnp_making.proofs.Memory.{keeps_itself, spends_nothing}
 

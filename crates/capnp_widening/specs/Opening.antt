@@ -13,10 +13,10 @@ use Rattle.capnp_words.specs.declared.wire_pointer.ElementSize.{ElementSize}
 use Rattle.capnp_words.specs.declared.wire_pointer.ElementSize.TheVariants.{Void, Bit, Pointer}
 use Rattle.capnp_words.specs.declared.wire_pointer.ElementSize.TheVariants.{InlineComposite}
 use Rattle.capnp_words.specs.declared.wire_pointer.StructSize.{StructSize}
-use Rattle.capnp_making.specs.declared.existing.ExistingList.{ExistingList}
-use Rattle.capnp_making.specs.declared.existing.ExistingStruct.{ExistingStruct}
+use Rattle.capnp_contents.specs.declared.existing.ExistingList.{ExistingList}
+use Rattle.capnp_contents.specs.declared.existing.ExistingStruct.{ExistingStruct}
 use Rattle.capnp_making.specs.declared.making.Start.{Start}
-use Rattle.capnp_making.specs.Existing.{list_in, struct_in, StructLiesIn}
+use Rattle.capnp_contents.specs.Existing.{list_in, struct_in, StructLiesIn}
 use Rattle.capnp_making.specs.Made.{zero_struct}
 use Rattle.capnp_making.specs.Makes.{CallAt}
 use Rattle.capnp_making.specs.Memory.{KeepsMemory, SpendsMemory}

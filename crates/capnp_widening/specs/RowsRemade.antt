@@ -11,9 +11,9 @@ use Rattle.capnp_format.specs.Means.{IsTag}
 use Rattle.capnp_format.specs.Forest.{times, target}
 use Rattle.capnp_words.specs.declared.wire_pointer.StructSize.{StructSize}
 use Rattle.capnp_words.specs.declared.wire_pointer.ElementSize.TheVariants.{Void}
-use Rattle.capnp_making.specs.declared.existing.ExistingList.{ExistingList}
+use Rattle.capnp_contents.specs.declared.existing.ExistingList.{ExistingList}
 use Rattle.capnp_making.specs.declared.making.Start.{Start}
-use Rattle.capnp_making.specs.Existing.{list_in}
+use Rattle.capnp_contents.specs.Existing.{list_in}
 use Rattle.capnp_making.specs.Fields.{field_in}
 use Rattle.capnp_making.specs.Made.{zero_elements, structs_words}
 use Rattle.capnp_making.specs.Makes.{CallAt}

@@ -7,14 +7,14 @@ use Rattle.capnp_format.specs.Tree.{Tree, Null, Capability, Struct, Flat, Pointe
 use Rattle.capnp_format.specs.Tree.{no_trees, tree, Elements, no_elements, element, count}
 use Rattle.capnp_format.specs.Tree.{element_count}
 use Rattle.capnp_words.specs.declared.wire_pointer.StructSize.{StructSize}
-use Rattle.capnp_making.specs.declared.existing.ExistingStruct.{ExistingStruct}
+use Rattle.capnp_contents.specs.declared.existing.ExistingStruct.{ExistingStruct}
 use Rattle.capnp_making.specs.Made.{words_of_zero, nulls, zero_elements}
 use Rattle.capnp_format.specs.Forest.{target}
 use Rattle.capnp_words.specs.declared.error.ErrorKind.{ErrorKind}
 use Rattle.capnp_words.specs.declared.error.ErrorKind.TheVariants.{ExistingPointerIsNotAList}
 use Rattle.capnp_words.specs.declared.error.ErrorKind.TheVariants.{FoundBitListWhereStructListWasExpected}
 use Rattle.capnp_words.specs.declared.error.ErrorKind.TheVariants.{MessageTooLarge}
-use Rattle.capnp_making.specs.Existing.{struct_in, StructLiesIn}
+use Rattle.capnp_contents.specs.Existing.{struct_in, StructLiesIn}
 use Rattle.capnp_making.specs.Stored.{IsStored, IsReplaced}
 
 -- Filled up to n words, or n children, and never cut.

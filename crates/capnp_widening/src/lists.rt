@@ -12,7 +12,7 @@ use crate::numbers::widen_numbers;
 use crate::remaking::{ElementRows, widen_rows};
 use crate::widening::greater;
 use capnp_arena_traits::arena::BuilderArena;
-use capnp_making::existing::{self, ExistingList};
+use capnp_contents::existing::{self, ExistingList};
 use capnp_making::landing::word_of;
 use capnp_words::error::ErrorKind;
 use capnp_words::wire_pointer::{ElementSize, StructSize, WirePointer, WirePointerKind};

@@ -15,7 +15,7 @@ ghost use Rattle.capnp_widening.specs.Widened.{rewriting};
 use crate::remaking::begin_list;
 use crate::widening::{greater, settle};
 use capnp_arena_traits::arena::BuilderArena;
-use capnp_making::existing::ExistingList;
+use capnp_contents::existing::ExistingList;
 use capnp_making::landing::{length_of, word_of};
 use capnp_making::making::{Shape, Start};
 use capnp_making::zeroing::{zero_pads, zero_part};

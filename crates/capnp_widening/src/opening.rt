@@ -3,7 +3,7 @@ ghost use Rattle.std.specs.Prelude.{◌-◌, ◌≡◌, ◌↔◌, ◌+◌, ◌*
 ghost use Rattle.capnp_format.specs.Forest.{target};
 ghost use Rattle.capnp_format.specs.Segments.{IsPlace, word_at};
 ghost use Rattle.capnp_format.specs.Tree.{Tree, Null};
-ghost use Rattle.capnp_making.specs.Existing.{StructLiesIn, struct_in};
+ghost use Rattle.capnp_contents.specs.Existing.{StructLiesIn, struct_in};
 ghost use Rattle.capnp_format.specs.Word.{struct_word};
 ghost use Rattle.capnp_making.specs.Memory.{HasRoom, KeepsMemory, SpendsMemory, TakesWords, StandsBehind, start_of};
 ghost use Rattle.capnp_making.specs.Stored.{IsStored};
@@ -18,7 +18,7 @@ ghost use Rattle.capnp_words.specs.declared.wire_pointer.ElementSize.TheVariants
 use crate::lists::get_struct_list;
 use crate::widening::{greater, widen_known};
 use capnp_arena_traits::arena::BuilderArena;
-use capnp_making::existing::{self, ExistingList, ExistingStruct};
+use capnp_contents::existing::{self, ExistingList, ExistingStruct};
 use capnp_making::landing::word_of;
 use capnp_making::making::{Start, make_struct};
 use capnp_words::error::ErrorKind;

@@ -16,7 +16,7 @@ ghost use Rattle.capnp_making.specs.Makes.{call_at};
 use crate::moving::{PointerRows, move_rows, unmove_rows};
 use crate::widening::{Room, copy_words, settle, take};
 use capnp_arena_traits::arena::BuilderArena;
-use capnp_making::existing::ExistingList;
+use capnp_contents::existing::ExistingList;
 use capnp_making::landing::{length_of, word_of};
 use capnp_making::making::{Shape, Start};
 use capnp_making::zeroing::{zero_pads, zero_part};

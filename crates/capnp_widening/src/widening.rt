@@ -6,7 +6,7 @@ ghost use Rattle.capnp_arena_traits.specs.View.{KeepsLimits};
 ghost use Rattle.capnp_format.specs.Segments.{segment, word_at, IsPlace, Grows};
 ghost use Rattle.capnp_format.specs.Forest.{target};
 ghost use Rattle.capnp_format.specs.Tree.{Tree};
-ghost use Rattle.capnp_making.specs.Existing.{StructLiesIn, struct_in};
+ghost use Rattle.capnp_contents.specs.Existing.{StructLiesIn, struct_in};
 ghost use Rattle.capnp_making.specs.Made.{CountFits, AsksWords};
 ghost use Rattle.capnp_making.specs.Memory.{HasRoom, KeepsMemory, SpendsMemory, RefusesWords, StandsBehind, TakesWords};
 ghost use Rattle.capnp_making.specs.Makes.{call_at};
@@ -20,7 +20,7 @@ ghost use Rattle.capnp_widening.specs.Widened.{IsStruct, rewriting};
 
 use crate::moving::{move_row, unmove_row};
 use capnp_arena_traits::arena::BuilderArena;
-use capnp_making::existing::ExistingStruct;
+use capnp_contents::existing::ExistingStruct;
 use capnp_making::landing::word_of;
 use capnp_making::making::{Shape, Start, pointer_to};
 use capnp_making::zeroing::{zero_pads, zero_part};

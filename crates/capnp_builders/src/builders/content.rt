@@ -8,8 +8,8 @@ ghost use Rattle.capnp_readers.specs.Sections.{bytes_for};
 ghost use Rattle.capnp_builders.specs.Content.{content_byte, with_fields, with_content, AreCleared};
 
 use capnp_arena_traits::arena::BuilderArena;
+use capnp_contents::numbers::{set_bit, set_number};
 use capnp_making::making::clear;
-use capnp_making::numbers::{set_bit, set_number};
 use capnp_readers::readers::StructPlace;
 use capnp_words::lanes;
 

@@ -1,11 +1,11 @@
 //! What a pointer leads to, found for writing: a default is put in place of null first, and a struct or
 //! list of structs that is too small is made wider ("Structs", "Lists", "Default Values").
 ghost use Rattle.std.specs.Prelude.{◌-◌, ◌≡◌, ◌+◌, ◌*◌, ◌^◌, ◌<◌, ◌≤◌, true, IsNone, IsOk, IfOk, IfErr, OnOk, OnErr};
-ghost use Rattle.capnp_making.specs.Existing.{BytesLieIn, data_in, is_unfound, text_in};
+ghost use Rattle.capnp_contents.specs.Existing.{BytesLieIn, data_in, is_unfound, text_in};
 ghost use Rattle.capnp_format.specs.Forest.{target};
 ghost use Rattle.capnp_format.specs.Segments.{word_at};
 ghost use Rattle.capnp_format.specs.Word.{struct_word};
-ghost use Rattle.capnp_making.specs.InPlace.{LendsBytes};
+ghost use Rattle.capnp_contents.specs.InPlace.{LendsBytes};
 ghost use Rattle.capnp_making.specs.Makes.{ReachesArena};
 ghost use Rattle.capnp_making.specs.Memory.{KeepsMemory, StandsBehind, TakesWords, start_of};
 ghost use Rattle.capnp_making.specs.Stored.{IsStored};
@@ -25,8 +25,8 @@ use super::list_builder::ListBuilder;
 use super::places::struct_place;
 use super::struct_builder::StructBuilder;
 use capnp_arena_traits::arena::BuilderArena;
-use capnp_making::existing::ExistingBytes;
-use capnp_making::lent;
+use capnp_contents::existing::ExistingBytes;
+use capnp_contents::lent;
 use capnp_readers::readers::{ListPlace, StructPlace};
 use capnp_widening::opening::{open_struct, open_struct_list};
 use capnp_words::error::ErrorKind;

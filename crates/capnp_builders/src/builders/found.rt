@@ -3,7 +3,7 @@ ghost use Rattle.std.specs.Prelude.{◌≡◌, ◌<◌, ◌≤◌, true, length,
 ghost use Rattle.capnp_format.specs.Forest.{target};
 ghost use Rattle.capnp_format.specs.Segments.{IsPlace};
 ghost use Rattle.capnp_format.specs.Tree.{Tree};
-ghost use Rattle.capnp_making.specs.Existing.{BytesLieIn, is_unfound, list_in, data_in, text_in};
+ghost use Rattle.capnp_contents.specs.Existing.{BytesLieIn, is_unfound, list_in, data_in, text_in};
 ghost use Rattle.capnp_making.specs.Stored.{IsStored};
 ghost use Rattle.capnp_words.specs.Sizes.{size_number};
 ghost use Rattle.capnp_readers.specs.Readers.{IsListPlace};
@@ -12,7 +12,7 @@ ghost use Rattle.capnp_builders.specs.Found.{list_given, bytes_given, no_bytes};
 use super::NO_SECTIONS;
 use super::places::list_place;
 use capnp_arena_traits::arena::BuilderArena;
-use capnp_making::existing::{self, ExistingBytes, ExistingList, are_inside};
+use capnp_contents::existing::{self, ExistingBytes, ExistingList, are_inside};
 use capnp_readers::readers::ListPlace;
 use capnp_words::error::ErrorKind;
 use capnp_words::wire_pointer::ElementSize;

@@ -2,7 +2,7 @@
 ghost use Rattle.std.specs.Prelude.{◌≡◌, ◌+◌, ◌*◌, ◌^◌, ◌<◌};
 ghost use Rattle.capnp_builders.specs.Places.{IsAligned, list_place, struct_place};
 
-use capnp_making::existing::{ExistingList, ExistingStruct};
+use capnp_contents::existing::{ExistingList, ExistingStruct};
 use capnp_readers::readers::{ListPlace, StructPlace};
 
 /// The place of a struct that stands in a message: `StructBuilder` has it.

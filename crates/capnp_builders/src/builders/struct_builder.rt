@@ -12,8 +12,8 @@ ghost use Rattle.capnp_builders.specs.Content.{TakesContent, StopsAtContent, Con
 use super::content::{clear_pointers, write_content};
 use crate::builders::PointerBuilder;
 use capnp_arena_traits::arena::{BuilderArena, ReaderArena};
+use capnp_contents::numbers;
 use capnp_copies::copy;
-use capnp_making::numbers;
 use capnp_readers::readers::{PointerReader, StructPlace, StructReader};
 use capnp_words::error::ErrorKind;
 use capnp_words::mask::Mask;

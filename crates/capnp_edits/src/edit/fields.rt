@@ -2,15 +2,15 @@
 ghost use Rattle.std.specs.Prelude.{◌≡◌, true, cond, IfErr, OnErr};
 ghost use Rattle.capnp_words.specs.declared.error.ErrorKind.TheVariants.{NoSuchPlace};
 ghost use Rattle.capnp_arena_traits.specs.View.{KeepsLimits};
-ghost use Rattle.capnp_making.specs.Existing.{StructLiesIn};
+ghost use Rattle.capnp_contents.specs.Existing.{StructLiesIn};
 ghost use Rattle.capnp_builders.specs.Places.{field, number_field};
 ghost use Rattle.capnp_edits.specs.Tasks.{is_number};
 ghost use Rattle.capnp_edits.specs.Edits.{refusal_of, bits_of, PutsBits};
 
 use crate::edit::tasks::Number;
 use capnp_arena::arena::BuilderArena;
-use capnp_making::existing::ExistingStruct;
-use capnp_making::numbers::{set_bit, set_number};
+use capnp_contents::existing::ExistingStruct;
+use capnp_contents::numbers::{set_bit, set_number};
 use capnp_words::error::ErrorKind;
 use capnp_words::primitive::Primitive;
 use capnp_words::wire_pointer::ElementSize;

@@ -1,6 +1,6 @@
 //! Changes of a struct, and those that copy the content of a struct of another message.
 ghost use Rattle.std.specs.Prelude.{◌≡◌, ◌+◌, None, true, IsOk, IfOk, IfErr, IfSome};
-ghost use Rattle.capnp_making.specs.Existing.{StructLiesIn};
+ghost use Rattle.capnp_contents.specs.Existing.{StructLiesIn};
 ghost use Rattle.capnp_readers.specs.Readers.{IsStructPlace};
 ghost use Rattle.capnp_builders.specs.Places.{IsAligned, struct_place};
 ghost use Rattle.capnp_builders.specs.Content.{TakesContent, StopsAtContent, ContentFits, TakesForContent as TakesForCopy, pointers_copied};
@@ -20,7 +20,7 @@ use crate::edit::tasks::StructChange;
 use capnp_arena::arena::{BuilderArena, ReaderArena};
 use capnp_builders::builders::StructBuilder;
 use capnp_builders::builders::places::struct_place;
-use capnp_making::existing::ExistingStruct;
+use capnp_contents::existing::ExistingStruct;
 use capnp_readers::readers::{StructPlace, StructReader};
 use capnp_words::error::ErrorKind;
 use capnp_words::read_limiter::ReadLimiter;

@@ -7,8 +7,8 @@ ghost use Rattle.capnp_edits.specs.Paths.{step_of, path_of, IsPathFound, EndLies
 
 use crate::edit::Step;
 use capnp_arena::arena::BuilderArena;
-use capnp_making::existing;
-use capnp_making::existing::{ExistingList, ExistingStruct};
+use capnp_contents::existing;
+use capnp_contents::existing::{ExistingList, ExistingStruct};
 use capnp_readers::readers::PointerPlace;
 use capnp_words::wire_pointer::ElementSize;
 

@@ -14,7 +14,7 @@ use crate::edit::found::look;
 use crate::edit::tasks::{NewObject, Task};
 use capnp_arena::arena::BuilderArena;
 use capnp_builders::builders::PointerBuilder;
-use capnp_making::existing;
+use capnp_contents::existing;
 use capnp_readers::readers::PointerPlace;
 use capnp_words::error::ErrorKind;
 use capnp_words::wire_pointer::ElementSize;

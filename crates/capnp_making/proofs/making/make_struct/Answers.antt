@@ -7,7 +7,7 @@ use Rattle.capnp_making.proofs.Outcomes.{on_ok_so}
 use Rattle.capnp_arena_traits.specs.View.{View}
 use Rattle.capnp_making.specs.Makes.{Allocates, ObjectStartsAt, call_at}
 use Rattle.capnp_making.specs.declared.making.Shape.TheVariants.{Struct as StructShape}
-use Rattle.capnp_making.proofs.ObjectsMade.{made_starts}
+use Rattle.capnp_making.proofs.Starts.{made_starts}
 use Rattle.capnp_making.proofs.making.make_struct.Goals as goal
 
 pub returns-then-words-eq0-clause-made : goal.returns-then-words-eq0-clause-made

@@ -1,4 +1,4 @@
-use Rattle.std.proofs.Common.{refl, ap, ◌≡◌, ℕ, ◌<◌, [], ◌∷◌, arith}
+use Rattle.std.proofs.Common.{refl, ap, ℕ, ◌<◌, [], ◌∷◌, arith}
 use Rattle.capnp_making.proofs.Memory.{words_in}
 use Rattle.capnp_making.proofs.Zeros.{words_zeroed, in_row}
 use Rattle.std.proofs.lemmas.Bool.{false≢true}

@@ -2,8 +2,8 @@ use Rattle.std.proofs.lemmas.Result.{err_from_is_err_and}
 use Rattle.std.proofs.Common.{◌≡◌, inl, inr, refl, sym, ap, ◌∙◌, Ok, arith}
 use Rattle.capnp_format.specs.Tree.{Null, Structs, element_count}
 use Rattle.capnp_words.specs.Sizes.{size_number}
-use Rattle.capnp_making.specs.declared.existing.ExistingList.{ExistingList}
-use Rattle.capnp_making.specs.Existing.{struct_list}
+use Rattle.capnp_contents.specs.declared.existing.ExistingList.{ExistingList}
+use Rattle.capnp_contents.specs.Existing.{struct_list}
 use Rattle.capnp_format.specs.Segments.{Segments}
 use Rattle.capnp_format.specs.Forest.{target}
 use Rattle.capnp_arena_traits.specs.View.{View}

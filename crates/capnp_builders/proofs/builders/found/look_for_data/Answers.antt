@@ -2,7 +2,7 @@ use Rattle.std.proofs.Common.{Ok, sym}
 use Rattle.capnp_format.specs.Forest.{target}
 use Rattle.capnp_format.specs.Segments.{Segments}
 use Rattle.capnp_making.proofs.Zeros.{there}
-use Rattle.capnp_making.specs.Existing.{data_in}
+use Rattle.capnp_contents.specs.Existing.{data_in}
 use Rattle.capnp_builders.proofs.FoundBytes.{data_inside, bytes_found}
 use Rattle.capnp_builders.proofs.builders.found.look_for_data.Goals as goal
 

@@ -1,0 +1,70 @@
+-- One bit of a byte written: its word has the bit in place of the one that stood there.
+use Rattle.std.proofs.Common.{◌≡◌, ℕ, zero, suc, ◌+◌, ◌*◌, ◌/◌, ◌%◌, ◌^◌, ◌<◌, ◌≤◌, List, [], ◌∷◌, ◌++◌, length, get_or, set, take, drop, Some, slice_get, refl, sym, ap, ◌∙◌, arith, drop-drop, get_or-drop}
+use Rattle.std.proofs.lemmas.List.{set_split, get_or_append_left}
+use borrow.Rule.Slice.PartMut.{put_mid}
+use Rattle.capnp_format.specs.Bytes.{words_of, message}
+use Rattle.capnp_format.specs.Numbers.{from_digits}
+use Rattle.capnp_format.specs.Value.{AreBelow}
+use Rattle.capnp_format.proofs.Lies.{pow_pow}
+use Rattle.capnp_format.proofs.WordsOf.{words}
+use Rattle.capnp_words.proofs.LittleEndian.{eight_bytes}
+use Rattle.capnp_making.specs.Fields.{with_bits, put_field, with_field}
+use Rattle.capnp_making.proofs.FieldBytes.{cut, low, below_drop, words_of-put_bytes, message_written}
+use Rattle.capnp_contents.proofs.WithBits.{within_part}
+
+first_digit : (ds : List ℕ) → AreBelow 256 ds → from_digits 256 ds % 256 ≡ get_or ds 0 0
+first_digit [] h = refl
+first_digit (d ∷ ds) h = low 256 d (from_digits 256 ds) h.0
+
+byte_of_digits : (k : ℕ) (ds : List ℕ) → AreBelow 256 ds → k ≤ length ds → get_or ds k 0 ≡ from_digits 256 ds / 2 ^ (8 * k) % 2 ^ 8
+byte_of_digits k ds h l =
+    ap (λ j. get_or ds j 0) (let q : k ≡ k + 0 = omega arith in q)
+    ∙ sym (get_or-drop k ds 0 0)
+    ∙ sym (first_digit (drop k ds) (below_drop 256 k ds h))
+    ∙ ap (λ x. x % 256) (sym (cut 256 k ds h l).others ∙ ap (λ p. from_digits 256 ds / p) (pow_pow 8 k))
+
+-- a byte of a word
+pub byte_of_word : (i k : ℕ) (bs : List ℕ) → ((j : ℕ) → get_or bs j 0 < 256) → k < 8 → i < length (words_of bs) → get_or bs (8 * i + k) 0 ≡ get_or (words_of bs) i 0 / 2 ^ (8 * k) % 2 ^ 8
+byte_of_word zero k (a ∷ b ∷ c ∷ d ∷ e ∷ f ∷ g ∷ h ∷ rest) small m l =
+    let xs : List ℕ = a ∷ b ∷ c ∷ d ∷ e ∷ f ∷ g ∷ h ∷ [] in
+    ap (λ j. get_or (xs ++ rest) j 0) (let q : 8 * 0 + k ≡ k = omega arith in q)
+    ∙ get_or_append_left xs rest 0 k m
+    ∙ byte_of_digits k xs (small 0, (small 1, (small 2, (small 3, (small 4, (small 5, (small 6, (small 7, tt)))))))) (omega arith)
+    ∙ ap (λ w. w / 2 ^ (8 * k) % 2 ^ 8) (sym (eight_bytes xs refl))
+byte_of_word (suc i) k (a ∷ b ∷ c ∷ d ∷ e ∷ f ∷ g ∷ h ∷ rest) small m l =
+    ap (λ j. get_or (a ∷ b ∷ c ∷ d ∷ e ∷ f ∷ g ∷ h ∷ rest) j 0) (let q : 8 * suc i + k ≡ suc (suc (suc (suc (suc (suc (suc (suc (8 * i + k)))))))) = omega arith in q)
+    ∙ byte_of_word i k rest (λ j. small (suc (suc (suc (suc (suc (suc (suc (suc j))))))))) m (omega arith)
+byte_of_word i k _ small m l = absurd (omega arith)
+
+pub set_is_put : (bs : List ℕ) (b y : ℕ) → b < length bs → set bs b y ≡ put_mid b 1 bs (y ∷ [])
+set_is_put bs b y l =
+    set_split bs b y l ∙ ap (λ zs. take b bs ++ (y ∷ zs)) (ap (λ n. drop n bs) (let q : suc b ≡ b + 1 = omega arith in q) ∙ sym (drop-drop 1 b bs))
+
+-- the byte y over byte k of word i
+byte_put : (i k y : ℕ) (bs : List ℕ) → ((j : ℕ) → get_or bs j 0 < 256) → k < 8 → i < length (words_of bs) → words_of (set bs (8 * i + k) y) ≡ set (words_of bs) i (with_bits (get_or (words_of bs) i 0) (8 * k) 8 y)
+byte_put i k y bs small m l =
+    ap words_of (set_is_put bs (8 * i + k) y (omega (arith, words bs)))
+    ∙ words_of-put_bytes i k 1 bs (y ∷ []) small refl (omega arith) l
+    ∙ ap (λ v. set (words_of bs) i (with_bits (get_or (words_of bs) i 0) (8 * k) 8 v)) (let q : y + 256 * 0 ≡ y = omega arith in q)
+
+bit_put : (bit v y : ℕ) (bs : List ℕ) → ((j : ℕ) → get_or bs j 0 < 256) → v < 2 → bit / 64 < length (words_of bs) → y ≡ with_bits (get_or bs (bit / 8) 0) (bit % 8) 1 v →
+    words_of (set bs (bit / 8) y) ≡ put_field (words_of bs) bit 1 v
+bit_put bit v y bs small m l e =
+    let i : ℕ = bit / 64 in
+    let k : ℕ = bit / 8 % 8 in
+    let p : ℕ = bit % 8 in
+    let x : ℕ = get_or (words_of bs) i 0 in
+    let at : bit / 8 ≡ 8 * i + k = omega arith in
+    let fits : k < 8 = omega arith in
+    let new : y ≡ with_bits (x / 2 ^ (8 * k) % 2 ^ 8) p 1 v = e ∙ ap (λ z. with_bits z p 1 v) (ap (λ j. get_or bs j 0) at ∙ byte_of_word i k bs small fits l) in
+    ap (λ j. words_of (set bs j y)) at
+    ∙ byte_put i k y bs small fits l
+    ∙ ap (λ z. set (words_of bs) i (with_bits x (8 * k) 8 z)) new
+    ∙ ap (set (words_of bs) i) (within_part x (8 * k) 8 p 1 v (omega arith) (omega arith))
+    ∙ ap (λ o. set (words_of bs) i (with_bits x o 1 v)) (let q : 8 * k + p ≡ bit % 64 = omega arith in q)
+
+-- a message in which the byte of a bit is another
+pub bit_written : (B : List (List ℕ)) (s bit v y : ℕ) (bs : List ℕ) → slice_get B s ≡ Some bs → ((j : ℕ) → get_or bs j 0 < 256) → v < 2 → bit < 64 * (length bs / 8) → y ≡ with_bits (get_or bs (bit / 8) 0) (bit % 8) 1 v →
+    message (set B s (set bs (bit / 8) y)) ≡ with_field (message B) s bit 1 v
+bit_written B s bit v y bs e small m l is =
+    message_written B s bs (set bs (bit / 8) y) bit 1 v e (bit_put bit v y bs small m (omega (arith, words bs)) is)

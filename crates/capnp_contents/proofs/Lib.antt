@@ -1,0 +1,12 @@
+pub mod BytesOver
+pub mod BytesWritten
+pub mod FieldBit
+pub mod FieldDigits
+pub mod FieldRead
+pub mod FieldsWritten
+pub mod InPlaceBytes
+pub mod LastByte
+pub mod LentBytes
+pub mod ObjectsMade
+pub mod OldWords
+pub mod WithBits

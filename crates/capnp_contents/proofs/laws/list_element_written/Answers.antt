@@ -1,0 +1,5 @@
+use Rattle.capnp_contents.proofs.FieldsWritten.{flat_element_written}
+use Rattle.capnp_contents.proofs.laws.list_element_written.Goals as goal
+
+pub returns : goal.returns
+returns c = flat_element_written

@@ -1,0 +1,5 @@
+use Rattle.capnp_contents.proofs.FieldsWritten.{data_field_written}
+use Rattle.capnp_contents.proofs.laws.struct_field_written.Goals as goal
+
+pub returns : goal.returns
+returns c = data_field_written

@@ -1,0 +1,109 @@
+//! Texts and data set where a pointer leads ("Lists").
+//!
+//! Data is a list of bytes. A text is one with a zero byte behind its own.
+ghost use Rattle.std.specs.Prelude.{◌≡◌, ℕ, ◌<◌, ◌≤◌, ◌+◌, ◌-◌, ◌*◌, ◌^◌, ◌++◌, ◌∷◌, [], length, OnOk};
+ghost use Rattle.capnp_format.specs.Numbers.{words_for};
+ghost use Rattle.capnp_format.specs.Segments.{segment, IsPlace};
+ghost use Rattle.capnp_format.specs.Tree.{Flat};
+ghost use Rattle.capnp_arena_traits.specs.View.{KeepsLimits};
+ghost use Rattle.capnp_contents.specs.InPlace.{segments_with};
+ghost use Rattle.capnp_making.specs.Made.{words_of_zero};
+ghost use Rattle.capnp_making.specs.Makes.{MakesObject, call_at};
+ghost use Rattle.capnp_making.specs.Near.{LeadsToEnd};
+ghost use Rattle.capnp_making.specs.Stored.{PutsOnceZeroed};
+
+use crate::initializing::init_list;
+use capnp_arena_traits::arena::BuilderArena;
+use capnp_making::making::Start;
+use capnp_words::error::ErrorKind;
+use capnp_words::lanes;
+use capnp_words::wire_pointer::ElementSize;
+
+/// Makes a list of the given bytes where the pointer at a place leads ("Lists").
+///
+/// What the pointer held before becomes zero first. A refusal is that of memory, or
+/// `MessageTooLarge`; the pointer is null then.
+#[inline(always)]
+pub fn set_data<A: BuilderArena>(
+    arena: &mut A,
+    id: u32,
+    at: u32,
+    from: &[u8],
+) -> Result<(), ErrorKind>
+    requires place { IsPlace (A.view arena.old).words id at }
+    requires few { length from.now < 2 ^ 29 }
+    ensures object { MakesObject result (call_at id at (A.view arena.old) (A.view arena.new))
+        (Flat 2 from.now) (words_for 2 (length from.now)) }
+    ensures once_zeroed { OnOk result (PutsOnceZeroed (A.view arena.old).words
+        (A.view arena.new).words id at (Flat 2 from.now)) }
+    ensures at_end { OnOk result (LeadsToEnd (call_at id at (A.view arena.old) (A.view arena.new))
+        (words_for 2 (length from.now))) }
+{
+    set_bytes(arena, id, at, from, from.len() as u32)
+}
+
+/// Makes a text of the given bytes where the pointer at a place leads: a list of these and a zero
+/// byte behind them ("Lists").
+///
+/// What the pointer held before becomes zero first. A refusal is that of memory, or
+/// `MessageTooLarge`; the pointer is null then.
+#[inline(always)]
+pub fn set_text<A: BuilderArena>(
+    arena: &mut A,
+    id: u32,
+    at: u32,
+    from: &[u8],
+) -> Result<(), ErrorKind>
+    requires place { IsPlace (A.view arena.old).words id at }
+    requires few { length from.now + 1 < 2 ^ 29 }
+    ensures object { MakesObject result (call_at id at (A.view arena.old) (A.view arena.new))
+        (Flat 2 (from.now ++ 0 ∷ [])) (words_for 2 (length from.now + 1)) }
+    ensures once_zeroed { OnOk result (PutsOnceZeroed (A.view arena.old).words
+        (A.view arena.new).words id at (Flat 2 (from.now ++ 0 ∷ []))) }
+{
+    set_bytes(arena, id, at, from, from.len() as u32 + 1)
+}
+
+/// Makes a list of so many bytes where the pointer at a place leads: the given ones, and zeros
+/// behind them.
+#[inline(always)]
+fn set_bytes<A: BuilderArena>(
+    arena: &mut A,
+    id: u32,
+    at: u32,
+    from: &[u8],
+    count: u32,
+) -> Result<(), ErrorKind>
+    requires place { IsPlace (A.view arena.old).words id at }
+    requires enough { length from.now ≤ count }
+    requires few { count < 2 ^ 29 }
+    ensures object { MakesObject result (call_at id at (A.view arena.old) (A.view arena.new))
+        (Flat 2 (from.now ++ words_of_zero (count - length from.now))) (words_for 2 count) }
+    ensures once_zeroed { OnOk result (PutsOnceZeroed (A.view arena.old).words
+        (A.view arena.new).words id at
+        (Flat 2 (from.now ++ words_of_zero (count - length from.now)))) }
+    ensures at_end { OnOk result (LeadsToEnd (call_at id at (A.view arena.old) (A.view arena.new))
+        (words_for 2 count)) }
+{
+    let start = init_list(arena, id, at, ElementSize::Byte, count)?;
+    write_bytes(arena, start, from);
+    Ok(())
+}
+
+/// Writes bytes from a word on, which lie in its segment.
+fn write_bytes<A: BuilderArena>(arena: &mut A, start: Start, from: &[u8])
+    requires there { start.segment < length (A.view arena.old).words }
+    requires inside { 8 * start.at + length from.now
+        ≤ 8 * length (segment (A.view arena.old).words start.segment) }
+    ensures written { 0 < length from.now → A.segments arena.new
+        ≡ segments_with (A.segments arena.old)
+        (record { segment = start.segment; start = start.at; length = length from.now }) from.now }
+    ensures nothing { length from.now ≡ 0 → arena.new ≡ arena.old }
+    ensures limits { KeepsLimits (A.view arena.old) (A.view arena.new) }
+{
+    if !from.is_empty() {
+        let first = 8 * start.at as usize;
+        let end = first + from.len();
+        lanes::copy(from, &mut arena.segment_mut(start.segment)[first..end]);
+    }
+}

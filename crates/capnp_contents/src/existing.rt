@@ -1,0 +1,404 @@
+//! What a pointer leads to already ("Lists", "Capabilities (Interfaces)"): nothing is written, and
+//! nothing made.
+ghost use Rattle.std.specs.Prelude.{◌≡◌, ◌≢◌, ◌↔◌, ◌<◌, ◌≤◌, ◌+◌, ◌^◌, IsTrue, IsSome, IfSome, IfErr, true, length};
+ghost use Rattle.capnp_format.specs.Bytes.{words_of};
+ghost use Rattle.capnp_format.specs.Forest.{target};
+ghost use Rattle.capnp_format.specs.Numbers.{words_for};
+ghost use Rattle.capnp_format.specs.Segments.{segment, word_at};
+ghost use Rattle.capnp_format.specs.Tree.{Tree};
+ghost use Rattle.capnp_format.specs.Word.{data_words, list_count, offset_bits, pointer_count};
+ghost use Rattle.capnp_words.specs.Sizes.{size_number};
+ghost use Rattle.capnp_making.specs.Landings.{target_of};
+ghost use Rattle.capnp_making.specs.Stored.{IsStored};
+ghost use Rattle.capnp_contents.specs.Existing.{BytesLieIn, capability_of, capability_in, listed, landing_in, is_unfound, plain_misfit, structs_misfit, unless, plain_list, struct_list, list_in, data_in, text_in, struct_in, AreInside, StructLiesIn, bytes_in, ends_in_zero};
+
+use capnp_arena_traits::arena::BuilderArena;
+use capnp_making::landing::{Landing, landing_of, length_of, word_of};
+use capnp_words::error::ErrorKind;
+use capnp_words::wire_pointer::{
+    ElementSize, StructSize, WirePointer, WirePointerKind, data_bits_per_element,
+    pointers_per_element,
+};
+use capnp_words::words;
+
+/// A list that a pointer leads to.
+#[derive(Clone, Copy, Debug)]
+pub struct ExistingList {
+    /// The segment of its elements.
+    pub segment: u32,
+    /// The word where its first element starts, which of a list of structs is the one behind the tag.
+    /// The pointers of a struct stand behind its data words.
+    pub start: u32,
+    /// How wide its elements are.
+    pub size: ElementSize,
+    /// The sections of each element; 0 and 0 where elements are no structs.
+    pub struct_size: StructSize,
+    /// How many elements it has.
+    pub count: u32,
+}
+
+/// The bytes of a text or of data that a pointer leads to.
+#[derive(Clone, Copy, Debug, PartialEq, Eq)]
+pub struct ExistingBytes {
+    /// Their segment.
+    pub segment: u32,
+    /// The word whose first byte is theirs.
+    pub start: u32,
+    /// How many bytes there are.
+    pub length: u32,
+}
+
+/// A struct that a pointer leads to.
+#[derive(Clone, Copy, Debug)]
+pub struct ExistingStruct {
+    /// The segment of its sections.
+    pub segment: u32,
+    /// The word where its data section starts. Its pointers stand behind its data words.
+    pub start: u32,
+    /// How many data words and pointers it has.
+    pub size: StructSize,
+}
+
+/// The capability that the pointer at a place is, by its index ("Capabilities (Interfaces)"). The
+/// pointer is not followed.
+///
+/// A null pointer is `MessageContainsNullCapabilityPointer`, any other
+/// `MessageContainsNonCapabilityPointerWhereCapabilityPointerWasExpected`, a far pointer to a
+/// capability too.
+pub fn get_capability<A: BuilderArena>(arena: &A, id: u32, at: u32) -> Result<u32, ErrorKind>
+    ensures word { result ≡ capability_of (word_at (A.view arena.now).words id at) }
+    ensures found { (t : Tree) → IsStored (A.view arena.now).words id at t
+        → result ≡ capability_in (target (A.view arena.now).words id at) t }
+{
+    let word = word_of(arena, id, at);
+    if word.is_null() {
+        return Err(ErrorKind::MessageContainsNullCapabilityPointer);
+    }
+    if !word.is_capability() {
+        return Err(ErrorKind::MessageContainsNonCapabilityPointerWhereCapabilityPointerWasExpected);
+    }
+    Ok(word.cap_index())
+}
+
+/// The struct that the pointer at a place leads to, as wide as it is ("Structs"). `None` where the
+/// pointer is null, or leads to anything else.
+#[inline(always)]
+pub fn get_struct<A: BuilderArena>(arena: &A, id: u32, at: u32) -> Option<ExistingStruct>
+    ensures found { (t : Tree) → IsStored (A.view arena.now).words id at t
+        → result ≡ struct_in (target (A.view arena.now).words id at) t }
+    ensures inside { IfSome result (StructLiesIn (A.view arena.now).words) }
+{
+    let word = word_of(arena, id, at);
+    if word.is_null() {
+        return None;
+    }
+    if word.kind() == WirePointerKind::Far {
+        // Its result is taken apart, so that a struct that is near does not go through memory.
+        return match struct_behind_pad(arena, id, at, word) {
+            Some(found) => Some(found),
+            None => None,
+        };
+    }
+    struct_of(arena, id, at, word)
+}
+
+/// The struct that a word leads to which stands at a place and isn't zero, as wide as it is.
+#[inline(always)]
+fn struct_of<A: BuilderArena>(
+    arena: &A,
+    id: u32,
+    at: u32,
+    word: WirePointer,
+) -> Option<ExistingStruct>
+    requires is { word.0 ≡ word_at (A.view arena.now).words id at }
+    requires some { word.0 ≢ 0 }
+    ensures found { (t : Tree) → IsStored (A.view arena.now).words id at t
+        → result ≡ struct_in (target (A.view arena.now).words id at) t }
+    ensures inside { IfSome result (StructLiesIn (A.view arena.now).words) }
+{
+    match landing_of(arena, id, at, word) {
+        Some(landing) => {
+            let size = landing.word.struct_size();
+            let end = u64::from(landing.start) + u64::from(size.total());
+            if landing.word.kind() == WirePointerKind::Struct
+                && end <= u64::from(length_of(arena, landing.segment))
+            {
+                Some(ExistingStruct {
+                    segment: landing.segment,
+                    start: landing.start,
+                    size,
+                })
+            } else {
+                None
+            }
+        }
+        None => None,
+    }
+}
+
+/// The same of a far pointer, out of line.
+#[cold]
+#[inline(never)]
+fn struct_behind_pad<A: BuilderArena>(
+    arena: &A,
+    id: u32,
+    at: u32,
+    word: WirePointer,
+) -> Option<ExistingStruct>
+    requires is { word.0 ≡ word_at (A.view arena.now).words id at }
+    requires some { word.0 ≢ 0 }
+    ensures found { (t : Tree) → IsStored (A.view arena.now).words id at t
+        → result ≡ struct_in (target (A.view arena.now).words id at) t }
+    ensures inside { IfSome result (StructLiesIn (A.view arena.now).words) }
+{
+    struct_of(arena, id, at, word)
+}
+
+/// The list that the pointer at a place leads to, of elements as wide as the expected ones, which are
+/// no structs, or wider ("Lists"). `None` where the pointer is null.
+///
+/// Anything but a list is `ExistingPointerIsNotAList`. A list of structs where bits are expected is
+/// `FoundStructListWhereBitListWasExpected`. Elements with fewer bits of data or fewer pointers than
+/// the expected ones are `ExistingListValueIsIncompatibleWithExpectedType`, and so are structs
+/// without data words where data is expected, or without pointers where pointers are.
+pub fn get_list<A: BuilderArena>(
+    arena: &A,
+    id: u32,
+    at: u32,
+    expected: ElementSize,
+) -> Result<Option<ExistingList>, ErrorKind>
+    requires plain { size_number expected ≤ 6 }
+    ensures found { (t : Tree) → IsStored (A.view arena.now).words id at t
+        → result ≡ list_in (target (A.view arena.now).words id at) expected t }
+    ensures named { IfErr result (λ k. is_unfound k ≡ true) }
+{
+    match follow_list(arena, id, at)? {
+        Some(landing) => {
+            let size = landing.word.list_element_size();
+            if size == ElementSize::InlineComposite {
+                struct_list_at(arena, landing, expected)
+            } else {
+                plain_list_at(landing, size, expected)
+            }
+        }
+        None => Ok(None),
+    }
+}
+
+/// Where the pointer at a place leads, if to a list; `None` where it is null.
+///
+/// Anything else is `ExistingPointerIsNotAList`, and a pointer that leads out of the message, which no
+/// stored value has, `MessageContainsOutOfBoundsPointer`.
+fn follow_list<A: BuilderArena>(arena: &A, id: u32, at: u32) -> Result<Option<Landing>, ErrorKind>
+    ensures found { (t : Tree) → IsStored (A.view arena.now).words id at t
+        → listed result ≡ landing_in (target (A.view arena.now).words id at) t }
+    ensures named { IfErr result (λ k. is_unfound k ≡ true) }
+{
+    let word = word_of(arena, id, at);
+    if word.is_null() {
+        return Ok(None);
+    }
+    match landing_of(arena, id, at, word) {
+        Some(landing) => {
+            if landing.word.kind() == WirePointerKind::List {
+                Ok(Some(landing))
+            } else {
+                Err(ErrorKind::ExistingPointerIsNotAList)
+            }
+        }
+        None => Err(ErrorKind::MessageContainsOutOfBoundsPointer),
+    }
+}
+
+/// The list at a landing, of elements of a size that are no structs.
+fn plain_list_at(
+    landing: Landing,
+    size: ElementSize,
+    expected: ElementSize,
+) -> Result<Option<ExistingList>, ErrorKind>
+    ensures found { result ≡ unless (plain_misfit expected size)
+        (plain_list (target_of landing) size (list_count landing.word.0)) }
+    ensures named { IfErr result (λ k. is_unfound k ≡ true) }
+{
+    if data_bits_per_element(size) < data_bits_per_element(expected)
+        || pointers_per_element(size) < pointers_per_element(expected)
+    {
+        return Err(ErrorKind::ExistingListValueIsIncompatibleWithExpectedType);
+    }
+    Ok(Some(ExistingList {
+        segment: landing.segment,
+        start: landing.start,
+        size,
+        struct_size: StructSize {
+            data_words: 0,
+            pointers: 0,
+        },
+        count: landing.word.list_element_count(),
+    }))
+}
+
+/// The list of structs at a landing, by its tag.
+fn struct_list_at<A: BuilderArena>(
+    arena: &A,
+    landing: Landing,
+    expected: ElementSize,
+) -> Result<Option<ExistingList>, ErrorKind>
+    ensures found { landing.start < length (segment (A.view arena.now).words landing.segment)
+        → let tag = word_at (A.view arena.now).words landing.segment landing.start in
+        result ≡ unless (structs_misfit expected (data_words tag) (pointer_count tag))
+        (struct_list (target_of landing) (data_words tag) (pointer_count tag)
+        (offset_bits tag)) }
+    ensures named { IfErr result (λ k. is_unfound k ≡ true) }
+{
+    match tag_at(arena, landing) {
+        Some(tag) => {
+            let size = tag.struct_size();
+            match misfit_of_structs(expected, size) {
+                Some(k) => Err(k),
+                None => Ok(Some(ExistingList {
+                    segment: landing.segment,
+                    start: landing.start + 1,
+                    size: ElementSize::InlineComposite,
+                    struct_size: size,
+                    count: tag.inline_composite_list_element_count(),
+                })),
+            }
+        }
+        None => Err(ErrorKind::MessageContainsOutOfBoundsPointer),
+    }
+}
+
+/// The tag of the list of structs at a landing, if its word lies in the segment.
+fn tag_at<A: BuilderArena>(arena: &A, landing: Landing) -> Option<WirePointer>
+    ensures there { landing.start < length (segment (A.view arena.now).words landing.segment)
+        → IsSome result }
+    ensures word { IfSome result
+        (λ tag. tag.0 ≡ word_at (A.view arena.now).words landing.segment landing.start) }
+    ensures small { IsSome result → landing.start + 1 < 2 ^ 32 }
+{
+    match arena.get_segment(landing.segment) {
+        Ok(bytes) => {
+            let at = landing.start as usize;
+            if at < bytes.len() / 8 {
+                Some(WirePointer(words::word_at(bytes, at)))
+            } else {
+                None
+            }
+        }
+        Err(_) => None,
+    }
+}
+
+/// Why structs of a size don't serve as elements of an expected size, if they don't.
+fn misfit_of_structs(expected: ElementSize, size: StructSize) -> Option<ErrorKind>
+    ensures found { result ≡ structs_misfit expected size.data_words size.pointers }
+    ensures named { IfSome result (λ k. is_unfound k ≡ true) }
+{
+    match expected {
+        ElementSize::Bit => Some(ErrorKind::FoundStructListWhereBitListWasExpected),
+        ElementSize::Byte | ElementSize::TwoBytes | ElementSize::FourBytes | ElementSize::EightBytes
+            if size.data_words == 0 => {
+            Some(ErrorKind::ExistingListValueIsIncompatibleWithExpectedType)
+        }
+        ElementSize::Pointer if size.pointers == 0 => {
+            Some(ErrorKind::ExistingListValueIsIncompatibleWithExpectedType)
+        }
+        _ => None,
+    }
+}
+
+/// The data that the pointer at a place leads to ("Lists"). `None` where the pointer is null.
+///
+/// Anything but a list is `ExistingPointerIsNotAList`, and a list of other elements than bytes
+/// `ExistingListPointerIsNotByteSized`.
+pub fn get_data<A: BuilderArena>(
+    arena: &A,
+    id: u32,
+    at: u32,
+) -> Result<Option<ExistingBytes>, ErrorKind>
+    ensures found { (t : Tree) → IsStored (A.view arena.now).words id at t
+        → result ≡ data_in (target (A.view arena.now).words id at) t }
+    ensures named { IfErr result (λ k. is_unfound k ≡ true) }
+{
+    match follow_list(arena, id, at)? {
+        Some(landing) => {
+            if landing.word.list_element_size() != ElementSize::Byte {
+                return Err(ErrorKind::ExistingListPointerIsNotByteSized);
+            }
+            Ok(Some(ExistingBytes {
+                segment: landing.segment,
+                start: landing.start,
+                length: landing.word.list_element_count(),
+            }))
+        }
+        None => Ok(None),
+    }
+}
+
+/// The text that the pointer at a place leads to, without the zero byte behind it ("Lists"). `None`
+/// where the pointer is null.
+///
+/// What isn't data is refused as by `get_data`. Bytes that don't end in a zero byte are
+/// `TextBlobMissingNULTerminator`.
+pub fn get_text<A: BuilderArena>(
+    arena: &A,
+    id: u32,
+    at: u32,
+) -> Result<Option<ExistingBytes>, ErrorKind>
+    ensures found { (t : Tree) → IsStored (A.view arena.now).words id at t
+        → result ≡ text_in (target (A.view arena.now).words id at) t }
+    ensures named { IfErr result (λ k. is_unfound k ≡ true) }
+{
+    match get_data(arena, id, at)? {
+        Some(bytes) => {
+            if !is_terminated(arena, bytes) {
+                return Err(ErrorKind::TextBlobMissingNULTerminator);
+            }
+            Ok(Some(ExistingBytes {
+                segment: bytes.segment,
+                start: bytes.start,
+                length: bytes.length - 1,
+            }))
+        }
+        None => Ok(None),
+    }
+}
+
+/// Whether bytes lie in a segment that is there.
+pub fn are_inside<A: BuilderArena>(arena: &A, bytes: ExistingBytes) -> bool
+    ensures { IsTrue result ↔ BytesLieIn (A.view arena.now).words bytes }
+{
+    match arena.get_segment(bytes.segment) {
+        Ok(segment) => {
+            let end = bytes.start as usize + (bytes.length as usize).div_ceil(8);
+            end <= segment.len() / 8
+        }
+        Err(_) => false,
+    }
+}
+
+/// Whether there is a last byte, and it is 0.
+fn is_terminated<A: BuilderArena>(arena: &A, bytes: ExistingBytes) -> bool
+    ensures some { IsTrue result → 0 < bytes.length }
+    ensures ends { AreInside (A.view arena.now).words bytes
+        → result ≡ ends_in_zero
+        (bytes_in (segment (A.view arena.now).words bytes.segment) bytes.start bytes.length) }
+{
+    match arena.get_segment(bytes.segment) {
+        Ok(segment) => last_is_zero(segment, bytes.start, bytes.length),
+        Err(_) => false,
+    }
+}
+
+/// Whether the last of so many bytes from a word on is there, and 0.
+fn last_is_zero(segment: &[u8], start: u32, count: u32) -> bool
+    ensures some { IsTrue result → 0 < count }
+    ensures ends { start + words_for 2 count ≤ length (words_of segment.now)
+        → result ≡ ends_in_zero (bytes_in (words_of segment.now) start count) }
+{
+    if count == 0 {
+        return false;
+    }
+    let last = 8 * start as usize + count as usize - 1;
+    last < segment.len() && segment[last] == 0
+}

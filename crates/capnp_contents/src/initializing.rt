@@ -1,0 +1,112 @@
+//! Objects made where a pointer leads, over what it held before ("Structs", "Lists", "Capabilities
+//! (Interfaces)"). That becomes zero first, with all below it and its landing pads; these words stay
+//! allocated.
+ghost use Rattle.std.specs.Prelude.{◌≡◌, ℕ, length, ◌<◌, ◌≤◌, ◌+◌, ◌-◌, ◌*◌, ◌^◌, IfOk, OnOk};
+ghost use Rattle.capnp_format.specs.Segments.{segment, word_at, IsPlace};
+ghost use Rattle.capnp_format.specs.Tree.{Capability};
+ghost use Rattle.capnp_format.specs.Word.{struct_word, capability_word};
+ghost use Rattle.capnp_words.specs.Sizes.{size_number};
+ghost use Rattle.capnp_arena_traits.specs.View.{KeepsLimits};
+ghost use Rattle.capnp_making.specs.Made.{zero_struct, zero_structs, zero_list, list_words};
+ghost use Rattle.capnp_making.specs.Makes.{MakesObject, ObjectStartsAt, call_at};
+ghost use Rattle.capnp_making.specs.Near.{HasOwnRoom, StartsBehind};
+ghost use Rattle.capnp_making.specs.Stored.{Puts, PutsOnceZeroed};
+ghost use Rattle.capnp_making.specs.Zeroed.{IsPrunedBut};
+
+use capnp_arena_traits::arena::BuilderArena;
+use capnp_making::making::{Start, make_list, make_struct, make_struct_list};
+use capnp_making::zeroing::zero_object;
+use capnp_words::error::ErrorKind;
+use capnp_words::wire_pointer::{ElementSize, StructSize, WirePointer};
+
+/// Makes the pointer at a place a capability, by its index ("Capabilities (Interfaces)").
+pub fn set_capability<A: BuilderArena>(arena: &mut A, id: u32, at: u32, index: u32)
+    requires place { IsPlace (A.view arena.old).words id at }
+    ensures made { Puts (A.view arena.old).words (A.view arena.new).words id at (Capability index) }
+    ensures lengths { (v : ℕ) → length (segment (A.view arena.new).words v)
+        ≡ length (segment (A.view arena.old).words v) }
+    ensures only { IsPrunedBut (A.view arena.old).words (A.view arena.new).words id at
+        (capability_word index) }
+    ensures limits { KeepsLimits (A.view arena.old) (A.view arena.new) }
+{
+    zero_object(arena, id, at);
+    arena.set_word(id, at, WirePointer::new_capability(index).0);
+}
+
+/// Makes a struct, all zero, where the pointer at a place leads. One without sections takes no words.
+///
+/// A refusal is that of memory, or `MessageTooLarge`; the pointer is null then.
+#[inline(always)]
+pub fn init_struct<A: BuilderArena>(
+    arena: &mut A,
+    id: u32,
+    at: u32,
+    size: StructSize,
+) -> Result<Start, ErrorKind>
+    requires place { IsPlace (A.view arena.old).words id at }
+    ensures object { MakesObject result (call_at id at (A.view arena.old) (A.view arena.new))
+        (zero_struct size) (size.data_words + size.pointers) }
+    ensures once_zeroed { OnOk result (PutsOnceZeroed (A.view arena.old).words
+        (A.view arena.new).words id at (zero_struct size)) }
+    ensures start { IfOk result
+        (ObjectStartsAt (call_at id at (A.view arena.old) (A.view arena.new))
+        (size.data_words + size.pointers)) }
+    ensures empty { size.data_words + size.pointers ≡ 0
+        → OnOk result (word_at (A.view arena.new).words id at ≡ struct_word (2 ^ 30 - 1) 0 0) }
+{
+    zero_object(arena, id, at);
+    make_struct(arena, id, at, size)
+}
+
+/// Makes a list of elements that are no structs, all zero or null, where the pointer at a place leads.
+///
+/// A refusal is that of memory, or `MessageTooLarge`; the pointer is null then.
+#[inline(always)]
+pub fn init_list<A: BuilderArena>(
+    arena: &mut A,
+    id: u32,
+    at: u32,
+    size: ElementSize,
+    count: u32,
+) -> Result<Start, ErrorKind>
+    requires place { IsPlace (A.view arena.old).words id at }
+    requires few { count < 2 ^ 29 }
+    requires plain { size_number size ≤ 6 }
+    ensures object { MakesObject result (call_at id at (A.view arena.old) (A.view arena.new))
+        (zero_list (size_number size) count) (list_words (size_number size) count) }
+    ensures once_zeroed { OnOk result (PutsOnceZeroed (A.view arena.old).words
+        (A.view arena.new).words id at (zero_list (size_number size) count)) }
+    ensures start { IfOk result
+        (ObjectStartsAt (call_at id at (A.view arena.old) (A.view arena.new))
+        (list_words (size_number size) count)) }
+    ensures at_end { HasOwnRoom (A.view arena.old) id (list_words (size_number size) count)
+        → IfOk result (StartsBehind (A.view arena.old).words id) }
+{
+    zero_object(arena, id, at);
+    make_list(arena, id, at, size, count)
+}
+
+/// Makes a list of structs, all zero, where the pointer at a place leads; its first word is the tag.
+///
+/// A refusal is that of memory, or `MessageTooLarge`; the pointer is null then.
+pub fn init_struct_list<A: BuilderArena>(
+    arena: &mut A,
+    id: u32,
+    at: u32,
+    count: u32,
+    size: StructSize,
+) -> Result<Start, ErrorKind>
+    requires place { IsPlace (A.view arena.old).words id at }
+    requires few { count < 2 ^ 30 }
+    requires words { count * (size.data_words + size.pointers) < 2 ^ 29 }
+    ensures object { MakesObject result (call_at id at (A.view arena.old) (A.view arena.new))
+        (zero_structs count size) (1 + count * (size.data_words + size.pointers)) }
+    ensures once_zeroed { OnOk result (PutsOnceZeroed (A.view arena.old).words
+        (A.view arena.new).words id at (zero_structs count size)) }
+    ensures start { IfOk result
+        (ObjectStartsAt (call_at id at (A.view arena.old) (A.view arena.new))
+        (1 + count * (size.data_words + size.pointers))) }
+{
+    zero_object(arena, id, at);
+    make_struct_list(arena, id, at, count, size)
+}
