@@ -6,7 +6,7 @@ use Rattle.capnp_words.specs.declared.error.ErrorKind.{ErrorKind}
 use Rattle.capnp_words.specs.Meter.{Meter, FitsIn, less, raised, spent}
 use Rattle.capnp_format.specs.Bytes.{message}
 use Rattle.capnp_format.specs.Segments.{Segments, segment}
-use Rattle.capnp_format.specs.Tree.{Tree}
+use Rattle.capnp_format.specs.Tree.{Tree, depth}
 use Rattle.capnp_format.specs.Canonical.{Lies, Reaches, Stands, body, charge, encoding, pointer, word_count}
 use Rattle.capnp_format.proofs.Lengths.{length-body}
 use Rattle.capnp_format.proofs.Unique.{for_offset, one_stands, stands_means}
@@ -24,7 +24,7 @@ use Rattle.capnp_messages.specs.Roots.{CoversRoot, message_root}
 use Rattle.capnp_framing.specs.Frames.{frame}
 use Rattle.capnp_framing.specs.Reading.{total}
 use Rattle.capnp_framing.proofs.FrameLemmas.{same_frames}
-use Rattle.capnp_messages.specs.CanonicalMessages.{CanBeTested, IsCanonicalMessage, IsCanonicalOf, IsMessageFault, IsPaid, IsRootFault, MeansItsValue, MessageTestFails, OneCanonicalValue, SameCanonicalFrames}
+use Rattle.capnp_messages.specs.CanonicalMessages.{CanBeTested, IsCanonicalMessage, IsCanonicalOf, IsMessageFault, IsPaid, IsRootFault, IsWithinLevels, MeansItsValue, MessageTestFails, OneCanonicalValue, SameCanonicalFrames}
 use Rattle.capnp_messages.proofs.CanonLemmas.{covers_root}
 use Rattle.capnp_messages.proofs.CanonLemmas.{covers_rest}
 use Rattle.capnp_messages.proofs.TryLemmas.{total-message}
@@ -98,7 +98,7 @@ more_fault {S} {h = h} covers (t, finds) more fault =
     (covers, inr (t, h, finds, fewer, fault))
 
 -- a canonical message has a word for its root
-has_root : {S : Segments} {t : Tree} → IsCanonicalOf S t → 1 ≤ length (segment S 0)
+pub has_root : {S : Segments} {t : Tree} → IsCanonicalOf S t → 1 ≤ length (segment S 0)
 has_root canonical = omega (arith, canonical_length canonical)
 
 pub one_canonical_value : OneCanonicalValue
@@ -134,6 +134,14 @@ pub whole_paid : {S : Segments} {n h : ℕ} {old : Meter} {r : Reading} {m m' : 
 whole_paid {h = h} {r = r} {m = m} {m' = m'} o root one is found full =
     let finds : IsFound r (progress 1 m) (progress h m') = subst (λ (x : Option CanonicalFault). IfNone x (IsFound r (progress 1 m) (progress h m'))) is found in
     found_whole one root.covers (moved (λ r m. IsFound r (progress 1 m) (progress h m')) root finds) full
+
+-- and no deeper than the levels
+pub whole_within : {S : Segments} {n h : ℕ} {old : Meter} {r : Reading} {m : Meter} (m' : Meter) (o : Option CanonicalFault) → IsRootRead S n old r m → length S ≡ 1 → o ≡ None → IfNone o (IsFound r (progress 1 m) (progress h m')) → h ≡ length (segment S 0) → IsWithinLevels S n
+whole_within {S} {n} {h} {r = r} {m = m} m' o root one is found full u canonical =
+    let there : IsFound r (progress 1 m) (progress h m') = subst (λ (x : Option CanonicalFault). IfNone x (IsFound r (progress 1 m) (progress h m'))) is found in
+    let (t, finds) = moved (λ r m. IsFound r (progress 1 m) (progress h m')) root there in
+    let same : t ≡ u = one_canonical_value S t u (stands_alone one finds.stands (sym finds.head_is ∙ full)) canonical in
+    subst (λ (v : Tree). depth v ≤ n) same finds.levels
 
 -- where there are words behind these, it isn't, and the fault is the first of them
 pub more_never : {S : Segments} {n h : ℕ} {old : Meter} {r : Reading} {m : Meter} (m' : Meter) (o : Option CanonicalFault) → IsRootRead S n old r m → o ≡ None → IfNone o (IsFound r (progress 1 m) (progress h m')) → (h ≡ length (segment S 0) → ⊥) → IsCanonicalMessage S → ⊥

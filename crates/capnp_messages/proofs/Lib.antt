@@ -8,3 +8,4 @@ pub mod TestLemmas
 pub mod MessageLemmas
 pub mod AnsweredLemmas
 pub mod FramesLemmas
+pub mod AsItStandsLemmas

@@ -34,6 +34,10 @@ IsCanonicalMessage S = (t : Tree) × IsCanonicalOf S t
 abbrev pub IsPaid : Segments → Meter → Meter → Type 0
 IsPaid S m m' = (t : Tree) × IsCanonicalOf S t × Paid true m m' (1 + charge t) (pointers_in t)
 
+-- A message is the canonical one of no value that is deeper than n levels.
+abbrev pub IsWithinLevels : Segments → ℕ → Type 0
+IsWithinLevels S n = (t : Tree) → IsCanonicalOf S t → depth t ≤ n
+
 -- A canonical message is no deeper than n levels, and the limiter covers what its test charges.
 abbrev pub CanBeTested : Segments → ℕ → Meter → Type 0
 CanBeTested S n m = (t : Tree) × IsCanonicalOf S t × (depth t ≤ n) × FitsIn m.left (1 + charge t)

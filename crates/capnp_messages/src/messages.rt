@@ -1,5 +1,6 @@
 //! Whole messages: made canonical, tested for canonical form, and measured ("Canonicalization").
 
+mod as_it_stands;
 mod canonical_copy;
 mod canonical_error;
 mod canonical_message;
@@ -11,6 +12,7 @@ mod root;
 mod whole;
 mod writing;
 
+pub use as_it_stands::CanonicalMessage;
 pub use canonical_copy::{CanonicalCopy, copy_canonical, copy_canonical_with};
 pub use canonical_error::CanonicalError;
 pub use canonical_message::is_canonical_message;

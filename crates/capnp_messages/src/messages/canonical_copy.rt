@@ -131,16 +131,22 @@ fn count_pointers(lim: &mut ReadLimiter, pointers: u64)
 }
 
 /// Charges and counts what a copy has spent, of which its own limiter is given: it had as many words
-/// as this one, and no pointer was followed.
+/// as this one, and no pointer was followed. Where none was followed here either, the copy's limiter
+/// takes the place of this one, and nothing is counted.
 fn settle(lim: &mut ReadLimiter, own: ReadLimiter)
     requires { IsLeftOf own.left lim.old.left }
     ensures left { lim.new.left ≡ own.left }
     ensures counted { lim.new.followed ≡ raised lim.old.followed own.followed }
 {
+    let pointers = own.followed();
+    if lim.followed() == 0 {
+        *lim = own;
+        return;
+    }
     if let (Some(left), Some(after)) = (lim.left(), own.left()) {
         let _ = lim.can_read(left - after);
     }
-    count_pointers(lim, own.followed());
+    count_pointers(lim, pointers);
 }
 
 /// Makes the canonical words of what a pointer means in a fresh message with a segment of so many

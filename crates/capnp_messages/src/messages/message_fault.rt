@@ -6,7 +6,7 @@ ghost use Rattle.capnp_objects.specs.Source.{levels};
 ghost use Rattle.capnp_readers.specs.Faults.{FaultIs};
 ghost use Rattle.capnp_readers.specs.Readers.{reading};
 ghost use Rattle.capnp_messages.specs.Roots.{CoversRoot, RefusesRoot, message_root};
-ghost use Rattle.capnp_messages.specs.CanonicalMessages.{CanBeTested, IsCanonicalMessage, IsMessageFault, IsPaid, IsRootFault, RefusesTest};
+ghost use Rattle.capnp_messages.specs.CanonicalMessages.{CanBeTested, IsCanonicalMessage, IsMessageFault, IsPaid, IsRootFault, IsWithinLevels, RefusesTest};
 
 use super::root::read_root;
 use capnp_arena::arena::{ReaderArena, ReaderArenaImpl, ReaderSegments};
@@ -42,6 +42,9 @@ fn segment_fault<S: ReaderSegments>(
     ensures paid { IfOk result (λ o. IfNone o (
         IsPaid (message (⟦<ReaderArenaImpl<S> as ReaderArena>⟧.segments arena.now))
         lim.old lim.new)) }
+    ensures within { IfOk result (λ o. IfNone o (
+        IsWithinLevels (message (⟦<ReaderArenaImpl<S> as ReaderArena>⟧.segments arena.now))
+        (levels arena.now.nesting_limit))) }
     ensures answered { CanBeTested (message
         (⟦<ReaderArenaImpl<S> as ReaderArena>⟧.segments arena.now))
         (levels arena.now.nesting_limit) lim.old
@@ -85,6 +88,9 @@ pub fn canonical_fault<S: ReaderSegments>(
     ensures paid { IfOk result (λ o. IfNone o (
         IsPaid (message (⟦<ReaderArenaImpl<S> as ReaderArena>⟧.segments arena.now))
         lim.old lim.new)) }
+    ensures within { IfOk result (λ o. IfNone o (
+        IsWithinLevels (message (⟦<ReaderArenaImpl<S> as ReaderArena>⟧.segments arena.now))
+        (levels arena.now.nesting_limit))) }
     ensures answered { CanBeTested (message
         (⟦<ReaderArenaImpl<S> as ReaderArena>⟧.segments arena.now))
         (levels arena.now.nesting_limit) lim.old

@@ -14,13 +14,40 @@ use super::canonical_copy::{CanonicalCopy, copy_canonical_with};
 use super::message_fault::canonical_fault;
 use super::root::read_root;
 use capnp_arena::arena::{
-    Allocator, BuilderArena, BuilderArenaImpl, HeapAllocator, ReaderArenaImpl, ReaderOptions,
-    ReaderSegments,
+    Allocator, BuilderArena, BuilderArenaImpl, HeapAllocator, ReaderArena, ReaderArenaImpl,
+    ReaderOptions, ReaderSegments,
 };
 use capnp_readers::readers::{CanonicalFault, MessageSize};
 use capnp_words::error::ErrorKind;
 use capnp_words::read_limiter::ReadLimiter;
 use std::alloc::Global;
+
+/// Makes the value of a message canonical, as `canonical_with` has it.
+pub(super) fn copy_within<A: Allocator, S: ReaderSegments>(
+    alloc: Global,
+    allocator: A,
+    source: &ReaderArenaImpl<S>,
+    limits: ReaderOptions,
+) -> Result<BuilderArenaImpl<A>, (ErrorKind, A)>
+    requires { source.now.nesting_limit ≡ limits.nesting_limit }
+    ensures copied { IfOk result (λ made. (t : Tree)
+        × IsValueOf (message (⟦<ReaderArenaImpl<S> as ReaderArena>⟧.segments source.now)) limits t
+        × HoldsCanonicalWords (⟦<BuilderArenaImpl<A> as BuilderArena>⟧.view made) t) }
+    ensures tries { IfOk result (λ made. IsMadeByFirstTry (root_within
+        (message (⟦<ReaderArenaImpl<S> as ReaderArena>⟧.segments source.now)) limits)
+        (A.offers allocator) ((⟦<BuilderArenaImpl<A> as BuilderArena>⟧.view made).room 0)) }
+    ensures granted { IfOk result (λ made.
+        (⟦<BuilderArenaImpl<A> as BuilderArena>⟧.view made).refusals ≡ A.refusals allocator) }
+    ensures refused { IfErr result
+        (λ e. LacksMemoryOr (A.refusals allocator) (A.refusals e.1) e.0 (RefusesCanon
+        (message (⟦<ReaderArenaImpl<S> as ReaderArena>⟧.segments source.now)) limits e.0)) }
+{
+    let mut lim = ReadLimiter::new(limits.traversal_limit_in_words);
+    match read_root(source, &mut lim) {
+        Ok(root) => copy_canonical_with(alloc, allocator, root, &mut lim),
+        Err(kind) => Err((kind, allocator)),
+    }
+}
 
 /// Makes the value of a message canonical: a message of one segment, its canonical words
 /// ("Canonicalization"), with memory of an allocator. A refusal gives the allocator back.
@@ -48,11 +75,7 @@ pub fn canonical_with<A: Allocator, S: ReaderSegments + Drop>(
         (RefusesCanon (message (S.segments segments)) limits e.0)) }
 {
     let arena = ReaderArenaImpl::new(segments, limits);
-    let mut lim = ReadLimiter::new(limits.traversal_limit_in_words);
-    match read_root(&arena, &mut lim) {
-        Ok(root) => copy_canonical_with(alloc, allocator, root, &mut lim),
-        Err(kind) => Err((kind, allocator)),
-    }
+    copy_within(alloc, allocator, &arena, limits)
 }
 
 /// The same, with memory of the heap.

@@ -7,7 +7,7 @@ ghost use Rattle.capnp_format.specs.Canonical.{encoding, trim};
 ghost use Rattle.capnp_format.specs.Tree.{Tree};
 ghost use Rattle.capnp_arena_traits.specs.Allocations.{max_segment_words};
 ghost use Rattle.capnp_framing.specs.Frames.{bytes_of_words, frame};
-ghost use Rattle.capnp_framing.specs.Writing.{IsUnwritten, Prints};
+ghost use Rattle.capnp_framing.specs.Writing.{IsUnwritten, Prints, Writes};
 ghost use Rattle.capnp_framing.specs.declared.framing.frame_error.FrameError.{FrameError};
 ghost use Rattle.capnp_framing.specs.declared.framing.frame_error.FrameError.TheVariants.{WriteFailed};
 ghost use Rattle.capnp_objects.specs.Outcomes.{Reads};
@@ -19,8 +19,8 @@ use super::canonical_copy::copy_canonical_with;
 use super::canonical_error::CanonicalError;
 use super::copy_memory::CopyMemory;
 use capnp_arena::arena::{Allocator, BuilderArena, BuilderArenaImpl, OutputSegments, ReaderArena};
-use capnp_framing::devices::Output;
-use capnp_framing::framing::write;
+use capnp_framing::devices::{DeviceFault, Output};
+use capnp_framing::framing::{FrameError, write};
 use capnp_readers::readers::PointerReader;
 use capnp_words::read_limiter::ReadLimiter;
 use capnp_words::words::{count, part};
@@ -33,7 +33,7 @@ fn are_words(bytes: &[u8])
 {}
 
 /// The bytes of the whole words of a segment.
-fn whole_words(segment: &[u8]) -> &[u8]
+pub(super) fn whole_words(segment: &[u8]) -> &[u8]
     ensures bytes { result.now ≡ bytes_of_words (words_of segment.now) }
     ensures words { words_of result.now ≡ words_of segment.now }
     ensures shorter { length result.now ≤ 8 * (length segment.now / 8) }
@@ -55,7 +55,19 @@ pub fn canonical_bytes<A: Allocator>(made: &BuilderArenaImpl<A>) -> &[u8]
 {
     match made.get_segments_for_output() {
         Ok(OutputSegments::SingleSegment(segment)) => whole_words(segment),
-        _ => &[],
+        _ => unreachable!(),
+    }
+}
+
+/// Writes a segment of whole words as the frame of a message of that segment.
+pub(super) fn write_framed<W: Output>(output: &mut W, segment: &[u8]) -> Result<(), DeviceFault>
+    requires works { W.has_failed output.old ≡ false }
+    requires short { length segment.now < 2 ^ 35 }
+    ensures { Writes W.Output result output.old output.new (frame (words_of segment.now ∷ [])) }
+{
+    match write(output, &OutputSegments::SingleSegment(segment)) {
+        Ok(()) => Ok(()),
+        Err(_) => Err(DeviceFault),
     }
 }
 
@@ -72,12 +84,9 @@ pub fn write_copy<W: Output, A: Allocator>(
     ensures refused { IfErr result (λ e. (e ≡ CanonicalError.Frame WriteFailed)
         × (W.has_failed output.new ≡ true)) }
 {
-    match made.get_segments_for_output() {
-        Ok(segments) => match write(output, &segments) {
-            Ok(()) => Ok(()),
-            Err(error) => Err(CanonicalError::Frame(error)),
-        },
-        Err(kind) => Err(CanonicalError::Layout(kind)),
+    match write_framed(output, canonical_bytes(made)) {
+        Ok(()) => Ok(()),
+        Err(DeviceFault) => Err(CanonicalError::Frame(FrameError::WriteFailed)),
     }
 }
 

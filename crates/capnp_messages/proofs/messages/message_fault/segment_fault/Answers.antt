@@ -1,6 +1,6 @@
 use Rattle.std.proofs.Common.{◌≡◌, ◌∙◌, true, false, refl}
 use Rattle.capnp_arena_traits.proofs.MessageLemmas.{length-message}
-use Rattle.capnp_messages.proofs.CanonicalMessageLemmas.{IsRootRead, head_ends, head_stays, more_is_fault, more_never, never_refused, some_exactly, whole_paid}
+use Rattle.capnp_messages.proofs.CanonicalMessageLemmas.{IsRootRead, head_ends, head_stays, more_is_fault, more_never, never_refused, some_exactly, whole_paid, whole_within}
 use Rattle.capnp_messages.proofs.messages.message_fault.segment_fault.Goals as goal
 
 pub returns-in_err-fault-clause-answered : goal.returns-in_err-fault-clause-answered
@@ -23,6 +23,11 @@ pub returns-then-head-size_in_words-clause-paid : goal.returns-then-head-size_in
 returns-then-head-size_in_words-clause-paid g c =
     let root : IsRootRead _ _ _ _ _ = record { place = c.in_ok-root.ensures.place; left = c.in_ok-root.ensures.charged; covers = c.in_ok-root.ensures.exactly.0 refl } in
     whole_paid c.in_ok-fault.field-0 root (length-message _ ∙ c.requires) c.in_default.is c.in_ok-fault.ensures.found (head_ends _ c.canonical_fault.new.head c.size_in_words.result c.requires c.size_in_words.ensures c.if-head-size_in_words.true)
+
+pub returns-then-head-size_in_words-clause-within : goal.returns-then-head-size_in_words-clause-within
+returns-then-head-size_in_words-clause-within g c =
+    let root : IsRootRead _ _ _ _ _ = record { place = c.in_ok-root.ensures.place; left = c.in_ok-root.ensures.charged; covers = c.in_ok-root.ensures.exactly.0 refl } in
+    whole_within c.canonical_fault.new.lim c.in_ok-fault.field-0 root (length-message _ ∙ c.requires) c.in_default.is c.in_ok-fault.ensures.found (head_ends _ c.canonical_fault.new.head c.size_in_words.result c.requires c.size_in_words.ensures c.if-head-size_in_words.true)
 
 pub returns-clause-exactly : goal.returns-clause-exactly
 returns-clause-exactly g c =

@@ -1,30 +1,10 @@
-use Rattle.std.proofs.Common.{rules, IsOk}
-use Rattle.std.proofs.lemmas.Result.{IfErr-weaker, IfOk-weaker}
-use Rattle.capnp_format.specs.Bytes.{message}
-use Rattle.capnp_messages.proofs.TryLemmas.{moved_tries}
-use Rattle.capnp_messages.proofs.MessageLemmas.{AtRoot, at_root, copy_of, copy_refused}
 use Rattle.capnp_messages.proofs.messages.whole.canonical_with.Goals as goal
 
-pub returns-in-Ok-clause-copied : goal.returns-in-Ok-clause-copied
-returns-in-Ok-clause-copied g c =
-    let read : IsOk c.read_root.result = search rules in
-    let at : AtRoot (message (g.S.ReaderSegments.segments c.args.segments)) c.args.limits _ c.read_root.new.lim =
-    at_root c.new-arena.ensures.words c.new-arena.ensures.nesting c.new-lim.ensures c.in-Ok.ensures.place
-    c.in-Ok.ensures.charged (c.read_root.ensures.exactly.0 read) in
-    IfOk-weaker c.copy_canonical_with.result _ _ (λ made. copy_of at) c.copy_canonical_with.ensures.copied
+pub returns-clause-copied : goal.returns-clause-copied
+returns-clause-copied g c = rw c.new-arena.ensures.words at c.copy_within.ensures.copied
 
-pub returns-in-Ok-clause-tries : goal.returns-in-Ok-clause-tries
-returns-in-Ok-clause-tries g c =
-    let read : IsOk c.read_root.result = search rules in
-    let at : AtRoot (message (g.S.ReaderSegments.segments c.args.segments)) c.args.limits _ c.read_root.new.lim =
-    at_root c.new-arena.ensures.words c.new-arena.ensures.nesting c.new-lim.ensures c.in-Ok.ensures.place
-    c.in-Ok.ensures.charged (c.read_root.ensures.exactly.0 read) in
-    IfOk-weaker c.copy_canonical_with.result _ _ (λ made. moved_tries (g.A.Allocator.offers c.args.allocator) _ at.place) c.copy_canonical_with.ensures.tries
+pub returns-clause-tries : goal.returns-clause-tries
+returns-clause-tries g c = rw c.new-arena.ensures.words at c.copy_within.ensures.tries
 
-pub returns-in-Ok-clause-refused : goal.returns-in-Ok-clause-refused
-returns-in-Ok-clause-refused g c =
-    let read : IsOk c.read_root.result = search rules in
-    let at : AtRoot (message (g.S.ReaderSegments.segments c.args.segments)) c.args.limits _ c.read_root.new.lim =
-    at_root c.new-arena.ensures.words c.new-arena.ensures.nesting c.new-lim.ensures c.in-Ok.ensures.place
-    c.in-Ok.ensures.charged (c.read_root.ensures.exactly.0 read) in
-    IfErr-weaker c.copy_canonical_with.result _ _ (λ e. copy_refused at) c.copy_canonical_with.ensures.refused
+pub returns-clause-refused : goal.returns-clause-refused
+returns-clause-refused g c = rw c.new-arena.ensures.words at c.copy_within.ensures.refused
