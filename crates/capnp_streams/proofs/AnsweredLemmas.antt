@@ -9,7 +9,10 @@ use Rattle.capnp_framing.specs.Flat.{BeginsWithFrame}
 use Rattle.capnp_framing.specs.Reading.{NoFrame}
 use Rattle.capnp_framing.proofs.FrameLemmas.{one_frame_begins}
 use Rattle.capnp_framing.proofs.ReadingLemmas.{frame_is_read}
+use Rattle.capnp_words.specs.declared.error.ErrorKind.{ErrorKind}
+use Rattle.capnp_words.specs.declared.error.ErrorKind.TheVariants.{AllocationFailed}
 use Rattle.capnp_messages.specs.Commands.{HasAnswerWithin}
+use Rattle.capnp_messages.specs.Copies.{LacksMemoryOr}
 use Rattle.capnp_messages.proofs.AnsweredLemmas.{answer_refused}
 use Rattle.capnp_messages.proofs.FramesLemmas.{no_bytes_begin}
 use Rattle.capnp_streams.specs.Streams.{AreDone, AreFrames, CanBeAnswered, IsOfDevices}
@@ -106,3 +109,8 @@ step_answerable old left between failed fault done (inl (named, device)) =
     λ can. subst IsOfDevices (sym named) (inr (inr refl))
 step_answerable old left between failed fault done (inr (stops, same)) =
     answerable_stops old left between failed 0 fault done (stops 0)
+
+-- where a copy is refused memory lacked, or it is refused for what the message holds
+pub copy_refused : {old new : ℕ} {k : ErrorKind} {P : Type 0} → LacksMemoryOr old new k P → (k ≡ AllocationFailed) ⊎ P
+copy_refused (inl (lacks, counted)) = inl lacks
+copy_refused (inr (refused, counted)) = inr refused

@@ -9,7 +9,6 @@ use Rattle.capnp_words.specs.declared.error.ErrorKind.TheVariants.{AllocationFai
 use Rattle.capnp_format.specs.Canonical.{encoding, trim}
 use Rattle.capnp_format.specs.Segments.{Segments}
 use Rattle.capnp_format.specs.Tree.{Tree}
-use Rattle.capnp_arena_traits.specs.View.{View}
 use Rattle.capnp_arena.specs.declared.arena.reader_arena_impl.ReaderOptions.{ReaderOptions}
 use Rattle.capnp_framing.specs.Flat.{BeginsWithFrame}
 use Rattle.capnp_framing.specs.Frames.{IsFrameOf}
@@ -30,7 +29,6 @@ use Rattle.capnp_streams.specs.declared.streams.runs.Stop.{Stop}
 use Rattle.capnp_streams.specs.declared.streams.runs.Summary.{Summary}
 use Rattle.capnp_messages.specs.declared.messages.command.Command.{Command}
 use Rattle.capnp_messages.specs.declared.messages.command.Command.TheVariants.{Canon, Check, Size}
-use Rattle.capnp_messages.specs.declared.messages.command.Form.{Form}
 use Rattle.capnp_streams.specs.declared.streams.task.Task.{Task}
 use Rattle.capnp_messages.specs.Commands.{HasAnswerWithin, RefusesAnswer, form_bytes}
 
@@ -43,10 +41,6 @@ fault_name TooManyMessages = codes "TooManyMessages"
 -- How many words a message may have of which the frame is read: those of the traversal limit.
 abbrev pub most_words : ReaderOptions → ℕ
 most_words limits = unwrap_or limits.traversal_limit_in_words (2 ^ 64 - 1)
-
--- The words of a message of one segment are written in a form, of which P holds.
-abbrev pub WritesCopy : Form → View → (List ℕ → Type 0) → Type 0
-WritesCopy form made P = (words : List ℕ) → made.words ≡ words ∷ [] → P (form_bytes form words)
 
 -- The line of a message that isn't canonical: why, and at which word.
 unfoldable pub no_text : List ℕ

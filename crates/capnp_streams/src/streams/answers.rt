@@ -7,12 +7,12 @@ ghost use Rattle.capnp_streams.specs.Streams.{AnswersWith, IsWriteFault, Refuses
 
 use super::fault::Fault;
 use super::task::Task;
-use super::writing::{write_canonical, write_fault, write_form};
-use capnp_arena::arena::{ReaderOptions, ReaderSegments};
+use super::writing::{write_canonical, write_fault};
+use capnp_arena::arena::{ReaderArenaImpl, ReaderOptions, ReaderSegments};
 use capnp_framing::devices::{DeviceFault, Output};
 use capnp_framing::framing::FrameError;
 use capnp_messages::messages::{
-    Command, CopyMemory, Form, canonical_fault_of, canonical_with, size_of,
+    CanonicalMessage, Command, CopyMemory, Form, canonical_fault_of, size_of,
 };
 use capnp_messages::text::write_size;
 use std::alloc::Global;
@@ -43,7 +43,7 @@ impl Memory {
     }
 }
 
-/// Writes a message in canonical form.
+/// Writes a message in canonical form: as it stands, where it is in that form, and else by a copy.
 fn canon<S: ReaderSegments + Drop, W: Output>(
     memory: &mut Memory,
     form: Form,
@@ -62,9 +62,10 @@ fn canon<S: ReaderSegments + Drop, W: Output>(
         × IsUnwritten W.Output output.old output.new)) }
 {
     let copies = memory.take_copies();
-    match canonical_with(memory.alloc, copies, segments, limits) {
+    let source = ReaderArenaImpl::new(segments, limits);
+    match CanonicalMessage::of(memory.alloc, copies, &source, limits) {
         Ok(made) => {
-            let written = write_form(output, form, &made);
+            let written = made.write(output, form);
             memory.copies = made.into_allocator();
             match written {
                 Ok(()) => Ok(true),

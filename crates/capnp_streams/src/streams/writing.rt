@@ -1,37 +1,12 @@
-//! What is written of a message: its canonical words in a form, or a line.
-ghost use Rattle.std.specs.Prelude.{◌≡◌, ◌∷◌, [], length, codes, false, true, OnOk, OnErr};
+//! The lines that are written of a message.
+ghost use Rattle.std.specs.Prelude.{◌≡◌, false, true, OnOk, OnErr};
 ghost use Rattle.capnp_framing.specs.Writing.{Prints};
 ghost use Rattle.capnp_messages.specs.Text.{check_line};
-ghost use Rattle.capnp_streams.specs.Streams.{WritesCopy, fault_line, no_text, segment_text, word_text};
+ghost use Rattle.capnp_streams.specs.Streams.{fault_line, no_text, segment_text, word_text};
 
-use capnp_arena::arena::{Allocator, BuilderArena, BuilderArenaImpl, ReaderArena};
 use capnp_framing::devices::{DeviceFault, Output, write_all};
-use capnp_messages::messages::{Form, canonical_bytes, write_copy};
 use capnp_messages::text::write_number;
 use capnp_readers::readers::CanonicalFault;
-
-/// Writes a canonical message, as a frame or as its bare words.
-pub(super) fn write_form<W: Output, A: Allocator>(
-    output: &mut W,
-    form: Form,
-    made: &BuilderArenaImpl<A>,
-) -> Result<(), DeviceFault>
-    requires works { W.has_failed output.old ≡ false }
-    requires single { length (⟦<BuilderArenaImpl<A> as ReaderArena>⟧.segments made.now) ≡ 1 }
-    ensures written { OnOk result (WritesCopy form
-        (⟦<BuilderArenaImpl<A> as BuilderArena>⟧.view made.now)
-        (Prints W.Output output.old output.new)) }
-    ensures works { OnOk result (W.has_failed output.new ≡ false) }
-    ensures fails { OnErr result (W.has_failed output.new ≡ true) }
-{
-    match form {
-        Form::Framed => match write_copy(output, made) {
-            Ok(()) => Ok(()),
-            Err(_) => Err(DeviceFault),
-        },
-        Form::Flat => write_all(output, canonical_bytes(made)),
-    }
-}
 
 /// Writes the line of a message that is canonical.
 pub(super) fn write_canonical<W: Output>(output: &mut W) -> Result<(), DeviceFault>
