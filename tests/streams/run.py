@@ -8,6 +8,7 @@
   (tests/peer/rows.py). Those of worked.jsonl were worked out by hand from the encoding specification.
 - vectors.py makes streams of the vectors of tests/vectors, whose answers were made apart from this repository.
 - devices.py has standard input and output that fail, little memory, and how much of it a run takes.
+- coprocess.py asks for each answer before it writes more.
 - hostile.py has STREAM_RUNS, a program over the same engine, make runs whose devices fail at each call in turn, of a
   stream that is cut behind each byte and has each bit turned."""
 import argparse
@@ -18,6 +19,7 @@ import sys
 HERE = pathlib.Path(__file__).resolve().parent
 sys.path.append(str(HERE.parent / 'hostile'))
 
+import coprocess
 import devices
 import hostile
 import vectors
@@ -50,6 +52,7 @@ def main():
         ('devices', lambda: devices.failing(program, counts)),
         ('little memory', lambda: devices.scarce(program, counts)),
         ('memory for what came', lambda: devices.bounded(program, counts)),
+        ('coprocesses', lambda: coprocess.answered(program, counts)),
         ('hostile runs', lambda: hostile.runs(options.runs, counts)),
     ):
         before = counts.passed + counts.failed

@@ -7,8 +7,10 @@ ghost use Rattle.std.specs.Prelude.{◌≡◌, false};
 
 mod texts;
 
-use capnp_framing::devices::{DeviceFault, Input, Output, ReaderInput, WriterOutput};
+use capnp_framing::devices::DeviceFault;
+use capnp_packing::buffered::{BufferedInput, BufferedOutput};
 use capnp_packing::packing::PackingOutput;
+use capnp_streams::devices::{BufReaderInput, BufWriterOutput};
 use capnp_streams::streams::{self, Fault, Request, Stop, Summary, Task};
 use std::alloc::AllocError;
 use std::env;
@@ -72,23 +74,19 @@ fn run(rt: &HostRuntime, task: Task) -> Result<Outcome, AllocError> {
     let Ok(writer) = BufWriter::with_capacity(rt.alloc(), BUFFER, io::writer(rt)) else {
         return Err(AllocError);
     };
-    let input = ReaderInput::new(reader);
-    let mut output = WriterOutput::new(writer);
+    let input = BufReaderInput::new(reader);
+    let mut output = BufWriterOutput::new(writer);
     if !task.pack {
         let ended = run_to(rt, task, input, &mut output);
-        return Ok(ended_as(output.flush(), ended));
+        return Ok(ended_as(output.pass_on(), ended));
     }
     let mut packing = PackingOutput::new(output);
     let ended = run_to(rt, task, input, &mut packing);
-    if packing.flush().is_err() {
-        return Ok(Outcome::WriteFailed);
-    }
-    let mut output = packing.into_packed();
-    Ok(ended_as(output.flush(), ended))
+    Ok(ended_as(packing.pass_on(), ended))
 }
 
 /// Does a task from an input to an output, neither of which has failed.
-fn run_to<R: Input + Drop, W: Output>(
+fn run_to<R: BufferedInput + Drop, W: BufferedOutput>(
     rt: &HostRuntime,
     task: Task,
     mut input: R,

@@ -2,4 +2,5 @@
 //! bytes that they stand for.
 #![tactic(auto)]
 
+pub mod buffered;
 pub mod packing;

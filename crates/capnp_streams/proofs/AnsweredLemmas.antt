@@ -3,7 +3,7 @@ use Rattle.std.proofs.Common.{◌≡◌, ◌⊎◌, inl, inr, ℕ, ◌+◌, ◌+
 use Rattle.std.proofs.Common.{All, IfSome, IsSomeAnd}
 use Rattle.std.proofs.Common.{refl, sym, ◌∙◌, subst}
 use Rattle.std.proofs.lemmas.List.Elements.{All-head, All-tail}
-use Rattle.std.specs.Io.KnownBytes.{Consumes}
+use Rattle.std.specs.Io.KnownBytes.{Consumes, Keeps}
 use Rattle.capnp_format.specs.Segments.{Segments}
 use Rattle.capnp_framing.specs.Flat.{BeginsWithFrame}
 use Rattle.capnp_framing.specs.Reading.{NoFrame}
@@ -24,6 +24,7 @@ use Rattle.capnp_streams.specs.declared.streams.fault.Fault.TheVariants.{Frame, 
 use Rattle.capnp_streams.specs.declared.streams.runs.Summary.{Summary}
 use Rattle.capnp_streams.specs.declared.streams.task.Task.{Task}
 use Rattle.capnp_streams.proofs.FramesLemmas.{frames_behind, no_bytes_refused}
+use Rattle.capnp_streams.proofs.StreamLemmas.{done_kept}
 
 -- what is left is frames of messages that have an answer
 frame_is_there : (most : ℕ) (more : List Segments) (left : List ℕ) (e : FrameError) →
@@ -91,14 +92,11 @@ message_refused task S left before after failed TooManyMessages begins (inr (ref
 pub stops_behind : {task : Task} {count : ℕ} {holds : Bool} {W : Type 0} (old : Stage)
     (left between after : Option (List ℕ)) (failed : Bool) (fault : Fault) →
     AreDone task old (record { input = left; output = between }) (record { messages = count; holds = holds }) →
-    W ⊎ (((n : ℕ) → StopsAt task left failed n fault) × (after ≡ between)) →
+    W ⊎ (((n : ℕ) → StopsAt task left failed n fault) × Keeps between after) →
     W ⊎ StopsBehind task old after failed (record { answered = count; fault = fault })
 stops_behind old left between after failed fault done (inl written) = inl written
-stops_behind {task} {count} {holds} old left between after failed fault done (inr (stops, same)) =
-    let summary : Summary = record { messages = count; holds = holds } in
-    let here =
-    subst (λ (o : Option (List ℕ)). AreDone task old (record { input = left; output = o }) summary) (sym same) done in
-    inr (left, holds, here, stops count)
+stops_behind {task} {count} {holds} old left between after failed fault done (inr (stops, kept)) =
+    inr (left, holds, done_kept left between after kept done, stops count)
 
 pub step_answerable : {task : Task} {summary : Summary} {P Q : Type 0} (old : Stage)
     (left between : Option (List ℕ)) (failed : Bool) (fault : Fault) →

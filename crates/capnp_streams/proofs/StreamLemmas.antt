@@ -1,7 +1,7 @@
 -- A stream is read and answered message by message.
 use Rattle.std.proofs.Common.{◌≡◌, ◌≤◌, ℕ, ◌+◌, List, [], ◌∷◌, ◌++◌, Bool, true, false, ◌&&◌, Option, Some, None, length}
 use Rattle.std.proofs.Common.{IfSome, refl, sym, ap, ◌∙◌, append_assoc, append-nil, arith, length-append}
-use Rattle.std.specs.Io.KnownBytes.{Appends, Consumes}
+use Rattle.std.specs.Io.KnownBytes.{Appends, Consumes, Keeps}
 use Rattle.capnp_format.specs.Segments.{Segments}
 use Rattle.capnp_framing.specs.Flat.{BeginsWithFrame}
 use Rattle.capnp_framing.specs.Frames.{IsFrameOf}
@@ -10,6 +10,7 @@ use Rattle.capnp_framing.proofs.ReadingLemmas.{consumes_both}
 use Rattle.capnp_framing.proofs.WritingLemmas.{appends_both}
 use Rattle.capnp_streams.specs.Streams.{AnswerIs, AreAnswered, AreDone, AreFrames, IsOneDone, Stage, TakesRefused, TakesUpToRefused}
 use Rattle.capnp_streams.specs.declared.streams.fault.Fault.{Fault}
+use Rattle.capnp_streams.specs.declared.streams.runs.Summary.{Summary}
 use Rattle.capnp_streams.specs.declared.streams.task.Task.{Task}
 
 -- one frame more
@@ -95,3 +96,24 @@ begins None left consumed framed short = tt
 begins (Some x) None consumed framed short = absurd consumed
 begins (Some x) (Some y) {bytes = bytes} consumed framed short =
     record { front = bytes; behind = y; is = consumed; framed = framed; short = short }
+
+-- messages that are done, of an output that keeps what it had
+appends_keeps : (a b c : Option (List ℕ)) (bytes : List ℕ) → Appends a b bytes → Keeps b c → Appends a c bytes
+appends_keeps None b c bytes written kept = tt
+appends_keeps (Some x) None c bytes written kept = absurd written
+appends_keeps (Some x) (Some y) None bytes written kept = absurd kept
+appends_keeps (Some x) (Some y) (Some z) bytes written kept = kept ∙ written
+
+pub done_kept : {task : Task} {old : Stage} {summary : Summary} (left between after : Option (List ℕ)) →
+    Keeps between after → AreDone task old (record { input = left; output = between }) summary →
+    AreDone task old (record { input = left; output = after }) summary
+done_kept {old = old} left between after kept done = record {
+  messages = done.messages;
+  bytes = done.bytes;
+  answers = done.answers;
+  many = done.many;
+  framed = done.framed;
+  consumed = done.consumed;
+  answered = done.answered;
+  written = appends_keeps old.output between after done.answers done.written kept;
+}

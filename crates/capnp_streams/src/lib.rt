@@ -3,4 +3,5 @@
 //! program `capnp_canon`.
 #![tactic(auto)]
 
+pub mod devices;
 pub mod streams;

@@ -1,7 +1,8 @@
 //! Devices that move few bytes at a time, and fail behind so many calls.
-ghost use Rattle.std.specs.Prelude.{◌≡◌, Some, true};
+ghost use Rattle.std.specs.Prelude.{◌≡◌, Some, true, ⊤};
 
 use capnp_framing::devices::{DeviceFault, Input, Output};
+use capnp_packing::buffered::{BufferedInput, BufferedOutput};
 
 /// How a device works.
 #[derive(Clone, Copy)]
@@ -44,6 +45,15 @@ impl Input for StrainedInput<'_> {
     }
 }
 
+impl BufferedInput for StrainedInput<'_> {
+    ghost has_enough = { λ _. ⊤ };
+
+    /// It reads nothing ahead.
+    fn is_ahead(&self) -> bool {
+        false
+    }
+}
+
 /// Takes bytes into memory.
 #[derive(Drop)]
 pub struct StrainedOutput {
@@ -72,5 +82,14 @@ impl Output for StrainedOutput {
 
     fn failed(&self) -> bool {
         self.failed
+    }
+}
+
+impl BufferedOutput for StrainedOutput {
+    ghost kept = { λ _. 0 };
+
+    /// It keeps none.
+    fn pass_on(&mut self) -> Result<(), DeviceFault> {
+        Ok(())
     }
 }

@@ -2,7 +2,7 @@
 ghost use Rattle.std.specs.Prelude.{◌≡◌, false};
 
 use crate::devices::{Strain, StrainedInput, StrainedOutput};
-use capnp_framing::devices::Output;
+use capnp_packing::buffered::BufferedOutput;
 use capnp_packing::packing::PackingOutput;
 use capnp_streams::streams::{self, Request, Stop, Summary, Task};
 use std::alloc::{AllocError, Global};
@@ -115,7 +115,7 @@ fn run_once(alloc: Global, run: &Run) -> Result<String, AllocError> {
 }
 
 /// Makes a run to an output that hasn't failed.
-fn run_to<W: Output>(alloc: Global, run: &Run, output: &mut W) -> Result<Summary, Stop>
+fn run_to<W: BufferedOutput>(alloc: Global, run: &Run, output: &mut W) -> Result<Summary, Stop>
     requires { W.has_failed output.old ≡ false }
 {
     let mut input = StrainedInput {

@@ -1,9 +1,10 @@
 //! An output of words, as an output of packed bytes.
-ghost use Rattle.std.specs.Prelude.{◌≡◌, ◌<◌, ◌≤◌, ◌+◌, false, true, IfOk, OnOk, OnErr, length, slice_range};
+ghost use Rattle.std.specs.Prelude.{◌≡◌, ◌<◌, ◌≤◌, ◌+◌, ◌-◌, false, true, IfOk, OnOk, OnErr, length, slice_range};
 ghost use Rattle.std.specs.Io.KnownBytes.{Keeps, WriteAppends, append_known};
 ghost use Rattle.capnp_packing.specs.Packing.{unpacked_known};
 
 use super::words::{MOST_BYTES, pack_front};
+use crate::buffered::BufferedOutput;
 use capnp_framing::devices::{DeviceFault, Output};
 
 /// How many packed bytes are kept at most.
@@ -135,5 +136,18 @@ impl<W: Output> Output for PackingOutput<W> {
 
     fn failed(&self) -> bool {
         self.failed
+    }
+}
+
+impl<W: BufferedOutput> BufferedOutput for PackingOutput<W> {
+    ghost kept = { λ p. (p.end - p.sent) + W.kept p.packed };
+
+    fn pass_on(&mut self) -> Result<(), DeviceFault> {
+        self.flush()?;
+        if self.packed.pass_on().is_err() {
+            self.failed = true;
+            return Err(DeviceFault);
+        }
+        Ok(())
     }
 }

@@ -8,6 +8,7 @@ ghost use Rattle.capnp_packing.specs.Packing.{KeepsEnd, bytes_behind, place_behi
 use super::place::{Place, step};
 use super::read_ahead::ReadAhead;
 use super::unpacking::{UNIT, put_zeros, unpack_words};
+use crate::buffered::BufferedInput;
 use capnp_framing::devices::{DeviceFault, Input};
 
 /// An input of the bytes that packed bytes stand for, as far as they go. A packed input that has failed isn't asked
@@ -260,5 +261,14 @@ impl<R: Input> Input for UnpackingInput<R> {
 
     fn failed(&self) -> bool {
         self.told && self.packed.failed()
+    }
+}
+
+impl<R: Input> BufferedInput for UnpackingInput<R> {
+    // A word of packed bytes with what may stand before and behind it.
+    ghost has_enough = { λ u. 10 ≤ u.packed.end - u.packed.at };
+
+    fn is_ahead(&self) -> bool {
+        self.packed.ahead().len() >= UNIT
     }
 }

@@ -7,8 +7,9 @@ ghost use Rattle.capnp_streams.specs.Streams.{IsWriteFault, StopsBehind, stage_o
 use super::fault::Fault;
 use super::runs::{Stop, Summary, run};
 use super::task::Task;
-use capnp_framing::devices::{DeviceFault, Input, Output};
+use capnp_framing::devices::{DeviceFault, Input};
 use capnp_framing::framing::FrameError;
+use capnp_packing::buffered::BufferedOutput;
 use capnp_packing::packing::UnpackingInput;
 use std::alloc::Global;
 
@@ -18,7 +19,7 @@ use std::alloc::Global;
 /// Packed bytes that are cut short, within a word or before a number, are no end: they are
 /// `Truncated`, behind the answers to all messages whose frames they give, and with nothing of the
 /// one that they are cut in. `ReadFailed` is the packed input's: it has failed then.
-pub fn run_packed<R: Input + Drop, W: Output>(
+pub fn run_packed<R: Input + Drop, W: BufferedOutput>(
     alloc: Global,
     task: Task,
     packed: R,

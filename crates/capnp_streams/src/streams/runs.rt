@@ -1,6 +1,6 @@
 //! A task done with each message of a stream.
 ghost use Rattle.std.specs.Prelude.{◌≡◌, ◌⊎◌, ◌&&◌, ℕ, false, true, Ok, None, OnOk, IfOk, IfErr, IfSome};
-ghost use Rattle.std.specs.Io.KnownBytes.{IsAtEnd};
+ghost use Rattle.std.specs.Io.KnownBytes.{IsAtEnd, Keeps};
 ghost use Rattle.capnp_framing.specs.declared.framing.frame_error.FrameError.TheVariants.{ReadFailed};
 ghost use Rattle.capnp_framing.specs.Wholeness.{KeepsWhole};
 ghost use Rattle.capnp_streams.specs.Streams.{AllAreDone, IsOneDone, IsWriteFault, StopsAt, StopsBehind, TakesRefused, TakesUpToRefused, WereAnswered, WhereAnswerable, most_words, stage_of};
@@ -10,7 +10,8 @@ use super::fault::Fault;
 use super::task::Task;
 use capnp_arena::arena::ReaderOptions;
 use capnp_framing::devices::{Input, Output};
-use capnp_framing::framing::{OwnedSegments, read_into};
+use capnp_framing::framing::{FrameError, OwnedSegments, read_into};
+use capnp_packing::buffered::{BufferedInput, BufferedOutput, pass_on_before_waiting};
 use std::alloc::Global;
 
 /// What was done with a stream that is answered to its end.
@@ -82,6 +83,39 @@ fn step<R: Input, W: Output>(
     }
 }
 
+/// The same, behind having passed on the answers so far, unless the message is read ahead.
+fn next<R: BufferedInput, W: BufferedOutput>(
+    task: Task,
+    input: &mut R,
+    segments: &mut OwnedSegments,
+    memory: &mut Memory,
+    output: &mut W,
+) -> Result<Option<bool>, Fault>
+    requires input { R.has_failed input.old ≡ false }
+    requires output { W.has_failed output.old ≡ false }
+    ensures end { result ≡ Ok None → IsAtEnd (R.remaining input.old)
+        × IsAtEnd (R.remaining input.new)
+        × Keeps (W.contents output.old) (W.contents output.new) }
+    ensures answered { IfOk result (λ m. IfSome m (IsOneDone task
+        (stage_of R.Input W.Output input.old output.old)
+        (stage_of R.Input W.Output input.new output.new))) }
+    ensures whole { OnOk result (KeepsWhole (R.ends_whole input.old) (R.ends_whole input.new)) }
+    ensures reads { OnOk result (R.has_failed input.new ≡ false) }
+    ensures writes { OnOk result (W.has_failed output.new ≡ false) }
+    ensures failed { IfErr result (λ e. R.has_failed input.new ≡ true
+        → e ≡ Fault.Frame ReadFailed) }
+    ensures taken { IfErr result
+        (TakesRefused task (R.remaining input.old) (R.remaining input.new)) }
+    ensures refused { IfErr result (λ e. IsWriteFault W.Output output.new e
+        ⊎ (((n : ℕ) → StopsAt task (R.remaining input.old) (R.has_failed input.new) n e)
+        × Keeps (W.contents output.old) (W.contents output.new))) }
+{
+    if pass_on_before_waiting(input, output).is_err() {
+        return Err(Fault::Frame(FrameError::WriteFailed));
+    }
+    step(task, input, segments, memory, output)
+}
+
 /// Does a task with each message of an input, and writes the answers to an output, in the order of
 /// the messages.
 ///
@@ -97,8 +131,9 @@ fn step<R: Input, W: Output>(
 /// messages before, and nothing of that one. Of a stream of frames whose messages all have an
 /// answer within the limits, only want of memory or a device is a refusal. Memory is taken for one
 /// message at a time, and none for one that is no larger than those before. Behind a message that
-/// is refused nothing is taken of the input.
-pub fn run<R: Input, W: Output>(
+/// is refused nothing is taken of the input. The answers so far are passed on before a message is read
+/// that isn't read ahead.
+pub fn run<R: BufferedInput, W: BufferedOutput>(
     alloc: Global,
     task: Task,
     input: &mut R,
@@ -127,7 +162,7 @@ pub fn run<R: Input, W: Output>(
     let mut memory = Memory::new(alloc);
     let mut holds = true;
     for number in 0..u64::MAX {
-        match step(task, input, &mut segments, &mut memory, output) {
+        match next(task, input, &mut segments, &mut memory, output) {
             Ok(None) => return Ok(Summary {
                 messages: number,
                 holds,

@@ -1,0 +1,119 @@
+//! A reader as an input that reads ahead, and a writer as an output that passes bytes on later.
+ghost use Rattle.std.specs.Prelude.{◌≡◌, ◌^◌, ◌-◌, length, false, true, Some};
+ghost use Rattle.std.specs.Io.Buffered.{reader_buffer, reader_remaining, writer_buffer, writer_contents};
+ghost use Rattle.capnp_format.specs.Segments.{Segments};
+ghost use Rattle.capnp_framing.specs.Flat.{BeginsWithFrame};
+
+use capnp_framing::devices::{DeviceFault, Input, Output};
+use capnp_framing::framing::read_from_flat_slice;
+use capnp_packing::buffered::{BufferedInput, BufferedOutput};
+use std::io::{BufReader, BufWriter, Read, Write};
+
+/// The bytes of a reader, read ahead. It isn't asked again behind a failure.
+#[derive(Drop)]
+pub struct BufReaderInput<R> {
+    reader: BufReader<R>,
+    failed: bool,
+}
+
+impl<R: Read> BufReaderInput<R> {
+    /// The input of a reader that has not failed.
+    pub fn new(reader: BufReader<R>) -> Self
+        ensures reader { result.reader ≡ reader }
+        ensures works { result.failed ≡ false }
+    {
+        BufReaderInput {
+            reader,
+            failed: false,
+        }
+    }
+}
+
+impl<R: Read> Input for BufReaderInput<R> {
+    ghost remaining = { λ r. reader_remaining R.remaining r.reader };
+
+    ghost has_failed = { λ r. r.failed };
+
+    ghost ends_whole = { λ _. Some true };
+
+    fn read(&mut self, to: &mut [u8]) -> Result<usize, DeviceFault> {
+        if self.failed {
+            return Err(DeviceFault);
+        }
+        match self.reader.read(to) {
+            Ok(n) => Ok(n),
+            Err(_) => {
+                self.failed = true;
+                Err(DeviceFault)
+            }
+        }
+    }
+
+    fn failed(&self) -> bool {
+        self.failed
+    }
+}
+
+impl<R: Read> BufferedInput for BufReaderInput<R> {
+    // The next frame stands there as a whole.
+    ghost has_enough = { λ r. (S : Segments) × BeginsWithFrame (reader_buffer r.reader) (2 ^ 64 - 1) S };
+
+    fn is_ahead(&self) -> bool {
+        matches!(
+            read_from_flat_slice(self.reader.buffer(), u64::MAX),
+            Ok(Some(_))
+        )
+    }
+}
+
+/// A writer that takes bytes, and passes them on later.
+#[derive(Drop)]
+pub struct BufWriterOutput<W: Write + Drop> {
+    writer: BufWriter<W>,
+    failed: bool,
+}
+
+impl<W: Write + Drop> BufWriterOutput<W> {
+    /// The output to a writer that has not failed.
+    pub fn new(writer: BufWriter<W>) -> Self
+        ensures writer { result.writer ≡ writer }
+        ensures works { result.failed ≡ false }
+    {
+        BufWriterOutput {
+            writer,
+            failed: false,
+        }
+    }
+}
+
+impl<W: Write + Drop> Output for BufWriterOutput<W> {
+    ghost contents = { λ w. writer_contents W.contents w.writer };
+
+    ghost has_failed = { λ w. w.failed };
+
+    fn write(&mut self, from: &[u8]) -> Result<usize, DeviceFault> {
+        match self.writer.write(from) {
+            Ok(n) if 0 < n || from.is_empty() => Ok(n),
+            _ => {
+                self.failed = true;
+                Err(DeviceFault)
+            }
+        }
+    }
+
+    fn failed(&self) -> bool {
+        self.failed
+    }
+}
+
+impl<W: Write + Drop> BufferedOutput for BufWriterOutput<W> {
+    ghost kept = { λ w. length (writer_buffer w.writer) };
+
+    fn pass_on(&mut self) -> Result<(), DeviceFault> {
+        if self.writer.flush().is_err() {
+            self.failed = true;
+            return Err(DeviceFault);
+        }
+        Ok(())
+    }
+}

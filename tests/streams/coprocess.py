@@ -1,0 +1,71 @@
+"""Runs that are asked as coprocesses are: whoever writes reads the answers so far before it writes on. Each has to come
+within a second, though the input is still open."""
+import os
+import select
+import subprocess
+import time
+
+from hostile import FORMS, MESSAGES, WANTED
+from packing import packed, unpacked
+
+SECONDS = 1
+
+
+class Coprocess:
+    def __init__(self, program, args):
+        self.run = subprocess.Popen([program.path, *args], stdin=subprocess.PIPE, stdout=subprocess.PIPE, bufsize=0)
+
+    def asked(self, data, enough):
+        """What it answers to these bytes, read until there is enough or the time is over."""
+        self.run.stdin.write(data)
+        got, end = b'', time.monotonic() + SECONDS
+        while not enough(got):
+            ready, _, _ = select.select([self.run.stdout], [], [], max(0, end - time.monotonic()))
+            more = os.read(self.run.stdout.fileno(), 1 << 16) if ready else b''
+            if not more:
+                break
+            got += more
+        return got
+
+    def ended(self, limit):
+        """What it writes behind the end of its input, and its status."""
+        self.run.stdin.close()
+        with self.run.stdout:
+            return self.run.stdout.read(), self.run.wait(limit)
+
+
+def parts(messages):
+    """Each message by itself; then each with the front of the next, of which the rest comes later."""
+    yield list(messages)
+    cut = [len(it) // 2 for it in messages]
+    fronts = [it[:n] for it, n in zip(messages, cut)]
+    rests = [it[n:] for it, n in zip(messages, cut)]
+    yield [rest + front for rest, front in zip([fronts[0] + rests[0], *rests[1:]], [*fronts[1:], b''])]
+
+
+def without_reason(line):
+    return b'not canonical\n' if line.startswith(b'not canonical: ') else line
+
+
+def conversation(program, counts, args, asked, wanted, read=lambda got: got):
+    """Asks for each answer in turn."""
+    process = Coprocess(program, args)
+    for number, (data, want) in enumerate(zip(asked, wanted)):
+        got = read(process.asked(data, lambda got: len(read(got)) >= len(want)))
+        counts.told(without_reason(got) == want, 'a coprocess', args, number, got, want)
+    counts.told(process.ended(program.limit)[0] == b'', 'a coprocess', args, 'behind the end')
+
+
+def whole(got):
+    """What packed bytes stand for; nothing yet where they are cut."""
+    words, is_whole = unpacked(got)
+    return words if is_whole else b''
+
+
+def answered(program, counts):
+    for form in FORMS:
+        args = form.split(',')
+        for asked in parts(MESSAGES):
+            conversation(program, counts, args, asked, WANTED[form])
+        conversation(program, counts, [*args, '--packed'], [packed(it) for it in MESSAGES], WANTED[form])
+    conversation(program, counts, ['canon', '--pack'], MESSAGES, WANTED['canon'], whole)
