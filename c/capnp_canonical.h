@@ -2,7 +2,13 @@
  * specification), in C and C++.
  *
  * A message is given as a frame ("Serialization Over a Stream"), as `capnp encode`, capnp::writeMessage and Rust's
- * serialize::write_message write it, or as its segments, as MessageReader::getSegment and Rust's ReaderSegments give them.
+ * serialize::write_message write it; as its segments, as MessageReader::getSegment and Rust's ReaderSegments give them; or
+ * as its bare words, which are one segment without the table of a frame.
+ *
+ * WARNING: bare words aren't a frame. What capnp_canonical_copy_flat and the calls named _words_copy_flat and
+ * _segments_copy_flat write is to be hashed, signed and stored, and is read back by the calls named capnp_canonical_words_*.
+ * The calls that take a frame may SUCCEED on bare words, and then read ANOTHER value: the pointer to a root without pointers,
+ * 00 00 00 00 DD DD 00 00, is also the table of a frame of one segment of DDDD words. Nothing in the bytes says which they are.
  *
  * Limits. `nesting` is the nesting limit: how many structs and lists may stand one inside of the other. `words` is the
  * traversal limit in words of 8 bytes: what reading the value costs, from the root on, whose pointer costs one. A frame
@@ -24,6 +30,9 @@
 #include <stdbool.h>
 #include <stddef.h>
 #include <stdint.h>
+
+/* Functions of this header itself, and not of the library. */
+#define CAPNP_CANONICAL_INLINE static inline
 
 #ifdef __cplusplus
 extern "C" {
@@ -185,6 +194,178 @@ uint32_t capnp_canonical_version(void);
 
 /* The same as a text, as CAPNP_CANONICAL_VERSION_TEXT, written as capnp_canonical_name writes. */
 size_t capnp_canonical_version_text(char *to, size_t room);
+
+/* The functions from here on stand in this header alone. */
+
+/* Whether the message of the frame at the front is canonical. It is false too where the message isn't read, since a limit is
+ * met or the bytes are no frame; capnp_canonical_check says why. */
+CAPNP_CANONICAL_INLINE bool capnp_canonical_is_canonical(const uint8_t *frame, size_t frame_size, int32_t nesting, uint64_t words) {
+    bool is_canonical = false;
+    struct capnp_canonical_fault fault;
+    return capnp_canonical_check(frame, frame_size, nesting, words, &is_canonical, &fault) == CAPNP_CANONICAL_DONE && is_canonical;
+}
+
+/* The same of a message of `count` segments. */
+CAPNP_CANONICAL_INLINE bool capnp_canonical_segments_is_canonical(const struct capnp_canonical_segment *segments, size_t count, int32_t nesting, uint64_t words) {
+    bool is_canonical = false;
+    struct capnp_canonical_fault fault;
+    return capnp_canonical_segments_check(segments, count, nesting, words, &is_canonical, &fault) == CAPNP_CANONICAL_DONE && is_canonical;
+}
+
+/* The same five, of a message given as its bare words: all `size` bytes at `message` are its one segment, as copy_flat writes
+ * them. A frame that is given here is read as words, and is another value. */
+CAPNP_CANONICAL_INLINE uint32_t capnp_canonical_words_copy(const uint8_t *message, size_t size, int32_t nesting, uint64_t words, uint8_t *to, size_t room, size_t *written) {
+    struct capnp_canonical_segment segment = {message, size};
+    return capnp_canonical_segments_copy(&segment, 1, nesting, words, to, room, written);
+}
+
+CAPNP_CANONICAL_INLINE uint32_t capnp_canonical_words_copy_flat(const uint8_t *message, size_t size, int32_t nesting, uint64_t words, uint8_t *to, size_t room, size_t *written) {
+    struct capnp_canonical_segment segment = {message, size};
+    return capnp_canonical_segments_copy_flat(&segment, 1, nesting, words, to, room, written);
+}
+
+CAPNP_CANONICAL_INLINE uint32_t capnp_canonical_words_check(const uint8_t *message, size_t size, int32_t nesting, uint64_t words, bool *is_canonical, struct capnp_canonical_fault *fault) {
+    struct capnp_canonical_segment segment = {message, size};
+    return capnp_canonical_segments_check(&segment, 1, nesting, words, is_canonical, fault);
+}
+
+CAPNP_CANONICAL_INLINE bool capnp_canonical_words_is_canonical(const uint8_t *message, size_t size, int32_t nesting, uint64_t words) {
+    struct capnp_canonical_segment segment = {message, size};
+    return capnp_canonical_segments_is_canonical(&segment, 1, nesting, words);
+}
+
+CAPNP_CANONICAL_INLINE uint32_t capnp_canonical_words_size(const uint8_t *message, size_t size, int32_t nesting, uint64_t words, uint64_t *word_count, uint32_t *cap_count) {
+    struct capnp_canonical_segment segment = {message, size};
+    return capnp_canonical_segments_size(&segment, 1, nesting, words, word_count, cap_count);
+}
+
+/* Room in bytes that is enough for any copy within a traversal limit of so many words, framed or flat; the message isn't
+ * looked at. For a message of strangers a limit of twice the words that it has is usual. There is no bound by the size of a
+ * message alone: an object to which several pointers lead is copied for each, so that canonical form may be larger than its
+ * message by any factor, up to this limit. */
+CAPNP_CANONICAL_INLINE uint64_t capnp_canonical_bound(uint64_t words) {
+    const uint64_t most = UINT64_C(536870911);
+    return 8 + 8 * (words < most ? words : most);
+}
+
+/* The name of a refusal, as capnp_canonical_name writes it, but a constant. It is empty where the number isn't of enum
+ * capnp_canonical_answer. */
+CAPNP_CANONICAL_INLINE const char *capnp_canonical_error_name(uint32_t answer) {
+    switch (answer) {
+    case CAPNP_CANONICAL_NO_ROOM: return "NoRoom";
+    case CAPNP_CANONICAL_NO_MESSAGE: return "NoMessage";
+    case CAPNP_CANONICAL_SEGMENT_IS_NOT_WHOLE_WORDS: return "SegmentIsNotWholeWords";
+    case CAPNP_CANONICAL_TOO_MANY_SEGMENTS: return "TooManySegments";
+    case CAPNP_CANONICAL_MESSAGE_TOO_LONG: return "MessageTooLong";
+    case CAPNP_CANONICAL_TRUNCATED: return "Truncated";
+    case CAPNP_CANONICAL_ALLOCATION_FAILED: return "AllocationFailed";
+    case CAPNP_CANONICAL_CANNOT_CREATE_A_CANONICAL_MESSAGE_WITH_A_CAPABILITY: return "CannotCreateACanonicalMessageWithACapability";
+    case CAPNP_CANONICAL_CANT_HANDLE_NON_STRUCT_INLINE_COMPOSITE: return "CantHandleNonStructInlineComposite";
+    case CAPNP_CANONICAL_INLINE_COMPOSITE_LISTS_ELEMENTS_OVERRUN_ITS_WORD_COUNT: return "InlineCompositeListsElementsOverrunItsWordCount";
+    case CAPNP_CANONICAL_INLINE_COMPOSITE_LISTS_OF_NON_STRUCT_TYPE_ARE_NOT_SUPPORTED: return "InlineCompositeListsOfNonStructTypeAreNotSupported";
+    case CAPNP_CANONICAL_INVALID_SEGMENT_ID: return "InvalidSegmentId";
+    case CAPNP_CANONICAL_MALFORMED_DOUBLE_FAR_POINTER: return "MalformedDoubleFarPointer";
+    case CAPNP_CANONICAL_MESSAGE_CONTAINS_OUT_OF_BOUNDS_POINTER: return "MessageContainsOutOfBoundsPointer";
+    case CAPNP_CANONICAL_MESSAGE_IS_TOO_DEEPLY_NESTED: return "MessageIsTooDeeplyNested";
+    case CAPNP_CANONICAL_MESSAGE_IS_TOO_DEEPLY_NESTED_OR_CONTAINS_CYCLES: return "MessageIsTooDeeplyNestedOrContainsCycles";
+    case CAPNP_CANONICAL_MESSAGE_TOO_LARGE: return "MessageTooLarge";
+    case CAPNP_CANONICAL_NESTING_LIMIT_EXCEEDED: return "NestingLimitExceeded";
+    case CAPNP_CANONICAL_READ_LIMIT_EXCEEDED: return "ReadLimitExceeded";
+    case CAPNP_CANONICAL_UNKNOWN_POINTER_TYPE: return "UnknownPointerType";
+    default: return "";
+    }
+}
+
+/* What a refusal says, in words, as `the bytes end within a frame`; a constant too. */
+CAPNP_CANONICAL_INLINE const char *capnp_canonical_error_text(uint32_t answer) {
+    switch (answer) {
+    case CAPNP_CANONICAL_DONE: return "the call is done";
+    case CAPNP_CANONICAL_NO_ROOM: return "the buffer has too little room";
+    case CAPNP_CANONICAL_NO_MESSAGE: return "there are no bytes where a frame was to be";
+    case CAPNP_CANONICAL_SEGMENT_IS_NOT_WHOLE_WORDS: return "a segment isn't of whole words of 8 bytes";
+    case CAPNP_CANONICAL_TOO_MANY_SEGMENTS: return "a frame has more than 512 segments";
+    case CAPNP_CANONICAL_MESSAGE_TOO_LONG: return "a frame has more words than the limit";
+    case CAPNP_CANONICAL_TRUNCATED: return "the bytes end within a frame";
+    case CAPNP_CANONICAL_ALLOCATION_FAILED: return "there is no memory";
+    case CAPNP_CANONICAL_CANNOT_CREATE_A_CANONICAL_MESSAGE_WITH_A_CAPABILITY: return "the value holds a capability, so it has no canonical form";
+    case CAPNP_CANONICAL_CANT_HANDLE_NON_STRUCT_INLINE_COMPOSITE: return "the tag word of a list of structs isn't that of a struct";
+    case CAPNP_CANONICAL_INLINE_COMPOSITE_LISTS_ELEMENTS_OVERRUN_ITS_WORD_COUNT: return "the elements of a list of structs take more words than its pointer claims";
+    case CAPNP_CANONICAL_INLINE_COMPOSITE_LISTS_OF_NON_STRUCT_TYPE_ARE_NOT_SUPPORTED: return "the tag word of a list of structs isn't that of a struct";
+    case CAPNP_CANONICAL_INVALID_SEGMENT_ID: return "a segment is named that the message doesn't have";
+    case CAPNP_CANONICAL_MALFORMED_DOUBLE_FAR_POINTER: return "a far pointer leads to a landing pad that is itself a far pointer";
+    case CAPNP_CANONICAL_MESSAGE_CONTAINS_OUT_OF_BOUNDS_POINTER: return "a pointer leads out of its segment";
+    case CAPNP_CANONICAL_MESSAGE_IS_TOO_DEEPLY_NESTED: return "the nesting limit is met";
+    case CAPNP_CANONICAL_MESSAGE_IS_TOO_DEEPLY_NESTED_OR_CONTAINS_CYCLES: return "the nesting limit is met, or a pointer leads back";
+    case CAPNP_CANONICAL_MESSAGE_TOO_LARGE: return "the canonical message or its segments are larger than the format allows";
+    case CAPNP_CANONICAL_NESTING_LIMIT_EXCEEDED: return "the nesting limit is met";
+    case CAPNP_CANONICAL_READ_LIMIT_EXCEEDED: return "the traversal limit doesn't cover what is to be read";
+    case CAPNP_CANONICAL_UNKNOWN_POINTER_TYPE: return "a pointer word isn't of a kind that the format knows";
+    default: return "a refusal that this header doesn't know";
+    }
+}
+
+/* What capnp_canonical_reason_text writes; a constant too. */
+CAPNP_CANONICAL_INLINE const char *capnp_canonical_fault_text(uint32_t reason) {
+    switch (reason) {
+    case CAPNP_CANONICAL_REASON_SEGMENT_COUNT: return "not exactly one segment";
+    case CAPNP_CANONICAL_REASON_NO_POINTER: return "no word for a pointer";
+    case CAPNP_CANONICAL_REASON_FAR_POINTER: return "a far pointer";
+    case CAPNP_CANONICAL_REASON_CAPABILITY: return "a capability";
+    case CAPNP_CANONICAL_REASON_UNKNOWN_POINTER: return "a pointer of no known kind";
+    case CAPNP_CANONICAL_REASON_EMPTY_STRUCT_PLACE: return "an empty struct that isn't at its pointer";
+    case CAPNP_CANONICAL_REASON_OBJECT_PLACE: return "an object that isn't where the last one ended";
+    case CAPNP_CANONICAL_REASON_PADDING: return "padding that isn't zero";
+    case CAPNP_CANONICAL_REASON_DATA_SECTION: return "a data section whose last word is zero";
+    case CAPNP_CANONICAL_REASON_POINTER_SECTION: return "a pointer section whose last pointer is null";
+    case CAPNP_CANONICAL_REASON_ELEMENT_WORDS: return "a struct list that claims other words than it has";
+    case CAPNP_CANONICAL_REASON_ELEMENT_DATA: return "a struct list that could do with less data";
+    case CAPNP_CANONICAL_REASON_ELEMENT_POINTERS: return "a struct list that could do with fewer pointers";
+    case CAPNP_CANONICAL_REASON_WORDS_BEHIND: return "words behind the value";
+    default: return "";
+    }
+}
+
+/* The number in 4 bytes, the lowest first. */
+CAPNP_CANONICAL_INLINE uint32_t capnp_canonical_number_at(const uint8_t *bytes) {
+    return (uint32_t)bytes[0] | (uint32_t)bytes[1] << 8 | (uint32_t)bytes[2] << 16 | (uint32_t)bytes[3] << 24;
+}
+
+/* Whether packed bytes begin with what may be the table of a frame. */
+CAPNP_CANONICAL_INLINE bool capnp_canonical_looks_packed(const uint8_t *bytes, size_t size) {
+    uint8_t word[8] = {0};
+    size_t at = 1;
+    for (int i = 0; i < 8; i++) {
+        if (!(bytes[0] >> i & 1)) continue;
+        if (at == size || bytes[at] == 0) return false;
+        word[i] = bytes[at++];
+    }
+    uint32_t segments = capnp_canonical_number_at(word) + 1, words = capnp_canonical_number_at(word + 4);
+    return 0 < segments && segments <= 512 && 0 < words && words < (1 << 29);
+}
+
+/* Whether bytes are text: without controls but tabulators and ends of lines, as far as 64 bytes. */
+CAPNP_CANONICAL_INLINE bool capnp_canonical_looks_text(const uint8_t *bytes, size_t size) {
+    for (size_t i = 0; i < size && i < 64; i++) {
+        bool is_blank = bytes[i] == '\t' || bytes[i] == '\n' || bytes[i] == '\r';
+        if ((bytes[i] < 32 && !is_blank) || bytes[i] == 127) return false;
+    }
+    return size >= 4;
+}
+
+/* What bytes look like that were refused as a frame, as `gzip`; null where they look like nothing else. It is a guess, for
+ * whoever reads a refusal: nothing else is to rest on it. */
+CAPNP_CANONICAL_INLINE const char *capnp_canonical_looks_like(const uint8_t *bytes, size_t size) {
+    if (size < 4) return NULL;
+    if (bytes[0] == 0x1f && bytes[1] == 0x8b) return "gzip";
+    if (capnp_canonical_number_at(bytes) == UINT32_C(0xfd2fb528)) return "zstd";
+    if (bytes[0] == 'B' && bytes[1] == 'Z' && bytes[2] == 'h') return "bzip2";
+    if (bytes[0] == 0xfd && bytes[1] == '7' && bytes[2] == 'z' && bytes[3] == 'X') return "xz";
+    if (bytes[0] == 'P' && bytes[1] == 'K' && bytes[2] == 3 && bytes[3] == 4) return "a zip archive";
+    if (capnp_canonical_looks_text(bytes, size)) return "text";
+    if (capnp_canonical_words_is_canonical(bytes, size, CAPNP_CANONICAL_NESTING, CAPNP_CANONICAL_WORDS)) return "bare canonical words";
+    if (capnp_canonical_looks_packed(bytes, size)) return "packed messages";
+    return NULL;
+}
 
 #ifdef __cplusplus
 }

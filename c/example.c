@@ -47,18 +47,28 @@ static size_t write_canonical(const uint8_t *frame, size_t size, uint32_t *answe
     return *answer ? 0 : taken;
 }
 
+/* Says which message is refused, where it begins and why. */
+static void say_refused(unsigned long number, const struct buffer *all, size_t at, uint32_t answer) {
+    bool is_no_frame = answer == CAPNP_CANONICAL_TOO_MANY_SEGMENTS || answer == CAPNP_CANONICAL_MESSAGE_TOO_LONG || answer == CAPNP_CANONICAL_TRUNCATED;
+    const char *like = is_no_frame ? capnp_canonical_looks_like(all->bytes + at, all->size - at) : NULL;
+    fprintf(stderr, "message %lu at byte %zu: refused %s: %s", number, at, capnp_canonical_error_name(answer), capnp_canonical_error_text(answer));
+    if (like) fprintf(stderr, "; the bytes look like %s", like);
+    fputc('\n', stderr);
+}
+
 int main(void) {
     struct buffer all = read_all();
-    if (!all.bytes) return 2;
+    if (all.size == SIZE_MAX) return perror("standard input"), 2;
     uint32_t answer = CAPNP_CANONICAL_DONE;
-    unsigned long number = 1;
-    for (size_t at = 0; at < all.size && !answer; number++) at += write_canonical(all.bytes + at, all.size - at, &answer);
-    free(all.bytes);
-    if (fflush(stdout) || answer == UINT32_MAX) return 2;
-    if (answer) {
-        char name[CAPNP_CANONICAL_TEXT_ROOM];
-        capnp_canonical_name(answer, name, sizeof name);
-        fprintf(stderr, "message %lu: refused %s\n", number - 1, name);
+    unsigned long number = 0;
+    size_t at = 0;
+    while (at < all.size && !answer) {
+        number++;
+        at += write_canonical(all.bytes + at, all.size - at, &answer);
     }
-    return answer ? 2 : 0;
+    bool is_written = fflush(stdout) == 0 && answer != UINT32_MAX;
+    if (!is_written) perror("standard output");
+    if (answer && answer != UINT32_MAX) say_refused(number, &all, at, answer);
+    free(all.bytes);
+    return is_written && !answer ? 0 : 2;
 }

@@ -1,8 +1,12 @@
-// Canonical form of Cap'n Proto messages, for C++17 and later: the calls of capnp_canonical.h with vectors and exceptions.
+// Canonical form of Cap'n Proto messages, for C++17 and later: the calls of capnp_canonical.h with containers and exceptions.
 //
-// A message is given as a frame, which is what capnp::writeMessage writes, or as its segments. Where <capnp/message.h> is
-// there it may also be a capnp::MessageReader, of which no frame is made; define CAPNP_CANONICAL_WITHOUT_CAPNP before this
-// header to leave that out. Nothing else here needs Cap'n Proto's own headers or libraries.
+// A message is given as a frame, which is what capnp::writeMessage and capnp::messageToFlatArray make, or as its segments. Its
+// bare words, which copy_flat and capnp::canonicalize make, are given to the calls whose names begin with `words_` alone: a call
+// that takes a frame may SUCCEED on bare words, and then reads ANOTHER value (capnp_canonical.h says why).
+//
+// Where <capnp/message.h> is there a message may also be a capnp::MessageReader or a capnp::MessageBuilder, of which no frame
+// is made, or a struct of any place in a message; define CAPNP_CANONICAL_WITHOUT_CAPNP before this header to leave that out.
+// Nothing else here needs Cap'n Proto's own headers or libraries.
 //
 // Each call that is refused throws Error; std::bad_alloc says that memory for a result lacks. No call keeps anything, so
 // calls may run in several threads at once. What capnp_canonical.h says of limits, memory and stack holds here too.
@@ -13,10 +17,10 @@
 
 #include <cstddef>
 #include <cstdint>
-#include <exception>
 #include <initializer_list>
 #include <iterator>
 #include <optional>
+#include <stdexcept>
 #include <string>
 #include <type_traits>
 #include <utility>
@@ -24,6 +28,7 @@
 
 #if !defined(CAPNP_CANONICAL_WITHOUT_CAPNP) && defined(__has_include)
 #if __has_include(<capnp/message.h>)
+#include <capnp/any.h>
 #include <capnp/message.h>
 #define CAPNP_CANONICAL_WITH_CAPNP 1
 #endif
@@ -39,25 +44,56 @@ struct Limits {
     std::uint64_t words = CAPNP_CANONICAL_WORDS;
 };
 
+// Where a message stands in a stream.
+struct Place {
+    // Its number, counted from 1; 0 where it isn't of a stream.
+    std::uint64_t message = 0;
+    // Where its frame begins, in bytes.
+    std::uint64_t byte = 0;
+};
+
 // Why a call is refused.
-class Error : public std::exception {
+class Error : public std::runtime_error {
 public:
-    // Of a number of enum capnp_canonical_answer.
-    explicit Error(std::uint32_t number) noexcept : number_(number) {
-        capnp_canonical_name(number, name_, sizeof name_);
-    }
+    // Of a number of enum capnp_canonical_answer; and how many bytes are wanted, where there is too little room, and what the
+    // bytes look like, where it is known.
+    explicit Error(std::uint32_t number, Place place = {}, std::size_t wanted = 0, const char* looks_like = nullptr)
+        : std::runtime_error(sentence(number, place, wanted, looks_like)),
+          number_(number),
+          place_(place),
+          wanted_(wanted) {}
 
     std::uint32_t number() const noexcept { return number_; }
     // As `Truncated`; empty where the number has no name.
-    const char* name() const noexcept { return name_; }
-    const char* what() const noexcept override { return name_; }
+    const char* name() const noexcept { return capnp_canonical_error_name(number_); }
+    // Which message of a stream it is.
+    Place place() const noexcept { return place_; }
+    // How many bytes are wanted, where there is too little room.
+    std::size_t wanted() const noexcept { return wanted_; }
+    // `what` is as `message 2 at byte 40: Truncated: the bytes end within a frame; they look like text`.
 
 private:
+    static std::string sentence(std::uint32_t number, Place place, std::size_t wanted, const char* looks_like) {
+        std::string text;
+        if (place.message) {
+            text = "message " + std::to_string(place.message) + " at byte " + std::to_string(place.byte) + ": ";
+        }
+        text += std::string(capnp_canonical_error_name(number)) + ": " + capnp_canonical_error_text(number);
+        if (wanted) text += ", and " + std::to_string(wanted) + " bytes are wanted";
+        if (looks_like) text += std::string("; they look like ") + looks_like;
+        return text;
+    }
+
     std::uint32_t number_;
-    char name_[CAPNP_CANONICAL_TEXT_ROOM] = {};
+    Place place_;
+    std::size_t wanted_;
 };
 
 namespace detail {
+
+template <typename Element>
+constexpr bool is_byte = std::is_same_v<Element, std::byte> || std::is_same_v<Element, unsigned char> ||
+                         std::is_same_v<Element, char>;
 
 template <typename Range>
 using Element = std::remove_cv_t<std::remove_pointer_t<decltype(std::data(std::declval<const Range&>()))>>;
@@ -65,31 +101,46 @@ using Element = std::remove_cv_t<std::remove_pointer_t<decltype(std::data(std::d
 template <typename Range, typename = void>
 constexpr bool holds_bytes = false;
 template <typename Range>
-constexpr bool holds_bytes<Range, std::void_t<Element<Range>>> = std::is_same_v<Element<Range>, std::byte> ||
-                                                                 std::is_same_v<Element<Range>, unsigned char> ||
-                                                                 std::is_same_v<Element<Range>, char>;
+constexpr bool holds_bytes<Range, std::void_t<Element<Range>>> = is_byte<Element<Range>>;
+
+#ifdef CAPNP_CANONICAL_WITH_CAPNP
+// A kj::Array or kj::ArrayPtr of words or bytes.
+template <typename Range>
+constexpr bool holds_words = !holds_bytes<Range> && std::is_class_v<Range> &&
+                             (std::is_convertible_v<const Range&, kj::ArrayPtr<const capnp::word>> ||
+                              std::is_convertible_v<const Range&, kj::ArrayPtr<const kj::byte>>);
+#endif
 
 }  // namespace detail
 
 // Bytes that lie elsewhere, at any address: a pointer, and how many there are. A std::span, a std::vector, a std::array, a
-// std::string or a std::string_view of bytes is converted to it.
+// std::string or a std::string_view of bytes is converted to it, and so is a kj::Array or kj::ArrayPtr of words or bytes.
 class Bytes {
 public:
     constexpr Bytes() noexcept = default;
-    Bytes(const void* data, std::size_t size) noexcept : data_(static_cast<const std::uint8_t*>(data)), size_(size) {}
+    Bytes(const void* data, std::size_t size, Place place = {}) noexcept
+        : data_(static_cast<const std::uint8_t*>(data)), size_(size), place_(place) {}
 
     template <typename Range, typename = std::enable_if_t<detail::holds_bytes<Range>>>
     Bytes(const Range& range) noexcept : Bytes(std::data(range), std::size(range)) {}
+
+#ifdef CAPNP_CANONICAL_WITH_CAPNP
+    template <typename Range, typename = std::enable_if_t<detail::holds_words<Range>>, typename = void>
+    Bytes(const Range& range) noexcept : Bytes(range.begin(), range.size() * sizeof(*range.begin())) {}
+#endif
 
     const std::uint8_t* data() const noexcept { return data_; }
     std::size_t size() const noexcept { return size_; }
     bool empty() const noexcept { return size_ == 0; }
     const std::uint8_t* begin() const noexcept { return data_; }
     const std::uint8_t* end() const noexcept { return data_ + size_; }
+    // Of a frame that Frames gives.
+    Place place() const noexcept { return place_; }
 
 private:
     const std::uint8_t* data_ = nullptr;
     std::size_t size_ = 0;
+    Place place_;
 };
 
 // The segments of a message, which lie elsewhere. The size of each is a multiple of 8 bytes.
@@ -99,6 +150,12 @@ public:
     Segments(std::initializer_list<Bytes> segments) {
         for (Bytes segment : segments) add(segment);
     }
+#ifdef CAPNP_CANONICAL_WITH_CAPNP
+    // Those of MessageBuilder::getSegmentsForOutput.
+    Segments(kj::ArrayPtr<const kj::ArrayPtr<const capnp::word>> segments) {
+        for (auto segment : segments) add(segment);
+    }
+#endif
 
     void add(Bytes segment) {
         segments_.push_back({segment.data(), segment.size()});
@@ -125,15 +182,27 @@ struct Fault {
     std::uint32_t word;
 
     // The reason in words, as `padding that isn't zero`.
-    std::string reason_text() const {
-        char text[CAPNP_CANONICAL_TEXT_ROOM] = {};
-        capnp_canonical_reason_text(reason, text, sizeof text);
-        return text;
-    }
+    std::string reason_text() const { return capnp_canonical_fault_text(reason); }
     // As `padding that isn't zero at segment 0, word 3`.
     std::string text() const {
         return reason_text() + " at segment " + std::to_string(segment) + ", word " + std::to_string(word);
     }
+};
+
+// What `check` answers. It is no bool, since `if (check(message))` would say neither yes nor no.
+class Checked {
+public:
+    explicit Checked(std::optional<Fault> fault) noexcept : fault_(fault) {}
+    explicit operator bool() const = delete;
+
+    bool is_canonical() const noexcept { return !fault_; }
+    // Why and where it isn't canonical; std::bad_optional_access is thrown where it is.
+    const Fault& fault() const { return fault_.value(); }
+    // `canonical`, or as `not canonical: padding that isn't zero at segment 0, word 3`.
+    std::string text() const { return fault_ ? "not canonical: " + fault_->text() : "canonical"; }
+
+private:
+    std::optional<Fault> fault_;
 };
 
 // What the root of a message leads to, without the root pointer and landing pads.
@@ -142,40 +211,123 @@ struct Size {
     std::uint32_t capabilities;
 };
 
-namespace detail {
-
-inline void require_done(std::uint32_t answer) {
-    if (answer != CAPNP_CANONICAL_DONE) throw Error(answer);
+// How many bytes the frame at the front takes. Its message isn't read.
+inline std::size_t frame_size(Bytes stream, std::uint64_t words = CAPNP_CANONICAL_WORDS) {
+    std::size_t size = 0;
+    std::uint32_t answer = capnp_canonical_frame_size(stream.data(), stream.size(), words, &size);
+    if (answer == CAPNP_CANONICAL_DONE) return size;
+    throw Error(answer, stream.place(), 0, capnp_canonical_looks_like(stream.data(), stream.size()));
 }
 
-// Calls with so much room at first, and again where that is too little.
-template <typename Call>
-std::vector<std::uint8_t> written_by(std::size_t room, Call call) {
-    std::vector<std::uint8_t> to(room);
-    std::size_t written = 0;
-    std::uint32_t answer = call(to.data(), to.size(), &written);
-    if (answer == CAPNP_CANONICAL_NO_ROOM) {
-        to = std::vector<std::uint8_t>(written);
-        answer = call(to.data(), to.size(), &written);
+namespace detail {
+
+enum class Form { framed, flat };
+
+// The frame at the front of some bytes, as the calls of C take it.
+class FrameSource {
+public:
+    FrameSource(Bytes stream, Limits limits)
+        : frame_(stream.data(), frame_size(stream, limits.words), stream.place()), limits_(limits) {}
+
+    std::size_t bytes() const noexcept { return frame_.size(); }
+    Place place() const noexcept { return frame_.place(); }
+
+    std::uint32_t copy(Form form, std::uint8_t* to, std::size_t room, std::size_t* written) const noexcept {
+        auto call = form == Form::flat ? capnp_canonical_copy_flat : capnp_canonical_copy;
+        return call(frame_.data(), frame_.size(), limits_.nesting, limits_.words, to, room, written);
     }
-    require_done(answer);
-    to.resize(written);
+    std::uint32_t check(bool* is_canonical, capnp_canonical_fault* fault) const noexcept {
+        return capnp_canonical_check(frame_.data(), frame_.size(), limits_.nesting, limits_.words, is_canonical, fault);
+    }
+    std::uint32_t size(std::uint64_t* words, std::uint32_t* capabilities) const noexcept {
+        return capnp_canonical_size(frame_.data(), frame_.size(), limits_.nesting, limits_.words, words, capabilities);
+    }
+
+private:
+    Bytes frame_;
+    Limits limits_;
+};
+
+// Segments, as the calls of C take them.
+class SegmentSource {
+public:
+    SegmentSource(const Segments& segments, Limits limits) noexcept
+        : segments_(segments.data()), count_(segments.size()), bytes_(segments.bytes()), limits_(limits) {}
+    SegmentSource(const capnp_canonical_segment& segment, Limits limits) noexcept
+        : segments_(&segment), count_(1), bytes_(segment.size), limits_(limits) {}
+
+    std::size_t bytes() const noexcept { return bytes_; }
+    Place place() const noexcept { return {}; }
+
+    std::uint32_t copy(Form form, std::uint8_t* to, std::size_t room, std::size_t* written) const noexcept {
+        auto call = form == Form::flat ? capnp_canonical_segments_copy_flat : capnp_canonical_segments_copy;
+        return call(segments_, count_, limits_.nesting, limits_.words, to, room, written);
+    }
+    std::uint32_t check(bool* is_canonical, capnp_canonical_fault* fault) const noexcept {
+        return capnp_canonical_segments_check(segments_, count_, limits_.nesting, limits_.words, is_canonical, fault);
+    }
+    std::uint32_t size(std::uint64_t* words, std::uint32_t* capabilities) const noexcept {
+        return capnp_canonical_segments_size(segments_, count_, limits_.nesting, limits_.words, words, capabilities);
+    }
+
+private:
+    const capnp_canonical_segment* segments_;
+    std::size_t count_;
+    std::size_t bytes_;
+    Limits limits_;
+};
+
+// Copies to room that is as large as the message at first, and as the copy wants where that is too little; `grow` makes it at
+// least so large. Gives how many bytes are written.
+template <typename Source, typename Grow>
+std::size_t copied(const Source& source, Form form, std::size_t room, Grow grow) {
+    std::size_t written = 0;
+    std::uint8_t* to = grow(room);
+    std::uint32_t answer = source.copy(form, to, room, &written);
+    if (answer == CAPNP_CANONICAL_NO_ROOM) {
+        room = written;
+        to = grow(room);
+        answer = source.copy(form, to, room, &written);
+    }
+    if (answer != CAPNP_CANONICAL_DONE) throw Error(answer, source.place());
+    return written;
+}
+
+template <typename Source>
+std::vector<std::uint8_t> copy_of(const Source& source, Form form) {
+    std::vector<std::uint8_t> to;
+    to.resize(copied(source, form, source.bytes() + 8, [&](std::size_t room) {
+        to.resize(room);
+        return to.data();
+    }));
     return to;
 }
 
-template <typename Call>
-std::optional<Fault> fault_of(Call call) {
-    bool is_canonical = false;
-    capnp_canonical_fault fault = {};
-    require_done(call(&is_canonical, &fault));
-    if (is_canonical) return std::nullopt;
-    return Fault{fault.reason, fault.segment, fault.word};
+template <typename Source>
+Bytes copy_into(std::vector<std::uint8_t>& buffer, const Source& source, Form form) {
+    std::size_t room = buffer.empty() ? source.bytes() + 8 : buffer.size();
+    std::size_t written = copied(source, form, room, [&](std::size_t more) {
+        if (buffer.size() < more) buffer.resize(more);
+        return buffer.data();
+    });
+    return {buffer.data(), written};
 }
 
-template <typename Call>
-Size size_of(Call call) {
+template <typename Source>
+Checked checked(const Source& source) {
+    bool is_canonical = false;
+    capnp_canonical_fault fault = {};
+    std::uint32_t answer = source.check(&is_canonical, &fault);
+    if (answer != CAPNP_CANONICAL_DONE) throw Error(answer, source.place());
+    if (is_canonical) return Checked(std::nullopt);
+    return Checked(Fault{fault.reason, fault.segment, fault.word});
+}
+
+template <typename Source>
+Size size_of(const Source& source) {
     Size size = {};
-    require_done(call(&size.words, &size.capabilities));
+    std::uint32_t answer = source.size(&size.words, &size.capabilities);
+    if (answer != CAPNP_CANONICAL_DONE) throw Error(answer, source.place());
     return size;
 }
 
@@ -183,70 +335,71 @@ Size size_of(Call call) {
 
 // The canonical message of the frame at the front of the bytes, as a frame of one segment.
 inline std::vector<std::uint8_t> copy(Bytes frame, Limits limits = {}) {
-    return detail::written_by(frame.size() + 8, [&](std::uint8_t* to, std::size_t room, std::size_t* written) {
-        return capnp_canonical_copy(frame.data(), frame.size(), limits.nesting, limits.words, to, room, written);
-    });
+    return detail::copy_of(detail::FrameSource(frame, limits), detail::Form::framed);
 }
-
 inline std::vector<std::uint8_t> copy(const Segments& segments, Limits limits = {}) {
-    return detail::written_by(segments.bytes() + 8, [&](std::uint8_t* to, std::size_t room, std::size_t* written) {
-        return capnp_canonical_segments_copy(segments.data(), segments.size(), limits.nesting, limits.words, to, room,
-                                             written);
-    });
+    return detail::copy_of(detail::SegmentSource(segments, limits), detail::Form::framed);
 }
 
-// The same as bare words, without the table of a frame: the bytes to be hashed or signed.
+// The same as bare words, without the table of a frame: the bytes to be hashed or signed. What is stored of them is read back
+// by words_check, words_copy and words_copy_flat.
 inline std::vector<std::uint8_t> copy_flat(Bytes frame, Limits limits = {}) {
-    return detail::written_by(frame.size(), [&](std::uint8_t* to, std::size_t room, std::size_t* written) {
-        return capnp_canonical_copy_flat(frame.data(), frame.size(), limits.nesting, limits.words, to, room, written);
-    });
+    return detail::copy_of(detail::FrameSource(frame, limits), detail::Form::flat);
 }
-
 inline std::vector<std::uint8_t> copy_flat(const Segments& segments, Limits limits = {}) {
-    return detail::written_by(segments.bytes(), [&](std::uint8_t* to, std::size_t room, std::size_t* written) {
-        return capnp_canonical_segments_copy_flat(segments.data(), segments.size(), limits.nesting, limits.words, to, room,
-                                                  written);
-    });
+    return detail::copy_of(detail::SegmentSource(segments, limits), detail::Form::flat);
 }
 
-// Why and where the message isn't canonical; nothing where it is one segment that holds the canonical words of a value and
+// The same two into a buffer that is kept from one message to the next: it grows where it is too small, and gets no smaller.
+// The bytes that are given are those that were written to its front, up to its next change.
+inline Bytes copy_into(std::vector<std::uint8_t>& buffer, Bytes frame, Limits limits = {}) {
+    return detail::copy_into(buffer, detail::FrameSource(frame, limits), detail::Form::framed);
+}
+inline Bytes copy_into(std::vector<std::uint8_t>& buffer, const Segments& segments, Limits limits = {}) {
+    return detail::copy_into(buffer, detail::SegmentSource(segments, limits), detail::Form::framed);
+}
+inline Bytes copy_flat_into(std::vector<std::uint8_t>& buffer, Bytes frame, Limits limits = {}) {
+    return detail::copy_into(buffer, detail::FrameSource(frame, limits), detail::Form::flat);
+}
+inline Bytes copy_flat_into(std::vector<std::uint8_t>& buffer, const Segments& segments, Limits limits = {}) {
+    return detail::copy_into(buffer, detail::SegmentSource(segments, limits), detail::Form::flat);
+}
+
+// Whether the message is canonical, and else why and where: one segment, which holds the canonical words of a value and
 // nothing else.
-inline std::optional<Fault> check(Bytes frame, Limits limits = {}) {
-    return detail::fault_of([&](bool* is_canonical, capnp_canonical_fault* fault) {
-        return capnp_canonical_check(frame.data(), frame.size(), limits.nesting, limits.words, is_canonical, fault);
-    });
+inline Checked check(Bytes frame, Limits limits = {}) { return detail::checked(detail::FrameSource(frame, limits)); }
+inline Checked check(const Segments& segments, Limits limits = {}) {
+    return detail::checked(detail::SegmentSource(segments, limits));
 }
 
-inline std::optional<Fault> check(const Segments& segments, Limits limits = {}) {
-    return detail::fault_of([&](bool* is_canonical, capnp_canonical_fault* fault) {
-        return capnp_canonical_segments_check(segments.data(), segments.size(), limits.nesting, limits.words,
-                                              is_canonical, fault);
-    });
+// Whether the message is canonical. It is false too where the message isn't read, since a limit is met or the bytes are no
+// frame.
+inline bool is_canonical(Bytes frame, Limits limits = {}) noexcept {
+    return capnp_canonical_is_canonical(frame.data(), frame.size(), limits.nesting, limits.words);
+}
+inline bool is_canonical(const Segments& segments, Limits limits = {}) noexcept {
+    return capnp_canonical_segments_is_canonical(segments.data(), segments.size(), limits.nesting, limits.words);
 }
 
 // How large the message is. Its canonical words take at most 8 bytes more than these words.
-inline Size size(Bytes frame, Limits limits = {}) {
-    return detail::size_of([&](std::uint64_t* words, std::uint32_t* capabilities) {
-        return capnp_canonical_size(frame.data(), frame.size(), limits.nesting, limits.words, words, capabilities);
-    });
-}
-
+inline Size size(Bytes frame, Limits limits = {}) { return detail::size_of(detail::FrameSource(frame, limits)); }
 inline Size size(const Segments& segments, Limits limits = {}) {
-    return detail::size_of([&](std::uint64_t* words, std::uint32_t* capabilities) {
-        return capnp_canonical_segments_size(segments.data(), segments.size(), limits.nesting, limits.words, words,
-                                             capabilities);
-    });
+    return detail::size_of(detail::SegmentSource(segments, limits));
 }
 
-// How many bytes the frame at the front takes. Its message isn't read.
-inline std::size_t frame_size(Bytes stream, std::uint64_t words = CAPNP_CANONICAL_WORDS) {
-    std::size_t size = 0;
-    detail::require_done(capnp_canonical_frame_size(stream.data(), stream.size(), words, &size));
-    return size;
+// The same, of a message given as its bare words: all of the bytes are its one segment.
+inline std::vector<std::uint8_t> words_copy(Bytes words, Limits limits = {}) { return copy(Segments{words}, limits); }
+inline std::vector<std::uint8_t> words_copy_flat(Bytes words, Limits limits = {}) {
+    return copy_flat(Segments{words}, limits);
 }
+inline Checked words_check(Bytes words, Limits limits = {}) { return check(Segments{words}, limits); }
+inline bool words_is_canonical(Bytes words, Limits limits = {}) noexcept {
+    return capnp_canonical_words_is_canonical(words.data(), words.size(), limits.nesting, limits.words);
+}
+inline Size words_size(Bytes words, Limits limits = {}) { return size(Segments{words}, limits); }
 
-// The frames of a stream, one behind the other: `for (Bytes frame : Frames(stream))`. Error is thrown where the bytes that
-// are left don't begin with a frame.
+// The frames of a stream, one behind the other: `for (Bytes frame : Frames(stream))`. Each knows its place, which an Error then
+// says. Error is thrown where the bytes that are left don't begin with a frame.
 class Frames {
 public:
     explicit Frames(Bytes stream, std::uint64_t words = CAPNP_CANONICAL_WORDS) noexcept
@@ -261,11 +414,12 @@ public:
         using reference = Bytes;
 
         Iterator() = default;
-        Iterator(Bytes rest, std::uint64_t words) : rest_(rest), words_(words) { measure(); }
+        Iterator(Bytes rest, std::uint64_t words) : rest_(rest.data(), rest.size(), {1, 0}), words_(words) { measure(); }
 
-        Bytes operator*() const noexcept { return {rest_.data(), size_}; }
+        Bytes operator*() const noexcept { return {rest_.data(), size_, rest_.place()}; }
         Iterator& operator++() {
-            rest_ = {rest_.data() + size_, rest_.size() - size_};
+            Place next = {rest_.place().message + 1, rest_.place().byte + size_};
+            rest_ = {rest_.data() + size_, rest_.size() - size_, next};
             measure();
             return *this;
         }
@@ -306,42 +460,167 @@ inline Segments segments_of(capnp::MessageReader& message) {
     for (unsigned id = 0;; id++) {
         auto segment = message.getSegment(id);
         if (segment.begin() == nullptr) return segments;
-        segments.add({segment.begin(), segment.size() * sizeof(capnp::word)});
+        segments.add(segment);
     }
 }
 
-// The segments of MessageBuilder::getSegmentsForOutput.
-inline Segments segments_of(kj::ArrayPtr<const kj::ArrayPtr<const capnp::word>> message) {
-    Segments segments;
-    for (auto segment : message) segments.add({segment.begin(), segment.size() * sizeof(capnp::word)});
-    return segments;
-}
+// The segments of a message that is built, as they stand until it is changed.
+inline Segments segments_of(capnp::MessageBuilder& message) { return {message.getSegmentsForOutput()}; }
+inline Segments segments_of(kj::ArrayPtr<const kj::ArrayPtr<const capnp::word>> message) { return {message}; }
 
 // The limits that the reader was made with. None of the traversal limit that the reader counts is taken.
 inline Limits limits_of(capnp::MessageReader& message) {
     const capnp::ReaderOptions& options = message.getOptions();
     return {options.nestingLimit, options.traversalLimitInWords};
 }
+// The usual ones, in which a reader with the default options reads the message.
+inline Limits limits_of(capnp::MessageBuilder&) { return {}; }
+inline Limits limits_of(const Segments&) { return {}; }
+inline Limits limits_of(capnp::AnyStruct::Reader) { return {}; }
 
-inline std::vector<std::uint8_t> copy(capnp::MessageReader& message, Limits limits) {
-    return copy(segments_of(message), limits);
+namespace detail {
+
+template <typename Message>
+constexpr bool is_message = std::is_base_of_v<capnp::MessageReader, Message> || std::is_base_of_v<capnp::MessageBuilder, Message>;
+template <typename Message>
+using IfMessage = std::enable_if_t<is_message<Message>>;
+
+// Uses the segments of a message; and of a struct of any place, which Cap'n Proto copies for it into a message of its own.
+template <typename Message, typename Use>
+std::enable_if_t<is_message<Message>, std::invoke_result_t<Use, const Segments&>> with_segments(Message& message, Use use) {
+    return use(segments_of(message));
 }
-inline std::vector<std::uint8_t> copy(capnp::MessageReader& message) { return copy(message, limits_of(message)); }
-
-inline std::vector<std::uint8_t> copy_flat(capnp::MessageReader& message, Limits limits) {
-    return copy_flat(segments_of(message), limits);
+template <typename Use>
+std::invoke_result_t<Use, const Segments&> with_segments(const Segments& segments, Use use) {
+    return use(segments);
 }
-inline std::vector<std::uint8_t> copy_flat(capnp::MessageReader& message) { return copy_flat(message, limits_of(message)); }
+template <typename Use>
+std::invoke_result_t<Use, const Segments&> with_segments(capnp::AnyStruct::Reader value, Use use) {
+    capnp::MallocMessageBuilder message(unsigned(value.totalSize().wordCount) + 1);
+    message.setRoot(value);
+    return use(segments_of(message));
+}
 
-inline std::optional<Fault> check(capnp::MessageReader& message, Limits limits) {
+// What of a message or a struct of any place can be copied, in the form in which it is passed on.
+template <typename Message>
+decltype(auto) given(Message& message) {
+    if constexpr (is_message<Message> || std::is_same_v<std::remove_cv_t<Message>, Segments>) {
+        return static_cast<Message&>(message);
+    } else {
+        return capnp::AnyStruct::Reader(message);
+    }
+}
+
+template <typename Message>
+constexpr bool can_be_copied = is_message<Message> || (std::is_convertible_v<const Message&, capnp::AnyStruct::Reader> &&
+                                                       !std::is_convertible_v<const Message&, Bytes>);
+template <typename Message>
+using IfCopied = std::enable_if_t<can_be_copied<std::remove_cv_t<std::remove_reference_t<Message>>>>;
+
+}  // namespace detail
+
+// The calls above of a MessageReader or a MessageBuilder; and the copies also of a struct of any place in a message, as
+// capnp::canonicalize takes it: any reader of a struct, or AnyStruct::Reader. Cap'n Proto reads such a struct, and throws what it
+// throws where that fails.
+template <typename Message, typename = detail::IfCopied<Message>>
+std::vector<std::uint8_t> copy(Message&& message, Limits limits) {
+    return detail::with_segments(detail::given(message), [&](const Segments& it) { return copy(it, limits); });
+}
+template <typename Message, typename = detail::IfCopied<Message>>
+std::vector<std::uint8_t> copy(Message&& message) {
+    return copy(message, limits_of(message));
+}
+
+template <typename Message, typename = detail::IfCopied<Message>>
+std::vector<std::uint8_t> copy_flat(Message&& message, Limits limits) {
+    return detail::with_segments(detail::given(message), [&](const Segments& it) { return copy_flat(it, limits); });
+}
+template <typename Message, typename = detail::IfCopied<Message>>
+std::vector<std::uint8_t> copy_flat(Message&& message) {
+    return copy_flat(message, limits_of(message));
+}
+
+template <typename Message, typename = detail::IfCopied<Message>>
+Bytes copy_into(std::vector<std::uint8_t>& buffer, Message&& message, Limits limits) {
+    return detail::with_segments(detail::given(message), [&](const Segments& it) { return copy_into(buffer, it, limits); });
+}
+template <typename Message, typename = detail::IfCopied<Message>>
+Bytes copy_into(std::vector<std::uint8_t>& buffer, Message&& message) {
+    return copy_into(buffer, message, limits_of(message));
+}
+
+template <typename Message, typename = detail::IfCopied<Message>>
+Bytes copy_flat_into(std::vector<std::uint8_t>& buffer, Message&& message, Limits limits) {
+    return detail::with_segments(detail::given(message), [&](const Segments& it) { return copy_flat_into(buffer, it, limits); });
+}
+template <typename Message, typename = detail::IfCopied<Message>>
+Bytes copy_flat_into(std::vector<std::uint8_t>& buffer, Message&& message) {
+    return copy_flat_into(buffer, message, limits_of(message));
+}
+
+template <typename Message, typename = detail::IfMessage<Message>>
+Checked check(Message& message, Limits limits) {
     return check(segments_of(message), limits);
 }
-inline std::optional<Fault> check(capnp::MessageReader& message) { return check(message, limits_of(message)); }
+template <typename Message, typename = detail::IfMessage<Message>>
+Checked check(Message& message) {
+    return check(message, limits_of(message));
+}
 
-inline Size size(capnp::MessageReader& message, Limits limits) {
+template <typename Message, typename = detail::IfMessage<Message>>
+bool is_canonical(Message& message, Limits limits) {
+    return is_canonical(segments_of(message), limits);
+}
+template <typename Message, typename = detail::IfMessage<Message>>
+bool is_canonical(Message& message) {
+    return is_canonical(message, limits_of(message));
+}
+
+template <typename Message, typename = detail::IfMessage<Message>>
+Size size(Message& message, Limits limits) {
     return size(segments_of(message), limits);
 }
-inline Size size(capnp::MessageReader& message) { return size(message, limits_of(message)); }
+template <typename Message, typename = detail::IfMessage<Message>>
+Size size(Message& message) {
+    return size(message, limits_of(message));
+}
+
+// The bare words in an array of words, as capnp::canonicalize gives them; of a message, of its segments or of a struct of any
+// place.
+template <typename Message>
+kj::Array<capnp::word> canonicalize(Message&& message, Limits limits) {
+    return detail::with_segments(detail::given(message), [&](const Segments& it) {
+        kj::Array<capnp::word> to;
+        std::size_t written = detail::copied(
+            detail::SegmentSource(it, limits), detail::Form::flat, it.bytes() + sizeof(capnp::word), [&](std::size_t room) {
+                to = kj::heapArray<capnp::word>(room / sizeof(capnp::word));
+                return reinterpret_cast<std::uint8_t*>(to.begin());
+            });
+        std::size_t words = written / sizeof(capnp::word);
+        return words == to.size() ? kj::mv(to) : kj::heapArray(to.slice(0, words).asConst());
+    });
+}
+template <typename Message>
+kj::Array<capnp::word> canonicalize(Message&& message) {
+    return canonicalize(message, limits_of(message));
+}
+
+// The same to the front of an array that the caller has, of which the part that is written is given. Error is thrown where it
+// has too little room; it says how much is wanted.
+template <typename Message>
+kj::ArrayPtr<const capnp::word> canonicalize_into(kj::ArrayPtr<capnp::word> to, Message&& message, Limits limits) {
+    return detail::with_segments(detail::given(message), [&](const Segments& it) {
+        std::size_t written = 0;
+        std::uint32_t answer = detail::SegmentSource(it, limits).copy(
+            detail::Form::flat, reinterpret_cast<std::uint8_t*>(to.begin()), to.size() * sizeof(capnp::word), &written);
+        if (answer != CAPNP_CANONICAL_DONE) throw Error(answer, {}, written);
+        return to.slice(0, written / sizeof(capnp::word)).asConst();
+    });
+}
+template <typename Message>
+kj::ArrayPtr<const capnp::word> canonicalize_into(kj::ArrayPtr<capnp::word> to, Message&& message) {
+    return canonicalize_into(to, message, limits_of(message));
+}
 
 #endif
 

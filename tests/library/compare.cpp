@@ -63,7 +63,7 @@ bool answers_the_same(capnp::MessageReader& message) {
     auto size = message.getRoot<capnp::AnyPointer>().targetSize();
     auto ours = capnp_canonical::size(message);
     return is_same(capnp_canonical::copy_flat(message), 0, words) && is_same(capnp_canonical::copy(message), 8, words) &&
-           capnp_canonical::check(message).has_value() != message.isCanonical() && ours.words == size.wordCount &&
+           capnp_canonical::check(message).is_canonical() == message.isCanonical() && ours.words == size.wordCount &&
            ours.capabilities == size.capCount;
 }
 

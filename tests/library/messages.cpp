@@ -3,9 +3,11 @@
 //     messages FILE    the messages of messages.txt; a line `ok: NAME` or `FAILED: NAME: WHAT` for each test
 #include "capnp_canonical.hpp"
 
+#include <algorithm>
 #include <array>
 #include <cstdio>
 #include <cstdlib>
+#include <ctime>
 #include <fstream>
 #include <functional>
 #include <sstream>
@@ -53,7 +55,7 @@ Vector bytes_of(const std::string& digits) {
     return bytes;
 }
 
-std::string digits_of(const Vector& bytes) {
+std::string digits_of(Bytes bytes) {
     std::string digits;
     for (std::uint8_t byte : bytes) {
         char two[3];
@@ -98,6 +100,16 @@ std::string answer(const std::function<std::string()>& call) {
     }
 }
 
+// What the error says that a call throws.
+std::string what(const std::function<void()>& call) {
+    try {
+        call();
+    } catch (const Error& error) {
+        return error.what();
+    }
+    return "no refusal";
+}
+
 template <typename Message>
 void require_answers(const Message& message, const std::string& copy, const std::string& flat, const std::string& check,
                      const std::string& size) {
@@ -106,15 +118,30 @@ void require_answers(const Message& message, const std::string& copy, const std:
     require_same("copy", answer([&] { return digits_of(capnp_canonical::copy(message)); }), frame);
     require_same("copy_flat", answer([&] { return digits_of(capnp_canonical::copy_flat(message)); }), words);
     require_same("check", answer([&] {
-                     auto fault = capnp_canonical::check(message);
-                     if (!fault) return std::string("yes");
-                     return std::to_string(fault->reason) + "," + std::to_string(fault->segment) + "," +
-                            std::to_string(fault->word);
+                     auto checked = capnp_canonical::check(message);
+                     if (checked.is_canonical()) return std::string("yes");
+                     const auto& fault = checked.fault();
+                     return std::to_string(fault.reason) + "," + std::to_string(fault.segment) + "," +
+                            std::to_string(fault.word);
                  }), check);
+    require(capnp_canonical::is_canonical(message) == (check == "yes"), "is_canonical");
+    Vector buffer;
+    for (int round = 0; round < 2; round++) {
+        require_same("copy_into", answer([&] { return digits_of(capnp_canonical::copy_into(buffer, message)); }), frame);
+        require_same("copy_flat_into", answer([&] { return digits_of(capnp_canonical::copy_flat_into(buffer, message)); }), words);
+    }
     require_same("size", answer([&] {
                      auto measured = capnp_canonical::size(message);
                      return std::to_string(measured.words) + "," + std::to_string(measured.capabilities);
                  }), size);
+}
+
+// Canonical words, by the calls of bare words.
+void require_words(const Vector& flat) {
+    require(capnp_canonical::words_copy_flat(flat) == flat, "words_copy_flat");
+    require(capnp_canonical::words_copy(flat) == framed(flat), "words_copy");
+    require(capnp_canonical::words_is_canonical(flat) && capnp_canonical::words_check(flat).is_canonical(), "words_check");
+    require(capnp_canonical::words_size(flat).words >= flat.size() / 8 - 1, "words_size");
 }
 
 void test_messages(const char* path) {
@@ -129,6 +156,7 @@ void test_messages(const char* path) {
         test(name, [&] { require_answers(Bytes(frame), copy, flat, check, size); });
         if (copy == "Truncated" || copy == "NoMessage") continue;
         test(name + " by its segments", [&] { require_answers(segments_in(frame), copy, flat, check, size); });
+        if (copy == "Done") test(name + " by its words", [&] { require_words(bytes_of(flat)); });
     }
     test("ten messages", [&] { require(count == 10, std::to_string(count) + " messages"); });
 }
@@ -189,11 +217,43 @@ void test_limits() {
 }
 
 void test_faults() {
-    auto fault = capnp_canonical::check(ZERO_WORD);
-    require(fault.has_value(), "no fault");
-    require(fault->reason == CAPNP_CANONICAL_REASON_DATA_SECTION, "another reason");
-    require_same("text", fault->text(), "a data section whose last word is zero at segment 0, word 3");
-    require(!capnp_canonical::check(capnp_canonical::copy(ZERO_WORD)), "a fault of a canonical message");
+    auto checked = capnp_canonical::check(ZERO_WORD);
+    require(!checked.is_canonical(), "no fault");
+    require(checked.fault().reason == CAPNP_CANONICAL_REASON_DATA_SECTION, "another reason");
+    require_same("text", checked.fault().text(), "a data section whose last word is zero at segment 0, word 3");
+    require_same("text", checked.text(), "not canonical: a data section whose last word is zero at segment 0, word 3");
+    auto again = capnp_canonical::check(capnp_canonical::copy(ZERO_WORD));
+    require(again.is_canonical() && again.text() == "canonical", "a fault of a canonical message");
+}
+
+// `if (check(message))` isn't compiled.
+static_assert(!std::is_constructible_v<bool, capnp_canonical::Checked>);
+static_assert(!std::is_convertible_v<capnp_canonical::Checked, bool>);
+
+// Canonical words of a struct of two numbers, 2^32 and 42, given where a frame is expected: they are read as a frame of two
+// words, which hold a struct of the number 42.
+void test_hazard() {
+    const Vector words = bytes_of("000000000200000000000000010000002a00000000000000");
+    require(capnp_canonical::words_copy_flat(words) == words, "the words by their name");
+    require(capnp_canonical::copy_flat(words) == bytes_of("00000000010000002a00000000000000"), "another value");
+}
+
+void test_buffer() {
+    Vector buffer;
+    Bytes first = capnp_canonical::copy_flat_into(buffer, SHARED);
+    require(digits_of(first) == digits_of(SHARED_FLAT) && first.data() == buffer.data(), "a buffer that grows");
+    std::size_t room = buffer.size();
+    Bytes second = capnp_canonical::copy_flat_into(buffer, ZERO_WORD);
+    require(digits_of(second) == digits_of(ZERO_WORD_FLAT) && buffer.size() == room, "a buffer that is kept");
+}
+
+// Bytes behind the frame at the front cost nothing: 2,000 copies of a message in front of 64 MiB.
+void test_bytes_behind() {
+    Vector stream(std::size_t(64) << 20);
+    std::copy(ZERO_WORD.begin(), ZERO_WORD.end(), stream.begin());
+    std::clock_t start = std::clock();
+    for (int i = 0; i < 2000; i++) require(capnp_canonical::copy_flat(stream) == ZERO_WORD_FLAT, "another copy");
+    require(std::clock() - start < 2 * CLOCKS_PER_SEC, "a copy looks at what stands behind");
 }
 
 void test_frames() {
@@ -211,6 +271,17 @@ void test_frames() {
                      return std::string("no refusal");
                  }), "Truncated");
     require(count == 1, "the frame before the cut");
+    try {
+        for (Bytes frame : capnp_canonical::Frames(stream)) count += frame.size();
+    } catch (const Error& error) {
+        require_same("what", error.what(), "message 2 at byte 40: Truncated: the bytes end within a frame");
+        require(error.place().message == 2 && error.place().byte == 40, "the place");
+    }
+    stream = SHARED;
+    stream.insert(stream.end(), ZERO_WORD.begin(), ZERO_WORD.end());
+    require_same("a message that is refused", what([&] {
+                     for (Bytes frame : capnp_canonical::Frames(stream)) capnp_canonical::copy(frame, {64, 6});
+                 }), "message 1 at byte 0: ReadLimitExceeded: the traversal limit doesn't cover what is to be read");
 }
 
 void test_errors() {
@@ -219,10 +290,19 @@ void test_errors() {
         require(false, "no refusal");
     } catch (const Error& error) {
         require(error.number() == CAPNP_CANONICAL_NO_MESSAGE, "another number");
-        require_same("what", error.what(), "NoMessage");
+        require_same("what", error.what(), "NoMessage: there are no bytes where a frame was to be");
         require_same("name", error.name(), "NoMessage");
     }
     require_same("a number without a name", Error(1000000).name(), "");
+    auto refused = [](const char* digits) { return what([&] { capnp_canonical::copy(bytes_of(digits)); }); };
+    const std::string many = "TooManySegments: a frame has more than 512 segments; they look like ";
+    require_same("gzip", refused("1f8b080000000000000348"), many + "gzip");
+    require_same("text", refused("2869642031290a20"), many + "text");
+    // by capnp convert binary:packed
+    require_same("packed", refused("10021001012a00000000"), many + "packed messages");
+    require_same("words", refused("fcffffff00000000"), many + "bare canonical words");
+    require_same("no room", Error(CAPNP_CANONICAL_NO_ROOM, {}, 24).what(),
+                 "NoRoom: the buffer has too little room, and 24 bytes are wanted");
 }
 
 int main(int count, char** words) {
@@ -232,6 +312,9 @@ int main(int count, char** words) {
     test("segments", test_segments);
     test("copies that are longer than their message", test_longer_copies);
     test("limits", test_limits);
+    test("bare words beside a frame", test_hazard);
+    test("a buffer that is used again", test_buffer);
+    test("bytes behind a frame", test_bytes_behind);
     test("faults", test_faults);
     test("frames of a stream", test_frames);
     test("errors", test_errors);
