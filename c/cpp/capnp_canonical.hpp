@@ -17,6 +17,7 @@
 
 #include <cstddef>
 #include <cstdint>
+#include <cstring>
 #include <initializer_list>
 #include <iterator>
 #include <optional>
@@ -596,8 +597,10 @@ kj::Array<capnp::word> canonicalize(Message&& message, Limits limits) {
                 to = kj::heapArray<capnp::word>(room / sizeof(capnp::word));
                 return reinterpret_cast<std::uint8_t*>(to.begin());
             });
-        std::size_t words = written / sizeof(capnp::word);
-        return words == to.size() ? kj::mv(to) : kj::heapArray(to.slice(0, words).asConst());
+        if (written == to.size() * sizeof(capnp::word)) return to;
+        auto exact = kj::heapArray<capnp::word>(written / sizeof(capnp::word));
+        std::memcpy(exact.begin(), to.begin(), written);
+        return exact;
     });
 }
 template <typename Message>
