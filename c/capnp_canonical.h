@@ -5,10 +5,10 @@
  * serialize::write_message write it; as its segments, as MessageReader::getSegment and Rust's ReaderSegments give them; or
  * as its bare words, which are one segment without the table of a frame.
  *
- * WARNING: bare words aren't a frame. What capnp_canonical_copy_flat and the calls named _words_copy_flat and
- * _segments_copy_flat write is to be hashed, signed and stored, and is read back by the calls named capnp_canonical_words_*.
- * The calls that take a frame may SUCCEED on bare words, and then read ANOTHER value: the pointer to a root without pointers,
- * 00 00 00 00 DD DD 00 00, is also the table of a frame of one segment of DDDD words. Nothing in the bytes says which they are.
+ * WARNING: bare words aren't a frame. What capnp_canonical_copy_flat and capnp_canonical_segments_copy_flat write is to be
+ * hashed, signed and stored, and is read back by the calls named capnp_canonical_words_*. The calls that take a frame may
+ * SUCCEED on bare words, and then read ANOTHER value: the pointer to a root without pointers, 00 00 00 00 DD DD 00 00, is also
+ * the table of a frame of one segment of DDDD words. Nothing in the bytes says which they are.
  *
  * Limits. `nesting` is the nesting limit: how many structs and lists may stand one inside of the other. `words` is the
  * traversal limit in words of 8 bytes: what reading the value costs, from the root on, whose pointer costs one. A frame
@@ -212,14 +212,9 @@ CAPNP_CANONICAL_INLINE bool capnp_canonical_segments_is_canonical(const struct c
     return capnp_canonical_segments_check(segments, count, nesting, words, &is_canonical, &fault) == CAPNP_CANONICAL_DONE && is_canonical;
 }
 
-/* The same five, of a message given as its bare words: all `size` bytes at `message` are its one segment, as copy_flat writes
- * them. A frame that is given here is read as words, and is another value. */
+/* The same four, of a message given as its bare words: all `size` bytes at `message` are its one segment, as copy_flat writes
+ * them, and the copy is bare words too. A frame that is given here is read as words, and is another value. */
 CAPNP_CANONICAL_INLINE uint32_t capnp_canonical_words_copy(const uint8_t *message, size_t size, int32_t nesting, uint64_t words, uint8_t *to, size_t room, size_t *written) {
-    struct capnp_canonical_segment segment = {message, size};
-    return capnp_canonical_segments_copy(&segment, 1, nesting, words, to, room, written);
-}
-
-CAPNP_CANONICAL_INLINE uint32_t capnp_canonical_words_copy_flat(const uint8_t *message, size_t size, int32_t nesting, uint64_t words, uint8_t *to, size_t room, size_t *written) {
     struct capnp_canonical_segment segment = {message, size};
     return capnp_canonical_segments_copy_flat(&segment, 1, nesting, words, to, room, written);
 }
@@ -352,10 +347,11 @@ CAPNP_CANONICAL_INLINE bool capnp_canonical_looks_text(const uint8_t *bytes, siz
     return size >= 4;
 }
 
-/* What bytes look like that were refused as a frame, as `gzip`; null where they look like nothing else. It is a guess, for
- * whoever reads a refusal: nothing else is to rest on it. */
+/* What bytes look like that were refused as a frame, as `gzip`; null where they look like nothing else, or do begin with a
+ * frame. It is a guess, for whoever reads a refusal: nothing else is to rest on it. */
 CAPNP_CANONICAL_INLINE const char *capnp_canonical_looks_like(const uint8_t *bytes, size_t size) {
-    if (size < 4) return NULL;
+    size_t taken;
+    if (size < 4 || capnp_canonical_frame_size(bytes, size, UINT64_MAX, &taken) == CAPNP_CANONICAL_DONE) return NULL;
     if (bytes[0] == 0x1f && bytes[1] == 0x8b) return "gzip";
     if (capnp_canonical_number_at(bytes) == UINT32_C(0xfd2fb528)) return "zstd";
     if (bytes[0] == 'B' && bytes[1] == 'Z' && bytes[2] == 'h') return "bzip2";

@@ -343,7 +343,7 @@ inline std::vector<std::uint8_t> copy(const Segments& segments, Limits limits = 
 }
 
 // The same as bare words, without the table of a frame: the bytes to be hashed or signed. What is stored of them is read back
-// by words_check, words_copy and words_copy_flat.
+// by words_check and words_copy.
 inline std::vector<std::uint8_t> copy_flat(Bytes frame, Limits limits = {}) {
     return detail::copy_of(detail::FrameSource(frame, limits), detail::Form::flat);
 }
@@ -388,11 +388,8 @@ inline Size size(const Segments& segments, Limits limits = {}) {
     return detail::size_of(detail::SegmentSource(segments, limits));
 }
 
-// The same, of a message given as its bare words: all of the bytes are its one segment.
-inline std::vector<std::uint8_t> words_copy(Bytes words, Limits limits = {}) { return copy(Segments{words}, limits); }
-inline std::vector<std::uint8_t> words_copy_flat(Bytes words, Limits limits = {}) {
-    return copy_flat(Segments{words}, limits);
-}
+// The same, of a message given as its bare words: all of the bytes are its one segment, and its copy is bare words too.
+inline std::vector<std::uint8_t> words_copy(Bytes words, Limits limits = {}) { return copy_flat(Segments{words}, limits); }
 inline Checked words_check(Bytes words, Limits limits = {}) { return check(Segments{words}, limits); }
 inline bool words_is_canonical(Bytes words, Limits limits = {}) noexcept {
     return capnp_canonical_words_is_canonical(words.data(), words.size(), limits.nesting, limits.words);

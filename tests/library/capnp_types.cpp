@@ -66,7 +66,7 @@ void test_places(capnp::MallocMessageBuilder& builder) {
 void test_words(capnp::MallocMessageBuilder& builder) {
     auto theirs = capnp::canonicalize(builder.getRoot<Book>().asReader());
     report(same(capnp_canonical::canonicalize(builder), theirs), "canonicalize");
-    report(same(capnp_canonical::words_copy_flat(theirs), theirs), "what capnp::canonicalize gives, as words");
+    report(same(capnp_canonical::words_copy(theirs), theirs), "what capnp::canonicalize gives, as words");
     report(capnp_canonical::words_is_canonical(theirs), "it is canonical");
     auto room = kj::heapArray<capnp::word>(theirs.size() + 5);
     for (int round = 0; round < 2; round++) {

@@ -1,5 +1,9 @@
 """Tests of the module capnp_canonical, over the messages of messages.txt and what that file can't say."""
+import array
 import concurrent.futures
+import importlib.util
+import io
+import mmap
 import os
 import pathlib
 import pickle
@@ -7,10 +11,11 @@ import shutil
 import subprocess
 import sys
 import tempfile
+import time
 import unittest
 
 import capnp_canonical
-from capnp_canonical import Error, Fault, Limits, Size
+from capnp_canonical import Error, Fault, Limits, Reason, Refusal, Size
 
 MESSAGES = pathlib.Path(__file__).with_name('messages.txt')
 LIBRARY = 'CAPNP_CANONICAL_LIBRARY'
@@ -49,7 +54,7 @@ def answer(text, call, *arguments):
 
 
 def fault_text(fault):
-    return f'{fault.reason},{fault.segment},{fault.word}' if fault else 'yes'
+    return 'yes' if fault is None else f'{int(fault.reason)},{fault.segment},{fault.word}'
 
 
 def size_text(size):
@@ -67,6 +72,13 @@ class Messages(unittest.TestCase):
         self.assertEqual(answer(bytes.hex, flat_call, given), words.hex() if done else copy)
         self.assertEqual(answer(fault_text, check_call, given), check)
         self.assertEqual(answer(size_text, size_call, given), size)
+        is_canonical = capnp_canonical.is_canonical if isinstance(given, bytes) else capnp_canonical.segments_is_canonical
+        self.assertIs(is_canonical(given), check == 'yes')
+        if done:
+            self.assertEqual(capnp_canonical.words_copy(words), words)
+            self.assertTrue(capnp_canonical.words_is_canonical(words))
+            self.assertIsNone(capnp_canonical.words_check(words))
+            self.assertGreaterEqual(8 + 8 * capnp_canonical.words_size(words).words, len(words))
 
     def frame(self, digits, copy, *wanted):
         given = bytes.fromhex(digits.strip('-'))
@@ -87,10 +99,68 @@ for name, *line in LINES:
 
 class Calls(unittest.TestCase):
     def test_buffers(self):
-        for message in ZERO_WORD, bytearray(ZERO_WORD), memoryview(ZERO_WORD), memoryview(b'.' + ZERO_WORD)[1:]:
+        spread = memoryview(bytes(it for byte in ZERO_WORD for it in (byte, 0)))[::2]
+        for message in ZERO_WORD, bytearray(ZERO_WORD), memoryview(ZERO_WORD), memoryview(b'.' + ZERO_WORD)[1:], \
+                array.array('Q', ZERO_WORD), spread:
             self.assertEqual(capnp_canonical.copy_flat(message), ZERO_WORD_FLAT)
-        with self.assertRaises(TypeError):
-            capnp_canonical.copy_flat(16)
+        for message in 16, 'text', None:
+            with self.assertRaisesRegex(TypeError, 'bytes-like'):
+                capnp_canonical.copy_flat(message)
+
+    def test_buffers_are_given_back(self):
+        message = bytearray(ZERO_WORD)
+        for call in capnp_canonical.copy_flat, capnp_canonical.check, capnp_canonical.size, capnp_canonical.frame_size:
+            call(message)
+        capnp_canonical.segments_copy([message[8:]])
+        with self.assertRaises(Error):
+            capnp_canonical.copy(bytearray(b'.......'))
+        message += b'.'  # it can't grow while it is lent
+
+    def test_mmap(self):
+        with tempfile.TemporaryFile() as file:
+            file.write(ZERO_WORD + SHARED)
+            file.flush()
+            with mmap.mmap(file.fileno(), 0, access=mmap.ACCESS_READ) as stream:
+                self.assertEqual(capnp_canonical.copy_flat(stream), ZERO_WORD_FLAT)
+                frames = capnp_canonical.frames(stream)
+                self.assertEqual([it.tobytes() for it in frames], [ZERO_WORD, SHARED])
+
+    @unittest.skipUnless(importlib.util.find_spec('numpy'), 'no numpy')
+    def test_numpy(self):
+        import numpy
+        for kind in 'uint8', '<u8':
+            whole = numpy.frombuffer(ZERO_WORD, dtype=kind)
+            self.assertEqual(capnp_canonical.copy_flat(whole), ZERO_WORD_FLAT)
+        to = numpy.zeros(32, dtype='uint8')
+        self.assertEqual(capnp_canonical.copy_flat_into(to, whole), len(ZERO_WORD_FLAT))
+        self.assertEqual(to.tobytes(), ZERO_WORD_FLAT + bytes(8))
+
+    def test_bytes_behind_cost_nothing(self):
+        stream = memoryview(bytearray(ZERO_WORD) + bytes(64 << 20))
+        start = time.process_time()
+        for _ in range(1000):
+            capnp_canonical.copy_flat(stream)
+            capnp_canonical.frame_size(stream)
+        self.assertLess(time.process_time() - start, 1)
+
+    def test_into(self):
+        to = bytearray(b'.' * 40)
+        self.assertEqual(capnp_canonical.copy_flat_into(to, ZERO_WORD), 24)
+        self.assertEqual(to, ZERO_WORD_FLAT + b'.' * 16)
+        self.assertEqual(capnp_canonical.copy_into(to, ZERO_WORD), 32)
+        with self.assertRaises(Error) as refused:
+            capnp_canonical.copy_flat_into(memoryview(to)[:23], ZERO_WORD)
+        self.assertEqual((refused.exception.number, refused.exception.wanted), (Refusal.NO_ROOM, 24))
+        self.assertEqual(str(refused.exception), 'NoRoom: the buffer has too little room, and 24 bytes are wanted')
+        with self.assertRaises(BufferError):
+            capnp_canonical.copy_into(b'no buffer to write to', ZERO_WORD)
+
+    def test_words_beside_a_frame(self):
+        """Canonical words of a struct of two numbers, 2^32 and 42, given where a frame is expected: they are read as a frame
+        of two words, which hold a struct of the number 42."""
+        words = bytes.fromhex('0000000002000000 0000000001000000 2a00000000000000')
+        self.assertEqual(capnp_canonical.words_copy(words), words)
+        self.assertEqual(capnp_canonical.copy_flat(words), bytes.fromhex('0000000001000000 2a00000000000000'))
 
     def test_segments(self):
         words = ZERO_WORD[8:]
@@ -120,12 +190,26 @@ class Calls(unittest.TestCase):
         for numbers in {'words': -1}, {'words': 2**64}, {'nesting': 2**31}:
             with self.assertRaises(ValueError):
                 Limits(**numbers)
+        for numbers in {'words': None}, {'words': 5.5}, {'nesting': '64'}:
+            with self.assertRaises(TypeError):
+                Limits(**numbers)
+        with self.assertRaisesRegex(TypeError, 'class Limits'):
+            capnp_canonical.copy(ZERO_WORD, (64, 8))
 
     def test_faults(self):
         fault = capnp_canonical.check(ZERO_WORD)
         self.assertEqual(fault, Fault(reason=9, segment=0, word=3))
         self.assertEqual(str(fault), 'a data section whose last word is zero at segment 0, word 3')
+        self.assertIs(fault.reason, Reason.DATA_SECTION)
         self.assertIsNone(capnp_canonical.check(capnp_canonical.copy(ZERO_WORD)))
+
+    def test_faults_have_no_truth_value(self):
+        with self.assertRaisesRegex(TypeError, 'is_canonical'):
+            if capnp_canonical.check(ZERO_WORD):
+                self.fail('taken for yes')
+        self.assertIs(capnp_canonical.is_canonical(ZERO_WORD), False)
+        self.assertIs(capnp_canonical.is_canonical(capnp_canonical.copy(ZERO_WORD)), True)
+        self.assertIs(capnp_canonical.is_canonical(b'no frame'), False)
 
     def test_size(self):
         self.assertEqual(capnp_canonical.size(SHARED), Size(words=6, capabilities=0))
@@ -140,12 +224,31 @@ class Calls(unittest.TestCase):
         with self.assertRaises(Error) as refused:
             next(frames)
         self.assertEqual(refused.exception.name, 'Truncated')
+        self.assertEqual(refused.exception.place, (2, 40))
+        self.assertEqual(str(refused.exception), 'message 2 at byte 40: Truncated: the bytes end within a frame')
 
     def test_errors(self):
         error = Error(19)
-        self.assertEqual((str(error), error.name, error.number), ('Truncated', 'Truncated', 19))
-        self.assertEqual(pickle.loads(pickle.dumps(error)).number, 19)
+        self.assertIsInstance(error, ValueError)
+        self.assertEqual((str(error), error.name, error.number), ('Truncated: the bytes end within a frame', 'Truncated', 19))
+        self.assertIs(error.number, Refusal.TRUNCATED)
+        again = pickle.loads(pickle.dumps(error.at(2, 40)))
+        self.assertEqual((again.number, again.place, str(again)), (19, (2, 40), str(error.at(2, 40))))
         self.assertEqual(Error(1000000).name, '')
+        for number in Refusal:
+            self.assertEqual(Error(number).name.lower(), number.name.replace('_', '').lower())
+
+    def test_what_refused_bytes_look_like(self):
+        many = 'TooManySegments: a frame has more than 512 segments; they look like '
+        for digits, wanted in (
+            ('1f8b080000000000', 'gzip'), ('28b52ffd24009900', 'zstd'), ('425a683931415926', 'bzip2'),
+            ('fd377a585a000004', 'xz'), ('504b030414000000', 'a zip archive'), ('2869642031290a20', 'text'),
+            ('fcffffff00000000', 'bare canonical words'), ('10021001012a0000', 'packed messages'),
+        ):
+            for refused in (capnp_canonical.copy, capnp_canonical.frame_size):
+                with self.assertRaises(Error) as error:
+                    refused(bytes.fromhex(digits))
+                self.assertEqual(str(error.exception), many + wanted)
 
     def test_threads(self):
         with concurrent.futures.ThreadPoolExecutor(8) as pool:
@@ -156,6 +259,61 @@ class Calls(unittest.TestCase):
         self.assertEqual(capnp_canonical.version() // 10000, 1)
 
 
+class Raw:
+    """A file that gives some bytes at a time, as a socket does."""
+
+    def __init__(self, whole, piece):
+        self.whole, self.piece, self.given = whole, piece, 0
+
+    def read(self, size):
+        part = self.whole[self.given:self.given + min(size, self.piece)]
+        self.given += len(part)
+        return part
+
+
+class FramesOfFiles(unittest.TestCase):
+    STREAM = (ZERO_WORD + SHARED) * 50
+
+    def test_pieces(self):
+        for file in io.BytesIO(self.STREAM), Raw(self.STREAM, 1), Raw(self.STREAM, 7), Raw(self.STREAM, 10**6):
+            self.assertEqual([bytes(it) for it in capnp_canonical.frames(file)], [ZERO_WORD, SHARED] * 50)
+        self.assertEqual(list(capnp_canonical.frames(io.BytesIO())), [])
+
+    def test_cut(self):
+        for size in 1, 3, 5, 39:
+            found = []
+            with self.assertRaises(Error) as refused:
+                found.extend(capnp_canonical.frames(Raw(self.STREAM + ZERO_WORD[:size], 3)))
+            self.assertEqual(refused.exception.place, (101, len(self.STREAM)))
+            self.assertIs(refused.exception.number, Refusal.TRUNCATED)
+            self.assertEqual(len(found), 100)
+
+    def test_large(self):
+        words = 100_000
+        large = bytes(4) + words.to_bytes(4, 'little') + bytes(8 * words)
+        found = list(capnp_canonical.frames(Raw(ZERO_WORD + large + ZERO_WORD, 5000)))
+        self.assertEqual(found, [ZERO_WORD, large, ZERO_WORD])
+        file = Raw(large, 5000)
+        with self.assertRaises(Error) as refused:
+            next(capnp_canonical.frames(file, words=words - 1))
+        self.assertIs(refused.exception.number, Refusal.MESSAGE_TOO_LONG)
+        self.assertLessEqual(file.given, 5000)
+
+    def test_a_frame_is_given_as_soon_as_it_is_there(self):
+        read, write = os.pipe()
+        with open(read, 'rb') as file, open(write, 'wb', buffering=0) as other:
+            frames = capnp_canonical.frames(file)
+            for message in ZERO_WORD, SHARED, ZERO_WORD:
+                other.write(message)
+                self.assertEqual(next(frames), message)
+
+    def test_other_files(self):
+        with self.assertRaisesRegex(TypeError, 'open for text'):
+            list(capnp_canonical.frames(io.StringIO('text')))
+        with self.assertRaises(TypeError):
+            list(capnp_canonical.frames(7))
+
+
 class Places(unittest.TestCase):
     """Where the library is found."""
 
@@ -163,8 +321,9 @@ class Places(unittest.TestCase):
         self.folder = pathlib.Path(tempfile.mkdtemp())
         self.addCleanup(shutil.rmtree, self.folder)
         self.module = self.folder / 'python'
-        self.module.mkdir()
-        shutil.copy(capnp_canonical.__file__, self.module)
+        self.package = self.module / 'capnp_canonical'
+        shutil.copytree(
+            pathlib.Path(capnp_canonical.__file__).parent, self.package, ignore=shutil.ignore_patterns('__pycache__', '*.so'))
 
     def run_with(self, **more):
         kept = {name: value for name, value in os.environ.items() if name not in (LIBRARY, 'LD_LIBRARY_PATH')}
@@ -179,9 +338,13 @@ class Places(unittest.TestCase):
 
     def copy_to(self, folder):
         folder.mkdir(exist_ok=True)
-        shutil.copy(capnp_canonical._library._name, folder / 'libcapnp_canonical.so')
+        shutil.copy(capnp_canonical._library.library._name, folder / 'libcapnp_canonical.so')
 
-    def test_beside_the_module(self):
+    def test_in_the_package(self):
+        self.copy_to(self.package)
+        self.require_found()
+
+    def test_beside_the_package(self):
         self.copy_to(self.module)
         self.require_found()
 

@@ -3,9 +3,8 @@ import sys
 
 import capnp_canonical
 
-stream = sys.stdin.buffer.read()
 try:
-    for frame in capnp_canonical.frames(stream):
+    for number, frame in enumerate(capnp_canonical.frames(sys.stdin.buffer), 1):
         sys.stdout.buffer.write(capnp_canonical.copy_flat(frame))
 except capnp_canonical.Error as error:
-    sys.exit(f'refused {error.name}')
+    sys.exit(str(error) if error.place else f'message {number}: {error}')

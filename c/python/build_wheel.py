@@ -1,0 +1,128 @@
+"""Builds the package for pip (PEP 517), with nothing beside Python.
+
+    pip install ./c/python
+
+A wheel has the package and the library within. The library is the file that CAPNP_CANONICAL_LIBRARY names; else what the C
+compiler that CC names, or `cc`, makes of capnp_canonical.c, where that stands in `native` or in `../generated`, as in a
+release; else the one that `pkg-config` finds. The wheel is marked for the platform that it was built on; where it is to have
+another mark, as `manylinux_2_17_x86_64`, that is the config setting `plat-name`.
+"""
+import base64
+import csv
+import hashlib
+import io
+import os
+import pathlib
+import re
+import shlex
+import subprocess
+import sysconfig
+import tarfile
+import tempfile
+import zipfile
+
+HERE = pathlib.Path(__file__).resolve().parent
+NAME = 'capnp_canonical'
+LIBRARY = f'lib{NAME}.so'
+VARIABLE = 'CAPNP_CANONICAL_LIBRARY'
+# A wheel of the same files is the same bytes.
+DATE = (1980, 1, 1, 0, 0, 0)
+
+
+def about(key):
+    return re.search(rf'^{key} = "(.*)"$', (HERE / 'pyproject.toml').read_text(encoding='utf-8'), re.M)[1]
+
+
+def native(name):
+    """A file of the library in C: beside this one in a source archive, else in the repository. None where there is none."""
+    for folder in HERE / 'native', HERE.parent / 'generated', HERE.parent:
+        if (folder / name).is_file():
+            return folder / name
+    return None
+
+
+def licence():
+    """The file of the licence: beside this one in a source archive, else at the top of the repository."""
+    return next(it for it in (HERE / 'LICENSE', HERE.parents[1] / 'LICENSE') if it.is_file())
+
+
+def package():
+    """The files of the package, by their names in a wheel."""
+    files = sorted(it for it in (HERE / NAME).iterdir() if it.suffix == '.py' or it.name == 'py.typed')
+    return {f'{NAME}/{it.name}': it.read_bytes() for it in files}
+
+
+def metadata():
+    return (f'Metadata-Version: 2.1\nName: {NAME}\nVersion: {about("version")}\nSummary: {about("description")}\n'
+            f'License: MIT\nRequires-Python: {about("requires-python")}\n').encode()
+
+
+def compiled(source, header):
+    """The library made of its C, as bytes."""
+    with tempfile.TemporaryDirectory() as folder:
+        library = pathlib.Path(folder) / LIBRARY
+        compiler = shlex.split(os.environ.get('CC', 'cc'))
+        flags = shlex.split(os.environ.get('CFLAGS', '')) + shlex.split(os.environ.get('LDFLAGS', ''))
+        subprocess.run([*compiler, '-std=gnu11', '-O2', '-fPIC', '-shared', f'-I{header.parent}', *flags,
+                        '-o', str(library), str(source)], check=True)
+        return library.read_bytes()
+
+
+def installed():
+    """The library that `pkg-config` finds, as bytes."""
+    run = subprocess.run(['pkg-config', '--variable=libdir', NAME], stdout=subprocess.PIPE, text=True)
+    library = pathlib.Path(run.stdout.strip()) / LIBRARY
+    if run.returncode or not library.is_file():
+        raise SystemExit(f'{LIBRARY} is not found: let {VARIABLE} name it, or PKG_CONFIG_PATH the folder of {NAME}.pc')
+    return library.read_bytes()
+
+
+def library():
+    if os.environ.get(VARIABLE):
+        return pathlib.Path(os.environ[VARIABLE]).read_bytes()
+    source = native(f'{NAME}.c')
+    return compiled(source, native(f'{NAME}.h')) if source else installed()
+
+
+def build_wheel(wheel_directory, config_settings=None, metadata_directory=None):
+    platform = (config_settings or {}).get('plat-name') or sysconfig.get_platform().replace('-', '_').replace('.', '_')
+    stem, tag = f'{NAME}-{about("version")}', f'py3-none-{platform}'
+    files = {
+        **package(),
+        f'{NAME}/{LIBRARY}': library(),
+        f'{stem}.dist-info/METADATA': metadata(),
+        f'{stem}.dist-info/LICENSE': licence().read_bytes(),
+        f'{stem}.dist-info/WHEEL': f'Wheel-Version: 1.0\nGenerator: {NAME}\nRoot-Is-Purelib: false\nTag: {tag}\n'.encode(),
+    }
+    record = io.StringIO()
+    rows = csv.writer(record, lineterminator='\n')
+    for name, data in files.items():
+        digest = base64.urlsafe_b64encode(hashlib.sha256(data).digest()).rstrip(b'=').decode()
+        rows.writerow((name, f'sha256={digest}', len(data)))
+    rows.writerow((f'{stem}.dist-info/RECORD', '', ''))
+    files[f'{stem}.dist-info/RECORD'] = record.getvalue().encode()
+    wheel = f'{stem}-{tag}.whl'
+    with zipfile.ZipFile(pathlib.Path(wheel_directory) / wheel, 'w', zipfile.ZIP_DEFLATED) as archive:
+        for name, data in files.items():
+            entry = zipfile.ZipInfo(name, DATE)
+            entry.external_attr = (0o100755 if name.endswith(LIBRARY) else 0o100644) << 16
+            entry.compress_type = zipfile.ZIP_DEFLATED
+            archive.writestr(entry, data)
+    return wheel
+
+
+def build_sdist(sdist_directory, config_settings=None):
+    """A source archive, which compiles the C: so the C has to be there."""
+    stem = f'{NAME}-{about("version")}'
+    sources = {name: native(name) for name in (f'{NAME}.c', f'{NAME}.h')}
+    if None in sources.values():
+        raise SystemExit(f'a source archive has {NAME}.c, which is not here: a release has it')
+    files = {**package(), 'PKG-INFO': metadata(), 'LICENSE': licence().read_bytes()}
+    files.update({name: (HERE / name).read_bytes() for name in ('pyproject.toml', 'build_wheel.py')})
+    files.update({f'native/{name}': source.read_bytes() for name, source in sources.items()})
+    with tarfile.open(pathlib.Path(sdist_directory) / f'{stem}.tar.gz', 'w:gz', format=tarfile.PAX_FORMAT) as archive:
+        for name, data in files.items():
+            entry = tarfile.TarInfo(f'{stem}/{name}')
+            entry.size, entry.mode = len(data), 0o644
+            archive.addfile(entry, io.BytesIO(data))
+    return f'{stem}.tar.gz'

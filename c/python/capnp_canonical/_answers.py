@@ -1,0 +1,164 @@
+"""What the calls take and answer."""
+from __future__ import annotations
+
+import enum
+from dataclasses import dataclass
+from operator import index
+from typing import Optional, Tuple, Union
+
+from capnp_canonical._library import library, text_of
+
+
+@dataclass(frozen=True)
+class Limits:
+    """Within which limits a message is read. The defaults are those of C++ and Rust."""
+
+    nesting: int = 64
+    """How many structs and lists may stand one inside of the other, below 2^31."""
+    words: int = 8_388_608
+    """How many words of 8 bytes may be read, and how many a frame may have, below 2^64."""
+
+    def __post_init__(self) -> None:
+        if not -2**31 <= index(self.nesting) < 2**31:
+            raise ValueError(f'a nesting limit of {self.nesting}')
+        if not 0 <= index(self.words) < 2**64:
+            raise ValueError(f'a limit of {self.words} words')
+
+
+class Refusal(enum.IntEnum):
+    """The numbers of `enum capnp_canonical_answer`. A later library may answer others too."""
+
+    NO_ROOM = 1
+    NO_MESSAGE = 2
+    SEGMENT_IS_NOT_WHOLE_WORDS = 3
+    TOO_MANY_SEGMENTS = 17
+    MESSAGE_TOO_LONG = 18
+    TRUNCATED = 19
+    ALLOCATION_FAILED = 32
+    CANNOT_CREATE_A_CANONICAL_MESSAGE_WITH_A_CAPABILITY = 33
+    CANT_HANDLE_NON_STRUCT_INLINE_COMPOSITE = 34
+    INLINE_COMPOSITE_LISTS_ELEMENTS_OVERRUN_ITS_WORD_COUNT = 42
+    INLINE_COMPOSITE_LISTS_OF_NON_STRUCT_TYPE_ARE_NOT_SUPPORTED = 43
+    INVALID_SEGMENT_ID = 44
+    MALFORMED_DOUBLE_FAR_POINTER = 45
+    MESSAGE_CONTAINS_OUT_OF_BOUNDS_POINTER = 55
+    MESSAGE_IS_TOO_DEEPLY_NESTED = 57
+    MESSAGE_IS_TOO_DEEPLY_NESTED_OR_CONTAINS_CYCLES = 58
+    MESSAGE_TOO_LARGE = 59
+    NESTING_LIMIT_EXCEEDED = 60
+    READ_LIMIT_EXCEEDED = 62
+    UNKNOWN_POINTER_TYPE = 66
+
+
+_TEXTS = {
+    1: 'the buffer has too little room',
+    2: 'there are no bytes where a frame was to be',
+    3: "a segment isn't of whole words of 8 bytes",
+    17: 'a frame has more than 512 segments',
+    18: 'a frame has more words than the limit',
+    19: 'the bytes end within a frame',
+    32: 'there is no memory',
+    33: 'the value holds a capability, so it has no canonical form',
+    34: "the tag word of a list of structs isn't that of a struct",
+    42: 'the elements of a list of structs take more words than its pointer claims',
+    43: "the tag word of a list of structs isn't that of a struct",
+    44: "a segment is named that the message doesn't have",
+    45: 'a far pointer leads to a landing pad that is itself a far pointer',
+    55: 'a pointer leads out of its segment',
+    57: 'the nesting limit is met',
+    58: 'the nesting limit is met, or a pointer leads back',
+    59: 'the canonical message or its segments are larger than the format allows',
+    60: 'the nesting limit is met',
+    62: "the traversal limit doesn't cover what is to be read",
+    66: "a pointer word isn't of a kind that the format knows",
+}
+
+
+class Reason(enum.IntEnum):
+    """The numbers of `enum capnp_canonical_reason`. A later library may give others too."""
+
+    SEGMENT_COUNT = 1
+    NO_POINTER = 2
+    FAR_POINTER = 3
+    CAPABILITY = 4
+    UNKNOWN_POINTER = 5
+    EMPTY_STRUCT_PLACE = 6
+    OBJECT_PLACE = 7
+    PADDING = 8
+    DATA_SECTION = 9
+    POINTER_SECTION = 10
+    ELEMENT_WORDS = 11
+    ELEMENT_DATA = 12
+    ELEMENT_POINTERS = 13
+    WORDS_BEHIND = 14
+
+
+class Error(ValueError):
+    """A call is refused. As a text it is a sentence, as `message 2 at byte 40: Truncated: the bytes end within a frame`."""
+
+    number: int
+    """Of `Refusal`, where that has it."""
+    name: str
+    """As `Truncated`; empty where the number has no name."""
+    place: Optional[Tuple[int, int]]
+    """Which message of a stream it is, counted from 1, and at which byte it begins; None where it isn't of a stream."""
+    looks_like: Optional[str]
+    """What the bytes look like, as `gzip`, where they are no frame and it is known. It is a guess."""
+    wanted: int
+    """How many bytes are wanted, where there is too little room."""
+
+    def __init__(
+        self, number: int, place: Optional[Tuple[int, int]] = None, looks_like: Optional[str] = None, wanted: int = 0
+    ) -> None:
+        known = {int(it): it for it in Refusal}
+        self.number = known.get(number, number)
+        self.name = text_of(library.capnp_canonical_name, number)
+        self.place, self.looks_like, self.wanted = place, looks_like, wanted
+        super().__init__(self._sentence())
+
+    def _sentence(self) -> str:
+        text = f'message {self.place[0]} at byte {self.place[1]}: ' if self.place else ''
+        text += f'{self.name}: {_TEXTS.get(self.number, "a refusal that this package does not know")}'
+        if self.wanted:
+            text += f', and {self.wanted} bytes are wanted'
+        return text + (f'; they look like {self.looks_like}' if self.looks_like else '')
+
+    def at(self, message: int, byte: int) -> Error:
+        """The same, of a message that stands there in a stream."""
+        return type(self)(self.number, (message, byte), self.looks_like, self.wanted)
+
+    def __reduce__(self) -> Tuple[type[Error], Tuple[object, ...]]:
+        return type(self), (int(self.number), self.place, self.looks_like, self.wanted)
+
+
+@dataclass(frozen=True)
+class Fault:
+    """Why and where a message isn't canonical. It has no truth value, so that `if check(message)` can't be taken for yes."""
+
+    reason: Union[Reason, int]
+    """Of `Reason`, where that has it."""
+    segment: int
+    """The number of the segment."""
+    word: int
+    """The position in the segment, in words."""
+
+    @property
+    def reason_text(self) -> str:
+        """The reason in words, as `padding that isn't zero`."""
+        return text_of(library.capnp_canonical_reason_text, self.reason)
+
+    def __str__(self) -> str:
+        return f'{self.reason_text} at segment {self.segment}, word {self.word}'
+
+    def __bool__(self) -> bool:
+        raise TypeError('a fault is neither true nor false: ask is_canonical(..), or check(..) is None')
+
+
+@dataclass(frozen=True)
+class Size:
+    """What the root of a message leads to, without the root pointer and landing pads."""
+
+    words: int
+    """In words of 8 bytes. The canonical words take at most one more."""
+    capabilities: int
+    """How many capabilities there are."""

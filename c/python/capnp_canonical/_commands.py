@@ -1,0 +1,288 @@
+"""The commands of `python3 -m capnp_canonical`."""
+from __future__ import annotations
+
+import argparse
+import contextlib
+import hashlib
+import io
+import itertools
+import mmap
+import os
+import re
+import stat
+import sys
+import time
+from dataclasses import dataclass
+from typing import Any, BinaryIO, Dict, Iterator, List, NoReturn, Optional, Tuple, Union
+
+from capnp_canonical._answers import Error, Limits
+from capnp_canonical._calls import LIMITS, copy_flat, words_copy
+from capnp_canonical._frames import frames
+from capnp_canonical._library import version
+
+NAME = 'capnp_canonical'
+SAME, DIFFERS, TROUBLE = 0, 1, 2
+ABOUT = '''Names messages of Cap'n Proto by the SHA-256 of their canonical words, so that equal values have equal names whatever their
+layout. FILE holds framed messages, one behind the other, as `capnp encode` writes them; `-` is standard input. A message is named
+FILE:N, its number counted from 1. No schema is needed.'''
+STATUS = '''status: 0 where all is well; 1 where a message differs, has no equal in the list, or has one among the others;
+2 where a message isn't read, a file or an argument isn't as it should be.'''
+
+
+def say(text: str) -> None:
+    sys.stdout.flush()
+    print(f'{NAME}: {text}', file=sys.stderr, flush=True)
+
+
+class Progress:
+    """How far the work is, on standard error where that is a terminal, from the first second on."""
+
+    def __init__(self, names: List[str]) -> None:
+        self._is_shown = sys.stderr.isatty()
+        self._total = sum(os.path.getsize(it) for it in names if os.path.isfile(it)) if self._is_shown else 0
+        self._start = self._last = time.monotonic()
+        self._bytes = self._messages = 0
+
+    def add(self, size: int) -> None:
+        if not self._is_shown:
+            return
+        self._bytes += size
+        self._messages += 1
+        now = time.monotonic()
+        if now - self._start > 1 and now - self._last > 0.2:
+            self._last = now
+            part = f', {100 * self._bytes // self._total} %' if self._total else ''
+            sys.stderr.write(f'\r\033[K{NAME}: {self._messages:,} messages, {self._bytes / 1e6:,.0f} MB{part}')
+            sys.stderr.flush()
+
+    def end(self) -> None:
+        if self._is_shown and self._last != self._start:
+            sys.stderr.write('\r\033[K')
+            sys.stderr.flush()
+
+
+@dataclass
+class Reading:
+    """How messages are read, and whether all of them were."""
+
+    limits: Limits
+    is_flat: bool
+    progress: Progress
+    status: int = SAME
+
+    def trouble(self, name: str, error: object) -> None:
+        self.progress.end()
+        self.status = TROUBLE
+        say(f'{name}: {error}')
+
+    def words_of(self, name: str) -> Iterator[Tuple[int, Optional[bytes]]]:
+        """The numbers of the messages of a file and their canonical words, None of one that is refused, which is said."""
+        try:
+            yield from self._words_of(name)
+        except OSError as error:
+            self.trouble(name, error.strerror or error)
+        except Error as error:
+            self.trouble(name, error)
+
+    def _words_of(self, name: str) -> Iterator[Tuple[int, Optional[bytes]]]:
+        with opened(name) as stream:
+            if self.is_flat:
+                yield 1, words_copy(stream if isinstance(stream, mmap.mmap) else stream.read(), self.limits)
+                return
+            at = 0
+            for number, frame in enumerate(frames(stream, self.limits.words), 1):
+                try:
+                    yield number, copy_flat(frame, self.limits)
+                except Error as error:
+                    self.trouble(name, error.at(number, at))
+                    yield number, None
+                at += len(frame)
+                self.progress.add(len(frame))
+                frame.release()
+
+    def digests_of(self, name: str) -> Iterator[Tuple[int, bytes]]:
+        for number, words in self.words_of(name):
+            if words is not None:
+                yield number, hashlib.sha256(words).digest()
+
+
+@contextlib.contextmanager
+def opened(name: str) -> Iterator[Union[BinaryIO, mmap.mmap]]:
+    """A file, as bytes that are read where they lie if it has a length."""
+    # standard input by a number of its own, so that it stays open
+    with open(os.dup(0) if name == '-' else name, 'rb') as file:
+        of = os.fstat(file.fileno())
+        if name == '-' or not stat.S_ISREG(of.st_mode) or not of.st_size:
+            yield file
+            return
+        mapped = mmap.mmap(file.fileno(), 0, access=mmap.ACCESS_READ)
+        try:
+            yield mapped
+        finally:
+            # a frame that is still held keeps it
+            with contextlib.suppress(BufferError):
+                mapped.close()
+
+
+_ESCAPES = {'\\': '\\\\', '\n': '\\n', '\r': '\\r'}
+
+
+def line_of(digest: bytes, name: str, number: int) -> str:
+    """A line as sha256sum writes it: a backslash in front says that the name has some."""
+    whole = f'{name}:{number}'
+    escaped = re.sub(r'[\\\n\r]', lambda it: _ESCAPES[it[0]], whole)
+    return f'{"" if escaped == whole else chr(92)}{digest.hex()}  {escaped}'
+
+
+def read_line(line: str) -> Optional[Tuple[bytes, str, int]]:
+    """What such a line says; None where it is none."""
+    found = re.fullmatch(r'(\\?)([0-9a-fA-F]{64}) [ *](.*):([1-9][0-9]*)', line)
+    if not found:
+        return None
+    name = found[3]
+    if found[1]:
+        back = {'\\\\': '\\', '\\n': '\n', '\\r': '\r'}
+        name = re.sub(r'\\[\\nr]', lambda it: back[it[0]], name)
+    return bytes.fromhex(found[2]), name, int(found[4])
+
+
+def digest(reading: Reading, names: List[str]) -> int:
+    for name in names:
+        for number, value in reading.digests_of(name):
+            print(line_of(value, name, number))
+    return reading.status
+
+
+def check_lists(reading: Reading, lists: List[str], quiet: bool) -> int:
+    """Verifies lists that `digest` has written."""
+    failed = 0
+    for entries in (entries_of(reading, it) for it in lists):
+        for name, group in itertools.groupby(entries, lambda it: it[1]):
+            found = dict(reading.digests_of(name))
+            for value, _, number in group:
+                holds = found.get(number) == value
+                failed += not holds
+                if not holds or not quiet:
+                    print(f'{name}:{number}: {"OK" if holds else "FAILED"}')
+    if failed:
+        reading.progress.end()
+        say(f'{failed} of the messages listed {"is" if failed == 1 else "are"} not there, or not as listed')
+    return reading.status or (DIFFERS if failed else SAME)
+
+
+def entries_of(reading: Reading, name: str) -> Iterator[Tuple[bytes, str, int]]:
+    """The lines of a list. Those that aren't as `digest` writes them are counted, which is said."""
+    others: List[int] = []
+    try:
+        with open(os.dup(0) if name == '-' else name, encoding='utf-8', errors='surrogateescape', newline='\n') as file:
+            for number, line in enumerate(file, 1):
+                entry = read_line(line.rstrip('\n'))
+                if entry:
+                    yield entry
+                else:
+                    others.append(number)
+    except OSError as error:
+        reading.trouble(name, error.strerror or error)
+    if others:
+        reading.trouble(name, f'line {others[0]} is not as `digest` writes it (of {len(others)} such)')
+
+
+def same(reading: Reading, first: str, second: str) -> int:
+    """Says which messages of two files differ."""
+    differ = 0
+    one, other = reading.words_of(first), reading.words_of(second)
+    lasts = [0, 0]
+    for left, right in itertools.zip_longest(one, other):
+        lasts = [lasts[0] + (left is not None), lasts[1] + (right is not None)]
+        if left and right and left[1] is not None and right[1] is not None and left[1] != right[1]:
+            differ += 1
+            print(f'message {left[0]} differs')
+    if lasts[0] != lasts[1] and not reading.status:
+        differ += 1
+        counts = ' and '.join(f'{name} has {count} message{"" if count == 1 else "s"}' for name, count in zip((first, second), lasts))
+        print(counts)
+    return reading.status or (DIFFERS if differ else SAME)
+
+
+def duplicates(reading: Reading, names: List[str]) -> int:
+    """Writes each group of equal messages, as lines of `digest`, with an empty line between groups."""
+    groups: Dict[bytes, List[Tuple[str, int]]] = {}
+    for name in names:
+        for number, value in reading.digests_of(name):
+            groups.setdefault(value, []).append((name, number))
+    found = [(value, places) for value, places in groups.items() if len(places) > 1]
+    for index, (value, places) in enumerate(found):
+        if index:
+            print()
+        for name, number in places:
+            print(line_of(value, name, number))
+    return reading.status or (DIFFERS if found else SAME)
+
+
+class Parser(argparse.ArgumentParser):
+    """Says a mistake in one line."""
+
+    def error(self, message: str) -> NoReturn:
+        say(f'{message} (--help says what there is)')
+        sys.exit(TROUBLE)
+
+
+def words_limit(text: str) -> int:
+    return 2**64 - 1 if text == 'none' else int(text)
+
+
+def parser() -> Parser:
+    whole = Parser(prog=f'python3 -m {NAME}', description=ABOUT, epilog=STATUS, formatter_class=argparse.RawDescriptionHelpFormatter)
+    number = version()
+    whole.add_argument('-V', '--version', action='version', version=f'{NAME} {number // 10000}.{number // 100 % 100}.{number % 100}')
+    commands = whole.add_subparsers(dest='command', metavar='COMMAND', required=True, parser_class=Parser)
+    known: Any = (
+        ('digest', 'write the name of each message, laid out as sha256sum does', '*'),
+        ('same', 'say which messages of two files differ', 2),
+        ('duplicates', 'write the messages that are equal to another', '*'),
+    )
+    for name, about, files in known:
+        command = commands.add_parser(name, help=about, description=about)
+        command.add_argument('files', metavar='FILE', nargs=files)
+        command.add_argument('--nesting', type=int, default=LIMITS.nesting, metavar='N', help='the nesting limit (%(default)s)')
+        command.add_argument('--words', type=words_limit, default=LIMITS.words, metavar='N', help='the traversal limit of each message, and the most words of its frame (%(default)s), or `none`')
+        command.add_argument('--flat', action='store_true', help='each FILE is the bare words of one message')
+        if name == 'digest':
+            command.add_argument('-c', '--check', action='store_true', help='each FILE is a list that `digest` has written: verify it')
+            command.add_argument('--quiet', action='store_true', help='with --check: no line for a message that is as listed')
+    return whole
+
+
+def run(given: Any) -> int:
+    reading = Reading(Limits(given.nesting, given.words), given.flat, Progress(given.files))
+    names = given.files or ['-']
+    try:
+        if given.command == 'same':
+            return same(reading, *names)
+        if given.command == 'duplicates':
+            return duplicates(reading, names)
+        return check_lists(reading, names, given.quiet) if given.check else digest(reading, names)
+    finally:
+        reading.progress.end()
+
+
+def main(arguments: List[str]) -> int:
+    given = parser().parse_args(arguments)
+    # names of files are bytes
+    if isinstance(sys.stdout, io.TextIOWrapper):
+        sys.stdout.reconfigure(errors='surrogateescape')
+    try:
+        status = run(given)
+        sys.stdout.flush()
+        return status
+    except ValueError as error:
+        say(str(error))
+    except BrokenPipeError:
+        # whoever reads has enough: no word of it, also when Python ends
+        os.dup2(os.open(os.devnull, os.O_WRONLY), 1)
+    except OSError as error:
+        say(f'standard output: {error.strerror}')
+        os.dup2(os.open(os.devnull, os.O_WRONLY), 1)
+    except KeyboardInterrupt:
+        return 130
+    return TROUBLE

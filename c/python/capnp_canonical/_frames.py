@@ -1,0 +1,132 @@
+"""The frames of a stream."""
+from __future__ import annotations
+
+from typing import TYPE_CHECKING, Any, Iterator, Optional, Protocol, Union
+
+from capnp_canonical._answers import Error, Limits, Refusal
+from capnp_canonical._calls import LIMITS, measured
+from capnp_canonical._library import Lent
+
+if TYPE_CHECKING:
+    from _typeshed import ReadableBuffer
+
+_PIECE = 1 << 16
+
+
+class _Readable(Protocol):
+    def read(self, size: int, /) -> Optional[bytes]:
+        ...
+
+
+def frames(stream: Union[ReadableBuffer, _Readable], words: int = LIMITS.words) -> Iterator[memoryview]:
+    """The frames of a stream, one behind the other, each of at most so many words, as views of bytes. `Error` is raised where
+    the bytes that are left don't begin with a frame; it says which message that is, and at which byte.
+
+    The stream is bytes, of which nothing is copied, or a file that is open for reading bytes. Such a file is read piece by
+    piece, and a frame is given as soon as it is there."""
+    words = Limits(words=words).words
+    if hasattr(stream, 'read') and not _has_buffer(stream):
+        return _frames_of_file(stream, words)
+    return _frames_of_bytes(stream, words)
+
+
+def _has_buffer(stream: Any) -> bool:
+    """Whether it is bytes; an mmap has `read` too."""
+    try:
+        memoryview(stream).release()
+    except TypeError:
+        return False
+    return True
+
+
+def _frames_of_bytes(stream: Any, words: int) -> Iterator[memoryview]:
+    with Lent(stream) as lent:
+        view = memoryview(stream)
+        whole = view.cast('B') if view.c_contiguous else memoryview(view.tobytes())
+        at, number = 0, 1
+        while at < lent.size:
+            try:
+                taken = measured(lent, words, at)
+            except Error as error:
+                raise error.at(number, at) from None
+            yield whole[at:at + taken]
+            at += taken
+            number += 1
+
+
+def _bytes_wanted(held: memoryview) -> int:
+    """How many bytes a frame takes, or its table, as far as its first bytes say."""
+    if len(held) < 4:
+        return 8
+    count = int.from_bytes(held[:4], 'little') + 1
+    table = (4 + 4 * count + 7) // 8 * 8
+    if len(held) < table:
+        return table
+    return table + 8 * sum(int.from_bytes(held[4 + 4 * it:8 + 4 * it], 'little') for it in range(count))
+
+
+class _Pieces:
+    """A file that is read piece by piece, as far as it is wanted."""
+
+    def __init__(self, file: Any) -> None:
+        # what is there, and no more, where the file has a buffer
+        self._read = getattr(file, 'read1', None) or file.read
+        self._held = bytearray()
+        self._start = 0
+
+    def take(self, size: int) -> bytes:
+        taken = bytes(self._held[self._start:self._start + size])
+        self._start += size
+        return taken
+
+    def size(self) -> int:
+        return len(self._held) - self._start
+
+    def grow(self, size: int) -> bool:
+        """Reads until so many bytes are there; false where the file ends before."""
+        if self._start and self.size() < size:
+            del self._held[:self._start]
+            self._start = 0
+        while self.size() < size:
+            piece = self._read(max(_PIECE, size - self.size()))
+            if piece is None:
+                raise BlockingIOError('the file has no bytes now, and does not wait for them')
+            if isinstance(piece, str):
+                raise TypeError('the file is open for text: frames are bytes')
+            if not piece:
+                return False
+            self._held += piece
+        return True
+
+    def measured(self, words: int) -> int:
+        with Lent(self._held) as lent:
+            return measured(lent, words, self._start)
+
+    def wanted(self) -> int:
+        with memoryview(self._held) as view, view[self._start:] as rest:
+            return _bytes_wanted(rest)
+
+
+def _frames_of_file(file: Any, words: int) -> Iterator[memoryview]:
+    pieces = _Pieces(file)
+    at, number = 0, 1
+    while pieces.grow(1):
+        try:
+            taken = _whole_frame(pieces, words)
+        except Error as error:
+            raise error.at(number, at) from None
+        yield memoryview(pieces.take(taken))
+        at += taken
+        number += 1
+
+
+def _whole_frame(pieces: _Pieces, words: int) -> int:
+    """Reads until the frame at the front is there, and gives how many bytes it takes."""
+    while True:
+        try:
+            return pieces.measured(words)
+        except Error as error:
+            if error.number != Refusal.TRUNCATED:
+                raise
+            if not pieces.grow(pieces.wanted()):
+                raise

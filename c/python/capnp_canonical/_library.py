@@ -1,0 +1,119 @@
+"""The library, with the types of its calls, and the bytes that are lent to it."""
+from __future__ import annotations
+
+import ctypes
+import os
+from types import TracebackType
+from typing import TYPE_CHECKING, Any, Callable, Optional, Type, Union
+
+if TYPE_CHECKING:
+    from _typeshed import ReadableBuffer, WriteableBuffer
+
+TEXT_ROOM = 96
+_VARIABLE = 'CAPNP_CANONICAL_LIBRARY'
+_FILE = 'libcapnp_canonical.so'
+# what the system's loader looks for
+_SONAME = _FILE + '.1'
+
+
+class RawFault(ctypes.Structure):
+    _fields_ = [('reason', ctypes.c_uint32), ('word', ctypes.c_uint32), ('segment', ctypes.c_uint64)]
+
+
+class RawSegment(ctypes.Structure):
+    _fields_ = [('bytes', ctypes.c_void_p), ('size', ctypes.c_size_t)]
+
+
+class _View(ctypes.Structure):
+    """Py_buffer of CPython."""
+
+    _fields_ = [
+        ('buf', ctypes.c_void_p), ('obj', ctypes.c_void_p), ('len', ctypes.c_ssize_t), ('itemsize', ctypes.c_ssize_t),
+        ('readonly', ctypes.c_int), ('ndim', ctypes.c_int), ('format', ctypes.c_void_p), ('shape', ctypes.c_void_p),
+        ('strides', ctypes.c_void_p), ('suboffsets', ctypes.c_void_p), ('internal', ctypes.c_void_p),
+    ]
+
+
+_SIMPLE, _WRITABLE = 0, 1
+_get_buffer: Callable[..., int] = ctypes.pythonapi.PyObject_GetBuffer
+ctypes.pythonapi.PyObject_GetBuffer.argtypes = [ctypes.py_object, ctypes.POINTER(_View), ctypes.c_int]
+ctypes.pythonapi.PyBuffer_Release.argtypes = [ctypes.POINTER(_View)]
+ctypes.pythonapi.PyBuffer_Release.restype = None
+
+
+class Lent:
+    """The bytes of an object, which stay where they are for as long as the `with` block runs."""
+
+    def __init__(self, given: Union[ReadableBuffer, WriteableBuffer], writable: bool = False) -> None:
+        self._view = _View()
+        try:
+            _get_buffer(given, self._view, _WRITABLE if writable else _SIMPLE)
+        except BufferError:
+            if writable:
+                raise
+            # bytes that don't lie one behind the other
+            _get_buffer(memoryview(given).tobytes(), self._view, _SIMPLE)
+        self.address: int = self._view.buf or 0
+        self.size: int = self._view.len
+
+    def release(self) -> None:
+        ctypes.pythonapi.PyBuffer_Release(self._view)
+
+    def __enter__(self) -> Lent:
+        return self
+
+    def __exit__(
+        self, kind: Optional[Type[BaseException]], error: Optional[BaseException], trace: Optional[TracebackType]
+    ) -> None:
+        self.release()
+
+
+def _load() -> ctypes.CDLL:
+    """The library, with the types of its calls."""
+    named = os.environ.get(_VARIABLE)
+    folder = os.path.dirname(os.path.abspath(__file__))
+    around = os.path.dirname(folder)
+    beside = [os.path.join(it, _FILE) for it in (folder, around, os.path.join(os.path.dirname(around), 'lib'))]
+    try:
+        library = ctypes.CDLL(named or next((it for it in beside if os.path.exists(it)), _SONAME))
+    except OSError as error:
+        raise ImportError(f'{error}; {_VARIABLE} may name the file {_FILE}') from error
+    size, pointer, u32, u64, at = ctypes.c_size_t, ctypes.POINTER, ctypes.c_uint32, ctypes.c_uint64, ctypes.c_void_p
+    limits: Any = [ctypes.c_int32, u64]
+    calls: Any = (
+        ('copy', [at, size, pointer(size)]),
+        ('copy_flat', [at, size, pointer(size)]),
+        ('check', [pointer(ctypes.c_bool), pointer(RawFault)]),
+        ('size', [pointer(u64), pointer(u32)]),
+    )
+    messages: Any = ('', at), ('segments_', pointer(RawSegment))
+    for message, first in messages:
+        for call, outputs in calls:
+            function = getattr(library, f'capnp_canonical_{message}{call}')
+            function.argtypes, function.restype = [first, size, *limits, *outputs], u32
+    others: Any = (
+        ('frame_size', [at, size, u64, pointer(size)], u32),
+        ('name', [u32, ctypes.c_char_p, size], size),
+        ('reason_text', [u32, ctypes.c_char_p, size], size),
+        ('version', [], u32),
+    )
+    for call, arguments, result in others:
+        function = getattr(library, f'capnp_canonical_{call}')
+        function.argtypes, function.restype = arguments, result
+    return library
+
+
+def text_of(call: Callable[..., int], number: int) -> str:
+    """The text that a call writes of a number."""
+    to = ctypes.create_string_buffer(TEXT_ROOM)
+    call(number, to, TEXT_ROOM)
+    return to.value.decode()
+
+
+def version() -> int:
+    """The version of the library: major * 10000 + minor * 100 + patch."""
+    number: int = library.capnp_canonical_version()
+    return number
+
+
+library = _load()
