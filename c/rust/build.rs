@@ -1,27 +1,49 @@
-//! Says where the library is: in the folder that `CAPNP_CANONICAL_LIB_DIR` names, or where `capnp_canonical.pc` says, which
-//! `pkg-config` finds. `libcapnp_canonical.a` is linked, and `libcapnp_canonical.so` where there is no archive.
+//! Says where the library is: in the folder that `CAPNP_CANONICAL_LIB_DIR` names; else it is made of `native/capnp_canonical.c`,
+//! where a release has that, by the C compiler that `CC` names, or `cc`; else it is where `pkg-config` finds it. Of an installed
+//! one `libcapnp_canonical.a` is linked, and `libcapnp_canonical.so` where there is no archive or where
+//! `CAPNP_CANONICAL_STATIC` is 0. Where there is no library the crate is built, and can't be linked.
 use std::env;
-use std::path::PathBuf;
+use std::path::{Path, PathBuf};
 use std::process::Command;
 
 const FOLDER: &str = "CAPNP_CANONICAL_LIB_DIR";
+const STATIC: &str = "CAPNP_CANONICAL_STATIC";
+const SOURCE: &str = "native/capnp_canonical.c";
+const HEADER: &str = "native/capnp_canonical.h";
 
 fn main() -> Result<(), String> {
-    for name in [FOLDER, "PKG_CONFIG_PATH"] {
+    for name in [FOLDER, STATIC, "PKG_CONFIG_PATH", "CC", "AR", "CFLAGS"] {
         println!("cargo:rerun-if-env-changed={name}");
     }
-    let folder = match env::var_os(FOLDER) {
-        Some(folder) => PathBuf::from(folder),
-        None => folder_by_pkg_config().ok_or(format!(
-            "libcapnp_canonical isn't found: set {FOLDER} to its folder, or PKG_CONFIG_PATH to that of capnp_canonical.pc"
-        ))?,
-    };
-    let archive = folder.join("libcapnp_canonical.a");
-    let kind = if archive.exists() { "static" } else { "dylib" };
-    println!("cargo:rerun-if-changed={}", archive.display());
-    println!("cargo:rustc-link-search=native={}", folder.display());
+    let mut kind = "dylib";
+    if let Some(folder) = library()? {
+        let archive = folder.join("libcapnp_canonical.a");
+        let is_shared = env::var(STATIC).is_ok_and(|it| it == "0");
+        if archive.exists() && !is_shared {
+            kind = "static";
+        }
+        println!("cargo:rerun-if-changed={}", archive.display());
+        println!("cargo:rustc-link-search=native={}", folder.display());
+    } else {
+        println!("cargo:warning=libcapnp_canonical isn't found: set {FOLDER} to its folder, or PKG_CONFIG_PATH to that of capnp_canonical.pc");
+    }
     println!("cargo:rustc-link-lib={kind}=capnp_canonical");
     Ok(())
+}
+
+/// The folder of the library.
+fn library() -> Result<Option<PathBuf>, String> {
+    if let Some(folder) = env::var_os(FOLDER) {
+        return Ok(Some(folder.into()));
+    }
+    // documentation needs no library, and a machine that only makes that may have no compiler
+    if env::var_os("DOCS_RS").is_some() {
+        return Ok(None);
+    }
+    if Path::new(SOURCE).exists() {
+        return compiled().map(Some);
+    }
+    Ok(folder_by_pkg_config())
 }
 
 fn folder_by_pkg_config() -> Option<PathBuf> {
@@ -32,4 +54,53 @@ fn folder_by_pkg_config() -> Option<PathBuf> {
     let folder = String::from_utf8(run.stdout).ok()?;
     let folder = folder.trim();
     (run.status.success() && !folder.is_empty()).then(|| PathBuf::from(folder))
+}
+
+/// Compiles the library into the folder that cargo gives.
+fn compiled() -> Result<PathBuf, String> {
+    for file in [SOURCE, HEADER] {
+        println!("cargo:rerun-if-changed={file}");
+    }
+    let folder = PathBuf::from(env::var_os("OUT_DIR").ok_or("OUT_DIR isn't set")?);
+    let object = folder.join("capnp_canonical.o");
+    let cflags = env::var("CFLAGS").unwrap_or_default();
+    run(Command::new(tool("CC", "gcc", "cc"))
+        .args(["-std=gnu11", "-O2", "-fPIC"])
+        .args(cflags.split_whitespace())
+        .args(["-c", SOURCE, "-o"])
+        .arg(&object))?;
+    let archive = folder.join("libcapnp_canonical.a");
+    run(Command::new(tool("AR", "ar", "ar"))
+        .arg("crs")
+        .arg(archive)
+        .arg(&object))?;
+    Ok(folder)
+}
+
+/// A tool of the target: what its variable names, else the one that Linux distributions have for another machine, else the
+/// machine's own.
+fn tool(variable: &str, cross: &str, own: &str) -> String {
+    let of_cargo = |name: &str| env::var(name).unwrap_or_default();
+    let (target, host) = (of_cargo("TARGET"), of_cargo("HOST"));
+    let named = [
+        format!("{variable}_{}", target.replace('-', "_")),
+        variable.to_owned(),
+    ];
+    if let Some(tool) = named.iter().find_map(|name| env::var(name).ok()) {
+        return tool;
+    }
+    match target.split_once("-unknown-linux-gnu") {
+        Some((machine, "")) if target != host => format!("{machine}-linux-gnu-{cross}"),
+        _ => own.to_owned(),
+    }
+}
+
+fn run(command: &mut Command) -> Result<(), String> {
+    let status = command
+        .status()
+        .map_err(|error| format!("{command:?}: {error}"))?;
+    status
+        .success()
+        .then_some(())
+        .ok_or_else(|| format!("{command:?}: {status}"))
 }

@@ -1,15 +1,28 @@
 //! Reads framed messages from standard input, and writes the canonical words of each to standard output.
-use capnp_canonical::{canonical_words, frames, Limits};
+use capnp_canonical::{canonical_words_into, frames, Limits};
 use std::io::{self, BufWriter, Read, Write};
+use std::process::ExitCode;
 
-fn main() -> Result<(), Box<dyn std::error::Error>> {
+fn run() -> io::Result<()> {
     let limits = Limits::default();
-    let mut stream = Vec::new();
+    let (mut stream, mut words) = (Vec::new(), Vec::new());
     io::stdin().lock().read_to_end(&mut stream)?;
     let mut output = BufWriter::new(io::stdout().lock());
     for frame in frames(&stream, limits.words) {
-        output.write_all(&canonical_words(frame?, limits)?)?;
+        let frame = frame?;
+        words.clear();
+        canonical_words_into(&frame, limits, &mut words).map_err(|error| frame.refused(error))?;
+        output.write_all(&words)?;
     }
-    output.flush()?;
-    Ok(())
+    output.flush()
+}
+
+fn main() -> ExitCode {
+    match run() {
+        Ok(()) => ExitCode::SUCCESS,
+        Err(error) => {
+            eprintln!("{error}");
+            ExitCode::from(2)
+        }
+    }
 }

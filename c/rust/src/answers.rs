@@ -1,13 +1,13 @@
 //! What the calls answer.
-use crate::ffi::{self, RawFault};
-use std::ffi::c_char;
-use std::fmt;
+use crate::ffi::RawFault;
+use crate::texts;
+use alloc::vec::Vec;
+use core::fmt;
 
 const DONE: u32 = 0;
 const NO_ROOM: u32 = 1;
-const TEXT_ROOM: usize = 96;
 
-/// Why a call is refused. `{}` writes its name.
+/// Why a call is refused. `{}` writes its name and what it says, as `Truncated: the bytes end within a frame`.
 #[derive(Clone, Copy, PartialEq, Eq, Hash)]
 pub struct Error(u32);
 
@@ -57,28 +57,50 @@ impl Error {
         self.0
     }
 
-    /// As `Truncated`.
-    pub fn name(self) -> String {
-        self.to_string()
+    /// As `Truncated`; empty where the number has no name.
+    pub fn name(self) -> &'static str {
+        texts::of_error(self.0).0
+    }
+
+    /// What it says, as `the bytes end within a frame`.
+    pub fn text(self) -> &'static str {
+        texts::of_error(self.0).1
+    }
+}
+
+/// Of a number of `enum capnp_canonical_answer`, which isn't 0.
+impl From<u32> for Error {
+    fn from(number: u32) -> Self {
+        Error(number)
     }
 }
 
 impl fmt::Display for Error {
     fn fmt(&self, f: &mut fmt::Formatter<'_>) -> fmt::Result {
-        // SAFETY: the buffer has this room.
-        f.pad(&text(|to, room| unsafe {
-            ffi::capnp_canonical_name(self.0, to, room)
-        }))
+        write!(f, "{}: {}", self.name(), self.text())
     }
 }
 
 impl fmt::Debug for Error {
     fn fmt(&self, f: &mut fmt::Formatter<'_>) -> fmt::Result {
-        write!(f, "Error({} {self})", self.0)
+        write!(f, "Error({} {})", self.0, self.name())
     }
 }
 
-impl std::error::Error for Error {}
+impl core::error::Error for Error {}
+
+/// As invalid data, and want of memory as that.
+#[cfg(feature = "std")]
+impl From<Error> for std::io::Error {
+    fn from(error: Error) -> Self {
+        let kind = match error {
+            Error::ALLOCATION_FAILED => std::io::ErrorKind::OutOfMemory,
+            Error::TRUNCATED => std::io::ErrorKind::UnexpectedEof,
+            _ => std::io::ErrorKind::InvalidData,
+        };
+        std::io::Error::new(kind, error)
+    }
+}
 
 /// Why a message isn't canonical. `{}` writes it in words, as `padding that isn't zero`.
 #[derive(Clone, Copy, PartialEq, Eq, Hash)]
@@ -119,14 +141,16 @@ impl Reason {
     pub fn number(self) -> u32 {
         self.0
     }
+
+    /// In words, as `padding that isn't zero`; empty where the number has none.
+    pub fn text(self) -> &'static str {
+        texts::of_reason(self.0)
+    }
 }
 
 impl fmt::Display for Reason {
     fn fmt(&self, f: &mut fmt::Formatter<'_>) -> fmt::Result {
-        // SAFETY: the buffer has this room.
-        f.pad(&text(|to, room| unsafe {
-            ffi::capnp_canonical_reason_text(self.0, to, room)
-        }))
+        f.pad(self.text())
     }
 }
 
@@ -138,6 +162,7 @@ impl fmt::Debug for Reason {
 
 /// Why and where a message isn't canonical. `{}` writes `REASON at segment SEGMENT, word WORD`.
 #[derive(Clone, Copy, Debug, PartialEq, Eq, Hash)]
+#[non_exhaustive]
 pub struct Fault {
     /// Why. Which word is named, each reason says.
     pub reason: Reason,
@@ -160,6 +185,7 @@ impl fmt::Display for Fault {
 /// What the root of a message leads to, without the root pointer and landing pads. Its canonical words take at most 8 bytes
 /// more than these words.
 #[derive(Clone, Copy, Debug, PartialEq, Eq, Hash)]
+#[non_exhaustive]
 pub struct Size {
     /// In words of 8 bytes.
     pub words: u64,
@@ -174,24 +200,35 @@ pub(crate) fn done(answer: u32) -> Result<(), Error> {
     }
 }
 
-/// What a call writes, which has so much room at first, and again where that is too little.
-pub(crate) fn written_by(
+/// Appends what a call writes, which has so much room at first, and again where that is too little. Gives how many bytes that is.
+/// Where the call is refused nothing is appended.
+pub(crate) fn append(
+    to: &mut Vec<u8>,
     room: usize,
     call: impl Fn(*mut u8, usize, &mut usize) -> u32,
-) -> Result<Vec<u8>, Error> {
-    let (mut to, mut written) = (Vec::<u8>::new(), 0);
-    to.try_reserve_exact(room)
-        .map_err(|_| Error::ALLOCATION_FAILED)?;
-    let mut answer = call(to.as_mut_ptr(), to.capacity(), &mut written);
+) -> Result<usize, Error> {
+    let mut written = 0;
+    let mut answer = attempt(to, room, &mut written, &call)?;
     if answer == NO_ROOM {
-        to.try_reserve_exact(written)
-            .map_err(|_| Error::ALLOCATION_FAILED)?;
-        answer = call(to.as_mut_ptr(), to.capacity(), &mut written);
+        let wanted = written;
+        answer = attempt(to, wanted, &mut written, &call)?;
     }
     done(answer)?;
     // SAFETY: where the call is done it has written so many bytes, within the room that it had.
-    unsafe { to.set_len(written) };
-    Ok(to)
+    unsafe { to.set_len(to.len() + written) };
+    Ok(written)
+}
+
+/// Calls with the room behind what a vector holds, which is at least so much.
+fn attempt(
+    to: &mut Vec<u8>,
+    room: usize,
+    written: &mut usize,
+    call: impl Fn(*mut u8, usize, &mut usize) -> u32,
+) -> Result<u32, Error> {
+    to.try_reserve(room).map_err(|_| Error::ALLOCATION_FAILED)?;
+    let rest = to.spare_capacity_mut();
+    Ok(call(rest.as_mut_ptr().cast(), rest.len(), written))
 }
 
 pub(crate) fn fault_of(
@@ -213,11 +250,4 @@ pub(crate) fn size_of(call: impl FnOnce(&mut u64, &mut u32) -> u32) -> Result<Si
         words,
         capabilities,
     })
-}
-
-/// The text that a call writes to a buffer.
-fn text(call: impl FnOnce(*mut c_char, usize) -> usize) -> String {
-    let mut to = [0u8; TEXT_ROOM];
-    let length = call(to.as_mut_ptr().cast(), to.len());
-    String::from_utf8_lossy(&to[..length.min(TEXT_ROOM - 1)]).into_owned()
 }

@@ -1,5 +1,4 @@
 //! The calls of `capnp_canonical.h`.
-use std::ffi::c_char;
 
 #[repr(C)]
 #[derive(Default)]
@@ -26,7 +25,5 @@ extern "C" {
     pub fn capnp_canonical_segments_copy_flat(segments: *const RawSegment, count: usize, nesting: i32, words: u64, to: *mut u8, room: usize, written: *mut usize) -> u32;
     pub fn capnp_canonical_segments_check(segments: *const RawSegment, count: usize, nesting: i32, words: u64, is_canonical: *mut bool, fault: *mut RawFault) -> u32;
     pub fn capnp_canonical_segments_size(segments: *const RawSegment, count: usize, nesting: i32, words: u64, word_count: *mut u64, cap_count: *mut u32) -> u32;
-    pub fn capnp_canonical_name(answer: u32, to: *mut c_char, room: usize) -> usize;
-    pub fn capnp_canonical_reason_text(reason: u32, to: *mut c_char, room: usize) -> usize;
     pub fn capnp_canonical_version() -> u32;
 }

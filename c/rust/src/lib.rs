@@ -4,8 +4,14 @@
 //! address, and those behind the frame at the front of a slice aren't looked at. No call keeps anything, so calls may run in
 //! several threads at once. A level of nesting takes up to 608 bytes of stack.
 //!
+//! Its bare words, which [`canonical_words`] gives, are read back by the module [`words`] alone. A call that takes a frame may
+//! **succeed** on bare words, and then reads **another** value, since the pointer to a root without pointers is also the table
+//! of a frame.
+//!
+//! The crate is `no_std`, with `alloc`; the feature `std`, on by default, makes an `Error` an `std::io::Error`.
+//!
 //! ```
-//! use capnp_canonical::{canonical_words, check, Limits};
+//! use capnp_canonical::{canonical_words, check, is_canonical, Limits};
 //!
 //! // A struct of three words, the last of which is zero: canonical form cuts it.
 //! let frame = [
@@ -19,20 +25,34 @@
 //! let words = canonical_words(&frame, Limits::default())?;
 //! assert_eq!(words, [[0, 0, 0, 0, 2, 0, 0, 0], [0x11; 8], [0, 0, 0, 0, 0, 0, 0, 0x80]].concat());
 //!
+//! assert!(!is_canonical(&frame, Limits::default()));
 //! let fault = check(&frame, Limits::default())?.expect("a fault");
 //! assert_eq!(fault.to_string(), "a data section whose last word is zero at segment 0, word 3");
 //! # Ok::<(), capnp_canonical::Error>(())
 //! ```
+#![no_std]
+
+extern crate alloc;
+#[cfg(feature = "std")]
+extern crate std;
 
 mod answers;
 mod ffi;
+mod looks;
 pub mod segments;
+mod stream;
+mod texts;
+pub mod words;
 
-use answers::{done, fault_of, size_of, written_by};
+use alloc::vec::Vec;
+use answers::{append, done, fault_of, size_of};
 pub use answers::{Error, Fault, Reason, Size};
+pub use looks::looks_like;
+pub use stream::{frames, Frame, Frames, StreamError};
 
 /// Within which limits a message is read. The defaults are those of `capnp::message::ReaderOptions`.
-#[derive(Clone, Copy, Debug, PartialEq, Eq)]
+#[derive(Clone, Copy, Debug, PartialEq, Eq, Hash)]
+#[non_exhaustive]
 pub struct Limits {
     /// How many structs and lists may stand one inside of the other.
     pub nesting: i32,
@@ -40,18 +60,30 @@ pub struct Limits {
     pub words: u64,
 }
 
+impl Limits {
+    /// These two limits.
+    pub const fn new(nesting: i32, words: u64) -> Self {
+        Limits { nesting, words }
+    }
+}
+
 impl Default for Limits {
     fn default() -> Self {
-        Limits {
-            nesting: 64,
-            words: 8_388_608,
-        }
+        Limits::new(64, 8_388_608)
     }
 }
 
 /// The canonical message of the frame at the front of a slice, as a frame of one segment.
 pub fn canonical_copy(frame: &[u8], limits: Limits) -> Result<Vec<u8>, Error> {
-    written_by(frame.len() + 8, |to, room, written| {
+    let mut to = Vec::new();
+    canonical_copy_into(frame, limits, &mut to)?;
+    Ok(to)
+}
+
+/// The same, appended to a vector, whose memory is so used again. Gives how many bytes that is. A refusal leaves it as it was.
+pub fn canonical_copy_into(frame: &[u8], limits: Limits, to: &mut Vec<u8>) -> Result<usize, Error> {
+    let frame = first_frame(frame, limits)?;
+    append(to, frame.len() + 8, |to, room, written| {
         // SAFETY: the slice is a pointer and its length, and `to` has this room.
         unsafe {
             ffi::capnp_canonical_copy(
@@ -67,10 +99,23 @@ pub fn canonical_copy(frame: &[u8], limits: Limits) -> Result<Vec<u8>, Error> {
     })
 }
 
-/// The same as bare words, without the table of a frame: the bytes to be hashed or signed.
+/// The canonical message as bare words, without the table of a frame: the bytes to be hashed or signed. What is stored of them
+/// is read back by the module [`words`].
 pub fn canonical_words(frame: &[u8], limits: Limits) -> Result<Vec<u8>, Error> {
-    written_by(frame.len(), |to, room, written| {
-        // SAFETY: as in `canonical_copy`.
+    let mut to = Vec::new();
+    canonical_words_into(frame, limits, &mut to)?;
+    Ok(to)
+}
+
+/// The same, appended to a vector. Gives how many bytes that is. A refusal leaves the vector as it was.
+pub fn canonical_words_into(
+    frame: &[u8],
+    limits: Limits,
+    to: &mut Vec<u8>,
+) -> Result<usize, Error> {
+    let frame = first_frame(frame, limits)?;
+    append(to, frame.len(), |to, room, written| {
+        // SAFETY: as in `canonical_copy_into`.
         unsafe {
             ffi::capnp_canonical_copy_flat(
                 frame.as_ptr(),
@@ -103,6 +148,12 @@ pub fn check(frame: &[u8], limits: Limits) -> Result<Option<Fault>, Error> {
     })
 }
 
+/// Whether the message of the frame at the front of a slice is canonical. It is false too where the message isn't read, since a
+/// limit is met or the bytes are no frame; [`check`] says why.
+pub fn is_canonical(frame: &[u8], limits: Limits) -> bool {
+    check(frame, limits) == Ok(None)
+}
+
 /// How large the message of the frame at the front of a slice is.
 pub fn size(frame: &[u8], limits: Limits) -> Result<Size, Error> {
     size_of(|words, capabilities| {
@@ -120,7 +171,7 @@ pub fn size(frame: &[u8], limits: Limits) -> Result<Size, Error> {
     })
 }
 
-/// How many bytes the frame at the front of a slice takes, of at most so many words. Its message isn't read.
+/// How many bytes the frame at the front takes, of at most so many words. Its message isn't read.
 pub fn frame_size(stream: &[u8], words: u64) -> Result<usize, Error> {
     let mut size = 0;
     // SAFETY: the slice is a pointer and its length.
@@ -130,39 +181,11 @@ pub fn frame_size(stream: &[u8], words: u64) -> Result<usize, Error> {
     Ok(size)
 }
 
-/// The frames of a stream, one behind the other, each of at most so many words.
-pub fn frames(stream: &[u8], words: u64) -> Frames<'_> {
-    Frames {
-        rest: stream,
-        words,
-    }
+/// The frame at the front, without what stands behind it.
+fn first_frame(stream: &[u8], limits: Limits) -> Result<&[u8], Error> {
+    let size = frame_size(stream, limits.words)?;
+    stream.get(..size).ok_or(Error::TRUNCATED)
 }
-
-/// An iterator over the frames of a stream. It ends behind the first error, which comes where the bytes that are left don't
-/// begin with a frame.
-#[derive(Clone, Debug)]
-pub struct Frames<'a> {
-    rest: &'a [u8],
-    words: u64,
-}
-
-impl<'a> Iterator for Frames<'a> {
-    type Item = Result<&'a [u8], Error>;
-
-    fn next(&mut self) -> Option<Self::Item> {
-        let stream = std::mem::take(&mut self.rest);
-        if stream.is_empty() {
-            return None;
-        }
-        Some(frame_size(stream, self.words).map(|size| {
-            let (frame, rest) = stream.split_at(size);
-            self.rest = rest;
-            frame
-        }))
-    }
-}
-
-impl std::iter::FusedIterator for Frames<'_> {}
 
 /// The version of the library that is linked: major * 10000 + minor * 100 + patch.
 pub fn version() -> u32 {

@@ -1,14 +1,11 @@
 //! The messages of tests/library/messages.txt, and what that file can't say.
 use capnp_canonical::{
-    canonical_copy, canonical_words, check, frame_size, frames, segments, size, version, Error,
-    Fault, Limits, Reason, Size,
+    canonical_copy, canonical_words, canonical_words_into, check, frame_size, frames, is_canonical,
+    looks_like, segments, size, version, words, Error, Fault, Limits, Reason, Size,
 };
 use std::fs;
 
-const MESSAGES: &str = concat!(
-    env!("CARGO_MANIFEST_DIR"),
-    "/../../tests/library/messages.txt"
-);
+const MESSAGES: &str = concat!(env!("CARGO_MANIFEST_DIR"), "/tests/messages.txt");
 /// A struct of three words, of which the last is zero.
 const ZERO_WORD: &str =
     "000000000400000000000000030000001111111111111111ffffffffffffffff0000000000000000";
@@ -51,7 +48,7 @@ fn segments_in(frame: &[u8]) -> Vec<&[u8]> {
 
 /// What a call gives as text, or the name of its refusal.
 fn answer<T>(result: Result<T, Error>, text: impl FnOnce(T) -> String) -> String {
-    result.map_or_else(|error| error.to_string(), text)
+    result.map_or_else(|error| error.name().to_string(), text)
 }
 
 fn fault_text(fault: Option<Fault>) -> String {
@@ -62,6 +59,17 @@ fn fault_text(fault: Option<Fault>) -> String {
 
 fn size_text(size: Size) -> String {
     format!("{},{}", size.words, size.capabilities)
+}
+
+/// Canonical words, by the module of bare words.
+fn require_words(flat: &[u8], are_there: bool) {
+    if are_there {
+        let limits = Limits::default();
+        assert_eq!(words::canonical_words(flat, limits).as_deref(), Ok(flat));
+        assert_eq!(words::check(flat, limits), Ok(None));
+        assert!(words::is_canonical(flat, limits));
+        assert!(words::size(flat, limits).is_ok_and(|it| 8 * it.words + 8 >= flat.len() as u64));
+    }
 }
 
 #[test]
@@ -84,7 +92,8 @@ fn messages() -> Tested {
                 Err(copy.to_string())
             }
         };
-        let named = |result: Result<Vec<u8>, Error>| result.map_err(|error| error.name());
+        let named =
+            |result: Result<Vec<u8>, Error>| result.map_err(|error| error.name().to_string());
         assert_eq!(
             named(canonical_copy(&frame, limits)),
             wanted(framed(&bytes_of(flat))),
@@ -97,6 +106,8 @@ fn messages() -> Tested {
         );
         assert_eq!(answer(check(&frame, limits), fault_text), checked, "{name}");
         assert_eq!(answer(size(&frame, limits), size_text), measured, "{name}");
+        assert_eq!(is_canonical(&frame, limits), checked == "yes", "{name}");
+        require_words(&bytes_of(flat), copy == "Done");
         count += 1;
         if ["Truncated", "NoMessage"].contains(&copy) {
             continue;
@@ -141,7 +152,12 @@ fn given_segments() {
         Ok(bytes_of(ZERO_WORD_FLAT))
     );
     assert_eq!(
-        segments::canonical_words(&[], limits),
+        segments::canonical_words(&vec![words.to_vec(), Vec::new()], limits),
+        Ok(bytes_of(ZERO_WORD_FLAT))
+    );
+    assert!(!segments::is_canonical(&[words], limits));
+    assert_eq!(
+        segments::canonical_words(&[] as &[&[u8]], limits),
         Err(Error::INVALID_SEGMENT_ID)
     );
     assert_eq!(
@@ -172,42 +188,17 @@ fn copies_that_are_longer_than_their_message() {
 #[test]
 fn limits() {
     let frame = bytes_of(ZERO_WORD);
-    assert!(canonical_copy(
-        &frame,
-        Limits {
-            nesting: 2,
-            words: 4
-        }
-    )
-    .is_ok());
+    assert!(canonical_copy(&frame, Limits::new(2, 4)).is_ok());
     assert_eq!(
-        canonical_copy(
-            &frame,
-            Limits {
-                nesting: 2,
-                words: 3
-            }
-        ),
+        canonical_copy(&frame, Limits::new(2, 3)),
         Err(Error::MESSAGE_TOO_LONG)
     );
     assert_eq!(
-        canonical_copy(
-            &frame,
-            Limits {
-                nesting: 0,
-                words: 4
-            }
-        ),
+        canonical_copy(&frame, Limits::new(0, 4)),
         Err(Error::MESSAGE_IS_TOO_DEEPLY_NESTED_OR_CONTAINS_CYCLES)
     );
     assert_eq!(
-        canonical_copy(
-            &bytes_of(SHARED),
-            Limits {
-                nesting: 64,
-                words: 6
-            }
-        ),
+        canonical_copy(&bytes_of(SHARED), Limits::new(64, 6)),
         Err(Error::READ_LIMIT_EXCEEDED)
     );
 }
@@ -217,12 +208,8 @@ fn faults() -> Tested {
     let frame = bytes_of(ZERO_WORD);
     let fault = check(&frame, Limits::default())?.ok_or("no fault")?;
     assert_eq!(
-        fault,
-        Fault {
-            reason: Reason::DATA_SECTION,
-            segment: 0,
-            word: 3
-        }
+        (fault.reason, fault.segment, fault.word),
+        (Reason::DATA_SECTION, 0, 3)
     );
     assert_eq!(
         fault.to_string(),
@@ -242,24 +229,102 @@ fn faults() -> Tested {
 fn frames_of_a_stream() {
     let mut stream = [bytes_of(ZERO_WORD), bytes_of(SHARED)].concat();
     let words = Limits::default().words;
-    let sizes: Result<Vec<_>, _> = frames(&stream, words)
-        .map(|frame| frame.map(<[u8]>::len))
+    let places: Result<Vec<_>, _> = frames(&stream, words)
+        .map(|frame| frame.map(|it| (it.message, it.byte, it.len())))
         .collect();
-    assert_eq!(sizes, Ok(vec![40, 48]));
+    assert_eq!(places, Ok(vec![(1, 0, 40), (2, 40, 48)]));
     assert_eq!(frame_size(&stream, words), Ok(40));
     assert_eq!(frames(&[], words).count(), 0);
     stream.pop();
     let found: Vec<_> = frames(&stream, words)
-        .map(|frame| frame.map(<[u8]>::len))
+        .map(|frame| frame.map(|it| it.len()))
         .collect();
-    assert_eq!(found, [Ok(40), Err(Error::TRUNCATED)]);
+    assert_eq!(found, [Ok(40), Err(Error::TRUNCATED.at(2, 40))]);
+}
+
+#[test]
+fn words_beside_a_frame() {
+    // canonical words of a struct of two numbers, 2^32 and 42, given where a frame is expected: they are read as a frame of two
+    // words, which hold a struct of the number 42
+    let stored = bytes_of("000000000200000000000000010000002a00000000000000");
+    let limits = Limits::default();
+    assert_eq!(words::canonical_words(&stored, limits), Ok(stored.clone()));
+    assert_eq!(
+        canonical_words(&stored, limits),
+        Ok(bytes_of("00000000010000002a00000000000000"))
+    );
+}
+
+#[test]
+fn a_vector_that_is_used_again() {
+    let limits = Limits::default();
+    let mut to = b"front".to_vec();
+    assert_eq!(
+        canonical_words_into(&bytes_of(SHARED), limits, &mut to),
+        Ok(56)
+    );
+    assert_eq!(to, [b"front".as_slice(), &bytes_of(SHARED_FLAT)].concat());
+    to.clear();
+    let room = to.capacity();
+    assert_eq!(
+        canonical_words_into(&bytes_of(ZERO_WORD), limits, &mut to),
+        Ok(24)
+    );
+    assert_eq!((to.capacity(), &to), (room, &bytes_of(ZERO_WORD_FLAT)));
+    assert_eq!(
+        canonical_words_into(&[0; 7], limits, &mut to),
+        Err(Error::TRUNCATED)
+    );
+    assert_eq!(to, bytes_of(ZERO_WORD_FLAT));
+}
+
+#[test]
+fn bytes_behind_a_frame_cost_nothing() {
+    let mut stream = bytes_of(ZERO_WORD);
+    stream.resize(64 << 20, 0);
+    let start = std::time::Instant::now();
+    for _ in 0..2000 {
+        let made = canonical_words(&stream, Limits::default());
+        assert!(made.is_ok_and(|it| it.capacity() < 64));
+    }
+    assert!(start.elapsed().as_secs() < 5);
+}
+
+#[test]
+fn errors_say_what_and_where() {
+    let error: Box<dyn std::error::Error + Send + Sync> = Error::TRUNCATED.into();
+    assert_eq!(error.to_string(), "Truncated: the bytes end within a frame");
+    assert_eq!(
+        Error::TRUNCATED.at(2, 40).to_string(),
+        "message 2 at byte 40: Truncated: the bytes end within a frame"
+    );
+    let error = std::io::Error::from(Error::READ_LIMIT_EXCEEDED.at(1, 0));
+    assert_eq!(error.kind(), std::io::ErrorKind::InvalidData);
+    let many =
+        "message 1 at byte 0: TooManySegments: a frame has more than 512 segments; they look like ";
+    for (digits, wanted) in [
+        ("1f8b080000000000", "gzip"),
+        ("28b52ffd24009900", "zstd"),
+        ("425a683931415926", "bzip2"),
+        ("fd377a585a000004", "xz"),
+        ("504b030414000000", "a zip archive"),
+        ("2869642031290a20", "text"),
+        ("fcffffff00000000", "bare canonical words"),
+        ("10021001012a", "packed messages"),
+    ] {
+        let bytes = bytes_of(digits);
+        assert_eq!(looks_like(&bytes), Some(wanted));
+        let refused = frames(&bytes, 8).next().unwrap().unwrap_err();
+        assert_eq!(refused.to_string(), format!("{many}{wanted}"));
+    }
+    assert_eq!(looks_like(&bytes_of(ZERO_WORD)), None);
 }
 
 #[test]
 fn errors_have_their_names() {
-    let error: Box<dyn std::error::Error + Send + Sync> = Error::TRUNCATED.into();
-    assert_eq!(error.to_string(), "Truncated");
     assert_eq!(format!("{:?}", Error::TRUNCATED), "Error(19 Truncated)");
+    assert_eq!(Error::from(19), Error::TRUNCATED);
+    assert_eq!(Error::from(1_000_000).name(), "");
     for (error, name) in [
         (Error::NO_MESSAGE, "NoMessage"),
         (Error::SEGMENT_IS_NOT_WHOLE_WORDS, "SegmentIsNotWholeWords"),
@@ -305,6 +370,7 @@ fn errors_have_their_names() {
         (Error::UNKNOWN_POINTER_TYPE, "UnknownPointerType"),
     ] {
         assert_eq!(error.name(), name);
+        assert!(!error.text().contains("doesn't know"));
     }
 }
 

@@ -1,0 +1,86 @@
+//! Canonical form of the messages of the crate `capnp`: the calls of `capnp_canonical` over `capnp::message::ReaderSegments`, whose
+//! segments are read where they lie.
+//!
+//! ```
+//! use capnp::message::ReaderOptions;
+//! use capnp_canonical_capnp::{canonical_words, is_canonical, limits};
+//!
+//! // a struct of three words, the last of which is zero
+//! let frame = [4 << 32, 3 << 32, 7, 8, 0].map(u64::to_le_bytes).concat();
+//! let options = ReaderOptions::new();
+//! let segments = capnp::serialize::read_message(&mut &frame[..], options)?.into_segments();
+//!
+//! let words = canonical_words(&segments, limits(&options)).unwrap();
+//! assert_eq!(words, [2 << 32, 7, 8].map(u64::to_le_bytes).concat());
+//! assert!(!is_canonical(&segments, limits(&options)));
+//! # Ok::<(), capnp::Error>(())
+//! ```
+#![no_std]
+
+extern crate alloc;
+
+use alloc::vec::Vec;
+use capnp::message::{ReaderOptions, ReaderSegments};
+use capnp_canonical::segments::{self, Segments};
+use capnp_canonical::{Error, Fault, Limits, Size};
+
+/// A message of the crate `capnp`, as `capnp_canonical::segments` takes it.
+pub struct Of<'a, S: ReaderSegments + ?Sized>(pub &'a S);
+
+impl<S: ReaderSegments + ?Sized> Segments for Of<'_, S> {
+    fn segment(&self, id: u32) -> Option<&[u8]> {
+        self.0.get_segment(id)
+    }
+}
+
+/// The limits of a reader's options. Those of no limit are the largest there are.
+pub fn limits(options: &ReaderOptions) -> Limits {
+    let words = options
+        .traversal_limit_in_words
+        .map_or(u64::MAX, |it| it as u64);
+    Limits::new(options.nesting_limit, words)
+}
+
+/// The canonical message, as a frame of one segment.
+pub fn canonical_copy<S: ReaderSegments + ?Sized>(
+    message: &S,
+    limits: Limits,
+) -> Result<Vec<u8>, Error> {
+    segments::canonical_copy(&Of(message), limits)
+}
+
+/// The canonical message as bare words, without the table of a frame: the bytes to be hashed or signed.
+pub fn canonical_words<S: ReaderSegments + ?Sized>(
+    message: &S,
+    limits: Limits,
+) -> Result<Vec<u8>, Error> {
+    segments::canonical_words(&Of(message), limits)
+}
+
+/// The same, appended to a vector. Gives how many bytes that is. A refusal leaves the vector as it was.
+pub fn canonical_words_into<S: ReaderSegments + ?Sized>(
+    message: &S,
+    limits: Limits,
+    to: &mut Vec<u8>,
+) -> Result<usize, Error> {
+    segments::canonical_words_into(&Of(message), limits, to)
+}
+
+/// Why and where the message isn't canonical; `None` where it is one segment that holds the canonical words of a value and
+/// nothing else.
+pub fn check<S: ReaderSegments + ?Sized>(
+    message: &S,
+    limits: Limits,
+) -> Result<Option<Fault>, Error> {
+    segments::check(&Of(message), limits)
+}
+
+/// Whether the message is canonical. It is false too where the message isn't read, since a limit is met.
+pub fn is_canonical<S: ReaderSegments + ?Sized>(message: &S, limits: Limits) -> bool {
+    segments::is_canonical(&Of(message), limits)
+}
+
+/// How large the message is.
+pub fn size<S: ReaderSegments + ?Sized>(message: &S, limits: Limits) -> Result<Size, Error> {
+    segments::size(&Of(message), limits)
+}
