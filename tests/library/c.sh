@@ -59,6 +59,31 @@ example() {
     done
 }
 
+# What the example says of each mistake: one line, with what and where, and what was answered before.
+#
+#     says EXAMPLE LINE BYTES..    the bytes as hex digits
+says() {
+    example=$1 line=$2
+    shift 2
+    printf %s "$@" | xxd -r -p | "$folder/$example" >"$folder/written" 2>"$folder/error"
+    [ $? = 2 ] && [ "$(cat "$folder/error")" = "$line" ] || { cat "$folder/error"; return 1; }
+}
+
+mistakes() {
+    many='refused TooManySegments: a frame has more than 512 segments; the bytes look like'
+    good=0000000003000000000000000200000011111111111111110000000000000080
+    says "$1" "message 1 at byte 0: $many gzip" 1f8b080000000000 &&
+        says "$1" "message 2 at byte 32: $many text" $good 2869642031290a20 && [ "$(wc -c <"$folder/written")" = 24 ] &&
+        says "$1" "message 2 at byte 32: $many packed messages" $good 10021001012a &&
+        says "$1" "message 1 at byte 0: $many bare canonical words" fcffffff00000000 &&
+        says "$1" 'message 2 at byte 32: refused Truncated: the bytes end within a frame' $good 000000000300 &&
+        says "$1" 'message 1 at byte 0: refused MessageContainsOutOfBoundsPointer: a pointer leads out of its segment' 00000000010000000000000001000000 || return 1
+    "$folder/$1" </ 2>"$folder/error"
+    [ "$(cat "$folder/error")" = 'standard input: Is a directory' ] || return 1
+    printf %s $good | xxd -r -p | "$folder/$1" 2>"$folder/error" >/dev/full
+    [ "$(cat "$folder/error")" = 'standard output: No space left on device' ]
+}
+
 # No name of the shared library is visible but those of the header.
 names() {
     sed -n 's/^[a-z].* \(capnp_canonical_[a-z_]*\)(.*/\1/p' "$top/c/capnp_canonical.h" | sort >"$folder/declared"
@@ -71,11 +96,16 @@ part "names" names
 for which in static shared; do
     part "example, $which, built" build "example_$which" c/example.c "$which"
     has xxd "the examples' answers" && part "example, $which" example "example_$which"
+    has xxd "the example's mistakes" && part "mistakes, $which" mistakes "example_$which"
+    part "functions of the header, $which, built" build "inline_$which" tests/library/inline.c "$which"
+    part "functions of the header, $which" "$folder/inline_$which" "$here/messages.txt"
     part "test, $which, built" build "test_$which" tests/library/test.c "$which"
     part "test, $which" "$folder/test_$which" "$here/messages.txt"
 done
 part "test with the address sanitizer, built" build sanitized tests/library/test.c static -fsanitize=address,undefined -fno-sanitize-recover
 part "test with the address sanitizer" "$folder/sanitized" "$here/messages.txt"
+part "functions of the header with the address sanitizer, built" build inline_sanitized tests/library/inline.c static -fsanitize=address,undefined -fno-sanitize-recover
+part "functions of the header with the address sanitizer" "$folder/inline_sanitized" "$here/messages.txt"
 part "test where malloc refuses, built" build refusing tests/library/test.c static -DWRAP -Wl,--wrap=malloc -Wl,--wrap=realloc
 part "test where malloc refuses" "$folder/refusing" "$here/messages.txt"
 if has valgrind "the example and the test under it"; then

@@ -1,10 +1,10 @@
 #!/usr/bin/env python3
 """Whether c/capnp_canonical.h says what crates/capnp_canonical does: the numbers and names of answers and reasons, the
-functions, and the version.
+functions, and the version; and whether the bindings have the header's numbers, texts and version.
 
     header.py
 
-Prints what differs, and at last `N passed, M failed`: a number, a function and a text of the version are one count each."""
+Prints what differs, and at last `N passed, M failed`: a number, a function, a text and a version are one count each."""
 import pathlib
 import re
 import sys
@@ -14,6 +14,11 @@ HEADER = (TOP / 'c/capnp_canonical.h').read_text(encoding='utf-8')
 NUMBERS = (TOP / 'crates/capnp_canonical/specs/Numbers.antt').read_text(encoding='utf-8')
 EXPORTS = (TOP / 'crates/capnp_canonical/src/lib.rt').read_text(encoding='utf-8')
 PREFIX = 'CAPNP_CANONICAL_'
+# Where the header's version stands too.
+VERSIONS = {
+    'c/python/pyproject.toml': r'^version = "(.*)"$', 'c/rust/Cargo.toml': r'^version = "(.*)"$',
+    'c/rust/capnp/Cargo.toml': r'^version = "(.*)"$', 'c/man/capnp_canon.1': r'"capnp_canon (.*)"$',
+}
 
 
 def in_capitals(name):
@@ -33,6 +38,56 @@ def enumerators(enum):
     return [(name, int(number)) for name, number in re.findall(rf'^ +{PREFIX}(\w+) = (\d+),?$', body, re.M)]
 
 
+def constants(function):
+    """What a function of constant texts in the header gives of each name of a number."""
+    body = re.search(rf'const char \*{function}\(.*?\n\}}\n', HEADER, re.S)[0]
+    return dict(re.findall(rf'case {PREFIX}(\w+): return "(.*)";', body))
+
+
+def file(name):
+    return (TOP / name).read_text(encoding='utf-8')
+
+
+def of_python():
+    """The numbers and texts of the package for Python."""
+    answers = file('c/python/capnp_canonical/_answers.py')
+    enums = {name: re.findall(r'^    ([A-Z_]+) = (\d+)$', body, re.M)
+             for name, body in re.findall(r'^class (\w+)\(enum\.IntEnum\):\n(.*?)\n\n\n', answers, re.M | re.S)}
+    texts = re.findall(r"""^    (\d+): ['"](.*)['"],$""", answers, re.M)
+    return enums['Refusal'], enums['Reason'], texts
+
+
+def of_rust():
+    """The numbers of the crate for Rust, and the names and texts."""
+    answers, texts = file('c/rust/src/answers.rs'), file('c/rust/src/texts.rs')
+    errors = re.findall(r'pub const (\w+): Error = Error\((\d+)\);', answers)
+    reasons = re.findall(r'pub const (\w+): Reason = Reason\((\d+)\);', answers)
+    of_errors = re.findall(r'^ +(\d+) => \(\s*"(.*)",\s*"(.*)",?\s*\),$', texts, re.M)
+    return errors, reasons, of_errors, re.findall(r'^ +(\d+) => "(.*)",$', texts, re.M)
+
+
+def facts_of_bindings():
+    """The header's constants, each in Python and in Rust."""
+    answers = {name: str(it) for name, it in enumerators('capnp_canonical_answer') if name != 'DONE'}
+    reasons = {name: str(it) for name, it in enumerators('capnp_canonical_reason') if name != 'REASON_NONE'}
+    names, texts, faults = (constants(f'capnp_canonical_{it}') for it in ('error_name', 'error_text', 'fault_text'))
+    refusals, fault_reasons, python_texts = of_python()
+    errors, rust_reasons, of_errors, of_reasons = of_rust()
+    short = {name.replace('REASON_', ''): it for name, it in reasons.items()}
+    # what the wrappers answer themselves has no constant in Rust
+    constant = {name: it for name, it in answers.items() if name != 'NO_ROOM'}
+    yield 'Refusal of Python', dict(refusals) == answers
+    yield 'Reason of Python', dict(fault_reasons) == short
+    yield 'the constants of Error of Rust', dict(errors) == constant
+    yield 'the constants of Reason of Rust', dict(rust_reasons) == short
+    for name, number in answers.items():
+        yield f'the name of {number}', in_capitals(names[name]) == name
+        yield f'the text of {number} in Python', (number, texts[name]) in python_texts
+        yield f'the name and the text of {number} in Rust', (number, names[name], texts[name]) in of_errors
+    for name, number in reasons.items():
+        yield f'the text of reason {number} in Rust', (number, faults[name]) in of_reasons
+
+
 def main():
     answers = numbers('answer_number', 'frame_error_number', 'error_number') + [('DONE', 0)]
     reasons = [(f'REASON_{name}', number) for name, number in numbers('reason_number')] + [('REASON_NONE', 0)]
@@ -46,6 +101,8 @@ def main():
     facts += [(f'{name} is declared and exported', name in declared and name in exported) for name in sorted({*declared, *exported})]
     facts += [('the number of the version', int(version[0]) == parts[0] * 10000 + parts[1] * 100 + parts[2])]
     facts += [(f'{text} is the version that the library gives', re.search(text, EXPORTS)) for text in (rf'result ≡ {version[0]} ', f'put_text\\("{version[1]}", to\\)')]
+    facts += list(facts_of_bindings())
+    facts += [(f'{name} has the version', re.findall(pattern, file(name), re.M) == [version[1]]) for name, pattern in VERSIONS.items()]
     failed = [what for what, holds in facts if not holds]
     for what in failed:
         print(f'not so: {what}')

@@ -71,6 +71,13 @@ people() {
         echo 'ok: messages are made'
 }
 
+# Each form in which a program has a message of C++ Cap'n Proto.
+cxx_types() {
+    capnp compile -oc++ people.capnp &&
+        "$cxx" -std="$1" -Wall -Wextra -O1 -I"$prefix/include" -I. -o types "$here/capnp_types.cpp" people.capnp.c++ \
+            -L"$prefix/lib" -Wl,-rpath,"$prefix/lib" -lcapnp_canonical -lcapnp -lkj && ./types
+}
+
 cxx_reader() {
     capnp compile -oc++ people.capnp &&
         "$cxx" -std=c++17 -Wall -Wextra -O2 -DNDEBUG -I"$prefix/include" -I. -o reader "$here/compare.cpp" \
@@ -113,8 +120,72 @@ cargo_test() {
     CAPNP_CANONICAL_LIB_DIR=$prefix/lib cargo test --offline --locked --manifest-path "$top/c/rust/Cargo.toml"
 }
 
+# With the library and without the features, as a package, and the documentation without a library.
+cargo_package() {
+    cd "$work" && cp -RL "$top/c/rust" crate && rm -rf crate/target && cd crate || return 1
+    # without a library: documentation, and a build that isn't linked
+    env -u PKG_CONFIG_PATH PKG_CONFIG_LIBDIR="$work" cargo doc --offline --locked --no-deps && echo 'ok: cargo doc without the library'
+    CAPNP_CANONICAL_LIB_DIR=$prefix/lib cargo build --offline --locked --no-default-features && echo 'ok: no_std'
+    CAPNP_CANONICAL_LIB_DIR=$prefix/lib cargo package --offline --allow-dirty && echo 'ok: cargo package' || return 1
+    cd "$CARGO_TARGET_DIR/package/capnp_canonical-1.0.0" &&
+        CAPNP_CANONICAL_LIB_DIR=$prefix/lib CARGO_TARGET_DIR=$work/packaged cargo test --offline
+    CAPNP_CANONICAL_STATIC=0 CAPNP_CANONICAL_LIB_DIR=$prefix/lib LD_LIBRARY_PATH=$prefix/lib CARGO_TARGET_DIR=$work/shared \
+        cargo test --offline --test library
+}
+
+# The crate over the crate `capnp`, which has to be where Debian puts it.
+debian_crates=/usr/share/cargo/registry
+cargo_capnp() {
+    cd "$work" && mkdir -p capnp_crate/c capnp_crate/tests/library && cp -RL "$top/c/rust" capnp_crate/c/rust &&
+        cp "$here/messages.txt" capnp_crate/tests/library && cd capnp_crate/c/rust/capnp || return 1
+    CAPNP_CANONICAL_LIB_DIR=$prefix/lib cargo test --offline --config 'source.crates-io.replace-with="debian"' \
+        --config "source.debian.directory='$debian_crates'"
+}
+
+# The package as pip installs it, in an environment of its own.
+wheel() {
+    python3 -m venv "$work/venv" && mkdir "$work/wheel_of" && cp -R "$top/c" "$top/LICENSE" "$work/wheel_of" || return 1
+    CAPNP_CANONICAL_LIBRARY=$prefix/lib/libcapnp_canonical.so "$work/venv/bin/pip" install --no-index "$work/wheel_of/c/python" || return 1
+    cd "$here" && env -u PYTHONPATH -u CAPNP_CANONICAL_LIBRARY "$work/venv/bin/python" -B -m unittest -v test_capnp_canonical test_commands
+}
+
+# The types of the package, as a program sees them that uses it.
+types_of_python() {
+    cd "$prefix/python" && "$(python_with mypy)" -m mypy --strict --cache-dir "$work/mypy" -p capnp_canonical && echo 'ok: mypy --strict'
+}
+
+# A program that finds the library by CMake.
+by_cmake() {
+    mkdir "$work/cmake" && cp "$top/c/example.c" "$work/cmake" && cat >"$work/cmake/CMakeLists.txt" <<'END' || return 1
+cmake_minimum_required(VERSION 3.13)
+project(example LANGUAGES C)
+find_package(capnp_canonical 1.0 REQUIRED)
+add_executable(shared example.c)
+target_link_libraries(shared capnp_canonical::capnp_canonical)
+add_executable(static example.c)
+target_link_libraries(static capnp_canonical::static)
+END
+    cmake -S "$work/cmake" -B "$work/cmake/build" -DCMAKE_PREFIX_PATH="$prefix" && cmake --build "$work/cmake/build" || return 1
+    for form in shared static; do
+        printf '\0\0\0\0\1\0\0\0\374\377\377\377\0\0\0\0' | "$work/cmake/build/$form" >"$work/cmake/words" &&
+            printf '\374\377\377\377\0\0\0\0' | cmp - "$work/cmake/words" && echo "ok: find_package, $form"
+    done
+}
+
+# The python3 that has Dask, of the system or in the path.
+python_with() {
+    for python in python3 /usr/bin/python3; do
+        "$python" -c "import $1" 2>/dev/null && echo "$python" && return
+    done
+    return 1
+}
+
+cluster() {
+    cd "$here" && PYTHONPATH=$prefix/python "$(python_with distributed)" -B -m unittest -v test_cluster
+}
+
 unittest() {
-    cd "$here" && PYTHONPATH=$prefix/python python3 -B -m unittest -v test_capnp_canonical
+    cd "$here" && PYTHONPATH=$prefix/python "$1" -B -m unittest -v test_capnp_canonical test_commands
 }
 
 if [ $# -gt 0 ]; then
@@ -142,8 +213,23 @@ for standard in c++17 c++20; do
         part $standard cxx_messages $standard
     fi
 done
-if [ "$has_cargo" ]; then part Rust cargo_test; else skip Rust cargo; fi
-if [ "$has_python" ]; then part Python unittest; else skip Python python3; fi
+if [ "$has_cargo" ]; then
+    part Rust cargo_test
+    part 'package for cargo' cargo_package
+    if [ -d "$debian_crates" ]; then part 'crate over capnp' cargo_capnp; else skip 'crate over capnp' "$debian_crates"; fi
+else
+    skip Rust cargo
+fi
+if [ "$has_python" ]; then
+    part Python unittest "$(python_with numpy || echo python3)"
+    if python3 -c 'import venv, ensurepip' 2>log; then part 'package for pip' wheel; else skip 'package for pip' 'venv of python3'; fi
+    if python_with mypy >log; then part 'types of Python' types_of_python; else skip 'types of Python' mypy; fi
+    if python_with distributed >log; then part 'Dask cluster' cluster; else skip 'Dask cluster' 'distributed of python3'; fi
+else
+    skip Python python3
+fi
+if has cmake; then part CMake by_cmake; else skip CMake cmake; fi
+if has rt; then part ./install sh "$here/install.sh"; else skip ./install rt; fi
 
 if [ ! "$has_capnp" ]; then
     skip 'comparison with capnp' 'capnp or python3'
@@ -154,6 +240,7 @@ else
     elif ! echo '#include <capnp/message.h>' | "$cxx" -std=c++17 -E -x c++ - >log 2>&1; then
         skip MessageReader capnp/message.h
     else
+        part 'types of C++ Cap'\''n Proto' cxx_types c++17
         part MessageReader cxx_reader
         sed -n 's/^ok: \(ratio .*\)/    \1/p' log
     fi

@@ -1,0 +1,61 @@
+#!/bin/sh
+# install.sh: tests ./install: a staged installation with a folder of its own for libraries, over itself, and its removal. The
+# library and the program are built where that isn't done yet. A line `ok: TEST` or `FAILED: TEST` for each test.
+set -u
+top=$(cd "$(dirname "$0")/../.." && pwd) || exit 2
+work=$(mktemp -d) || exit 2
+trap 'rm -rf "$work"' EXIT
+failed=0
+
+# Whether a command says yes.
+test_that() {
+    what=$1
+    shift
+    if "$@"; then echo "ok: $what"; else echo "FAILED: $what" && failed=1; fi
+}
+
+# Whether two texts are the same.
+same() {
+    [ "$1" = "$2" ] || { printf 'not so: %s, and %s is wanted\n' "$1" "$2"; return 1; }
+}
+
+lists_all() {
+    (cd "$stage" && find . -type f -o -type l) | sed 's/^\.//' | sort >"$work/there"
+    grep -v '/$' "$stage/usr/share/capnp_canonical/installed" >"$work/listed"
+    echo /usr/share/capnp_canonical/installed >>"$work/listed"
+    sort -u "$work/listed" | grep -v '^/keep' | cmp - "$work/there"
+}
+
+refuses() {
+    "$top/install" "$@" 2>"$work/error"
+    [ $? = 2 ] && same "$(wc -l <"$work/error")" 1
+}
+
+stage=$work/stage
+libdir=/usr/lib/x86_64-linux-gnu
+install_staged() {
+    DESTDIR=$stage "$top/install" --libdir=$libdir --pythondir=/usr/lib/python3/dist-packages "$@" /usr
+}
+
+test_that 'a staged installation' install_staged
+test_that 'the list has every file' lists_all
+test_that 'the library is in the folder for libraries' [ -f "$stage$libdir/libcapnp_canonical.so.1" ]
+test_that 'no file names the stage' sh -c "! grep -rlF '$work' '$stage'"
+test_that 'pkg-config says the folders' same "$(PKG_CONFIG_LIBDIR=$stage$libdir/pkgconfig pkg-config --variable=libdir capnp_canonical)" $libdir
+test_that 'the program runs' "$stage/usr/bin/capnp_canon" --version
+test_that 'the package runs' env PYTHONPATH="$stage/usr/lib/python3/dist-packages" CAPNP_CANONICAL_LIBRARY="$stage$libdir/libcapnp_canonical.so" \
+    python3 -m capnp_canonical --version
+test_that 'the man page' [ -s "$stage/usr/share/man/man1/capnp_canon.1" ]
+test_that 'the licence' cmp "$top/LICENSE" "$stage/usr/share/doc/capnp_canonical/LICENSE"
+echo kept >"$stage/usr/lib/python3/dist-packages/other"
+# as an older version may have left it
+echo old >"$stage/usr/include/older.h" && echo /usr/include/older.h >>"$stage/usr/share/capnp_canonical/installed"
+test_that 'again, over itself' install_staged
+test_that 'what is no longer there is removed' [ ! -e "$stage/usr/include/older.h" ]
+test_that 'its removal' install_staged --remove
+test_that 'nothing is left but what is others'\''' same "$(find "$stage" ! -type d)" "$stage/usr/lib/python3/dist-packages/other"
+test_that 'no folder is left that it made' [ ! -e "$stage/usr/include" ]
+test_that 'a second removal says so' refuses --remove "$work/none"
+test_that 'a wrong option is named' refuses --nothing "$work/none"
+test_that 'no folder' refuses
+exit $failed
