@@ -1,0 +1,223 @@
+"""Names each message of a data set by a hash, and finds those that are equal, on a cluster of Dask.
+
+    cluster.py [--scheduler ADDRESS | --workers N] [--piece BYTES] digest FILE..
+    cluster.py [--scheduler ADDRESS | --workers N] [--piece BYTES] duplicates FILE..
+
+Without an address N processes of this machine are started. What is written is what `python3 -m capnp_canonical` writes with the
+same command and files, whatever the number of processes, and also where some of them die: their tasks are done again. The
+workers have the package, and read the files by the same names.
+
+A task is a piece of a file, of whole messages and at least so many bytes. Equal messages are found by several tasks at once,
+each for the hashes with some first bytes, so that no process has to hold all of them.
+"""
+import argparse
+import hashlib
+import mmap
+import os
+import sys
+import time
+from contextlib import contextmanager
+from dataclasses import dataclass, field
+from typing import Callable, Dict, List, Optional, Tuple
+
+from distributed import Client, Future, LocalCluster
+
+from capnp_canonical import Error, copy_flat, frames
+
+PIECE = 16 << 20
+
+# A message: the number of its file, and its number in the file.
+Place = Tuple[int, int]
+
+
+@dataclass
+class Piece:
+    """A piece of a file: its bytes, and the number of its first message."""
+
+    file: int
+    start: int
+    end: int
+    first: int
+
+
+@dataclass
+class Names:
+    """The names of some messages, and why others have none. `buckets` has them by their first bytes."""
+
+    buckets: List[List[Tuple[bytes, Place]]]
+    refused: List[str] = field(default_factory=list)
+    messages: int = 0
+    bytes: int = 0
+
+
+@contextmanager
+def mapped(name: str):
+    with open(name, 'rb') as file:
+        if os.fstat(file.fileno()).st_size == 0:
+            yield b''
+            return
+        with mmap.mmap(file.fileno(), 0, access=mmap.ACCESS_READ) as content, memoryview(content) as view:
+            yield view
+
+
+def pieces_of(name: str, file: int, size: int) -> Tuple[List[Piece], Optional[str]]:
+    """The pieces of a file, each of at least so many bytes; and why not all of it is messages. Only tables of frames are read."""
+    pieces: List[Piece] = []
+    start = at = 0
+    first = number = 1
+    refused = None
+    try:
+        with mapped(name) as stream:
+            try:
+                for frame in frames(stream):
+                    at += len(frame)
+                    number += 1
+                    frame.release()
+                    if at - start >= size:
+                        pieces.append(Piece(file, start, at, first))
+                        start, first = at, number
+            except Error as error:
+                refused = f'{name}: {error}'
+    except OSError as error:
+        refused = f'{name}: {error.strerror}'
+    if at > start:
+        pieces.append(Piece(file, start, at, first))
+    return pieces, refused
+
+
+def names_in(name: str, piece: Piece, buckets: int) -> Names:
+    """The names of the messages of a piece."""
+    names = Names([[] for _ in range(buckets)], bytes=piece.end - piece.start)
+    with mapped(name) as stream, stream[piece.start:piece.end] as part:
+        at = piece.start
+        for number, frame in enumerate(frames(part), piece.first):
+            try:
+                digest = hashlib.sha256(copy_flat(frame)).digest()
+                bucket = int.from_bytes(digest[:4], 'big') * buckets >> 32
+                names.buckets[bucket].append((digest, (piece.file, number)))
+            except Error as error:
+                names.refused.append(f'{name}: {error.at(number, at)}')
+            names.messages += 1
+            at += len(frame)
+            frame.release()
+    return names
+
+
+def bucket_of(names: Names, bucket: int) -> List[Tuple[bytes, Place]]:
+    return names.buckets[bucket]
+
+
+def equal_in(parts: List[List[Tuple[bytes, Place]]]) -> List[Tuple[bytes, List[Place]]]:
+    """The messages that have a name together, where that are several."""
+    groups: Dict[bytes, List[Place]] = {}
+    for part in parts:
+        for digest, place in part:
+            groups.setdefault(digest, []).append(place)
+    return [(digest, sorted(places)) for digest, places in groups.items() if len(places) > 1]
+
+
+@dataclass
+class Work:
+    """A run on a cluster: what it found, in the order of the files, and what was refused."""
+
+    client: Client
+    files: List[str]
+    size: int = PIECE
+    buckets: int = 1
+    # is told after each task how many of how many are done
+    seen: Callable[[int, int], None] = lambda done, of: None
+    refused: List[str] = field(default_factory=list)
+    messages: int = 0
+    bytes: int = 0
+
+    def _tasks(self) -> List[Future]:
+        """A task for each piece of each file. The files are cut by tasks too."""
+        cut = [self.client.submit(pieces_of, name, file, self.size, pure=False) for file, name in enumerate(self.files)]
+        tasks = []
+        for name, (pieces, refused) in zip(self.files, map(Future.result, cut)):
+            tasks += [self.client.submit(names_in, name, piece, self.buckets, pure=False) for piece in pieces]
+            self.refused += [refused] if refused else []
+        return tasks
+
+    def _count(self, names: Names) -> None:
+        self.refused += names.refused
+        self.messages += names.messages
+        self.bytes += names.bytes
+
+    def digest(self):
+        """The name and the place of each message."""
+        tasks = self._tasks()
+        for done, task in enumerate(tasks, 1):
+            names = task.result()
+            self._count(names)
+            self.seen(done, len(tasks))
+            yield from sorted((place, digest) for bucket in names.buckets for digest, place in bucket)
+
+    def duplicates(self) -> List[Tuple[bytes, List[Place]]]:
+        """The groups of equal messages, by their first ones."""
+        tasks = self._tasks()
+        groups = [
+            self.client.submit(equal_in, [self.client.submit(bucket_of, task, bucket, pure=False) for task in tasks], pure=False)
+            for bucket in range(self.buckets)
+        ]
+        counts = [self.client.submit(without_names, task, pure=False) for task in tasks]
+        for done, task in enumerate(counts, 1):
+            self._count(task.result())
+            self.seen(done, len(tasks))
+        return sorted((group for task in groups for group in task.result()), key=lambda it: it[1])
+
+
+def without_names(names: Names) -> Names:
+    return Names([], names.refused, names.messages, names.bytes)
+
+
+def write(work: Work, command: str) -> int:
+    """Writes what a command finds, and gives the exit status."""
+    found = 0
+    if command == 'digest':
+        for (file, number), digest in work.digest():
+            print(f'{digest.hex()}  {work.files[file]}:{number}')
+    else:
+        for digest, places in work.duplicates():
+            print(end='\n' if found else '')
+            found = 1
+            for file, number in places:
+                print(f'{digest.hex()}  {work.files[file]}:{number}')
+    sys.stdout.flush()
+    for refused in work.refused:
+        print(f'cluster: {refused}', file=sys.stderr)
+    return 2 if work.refused else found
+
+
+def show(done: int, of: int) -> None:
+    """How far the work is, where standard error is a terminal."""
+    if sys.stderr.isatty():
+        sys.stderr.write(f'\r\033[Kcluster: {done} of {of} tasks' if done < of else '\r\033[K')
+        sys.stderr.flush()
+
+
+def main() -> int:
+    parser = argparse.ArgumentParser(description=__doc__.splitlines()[0])
+    parser.add_argument('--scheduler', metavar='ADDRESS', help='of a cluster that runs')
+    parser.add_argument('--workers', metavar='N', type=int, default=os.cpu_count(), help='how many processes are started (%(default)s)')
+    parser.add_argument('--piece', metavar='BYTES', type=int, default=PIECE, help='the least size of a task (%(default)s)')
+    parser.add_argument('command', choices=['digest', 'duplicates'])
+    parser.add_argument('files', metavar='FILE', nargs='+')
+    given = parser.parse_args()
+    local = dict(n_workers=given.workers, threads_per_worker=1, processes=True, dashboard_address=':0')
+    cluster = given.scheduler or LocalCluster(**local)
+    with Client(cluster) as client:
+        count = len(client.scheduler_info()['workers'])
+        start = time.monotonic()
+        work = Work(client, given.files, given.piece, max(count, 1), show)
+        status = write(work, given.command)
+        took = time.monotonic() - start
+        print(f'cluster: {work.messages:,} messages, {work.bytes / 1e6:,.1f} MB in {took:.1f} s with {count} workers: '
+              f'{work.messages / took:,.0f} messages a second', file=sys.stderr)
+    if not given.scheduler:
+        cluster.close()
+    return status
+
+
+if __name__ == '__main__':
+    sys.exit(main())
