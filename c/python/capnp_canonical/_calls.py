@@ -2,8 +2,7 @@
 from __future__ import annotations
 
 import ctypes
-from contextlib import ExitStack
-from typing import TYPE_CHECKING, Any, Callable, Iterable, Optional
+from typing import TYPE_CHECKING, Any, Callable, Iterable, List, Optional, Sequence, Tuple
 
 from capnp_canonical._answers import Error, Fault, Limits, Reason, Refusal, Size
 from capnp_canonical._library import Lent, RawFault, RawSegment, library
@@ -14,185 +13,206 @@ if TYPE_CHECKING:
 
 DONE = 0
 LIMITS = Limits()
+# Up to this size the room for a copy is as large as all that is given, and the frame isn't measured first.
+_SMALL = 4096
+_OF_FRAMES = Refusal.TOO_MANY_SEGMENTS, Refusal.MESSAGE_TOO_LONG, Refusal.TRUNCATED
+_Call = Callable[..., int]
+_REASONS = {int(it): it for it in Reason}
 
 
-def measured(frame: Lent, words: int, start: int = 0) -> int:
-    """How many bytes the frame takes that begins at a position."""
-    taken = ctypes.c_size_t()
-    rest = frame.size - start
-    answer = library.capnp_canonical_frame_size(frame.address + start, rest, words, taken)
-    if answer == DONE:
-        return taken.value
-    if not rest or library.capnp_canonical_frame_size(frame.address + start, rest, 2**64 - 1, taken) == DONE:
-        raise Error(answer)
-    front = ctypes.string_at(frame.address + start, min(rest, 1 << 16))
-    raise Error(answer, looks_like=looks_like(front, rest, words_is_canonical))
+class _Given:
+    """A message as the calls of the library take it: its first two arguments, and how many bytes it has. What is lent is kept."""
 
+    __slots__ = 'first', 'second', 'size', 'kept'
 
-class _Message:
-    """A message as the calls of the library take it, its bytes lent for a `with` block: the frame at the front, or segments."""
+    def __init__(self, first: Any, second: int, size: int, kept: Sequence[Lent]) -> None:
+        self.first, self.second, self.size, self.kept = first, second, size, kept
 
-    def __init__(self, limits: Limits) -> None:
-        if not isinstance(limits, Limits):
-            raise TypeError(f'limits are of the class Limits, and not {type(limits).__name__}')
-        self._limits = limits
-        self._kept = ExitStack()
-        self._prefix = ''
-        self._given: Any = ()
-        self.size = 0
-
-    @classmethod
-    def framed(cls, frame: ReadableBuffer, limits: Limits) -> _Message:
-        self = cls(limits)
-        with self._kept:
-            lent = self._kept.enter_context(Lent(frame))
-            self.size = measured(lent, limits.words)
-            self._kept = self._kept.pop_all()
-        self._prefix, self._given = 'capnp_canonical_', (lent.address, self.size)
-        return self
-
-    @classmethod
-    def of_segments(cls, segments: Iterable[ReadableBuffer], limits: Limits) -> _Message:
-        self = cls(limits)
-        with self._kept:
-            lent = [self._kept.enter_context(Lent(segment)) for segment in segments]
-            self._kept = self._kept.pop_all()
-        self.size = sum(it.size for it in lent)
-        raw = (RawSegment * len(lent))(*[RawSegment(it.address, it.size) for it in lent])
-        self._prefix, self._given = 'capnp_canonical_segments_', (raw, len(lent))
-        return self
-
-    def __enter__(self) -> _Message:
+    def __enter__(self) -> _Given:
         return self
 
     def __exit__(self, *error: object) -> None:
-        self._kept.close()
-
-    def call(self, name: str, *outputs: Any) -> int:
-        function: Callable[..., int] = getattr(library, self._prefix + name)
-        return function(*self._given, self._limits.nesting, self._limits.words, *outputs)
+        for lent in self.kept:
+            lent.release()
 
 
-def _written(message: _Message, call: str) -> bytes:
-    """What a call writes, which has as much room as the message takes at first, and again where that is too little."""
-    room, written = message.size + 8, ctypes.c_size_t()
-    to = ctypes.create_string_buffer(room)
-    answer = message.call(call, to, room, written)
+def _frame(frame: ReadableBuffer) -> _Given:
+    if type(frame) is bytes:
+        return _Given(frame, len(frame), len(frame), ())
+    lent = Lent(frame)
+    return _Given(lent.address, lent.size, lent.size, (lent,))
+
+
+def _segments(segments: Iterable[ReadableBuffer]) -> _Given:
+    kept: List[Lent] = []
+    try:
+        for segment in segments:
+            kept.append(Lent(segment))
+    except BaseException:
+        for lent in kept:
+            lent.release()
+        raise
+    raw = (RawSegment * len(kept))(*[RawSegment(it.address, it.size) for it in kept])
+    return _Given(raw, len(kept), sum(it.size for it in kept), kept)
+
+
+def _refused(answer: int, first: Any, size: int, wanted: int = 0) -> Error:
+    """The error of a frame; where it is none, what the bytes look like."""
+    taken = ctypes.c_size_t()
+    if answer not in _OF_FRAMES or library.capnp_canonical_frame_size(first, size, 2**64 - 1, taken) == DONE:
+        return Error(answer, wanted=wanted)
+    return Error(answer, looks_like=looks_like(ctypes.string_at(first, min(size, 1 << 16)), size, words_is_canonical))
+
+
+def measured(first: Any, size: int, words: int) -> int:
+    """How many bytes the frame takes at the front of so many bytes at an address."""
+    taken = ctypes.c_size_t()
+    answer: int = library.capnp_canonical_frame_size(first, size, words, taken)
+    if answer != DONE:
+        raise _refused(answer, first, size)
+    return taken.value
+
+
+def _error_of(answer: int, given: _Given, wanted: int = 0) -> Error:
+    if isinstance(given.first, ctypes.Array):
+        return Error(answer, wanted=wanted)
+    return _refused(answer, given.first, given.size, wanted)
+
+
+def _limits(limits: Limits) -> Tuple[int, int]:
+    try:
+        return limits.nesting, limits.words
+    except AttributeError:
+        raise TypeError(f'limits are of the class Limits, and not {type(limits).__name__}') from None
+
+
+def _written(call: _Call, given: _Given, limits: Limits, room: int) -> bytes:
+    """What a call writes, which has so much room at first, and again where that is too little."""
+    nesting, words = _limits(limits)
+    to, written = ctypes.create_string_buffer(room), ctypes.c_size_t()
+    answer = call(given.first, given.second, nesting, words, to, room, written)
     if answer == Refusal.NO_ROOM:
         room = written.value
         to = ctypes.create_string_buffer(room)
-        answer = message.call(call, to, room, written)
+        answer = call(given.first, given.second, nesting, words, to, room, written)
     if answer != DONE:
-        raise Error(answer)
+        raise _error_of(answer, given)
     return ctypes.string_at(to, written.value)
 
 
-def _written_into(message: _Message, call: str, to: WriteableBuffer) -> int:
+def _written_of_frame(call: _Call, frame: ReadableBuffer, limits: Limits) -> bytes:
+    with _frame(frame) as given:
+        size = given.size
+        if size > _SMALL:
+            size = measured(given.first, size, _limits(limits)[1])
+        return _written(call, given, limits, size + 8)
+
+
+def _written_of_segments(call: _Call, segments: Iterable[ReadableBuffer], limits: Limits) -> bytes:
+    with _segments(segments) as given:
+        return _written(call, given, limits, given.size + 8)
+
+
+def _written_into(call: _Call, to: WriteableBuffer, frame: ReadableBuffer, limits: Limits) -> int:
+    nesting, words = _limits(limits)
     written = ctypes.c_size_t()
-    with Lent(to, writable=True) as room:
-        answer = message.call(call, room.address, room.size, written)
-    if answer != DONE:
-        raise Error(answer, wanted=written.value)
+    with _frame(frame) as given, Lent(to, writable=True) as room:
+        answer = call(given.first, given.second, nesting, words, room.address, room.size, written)
+        if answer != DONE:
+            raise _error_of(answer, given, written.value)
     return written.value
 
 
-def _checked(message: _Message) -> Optional[Fault]:
+def _checked(call: _Call, given: _Given, limits: Limits) -> Optional[Fault]:
+    nesting, words = _limits(limits)
     is_canonical, fault = ctypes.c_bool(), RawFault()
-    answer = message.call('check', is_canonical, fault)
-    if answer != DONE:
-        raise Error(answer)
+    with given:
+        answer = call(given.first, given.second, nesting, words, is_canonical, fault)
+        if answer != DONE:
+            raise _error_of(answer, given)
     if is_canonical.value:
         return None
-    known = {int(it): it for it in Reason}
-    return Fault(known.get(fault.reason, fault.reason), fault.segment, fault.word)
+    return Fault(_REASONS.get(fault.reason, fault.reason), fault.segment, fault.word)
 
 
-def _is_canonical(call: Callable[..., Optional[Fault]], message: Any, limits: Limits) -> bool:
-    try:
-        return call(message, limits) is None
-    except Error:
-        return False
+def _is_canonical(call: _Call, given: _Given, limits: Limits) -> bool:
+    nesting, words = _limits(limits)
+    is_canonical = ctypes.c_bool()
+    with given:
+        return call(given.first, given.second, nesting, words, is_canonical, RawFault()) == DONE and is_canonical.value
 
 
-def _sized(message: _Message) -> Size:
-    words, capabilities = ctypes.c_uint64(), ctypes.c_uint32()
-    answer = message.call('size', words, capabilities)
-    if answer != DONE:
-        raise Error(answer)
-    return Size(words.value, capabilities.value)
+def _sized(call: _Call, given: _Given, limits: Limits) -> Size:
+    nesting, words = _limits(limits)
+    count, capabilities = ctypes.c_uint64(), ctypes.c_uint32()
+    with given:
+        answer = call(given.first, given.second, nesting, words, count, capabilities)
+        if answer != DONE:
+            raise _error_of(answer, given)
+    return Size(count.value, capabilities.value)
 
 
 def copy(frame: ReadableBuffer, limits: Limits = LIMITS) -> bytes:
     """The canonical message of the frame at the front, as a frame of one segment."""
-    with _Message.framed(frame, limits) as message:
-        return _written(message, 'copy')
+    return _written_of_frame(library.capnp_canonical_copy, frame, limits)
 
 
 def copy_flat(frame: ReadableBuffer, limits: Limits = LIMITS) -> bytes:
     """The same as bare words, without the table of a frame: the bytes to be hashed or signed. What is stored of them is read
     back by `words_check` and `words_copy`."""
-    with _Message.framed(frame, limits) as message:
-        return _written(message, 'copy_flat')
+    return _written_of_frame(library.capnp_canonical_copy_flat, frame, limits)
 
 
 def copy_into(to: WriteableBuffer, frame: ReadableBuffer, limits: Limits = LIMITS) -> int:
     """As `copy`, to the front of a buffer, which overlaps nothing of the frame. Gives how many bytes are written."""
-    with _Message.framed(frame, limits) as message:
-        return _written_into(message, 'copy', to)
+    return _written_into(library.capnp_canonical_copy, to, frame, limits)
 
 
 def copy_flat_into(to: WriteableBuffer, frame: ReadableBuffer, limits: Limits = LIMITS) -> int:
     """As `copy_flat`, to the front of a buffer."""
-    with _Message.framed(frame, limits) as message:
-        return _written_into(message, 'copy_flat', to)
+    return _written_into(library.capnp_canonical_copy_flat, to, frame, limits)
 
 
 def check(frame: ReadableBuffer, limits: Limits = LIMITS) -> Optional[Fault]:
     """Why and where the message isn't canonical; None where it is one segment that holds the canonical words of a value
     and nothing else."""
-    with _Message.framed(frame, limits) as message:
-        return _checked(message)
+    return _checked(library.capnp_canonical_check, _frame(frame), limits)
 
 
 def is_canonical(frame: ReadableBuffer, limits: Limits = LIMITS) -> bool:
     """Whether the message is canonical. It is false too where the message isn't read, since a limit is met or the bytes are
     no frame."""
-    return _is_canonical(check, frame, limits)
+    return _is_canonical(library.capnp_canonical_check, _frame(frame), limits)
 
 
 def size(frame: ReadableBuffer, limits: Limits = LIMITS) -> Size:
     """How large the message is."""
-    with _Message.framed(frame, limits) as message:
-        return _sized(message)
+    return _sized(library.capnp_canonical_size, _frame(frame), limits)
 
 
 def segments_copy(segments: Iterable[ReadableBuffer], limits: Limits = LIMITS) -> bytes:
     """As `copy`, of a message of these segments, the length of each a multiple of 8 bytes."""
-    with _Message.of_segments(segments, limits) as message:
-        return _written(message, 'copy')
+    return _written_of_segments(library.capnp_canonical_segments_copy, segments, limits)
 
 
 def segments_copy_flat(segments: Iterable[ReadableBuffer], limits: Limits = LIMITS) -> bytes:
     """As `copy_flat`, of a message of these segments."""
-    with _Message.of_segments(segments, limits) as message:
-        return _written(message, 'copy_flat')
+    return _written_of_segments(library.capnp_canonical_segments_copy_flat, segments, limits)
 
 
 def segments_check(segments: Iterable[ReadableBuffer], limits: Limits = LIMITS) -> Optional[Fault]:
     """As `check`, of a message of these segments."""
-    with _Message.of_segments(segments, limits) as message:
-        return _checked(message)
+    return _checked(library.capnp_canonical_segments_check, _segments(segments), limits)
 
 
 def segments_is_canonical(segments: Iterable[ReadableBuffer], limits: Limits = LIMITS) -> bool:
     """As `is_canonical`, of a message of these segments."""
-    return _is_canonical(segments_check, segments, limits)
+    return _is_canonical(library.capnp_canonical_segments_check, _segments(segments), limits)
 
 
 def segments_size(segments: Iterable[ReadableBuffer], limits: Limits = LIMITS) -> Size:
     """As `size`, of a message of these segments."""
-    with _Message.of_segments(segments, limits) as message:
-        return _sized(message)
+    return _sized(library.capnp_canonical_segments_size, _segments(segments), limits)
 
 
 def words_copy(words: ReadableBuffer, limits: Limits = LIMITS) -> bytes:
@@ -217,5 +237,5 @@ def words_size(words: ReadableBuffer, limits: Limits = LIMITS) -> Size:
 
 def frame_size(stream: ReadableBuffer, words: int = LIMITS.words) -> int:
     """How many bytes the frame at the front takes, of at most so many words. Its message isn't read."""
-    with Lent(stream) as lent:
-        return measured(lent, Limits(words=words).words)
+    with _frame(stream) as given:
+        return measured(given.first, given.size, Limits(words=words).words)

@@ -46,7 +46,7 @@ def _frames_of_bytes(stream: Any, words: int) -> Iterator[memoryview]:
         at, number = 0, 1
         while at < lent.size:
             try:
-                taken = measured(lent, words, at)
+                taken = measured(lent.address + at, lent.size - at, words)
             except Error as error:
                 raise error.at(number, at) from None
             yield whole[at:at + taken]
@@ -100,7 +100,7 @@ class _Pieces:
 
     def measured(self, words: int) -> int:
         with Lent(self._held) as lent:
-            return measured(lent, words, self._start)
+            return measured(lent.address + self._start, lent.size - self._start, words)
 
     def wanted(self) -> int:
         with memoryview(self._held) as view, view[self._start:] as rest:

@@ -44,6 +44,8 @@ ctypes.pythonapi.PyBuffer_Release.restype = None
 class Lent:
     """The bytes of an object, which stay where they are for as long as the `with` block runs."""
 
+    __slots__ = '_view', 'address', 'size'
+
     def __init__(self, given: Union[ReadableBuffer, WriteableBuffer], writable: bool = False) -> None:
         self._view = _View()
         try:
