@@ -1,0 +1,44 @@
+#!/bin/sh
+# check.sh: tries the library, in both forms, and the program, as `make check` calls it: one message through each, the C test
+# over its messages, and, where python3 is there, all vectors through the library.
+set -eu
+build=${BUILD:-build}
+python=${PYTHON:-python3}
+# a struct of three words, the last of which is zero, and its canonical words
+frame='\0\0\0\0\4\0\0\0\0\0\0\0\3\0\0\0\21\21\21\21\21\21\21\21\0\0\0\0\0\0\0\200\0\0\0\0\0\0\0\0'
+words='\0\0\0\0\2\0\0\0\21\21\21\21\21\21\21\21\0\0\0\0\0\0\0\200'
+# shellcheck disable=SC2059
+printf "$frame" >"$build/frame" && printf "$words" >"$build/words"
+
+compile() {
+    output=$1 source=$2
+    shift 2
+    # shellcheck disable=SC2086
+    ${CC:-cc} -std=c11 -Ic ${FLAGS-} -o "$build/$output" "$source" "$@"
+}
+
+# Runs a command where the shared library is found.
+run() {
+    # shellcheck disable=SC2086
+    LD_LIBRARY_PATH="$build${LD_LIBRARY_PATH:+:$LD_LIBRARY_PATH}" ${RUNNER-} "$@"
+}
+
+compile example_static c/example.c "$build/libcapnp_canonical.a"
+compile example_shared c/example.c -L"$build" -lcapnp_canonical
+for program in example_static example_shared; do
+    run "$build/$program" <"$build/frame" | cmp - "$build/words"
+done
+run "$build/capnp_canon" canon --flat <"$build/frame" | cmp - "$build/words"
+said=$(run "$build/capnp_canon" check <"$build/frame" || true)
+[ "$said" = 'not canonical: a data section whose last word is zero at segment 0, word 3' ]
+echo 'one message: passed'
+
+compile test_shared tests/library/test.c -L"$build" -lcapnp_canonical
+run "$build/test_shared" tests/library/messages.txt
+if command -v "$python" >/dev/null; then
+    compile vectors tests/release/vectors.c "$build/libcapnp_canonical.a"
+    "$python" -B tests/release/lines.py >"$build/vectors.txt"
+    run "$build/vectors" <"$build/vectors.txt"
+else
+    echo 'vectors: skipped, no python3'
+fi

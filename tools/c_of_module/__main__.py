@@ -1,0 +1,129 @@
+"""Writes an LLVM module, as text, in C: one file, for gcc and clang.
+
+    c_of_module MODULE.ll HEADER
+
+HEADER declares the functions that the module exports. The file includes it, so the C compiler holds one against the other.
+Nothing is guessed: what isn't known here ends the run, with the line that it was met at.
+
+How the two go together. An integer of N bits is an unsigned one, and what is counted with it is cast back to N bits. A pointer
+is an `u8 *`. Memory is read and written by `ld64`, `st64` and the like, which take any address and may alias all. A block is a
+label, and locals are arrays of bytes, which those share that are in use at other times. A value has a variable, or stands where it is used: where that is one place, in its own
+block, and it reads no memory that is written before. Where a block chooses a value by where it is come from (`phi`), the
+variable is set on the way there.
+"""
+import pathlib
+import re
+import sys
+
+from functions import Function, Signature
+from reading import ZERO, Line, Names, Unknown, bits, c_type, declared, struct_name
+from writing import offset
+
+ABOUT = '''/* This file is generated, and not to be edited. It is what the proved sources in crates/ compile to, written in C:
+ * c/generated/README.md says how, and what is trusted. */'''
+STRUCTS_OUTSIDE = {'s_i64_i64'}
+
+
+class Module:
+    def __init__(self, text, header):
+        self.names, self.structs, self.moves = Names(), {}, set()
+        self.statics, self.functions = [], []
+        self.attributes = dict(re.findall(r'(?m)^attributes (#\d+) = \{ (.*) \}$', text))
+        self.exported = {name: (result, words) for result, name, words in re.findall(r'(?m)^([a-z]\w*) (\w+)\(([^)]*)\);', header)}
+        self.is_program = False
+        self.read(text)
+
+    def read(self, text):
+        lines = iter(enumerate(text.split('\n'), 1))
+        for number, line in lines:
+            try:
+                if line.startswith('define '):
+                    body = []
+                    for _, below in lines:
+                        if below == '}':
+                            break
+                        body.append(below)
+                    self.functions.append(Function(self, line, body))
+                elif line.startswith('declare '):
+                    Signature(self, line)
+                elif line.startswith('@'):
+                    self.statics.append(self.static(line))
+                elif line and not line.startswith((';', 'source_filename', 'target ', 'attributes ', '!')):
+                    raise Unknown('line')
+            except Unknown as error:
+                sys.exit(f'line {number}: {error}: {line}')
+
+    def needs(self, kind):
+        if kind[0] == 'struct':
+            self.structs[struct_name(kind)] = kind
+
+    def static(self, line):
+        it = Line(line)
+        name = self.names(it.next())
+        it.next('=')
+        it.skip_promises()
+        it.next('constant')
+        kind = it.type()
+        if kind[0] != 'array':
+            raise Unknown('a constant that is no row')
+        _, count, of = kind
+        if of == 'i8':
+            value = it.next()
+            it.end()
+            return f'static const u8 {name}[{max(count, 1)}] = {text_of(value, count)};'
+        values = it.value()
+        it.end()
+        shown = [f'{int(value) % (1 << bits(of))}u' if bits(of) else self.names(value) for value in values]
+        kind = 'const u8 *const' if of == 'ptr' else f'const {c_type(of)}'
+        return f'static {kind} {name}[{count}] = {{ {", ".join(shown)} }};'
+
+    def text(self):
+        written = '\n\n'.join(it.text() for it in self.functions)
+        is_library = any(not it.signature.is_internal and it.signature.name != 'main' for it in self.functions)
+        yield ABOUT
+        yield from (f'#include <{it}.h>' for it in ('errno', 'signal', 'unistd') if self.is_program)
+        has_vectors = re.search(r'\b(ldv|stv|any|mask16)', written)
+        for part in 'module', *['vectors'] * bool(has_vectors), 'runtime', *['program'] * self.is_program:
+            yield '\n' + (pathlib.Path(__file__).parent / f'{part}.h').read_text(encoding='utf-8').rstrip('\n')
+        yield from ['', '#include "capnp_canonical.h"'] * is_library
+        yield ''
+        for name in sorted(self.structs.keys() - STRUCTS_OUTSIDE):
+            fields = ' '.join(f'{declared(it, f"f{number}")};' for number, it in enumerate(self.structs[name][1]))
+            yield f'struct {name} {{ {fields} }};'
+        yield from ('', '/* Moves so many bytes between places that may overlap. */', *map(move, sorted(self.moves)), '', *self.statics, '')
+        yield from (f'{it.signature.text(Names())};' for it in self.functions if it.signature.is_internal)
+        yield '\n' + written
+
+
+def text_of(value, count):
+    """A row of bytes: a text where that can be read, else numbers."""
+    if value in ZERO:
+        return '{ 0 }'
+    data = re.sub(rb'\\([0-9A-Fa-f]{2})', lambda hit: bytes([int(hit[1], 16)]), value[2:-1].encode('latin-1'))
+    if len(data) != count:
+        raise Unknown(f'{len(data)} bytes in a row of {count}')
+    if not all(32 <= it < 127 or it == 10 for it in data):
+        return '{ ' + ', '.join(map(str, data)) + ' }'
+    shown = re.sub(r'([\\"?])', r'\\\1', data.decode()).replace('\n', '\\n"\n    "')
+    return f'"{shown}"'
+
+
+def move(size):
+    """All is read before any is written."""
+    at, loads, stores = 0, [], []
+    for width in 8, 4, 2, 1:
+        while size - at >= width:
+            loads.append(f'u{8 * width} w{at} = ld{8 * width}({offset("from", at)});')
+            stores.append(f'st{8 * width}({offset("to", at)}, w{at});')
+            at += width
+    return f'INLINE void mv{size}(u8 *to, const u8 *from) {{ {" ".join(loads + stores)} }}'
+
+
+def main(words):
+    if len(words) != 2:
+        sys.exit(__doc__)
+    text, header = (pathlib.Path(word).read_text(encoding='latin-1') for word in words)
+    print('\n'.join(Module(text, header).text()))
+
+
+main(sys.argv[1:])

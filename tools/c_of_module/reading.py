@@ -1,0 +1,200 @@
+"""Reads the text of an LLVM module: the tokens of a line, types, values and names."""
+import re
+
+TOKEN = re.compile(r'''c"[^"]*"|[%@](?:"[^"]*"|[-\w.$]+)|"[^"]*"|!\w+|\#\d+|-?\d+|[A-Za-z_][\w.]*|[][(){}<>,=]''')
+# What is promised of a value or a call, and advice how to call: C may do without.
+PROMISES = {
+    'align', 'captures', 'ccc', 'dereferenceable', 'dereferenceable_or_null', 'disjoint', 'dso_local', 'exact', 'fastcc',
+    'immarg', 'inbounds', 'initializes', 'internal', 'local_unnamed_addr', 'nneg', 'noalias', 'nofree', 'nonnull', 'notail',
+    'noundef', 'nsw', 'nuw', 'nusw', 'private', 'range', 'readnone', 'readonly', 'returned', 'samesign', 'tail', 'unnamed_addr',
+    'writeonly', 'zeroext',
+}
+ZERO = ('zeroinitializer', 'undef', 'poison')
+
+
+class Unknown(Exception):
+    """Something of the module is met that isn't known here."""
+
+
+# Types are 'i64', 'ptr', 'void', ('array', COUNT, OF), ('vector', COUNT, OF) and ('struct', (OF..)).
+def bits(kind):
+    return int(kind[1:]) if isinstance(kind, str) and kind[0] == 'i' else None
+
+
+def size_of(kind):
+    """The size in bytes and the alignment: the module's are those of C."""
+    if isinstance(kind, str):
+        size = 8 if kind == 'ptr' else max(bits(kind) // 8, 1)
+        return size, size
+    if kind[0] == 'struct':
+        at = align = 1
+        for at, it in laid_out(kind):
+            align = max(align, size_of(it)[1])
+        return -(-(at + size_of(kind[1][-1])[0]) // align) * align, align
+    size, align = size_of(kind[2])
+    return kind[1] * size, align if kind[0] == 'array' else kind[1] * size
+
+
+def laid_out(kind):
+    """The fields of a struct, each behind its offset."""
+    at = 0
+    for it in kind[1]:
+        size, align = size_of(it)
+        at = -(-at // align) * align
+        yield at, it
+        at += size
+
+
+def c_type(kind):
+    if isinstance(kind, str):
+        return {'ptr': 'u8 *', 'void': 'void', 'i1': 'u8'}.get(kind) or f'u{bits(kind)}'
+    if kind[0] == 'struct':
+        return f'struct {struct_name(kind)}'
+    if kind[0] == 'vector' and kind[2] in ('i8', 'i1'):
+        return f'v{kind[1]}'
+    raise Unknown(f'type {kind}')
+
+
+def struct_name(kind):
+    if not all(isinstance(it, str) for it in kind[1]):
+        raise Unknown('a struct in a struct')
+    return '_'.join(['s', *('p' if it == 'ptr' else it for it in kind[1])])
+
+
+def declared(kind, name):
+    kind = c_type(kind)
+    return f'{kind}{name}' if kind.endswith('*') else f'{kind} {name}'
+
+
+def suffix(kind):
+    """What the name of a function that reads or writes such a number ends in."""
+    if kind == 'i1':
+        raise Unknown('a bit in memory')
+    return 'p' if kind == 'ptr' else bits(kind)
+
+
+class Line:
+    """A line of the module, as tokens that are read from the front."""
+
+    def __init__(self, text):
+        self.tokens = TOKEN.findall(text.split(' ; ')[0])
+        self.at = 0
+
+    def peek(self):
+        return self.tokens[self.at] if self.at < len(self.tokens) else None
+
+    def next(self, wanted=None):
+        it = self.peek()
+        if it is None or wanted not in (None, it):
+            raise Unknown(f'{wanted} wanted, not {it}')
+        self.at += 1
+        return it
+
+    def takes(self, wanted):
+        found = self.peek() == wanted
+        self.at += found
+        return found
+
+    def skip_promises(self):
+        while self.peek() in PROMISES:
+            word = self.next()
+            if self.peek() == '(':
+                depth = 0
+                while True:
+                    it = self.next()
+                    depth += (it == '(') - (it == ')')
+                    if not depth:
+                        break
+            elif word == 'align':
+                self.next()
+
+    def end(self):
+        """What may stand behind an instruction: an alignment, and notes."""
+        while self.peek() is not None:
+            it = self.next()
+            if it == 'align':
+                self.next()
+            elif it != ',' and it[0] not in '!#':
+                raise Unknown(f'{it} at the end')
+
+    def type(self):
+        it = self.next()
+        if it in ('ptr', 'void', 'i1', 'i8', 'i16', 'i32', 'i64'):
+            return it
+        if it == '{':
+            kinds = [self.type()]
+            while self.takes(','):
+                kinds.append(self.type())
+            self.next('}')
+            return 'struct', tuple(kinds)
+        if it in ('[', '<'):
+            count = int(self.next())
+            self.next('x')
+            of = self.type()
+            self.next(']' if it == '[' else '>')
+            return ('array' if it == '[' else 'vector'), count, of
+        raise Unknown(f'type {it}')
+
+    def value(self):
+        """A value: a token, a list of constants, or the address of a constant, as ('address', NAME, OFFSET) or ('number', NAME)."""
+        for opening, closing in ('{', '}'), ('[', ']'), ('<', '>'):
+            if self.takes(opening):
+                found = [self.typed()[1]]
+                while self.takes(','):
+                    found.append(self.typed()[1])
+                self.next(closing)
+                return found
+        it = self.next()
+        if it == 'getelementptr':
+            self.skip_promises()
+            self.next('(')
+            self.next('i8')
+            self.next(',')
+            (_, base), _, (_, by) = self.typed(), self.next(','), self.typed()
+            self.next(')')
+            return 'address', base, int(by)
+        if it in ('ptrtoint', 'ptrtoaddr'):
+            self.next('(')
+            (_, base), _, _ = self.typed(), self.next('to'), self.next('i64')
+            self.next(')')
+            return 'number', base
+        if it[0] in '%@' or re.fullmatch(r'-?\d+', it) or it in ('true', 'false', 'null', *ZERO):
+            return it
+        raise Unknown(f'value {it}')
+
+    def typed(self):
+        kind = self.type()
+        self.skip_promises()
+        return kind, self.value()
+
+    def label(self):
+        self.next('label')
+        return self.next().strip('%"')
+
+
+def c_name(name):
+    """The C name of a value or a function, which may also be that of another one."""
+    plain = re.sub(r'[^A-Za-z0-9]+', '_', name.strip('%@"')).strip('_')
+    return plain if re.match('[A-Za-z]', plain) else f't{plain}'
+
+
+class Names:
+    """C names for those of the module, each for one: the same for the same module."""
+
+    def __init__(self):
+        self.of, self.taken = {}, set()
+
+    def __call__(self, name):
+        if name not in self.of:
+            number, wanted = 1, c_name(name)
+            while wanted in self.taken:
+                number += 1
+                wanted = f'{c_name(name)}_{number}'
+            self.give(name, wanted)
+        return self.of[name]
+
+    def give(self, name, wanted):
+        if wanted in self.taken:
+            raise Unknown(f'two of the name {wanted}')
+        self.of[name] = wanted
+        self.taken.add(wanted)
