@@ -19,8 +19,8 @@ from functions import Function, Signature
 from reading import ZERO, Line, Names, Unknown, bits, c_type, declared, struct_name
 from writing import offset
 
-ABOUT = '''/* This file is generated, and not to be edited. It is what the proved sources in crates/ compile to, written in C:
- * c/generated/README.md says how, and what is trusted. */'''
+ABOUT = '''/* This file is generated, and not to be edited. It is what the proved sources of the repository compile to, written in C by
+ * tools/c_of_module there. The README of the release says what is trusted. */'''
 STRUCTS_OUTSIDE = {'s_i64_i64'}
 
 
@@ -81,7 +81,9 @@ class Module:
         written = '\n\n'.join(it.text() for it in self.functions)
         is_library = any(not it.signature.is_internal and it.signature.name != 'main' for it in self.functions)
         yield ABOUT
-        yield from (f'#include <{it}.h>' for it in ('errno', 'signal', 'unistd') if self.is_program)
+        if self.is_program:
+            yield '#define _POSIX_C_SOURCE 200809L'
+            yield from (f'#include <{it}.h>' for it in ('errno', 'signal', 'unistd'))
         has_vectors = re.search(r'\b(ldv|stv|any|mask16)', written)
         for part in 'module', *['vectors'] * bool(has_vectors), 'runtime', *['program'] * self.is_program:
             yield '\n' + (pathlib.Path(__file__).parent / f'{part}.h').read_text(encoding='utf-8').rstrip('\n')

@@ -1,7 +1,7 @@
 """Reads the text of an LLVM module: the tokens of a line, types, values and names."""
 import re
 
-TOKEN = re.compile(r'''c"[^"]*"|[%@](?:"[^"]*"|[-\w.$]+)|"[^"]*"|!\w+|\#\d+|-?\d+|[A-Za-z_][\w.]*|[][(){}<>,=]''')
+TOKEN = re.compile(r'''c"[^"]*"|[%@](?:"[^"]*"|[-\w.$]+)|"[^"]*"|!\w+|\#\d+|-?\d+(?![\w.])|[A-Za-z_][\w.]*|[][(){}<>,=:]''')
 # What is promised of a value or a call, and advice how to call: C may do without.
 PROMISES = {
     'align', 'captures', 'ccc', 'dereferenceable', 'dereferenceable_or_null', 'disjoint', 'dso_local', 'exact', 'fastcc',
@@ -9,6 +9,8 @@ PROMISES = {
     'noundef', 'nsw', 'nuw', 'nusw', 'private', 'range', 'readnone', 'readonly', 'returned', 'samesign', 'tail', 'unnamed_addr',
     'writeonly', 'zeroext',
 }
+# Those that may have something in brackets.
+BRACKETED = {'captures', 'dereferenceable', 'dereferenceable_or_null', 'initializes', 'range'}
 ZERO = ('zeroinitializer', 'undef', 'poison')
 
 
@@ -77,8 +79,12 @@ class Line:
     """A line of the module, as tokens that are read from the front."""
 
     def __init__(self, text):
-        self.tokens = TOKEN.findall(text.split(' ; ')[0])
+        text = text.split(' ; ')[0]
+        self.tokens = TOKEN.findall(text)
         self.at = 0
+        unread = TOKEN.sub('', text).strip()
+        if unread:
+            raise Unknown(f'{unread[:40]} in the text')
 
     def peek(self):
         return self.tokens[self.at] if self.at < len(self.tokens) else None
@@ -98,7 +104,7 @@ class Line:
     def skip_promises(self):
         while self.peek() in PROMISES:
             word = self.next()
-            if self.peek() == '(':
+            if word in BRACKETED and self.peek() == '(':
                 depth = 0
                 while True:
                     it = self.next()

@@ -7,6 +7,9 @@ BINARY = {'add': '+', 'sub': '-', 'mul': '*', 'udiv': '/', 'urem': '%', 'and': '
 SIGNED = {'sdiv': '/', 'srem': '%'}
 SHIFTS = {'shl': '<<', 'lshr': '>>', 'ashr': '>>'}
 COMPARED = {'eq': '==', 'ne': '!=', 'lt': '<', 'le': '<=', 'gt': '>', 'ge': '>='}
+# Intrinsics: what moves and sets blocks, and functions of numbers, each with how many it takes.
+BLOCKS = 'memset.p0.i64', 'memmove.p0.p0.i64', 'memcpy.p0.p0.i64'
+NUMBERS = {'ctpop': 1, 'cttz': 1, 'ctlz': 1, 'bswap': 1, 'umin': 2, 'umax': 2, 'uadd.sat': 2, 'usub.sat': 2}
 # The largest block that is moved by reading all of it before any is written.
 MOVED = 64
 
@@ -67,7 +70,8 @@ class Writer:
         for name in given:
             self.names.give(f'={name}', name)
         for (kind, name), word in zip(it.parameters, given):
-            self.top.append(f'{declared(kind, self.names(name))} = ({c_type(kind)}){word};')
+            is_used = self.function.uses[name] > 0
+            self.top.append(f'{declared(kind, self.names(name))} = ({c_type(kind)}){word};' if is_used else f'(void){word};')
         return [f'{result} {it.name}({words})', '{']
 
     def declare_slots(self):
@@ -182,6 +186,8 @@ class Writer:
         if kind[0] == 'vector':
             cast = f'(w{kind[1]})' if is_signed else ''
             return self.define(name, (*kind[:2], 'i1'), f'(v{kind[1]})({cast}{a} {sign} {cast}{b})', reads)
+        if is_signed and kind in ('i1', 'ptr'):
+            raise Unknown('a comparison')
         cast = '(uptr)' if kind == 'ptr' else f'(i{bits(kind)})' if is_signed else ''
         return self.define(name, 'i1', f'({cast}{a} {sign} {cast}{b})', reads)
 
@@ -253,6 +259,8 @@ class Writer:
         it.next(',')
         no = it.typed()
         it.end()
+        if when[0] != 'i1' or yes[0] != no[0]:
+            raise Unknown('a choice by a row of bits')
         found = [self.get(*part) for part in (when, yes, no)]
         (a, _), (b, _), (c, _) = found
         self.define(name, yes[0], f'({a} ? {b} : {c})', any(reads for _, reads in found))
@@ -291,7 +299,7 @@ class Writer:
             return self.define(name, 'ptr', offset(text, bytes_) if is_inside else away(text, constant(by, str(bytes_))), reads)
         more, further = self.get(by, index)
         more = f'{step} * {more}' if step > 1 else more
-        self.define(name, 'ptr', f'({text} + {more})' if is_inside else away(text, more), reads or further)
+        self.define(name, 'ptr', f'({text} + (i64)({more}))' if is_inside else away(text, more), reads or further)
 
     def do_load(self, it, name):
         kind = it.type()
@@ -371,14 +379,14 @@ class Writer:
             return self.emit('TRAP();')
         if which in ('lifetime.start.p0', 'lifetime.end.p0'):
             return None
-        if which in ('memset.p0.i64', 'memmove.p0.p0.i64', 'memcpy.p0.p0.i64'):
+        if which in BLOCKS:
             return self.block(which.partition('.')[0], words)
         found = [self.get(*word) for word in words]
         given, reads = [text for text, _ in found], any(reads for _, reads in found)
-        simple = re.fullmatch(r'(ctpop|cttz|ctlz|bswap|umin|umax|uadd\.sat|usub\.sat)\.i(8|16|32|64)', which)
-        if simple:
-            count = 2 if simple[1][:2] in ('um', 'ua', 'us') else 1
-            return self.define(name, result, f'{simple[1].replace(".", "_")}{simple[2]}({", ".join(given[:count])})', reads)
+        simple = re.fullmatch(r'([a-z.]+)\.i(8|16|32|64)', which)
+        if simple and simple[1] in NUMBERS and which != 'bswap.i8':
+            text = ', '.join(given[:NUMBERS[simple[1]]])
+            return self.define(name, result, f'{simple[1].replace(".", "_")}{simple[2]}({text})', reads)
         joined = re.fullmatch(r'vector\.reduce\.or\.v(8|16|32|64)i8', which)
         if joined:
             return self.define(name, result, f'any{joined[1]}({given[0]})', reads)

@@ -1,0 +1,443 @@
+#!/usr/bin/env python3
+"""Tests tools/c_of_module, which writes LLVM modules in C: a function for each instruction that it knows, and what it has to refuse.
+
+    instructions.py [COMPILER..]
+
+Each compiler (gcc and clang, where none is named) compiles the C at -O0, -O2 and -O3, and with the address and undefined-behaviour
+sanitizers, and runs it. What is wanted of each call is counted here by Python, from LLVM's language reference. Where the toolchain
+is there its clang compiles the module itself, and is held to the same. The last line is `N passed, M failed`."""
+import itertools
+import pathlib
+import re
+import shutil
+import subprocess
+import sys
+import tempfile
+
+TOP = pathlib.Path(__file__).resolve().parents[2]
+WRITER = TOP / 'tools/c_of_module'
+sys.path.append(str(WRITER))
+sys.dont_write_bytecode = True
+
+import writing
+
+WIDTHS = 8, 16, 32, 64
+MOST = 2**64 - 1
+FLAGS = '-std=c11 -Wall -Wextra -Werror -Wno-unused-function -Wno-unused-variable -Wno-unused-but-set-variable'.split()
+KINDS = {'-O0': ['-O0'], '-O2': ['-O2'], '-O3': ['-O3'], 'sanitizers': ['-O1', '-g', '-fsanitize=address,undefined', '-fno-sanitize-recover=all']}
+
+
+class Cases:
+    """Functions of two numbers, as text of the module, and what is wanted of calls."""
+
+    def __init__(self):
+        self.text, self.calls, self.count = [], [], 0
+
+    def add(self, body, wanted, pairs=((0, 0),), before=''):
+        """A function with this body, which may use %a and %b, and a function of Python that counts what it gives."""
+        name = f'test_{self.count}'
+        self.count += 1
+        lines = '\n'.join(it if it[:2] == '  ' or re.match(r'\w+:', it) else f'  {it}' for it in body.strip().split('\n'))
+        self.text.append(f'{before}\ndefine i64 @{name}(i64 noundef %a, i64 noundef %b) unnamed_addr #0 {{\nstart:\n{lines}\n}}\n')
+        self.calls += [(name, a, b, wanted(a, b) & MOST) for a, b in pairs]
+
+
+def signed(number, width):
+    number &= 2**width - 1
+    return number - 2**width if number >> width - 1 else number
+
+
+def edges(width):
+    """Pairs of numbers about the ends of what so many bits hold, with more bits above."""
+    ends = [0, 1, 2, 3, width - 1, 2**(width - 1) - 1, 2**(width - 1), 2**(width - 1) + 1, 2**width - 2, 2**width - 1, 0x5a5a5a5a5a5a5a5a & 2**width - 1]
+    return [(a | 0xc3 << width & MOST, b) for a, b in itertools.product(ends, ends)]
+
+
+def narrowed(width, *names):
+    """Lines that cut %a and %b to so many bits, and the names that they have then."""
+    if width == 64:
+        return '', [f'%{it}' for it in names]
+    return ''.join(f'%{it}n = trunc i64 %{it} to i{width}\n' for it in names), [f'%{it}n' for it in names]
+
+
+def widened(width, name, how='zext'):
+    return f'ret i64 {name}' if width == 64 else f'%wide = {how} i{width} {name} to i64\nret i64 %wide'
+
+
+def quotient(a, b):
+    """Towards zero."""
+    return abs(a) // abs(b) * (1 if (a < 0) == (b < 0) else -1)
+
+
+def of_signed(count):
+    return lambda a, b, width: count(signed(a, width), signed(b, width))
+
+
+BINARY = {
+    'add': lambda a, b, w: a + b, 'sub': lambda a, b, w: a - b, 'mul': lambda a, b, w: a * b, 'and': lambda a, b, w: a & b, 'or': lambda a, b, w: a | b,
+    'xor': lambda a, b, w: a ^ b, 'udiv': lambda a, b, w: a // b, 'urem': lambda a, b, w: a % b, 'shl': lambda a, b, w: a << b,
+    'lshr': lambda a, b, w: a >> b, 'ashr': lambda a, b, w: signed(a, w) >> b, 'sdiv': of_signed(quotient),
+    'srem': of_signed(lambda a, b: a - b * quotient(a, b)),
+}
+COMPARED = {
+    'eq': lambda a, b, w: a == b, 'ne': lambda a, b, w: a != b, 'ult': lambda a, b, w: a < b, 'ule': lambda a, b, w: a <= b, 'ugt': lambda a, b, w: a > b,
+    'uge': lambda a, b, w: a >= b, 'slt': of_signed(lambda a, b: a < b), 'sle': of_signed(lambda a, b: a <= b), 'sgt': of_signed(lambda a, b: a > b),
+    'sge': of_signed(lambda a, b: a >= b),
+}
+NUMBERS = {
+    'ctpop': lambda a, b, w: bin(a).count('1'), 'cttz': lambda a, b, w: (a & -a).bit_length() - 1 if a else w, 'ctlz': lambda a, b, w: w - a.bit_length(),
+    'bswap': lambda a, b, w: int.from_bytes(a.to_bytes(w // 8, 'little'), 'big'), 'umin': lambda a, b, w: min(a, b), 'umax': lambda a, b, w: max(a, b),
+    'uadd.sat': lambda a, b, w: min(a + b, 2**w - 1), 'usub.sat': lambda a, b, w: max(a - b, 0),
+}
+
+
+def is_defined(word, a, b, width):
+    """Whether the operation has a value: what has none is never asked for by a proved module."""
+    if word in ('udiv', 'urem'):
+        return b != 0
+    if word in ('sdiv', 'srem'):
+        return b != 0 and not (signed(b, width) == -1 and signed(a, width) == -2**(width - 1))
+    return b < width if word in ('shl', 'lshr', 'ashr') else True
+
+
+def arithmetic(cases):
+    for (word, count), width in itertools.product(BINARY.items(), WIDTHS):
+        cut, (a, b) = narrowed(width, 'a', 'b')
+        pairs = [(x, y) for x, y in edges(width) if is_defined(word, x % 2**width, y, width)]
+        cases.add(f'{cut}%r = {word} i{width} {a}, {b}\n{widened(width, "%r")}', lambda x, y, count=count, width=width: count(x % 2**width, y, width) % 2**width, pairs)
+        # by a constant, and with what LLVM promises of the result
+        constant = next(y for _, y in edges(width) if y > 2 and is_defined(word, 5, y, width))
+        pairs = [(x, 0) for x, _ in edges(width)]
+        cases.add(f'{cut}%r = {word} i{width} {a}, {constant}\n{widened(width, "%r")}', lambda x, _, count=count, width=width, y=constant: count(x % 2**width, y, width) % 2**width, pairs)
+    for word in 'and', 'or', 'xor':
+        pairs = list(itertools.product((0, 1, 6, 7), repeat=2))
+        cases.add(f'%x = trunc i64 %a to i1\n%y = trunc i64 %b to i1\n%r = {word} i1 %x, %y\n%wide = zext i1 %r to i64\nret i64 %wide', lambda a, b, word=word: BINARY[word](a & 1, b & 1, 1), pairs)
+    cases.add('%x = trunc i64 %a to i1\n%r = xor i1 %x, true\n%wide = zext i1 %r to i64\nret i64 %wide', lambda a, b: ~a & 1, [(0, 0), (1, 0), (6, 0)])
+    cases.add('%x = add nuw nsw i64 %a, 1\n%y = or disjoint i64 %x, 0\n%r = udiv exact i64 %y, 1\nret i64 %r', lambda a, b: a + 1, [(5, 0)])
+    # products of what is shorter than `int` of C, which would overflow there
+    cases.add('%x = trunc i64 %a to i16\n%y = mul i16 %x, %x\n%z = shl i16 %y, 15\n%r = zext i16 %z to i64\nret i64 %r', lambda a, b: a * a << 15 & 0xffff, [(0xffff, 0), (0x8001, 0)])
+
+
+def comparing(cases):
+    for (word, count), width in itertools.product(COMPARED.items(), WIDTHS):
+        cut, (a, b) = narrowed(width, 'a', 'b')
+        cases.add(f'{cut}%r = icmp {word} i{width} {a}, {b}\n{widened(1, "%r")}', lambda x, y, count=count, width=width: count(x % 2**width, y, width), edges(width))
+    for word in 'eq', 'ult':
+        cases.add(f'%x = inttoptr i64 %a to ptr\n%y = inttoptr i64 %b to ptr\n%r = icmp samesign {word} ptr %x, %y\n{widened(1, "%r")}'.replace('samesign ' if word == 'eq' else 'none', ''),
+                  lambda a, b, word=word: COMPARED[word](a, b, 64), edges(64))
+    cases.add('%c = icmp eq i64 %a, %b\n%r = select i1 %c, i64 77, i64 %a\nret i64 %r', lambda a, b: 77 if a == b else a, [(3, 3), (3, 4)])
+    cases.add('%c = trunc i64 %a to i1\n%d = freeze i1 %c\n%r = select i1 %d, i64 %b, i64 9\nret i64 %r', lambda a, b: b if a & 1 else 9, [(3, 5), (4, 5)])
+
+
+def casting(cases):
+    for wide, width in itertools.combinations((64, 32, 16, 8), 2):
+        for how in 'zext', 'sext':
+            count = (lambda a, b, n=width, w=wide: signed(a, n) % 2**w) if how == 'sext' else (lambda a, b, n=width: a % 2**n)
+            cut, (a,) = narrowed(width, 'a')
+            cases.add(f'{cut}%r = {how} i{width} {a} to i{wide}\n{widened(wide, "%r")}', count, edges(width))
+    for width in WIDTHS:
+        cases.add(f'%x = trunc i64 %a to i1\n%r = sext i1 %x to i{width}\n{widened(width, "%r")}', lambda a, b, w=width: 2**w - 1 if a & 1 else 0, [(0, 0), (1, 0), (2, 0), (MOST, 0)])
+    for how in 'ptrtoint', 'ptrtoaddr':
+        cases.add(f'%p = inttoptr i64 %a to ptr\n%r = {how} ptr %p to i64\nret i64 %r', lambda a, b: a, edges(64)[:5])
+
+
+def remembering(cases):
+    for width in WIDTHS:
+        cut, (a,) = narrowed(width, 'a')
+        cases.add(f'%at = alloca [16 x i8], align 8\ncall void @llvm.memset.p0.i64(ptr nonnull align 8 %at, i8 85, i64 16, i1 false)\n%p = getelementptr inbounds i8, ptr %at, i64 3\n'
+                  f'{cut}store i{width} {a}, ptr %p, align 1\n%r = load i64, ptr %p, align 1\nret i64 %r',
+                  lambda a, b, w=width: a % 2**w | 0x5555555555555555 >> w << w, edges(width)[:12])
+        cases.add(f'%at = alloca i64, align 8\nstore i64 %a, ptr %at, align 8\n%v = load i{width}, ptr %at, align 1, !noundef !1\n{widened(width, "%v")}', lambda a, b, w=width: a % 2**w, edges(64)[:12])
+    # what is read before a write is what stood there before
+    cases.add('%at = alloca i64, align 8\nstore i64 %a, ptr %at, align 8\n%old = load i64, ptr %at, align 8\nstore i64 %b, ptr %at, align 8\n%new = load i64, ptr %at, align 8\n'
+              '%r = sub i64 %old, %new\nret i64 %r', lambda a, b: a - b, [(9, 4), (4, 9)])
+    cases.add('%at = alloca i64, align 8\nstore i64 %a, ptr %at, align 8\n%old = load i64, ptr %at, align 8\n%c = call fastcc i64 @writes(ptr %at, i64 %b)\n%r = sub i64 %old, %c\nret i64 %r',
+              lambda a, b: a - b, [(9, 4), (4, 9)], 'define internal fastcc i64 @writes(ptr noundef %to, i64 %it) unnamed_addr #1 {\nstart:\n  store i64 %it, ptr %to, align 8\n  ret i64 %it\n}\n')
+    cases.add('%at = alloca [2 x ptr], align 8\n%p = inttoptr i64 %a to ptr\nstore ptr %p, ptr %at, align 8\n%q = load ptr, ptr %at, align 8\n%r = ptrtoint ptr %q to i64\nret i64 %r', lambda a, b: a, [(MOST, 0), (5, 0)])
+    cases.add('%at = alloca { i64, i64 }, align 8\nstore i64 %a, ptr %at, align 8\n%p = getelementptr inbounds i8, ptr %at, i64 8\nstore i64 %b, ptr %p, align 8\n'
+              '%both = load { i64, i64 }, ptr %at, align 8\n%x = extractvalue { i64, i64 } %both, 0\n%y = extractvalue { i64, i64 } %both, 1\n%r = sub i64 %x, %y\nret i64 %r', lambda a, b: a - b, [(1, 2), (7, 3)])
+    # the bytes of one type, read as another one
+    cases.add('%at = alloca i64, align 8\nstore i64 %a, ptr %at, align 8\n%p = getelementptr inbounds i8, ptr %at, i64 2\nstore i16 7, ptr %p, align 2\n%r = load i64, ptr %at, align 8\nret i64 %r',
+              lambda a, b: a & ~0xffff0000 | 0x70000, edges(64)[:9])
+    cases.add('%x = alloca i64, align 8\n%y = alloca i64, align 8\ncall void @llvm.lifetime.start.p0(ptr nonnull %x)\nstore i64 %a, ptr %x, align 8\n%v = load i64, ptr %x, align 8\n'
+              'call void @llvm.lifetime.end.p0(ptr nonnull %x)\ncall void @llvm.lifetime.start.p0(ptr nonnull %y)\nstore i64 %b, ptr %y, align 8\n%w = load i64, ptr %y, align 8\n'
+              'call void @llvm.lifetime.end.p0(ptr nonnull %y)\n%r = sub i64 %v, %w\nret i64 %r', lambda a, b: a - b, [(5, 8)])
+
+
+def addressing(cases):
+    for kind, step in ('i8', 1), ('i16', 2), ('i32', 4), ('i64', 8), ('[3 x i8]', 3), ('{ i64, i8 }', 16):
+        head = f'%at = alloca [64 x i8], align 8\n%n = ptrtoint ptr %at to i64\n'
+        for inside in 'inbounds ', '':
+            cases.add(f'{head}%p = getelementptr {inside}{kind}, ptr %at, i64 %a\n%m = ptrtoint ptr %p to i64\n%r = sub i64 %m, %n\nret i64 %r', lambda a, b, step=step: a * step, [(0, 0), (1, 0), (3, 0)])
+            cases.add(f'{head}%p = getelementptr {inside}{kind}, ptr %at, i64 2\n%q = getelementptr {inside}{kind}, ptr %p, i64 -2\n%m = ptrtoint ptr %q to i64\n%r = sub i64 %m, %n\nret i64 %r', lambda a, b: 0)
+        cases.add(f'{head}%p = getelementptr inbounds {kind}, ptr %at, i64 3\n%q = getelementptr inbounds {kind}, ptr %p, i64 %a\n%m = ptrtoint ptr %q to i64\n%r = sub i64 %m, %n\nret i64 %r',
+                  lambda a, b, step=step: (3 + signed(a, 64)) * step, [(0, 0), (MOST, 0), (MOST - 2, 0)])
+        cases.add(f'{head}%p = getelementptr {kind}, ptr %at, i64 %a\n%m = ptrtoint ptr %p to i64\n%r = sub i64 %m, %n\nret i64 %r', lambda a, b, step=step: a * step, [(MOST, 0), (2**40, 0)])
+
+
+def blocks(cases):
+    fill = '%at = alloca [160 x i8], align 8\ncall void @llvm.memset.p0.i64(ptr nonnull %at, i8 0, i64 160, i1 false)\n' + ''.join(
+        f'%p{i} = getelementptr inbounds i8, ptr %at, i64 {i}\nstore i8 {i + 1}, ptr %p{i}, align 1\n' for i in range(80))
+    memory = bytes(i + 1 if i < 80 else 0 for i in range(160))
+
+    def moved(size, to, start):
+        after = bytearray(memory)
+        after[to:to + size] = memory[start:start + size]
+        return int.from_bytes(after[to + size // 2:to + size // 2 + 8], 'little')
+
+    for size, (to, start), variable in itertools.product((0, 1, 7, 8, 13, 64, 65, 72), ((5, 0), (0, 5)), (False, True)):
+        count = '%a' if variable else str(size)
+        cases.add(f'{fill}%to = getelementptr inbounds i8, ptr %at, i64 {to}\n%from = getelementptr inbounds i8, ptr %at, i64 {start}\n'
+                  f'call void @llvm.memmove.p0.p0.i64(ptr nonnull align 1 %to, ptr nonnull align 1 %from, i64 {count}, i1 false)\n'
+                  f'%seen = getelementptr inbounds i8, ptr %at, i64 {to + size // 2}\n%r = load i64, ptr %seen, align 1\nret i64 %r', lambda a, b, it=(size, to, start): moved(*it), [(size, 0)])
+    for size in 0, 3, 64, 70:
+        cases.add(f'{fill}%to = getelementptr inbounds i8, ptr %at, i64 80\ncall void @llvm.memcpy.p0.p0.i64(ptr %to, ptr %at, i64 {size}, i1 false)\n'
+                  f'%seen = getelementptr inbounds i8, ptr %at, i64 {80 + size // 2}\n%r = load i64, ptr %seen, align 1\nret i64 %r', lambda a, b, it=(size, 80, 0): moved(*it))
+    for size, variable in itertools.product((0, 4, 100), (False, True)):
+        after = bytes([7] * size) + memory[size:]
+        cases.add(f'{fill}call void @llvm.memset.p0.i64(ptr %at, i8 7, i64 {"%a" if variable else size}, i1 false)\n%r = load i64, ptr %at, align 1\nret i64 %r',
+                  lambda a, b, after=after: int.from_bytes(after[:8], 'little'), [(size, 0)])
+    # a null pointer beside a count of 0
+    cases.add('%p = inttoptr i64 %b to ptr\ncall void @llvm.memset.p0.i64(ptr %p, i8 7, i64 %a, i1 false)\ncall void @llvm.memmove.p0.p0.i64(ptr %p, ptr %p, i64 %a, i1 false)\n'
+              'call void @llvm.memcpy.p0.p0.i64(ptr null, ptr null, i64 %a, i1 false)\nret i64 1', lambda a, b: 1)
+
+
+def jumping(cases):
+    loop = '''br label %loop
+loop:
+%i = phi i64 [ 0, %start ], [ %next, %loop ]
+%x = phi i64 [ %a, %start ], [ %y, %loop ]
+%y = phi i64 [ %b, %start ], [ %x, %loop ]
+%next = add i64 %i, 1
+%more = icmp ult i64 %next, 5
+br i1 %more, label %loop, label %end
+end:
+%r = sub i64 %x, %y
+ret i64 %r'''
+    cases.add(loop, lambda a, b: a - b, [(10, 3), (3, 10)])
+    cases.add(loop.replace('5', '4'), lambda a, b: b - a, [(10, 3)])
+    switch = '''switch i64 %a, label %other [
+    i64 0, label %same
+    i64 -1, label %two
+    i64 5, label %same
+  ]
+same:
+%v = phi i64 [ 70, %start ], [ 70, %start ]
+ret i64 %v
+two:
+ret i64 %b
+other:
+ret i64 3'''
+    cases.add(switch, lambda a, b: 70 if a in (0, 5) else b if a == MOST else 3, [(0, 9), (5, 9), (MOST, 9), (7, 9)])
+    cases.add('%x = trunc i64 %a to i8\nswitch i8 %x, label %other [\n    i8 -1, label %one\n  ]\none:\nret i64 1\nother:\nret i64 2', lambda a, b: 1 if a & 255 == 255 else 2, [(255, 0), (0x1ff, 0), (1, 0)])
+    cases.add('%c = icmp ult i64 %a, %b\nbr i1 %c, label %never, label %on\non:\nret i64 4\nnever:\ncall void @llvm.trap()\nunreachable', lambda a, b: 4, [(5, 4)])
+    cases.add('%both = call fastcc { i64, i8 } @pair(i64 %a, i64 %b)\n%x = extractvalue { i64, i8 } %both, 0\n%y = extractvalue { i64, i8 } %both, 1\n%z = zext i8 %y to i64\n%r = mul i64 %x, %z\nret i64 %r',
+              lambda a, b: a * (b & 255), [(6, 7), (6, 263)],
+              'define internal fastcc { i64, i8 } @pair(i64 noundef %x, i64 noundef %y) unnamed_addr #2 {\nstart:\n  %small = trunc i64 %y to i8\n  %one = insertvalue { i64, i8 } poison, i64 %x, 0\n'
+              '  %both = insertvalue { i64, i8 } %one, i8 %small, 1\n  ret { i64, i8 } %both\n}\n')
+    cases.add('call fastcc void @nothing()\nret i64 8', lambda a, b: 8, before='define internal fastcc void @nothing() unnamed_addr #0 {\nstart:\n  ret void\n}\n')
+
+
+def standing(cases):
+    """Constants."""
+    text = b'a"b\\c?? /*\n\xff\x00z'
+    shown = ''.join(chr(it) if 32 <= it < 127 and it not in (34, 92) else f'\\{it:02X}' for it in text)
+    before = f'@row = private unnamed_addr constant [{len(text)} x i8] c"{shown}", align 1\n@plain = internal constant [9 x i8] c"say \\22hi?\\22", align 1\n' \
+             '@numbers = private unnamed_addr constant [3 x i32] [i32 -1, i32 7, i32 2147483647], align 4\n@zeros = private unnamed_addr constant [4 x i8] zeroinitializer, align 1\n' \
+             '@places = private unnamed_addr constant [2 x ptr] [ptr @row, ptr @zeros], align 8\n'
+    load = '%p = getelementptr inbounds i8, ptr {}, i64 %a\n%v = load i8, ptr %p, align 1\n%r = zext i8 %v to i64\nret i64 %r'
+    cases.add(load.format('@row'), lambda a, b: text[a], [(i, 0) for i in range(len(text))], before)
+    cases.add(load.format('@plain'), lambda a, b: b'say "hi?"'[a], [(i, 0) for i in range(9)])
+    cases.add(load.format('@zeros'), lambda a, b: 0, [(3, 0)])
+    cases.add('%p = getelementptr inbounds i32, ptr @numbers, i64 %a\n%v = load i32, ptr %p, align 4\n%r = zext i32 %v to i64\nret i64 %r', lambda a, b: [2**32 - 1, 7, 2**31 - 1][a], [(i, 0) for i in range(3)])
+    cases.add('%p = getelementptr inbounds ptr, ptr @places, i64 %a\n%q = load ptr, ptr %p, align 8\n%v = load i8, ptr %q, align 1\n%r = zext i8 %v to i64\nret i64 %r', lambda a, b: [text[0], 0][a], [(0, 0), (1, 0)])
+    cases.add('%v = load i8, ptr getelementptr inbounds (i8, ptr @row, i64 2), align 1\n%r = zext i8 %v to i64\nret i64 %r', lambda a, b: text[2])
+    cases.add('%x = getelementptr inbounds i8, ptr @row, i64 3\n%n = ptrtoint ptr %x to i64\n%r = sub i64 %n, ptrtoint (ptr @row to i64)\nret i64 %r', lambda a, b: 3)
+
+
+def vectors(cases):
+    spread = '%at = alloca [64 x i8], align 8\n' + ''.join(f'%x{i} = add i64 %{"ab"[i % 2]}, {i * 0x0101}\n%p{i} = getelementptr inbounds i8, ptr %at, i64 {8 * i}\nstore i64 %x{i}, ptr %p{i}, align 1\n' for i in range(8))
+
+    def memory(a, b):
+        return b''.join(((b if i % 2 else a) + i * 0x0101 & MOST).to_bytes(8, 'little') for i in range(8))
+
+    pairs = [(0, 0), (1, MOST), (0x80ff00017f00ff80, 0x0102030405060708), (0x8000000000000000, 0)]
+    for count in 8, 16, 32, 64:
+        kind = f'<{count} x i8>'
+        cases.add(f'{spread}%v = load {kind}, ptr %at, align 1\n%o = call i8 @llvm.vector.reduce.or.v{count}i8({kind} %v)\n%r = zext i8 %o to i64\nret i64 %r',
+                  lambda a, b, n=count: __import__('functools').reduce(lambda x, y: x | y, memory(a, b)[:n]), pairs)
+        cases.add(f'%to = alloca [72 x i8], align 8\n{spread}%v = load {kind}, ptr %at, align 1\nstore {kind} %v, ptr %to, align 1\n%q = getelementptr inbounds i8, ptr %to, i64 {count - 8}\n%r = load i64, ptr %q, align 1\nret i64 %r',
+                  lambda a, b, n=count: int.from_bytes(memory(a, b)[n - 8:n], 'little'), pairs)
+        cases.add(f'{spread}store {kind} zeroinitializer, ptr %at, align 1\n%q = getelementptr inbounds i8, ptr %at, i64 {count - 8}\n%r = load i64, ptr %q, align 1\nret i64 %r', lambda a, b: 0, pairs)
+    for word in 'and', 'or', 'xor':
+        cases.add(f'{spread}%q = getelementptr inbounds i8, ptr %at, i64 8\n%v = load <16 x i8>, ptr %at, align 1\n%w = load <16 x i8>, ptr %q, align 1\n%u = {word} <16 x i8> %v, %w\nstore <16 x i8> %u, ptr %at, align 1\n'
+                  '%r = load i64, ptr %at, align 1\nret i64 %r', lambda a, b, word=word: BINARY[word](a, b + 0x0101 & MOST, 64), pairs)
+    for word, count in COMPARED.items():
+        compared = lambda a, b, count=count: [bool(count(x, y, 8)) for x, y in zip(memory(a, b)[:16], memory(a, b)[8:24])]
+        head = f'{spread}%q = getelementptr inbounds i8, ptr %at, i64 8\n%v = load <16 x i8>, ptr %at, align 1\n%w = load <16 x i8>, ptr %q, align 1\n%c = icmp {word} <16 x i8> %v, %w\n'
+        cases.add(f'{head}%m = bitcast <16 x i1> %c to i16\n%r = zext i16 %m to i64\nret i64 %r', lambda a, b, it=compared: sum(bit << i for i, bit in enumerate(it(a, b))), pairs)
+        cases.add(f'{head}%m = sext <16 x i1> %c to <16 x i8>\nstore <16 x i8> %m, ptr %at, align 1\n%r = load i64, ptr %at, align 1\nret i64 %r',
+                  lambda a, b, it=compared: sum(255 * bit << 8 * i for i, bit in enumerate(it(a, b)[:8])), pairs)
+    for start in 0, 16, 32, 48:
+        cases.add(f'{spread}%v = load <64 x i8>, ptr %at, align 1\n%w = shufflevector <64 x i8> %v, <64 x i8> poison, <16 x i32> <{", ".join(f"i32 {start + i}" for i in range(16))}>\nstore <16 x i8> %w, ptr %at, align 1\n'
+                  '%r = load i64, ptr %at, align 1\nret i64 %r', lambda a, b, at=start: int.from_bytes(memory(a, b)[at:at + 8], 'little'), pairs)
+    cases.add('%v = bitcast i64 %a to <8 x i8>\n%w = bitcast i64 %b to <8 x i8>\n%u = xor <8 x i8> %v, %w\n%o = call i8 @llvm.vector.reduce.or.v8i8(<8 x i8> %u)\n%r = zext i8 %o to i64\nret i64 %r',
+              lambda a, b: __import__('functools').reduce(lambda x, y: x | y, (a ^ b).to_bytes(8, 'little')), pairs)
+
+
+def counting(cases):
+    for (word, count), width in itertools.product(NUMBERS.items(), WIDTHS):
+        if word == 'bswap' and width == 8:
+            continue
+        cut, (a, b) = narrowed(width, 'a', 'b')
+        given = f'i{width} {a}, i{width} {b}' if word[0] == 'u' else f'i{width} {a}, i1 false' if word in ('cttz', 'ctlz') else f'i{width} {a}'
+        cases.add(f'{cut}%r = call i{width} @llvm.{word}.i{width}({given})\n{widened(width, "%r")}', lambda x, y, count=count, width=width: count(x % 2**width, y, width), edges(width))
+
+
+ATTRIBUTES = '''
+attributes #0 = { nofree norecurse nosync nounwind willreturn memory(none) "frame-pointer"="all" "target-cpu"="x86-64" }
+attributes #1 = { noinline nounwind "probe-stack"="inline-asm" }
+attributes #2 = { cold noinline nounwind }
+!1 = !{}
+'''
+# What has to be refused: what a proved module doesn't have, or what would mean something else in C.
+BODY = 'define i64 @test_0(i64 %a, i64 %b) #0 {{\nstart:\n  {}\n  ret i64 %a\n}}\n'
+REFUSED = [BODY.format(it) for it in (
+    '%x = fadd double 1.0, 2.0', '%x = add i128 1, 2', '%x = add i24 1, 2', '%x = uitofp i64 %a to double', 'fence seq_cst', '%x = atomicrmw add ptr null, i64 1 seq_cst, align 8',
+    '%x = cmpxchg ptr null, i64 1, i64 2 seq_cst seq_cst, align 8', '%x = load volatile i64, ptr null, align 8', '%x = load atomic i64, ptr null seq_cst, align 8',
+    'store volatile i64 1, ptr null, align 8', 'store atomic i64 1, ptr null seq_cst, align 8', '%x = load i1, ptr null, align 1', 'store i1 true, ptr null, align 1', '%x = load double, ptr null, align 8',
+    '%x = load ptr addrspace(1), ptr null, align 8', '%p = inttoptr i64 %a to ptr\n  %x = call i64 %p(i64 1)', 'call void asm sideeffect "nop", ""()', '%x = va_arg ptr null, i64', '%x = udiv <16 x i8> zeroinitializer, zeroinitializer',
+    '%x = add <16 x i8> zeroinitializer, zeroinitializer', '%x = call i64 @llvm.fshl.i64(i64 %a, i64 %b, i64 3)', '%x = call i64 @llvm.smax.i64(i64 %a, i64 %b)', '%x = call { i64, i1 } @llvm.uadd.with.overflow.i64(i64 %a, i64 %b)',
+    'call void @llvm.memset.p0.i64(ptr null, i8 0, i64 8, i1 true)', 'call void @llvm.memcpy.p0.p0.i64(ptr null, ptr null, i64 8, i1 true)', '%x = extractelement <16 x i8> zeroinitializer, i64 0',
+    '%x = insertelement <16 x i8> zeroinitializer, i8 1, i64 0', '%x = shufflevector <16 x i8> zeroinitializer, <16 x i8> poison, <2 x i32> <i32 1, i32 0>', '%x = getelementptr { i64, i64 }, ptr null, i64 0, i32 1',
+    '%x = getelementptr i8, ptr null, i32 1', 'musttail call void @test_0(i64 1, i64 2)', 'invoke void @test_0() to label %start unwind label %start', 'indirectbr ptr null, [label %start]', 'resume { ptr, i32 } poison',
+    '%x = landingpad { ptr, i32 } cleanup', '%x = bitcast i64 %a to double', '%x = bitcast <16 x i1> zeroinitializer to <2 x i8>', '%x = add i1 true, true', '%x = icmp slt i1 true, false', '%x = add i64 %a, 1.5', '%x = alloca i64, i64 %a, align 8',
+    'br label %on\non:\n  %x = alloca i64, align 8', '%x = select <16 x i1> zeroinitializer, <16 x i8> zeroinitializer, <16 x i8> zeroinitializer', '%x = addrspacecast ptr null to ptr addrspace(1)',
+    '%x = fcmp oeq double 0.0, 0.0', '%x = frem double 1.0, 2.0', 'call void @llvm.lifetime.start.p0(ptr null)', '%x = unknown i64 %a', '%x = add i64 %a, 1 $',
+)] + [
+    'define i64 @not_declared(i64 %a, i64 %b) #0 {\nstart:\n  ret i64 %a\n}\n', 'define i64 @test_0(i64 %a) #0 {\nstart:\n  ret i64 %a\n}\n', 'define i64 @test_0(i64 %a, i64 %b) #9 {\nstart:\n  ret i64 %a\n}\nattributes #9 = { returns_twice }\n',
+    'define i64 @test_0(i64 %a, ...) #0 {\nstart:\n  ret i64 %a\n}\n', 'define i64 @test_0(ptr byval(i64) %a, i64 %b) #0 {\nstart:\n  ret i64 1\n}\n', 'define i64 @test_0(i64 %a, i64 %b) gc "statepoint" {\nstart:\n  ret i64 %a\n}\n',
+    '@x = global i64 7, align 8\n', '@x = thread_local constant [1 x i8] zeroinitializer\n', '@x = private constant { i64 } { i64 1 }\n', '@x = external constant [2 x i8]\n', '@x = alias i64, ptr @y\n', '@x = private constant [3 x i8] c"ab"\n',
+    'declare i64 @printf(ptr)\n', '$x = comdat any\n', 'module asm "nop"\n',
+]
+KNOWN = 'define i64 @test_0(i64 %a, i64 %b) #0 {\nstart:\n  %x = add i64 %a, %b\n  ret i64 %x\n}\n'
+
+
+def written(room, text, names):
+    """The C of a module, or None and why it is refused."""
+    (room / 'module.ll').write_text(text, encoding='latin-1')
+    (room / 'capnp_canonical.h').write_text('#include <stdint.h>\n' + ''.join(f'uint64_t {it}(uint64_t a, uint64_t b);\n' for it in names), encoding='utf-8')
+    run = subprocess.run([sys.executable, '-B', str(WRITER), str(room / 'module.ll'), str(room / 'capnp_canonical.h')], stdout=subprocess.PIPE, stderr=subprocess.PIPE, encoding='utf-8')
+    return (run.stdout if run.returncode == 0 else None), run.stderr
+
+
+def lacking(text):
+    """The instructions and intrinsics that the writer knows, and no function here has."""
+    known = {it.removeprefix('do_') for it in dir(writing.Writer) if it.startswith('do_')} | {*writing.BINARY, *writing.SIGNED, *writing.SHIFTS}
+    known |= {f'llvm.{it}' for it in (*writing.BLOCKS, *writing.NUMBERS)}
+    return sorted(it for it in known if not re.search(rf'(^|[ @]){re.escape(it)}\b', text, re.M))
+
+
+def main_of(calls):
+    rows = ''.join(f'    {{ "{name}", {name}, {a}u, {b}u, {wanted}u }},\n' for name, a, b, wanted in calls)
+    return f'''#include "capnp_canonical.h"
+#include <stdio.h>
+static const struct {{ const char *name; uint64_t (*call)(uint64_t, uint64_t); uint64_t a, b, wanted; }} rows[] = {{
+{rows}}};
+int main(void) {{
+    unsigned failed = 0;
+    for (unsigned i = 0; i < sizeof rows / sizeof *rows; i++) {{
+        uint64_t got = rows[i].call(rows[i].a, rows[i].b);
+        if (got != rows[i].wanted && failed++ < 10)
+            printf("%s(%#llx, %#llx): wanted %#llx, got %#llx\\n", rows[i].name, (unsigned long long)rows[i].a, (unsigned long long)rows[i].b, (unsigned long long)rows[i].wanted, (unsigned long long)got);
+    }}
+    printf("%u failed\\n", failed);
+    return failed != 0;
+}}
+'''
+
+
+class Counts:
+    passed = failed = 0
+
+    def told(self, holds, what, said=''):
+        self.passed += bool(holds)
+        self.failed += not holds
+        print(f'{what}: {"passed" if holds else "failed"}{"" if holds else said[-2000:]}')
+
+
+def compiled_and_run(room, command):
+    """Whether it is, and what is said."""
+    run = subprocess.run([*command, '-o', str(room / 'tested')], stdout=subprocess.PIPE, stderr=subprocess.STDOUT, encoding='utf-8', errors='replace')
+    if run.returncode:
+        return False, run.stdout
+    run = subprocess.run([str(room / 'tested')], stdout=subprocess.PIPE, stderr=subprocess.STDOUT, encoding='utf-8', errors='replace')
+    return run.returncode == 0 and run.stdout == '0 failed\n', run.stdout
+
+
+def by_llvm(room, counts):
+    """The module itself, by the toolchain's LLVM."""
+    if not shutil.which('rt'):
+        print('by the toolchain: skipped, no rt')
+        return
+    page = subprocess.run(['rt', 'doc'], stdin=subprocess.DEVNULL, stdout=subprocess.PIPE, encoding='utf-8', check=True).stdout
+    clang = pathlib.Path(page.strip()).parent / 'toolchain/bin/clang'
+    run = subprocess.run([str(clang), '--target=x86_64-unknown-linux-gnu', '--no-default-config', '-O1', '-fPIC', '-c', '-o', str(room / 'module.o'), '-x', 'ir', str(room / 'module.ll')], stdout=subprocess.PIPE, stderr=subprocess.STDOUT, encoding='utf-8')
+    holds, said = (False, run.stdout) if run.returncode else compiled_and_run(room, ['cc', '-w', f'-I{room}', str(room / 'main.c'), str(room / 'module.o')])
+    counts.told(holds, 'the module itself by the toolchain', said)
+
+
+def refusals(room, counts):
+    counts.told(written(room, KNOWN + ATTRIBUTES, ['test_0'])[0] is not None, 'what is known is written')
+    for text in REFUSED:
+        made, said = written(room, text + ATTRIBUTES, ['test_0'])
+        line = next((it.strip() for it in text.split('\n')[2:3] if it.strip() != 'ret i64 %a'), text.split('\n')[0])
+        counts.told(made is None and 'Traceback' not in said, f'refused: {line[:80]}', said)
+
+
+def main(compilers):
+    cases, counts = Cases(), Counts()
+    for part in arithmetic, comparing, casting, remembering, addressing, blocks, jumping, standing, vectors, counting:
+        part(cases)
+    text = ''.join(cases.text)
+    declared = sorted({(name, count) for name, count in re.findall(r'@(llvm\.[\w.]+)(\([^\n]*)', text)})
+    named = dict(declared)
+    text += ''.join(f'declare {declaration(name, given)}\n' for name, given in named.items()) + ATTRIBUTES
+    missing = lacking(text)
+    counts.told(not missing, 'each instruction of the writer has a test', f': not {missing}')
+    with tempfile.TemporaryDirectory(prefix='instructions-') as room:
+        room = pathlib.Path(room)
+        made, said = written(room, text, [f'test_{i}' for i in range(cases.count)])
+        counts.told(made is not None, f'the module of {cases.count} functions is written', said)
+        if made is not None:
+            (room / 'module.c').write_text(made, encoding='utf-8')
+            (room / 'main.c').write_text(main_of(cases.calls), encoding='utf-8')
+            for compiler, (kind, flags) in itertools.product(compilers, KINDS.items()):
+                if not shutil.which(compiler):
+                    print(f'{compiler} {kind}: skipped, no {compiler}')
+                    continue
+                holds, said = compiled_and_run(room, [compiler, *FLAGS, *flags, f'-I{room}', str(room / 'main.c'), str(room / 'module.c')])
+                counts.told(holds, f'{len(cases.calls)} calls by {compiler} {kind}', f': {said}')
+            by_llvm(room, counts)
+        refusals(room, counts)
+    print(f'{counts.passed} passed, {counts.failed} failed')
+    return 1 if counts.failed else 0
+
+
+def declaration(name, given):
+    """How an intrinsic is declared."""
+    if name.startswith('llvm.lifetime'):
+        return f'void @{name}(ptr captures(none))'
+    if name == 'llvm.trap':
+        return 'void @llvm.trap()'
+    if name.startswith('llvm.memset'):
+        return f'void @{name}(ptr writeonly captures(none), i8, i64, i1 immarg)'
+    if name.startswith('llvm.mem'):
+        return f'void @{name}(ptr writeonly captures(none), ptr readonly captures(none), i64, i1 immarg)'
+    if name.startswith('llvm.vector'):
+        return f'i8 @{name}(<{re.search("[0-9]+", name)[0]} x i8>)'
+    kind = name.rpartition('.')[2]
+    return f'{kind} @{name}({", ".join([kind] * len(re.findall(kind + " ", given)))}{", i1 immarg" if "i1 false" in given else ""})'
+
+
+sys.exit(main(sys.argv[1:] or ['gcc', 'clang']))
