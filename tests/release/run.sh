@@ -1,0 +1,228 @@
+#!/bin/sh
+# run.sh [-s] [TARBALL]: makes two releases of the last commit, from two folders, and holds the one against the other; then unpacks it and
+# tests it with no `rt` in the path: by each compiler, without and with optimisation, under sanitizers and valgrind, for other
+# processors, by make, CMake, cargo and pip. With TARBALL that release is tested and none is made. With -s the streams are run over
+# one build alone. CCS names other compilers than gcc and clang.
+#
+# What isn't there is skipped, and a line says so. The last line is `N passed, M failed`.
+set -u
+here=$(cd "$(dirname "$0")" && pwd) || exit 2
+top=$(cd "$here/../.." && pwd) || exit 2
+work=$(mktemp -d) || exit 2
+trap 'rm -rf "$work"' EXIT
+trap 'exit 1' INT TERM
+passed=0 failed=0 is_short=
+warnings='-Wall -Wextra -Werror'
+hardened='-O2 -fstack-protector-strong -fstack-clash-protection -D_FORTIFY_SOURCE=2 -Wformat -Werror=format-security -fPIE'
+sanitized='-O1 -g -fno-omit-frame-pointer -fsanitize=address,undefined -fno-sanitize-recover=all'
+cross=/usr/aarch64-linux-gnu
+
+say() {
+    printf '%s\n' "$*"
+}
+
+has() {
+    command -v "$1" >/dev/null || { say "$2: skipped, no $1"; return 1; }
+}
+
+# A part that says whether it passed by its exit status.
+#
+#     part NAME COMMAND..
+part() {
+    name=$1
+    shift
+    if ("$@") >"$work/log" 2>&1; then
+        passed=$((passed + 1))
+        say "$name: passed$(sed -n '$s/^\([0-9]* passed, 0 failed\).*/ (\1)/p' "$work/log")"
+    else
+        failed=$((failed + 1))
+        tail -n 20 "$work/log"
+        say "$name: failed"
+    fi
+}
+
+# A part that counts in its last line.
+summed() {
+    name=$1
+    shift
+    ("$@") >"$work/log" 2>&1
+    status=$?
+    sums=$(sed -n '$s/^\([0-9]*\) passed, \([0-9]*\) failed.*/\1 \2/p' "$work/log")
+    if [ -z "$sums" ] || { [ $status != 0 ] && [ "${sums#* }" = 0 ]; }; then sums='0 1'; fi
+    [ "${sums#* }" = 0 ] || tail -n 40 "$work/log"
+    sed -n 's/^\(.*skipped.*\)/    \1/p' "$work/log"
+    passed=$((passed + ${sums% *})) failed=$((failed + ${sums#* }))
+    say "$name: ${sums% *} passed, ${sums#* } failed"
+}
+
+# The release, from here and from a clone elsewhere.
+releases() {
+    git clone -q "$top" "$work/a/folder/elsewhere" && "$top/release" "$work/one" && "$work/a/folder/elsewhere/release" "$work/two" &&
+        cmp "$work/one"/*.tar.gz "$work/two"/*.tar.gz
+}
+
+# A command `rt` that isn't to be called.
+without_rt() {
+    mkdir "$work/bin" && printf '#!/bin/sh\necho "$0" >>"%s/called"\nexit 99\n' "$work" >"$work/bin/rt" && chmod +x "$work/bin/rt"
+}
+
+# Builds into a folder of this name and tries it.
+#
+#     checked NAME CC CFLAGS [VARIABLE=VALUE..]
+checked() {
+    name=$1 cc=$2 flags=$3
+    shift 3
+    make -C "$release" check BUILD="$work/$name" CC="$cc" CFLAGS="$flags" "$@"
+}
+
+# What a build answers to altered messages, which has to be what the first one did.
+#
+#     same_digest NAME [RUNNER..]
+same_digest() {
+    name=$1
+    shift
+    "$@" "$work/$name/vectors" 40 <"$work/$name/vectors.txt" >"$work/digest" || return 1
+    [ -f "$work/digest_wanted" ] || cp "$work/digest" "$work/digest_wanted"
+    cat "$work/digest" && cmp "$work/digest" "$work/digest_wanted"
+}
+
+# The compiler's own build: all that is tried of it.
+#
+#     build NAME CC CFLAGS [VARIABLE=VALUE..]
+build() {
+    part "make check, $1" checked "$@"
+    [ -x "$work/$1/vectors" ] && part "altered messages, $1" same_digest "$1"
+}
+
+streams() {
+    name=$1
+    shift
+    make -C "$release" "$work/$name/stream_runs" BUILD="$work/$name" CC="$1" CFLAGS="$2" >"$work/log" 2>&1
+    summed "streams, $name" python3 -B "$release/tests/streams/run.py" "$work/$name/capnp_canon" "$work/$name/stream_runs" --limit 300
+}
+
+# Rows and hostile runs alone: for builds that are slow to start, or want other memory.
+some_streams() {
+    name=$1 runner=$4
+    make -C "$release" "$work/$name/stream_runs" BUILD="$work/$name" CC="$2" CFLAGS="$3" >"$work/log" 2>&1
+    summed "streams, $name" env RUNNER="$runner" python3 -B "$here/streams.py" "$release/tests/streams" "$work/$name/capnp_canon" "$work/$name/stream_runs"
+}
+
+installed() {
+    make -C "$release" install install-python BUILD="$work/$1" CC="$2" CFLAGS='-O2' PREFIX="$work/prefix_$1"
+}
+
+by_compiler() {
+    for level in -O0 -O2 -O3; do
+        build "$1$level" "$1" "$level $warnings"
+        if [ -z "$is_short" ] || [ "$1$level" = "$first-O2" ]; then streams "$1$level" "$1" "$level"; fi
+    done
+    build "$1-hardened" "$1" "$hardened $warnings" LDFLAGS='-pie -Wl,-z,relro,-z,now'
+    for cpu in x86-64 x86-64-v2 x86-64-v3; do
+        if [ "$(uname -m)" != x86_64 ] || ! grep -qw "$(case $cpu in *v3) echo avx2 ;; *) echo sse2 ;; esac)" /proc/cpuinfo; then
+            say "$1, $cpu: skipped, not this processor"
+        else
+            build "$1-$cpu" "$1" "-O2 -march=$cpu $warnings"
+        fi
+    done
+    build "$1-sanitized" "$1" "$sanitized $warnings"
+    some_streams "$1-sanitized" "$1" "$sanitized" ''
+    if has valgrind "$1 under it"; then
+        part "make check, $1 under valgrind" checked "$1-O2" "$1" "-O2 $warnings" RUNNER='valgrind -q --error-exitcode=9 --leak-check=full --show-leak-kinds=all'
+    fi
+    part "make install, $1" installed "$1-O2" "$1"
+    summed "c.sh, $1" env CC="$1" sh "$release/tests/library/c.sh" "$work/prefix_$1-O2"
+    part "stack, $1" sh "$here/stack.sh" "$release" "$1"
+    sed -n 's/^\(.* bytes a level.*\)/    \1/p' "$work/log"
+}
+
+on_aarch64() {
+    has qemu-aarch64 aarch64 && has aarch64-linux-gnu-gcc aarch64 || return
+    for level in -O0 -O2; do
+        part "make check, aarch64$level" checked "aarch64$level" aarch64-linux-gnu-gcc "$level $warnings" RUNNER="qemu-aarch64 -L $cross"
+        part "altered messages, aarch64$level" same_digest "aarch64$level" qemu-aarch64 -L "$cross"
+    done
+    some_streams aarch64-O2 aarch64-linux-gnu-gcc -O2 "qemu-aarch64 -L $cross"
+}
+
+by_cmake() {
+    for shared in ON OFF; do
+        cmake -S "$release" -B "$work/cmake_$shared" -DBUILD_SHARED_LIBS=$shared -DCMAKE_INSTALL_PREFIX="$work/by_cmake_$shared" -DCMAKE_INSTALL_LIBDIR=lib &&
+            cmake --build "$work/cmake_$shared" --target install && found "$work/by_cmake_$shared" "cmake_$shared" || return 1
+    done
+    found "$work/prefix_$first-O2" make
+}
+
+# A project that finds what is installed at a prefix.
+found() {
+    mkdir "$work/user_$2" && cat >"$work/user_$2/CMakeLists.txt" <<END
+cmake_minimum_required(VERSION 3.13)
+project(user C)
+find_package(capnp_canonical 1.0 REQUIRED)
+add_executable(example $release/c/example.c)
+target_link_libraries(example capnp_canonical::capnp_canonical)
+END
+    cmake -S "$work/user_$2" -B "$work/user_$2/build" -DCMAKE_PREFIX_PATH="$1" && cmake --build "$work/user_$2/build" &&
+        "$work/user_$2/build/example" <"$work/$first-O2/frame" | cmp - "$work/$first-O2/words"
+}
+
+by_cargo() {
+    unset CAPNP_CANONICAL_LIB_DIR
+    CARGO_TARGET_DIR="$work/target" cargo test --offline --locked --manifest-path "$release/c/rust/Cargo.toml"
+}
+
+by_pip() {
+    python3 -m venv "$work/venv" && "$work/venv/bin/pip" wheel --no-index --no-deps -w "$work/wheels" "$release/c/python" &&
+        "$work/venv/bin/pip" install --no-index "$work/wheels"/*.whl && cd "$release/tests/library" && "$work/venv/bin/python" -B -m unittest test_capnp_canonical
+}
+
+# The example of the README gives its hash.
+readme() {
+    # shellcheck disable=SC2016
+    sed -n '/^    printf/,/sha256sum$/p' "$release/README.md" | sed "s|build/capnp_canon|$work/$first-O2/capnp_canon|" >"$work/readme.sh"
+    wanted=$(sed -n 's/^prints `\([0-9a-f]*\)  -`.*/\1/p' "$release/README.md")
+    [ -n "$wanted" ] && [ "$(sh "$work/readme.sh")" = "$wanted  -" ]
+}
+
+# All vectors over layout_tool, which is written in C in the same way, and is in no release.
+layout_tool() {
+    "$top/tools/generate.py" "$work" layout_tool && "$first" -std=c11 -O2 -Wall -Wextra -o "$work/layout_tool" "$work/layout_tool.c" &&
+        python3 -B "$top/tests/vectors/run.py" "$work/layout_tool"
+}
+
+versions() {
+    version=$(basename "$release")
+    version=${version##*-}
+    [ "$("$work/$first-O2/capnp_canon" --version)" = "capnp_canon $version" ] && grep -qx "version = \"$version\"" "$release/c/rust/Cargo.toml" &&
+        grep -q "$version" "$release/ORIGIN"
+}
+
+[ "${1-}" != -s ] || { is_short=1; shift; }
+if [ $# -gt 0 ]; then
+    mkdir "$work/one" && cp "$1" "$work/one" || exit 2
+else
+    part 'two releases, from two folders' releases
+    if has rt 'vectors over layout_tool'; then first=${CCS:-gcc}; first=${first%% *}; summed 'vectors over layout_tool' layout_tool; fi
+fi
+tar xzf "$work/one"/*.tar.gz -C "$work" || { say '0 passed, 1 failed'; exit 1; }
+release=$(echo "$work"/capnp_canonical-*)
+summed 'the writer, by instructions' python3 -B "$here/instructions.py"
+without_rt || exit 2
+PATH=$work/bin:$PATH
+first=
+for compiler in ${CCS:-gcc clang}; do
+    has "$compiler" "$compiler" || continue
+    first=${first:-$compiler}
+    by_compiler "$compiler"
+done
+on_aarch64
+summed 'run.sh over it' sh "$release/tests/library/run.sh" "$work/prefix_$first-O2"
+sed -n 's/^ *\(ratio .*\)/    \1/p' "$work/log"
+part 'README' readme
+part versions versions
+if has cmake CMake; then part CMake by_cmake; fi
+if has cargo cargo; then part cargo by_cargo; fi
+part pip by_pip
+part 'no rt is called' test ! -f "$work/called"
+say "$passed passed, $failed failed"
+[ $failed = 0 ]

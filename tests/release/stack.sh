@@ -1,0 +1,14 @@
+#!/bin/sh
+# stack.sh RELEASE [CC]: measures how many bytes of stack a level of nesting takes in each call of the library, built by CC at -O2
+# and at -O0: of chains of structs, of lists of pointers and of lists of structs, one inside the other.
+set -eu
+here=$(cd "$(dirname "$0")" && pwd)
+release=$1
+cc=${2:-cc}
+folder=$(mktemp -d)
+trap 'rm -rf "$folder"' EXIT
+for level in -O2 -O0; do
+    # shellcheck disable=SC2086
+    "$cc" -std=gnu11 $level -I"$release/c" -o "$folder/stack" "$here/stack.c" "$release/generated/capnp_canonical.c" -lpthread
+    "$folder/stack" | sed "s/^/$cc $level, /"
+done

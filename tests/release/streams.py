@@ -1,0 +1,47 @@
+#!/usr/bin/env python3
+"""Runs a capnp_canon over the stored streams, and its engine over hostile runs, and no more of tests/streams/run.py: for builds that are
+slow to start, or take other memory. RUNNER names what runs a program of another machine.
+
+    streams.py TESTS_STREAMS CAPNP_CANON STREAM_RUNS"""
+import json
+import os
+import pathlib
+import shlex
+import sys
+import tempfile
+
+HERE = pathlib.Path(sys.argv[1])
+sys.path += [str(HERE), str(HERE.parent / 'hostile')]
+
+import hostile
+from program import Counts
+from runs import Program, same
+
+
+def run_by(runner, program, folder):
+    """The program, or a script that runs it."""
+    if not runner:
+        return program
+    script = pathlib.Path(folder) / pathlib.Path(program).name
+    script.write_text(f'#!/bin/sh\nexec {runner} {shlex.quote(program)} "$@"\n', encoding='utf-8')
+    script.chmod(0o755)
+    return str(script)
+
+
+def main():
+    counts = Counts(10)
+    with tempfile.TemporaryDirectory(prefix='streams-') as folder:
+        canon, runs = (run_by(os.environ.get('RUNNER'), it, folder) for it in sys.argv[2:])
+        program = Program(canon, 300)
+        for path in sorted(HERE.glob('*.jsonl')):
+            for number, line in enumerate(path.open(encoding='utf-8'), 1):
+                row = json.loads(line)
+                wanted = bytes.fromhex(row['output']), row['status'], row['stderr']
+                got = program.run(row['args'], bytes.fromhex(row['input']))
+                same(counts, f'{path.name}:{number} {row["name"]}: {row["args"]}', row['args'], wanted, got)
+        hostile.runs(runs, counts)
+    print(f'{counts.passed} passed, {counts.failed} failed')
+    return 1 if counts.failed else 0
+
+
+sys.exit(main())
