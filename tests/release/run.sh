@@ -117,7 +117,7 @@ by_compiler() {
         build "$1$level" "$1" "$level $warnings"
         if [ -z "$is_short" ] || [ "$1$level" = "$first-O2" ]; then streams "$1$level" "$1" "$level"; fi
     done
-    build "$1-hardened" "$1" "$hardened $warnings" LDFLAGS='-pie -Wl,-z,relro,-z,now'
+    build "$1-hardened" "$1" "$hardened $warnings" LDFLAGS='-Wl,-z,relro,-z,now'
     for cpu in x86-64 x86-64-v2 x86-64-v3; do
         if [ "$(uname -m)" != x86_64 ] || ! grep -qw "$(case $cpu in *v3) echo avx2 ;; *) echo sse2 ;; esac)" /proc/cpuinfo; then
             say "$1, $cpu: skipped, not this processor"
