@@ -36,6 +36,8 @@ echo 'one message: passed'
 compile test_shared tests/library/test.c -L"$build" -lcapnp_canonical
 run "$build/test_shared" tests/library/messages.txt
 if command -v "$python" >/dev/null; then
+    # messages of up to 3,000 levels, which take more than the usual stack where the compiler doesn't optimise
+    ulimit -s 131072 2>/dev/null || true
     compile vectors tests/release/vectors.c "$build/libcapnp_canonical.a"
     "$python" -B tests/release/lines.py >"$build/vectors.txt"
     run "$build/vectors" <"$build/vectors.txt"

@@ -12,6 +12,8 @@ work=$(mktemp -d) || exit 2
 trap 'rm -rf "$work"' EXIT
 trap 'exit 1' INT TERM
 passed=0 failed=0 is_short=
+# vectors have up to 3,000 levels, which take more than the usual stack where the compiler doesn't optimise
+ulimit -s 131072 2>/dev/null
 warnings='-Wall -Wextra -Werror'
 hardened='-O2 -fstack-protector-strong -fstack-clash-protection -D_FORTIFY_SOURCE=2 -Wformat -Werror=format-security -fPIE'
 sanitized='-O1 -g -fno-omit-frame-pointer -fsanitize=address,undefined -fno-sanitize-recover=all'
@@ -127,6 +129,7 @@ by_compiler() {
     done
     build "$1-sanitized" "$1" "$sanitized $warnings"
     some_streams "$1-sanitized" "$1" "$sanitized" ''
+    case $1 in clang*) build "$1-memory" "$1" "-O1 -g -fsanitize=memory -fno-sanitize-recover=all $warnings" ;; esac
     if has valgrind "$1 under it"; then
         part "make check, $1 under valgrind" checked "$1-O2" "$1" "-O2 $warnings" RUNNER='valgrind -q --error-exitcode=9 --leak-check=full --show-leak-kinds=all'
     fi
