@@ -3,7 +3,7 @@
 
     instructions.py [COMPILER..]
 
-Each compiler (gcc and clang, where none is named) compiles the C at -O0, -O2 and -O3, and with the address and undefined-behaviour
+Each compiler (gcc and clang, and gcc for aarch64 with qemu, where none is named) compiles the C at -O0, -O2 and -O3, and with the address and undefined-behaviour
 sanitizers, and runs it. What is wanted of each call is counted here by Python, from LLVM's language reference. Where the toolchain
 is there its clang compiles the module itself, and is held to the same. The last line is `N passed, M failed`."""
 import itertools
@@ -25,6 +25,9 @@ WIDTHS = 8, 16, 32, 64
 MOST = 2**64 - 1
 FLAGS = '-std=c11 -Wall -Wextra -Werror -Wno-unused-function -Wno-unused-variable -Wno-unused-but-set-variable'.split()
 KINDS = {'-O0': ['-O0'], '-O2': ['-O2'], '-O3': ['-O3'], 'sanitizers': ['-O1', '-g', '-fsanitize=address,undefined', '-fno-sanitize-recover=all']}
+
+# What runs the programs of a compiler for another machine.
+RUNNERS = {'aarch64-linux-gnu-gcc': ['qemu-aarch64', '-L', '/usr/aarch64-linux-gnu']}
 
 
 class Cases:
@@ -366,12 +369,12 @@ class Counts:
         print(f'{what}: {"passed" if holds else "failed"}{"" if holds else said[-2000:]}')
 
 
-def compiled_and_run(room, command):
+def compiled_and_run(room, command, runner=()):
     """Whether it is, and what is said."""
     run = subprocess.run([*command, '-o', str(room / 'tested')], stdout=subprocess.PIPE, stderr=subprocess.STDOUT, encoding='utf-8', errors='replace')
     if run.returncode:
         return False, run.stdout
-    run = subprocess.run([str(room / 'tested')], stdout=subprocess.PIPE, stderr=subprocess.STDOUT, encoding='utf-8', errors='replace')
+    run = subprocess.run([*runner, str(room / 'tested')], stdout=subprocess.PIPE, stderr=subprocess.STDOUT, encoding='utf-8', errors='replace')
     return run.returncode == 0 and run.stdout == '0 failed\n', run.stdout
 
 
@@ -413,10 +416,12 @@ def main(compilers):
             (room / 'module.c').write_text(made, encoding='utf-8')
             (room / 'main.c').write_text(main_of(cases.calls), encoding='utf-8')
             for compiler, (kind, flags) in itertools.product(compilers, KINDS.items()):
-                if not shutil.which(compiler):
-                    print(f'{compiler} {kind}: skipped, no {compiler}')
+                runner = RUNNERS.get(compiler, [])
+                lacks = next((it for it in (compiler, *runner[:1]) if not shutil.which(it)), None)
+                if lacks or runner and kind == 'sanitizers':
+                    print(f'{compiler} {kind}: skipped, {f"no {lacks}" if lacks else "not by the machine"}')
                     continue
-                holds, said = compiled_and_run(room, [compiler, *FLAGS, *flags, f'-I{room}', str(room / 'main.c'), str(room / 'module.c')])
+                holds, said = compiled_and_run(room, [compiler, *FLAGS, *flags, f'-I{room}', str(room / 'main.c'), str(room / 'module.c')], runner)
                 counts.told(holds, f'{len(cases.calls)} calls by {compiler} {kind}', f': {said}')
             by_llvm(room, counts)
         refusals(room, counts)
@@ -440,4 +445,4 @@ def declaration(name, given):
     return f'{kind} @{name}({", ".join([kind] * len(re.findall(kind + " ", given)))}{", i1 immarg" if "i1 false" in given else ""})'
 
 
-sys.exit(main(sys.argv[1:] or ['gcc', 'clang']))
+sys.exit(main(sys.argv[1:] or ['gcc', 'clang', *RUNNERS]))
