@@ -3,8 +3,8 @@
 
     COMMAND NESTING WORDS PARTS WANTED
 
-PARTS is the segments as hex digits, with a comma between two, or the frame where COMMAND is `framed-check` or `unframe`. WANTED is
-the answer: hex digits, `yes`, `no`, `front`, numbers, or `!` and the name of a refusal. `front` is said of a segment that begins
+PARTS is the segments as hex digits, with a comma between two, or the frame where COMMAND is `framed-check` or `unframe`; `.` is one
+without bytes, and `-` none. WANTED is the answer: hex digits, or `-` for none, `yes`, `no`, `front`, numbers, or `!` and the name of a refusal. `front` is said of a segment that begins
 with canonical words: whether others stand behind them isn't.
 
 What isn't here are the vectors of `frame`, which the library has not, and of arguments and lines that can't be read."""
@@ -63,7 +63,7 @@ def vectors():
 
 def main():
     for it in vectors():
-        parts = ','.join(part.hex() for part in it.parts)
+        parts = ','.join(part.hex() or '.' for part in it.parts)
         print(it.command, it.nesting, it.words, parts or '-', it.wanted)
 
 

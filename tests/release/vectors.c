@@ -47,9 +47,11 @@ static struct block bytes_of(const char *text, size_t digits) {
 }
 
 static void take(const char *text, struct parts *parts) {
-    for (parts->count = 0; parts->count < MOST_SEGMENTS; text++) {
-        size_t digits = strcmp(text, "-") == 0 ? 0 : strcspn(text, ",");
-        struct block made = bytes_of(text, digits);
+    parts->count = 0;
+    if (strcmp(text, "-") == 0) return;
+    for (; parts->count < MOST_SEGMENTS; text++) {
+        size_t digits = strcspn(text, ",");
+        struct block made = bytes_of(text, *text == '.' ? 0 : digits);
         parts->at[parts->count].bytes = made.at;
         parts->at[parts->count++].size = made.size;
         text += digits;
@@ -85,7 +87,7 @@ static int is_copied(const struct vector *of, const struct parts *parts, int is_
     uint32_t answer = copied(parts, of, is_flat, &to);
     int holds = is_refusal(answer, of->wanted);
     if (answer == CAPNP_CANONICAL_DONE && of->wanted[0] != '!') {
-        struct block wanted = bytes_of(of->wanted, strlen(of->wanted));
+        struct block wanted = bytes_of(of->wanted, strcmp(of->wanted, "-") ? strlen(of->wanted) : 0);
         holds = wanted.size == to.size && memcmp(wanted.at, to.at, to.size) == 0;
         free(wanted.at);
     }
@@ -203,7 +205,7 @@ static void altered(const struct vector *from, unsigned long times) {
     for (; times; times--) {
         struct vector of = *from;
         take(of.parts, &parts);
-        alter(&parts.at[drawn(parts.count)], is_frame);
+        if (parts.count) alter(&parts.at[drawn(parts.count)], is_frame);
         if (!drawn(4)) of.nesting = (int32_t)drawn(6);
         if (!drawn(4) || of.words > 100000) of.words = drawn(60);
         if (is_frame) answered_to_frame(&of, &parts.at[0]);
