@@ -1,6 +1,6 @@
 /* Compares two builds of the library in one process, in turn, by processor time.
  *
- *     speed ONE.so OTHER.so STREAM        prints the times of the second one over those of the first, the least of nine rounds each
+ *     speed ONE.so OTHER.so STREAM        prints the times of the second one over those of the first, the least of 31 rounds each
  */
 #include "capnp_canonical.h"
 #include <dlfcn.h>
@@ -8,7 +8,7 @@
 #include <stdlib.h>
 #include <time.h>
 
-enum { ROUNDS = 9, MOST = 1 << 28 };
+enum { ROUNDS = 31, MOST = 1 << 28 };
 static uint8_t *stream, *to;
 static size_t size;
 
