@@ -63,9 +63,14 @@ releases() {
         cmp "$work/one"/*.tar.gz "$work/two"/*.tar.gz
 }
 
-# A command `rt` that isn't to be called.
+# Takes the command `rt` out of the path, and leaves what else stands in its folder.
 without_rt() {
-    mkdir "$work/bin" && printf '#!/bin/sh\necho "$0" >>"%s/called"\nexit 99\n' "$work" >"$work/bin/rt" && chmod +x "$work/bin/rt"
+    number=0
+    while rt=$(command -v rt); do
+        folder=$(dirname "$rt") number=$((number + 1))
+        mkdir "$work/bin$number" && ln -s "$folder"/* "$work/bin$number" && rm "$work/bin$number/rt" || return 1
+        PATH=$(printf %s ":$PATH:" | sed "s|:$folder/*:|:$work/bin$number:|g; s/^://; s/:$//")
+    done
 }
 
 # Builds into a folder of this name and tries it.
@@ -211,7 +216,6 @@ tar xzf "$work/one"/*.tar.gz -C "$work" || { say '0 passed, 1 failed'; exit 1; }
 release=$(echo "$work"/capnp_canonical-*)
 summed 'the writer, by instructions' python3 -B "$here/instructions.py"
 without_rt || exit 2
-PATH=$work/bin:$PATH
 first=
 for compiler in ${CCS:-gcc clang}; do
     has "$compiler" "$compiler" || continue
@@ -226,6 +230,5 @@ part versions versions
 if has cmake CMake; then part CMake by_cmake; fi
 if has cargo cargo; then part cargo by_cargo; fi
 part pip by_pip
-part 'no rt is called' test ! -f "$work/called"
 say "$passed passed, $failed failed"
 [ $failed = 0 ]
