@@ -12,7 +12,7 @@ of a frame.
 
 Bytes are any object with a buffer: bytes, bytearray, memoryview, mmap, an array of NumPy. They are read where they lie, and
 nobody may change them meanwhile. Each call that is refused raises `Error`. No call keeps anything, so calls may run in several
-threads at once; while one runs other Python threads do too. A level of nesting takes up to 608 bytes of stack.
+threads at once; while one runs other Python threads do too. A level of nesting takes up to 720 bytes of stack.
 
     python3 -m capnp_canonical --help
 

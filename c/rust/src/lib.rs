@@ -2,7 +2,7 @@
 //!
 //! A message is a frame, as `capnp::serialize::write_message` writes it, or its segments ([`segments`]). Bytes may lie at any
 //! address, and those behind the frame at the front of a slice aren't looked at. No call keeps anything, so calls may run in
-//! several threads at once. A level of nesting takes up to 608 bytes of stack.
+//! several threads at once. A level of nesting takes up to 720 bytes of stack.
 //!
 //! Its bare words, which [`canonical_words`] gives, are read back by the module [`words`] alone. A call that takes a frame may
 //! **succeed** on bare words, and then reads **another** value, since the pointer to a root without pointers is also the table
