@@ -90,7 +90,7 @@ COMPARED = {
 NUMBERS = {
     'ctpop': lambda a, b, w: bin(a).count('1'), 'cttz': lambda a, b, w: (a & -a).bit_length() - 1 if a else w, 'ctlz': lambda a, b, w: w - a.bit_length(),
     'bswap': lambda a, b, w: int.from_bytes(a.to_bytes(w // 8, 'little'), 'big'), 'umin': lambda a, b, w: min(a, b), 'umax': lambda a, b, w: max(a, b),
-    'uadd.sat': lambda a, b, w: min(a + b, 2**w - 1), 'usub.sat': lambda a, b, w: max(a - b, 0),
+    'smin': of_signed(min), 'smax': of_signed(max), 'uadd.sat': lambda a, b, w: min(a + b, 2**w - 1), 'usub.sat': lambda a, b, w: max(a - b, 0),
 }
 
 
@@ -293,8 +293,8 @@ def counting(cases):
         if word == 'bswap' and width == 8:
             continue
         cut, (a, b) = narrowed(width, 'a', 'b')
-        given = f'i{width} {a}, i{width} {b}' if word[0] == 'u' else f'i{width} {a}, i1 false' if word in ('cttz', 'ctlz') else f'i{width} {a}'
-        cases.add(f'{cut}%r = call i{width} @llvm.{word}.i{width}({given})\n{widened(width, "%r")}', lambda x, y, count=count, width=width: count(x % 2**width, y, width), edges(width))
+        given = f'i{width} {a}, i{width} {b}' if word[:1] in 'us' else f'i{width} {a}, i1 false' if word in ('cttz', 'ctlz') else f'i{width} {a}'
+        cases.add(f'{cut}%r = call i{width} @llvm.{word}.i{width}({given})\n{widened(width, "%r")}', lambda x, y, count=count, width=width: count(x % 2**width, y, width) % 2**width, edges(width))
 
 
 ATTRIBUTES = '''
@@ -310,7 +310,7 @@ REFUSED = [BODY.format(it) for it in (
     '%x = cmpxchg ptr null, i64 1, i64 2 seq_cst seq_cst, align 8', '%x = load volatile i64, ptr null, align 8', '%x = load atomic i64, ptr null seq_cst, align 8',
     'store volatile i64 1, ptr null, align 8', 'store atomic i64 1, ptr null seq_cst, align 8', '%x = load i1, ptr null, align 1', 'store i1 true, ptr null, align 1', '%x = load double, ptr null, align 8',
     '%x = load ptr addrspace(1), ptr null, align 8', '%p = inttoptr i64 %a to ptr\n  %x = call i64 %p(i64 1)', 'call void asm sideeffect "nop", ""()', '%x = va_arg ptr null, i64', '%x = udiv <16 x i8> zeroinitializer, zeroinitializer',
-    '%x = add <16 x i8> zeroinitializer, zeroinitializer', '%x = call i64 @llvm.fshl.i64(i64 %a, i64 %b, i64 3)', '%x = call i64 @llvm.smax.i64(i64 %a, i64 %b)', '%x = call { i64, i1 } @llvm.uadd.with.overflow.i64(i64 %a, i64 %b)',
+    '%x = add <16 x i8> zeroinitializer, zeroinitializer', '%x = call i64 @llvm.fshl.i64(i64 %a, i64 %b, i64 3)', '%x = call i64 @llvm.abs.i64(i64 %a, i1 false)', '%x = call { i64, i1 } @llvm.uadd.with.overflow.i64(i64 %a, i64 %b)',
     'call void @llvm.memset.p0.i64(ptr null, i8 0, i64 8, i1 true)', 'call void @llvm.memcpy.p0.p0.i64(ptr null, ptr null, i64 8, i1 true)', '%x = extractelement <16 x i8> zeroinitializer, i64 0',
     '%x = insertelement <16 x i8> zeroinitializer, i8 1, i64 0', '%x = shufflevector <16 x i8> zeroinitializer, <16 x i8> poison, <2 x i32> <i32 1, i32 0>', '%x = getelementptr { i64, i64 }, ptr null, i64 0, i32 1',
     '%x = getelementptr i8, ptr null, i32 1', 'musttail call void @test_0(i64 1, i64 2)', 'invoke void @test_0() to label %start unwind label %start', 'indirectbr ptr null, [label %start]', 'resume { ptr, i32 } poison',
