@@ -26,7 +26,7 @@ use Rattle.capnp_messages.specs.declared.messages.command.Form.{Form}
 use Rattle.capnp_messages.specs.declared.messages.command.Form.TheVariants.{Framed, Flat}
 use Rattle.capnp_messages.proofs.AnsweredLemmas.{answer_refused, check_refused, size_refused}
 use Rattle.capnp_messages.proofs.FramesLemmas.{no_bytes_begin}
-use Rattle.capnp_canonical.specs.Calls.{AreWholeWords, InFrame, IsCopyOf, IsGranted, RefusesBytes, RefusesMeaning, RefusesRoom, RefusesSegments, TestFinds, TestIs, no_fault, table_bytes, told_fault}
+use Rattle.capnp_canonical.specs.Calls.{AreWholeWords, InFrame, IsCopyOf, IsGranted, IsOneSegment, RefusesBytes, RefusesMeaning, RefusesRoom, RefusesSegments, RefusesSegment, TestFinds, TestIs, no_fault, table_bytes, told_fault}
 use Rattle.capnp_canonical.specs.Numbers.{answer_number}
 use Rattle.capnp_canonical.specs.declared.fault.Fault.{Fault}
 use Rattle.capnp_canonical.specs.declared.refusal.Refusal.{Refusal}
@@ -73,6 +73,12 @@ pub where_lent : (segments : List (Bor (List ℕ))) {r : Refusal} {P Q X : Type 
 where_lent segments both (inl (inl (named, uneven))) (whole, small, q) = absurd (uneven whole)
 where_lent segments both (inl (inr (named, large))) (whole, small, q) = absurd (large small)
 where_lent segments both (inr (even, fits, p)) (whole, small, q) = both p q
+
+pub where_words : (bytes : List ℕ) {r : Refusal} {P Q X : Type 0} → (P → Q → X) →
+    RefusesSegment bytes r ⊎ (IsOneSegment bytes × P) → IsOneSegment bytes × Q → X
+where_words bytes both (inl (inl (named, uneven))) (one, q) = absurd (uneven one.0)
+where_words bytes both (inl (inr (named, large))) (one, q) = absurd (large one.1)
+where_words bytes both (inr (same, p)) (one, q) = both p q
 
 -- what the test of a message finds, and what is told of it
 pub test_finds : (limits : ReaderOptions) (S : Segments) (o : Option CanonicalFault) →

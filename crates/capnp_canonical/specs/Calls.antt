@@ -1,5 +1,5 @@
 -- What a call gives, and why it is refused.
-use Rattle.std.specs.Prelude.{◌≡◌, ◌⊎◌, ℕ, ℤ, ◌-◌, ◌%◌, ◌^◌, ◌<◌, List, [], All, Bool, true, false}
+use Rattle.std.specs.Prelude.{◌≡◌, ◌⊎◌, ℕ, ℤ, ◌-◌, ◌/◌, ◌%◌, ◌^◌, ◌<◌, List, [], ◌∷◌, All, Bool, true, false}
 use Rattle.std.specs.Prelude.{length, map, Option, Some, None}
 use Rattle.std.specs.Borrow.{Bor}
 use Rattle.capnp_words.specs.declared.error.ErrorKind.{ErrorKind}
@@ -56,6 +56,19 @@ abbrev pub RefusesSegments : List (Bor (List ℕ)) → Refusal → Type 0
 RefusesSegments segments r =
     ((r ≡ SegmentIsNotWholeWords) × (AreWholeWords segments → ⊥))
     ⊎ ((r ≡ Layout (MessageTooLarge (2 ^ 64 - 1))) × (AreSmall segments → ⊥))
+
+-- The message of one segment with these words, if P holds of it.
+abbrev pub IsOneSegment : List ℕ → Type 0
+IsOneSegment bytes = (length bytes % 8 ≡ 0) × (length bytes / 8 < 2 ^ 32)
+
+abbrev pub InWords : List ℕ → (Segments → Type 0) → Type 0
+InWords bytes P = IsOneSegment bytes × P (message (bytes ∷ []))
+
+-- Bytes aren't the words of a segment: they aren't whole words, or are beyond the limits of a reader.
+abbrev pub RefusesSegment : List ℕ → Refusal → Type 0
+RefusesSegment bytes r =
+    ((r ≡ SegmentIsNotWholeWords) × (length bytes % 8 ≡ 0 → ⊥))
+    ⊎ ((r ≡ Layout (MessageTooLarge (2 ^ 64 - 1))) × (length bytes / 8 < 2 ^ 32 → ⊥))
 
 -- The canonical bytes of a message, in a form.
 abbrev pub IsCopyOf : Form → ReaderOptions → Segments → List ℕ → Type 0

@@ -13,8 +13,11 @@ ghost use Rattle.capnp_canonical.specs.Calls.{IsCopyOf, RefusesRoom, limits_of, 
 ghost use Rattle.capnp_canonical.specs.declared.refusal.Refusal.{Refusal};
 
 use crate::refusal::Refusal;
-use capnp_arena::arena::{ReaderOptions, ReaderSegments};
-use capnp_messages::messages::{Form, canonical_bytes, canonical_of};
+use capnp_arena::arena::{
+    Allocator, ReaderArena, ReaderArenaImpl, ReaderOptions, ReaderSegments,
+    ScratchSpaceHeapAllocator,
+};
+use capnp_messages::messages::{CanonicalMessage, CopyMemory, Form};
 use std::alloc::Global;
 
 /// The limits within which a message is read.
@@ -88,8 +91,39 @@ fn put(form: Form, segment: &[u8], to: &mut [u8]) -> Result<usize, Refusal>
     }
 }
 
+/// The bytes of memory on the stack, in which a small message is copied.
+const SMALL: usize = 1024;
+
+/// Puts the canonical message of what a message means to the front of a buffer in a form, and gives its
+/// size in bytes: from its own segment where it is canonical, else by a copy in an allocator's memory.
+fn copy_by<A: Allocator, S: ReaderSegments>(
+    alloc: Global,
+    allocator: A,
+    form: Form,
+    source: &ReaderArenaImpl<S>,
+    limits: ReaderOptions,
+    to: &mut [u8],
+) -> Result<usize, Refusal>
+    requires { source.now.nesting_limit ≡ limits.nesting_limit }
+    ensures copied { IfOk result (λ n. IsCopyOf form limits
+        (message (⟦<ReaderArenaImpl<S> as ReaderArena>⟧.segments source.now)) (take n to.new)) }
+    ensures within { IfOk result (λ n. n ≤ length to.new) }
+    ensures behind { IfOk result (λ n. drop n to.new ≡ drop n to.old) }
+    ensures refused { IfErr result (RefusesRoom form limits (length to.old)
+        (message (⟦<ReaderArenaImpl<S> as ReaderArena>⟧.segments source.now))) }
+    ensures kept { OnErr result (to.new ≡ to.old) }
+{
+    match CanonicalMessage::of(alloc, allocator, source, limits) {
+        Ok(made) => put(form, made.bytes(), to),
+        Err((kind, _)) => Err(Refusal::Layout(kind)),
+    }
+}
+
 /// Puts the canonical message of what the segments mean to the front of a buffer in a form, and gives
 /// its size in bytes.
+///
+/// A message that is canonical is put there from its own segment. The copy of another one takes memory
+/// of the heap only where the message has 128 words or more, or its copy needs more.
 pub fn copy<S: ReaderSegments + Drop>(
     alloc: Global,
     form: Form,
@@ -106,8 +140,12 @@ pub fn copy<S: ReaderSegments + Drop>(
         (RefusesRoom form limits (length to.old) (message (S.segments segments))) }
     ensures kept { OnErr result (to.new ≡ to.old) }
 {
-    match canonical_of(alloc, segments, limits) {
-        Ok(made) => put(form, canonical_bytes(&made), to),
-        Err(kind) => Err(Refusal::Layout(kind)),
+    let source = ReaderArenaImpl::new(segments, limits);
+    if source.size_in_words() < SMALL / 8 {
+        let mut memory = [0u8; SMALL];
+        let small = ScratchSpaceHeapAllocator::new(alloc, memory.as_mut_slice(), 0);
+        copy_by(alloc, small, form, &source, limits, to)
+    } else {
+        copy_by(alloc, CopyMemory::new(alloc), form, &source, limits, to)
     }
 }

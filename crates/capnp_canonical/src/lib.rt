@@ -12,7 +12,7 @@ ghost use Rattle.capnp_messages.specs.Messages.{HasSizeOf};
 ghost use Rattle.capnp_messages.specs.Commands.{HasAnswerWithin};
 ghost use Rattle.capnp_messages.specs.declared.messages.command.Command.{Command};
 ghost use Rattle.capnp_messages.specs.declared.messages.command.Form.{Form};
-ghost use Rattle.capnp_canonical.specs.Calls.{InFrame, InSegments, IsCopyOf, IsGranted, IsNumberWhere, RefusesBytes, RefusesMeaning, RefusesRoom, RefusesSegments, TestIs, limits_of, no_fault};
+ghost use Rattle.capnp_canonical.specs.Calls.{InFrame, InSegments, InWords, IsCopyOf, IsGranted, IsNumberWhere, RefusesBytes, RefusesMeaning, RefusesRoom, RefusesSegments, RefusesSegment, TestIs, limits_of, no_fault};
 ghost use Rattle.capnp_canonical.specs.Numbers.{wanted_room};
 ghost use Rattle.capnp_canonical.specs.Texts.{PutsText, IsNameOf, IsReasonText};
 
@@ -22,6 +22,7 @@ mod frames;
 mod names;
 mod refusal;
 mod segments;
+mod words;
 
 use capnp_messages::messages::Form;
 use fault::{Fault, NO_FAULT};
@@ -29,6 +30,7 @@ use frames::{check_frame, copy_frame, frame_size, size_frame};
 use names::{name_of_number, put_text, text_of_reason};
 use segments::{check_segments, copy_segments, size_segments};
 use std::alloc::Global;
+use words::{check_words, copy_words, size_words};
 
 /// Writes the canonical message of what a frame means, as a frame of one segment, to the front of a
 /// buffer, and gives its size in bytes. Where there is too little room the size that is wanted is given.
@@ -307,6 +309,102 @@ pub extern "C" fn capnp_canonical_segments_size(
         → result ≡ 0 }
 {
     match size_segments(segments, nesting, words) {
+        Ok(size) => {
+            *word_count = size.word_count;
+            *cap_count = size.cap_count;
+            0
+        }
+        Err(refusal) => {
+            *word_count = 0;
+            *cap_count = 0;
+            refusal.number()
+        }
+    }
+}
+
+/// As `capnp_canonical_copy_flat`, of a message of one segment that is given as its bare words.
+#[unsafe(no_mangle)]
+pub extern "C" fn capnp_canonical_words_copy(
+    alloc: Global,
+    bytes: &[u8],
+    nesting: i32,
+    words: u64,
+    to: &mut [u8],
+    written: &mut usize,
+) -> u32
+    ensures done { result ≡ 0 → InWords bytes.now
+        (λ S. IsCopyOf Form.Flat (limits_of nesting words) S (take written.new to.new)) }
+    ensures within { result ≡ 0 → written.new ≤ length to.new }
+    ensures refused { result ≢ 0 → IsNumberWhere result (λ r. (written.new ≡ wanted_room r)
+        × (RefusesSegment bytes.now r ⊎ InWords bytes.now
+        (λ S. RefusesRoom Form.Flat (limits_of nesting words) (length to.old) S r))) }
+    ensures kept { result ≢ 0 → to.new ≡ to.old }
+    ensures behind { result ≡ 0 → drop written.new to.new ≡ drop written.new to.old }
+    ensures granted { InWords bytes.now
+        (HasAnswerWithin (Command.Canon Form.Flat) (limits_of nesting words))
+        → IsGranted result }
+{
+    match copy_words(alloc, bytes, nesting, words, to) {
+        Ok(size) => {
+            *written = size;
+            0
+        }
+        Err(refusal) => {
+            *written = refusal.wanted_room();
+            refusal.number()
+        }
+    }
+}
+
+/// As `capnp_canonical_check`, of a message of one segment that is given as its bare words.
+#[unsafe(no_mangle)]
+pub extern "C" fn capnp_canonical_words_check(
+    bytes: &[u8],
+    nesting: i32,
+    words: u64,
+    is_canonical: &mut bool,
+    fault: &mut Fault,
+) -> u32
+    ensures done { result ≡ 0 → InWords bytes.now
+        (TestIs (limits_of nesting words) is_canonical.new fault.new) }
+    ensures refused { result ≢ 0 → IsNumberWhere result (λ r. RefusesSegment bytes.now r
+        ⊎ InWords bytes.now (λ S. RefusesMeaning Command.Check (limits_of nesting words) S r)) }
+    ensures none { result ≢ 0 → (is_canonical.new ≡ false) × (fault.new ≡ no_fault) }
+    ensures granted { InWords bytes.now (HasAnswerWithin Command.Check (limits_of nesting words))
+        → result ≡ 0 }
+{
+    match check_words(bytes, nesting, words) {
+        Ok(found) => {
+            *is_canonical = found.is_none();
+            *fault = Fault::of(found);
+            0
+        }
+        Err(refusal) => {
+            *is_canonical = false;
+            *fault = NO_FAULT;
+            refusal.number()
+        }
+    }
+}
+
+/// As `capnp_canonical_size`, of a message of one segment that is given as its bare words.
+#[unsafe(no_mangle)]
+pub extern "C" fn capnp_canonical_words_size(
+    bytes: &[u8],
+    nesting: i32,
+    words: u64,
+    word_count: &mut u64,
+    cap_count: &mut u32,
+) -> u32
+    ensures done { result ≡ 0 → InWords bytes.now
+        (λ S. HasSizeOf S (limits_of nesting words) word_count.new cap_count.new) }
+    ensures refused { result ≢ 0 → IsNumberWhere result (λ r. RefusesSegment bytes.now r
+        ⊎ InWords bytes.now (λ S. RefusesMeaning Command.Size (limits_of nesting words) S r)) }
+    ensures none { result ≢ 0 → (word_count.new ≡ 0) × (cap_count.new ≡ 0) }
+    ensures granted { InWords bytes.now (HasAnswerWithin Command.Size (limits_of nesting words))
+        → result ≡ 0 }
+{
+    match size_words(bytes, nesting, words) {
         Ok(size) => {
             *word_count = size.word_count;
             *cap_count = size.cap_count;

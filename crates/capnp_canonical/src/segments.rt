@@ -41,7 +41,7 @@ impl<'a> LentSegments<'a> {
 
 /// The same bytes. Where there are none the pointer may be null, as C has it, and that of the result
 /// isn't.
-fn without_null(bytes: &[u8]) -> &[u8]
+pub fn without_null(bytes: &[u8]) -> &[u8]
     ensures { result.now ≡ bytes.now }
 {
     if bytes.is_empty() { &[] } else { bytes }

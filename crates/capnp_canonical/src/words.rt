@@ -1,0 +1,83 @@
+//! A message of one segment that is given as its bare words, without a table.
+ghost use Rattle.std.specs.Prelude.{◌≡◌, ◌⊎◌, ◌∷◌, [], ◌≤◌, length, take, drop, IfOk, IfErr, OnErr};
+ghost use Rattle.capnp_arena_traits.specs.Limits.{IsSmall};
+ghost use Rattle.capnp_arena.specs.Output.{output_bytes};
+ghost use Rattle.capnp_messages.specs.Messages.{HasSizeOf};
+ghost use Rattle.capnp_messages.specs.declared.messages.command.Command.{Command};
+ghost use Rattle.capnp_messages.specs.declared.messages.command.Form.{Form};
+ghost use Rattle.capnp_canonical.specs.Calls.{InWords, IsCopyOf, IsOneSegment, RefusesMeaning, RefusesRoom, RefusesSegment, TestFinds, limits_of};
+
+use crate::calls::{copy, limits};
+use crate::refusal::Refusal;
+use crate::segments::without_null;
+use capnp_arena::arena::OutputSegments;
+use capnp_messages::messages::{Form, canonical_fault_of, size_of};
+use capnp_readers::readers::{CanonicalFault, MessageSize};
+use capnp_words::error::ErrorKind;
+use std::alloc::Global;
+
+/// The message of one segment with these words.
+fn message_of(words: &[u8]) -> Result<OutputSegments<'_>, Refusal>
+    ensures segments { IfOk result (λ s. output_bytes s ≡ words.now ∷ []) }
+    ensures small { IfOk result (λ s. IsSmall (output_bytes s)) }
+    ensures whole { IfOk result (λ _. IsOneSegment words.now) }
+    ensures refused { IfErr result (RefusesSegment words.now) }
+{
+    if words.len() % 8 != 0 {
+        return Err(Refusal::SegmentIsNotWholeWords);
+    }
+    if words.len() / 8 >= 0x1_0000_0000 {
+        return Err(Refusal::Layout(ErrorKind::MessageTooLarge(usize::MAX)));
+    }
+    Ok(OutputSegments::SingleSegment(without_null(words)))
+}
+
+/// Puts the bare words of the canonical message to the front of a buffer, and gives how many bytes
+/// they are.
+pub fn copy_words(
+    alloc: Global,
+    words: &[u8],
+    nesting: i32,
+    limit: u64,
+    to: &mut [u8],
+) -> Result<usize, Refusal>
+    ensures copied { IfOk result (λ n. InWords words.now
+        (λ S. IsCopyOf Form.Flat (limits_of nesting limit) S (take n to.new))) }
+    ensures within { IfOk result (λ n. n ≤ length to.new) }
+    ensures behind { IfOk result (λ n. drop n to.new ≡ drop n to.old) }
+    ensures refused { IfErr result (λ r. RefusesSegment words.now r
+        ⊎ InWords words.now
+        (λ S. RefusesRoom Form.Flat (limits_of nesting limit) (length to.old) S r)) }
+    ensures kept { OnErr result (to.new ≡ to.old) }
+{
+    let message = message_of(words)?;
+    copy(alloc, Form::Flat, message, limits(nesting, limit), to)
+}
+
+/// Where and why the message isn't canonical, if it isn't.
+pub fn check_words(
+    words: &[u8],
+    nesting: i32,
+    limit: u64,
+) -> Result<Option<CanonicalFault>, Refusal>
+    ensures found { IfOk result (λ o. InWords words.now
+        (TestFinds (limits_of nesting limit) o)) }
+    ensures refused { IfErr result (λ r. RefusesSegment words.now r
+        ⊎ InWords words.now
+        (λ S. RefusesMeaning Command.Check (limits_of nesting limit) S r)) }
+{
+    let message = message_of(words)?;
+    Ok(canonical_fault_of(message, limits(nesting, limit))?)
+}
+
+/// How large the message is.
+pub fn size_words(words: &[u8], nesting: i32, limit: u64) -> Result<MessageSize, Refusal>
+    ensures size { IfOk result (λ z. InWords words.now
+        (λ S. HasSizeOf S (limits_of nesting limit) z.word_count z.cap_count)) }
+    ensures refused { IfErr result (λ r. RefusesSegment words.now r
+        ⊎ InWords words.now
+        (λ S. RefusesMeaning Command.Size (limits_of nesting limit) S r)) }
+{
+    let message = message_of(words)?;
+    Ok(size_of(message, limits(nesting, limit))?)
+}
