@@ -41,20 +41,21 @@ def imported(text):
 
 
 def names_of(lines):
-    """The names that a definition gives: its own, those that are defined with it, and the cases of a `data`."""
-    cases = None
+    """The names that a definition gives: its own, those that are defined with it, and the cases of a `data`. The fields of a
+    record are none: whoever has a value of it has named the record, and a variable or another record's field may have that name."""
+    inside, kind = None, ''
     for line in lines:
         indent = len(line) - len(line.lstrip(' '))
-        if cases is not None and indent <= cases:
-            cases = None
-        if cases is not None:
-            if found := re.match(r' *(\w+) :', line):
+        if inside is not None and indent <= inside:
+            inside = None
+        if inside is not None:
+            if kind == 'data' and (found := re.match(r' *(\w+) :', line)):
                 yield found[1]
             continue
         found = re.match(r' *(?:(?:abbrev|unfoldable) )?pub (record|data) (\S+)', line)
         if found:
             yield found[2]
-            cases = indent if found[1] == 'data' else 10 ** 9
+            inside, kind = indent, found[1]
         elif found := re.match(r' *(?:(?:abbrev|unfoldable) )?(?:pub )?(\S+) :', line):
             if found[1] not in NOT_NAMES:
                 yield found[1]
@@ -153,13 +154,12 @@ def closure(begin, without=frozenset()):
 
 @dataclasses.dataclass(frozen=True)
 class Function:
-    """A function of the program: what stands above it, its signature, its clauses, its body, and the file's imports."""
+    """A function of the program: its signature, its clauses, the file's imports, and its lines with the comment above it."""
 
     name: str
-    comment: tuple
     signature: tuple
     clauses: tuple
-    body: tuple
+    text: tuple
     imports: dict
 
     @property
@@ -221,10 +221,10 @@ def function(path, name):
             clauses.append((found[1], [line]))
         else:
             clauses[-1][1].append(line)
+    comment = [line for line in lines[above:start] if line.strip().startswith('///')]
     return Function(
-        name, tuple(without_indent([line for line in lines[above:start] if line.strip().startswith('///')], indent)),
-        tuple(without_indent(head[:split], indent)), tuple((label, tuple(found)) for label, found in clauses),
-        tuple(without_indent(lines[end:last + 1], indent)), imported(text))
+        name, tuple(without_indent(head[:split], indent)), tuple((label, tuple(found)) for label, found in clauses),
+        tuple(without_indent(comment + lines[start:last + 1], indent)), imported(text))
 
 
 def ends(lines, start, number, indent):
@@ -239,7 +239,7 @@ def ends(lines, start, number, indent):
 def item(path, name):
     """A struct, enum or trait of a file, with what stands above it, up to the brace that ends it."""
     lines = (TOP / path).read_text(encoding='utf-8').split('\n')
-    start = next((i for i, line in enumerate(lines) if re.match(rf' *(?:pub )?(?:struct|enum|trait|const|type) {name}\b', line)), None)
+    start = next((i for i, line in enumerate(lines) if re.match(rf' *(?:pub(?:\([^)]*\))? )?(?:struct|enum|trait|const|type) {name}\b', line)), None)
     if start is None:
         raise SystemExit(f'{path}: no item {name}')
     above = start
@@ -250,3 +250,13 @@ def item(path, name):
     if not lines[start].endswith(';'):
         end = next(i for i in range(start, len(lines)) if lines[i] == ' ' * indent + '}' or lines[i].endswith('{}'))
     return without_indent(lines[above:end + 1], indent)
+
+
+def declared_in(crate, path):
+    """The file of a crate that has a type, by the modules that lead to it: `edit.tasks.Task` stands in `edit/tasks.rt` or `edit.rt`."""
+    *modules, name = path.split('.')
+    for kept in range(len(modules), -1, -1):
+        file = f'crates/{crate}/src/{"/".join(modules[:kept])}.rt'
+        if (TOP / file).is_file() and re.search(rf'^ *(?:pub(?:\([^)]*\))? )?(?:struct|enum) {name}\b', (TOP / file).read_text(encoding='utf-8'), re.M):
+            return file
+    raise SystemExit(f'{crate}: no file has {path}')

@@ -11,81 +11,92 @@ A page says what is quoted in a line of its own; the quotation stands behind tha
     <!-- function PATH NAME -->                 a function as a whole
     <!-- item PATH NAME -->                     a struct, an enum or a constant
     <!-- definition CRATE MODULE NAME -->       a definition with its comment
-    <!-- definitions N -->                      of docs/THEOREM.md: what its statements rest on, 1 of the first two, 2 of the third
-    <!-- notation -->                           of docs/THEOREM.md: the words of the standard library in these definitions
-    <!-- count N -->                            how many definitions that are, in how many lines; both, without a number
+    <!-- definitions N -->                      of docs/THEOREM.md: what the clauses that are quoted in the sections of part N rest on
+    <!-- types N -->                            of docs/THEOREM.md: the types of the program that these definitions and clauses name
+    <!-- notation -->                           of docs/THEOREM.md: the words of the standard library in these definitions and clauses
+    <!-- count N -->                            how many definitions that are, in how many lines; all parts, without a number
     <!-- tries -->                              how many edits, vectors, rows and streams the gate tries
 """
+import functools
 import re
 import sys
 
 import quoted
 from quoted import TOP
 
-STATEMENTS = 'crates/callers/src/theorem.rt'
-FIRST = ('canonical_copy', 'canonical_copy_in_room', 'canonical_test')
-SECOND = ('edited_tree',)
+PAGE = TOP / 'docs/THEOREM.md'
+# The sections of the page whose clauses a part's definitions are for. What a part has, later ones don't repeat.
+PARTS = {'1': ('1', '2', '3'), '2': ('4', '5')}
 # The files of the definitions, in the order in which one reads them; those that aren't named come at the end.
 ORDER = (
     'capnp_messages/Messages', 'capnp_messages/CanonicalMessages', 'capnp_messages/Roots', 'capnp_words/Meter', 'capnp_objects/Source',
-    'capnp_arena/Limits', 'capnp_arena/Allocations', 'capnp_format/Tree', 'capnp_format/Value', 'capnp_format/Bytes', 'capnp_format/Means',
+    'capnp_arena_traits/Limits', 'capnp_arena_traits/Allocations', 'capnp_format/Tree', 'capnp_format/Value', 'capnp_format/Bytes', 'capnp_format/Means',
     'capnp_format/Segments', 'capnp_format/Word', 'capnp_format/Numbers', 'capnp_format/Canonical',
-    'capnp_edits/Edits', 'capnp_format/Forest', 'capnp_edits/Paths', 'capnp_edits/Tasks', 'capnp_edits/Sources', 'capnp_making/Path', 'capnp_making/Stored',
-    'capnp_making/Made', 'capnp_making/Fields', 'capnp_contents/Existing', 'capnp_widening/Opening', 'capnp_widening/Widened', 'capnp_builders/Defaults',
-    'capnp_builders/Laws', 'capnp_builders/Content', 'capnp_builders/Places', 'capnp_copies/Forms', 'capnp_readers/Readers', 'capnp_readers/Sections',
+    'capnp_format/Forest', 'capnp_edits/Paths', 'capnp_making/Path', 'capnp_edits/Tasks', 'capnp_edits/Edits', 'callers/Truly', 'capnp_edits/Sources',
+    'capnp_making/Made', 'capnp_making/Fields', 'capnp_making/Existing', 'capnp_widening/Opening', 'capnp_widening/Widened', 'capnp_builders/Defaults',
+    'capnp_builders/Content', 'capnp_copies/Forms',
     'capnp_objects/Reading', 'capnp_objects/Outcomes', 'capnp_objects/Spending', 'capnp_objects/Wanted', 'capnp_objects/Faults', 'capnp_objects/Demands',
-    'capnp_objects/Refusals', 'capnp_objects/Expected', 'capnp_objects/Follow', 'capnp_words/Sizes', 'capnp_arena/View', 'capnp_arena/Checks',
+    'capnp_objects/Refusals', 'capnp_objects/Expected', 'capnp_objects/Follow', 'capnp_words/Sizes', 'capnp_arena_traits/View', 'capnp_arena_traits/Checks',
 )
-# What the words of the standard library mean that the definitions use.
+# What the words of the standard library mean that the definitions use: the words, how they are written, what that means.
 WORDS = (
-    ('ℕ', 'ℕ, 0, `suc n`', 'whole numbers from 0 without an upper bound; `suc n` is n + 1, `pred n` is n - 1'),
+    ('ℕ zero suc pred', 'ℕ, 0, `suc n`', 'whole numbers from 0 without an upper bound; `suc n` is n + 1, `pred n` is n - 1, and 0 for 0'),
     ('◌+◌', '+ - * / % ^', 'as on whole numbers: `a - b` is 0 where b is greater; `/` and `%` are quotient and remainder; `^` is a power'),
-    ('max', '`max`, `min`', 'the greater, the less of two'),
-    ('ℤ', 'ℤ, `pos n`, `negsuc n`', 'whole numbers with a sign: n, and -(n + 1)'),
-    ('Bool', '`true`, `false`, `&&`, <code>&#124;&#124;</code>, `not`', 'the two truth values; both, either, not'),
-    ('nat_eq', '`nat_eq`, `nat_lt`, `nat_le`, `==`', 'whether two numbers are equal, the first is less, or at most the second'),
+    ('max min', '`max`, `min`', 'the greater, the less of two'),
+    ('ℤ pos negsuc', 'ℤ, `pos n`, `negsuc n`', 'whole numbers with a sign: n, and -(n + 1)'),
+    ('Bool true false not', '`true`, `false`, `&&`, <code>&#124;&#124;</code>, `not`', 'the two truth values; both, either, not'),
+    ('nat_eq nat_lt nat_le', '`nat_eq`, `nat_lt`, `nat_le`', 'whether two numbers are equal, the first is less, or at most the second'),
     ('if◌then◌else◌', '`if b then x else y`', 'x where b is true, else y'),
-    ('List', '`[]`, `x ∷ xs`, `xs ++ ys`', 'the empty list; x before xs; one list behind the other'),
-    ('length', '`length`, `take n`, `drop n`, `map f`, `replicate n x`', 'of lists: the length, the first n, all but the first n, f of each, n times x'),
-    ('get_or', '`get_or xs i d`', 'the element at index i, d where there is none'),
+    ('List []', '`[]`, `x ∷ xs`, `xs ++ ys`', 'the empty list; x before xs; one list behind the other'),
+    ('length take drop map replicate sum', '`length`, `take n`, `drop n`, `map f`, `replicate n x`, `sum`', 'of lists: the length, the first n, all but the first n, f of each, n times x, the sum'),
+    ('get_or', '`get_or xs i d`', 'the element at index i, counted from 0, and d where there is none'),
     ('slice_get', '`slice_get xs i`', '`Some` of the element at index i, `None` where there is none'),
-    ('slice_set', '`slice_set xs i x`', 'xs with x at index i'),
-    ('slice_index', '`slice_index xs i`, `slice_range xs a b`', 'the number at index i; the elements from a on, before b'),
-    ('Option', '`Option A`: `Some x`, `None`', 'an x, or nothing; `is_some o` says which, `unwrap_or o d` is x or d, `ok_or o e` is `Ok x` or `Err e`'),
-    ('option_map_or', '`option_map_or d f o`, `MatchOption o P f`', 'f of what is there, and d (P) where nothing is'),
-    ('Result', '`Result A E`: `Ok x`, `Err e`', 'an answer, or a refusal; `result_ok` is the answer as an `Option`'),
-    ('IfOk', '`IfOk r P`, `IfErr r P`, `IfSome o P`', 'if r is `Ok x`, P x; if r is `Err e`, P e; if o is `Some x`, P x'),
-    ('OnOk', '`OnOk r P`, `OnErr r P`', 'P, if r is an `Ok`; P, if it is an `Err`'),
-    ('IsOk', '`IsOk r`, `IsSome o`, `IsTrue b`', 'r is `Ok` of something; o is `Some` of something; b is true'),
-    ('AllByRecursion', '`All P xs`, `AllByRecursion P xs`', 'P of each element'),
-    ('Bor', '`x.now`, `Bor A`', 'what a reference points to'),
-    ('from_le_bytes', '`from_le_bytes w64`', 'the number with these eight bytes, the lowest first'),
+    ('slice_set', '`slice_set xs i x`', 'xs with x at index i, and xs where there is none'),
+    ('slice_index', '`slice_index xs i`', 'the number at index i, 0 where there is none'),
+    ('Option Some None is_some unwrap_or ok_or', '`Option A`: `Some x`, `None`',
+     'an x, or nothing; `is_some o` says which, `unwrap_or o d` is x or d, `ok_or o e` is `Ok x` or `Err e`'),
+    ('option_map_or', '`option_map_or f o d`', 'f of what is there, and d where nothing is'),
+    ('Result Ok Err result_ok', '`Result A E`: `Ok x`, `Err e`', 'an answer, or a refusal; `result_ok` is the answer as an `Option`'),
+    ('IfOk IfErr', '`IfOk r P`, `IfErr r P`', 'if r is `Ok x`, P x; if r is `Err e`, P e'),
+    ('OnOk OnErr', '`OnOk r P`, `OnErr r P`', 'P, if r is an `Ok`; P, if it is an `Err`'),
+    ('IsOk IsTrue', '`IsOk r`, `IsTrue b`', 'r is `Ok` of something; b is true'),
+    ('AllByRecursion', '`AllByRecursion P xs`', 'P of each element'),
+    ('from_le_bytes w64', '`from_le_bytes w64`', 'the number with these eight bytes, the lowest first'),
     ('◌≡◌', '`≡`, `≢`, `<`, `≤`', 'equal, not equal, less, at most'),
     ('◌⊎◌', '`P × Q`, `P ⊎ Q`, `P → Q`, `P ↔ Q`', 'both; one of them; Q follows from P; each from the other'),
-    ('', '`(x : A) → P`, `(x : A) × P`', 'P for every x; there is an x with P'),
-    ('', '`⊤`, `⊥`, `Type 0`', 'what always holds, and what never does; `Type 0` as a result says that a definition is a statement'),
-    ('', '`λ x. e`, `f x y`', 'the function that gives e for x; f called with x and y'),
-    ('', '`record`, `data`', 'facts or values by name, all of which hold; the forms that a value, or the ways in which a statement, can have'),
+    ('', '`(x : A) → P`, `(x : A) × P`', 'P for every x; there is an x with P. `{x : A}` for `(x : A)` leaves x out where it is called'),
+    ('⊤', '`⊤`, `⊥`, `Type 0`', 'what always holds, and what never does; `Type 0` as a result says that a definition is a statement'),
+    ('', '`λ x. e`, `f x y`, `let x = e in y`', 'the function that gives e for x; f called with x and y; y, in which x is e'),
+    ('', '`x.0`, `x.1`, `x.field`', 'the first and the second part of a pair; a field of a record or struct'),
+    ('', '`record`, `data`', 'facts or values by name, all of which hold, `record { a = x }` being a value; the forms that a value, or the ways in which a '
+     'statement, can have'),
     ('', '`abbrev`, `pub`, `unfoldable`, `mutual`', 'change nothing in the meaning'),
+    ('', '`fn f<A: T>(x: X) -> R`', 'a function of Rust, for every type A that has the trait T, of an x to `result`'),
+    ('', '`requires { P }`, `ensures NAME { P }`', 'P holds where it is called; P holds at its end: this is proved. NAME is how the text calls it'),
+    ('Bor', '`x.old`, `x.new`, `x.now`, `Bor A`', 'what a `&mut` refers to as the call begins, and as it ends; what a `&` refers to; a reference to an A'),
+    ('', '`A.view x`, `⟦<A as T>⟧.view x`', 'what the type A says of x as a T, by the name `view`'),
 )
-# Words that stand in a line of another one.
-BESIDE = {
-    'zero', 'suc', 'pred', 'min', 'pos', 'negsuc', 'true', 'false', 'not', 'nat_lt', 'nat_le', '[]', 'take', 'drop', 'map', 'replicate', 'slice_range', 'Some',
-    'None', 'is_some', 'unwrap_or', 'ok_or', 'MatchOption', 'Ok', 'Err', 'result_ok', 'IfErr', 'IsTrue', 'All', 'w64', '⊤', 'to_le_bytes', 'IfSome', 'OnErr', 'IsSome',
-}
-MARK = re.compile(r'<!-- (clauses|function|item|definitions|definition|notation|count|tries)\b ?(.*?) ?-->')
+MARK = re.compile(r'<!-- (clauses|function|item|definitions|definition|types|notation|count|tries)\b ?(.*?) ?-->')
 END = '<!-- end -->'
 
 
-def statement(name):
-    function = quoted.function(STATEMENTS, name)
-    return quoted.cited('\n'.join(function.chosen(())[0]), function.imports)
+@functools.cache
+def statements(number):
+    """The clauses that the page quotes in the sections of a part: of each function the lines, and what its file imports."""
+    found, section = [], None
+    for line in PAGE.read_text(encoding='utf-8').split('\n'):
+        if heading := re.match(r'## (\d+)?', line):
+            section = heading[1]
+        if section in PARTS[number] and (mark := MARK.fullmatch(line)) and mark[1] == 'clauses':
+            function, labels = chosen(mark[2])
+            found.append(('\n'.join([*function.signature, *function.chosen(labels)[0]]), function.imports))
+    return found
 
 
-def rests_on(names, without=frozenset()):
+def rests_on(number, without=frozenset()):
     begin, types, words = set(), set(), set()
-    for name in names:
-        more, named, used = statement(name)
+    for code, imports in statements(number):
+        more, named, used = quoted.cited(code, imports)
         begin |= more
         types |= named
         words |= used
@@ -93,34 +104,23 @@ def rests_on(names, without=frozenset()):
     return found, types | named, words | used
 
 
+@functools.cache
 def parts():
-    """The definitions, types and words of the first two statements, and of the third what they don't have."""
-    first = rests_on(FIRST)
-    return first, rests_on(SECOND, frozenset(first[0]))
+    """The definitions, types and words of each part, without the definitions and types of those before it."""
+    done, named, found = frozenset(), frozenset(), {}
+    for number in PARTS:
+        definitions_of, types, words = rests_on(number, done)
+        found[number] = definitions_of, types - named, words
+        done |= definitions_of
+        named |= types
+    return found
 
 
-def depths(names):
-    """How many definitions lie between a statement and each that it rests on."""
-    depth = {}
-    waiting = [(definition, 0) for name in names for definition in statement(name)[0]]
-    while waiting:
-        definition, here = waiting.pop(0)
-        if definition not in depth:
-            depth[definition] = here
-            own = quoted.specs(definition.crate, definition.module)
-            waiting += ((below, here + 1) for below in quoted.cited(definition.code, own.imports, own)[0])
-    return depth
-
-
-def in_order(found, number):
-    """The definitions as one reads them: by files, of the edits those of `Edits` first, and in it the statements first."""
-    first = ORDER.index('capnp_edits/Edits') if number == '2' else 0
-    depth = depths(SECOND) if number == '2' else {}
-
+def in_order(found):
+    """The definitions as one reads them: by files, and as they stand there."""
     def place(definition):
         name = f'{definition.crate}/{definition.module}'
-        index = (ORDER.index(name) - first) % len(ORDER) if name in ORDER else len(ORDER)
-        return index, name, depth.get(definition, 0), definition.line
+        return ORDER.index(name) if name in ORDER else len(ORDER), name, definition.line
 
     return sorted(found, key=place)
 
@@ -134,9 +134,9 @@ def renamed(file, found):
 
 
 def definitions(number):
-    found, types, _ = parts()[int(number) - 1]
     lines, file = [], None
-    for definition in in_order(found, number):
+    found = parts()[number][0]
+    for definition in in_order(found):
         if (definition.crate, definition.module) != file:
             if file:
                 lines += ['```', '']
@@ -146,15 +146,25 @@ def definitions(number):
         else:
             lines.append('')
         lines += definition.text.split('\n')
-    lines += ['```', '', 'Types of the program that these name: ' + ', '.join(f'`{crate}::{path.replace(".", "::")}`' for crate, path in sorted(types)) + '.']
-    return lines
+    return [*lines, '```']
+
+
+def types(number):
+    """The types of the program that a part names, each as its file has it."""
+    lines = ['```rust']
+    for crate, path in sorted(parts()[number][1]):
+        lines += quoted.item(quoted.declared_in(crate, path), path.split('.')[-1]) + ['']
+    return [*lines[:-1], '```']
 
 
 def notation():
-    used = set().union(*(words for _, _, words in parts()))
-    told = {word for word, _, _ in WORDS} | BESIDE
-    if untold := sorted(word for word in used - told if not re.fullmatch(r'[◌+\-*/%^<≤≡≢∷↔⊎&|=ℤ]+', word)):
+    used = set().union(*(words for _, _, words in parts().values()))
+    told = {word for words, _, _ in WORDS for word in words.split()}
+    signs = re.compile(r'[◌+\-*/%^<≤≡≢∷↔⊎&|=ℤ]+')
+    if untold := sorted(word for word in used - told if not signs.fullmatch(word)):
         raise SystemExit(f'tests/theorem.py: say in WORDS what these mean: {", ".join(untold)}')
+    if unused := sorted(word for word in told - used if not signs.fullmatch(word) and word != 'if◌then◌else◌'):
+        raise SystemExit(f'tests/theorem.py: nothing uses these of WORDS: {", ".join(unused)}')
     return ['| Written | Means |', '|---|---|', *(f'| {written} | {meaning} |' for _, written, meaning in WORDS)]
 
 
@@ -163,16 +173,16 @@ def length(definitions_found):
 
 
 def count(number):
-    found = parts()[int(number) - 1][0]
+    found = parts()[number][0]
     files = len({(definition.crate, definition.module) for definition in found})
     return [f'{len(found)} definitions (those that name one another being one) in {length(found)} lines of {files} files.']
 
 
 def both_counts():
-    (first, _, _), (second, _, _) = parts()
+    first, second = (found for found, _, _ in parts().values())
     return [
         f'{len(first)} definitions in {length(first)} lines for the copy and the test, and {len(second)} further ones in '
-        f'{length(second)} lines for the edits.'
+        f'{length(second)} lines for the test at a pointer and the edits.'
     ]
 
 
@@ -192,16 +202,20 @@ def tries():
     return ['| What | Where | How many |', '|---|---|---|', *(f'| {what} | {where} | {number:,} |' for what, where, number in rows)]
 
 
-def clauses(rest):
+def chosen(rest):
+    """The function of a mark, and the labels of the clauses that it wants."""
     wanted, _, labels = rest.partition(': ')
-    function = quoted.function(*wanted.split())
-    lines, left_out = function.chosen([label.strip() for label in labels.split(',')] if labels else ())
+    return quoted.function(*wanted.split()), [label.strip() for label in labels.split(',')] if labels else ()
+
+
+def clauses(rest):
+    function, labels = chosen(rest)
+    lines, left_out = function.chosen(labels)
     return ['```rust', function.head, *lines, *(['    // and further clauses'] if left_out else []), '```']
 
 
 def whole(rest):
-    function = quoted.function(*rest.split())
-    return ['```rust', *function.comment, *function.signature, *(line for _, lines in function.clauses for line in lines), *function.body, '```']
+    return ['```rust', *quoted.function(*rest.split()).text, '```']
 
 
 def quotation(kind, rest):
@@ -215,7 +229,7 @@ def quotation(kind, rest):
         return ['```antt', *found.text.split('\n'), '```']
     if kind == 'item':
         return ['```rust', *quoted.item(*rest.split()), '```']
-    return {'definitions': definitions, 'count': count}[kind](rest) if rest else {'notation': notation, 'tries': tries, 'count': both_counts}[kind]()
+    return {'definitions': definitions, 'types': types, 'count': count}[kind](rest) if rest else {'notation': notation, 'tries': tries, 'count': both_counts}[kind]()
 
 
 def written(text):
@@ -234,12 +248,12 @@ def written(text):
 
 
 def pages():
-    return [page for page in (TOP / 'docs/THEOREM.md', TOP / 'README.md', *sorted(TOP.glob('crates/*/CALLING.md'))) if page.is_file()]
+    return [page for page in (PAGE, TOP / 'README.md', *sorted(TOP.glob('crates/*/CALLING.md'))) if page.is_file()]
 
 
 def prose(text):
     """The words that a page has besides what it quotes by this script."""
-    return len(re.sub(r'<!-- (?:clauses|function|item|definitions?|notation|count|tries)\b.*?<!-- end -->', '', text, flags=re.S).split())
+    return len(re.sub(r'<!-- (?:clauses|function|item|definitions?|types|notation|count|tries)\b.*?<!-- end -->', '', text, flags=re.S).split())
 
 
 def main():
@@ -256,7 +270,7 @@ def main():
         old = page.read_text(encoding='utf-8')
         try:
             new = written(old)
-        except SystemExit as error:
+        except (SystemExit, FileNotFoundError) as error:
             print(f'{page.relative_to(TOP)}: {error}')
             failed, broken = failed + 1, broken + 1
             continue

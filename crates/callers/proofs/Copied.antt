@@ -1,23 +1,26 @@
--- Where a message has a canonical copy, only want of memory refuses it; where it can be read, the test answers.
-use Rattle.std.proofs.Common.{◌≡◌, refl, ℕ, Bool, Result, Ok, Err, IsOk, IfErr, length}
+-- What a copy has asked for; and where a message can be read, the test answers.
+use Rattle.std.proofs.Common.{◌≡◌, ◌⊎◌, inl, inr, refl, arith, ℕ, zero, suc, ◌+◌, ◌*◌, ◌<◌, ◌≤◌, [], ◌∷◌, map, sum, Bool, Result, Ok, Err, IsOk, IfErr, length}
+use Rattle.std.proofs.lemmas.Grind.{common_steps}
 use Rattle.capnp_words.specs.declared.error.ErrorKind.{ErrorKind}
-use Rattle.capnp_words.specs.declared.error.ErrorKind.TheVariants.{AllocationFailed}
 use Rattle.capnp_format.specs.Segments.{Segments}
-use Rattle.capnp_arena_traits.specs.Allocations.{one_more}
+use Rattle.capnp_framing.specs.Reading.{total}
 use Rattle.capnp_arena.specs.declared.arena.reader_arena_impl.ReaderOptions.{ReaderOptions}
-use Rattle.capnp_messages.specs.Copies.{LacksMemoryOr}
-use Rattle.capnp_messages.specs.Messages.{HasCanonicalCopy, IsReadable, RefusesCanon, RefusesCheck}
-use Rattle.capnp_messages.proofs.AnsweredLemmas.{check_refused, copy_lacks_memory}
-
--- a refusal of a copy that there is is want of memory, which was counted
-pub copied_or_unallocated : {M A : Type 0} (S : Segments) (limits : ReaderOptions) (count : A → ℕ) (old : ℕ) (r : Result M (ErrorKind × A)) →
-    HasCanonicalCopy S limits → IfErr r (λ e. LacksMemoryOr old (count e.1) e.0 (RefusesCanon S limits e.0)) →
-    IfErr r (λ e. (e.0 ≡ AllocationFailed) × (count e.1 ≡ one_more old))
-copied_or_unallocated S limits count old (Ok made) has refused = tt
-copied_or_unallocated S limits count old (Err e) has refused = copy_lacks_memory S limits has refused
+use Rattle.capnp_messages.specs.Tries.{room_of_try}
+use Rattle.capnp_messages.specs.Messages.{IsReadable, RefusesCheck}
+use Rattle.capnp_messages.proofs.AnsweredLemmas.{check_refused}
 
 -- a test is answered where its message can be read, or hasn't one segment
 pub is_tested : (S : Segments) (limits : ReaderOptions) (r : Result Bool ErrorKind) → (length S ≡ 1 → IsReadable S limits) →
     IfErr r (RefusesCheck S limits) → IsOk r
 is_tested S limits (Ok holds) can refused = refl
 is_tested S limits (Err k) can refused = absurd (check_refused S limits (can refused.0) refused)
+
+total_is : (S : Segments) → total S ≡ sum (map length S)
+total_is [] = refl
+total_is (ws ∷ S) = grind (arith, common_steps, total_is S)
+
+-- what the tries ask for: the words of the source and one, or less than twice the words that are made
+pub asked_no_more : (S : Segments) {words : ℕ} (try : ℕ) → ((j : ℕ) → j < try → room_of_try (total S) j < words) →
+    (room_of_try (total S) try ≤ sum (map length S) + 1) ⊎ (room_of_try (total S) try < 2 * words)
+asked_no_more S zero little = inl (omega (arith, total_is S))
+asked_no_more S (suc k) little = inr (omega (arith, little k (omega arith)))

@@ -1,5 +1,5 @@
 -- Values put at the root of a forest, and at a pointer of the root's struct.
-use Rattle.std.proofs.Common.{◌≡◌, ℕ, zero, suc, ◌+◌, ◌<◌, [], ◌∷◌, length, refl, sym, ap, arith}
+use Rattle.std.proofs.Common.{◌≡◌, ℕ, zero, suc, ◌+◌, ◌<◌, List, [], ◌∷◌, length, refl, sym, ap, arith}
 use Rattle.std.proofs.lemmas.List.{length-replicate}
 use Rattle.capnp_format.specs.Segments.{Segments}
 use Rattle.capnp_format.specs.Tree.{Tree, Null, Struct}
@@ -8,7 +8,7 @@ use Rattle.capnp_words.specs.declared.wire_pointer.StructSize.{StructSize}
 use Rattle.capnp_readers.specs.declared.readers.struct_reader.StructPlace.{StructPlace}
 use Rattle.capnp_making.specs.Made.{words_of_zero, nulls, zero_struct}
 use Rattle.capnp_making.specs.Memory.{start_of}
-use Rattle.capnp_making.specs.Path.{Child, PathLeads, put_tree, tree_at}
+use Rattle.capnp_making.specs.Path.{Child, PathLeads, Step, put_tree, tree_at, update}
 use Rattle.capnp_making.specs.Stored.{Puts}
 use Rattle.capnp_making.proofs.Placed.{count-nulls}
 use Rattle.capnp_making.proofs.Replaced.{forest_stored, forest_updated, stored_within}
@@ -32,3 +32,7 @@ field_put S M R t y size place forest first leads some puts =
     let at : (target M 0 0).start + length (words_of_zero size.data_words) + 0 ≡ place.pointers_at = omega (arith, is_pointers, long) in
     let path : PathLeads M 0 0 (zero_struct size) (Child 0 ∷ []) place.segment (place.pointers_at) Null = (omega (arith, count-nulls size.pointers), (sym is_segment, at, null_first size.pointers)) in
     forest_updated M R (zero_struct size) (Child 0 ∷ []) place.segment (place.pointers_at) Null y made path (puts Null (stored_within M 0 0 (zero_struct size) (Child 0 ∷ []) place.segment (place.pointers_at) Null path (forest_stored M (zero_struct size) made)))
+
+-- what is put at a pointer, wherever in a tree it is
+pub put_where_it_leads : (S R : Segments) (s p : ℕ) (y : Tree) → Puts S R s p y → (t x : Tree) (path : List Step) → IsForest S t → PathLeads S 0 0 t path s p x → IsForest R (update t path y)
+put_where_it_leads S R s p y puts t x path forest leads = forest_updated S R t path s p x y forest leads (puts x (stored_within S 0 0 t path s p x leads (forest_stored S t forest)))

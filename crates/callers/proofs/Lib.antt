@@ -1,7 +1,11 @@
+pub mod AgreedLemmas
 pub mod Copied
+pub mod Evenness
 pub mod Extending
 pub mod Fields
 pub mod Fitting
 pub mod Framed
 pub mod InRoom
+pub mod Pointers
 pub mod ReadBack
+pub mod TrulyLemmas

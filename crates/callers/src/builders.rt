@@ -1,18 +1,20 @@
 //! Callers of builders that know their contracts alone, generic over the arena: they show that a
 //! message's value can be followed from call to call, whether a call is granted or refused.
-ghost use Rattle.std.specs.Prelude.{◌≡◌, ◌<◌, ◌≤◌, ◌+◌, ◌^◌, ◌∷◌, [], length, IsOk, IsOkAnd, IfOk, OnOk, OnErr};
+ghost use Rattle.std.specs.Prelude.{ℕ, ◌≡◌, ◌<◌, ◌≤◌, ◌+◌, ◌^◌, ◌∷◌, [], length, IsOk, IsOkAnd, IfOk, OnOk, OnErr};
 ghost use Rattle.capnp_making.specs.Makes.{call_at};
 ghost use Rattle.capnp_builders.specs.Places.{IsStructOf};
 ghost use Rattle.capnp_making.specs.Stored.{Puts};
 ghost use Rattle.capnp_readers.specs.Readers.{IsStructPlace};
 ghost use Rattle.capnp_format.specs.Bytes.{message};
+ghost use Rattle.capnp_edits.specs.Edits.{TakesAll};
 ghost use Rattle.capnp_format.specs.Forest.{IsForest};
+ghost use Rattle.capnp_format.specs.Means.{Means};
 ghost use Rattle.capnp_format.specs.Numbers.{words_for};
 ghost use Rattle.capnp_format.specs.Segments.{segment, IsPlace};
 ghost use Rattle.capnp_format.specs.Tree.{Tree, Null, Struct};
 ghost use Rattle.capnp_making.specs.Made.{words_of_zero, nulls, zero_struct};
 ghost use Rattle.capnp_making.specs.Path.{put_tree};
-ghost use Rattle.callers.specs.Meaning.{MeansTheSame, AreReadBack};
+ghost use Rattle.callers.specs.Meaning.{MeansTheSame};
 ghost use Rattle.callers.specs.Room.{IsMadeFirst};
 
 use capnp_arena::arena::{
@@ -118,10 +120,11 @@ pub fn edited<'a, L: Allocator>(
     outcomes: &mut [Option<ErrorKind>],
 ) -> Result<ReaderArenaImpl<OutputSegments<'a>>, ErrorKind>
     requires { length outcomes.old ≡ length edits.now }
-    ensures { IfOk result (λ r.
-        AreReadBack (⟦<BuilderArenaImpl<L> as BuilderArena>⟧.view built.old).words
-        (⟦<ReaderArenaImpl<OutputSegments<'a>> as ReaderArena>⟧.segments r) edits.now
-        outcomes.new) }
+    ensures { IfOk result (λ r. (t : Tree)
+        → IsForest (⟦<BuilderArenaImpl<L> as BuilderArena>⟧.view built.old).words t
+        → (u : Tree) × TakesAll edits.now outcomes.new t u × (n : ℕ) × (c : ℕ)
+        × Means (message (⟦<ReaderArenaImpl<OutputSegments<'a>> as ReaderArena>⟧.segments r))
+        n 0 0 u c) }
 {
     apply_all(&mut *built, edits, outcomes);
     read_back(built)

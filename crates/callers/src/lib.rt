@@ -1,6 +1,7 @@
 //! Callers that know an arena, or builders, by their contracts alone.
 #![tactic(auto)]
 
+pub mod agreed;
 pub mod arena;
 pub mod builders;
 pub mod edits;

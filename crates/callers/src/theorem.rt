@@ -1,19 +1,31 @@
 //! The theorem of the README as contracts: the canonical copy, the test for canonical form, and the tree
 //! after any list of edits ("Canonicalization"). `docs/THEOREM.md` has all that they cite.
-ghost use Rattle.std.specs.Prelude.{◌≡◌, ◌↔◌, ◌∷◌, ◌+◌, ◌≤◌, [], length, IsOk, IsTrue, IfOk, IfErr, OnOk};
+ghost use Rattle.std.specs.Prelude.{◌≡◌, ◌↔◌, ◌⊎◌, ◌∷◌, ◌+◌, ◌*◌, ◌<◌, ◌≤◌, [], ℕ, List, Ok, true, false, length, map, sum, IsOk, IsTrue, IfOk, IfErr, OnOk, OnErr};
 ghost use Rattle.capnp_words.specs.declared.error.ErrorKind.TheVariants.{AllocationFailed};
+ghost use Rattle.capnp_words.specs.Meter.{FitsIn};
 ghost use Rattle.capnp_format.specs.Bytes.{message};
-ghost use Rattle.capnp_format.specs.Canonical.{encoding, trim, word_count};
-ghost use Rattle.capnp_words.specs.Meter.{spent};
-ghost use Rattle.capnp_objects.specs.Source.{levels};
-ghost use Rattle.capnp_readers.specs.Readers.{reading};
-ghost use Rattle.capnp_messages.specs.Roots.{CoversRoot, message_root};
-ghost use Rattle.capnp_format.specs.Tree.{Tree};
-ghost use Rattle.capnp_arena_traits.specs.Allocations.{one_more};
+ghost use Rattle.capnp_format.specs.Canonical.{Stands, charge, encoding, trim, word_count};
+ghost use Rattle.capnp_format.specs.Segments.{AreWords, IsPlace, segment, word_at};
+ghost use Rattle.capnp_format.specs.Tree.{Null, Tree, depth};
+ghost use Rattle.capnp_arena_traits.specs.Allocations.{max_segment_words, one_more};
 ghost use Rattle.capnp_arena_traits.specs.Limits.{IsSmall};
+ghost use Rattle.capnp_framing.specs.Writing.{Prints};
+ghost use Rattle.capnp_framing.specs.declared.framing.frame_error.FrameError.TheVariants.{WriteFailed};
+ghost use Rattle.capnp_making.specs.Made.{zero_struct};
+ghost use Rattle.capnp_making.specs.Memory.{IsRefusedFor};
+ghost use Rattle.capnp_objects.specs.Source.{levels};
+ghost use Rattle.capnp_objects.specs.Spending.{Paid, pointers_in};
+ghost use Rattle.capnp_readers.specs.Checking.{TestStops, progress};
+ghost use Rattle.capnp_readers.specs.Readers.{reading};
+ghost use Rattle.capnp_builders.specs.Building.{IsThere, built};
 ghost use Rattle.capnp_edits.specs.Edits.{IsApplied, TakesAll};
 ghost use Rattle.capnp_messages.specs.CanonicalMessages.{IsCanonicalMessage};
-ghost use Rattle.capnp_messages.specs.Messages.{HasCanonicalCopy, IsReadable, IsValueOf};
+ghost use Rattle.capnp_messages.specs.Commands.{form_bytes};
+ghost use Rattle.capnp_messages.specs.Copies.{LacksMemoryOr, RefusesCopyAnywhere};
+ghost use Rattle.capnp_messages.specs.Messages.{HasCanonicalCopy, IsReadable, IsValueOf, RefusesAt, RefusesCanon, RefusesCheck, left_of, root_within};
+ghost use Rattle.capnp_making.specs.Path.{PathLeads, Step, update};
+ghost use Rattle.capnp_format.specs.Forest.{IsForest};
+ghost use Rattle.callers.specs.Truly.{AreRefusedTruly, read_at};
 
 use capnp_arena::arena::{
     Allocator, BuilderArena, BuilderArenaImpl, ReaderArena, ReaderArenaImpl, ReaderOptions,
@@ -21,10 +33,15 @@ use capnp_arena::arena::{
 };
 use capnp_builders::builders::PointerBuilder;
 use capnp_edits::edit::{Edit, apply_all};
-use capnp_messages::messages::{canonical_with, is_canonical};
-use capnp_readers::readers::PointerReader;
+use capnp_framing::devices::{Output, write_all};
+use capnp_framing::framing::FrameError;
+use capnp_messages::messages::{
+    CanonicalError, Form, canonical_bytes, canonical_with, is_canonical, read_root, write_copy,
+};
+use capnp_readers::readers::{PointerPlace, PointerReader, StructPlace};
 use capnp_words::error::ErrorKind;
 use capnp_words::read_limiter::ReadLimiter;
+use capnp_words::wire_pointer::StructSize;
 use std::alloc::Global;
 
 /// The canonical copy of a message ("Canonicalization"), with memory of an allocator.
@@ -44,31 +61,41 @@ pub fn canonical_copy<A: Allocator, S: ReaderSegments + Drop>(
         × (A.refusals e.1 ≡ one_more (A.refusals allocator))) }
     ensures exactly_what { IfOk result (λ made. (t : Tree)
         × IsValueOf (message (S.segments segments)) limits t
+        × (1 + word_count (trim t) ≤ max_segment_words)
         × ((⟦<BuilderArenaImpl<A> as BuilderArena>⟧.view made).words
         ≡ encoding (trim t) ∷ [])) }
+    ensures asked { IfOk result (λ made. (n : ℕ)
+        × IsTrue (A.offers allocator n
+        ((⟦<BuilderArenaImpl<A> as BuilderArena>⟧.view made).room 0))
+        × ((t : Tree) → IsValueOf (message (S.segments segments)) limits t
+        → (n ≤ sum (map length (message (S.segments segments))) + 1)
+        ⊎ (n < 2 * (1 + word_count (trim t))))) }
+    ensures granted { IfOk result (λ made.
+        (⟦<BuilderArenaImpl<A> as BuilderArena>⟧.view made).refusals ≡ A.refusals allocator) }
+    ensures refused { IfErr result
+        (λ e. LacksMemoryOr (A.refusals allocator) (A.refusals e.1) e.0
+        (RefusesCanon (message (S.segments segments)) limits e.0)) }
 {
-    canonical_with(alloc, allocator, segments, limits)
+    match canonical_with(alloc, allocator, segments, limits) {
+        Ok(made) => {
+            is_short(&made);
+            Ok(made)
+        }
+        Err(refused) => Err(refused),
+    }
 }
 
-/// A reader of the root of a message, after its word is charged.
-fn read_root<'a, S: ReaderSegments + Drop>(
-    arena: &'a ReaderArenaImpl<S>,
-    lim: &mut ReadLimiter,
-) -> Result<PointerReader<'a, ReaderArenaImpl<S>>, ErrorKind>
-    ensures exactly { IsOk result ↔ CoversRoot
-        (message (⟦<ReaderArenaImpl<S> as ReaderArena>⟧.segments arena.now)) lim.old.left }
-    ensures place { IfOk result (λ root. reading ⟦<ReaderArenaImpl<S> as ReaderArena>⟧ root
-        ≡ message_root (message (⟦<ReaderArenaImpl<S> as ReaderArena>⟧.segments arena.now))
-        (levels arena.now.nesting_limit)) }
-    ensures charged { OnOk result (lim.new ≡ spent lim.old 1) }
-{
-    PointerReader::get_root_from_arena(arena, lim)
-}
+/// The first segment of a message that is built has no more words than a segment can have. It does nothing; its
+/// contract says so.
+fn is_short<A: BuilderArena>(made: &A)
+    ensures { length (segment (A.view made.now).words 0) ≤ max_segment_words }
+{}
 
 /// The canonical copy of a message into the only segment of a message that is built, behind its root word.
 ///
-/// It succeeds wherever the message has a value without capabilities within both limits whose canonical words
-/// fit that segment, whatever memory there is.
+/// It succeeds and stays in that segment where, and only where, the message has a value without capabilities
+/// within both limits whose canonical words fit there, whatever memory there is. After a refusal all words
+/// are zero.
 pub fn canonical_copy_in_room<A: BuilderArena, S: ReaderSegments + Drop>(
     arena: &mut A,
     segments: S,
@@ -76,13 +103,123 @@ pub fn canonical_copy_in_room<A: BuilderArena, S: ReaderSegments + Drop>(
 ) -> Result<(), ErrorKind>
     requires small { IsSmall (S.segments segments) }
     requires root { (A.view arena.old).words ≡ (0 ∷ []) ∷ [] }
-    ensures { (t : Tree) → IsValueOf (message (S.segments segments)) limits t
+    ensures fits { (t : Tree) → IsValueOf (message (S.segments segments)) limits t
         → 1 + word_count (trim t) ≤ (A.view arena.old).room 0 → IsOk result }
+    ensures made { IfOk result (λ _. (t : Tree)
+        × IsValueOf (message (S.segments segments)) limits t
+        × (1 + word_count (trim t) ≤ (A.view arena.old).room 0
+        ↔ ((A.view arena.new).words ≡ encoding (trim t) ∷ []))) }
+    ensures unasked { OnOk result ((A.view arena.new).refusals ≡ (A.view arena.old).refusals) }
+    ensures cleared { OnErr result ((s p : ℕ) → word_at (A.view arena.new).words s p ≡ 0) }
+    ensures refused { IfErr result (λ k. RefusesAt (message (S.segments segments)) limits k
+        (RefusesCopyAnywhere (root_within (message (S.segments segments)) limits)
+        (left_of limits) ((A.view arena.old).room 0) k)) }
 {
     let source = ReaderArenaImpl::new(segments, limits);
     let mut lim = ReadLimiter::new(limits.traversal_limit_in_words);
     let root = read_root(&source, &mut lim)?;
     PointerBuilder::get_root(arena).copy_from(root, &mut lim, true)
+}
+
+/// The canonical copy of a message as bytes: the frame of its only segment, or that segment's bytes.
+///
+/// It is written where, and only where, the message has a canonical copy, unless the allocator refuses memory or
+/// the output fails.
+pub fn canonical_copy_in_bytes<W: Output, A: Allocator, S: ReaderSegments + Drop>(
+    alloc: Global,
+    allocator: A,
+    output: &mut W,
+    segments: S,
+    limits: ReaderOptions,
+    form: Form,
+) -> Result<(), (CanonicalError, A)>
+    requires small { IsSmall (S.segments segments) }
+    requires works { W.has_failed output.old ≡ false }
+    ensures exactly_where { HasCanonicalCopy (message (S.segments segments)) limits
+        → IfErr result (λ e. ((e.0 ≡ CanonicalError.Layout AllocationFailed)
+        × (A.refusals e.1 ≡ one_more (A.refusals allocator)))
+        ⊎ ((e.0 ≡ CanonicalError.Frame WriteFailed) × (W.has_failed output.new ≡ true))) }
+    ensures exactly_what { OnOk result ((t : Tree)
+        × IsValueOf (message (S.segments segments)) limits t
+        × Prints W.Output output.old output.new (form_bytes form (encoding (trim t)))) }
+{
+    match canonical_with(alloc, allocator, segments, limits) {
+        Ok(made) => match write_bytes(output, &made, form) {
+            Ok(()) => Ok(()),
+            Err(error) => Err((error, made.into_allocator())),
+        },
+        Err((kind, allocator)) => Err((CanonicalError::Layout(kind), allocator)),
+    }
+}
+
+/// Writes the only segment of a message as a frame, or its bytes.
+fn write_bytes<W: Output, A: Allocator>(
+    output: &mut W,
+    made: &BuilderArenaImpl<A>,
+    form: Form,
+) -> Result<(), CanonicalError>
+    requires works { W.has_failed output.old ≡ false }
+    requires single { length (⟦<BuilderArenaImpl<A> as ReaderArena>⟧.segments made.now) ≡ 1 }
+    ensures written { (words : List ℕ)
+        → (⟦<BuilderArenaImpl<A> as BuilderArena>⟧.view made.now).words ≡ words ∷ []
+        → OnOk result (Prints W.Output output.old output.new (form_bytes form words)) }
+    ensures refused { IfErr result (λ e. (e ≡ CanonicalError.Frame WriteFailed)
+        × (W.has_failed output.new ≡ true)) }
+{
+    match form {
+        Form::Framed => write_copy(output, made),
+        Form::Flat => match write_all(output, canonical_bytes(made)) {
+            Ok(()) => Ok(()),
+            Err(_) => Err(CanonicalError::Frame(FrameError::WriteFailed)),
+        },
+    }
+}
+
+/// Copies two messages, and says whether their canonical copies are the same bytes: they are exactly if the
+/// trimmed values are equal, however the two messages are encoded.
+///
+/// It answers where both have a canonical copy, unless an allocator refuses memory.
+pub fn two_copies<A: Allocator, S: ReaderSegments + Drop, R: ReaderSegments + Drop>(
+    alloc: Global,
+    one: A,
+    other: A,
+    first: S,
+    second: R,
+    limits: ReaderOptions,
+) -> Result<bool, (ErrorKind, A)>
+    requires first { IsSmall (S.segments first) }
+    requires second { IsSmall (R.segments second) }
+    ensures exactly_where { HasCanonicalCopy (message (S.segments first)) limits
+        → HasCanonicalCopy (message (R.segments second)) limits
+        → IfErr result (λ e. (e.0 ≡ AllocationFailed)
+        × ((A.refusals e.1 ≡ one_more (A.refusals one))
+        ⊎ (A.refusals e.1 ≡ one_more (A.refusals other)))) }
+    ensures exactly_what { IfOk result (λ same. (t u : Tree)
+        → IsValueOf (message (S.segments first)) limits t
+        → IsValueOf (message (R.segments second)) limits u
+        → AreWords (message (S.segments first)) → AreWords (message (R.segments second))
+        → IsTrue same ↔ (trim t ≡ trim u)) }
+    ensures only { OnOk result (HasCanonicalCopy (message (S.segments first)) limits
+        × HasCanonicalCopy (message (R.segments second)) limits) }
+{
+    let left = match canonical_copy(alloc, one, first, limits) {
+        Ok(made) => made,
+        Err(refusal) => return Err(refusal),
+    };
+    match canonical_copy(alloc, other, second, limits) {
+        Ok(right) => Ok(same_bytes(&left, &right)),
+        Err(refusal) => Err(refusal),
+    }
+}
+
+/// Whether two messages of one segment are the same bytes.
+fn same_bytes<A: Allocator>(left: &BuilderArenaImpl<A>, right: &BuilderArenaImpl<A>) -> bool
+    requires left { length (⟦<BuilderArenaImpl<A> as ReaderArena>⟧.segments left.now) ≡ 1 }
+    requires right { length (⟦<BuilderArenaImpl<A> as ReaderArena>⟧.segments right.now) ≡ 1 }
+    ensures { IsTrue result ↔ ((⟦<BuilderArenaImpl<A> as BuilderArena>⟧.view left.now).words
+        ≡ (⟦<BuilderArenaImpl<A> as BuilderArena>⟧.view right.now).words) }
+{
+    canonical_bytes(left) == canonical_bytes(right)
 }
 
 /// The test for canonical form ("Canonicalization").
@@ -98,22 +235,99 @@ pub fn canonical_test<S: ReaderSegments + Drop>(
         ↔ IsCanonicalMessage (message (S.segments segments))) }
     ensures answered { (length (message (S.segments segments)) ≡ 1
         → IsReadable (message (S.segments segments)) limits) → IsOk result }
+    ensures refused { IfErr result (RefusesCheck (message (S.segments segments)) limits) }
 {
     is_canonical(segments, limits)
+}
+
+/// The test for canonical form at a pointer of a message, with the head, the word of its segment at which its
+/// first object has to start.
+///
+/// It says yes exactly where canonical words of a value stand, and then moves the head behind them and has
+/// charged and counted what reading that value costs. It answers wherever they stand and both limits cover them.
+pub fn canonical_test_at<S: ReaderSegments>(
+    arena: &ReaderArenaImpl<S>,
+    place: PointerPlace,
+    lim: &mut ReadLimiter,
+    head: &mut u32,
+) -> Result<bool, ErrorKind>
+    requires { IsPlace (message (⟦<ReaderArenaImpl<S> as ReaderArena>⟧.segments arena.now))
+        place.segment place.word }
+    ensures exactly { let words = message (⟦<ReaderArenaImpl<S> as ReaderArena>⟧.segments arena.now)
+        in IfOk result (λ yes. IsTrue yes
+        ↔ ((t : Tree) × Stands words place.segment place.word head.old t)) }
+    ensures answered { let words = message (⟦<ReaderArenaImpl<S> as ReaderArena>⟧.segments arena.now)
+        in (t : Tree) → Stands words place.segment place.word head.old t
+        → head.old ≤ length (segment words place.segment)
+        → depth t ≤ levels arena.now.nesting_limit → FitsIn lim.old.left (charge t)
+        → IsOk result }
+    ensures found { let words = message (⟦<ReaderArenaImpl<S> as ReaderArena>⟧.segments arena.now)
+        in IfOk result (λ yes. IsTrue yes
+        → (t : Tree) × Stands words place.segment place.word head.old t
+        × (head.new ≡ head.old + word_count t)
+        × Paid true lim.old lim.new (charge t) (pointers_in t)) }
+    ensures kept { (result ≡ Ok true → ⊥) → head.new ≡ head.old }
+    ensures refused { IfErr result (λ k. TestStops k
+        (read_at (message (⟦<ReaderArenaImpl<S> as ReaderArena>⟧.segments arena.now))
+        (levels arena.now.nesting_limit) place.segment place.word)
+        (progress head.old lim.old) lim.new) }
+{
+    pointer_at(arena, place).is_canonical(lim, head)
+}
+
+/// The pointer at a place of a message, with the levels of its reader.
+fn pointer_at<S: ReaderSegments>(
+    arena: &ReaderArenaImpl<S>,
+    place: PointerPlace,
+) -> PointerReader<'_, ReaderArenaImpl<S>>
+    requires { IsPlace (message (⟦<ReaderArenaImpl<S> as ReaderArena>⟧.segments arena.now))
+        place.segment place.word }
+    ensures { reading ⟦<ReaderArenaImpl<S> as ReaderArena>⟧ result
+        ≡ read_at (message (⟦<ReaderArenaImpl<S> as ReaderArena>⟧.segments arena.now))
+        (levels arena.now.nesting_limit) place.segment place.word }
+{
+    PointerReader::at(arena, place, arena.nesting_limit())
+}
+
+/// Makes the object of a pointer a struct, all zero: wherever in a tree the pointer is, the message is then the
+/// tree with that struct there, or with null where it is refused.
+pub fn struct_made<A: BuilderArena>(
+    builder: &mut PointerBuilder<'_, A>,
+    size: StructSize,
+) -> Result<StructPlace, ErrorKind>
+    requires { IsThere (built A.view builder.old) }
+    ensures made { OnOk result ((t x : Tree) (path : List Step)
+        → IsForest (A.view builder.old.arena.now).words t
+        → PathLeads (A.view builder.old.arena.now).words 0 0 t path builder.old.segment
+        builder.old.at x
+        → IsForest (A.view builder.new.arena.now).words (update t path (zero_struct size))) }
+    ensures refused { OnErr result ((t x : Tree) (path : List Step)
+        → IsForest (A.view builder.old.arena.now).words t
+        → PathLeads (A.view builder.old.arena.now).words 0 0 t path builder.old.segment
+        builder.old.at x
+        → IsForest (A.view builder.new.arena.now).words (update t path Null)) }
+    ensures fits { length (segment (A.view builder.old.arena.now).words builder.old.segment)
+        + (size.data_words + size.pointers)
+        ≤ (A.view builder.old.arena.now).room builder.old.segment → IsOk result }
+    ensures named { IfErr result (IsRefusedFor (A.view builder.old.arena.now)
+        (A.view builder.new.arena.now) (size.data_words + size.pointers)) }
+{
+    builder.put_struct(size)
 }
 
 /// The value of a message after any list of edits, some of which may be refused.
 ///
 /// Whatever message it is before, if its words are those of a value they are so afterwards. The value then
-/// is what the edits make of the one before.
+/// is what the edits make of the one before. Want of memory is told exactly where an allocator has refused.
 pub fn edited_tree<A: BuilderArena>(
     arena: &mut A,
     edits: &[Edit<'_>],
     outcomes: &mut [Option<ErrorKind>],
 )
     requires { length outcomes.old ≡ length edits.now }
-    ensures { IsApplied (TakesAll edits.now outcomes.new) (A.view arena.old).words
+    ensures applied { IsApplied (TakesAll edits.now outcomes.new) (A.view arena.old).words
         (A.view arena.new).words }
+    ensures refused { AreRefusedTruly (A.view arena.old) (A.view arena.new) outcomes.new }
 {
     apply_all(arena, edits, outcomes);
 }

@@ -1,8 +1,31 @@
+use Rattle.std.proofs.Common.{ap, arith, length}
 use Rattle.capnp_format.specs.Bytes.{message}
-use Rattle.callers.proofs.Copied.{copied_or_unallocated}
+use Rattle.capnp_format.specs.Segments.{Segments, segment}
+use Rattle.capnp_objects.specs.Source.{levels}
+use Rattle.capnp_messages.proofs.AnsweredLemmas.{copy_lacks_memory}
+use Rattle.capnp_framing.specs.Reading.{total}
+use Rattle.capnp_messages.specs.Tries.{room_of_try}
+use Rattle.callers.proofs.Copied.{asked_no_more}
+use Rattle.callers.proofs.Evenness.{canonical_long}
 use Rattle.callers.proofs.theorem.canonical_copy.Goals as goal
 
-pub returns-clause-exactly_where : goal.returns-clause-exactly_where
-returns-clause-exactly_where g c = λ has.
-    copied_or_unallocated (message (g.S.ReaderSegments.segments c.args.segments)) c.args.limits g.A.Allocator.refusals
-    (g.A.Allocator.refusals c.args.allocator) c.canonical_with.result has c.canonical_with.ensures.refused
+pub returns-in-Ok-clause-exactly_what : goal.returns-in-Ok-clause-exactly_what
+returns-in-Ok-clause-exactly_what g c =
+    let (t, value, words) = c.in-Ok.ensures.copied in
+    let long = canonical_long (message (g.S.ReaderSegments.segments c.args.segments)) (levels c.args.limits.nesting_limit) 0 0 t value.cost value.means in
+    let same = ap (λ (M : Segments). length (segment M 0)) words in
+    (t, value, omega (arith, same, long, c.is_short.ensures), words)
+
+pub returns-in-Ok-clause-asked : goal.returns-in-Ok-clause-asked
+returns-in-Ok-clause-asked g c =
+    let S = message (g.S.ReaderSegments.segments c.args.segments) in
+    let tries = c.in-Ok.ensures.tries in (
+      room_of_try (total S) tries.try,
+      tries.asked,
+      λ t value.
+          asked_no_more S tries.try (λ j less. tries.before j less t value.cost value.means),
+    )
+
+pub returns-in-Err-clause-exactly_where : goal.returns-in-Err-clause-exactly_where
+returns-in-Err-clause-exactly_where g c = λ has.
+    copy_lacks_memory (message (g.S.ReaderSegments.segments c.args.segments)) c.args.limits has c.in-Err.ensures.refused

@@ -1,0 +1,131 @@
+-- The copy and the test agree, and speak of one value.
+use Rattle.std.proofs.Common.{◌≡◌, ◌↔◌, Bool, IsTrue, ◌++◌, ℕ, zero, suc, ◌+◌, ◌<◌, ◌≤◌, List, [], ◌∷◌, length, Option, Some, None, refl, sym, ap, ◌∙◌, subst, arith}
+use Rattle.std.proofs.lemmas.Grind.{common_steps}
+use Rattle.std.proofs.lemmas.List.{append-nil}
+use Rattle.capnp_words.specs.Meter.{FitsIn}
+use Rattle.capnp_framing.specs.Frames.{bytes_of_words}
+use Rattle.capnp_format.specs.Bytes.{words_of}
+use Rattle.capnp_format.specs.Forest.{IsForest, root, times}
+use Rattle.capnp_format.specs.Segments.{AreWords, Segments, segment, word_at}
+use Rattle.capnp_format.specs.Tree.{Null, Tree, depth}
+use Rattle.capnp_format.specs.Value.{IsValue}
+use Rattle.capnp_format.specs.Means.{Means}
+use Rattle.capnp_format.specs.Canonical.{IsEncodable, charge, encoding, trim, word_count}
+use Rattle.capnp_format.proofs.Bounds.{means_value}
+use Rattle.capnp_format.proofs.Levels.{depth_within, one_value}
+use Rattle.capnp_format.proofs.LawLemmas.{canonical_cost, canonical_words_mean, no_encoding_begins, same_canonical_words}
+use Rattle.capnp_format.proofs.Trimmed.{small_fits, trim-capabilities, trim-depth, trim-value}
+use Rattle.capnp_format.proofs.Trimming.{trim-trim}
+use Rattle.capnp_arena_traits.specs.Allocations.{max_segment_words}
+use Rattle.capnp_arena.specs.declared.arena.reader_arena_impl.ReaderOptions.{ReaderOptions}
+use Rattle.capnp_objects.specs.Source.{levels}
+use Rattle.capnp_messages.specs.CanonicalMessages.{IsCanonicalMessage, IsCanonicalOf}
+use Rattle.capnp_messages.proofs.CanonicalMessageLemmas.{means_its_value}
+use Rattle.capnp_messages.specs.Messages.{IsValueOf}
+
+pub only_value : (S : Segments) (limits others : ReaderOptions) (t u : Tree) → IsValueOf S limits t → IsValueOf S others u → t ≡ u
+only_value S limits others t u a b =
+    (one_value S (levels limits.nesting_limit) (levels others.nesting_limit) 0 0 t u a.cost b.cost a.means b.means).0
+
+-- what a message of 64-bit words has for its value
+is_value : {S : Segments} {limits : ReaderOptions} {t : Tree} → AreWords S → IsValueOf S limits t → IsValue t
+is_value {S} {limits} {t} words a = means_value S (levels limits.nesting_limit) 0 0 t a.cost words a.means
+
+-- its offsets fit, where its canonical words fit a segment
+fits : (t : Tree) → IsValue t → 1 + word_count (trim t) ≤ max_segment_words → IsEncodable (trim t)
+fits t value short = small_fits (trim t) (trim-value t value) (omega (arith, short))
+
+pub same_copies : (S R : Segments) (limits others : ReaderOptions) (t u : Tree) → AreWords S → AreWords R → IsValueOf S limits t → IsValueOf R others u →
+    1 + word_count (trim t) ≤ max_segment_words → 1 + word_count (trim u) ≤ max_segment_words → (encoding (trim t) ≡ encoding (trim u)) ↔ (trim t ≡ trim u)
+same_copies S R limits others t u words wide a b short brief =
+    same_canonical_words S R (levels limits.nesting_limit) 0 0 (levels others.nesting_limit) 0 0 a.cost b.cost t u words wide a.means b.means
+    (fits t (is_value words a) short) (fits u (is_value wide b) brief)
+
+-- no value's words begin another's
+pub none_begins : (S R : Segments) (limits others : ReaderOptions) (t u : Tree) (more : List ℕ) → AreWords S → AreWords R → IsValueOf S limits t → IsValueOf R others u →
+    1 + word_count (trim t) ≤ max_segment_words → 1 + word_count (trim u) ≤ max_segment_words → encoding (trim t) ++ more ≡ encoding (trim u) → more ≡ []
+none_begins S R limits others t u more words wide a b short brief begins =
+    let v = is_value words a in
+    let w = is_value wide b in
+    no_encoding_begins (trim t) (trim u) more (trim-value t v) (fits t v short) (trim-value u w) (fits u w brief) begins
+
+-- whether two copies are the same says whether the trimmed values are
+pub two_same : (S R : Segments) (limits : ReaderOptions) (same : Bool) (V W : Segments) →
+    (t : Tree) × IsValueOf S limits t × (1 + word_count (trim t) ≤ max_segment_words) × (V ≡ encoding (trim t) ∷ []) →
+    (u : Tree) × IsValueOf R limits u × (1 + word_count (trim u) ≤ max_segment_words) × (W ≡ encoding (trim u) ∷ []) →
+    IsTrue same ↔ (V ≡ W) → (t u : Tree) → IsValueOf S limits t → IsValueOf R limits u → AreWords S → AreWords R → IsTrue same ↔ (trim t ≡ trim u)
+two_same S R limits same V W (x, x_value, short, left) (y, y_value, brief, right) compared t u t_value u_value words wide =
+    let of_first = ap trim (only_value S limits limits x t x_value t_value) in
+    let of_second = ap trim (only_value R limits limits y u y_value u_value) in
+    let law = same_copies S R limits limits x y words wide x_value y_value short brief in (
+      λ yes. (let all : encoding (trim x) ∷ [] ≡ encoding (trim y) ∷ [] = sym left ∙ compared.0 yes ∙ right in
+          let one : encoding (trim x) ≡ encoding (trim y) = cc in sym of_first ∙ law.0 one ∙ of_second),
+      λ equal. compared.1 (left ∙ ap (λ (ws : List ℕ). ws ∷ []) (law.1 (of_first ∙ equal ∙ sym of_second)) ∙ sym right),
+    )
+
+-- bytes are the same exactly if their words are
+pub same_there : (V W : Segments) (a b : List ℕ) → V ≡ words_of a ∷ [] → W ≡ words_of b ∷ [] →
+    ((ws : List ℕ) → V ≡ ws ∷ [] → a ≡ bytes_of_words ws) → ((ws : List ℕ) → W ≡ ws ∷ [] → b ≡ bytes_of_words ws) → (a ≡ b) ↔ (V ≡ W)
+same_there V W a b left right of_left of_right = (
+  λ same. left ∙ ap (λ (xs : List ℕ). words_of xs ∷ []) same ∙ sym right,
+  λ same. of_left (words_of a) left ∙ sym (of_right (words_of a) (sym same ∙ left)),
+)
+
+-- a limit that covers a cost covers a lesser one
+covers_less : (limit : Option ℕ) (c d : ℕ) → d ≤ c → FitsIn limit c → FitsIn limit d
+covers_less None c d less covered = tt
+covers_less (Some left) c d less covered = omega (arith, less, covered)
+
+pub copy_is_canonical : (S : Segments) (limits : ReaderOptions) (t : Tree) → AreWords S → IsValueOf S limits t → 1 + word_count (trim t) ≤ max_segment_words →
+    IsCanonicalOf (encoding (trim t) ∷ []) (trim t) × IsValueOf (encoding (trim t) ∷ []) limits (trim t)
+copy_is_canonical S limits t words a short =
+    let n = levels limits.nesting_limit in
+    let value = is_value words a in
+    let encodable = fits t value short in
+    let deep : depth (trim t) ≤ n = omega (arith, trim-depth t, depth_within t (record { means = a.means })) in
+    let cheap = canonical_cost S n 0 0 t a.cost words a.means in
+    let free = trim-capabilities t ∙ a.free in
+    let behind = canonical_words_mean (trim t) [] n (trim-value t value) encodable deep in
+    let here : Means (encoding (trim t) ∷ []) n 0 0 (trim t) (charge (trim t)) =
+    subst (λ (ws : List ℕ). Means (ws ∷ []) n 0 0 (trim t) (charge (trim t))) (append-nil (encoding (trim t))) behind in (
+      record { value = trim-value t value; trimmed = trim-trim t; free = free; encodable = encodable; is = refl },
+      record {
+        root = record { root = omega arith; covered = a.root.covered };
+        cost = charge (trim t);
+        means = here;
+        free = free;
+        covered = covers_less limits.traversal_limit_in_words (1 + a.cost) (1 + charge (trim t)) (omega (arith, cheap)) a.covered;
+      },
+    )
+
+pub canonical_is_own_copy : (S : Segments) (limits : ReaderOptions) (t : Tree) → AreWords S → IsValueOf S limits t → 1 + word_count (trim t) ≤ max_segment_words →
+    IsCanonicalMessage S ↔ (S ≡ encoding (trim t) ∷ [])
+canonical_is_own_copy S limits t words a short = (
+  λ (u, canonical).
+      let same : t ≡ u = (one_value S (levels limits.nesting_limit) (depth u) 0 0 t u a.cost (charge u) a.means (means_its_value S u (depth u) canonical (omega arith))).0 in
+      let kept : u ≡ trim t = sym canonical.trimmed ∙ ap trim (sym same) in
+      canonical.is ∙ ap (λ v. encoding v ∷ []) kept,
+  λ own. (trim t, subst (λ R. IsCanonicalOf R (trim t)) (sym own) (copy_is_canonical S limits t words a short).0),
+)
+
+-- the message of a null root
+abbrev fresh : Segments
+fresh = (0 ∷ []) ∷ []
+
+apart : (u q : ℕ) → times (root ∷ []) u q ≤ 1
+apart zero zero = omega arith
+apart zero (suc q) = grind (arith, common_steps)
+apart (suc u) q = grind (arith, common_steps)
+
+inside : (u q : ℕ) → 0 < times (root ∷ []) u q → q < length (segment fresh u)
+inside zero zero held = omega arith
+inside zero (suc q) held = grind (arith, common_steps)
+inside (suc u) q held = grind (arith, common_steps)
+
+zero_elsewhere : (u q : ℕ) → times (root ∷ []) u q ≡ 0 → word_at fresh u q ≡ 0
+zero_elsewhere zero zero none = refl
+zero_elsewhere zero (suc q) none = refl
+zero_elsewhere (suc u) q none = refl
+
+pub fresh_forest : IsForest ((0 ∷ []) ∷ []) Null
+fresh_forest = record { means = (0, 0, (refl, refl)); apart = apart; inside = inside; zero_elsewhere = zero_elsewhere; tidy = tt }

@@ -1,0 +1,16 @@
+use Rattle.std.proofs.Common.{inl}
+use Rattle.std.proofs.lemmas.Result.{on_err_weaker, on_ok_weaker}
+use Rattle.callers.proofs.Fields.{put_where_it_leads}
+use Rattle.callers.proofs.theorem.struct_made.Goals as goal
+
+pub returns-clause-made : goal.returns-clause-made
+returns-clause-made g c = on_ok_weaker c.put_struct.result (put_where_it_leads _ _ _ _ _) c.put_struct.ensures.object.made
+
+pub returns-clause-refused : goal.returns-clause-refused
+returns-clause-refused g c = on_err_weaker c.put_struct.result (put_where_it_leads _ _ _ _ _) c.put_struct.ensures.object.refused
+
+pub returns-clause-fits : goal.returns-clause-fits
+returns-clause-fits g c = λ near. c.put_struct.ensures.object.memory.fits (inl near)
+
+pub returns-clause-named : goal.returns-clause-named
+returns-clause-named g c = c.put_struct.ensures.object.memory.named

@@ -1,0 +1,8 @@
+use Rattle.capnp_format.specs.Bytes.{message}
+use Rattle.callers.proofs.AgreedLemmas.{two_same}
+use Rattle.callers.proofs.theorem.two_copies.Goals as goal
+
+pub returns-in-Ok-canonical_copy-clause-exactly_what : goal.returns-in-Ok-canonical_copy-clause-exactly_what
+returns-in-Ok-canonical_copy-clause-exactly_what g c =
+    two_same (message (g.S.ReaderSegments.segments c.args.first)) (message (g.R.ReaderSegments.segments c.args.second)) c.args.limits c.same_bytes.result _ _
+    c.in-Ok.ensures.exactly_what c.in-Ok-canonical_copy.ensures.exactly_what c.same_bytes.ensures

@@ -1,0 +1,55 @@
+//! What a reader of the copy and the test wants said of both: one value, one string of words, and that they agree
+//! ("Canonicalization"). Each function does nothing: its contract is the law.
+ghost use Rattle.std.specs.Prelude.{◌≡◌, ◌↔◌, ◌∷◌, ◌++◌, ◌+◌, ◌≤◌, [], ℕ, List};
+ghost use Rattle.capnp_format.specs.Canonical.{encoding, trim, word_count};
+ghost use Rattle.capnp_format.specs.Forest.{IsForest};
+ghost use Rattle.capnp_format.specs.Segments.{AreWords, Segments};
+ghost use Rattle.capnp_format.specs.Tree.{Null, Tree};
+ghost use Rattle.capnp_arena_traits.specs.Allocations.{max_segment_words};
+ghost use Rattle.capnp_arena.specs.declared.arena.reader_arena_impl.ReaderOptions.{ReaderOptions};
+ghost use Rattle.capnp_messages.specs.CanonicalMessages.{IsCanonicalMessage, IsCanonicalOf};
+ghost use Rattle.capnp_messages.specs.Messages.{IsValueOf};
+
+/// A message has one value at most, whatever the limits.
+pub fn one_value()
+    ensures { (S : Segments) (limits others : ReaderOptions) (t u : Tree) → IsValueOf S limits t
+        → IsValueOf S others u → t ≡ u }
+{}
+
+/// Two messages have the same canonical words exactly if their trimmed values are equal.
+pub fn same_words()
+    ensures { (S R : Segments) (limits others : ReaderOptions) (t u : Tree) → AreWords S → AreWords R
+        → IsValueOf S limits t → IsValueOf R others u
+        → 1 + word_count (trim t) ≤ max_segment_words
+        → 1 + word_count (trim u) ≤ max_segment_words
+        → (encoding (trim t) ≡ encoding (trim u)) ↔ (trim t ≡ trim u) }
+{}
+
+/// The canonical words of a value don't begin those of another one.
+pub fn no_words_begin_others()
+    ensures { (S R : Segments) (limits others : ReaderOptions) (t u : Tree) (more : List ℕ)
+        → AreWords S → AreWords R → IsValueOf S limits t → IsValueOf R others u
+        → 1 + word_count (trim t) ≤ max_segment_words
+        → 1 + word_count (trim u) ≤ max_segment_words
+        → encoding (trim t) ++ more ≡ encoding (trim u) → more ≡ [] }
+{}
+
+/// The canonical words of a message are a canonical message, and have the trimmed value, within the same limits.
+pub fn copy_is_canonical()
+    ensures { (S : Segments) (limits : ReaderOptions) (t : Tree) → AreWords S → IsValueOf S limits t
+        → 1 + word_count (trim t) ≤ max_segment_words
+        → IsCanonicalOf (encoding (trim t) ∷ []) (trim t)
+        × IsValueOf (encoding (trim t) ∷ []) limits (trim t) }
+{}
+
+/// A message is canonical exactly if it is its own canonical copy.
+pub fn canonical_is_own_copy()
+    ensures { (S : Segments) (limits : ReaderOptions) (t : Tree) → AreWords S → IsValueOf S limits t
+        → 1 + word_count (trim t) ≤ max_segment_words
+        → IsCanonicalMessage S ↔ (S ≡ encoding (trim t) ∷ []) }
+{}
+
+/// A message whose only word is its root, which is null, is the forest of Null: so building begins.
+pub fn fresh_forest()
+    ensures { IsForest ((0 ∷ []) ∷ []) Null }
+{}
