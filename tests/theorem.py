@@ -27,7 +27,9 @@ from quoted import TOP
 PAGE = TOP / 'docs/THEOREM.md'
 # The sections of the page whose clauses a part's definitions are for. What a part has, later ones don't repeat.
 PARTS = {'1': ('1', '2', '3'), '2': ('4', '5')}
-# The files of the definitions, in the order in which one reads them; those that aren't named come at the end.
+# The files of the definitions, in the order in which one reads them, and with which each part begins; those that aren't named
+# come at the end.
+BEGIN = {'1': 'capnp_messages/Messages', '2': 'capnp_format/Forest'}
 ORDER = (
     'capnp_messages/Messages', 'capnp_messages/CanonicalMessages', 'capnp_messages/Roots', 'capnp_words/Meter', 'capnp_objects/Source',
     'capnp_arena_traits/Limits', 'capnp_arena_traits/Allocations', 'capnp_format/Tree', 'capnp_format/Value', 'capnp_format/Bytes', 'capnp_format/Means',
@@ -116,11 +118,13 @@ def parts():
     return found
 
 
-def in_order(found):
-    """The definitions as one reads them: by files, and as they stand there."""
+def in_order(found, number):
+    """The definitions as one reads them: by files, those of a part from its first file on, and as they stand there."""
+    first = ORDER.index(BEGIN[number])
+
     def place(definition):
         name = f'{definition.crate}/{definition.module}'
-        return ORDER.index(name) if name in ORDER else len(ORDER), name, definition.line
+        return (ORDER.index(name) - first) % len(ORDER) if name in ORDER else len(ORDER), name, definition.line
 
     return sorted(found, key=place)
 
@@ -136,7 +140,7 @@ def renamed(file, found):
 def definitions(number):
     lines, file = [], None
     found = parts()[number][0]
-    for definition in in_order(found):
+    for definition in in_order(found, number):
         if (definition.crate, definition.module) != file:
             if file:
                 lines += ['```', '']

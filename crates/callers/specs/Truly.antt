@@ -1,22 +1,61 @@
 -- What outcomes of edits say of memory; and a pointer of a message that is read.
-use Rattle.std.specs.Prelude.{◌≡◌, ℕ, true, false, List, [], ◌∷◌, Option, Some}
+use Rattle.std.specs.Prelude.{◌≡◌, ◌⊎◌, ℕ, ◌+◌, ◌-◌, ◌^◌, ◌<◌, ◌≤◌, true, false, List, [], ◌∷◌}
+use Rattle.std.specs.Prelude.{◌++◌, length, Option, Some, None}
+use Rattle.capnp_words.specs.Sizes.{size_number}
 use Rattle.capnp_words.specs.declared.error.ErrorKind.{ErrorKind}
-use Rattle.capnp_words.specs.declared.error.ErrorKind.TheVariants.{AllocationFailed}
-use Rattle.capnp_format.specs.Segments.{Segments}
-use Rattle.capnp_arena_traits.specs.Allocations.{one_more}
+use Rattle.capnp_words.specs.declared.error.ErrorKind.TheVariants.{AllocationFailed, MessageTooLarge}
+use Rattle.capnp_format.specs.Canonical.{word_count}
+use Rattle.capnp_format.specs.Forest.{IsForest}
+use Rattle.capnp_format.specs.Segments.{Segments, segment}
+use Rattle.capnp_format.specs.Tree.{Tree, Flat}
+use Rattle.capnp_arena_traits.specs.Allocations.{max_segment_words, one_more}
 use Rattle.capnp_arena_traits.specs.View.{View}
+use Rattle.capnp_making.specs.Made.{zero_list, zero_struct, zero_structs}
+use Rattle.capnp_making.specs.Path.{PathLeads}
 use Rattle.capnp_objects.specs.Reading.{Reading}
+use Rattle.capnp_widening.specs.Rooms.{is_allocation_name}
+use Rattle.capnp_edits.specs.declared.edit.Edit.{Edit}
+use Rattle.capnp_edits.specs.declared.edit.Op.{Op}
+use Rattle.capnp_edits.specs.declared.edit.Op.TheVariants.{InitData, InitList, InitStruct}
+use Rattle.capnp_edits.specs.declared.edit.Op.TheVariants.{InitStructList, InitText, SetData, SetText}
+use Rattle.capnp_edits.specs.Paths.{path_of}
 
--- From old to new an edit has its outcome truly: AllocationFailed is a request that the allocator has
--- refused and counted, and by any other outcome nothing is counted.
-pub record IsRefusedTruly (old new : View) (r : Option ErrorKind) : Type 0 where
+-- The value of the object that an operation makes, if it makes one.
+abbrev pub object_made : Op → Option Tree
+object_made (InitStruct size) = Some (zero_struct size)
+object_made (InitList size n) = Some (zero_list (size_number size) n)
+object_made (InitStructList n size) = Some (zero_structs n size)
+object_made (InitText n) = Some (zero_list 2 (n + 1))
+object_made (InitData n) = Some (zero_list 2 n)
+object_made (SetText bytes) = Some (Flat 2 (bytes.now ++ 0 ∷ []))
+object_made (SetData bytes) = Some (Flat 2 bytes.now)
+object_made _ = None
+
+-- From old to new an edit has its outcome truly. AllocationFailed is a request that the allocator has
+-- refused and counted, and by any other outcome nothing is counted. Of an edit that makes an object:
+-- it isn't refused for memory where the segment of its pointer has room for the object, and a number
+-- that is told is how many words were asked for, the object's and one for a landing pad, and more
+-- than a segment can have; or there are as many segments as there can be.
+pub record IsRefusedTruly (old new : View) (edit : Edit) (r : Option ErrorKind) : Type 0 where
   pub counted : r ≡ Some AllocationFailed → new.refusals ≡ one_more old.refusals
   pub others : (r ≡ Some AllocationFailed → ⊥) → new.refusals ≡ old.refusals
+  pub fits :
+      (object t x : Tree) (s p : ℕ) → object_made edit.op ≡ Some object → IsForest old.words t →
+      PathLeads old.words 0 0 t (path_of edit.path.now) s p x →
+      length (segment old.words s) + word_count object ≤ old.room s →
+      (k : ErrorKind) → r ≡ Some k → is_allocation_name k ≡ false
+  pub asked :
+      (object t x : Tree) (s p n : ℕ) → object_made edit.op ≡ Some object → IsForest old.words t →
+      PathLeads old.words 0 0 t (path_of edit.path.now) s p x → r ≡ Some (MessageTooLarge n) →
+      ((n ≡ word_count object + 1) × (max_segment_words < n)) ⊎
+      ((n ≡ 2 ^ 64 - 1) × (length old.words ≡ 2 ^ 32 - 1))
 
 -- So each of several edits has, in order.
-abbrev pub AreRefusedTruly : View → View → List (Option ErrorKind) → Type 0
-AreRefusedTruly old new [] = new ≡ old
-AreRefusedTruly old new (r ∷ rs) = (mid : View) × IsRefusedTruly old mid r × AreRefusedTruly mid new rs
+abbrev pub AreRefusedTruly : View → View → List Edit → List (Option ErrorKind) → Type 0
+AreRefusedTruly old new [] [] = new ≡ old
+AreRefusedTruly old new (e ∷ es) (r ∷ rs) =
+    (mid : View) × IsRefusedTruly old mid e r × AreRefusedTruly mid new es rs
+AreRefusedTruly old new es rs = ⊥
 
 -- The pointer at a place of a message, where reading is charged and n levels may be entered.
 abbrev pub read_at : Segments → ℕ → ℕ → ℕ → Reading

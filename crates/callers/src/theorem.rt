@@ -17,7 +17,6 @@ ghost use Rattle.capnp_objects.specs.Source.{levels};
 ghost use Rattle.capnp_objects.specs.Spending.{Paid, pointers_in};
 ghost use Rattle.capnp_readers.specs.Checking.{TestStops, progress};
 ghost use Rattle.capnp_readers.specs.Readers.{reading};
-ghost use Rattle.capnp_builders.specs.Building.{IsThere, built};
 ghost use Rattle.capnp_edits.specs.Edits.{IsApplied, TakesAll};
 ghost use Rattle.capnp_messages.specs.CanonicalMessages.{IsCanonicalMessage};
 ghost use Rattle.capnp_messages.specs.Commands.{form_bytes};
@@ -55,7 +54,7 @@ pub fn canonical_copy<A: Allocator, S: ReaderSegments + Drop>(
     segments: S,
     limits: ReaderOptions,
 ) -> Result<BuilderArenaImpl<A>, (ErrorKind, A)>
-    requires { IsSmall (S.segments segments) }
+    requires small { IsSmall (S.segments segments) }
     ensures exactly_where { HasCanonicalCopy (message (S.segments segments)) limits
         → IfErr result (λ e. (e.0 ≡ AllocationFailed)
         × (A.refusals e.1 ≡ one_more (A.refusals allocator))) }
@@ -230,7 +229,7 @@ pub fn canonical_test<S: ReaderSegments + Drop>(
     segments: S,
     limits: ReaderOptions,
 ) -> Result<bool, ErrorKind>
-    requires { IsSmall (S.segments segments) }
+    requires small { IsSmall (S.segments segments) }
     ensures exactly { IfOk result (λ yes. IsTrue yes
         ↔ IsCanonicalMessage (message (S.segments segments))) }
     ensures answered { (length (message (S.segments segments)) ≡ 1
@@ -251,7 +250,7 @@ pub fn canonical_test_at<S: ReaderSegments>(
     lim: &mut ReadLimiter,
     head: &mut u32,
 ) -> Result<bool, ErrorKind>
-    requires { IsPlace (message (⟦<ReaderArenaImpl<S> as ReaderArena>⟧.segments arena.now))
+    requires place { IsPlace (message (⟦<ReaderArenaImpl<S> as ReaderArena>⟧.segments arena.now))
         place.segment place.word }
     ensures exactly { let words = message (⟦<ReaderArenaImpl<S> as ReaderArena>⟧.segments arena.now)
         in IfOk result (λ yes. IsTrue yes
@@ -295,7 +294,8 @@ pub fn struct_made<A: BuilderArena>(
     builder: &mut PointerBuilder<'_, A>,
     size: StructSize,
 ) -> Result<StructPlace, ErrorKind>
-    requires { IsThere (built A.view builder.old) }
+    requires place { IsPlace (A.view builder.old.arena.now).words builder.old.segment
+        builder.old.at }
     ensures made { OnOk result ((t x : Tree) (path : List Step)
         → IsForest (A.view builder.old.arena.now).words t
         → PathLeads (A.view builder.old.arena.now).words 0 0 t path builder.old.segment
@@ -327,7 +327,8 @@ pub fn edited_tree<A: BuilderArena>(
     requires { length outcomes.old ≡ length edits.now }
     ensures applied { IsApplied (TakesAll edits.now outcomes.new) (A.view arena.old).words
         (A.view arena.new).words }
-    ensures refused { AreRefusedTruly (A.view arena.old) (A.view arena.new) outcomes.new }
+    ensures refused { AreRefusedTruly (A.view arena.old) (A.view arena.new) edits.now
+        outcomes.new }
 {
     apply_all(arena, edits, outcomes);
 }
