@@ -10,6 +10,6 @@ returns-in-Ok-written-clause-answered g c =
     let bytes = form_bytes c.args.form (encoding (trim t)) in
     (bytes, (refl, (t, value, refl)), c.in-Ok-written.ensures.written (encoding (trim t)) is_made)
 
-pub returns-in-Err-clause-refused : goal.returns-in-Err-clause-refused
-returns-in-Err-clause-refused g c =
+pub returns-clause-refused : goal.returns-clause-refused
+returns-clause-refused g c =
     inr (copy_refused (rw c.new-source.ensures.words at c.in-Err.ensures.refused), (refl, refl))
