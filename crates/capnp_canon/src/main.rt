@@ -3,7 +3,7 @@
 //! `capnp_canon --help` says what its arguments are.
 #![tactic(auto)]
 
-ghost use Rattle.std.specs.Prelude.{◌≡◌, false};
+ghost use Rattle.std.specs.Prelude.{◌≡◌, ◌≤◌, false, length};
 
 mod texts;
 
@@ -39,11 +39,14 @@ fn main(rt: HostRuntime) -> ExitCode {
 /// Does what the arguments ask for. An error is want of memory for the arguments or the buffers;
 /// nothing is read or written then.
 fn answer(rt: &HostRuntime) -> Result<ExitCode, AllocError> {
-    Ok(match request(rt)? {
-        None => complain(rt, USAGE),
-        Some(Request::Help) => say(rt, HELP),
-        Some(Request::Version) => say(rt, VERSION),
-        Some(Request::Run(task)) => match run(rt, task)? {
+    let Some(words) = words(rt)? else {
+        return Ok(complain(rt, USAGE));
+    };
+    Ok(match streams::parse_args(words.as_slice()) {
+        Err(left) => misunderstood(rt, words.as_slice(), left),
+        Ok(Request::Help) => say(rt, HELP),
+        Ok(Request::Version) => say(rt, VERSION),
+        Ok(Request::Run(task)) => match run(rt, task)? {
             Outcome::Done(summary) if summary.holds => ExitCode::SUCCESS,
             Outcome::Done(_) => ExitCode::from(1),
             Outcome::Stopped(stop) => refuse(rt, stop.answered, stop.fault),
@@ -52,8 +55,8 @@ fn answer(rt: &HostRuntime) -> Result<ExitCode, AllocError> {
     })
 }
 
-/// What the words behind the program's name ask for.
-fn request(rt: &HostRuntime) -> Result<Option<Request>, AllocError> {
+/// The words behind the program's name; `None` where one isn't text.
+fn words(rt: &HostRuntime) -> Result<Option<Vec<String>>, AllocError> {
     let given = match env::args(rt) {
         Ok(given) => given,
         Err(error) if error.kind() == io::ErrorKind::OutOfMemory => return Err(AllocError),
@@ -63,7 +66,20 @@ fn request(rt: &HostRuntime) -> Result<Option<Request>, AllocError> {
     for word in given.skip(1) {
         words.push(word)?;
     }
-    Ok(streams::parse_args(words.as_slice()))
+    Ok(Some(words))
+}
+
+/// Says which word is wrong, of which there are so many from it on, or that one lacks; and how the program is called.
+fn misunderstood(rt: &HostRuntime, words: &[String], left: usize) -> ExitCode
+    requires { left ≤ length words.now }
+{
+    if left == 0 {
+        let _ = eprintln!(rt; "a word is missing");
+        return complain(rt, USAGE);
+    }
+    let word = words[words.len() - left].as_str();
+    let _ = eprintln!(rt; "wrong word: '{word}'");
+    complain(rt, USAGE)
 }
 
 /// Does a task from standard input to standard output.

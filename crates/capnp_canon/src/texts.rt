@@ -25,10 +25,11 @@ size         writes a line for each message: `words N caps M`, without landing p
   --nesting N   at most N structs and lists may be entered, one inside the other (64)
   --words N     a frame has at most N words of 8 bytes, and reading a message may traverse as many
                 (8388608, which is 64 MiB); `none` is no limit
---help       writes this
---version    writes the program's name and version
+-h, --help     writes this
+-V, --version  writes the program's name and version
 
-An option that stands twice counts as it stands last. The first message that isn't answered ends the run:
+Options stand before or behind the command, and `--nesting=N` is `--nesting N`; the last word may be `--`. An option
+that stands twice counts as it stands last. The answers so far are written before a message is waited for. The first message that isn't answered ends the run:
 `message N: refused NAME` on standard error, N counted from 1; what stood before is written.
 
 Status: 0; 1 where `check` said no of a message; 2 for a refusal, for other arguments, or where a device failed.";

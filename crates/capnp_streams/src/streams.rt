@@ -5,6 +5,7 @@ mod fault;
 mod packed;
 mod runs;
 mod task;
+mod words;
 mod writing;
 
 pub use capnp_messages::messages::{Command, Form};

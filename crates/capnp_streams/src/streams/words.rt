@@ -1,0 +1,300 @@
+//! The words behind the program's name, one by one.
+ghost use Rattle.std.specs.Prelude.{◌≡◌, ◌<◌, Bool, Option, IfSome, IsNone, MatchOption, ℕ, List, length};
+ghost use Rattle.capnp_streams.specs.Arguments.{MakesLine, MakesLineAlone, Sets, Stops, after_equals, before_equals, equals_at, line_after, line_if_allowed, line_is_allowed, line_with_verb, plain_line, request_of_word, run_of_task, setting_text, task_of_line, text_of_word};
+ghost use Rattle.capnp_streams.specs.declared.streams.task.Request.{Request};
+ghost use Rattle.capnp_streams.specs.declared.streams.words.Line.{Line};
+ghost use Rattle.capnp_streams.specs.declared.streams.words.Setting.{Setting};
+ghost use Rattle.capnp_streams.specs.declared.streams.words.Word.{Word};
+
+use super::task::{Request, Task};
+use capnp_arena::arena::ReaderOptions;
+use capnp_messages::messages::{Command, Form};
+use capnp_messages::text::{parse_budget, parse_nesting};
+
+/// A word that has a meaning by itself.
+#[derive(Clone, Copy)]
+pub(super) enum Word {
+    Help,
+    HelpLetter,
+    Version,
+    VersionLetter,
+    End,
+    Canon,
+    Check,
+    Size,
+    Packed,
+    Pack,
+    Flat,
+    Nesting,
+    Words,
+}
+
+/// A command's name.
+#[derive(Clone, Copy)]
+pub(super) enum Verb {
+    Canon,
+    Check,
+    Size,
+}
+
+/// An option with a value.
+#[derive(Clone, Copy)]
+pub(super) enum Setting {
+    Nesting,
+    Words,
+}
+
+/// What the words so far ask for.
+#[derive(Clone, Copy)]
+pub(super) struct Line {
+    verb: Option<Verb>,
+    limits: ReaderOptions,
+    unpack: bool,
+    pack: bool,
+    flat: bool,
+    /// The option of which the value comes next.
+    expects: Option<Setting>,
+}
+
+impl Line {
+    /// No words.
+    pub(super) fn plain() -> Self
+        ensures { result ≡ plain_line }
+    {
+        Line {
+            verb: None,
+            limits: ReaderOptions::default(),
+            unpack: false,
+            pack: false,
+            flat: false,
+            expects: None,
+        }
+    }
+
+    /// Whether its command has all of its options.
+    fn is_allowed(&self) -> bool
+        ensures { result ≡ line_is_allowed self.now }
+    {
+        match self.verb {
+            Some(Verb::Check | Verb::Size) => !self.pack && !self.flat,
+            _ => true,
+        }
+    }
+
+    /// A line, if its command has all of its options.
+    fn if_allowed(self) -> Option<Self>
+        ensures { result ≡ line_if_allowed self }
+    {
+        if self.is_allowed() { Some(self) } else { None }
+    }
+
+    /// The line with a command, if it has none yet.
+    fn with_verb(self, verb: Verb) -> Option<Self>
+        ensures { result ≡ line_with_verb verb self }
+    {
+        match self.verb {
+            Some(_) => None,
+            None => Line {
+                verb: Some(verb),
+                ..self
+            }
+            .if_allowed(),
+        }
+    }
+
+    /// The line with a word behind it, which isn't the value of an option.
+    fn with_word(self, word: Word) -> Option<Self>
+        ensures { result ≡ line_after word self }
+    {
+        match word {
+            Word::Canon => self.with_verb(Verb::Canon),
+            Word::Check => self.with_verb(Verb::Check),
+            Word::Size => self.with_verb(Verb::Size),
+            Word::Packed => Line {
+                unpack: true,
+                ..self
+            }
+            .if_allowed(),
+            Word::Pack => Line { pack: true, ..self }.if_allowed(),
+            Word::Flat => Line { flat: true, ..self }.if_allowed(),
+            Word::Nesting => Some(Line {
+                expects: Some(Setting::Nesting),
+                ..self
+            }),
+            Word::Words => Some(Line {
+                expects: Some(Setting::Words),
+                ..self
+            }),
+            Word::Help | Word::HelpLetter | Word::Version | Word::VersionLetter | Word::End => None,
+        }
+    }
+
+    /// The line with the value of an option.
+    fn with_value(self, setting: Setting, value: &str) -> Option<Self>
+        ensures read { IfSome result (Sets setting value.now self) }
+        ensures none { IsNone result → (next : Line) → Sets setting value.now self next → ⊥ }
+    {
+        match setting {
+            Setting::Nesting => {
+                let nesting_limit = parse_nesting(value)?;
+                Some(Line {
+                    limits: ReaderOptions {
+                        nesting_limit,
+                        ..self.limits
+                    },
+                    expects: None,
+                    ..self
+                })
+            }
+            Setting::Words => {
+                let traversal_limit_in_words = parse_budget(value)?;
+                Some(Line {
+                    limits: ReaderOptions {
+                        traversal_limit_in_words,
+                        ..self.limits
+                    },
+                    expects: None,
+                    ..self
+                })
+            }
+        }
+    }
+}
+
+/// The task that a line asks for, if it is whole.
+pub(super) fn task_of(line: Line) -> Option<Task>
+    ensures { result ≡ task_of_line line }
+{
+    if line.expects.is_some() {
+        return None;
+    }
+    let command = match line.verb? {
+        Verb::Canon => Command::Canon(if line.flat { Form::Flat } else { Form::Framed }),
+        Verb::Check => Command::Check,
+        Verb::Size => Command::Size,
+    };
+    Some(Task {
+        command,
+        limits: line.limits,
+        unpack: line.unpack,
+        pack: line.pack,
+    })
+}
+
+/// What a word asks for behind which none is read. It isn't the value of an option, and is the last word or not.
+pub(super) fn stopped(text: &str, is_last: bool, from: Line) -> Option<Request>
+    ensures read { IfSome result (Stops from is_last text.now) }
+    ensures none { IsNone result → (r : Request) → Stops from is_last text.now r → ⊥ }
+{
+    if from.expects.is_some() {
+        return None;
+    }
+    let word = word_of(text)?;
+    request_at(word, is_last, from)
+}
+
+/// What a word asks for that isn't the value of an option, if none is read behind it.
+fn request_at(word: Word, is_last: bool, from: Line) -> Option<Request>
+    ensures { result ≡ request_of_word word is_last from }
+{
+    match word {
+        Word::Help | Word::HelpLetter => Some(Request::Help),
+        Word::Version | Word::VersionLetter => Some(Request::Version),
+        Word::End => { if is_last { run_of(from) } else { None } }
+        Word::Canon | Word::Check | Word::Size | Word::Packed => None,
+        Word::Pack | Word::Flat | Word::Nesting | Word::Words => None,
+    }
+}
+
+/// The run of the task that a line asks for, if it is whole.
+fn run_of(line: Line) -> Option<Request>
+    ensures { result ≡ run_of_task (task_of_line line) }
+{
+    match task_of(line) {
+        Some(task) => Some(Request::Run(task)),
+        None => None,
+    }
+}
+
+/// Reads a word behind others, which ask for this.
+pub(super) fn read_word(text: &str, from: Line) -> Option<Line>
+    ensures read { IfSome result (MakesLine text.now from) }
+    ensures none { IsNone result → (next : Line) → MakesLine text.now from next → ⊥ }
+{
+    match from.expects {
+        Some(setting) => from.with_value(setting, text),
+        None => read_alone(text, from),
+    }
+}
+
+/// Reads a word that isn't the value of an option.
+fn read_alone(text: &str, from: Line) -> Option<Line>
+    ensures read { IfSome result (MakesLineAlone text.now from) }
+    ensures none { IsNone result → (next : Line) → MakesLineAlone text.now from next → ⊥ }
+{
+    if let Some(word) = word_of(text) {
+        return from.with_word(word);
+    }
+    let (name, value) = parted(text)?;
+    let setting = setting_of(name)?;
+    from.with_value(setting, value)
+}
+
+/// What stands before and behind the first `=`.
+fn parted(text: &str) -> Option<(&str, &str)>
+    ensures { MatchOption result (equals_at text.now ≡ length text.now) (λ x.
+        (equals_at text.now < length text.now) × (x.0.now ≡ before_equals text.now)
+        × (x.1.now ≡ after_equals text.now)) }
+{
+    text.split_once('=')
+}
+
+/// The option with a value of this name.
+fn setting_of(name: &str) -> Option<Setting>
+    ensures read { IfSome result (λ s. setting_text s ≡ name.now) }
+    ensures none { IsNone result → (s : Setting) → setting_text s ≡ name.now → ⊥ }
+{
+    if name == "--nesting" {
+        Some(Setting::Nesting)
+    } else if name == "--words" {
+        Some(Setting::Words)
+    } else {
+        None
+    }
+}
+
+/// The word that has a meaning by itself.
+fn word_of(text: &str) -> Option<Word>
+    ensures read { IfSome result (λ w. text_of_word w ≡ text.now) }
+    ensures none { IsNone result → (w : Word) → text_of_word w ≡ text.now → ⊥ }
+{
+    if text == "--help" {
+        Some(Word::Help)
+    } else if text == "-h" {
+        Some(Word::HelpLetter)
+    } else if text == "--version" {
+        Some(Word::Version)
+    } else if text == "-V" {
+        Some(Word::VersionLetter)
+    } else if text == "--" {
+        Some(Word::End)
+    } else if text == "canon" {
+        Some(Word::Canon)
+    } else if text == "check" {
+        Some(Word::Check)
+    } else if text == "size" {
+        Some(Word::Size)
+    } else if text == "--packed" {
+        Some(Word::Packed)
+    } else if text == "--pack" {
+        Some(Word::Pack)
+    } else if text == "--flat" {
+        Some(Word::Flat)
+    } else if text == "--nesting" {
+        Some(Word::Nesting)
+    } else if text == "--words" {
+        Some(Word::Words)
+    } else {
+        None
+    }
+}
