@@ -79,20 +79,23 @@ fn use_segment<A: BuilderArena>(rt: &impl Abort, arena: &mut A, id: u32) {
     assert!(rt; arena.contains_interval(id, 0, 2, &mut lim) == Ok(()));
 }
 
-/// Makes so many segments of two words, and does in each what asks for nothing.
+/// Makes so many segments of two words in an arena, does in each what asks for nothing, and has all given out. Gives the
+/// allocator.
 fn use_all<A: Allocator>(
     rt: &impl Abort,
-    arena: &mut BuilderArenaImpl<A>,
+    mut arena: BuilderArenaImpl<A>,
     segments: u32,
-) -> Result<(), ErrorKind> {
+) -> Result<A, ErrorKind> {
     for _ in 0..segments {
         arena.allocate_segment(2)?;
     }
     for id in 0..segments {
-        use_segment(rt, arena, id);
+        use_segment(rt, &mut arena, id);
     }
-    assert!(rt; arena.size_in_words() / 2 == arena.len() && arena.len() == segments as usize);
-    Ok(())
+    let count = segments as usize;
+    assert!(rt; arena.size_in_words() / 2 == arena.len() && arena.len() == count);
+    assert!(rt; arena.get_segments_for_output()?.len() == count);
+    Ok(arena.into_allocator())
 }
 
 /// Whether each segment of so many words was asked for once, each with its row but for those that need none, and nothing else.
@@ -113,11 +116,9 @@ fn asked_once(requests: &[Request], words: u32, segments: usize, rowless: usize)
 #[test]
 fn nothing_is_asked_of_many(rt: HostRuntime) -> Result<(), ErrorKind> {
     for segments in [1, 10, 1_000] {
-        let heap = HeapAllocator::new(rt.alloc(), 0);
-        let mut arena = BuilderArenaImpl::new(rt.alloc(), NotingAllocator::new(rt.alloc(), heap));
-        use_all(&rt, &mut arena, segments)?;
-        assert!(rt; arena.get_segments_for_output()?.len() == segments as usize);
-        let allocator = arena.into_allocator();
+        let noting = NotingAllocator::new(rt.alloc(), HeapAllocator::new(rt.alloc(), 0));
+        let arena = BuilderArenaImpl::new(rt.alloc(), noting);
+        let allocator = use_all(&rt, arena, segments)?;
         assert!(rt; asked_once(allocator.requests(), 2, segments as usize, 0));
     }
     Ok(())
@@ -127,12 +128,9 @@ fn nothing_is_asked_of_many(rt: HostRuntime) -> Result<(), ErrorKind> {
 #[test]
 fn nothing_is_asked_behind_the_first(rt: HostRuntime) -> Result<(), ErrorKind> {
     for segments in [1, 10, 1_000] {
-        let heap = HeapAllocator::new(rt.alloc(), 0);
-        let noting = FirstInArena::new(NotingAllocator::new(rt.alloc(), heap));
-        let mut arena = BuilderArenaImpl::new(rt.alloc(), noting);
-        use_all(&rt, &mut arena, segments)?;
-        assert!(rt; arena.get_segments_for_output()?.len() == segments as usize);
-        let allocator = arena.into_allocator();
+        let noting = NotingAllocator::new(rt.alloc(), HeapAllocator::new(rt.alloc(), 0));
+        let arena = BuilderArenaImpl::new(rt.alloc(), FirstInArena::new(noting));
+        let allocator = use_all(&rt, arena, segments)?;
         assert!(rt; asked_once(allocator.inner().requests(), 2, segments as usize, 1));
     }
     Ok(())

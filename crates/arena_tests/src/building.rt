@@ -1,5 +1,4 @@
 //! Messages that are built.
-use crate::steps::{take, take_of};
 use capnp_arena::arena::{
     BuilderArena, BuilderArenaImpl, HeapAllocator, OutputSegments, ReaderArena, ReaderSegments,
 };
@@ -7,33 +6,6 @@ use capnp_words::error::ErrorKind;
 use std::alloc::Global;
 use std::process::Abort;
 use test_support::has_words;
-
-fn check_first_fit<A: BuilderArena>(rt: &impl Abort, arena: &mut A) {
-    for (amount, id, at) in [
-        (3, 0, 0),
-        (4, 1, 0),
-        (6, 2, 0),
-        (1, 0, 3),
-        (2, 3, 0),
-        (0, 0, 4),
-        (2, 3, 2),
-        (1, 4, 0),
-    ] {
-        assert!(rt; take(arena, amount) == Ok((id, at)), "of {amount}");
-    }
-    assert!(rt; arena.size_in_words() == 19 && arena.refused() == 0);
-    assert!(rt; take_of(rt, arena, 4, 4) == None);
-    assert!(rt; take_of(rt, arena, 4, 3) == Some(1));
-}
-
-/// Words are taken first fit over gaps, up to the end of a segment.
-#[test]
-fn first_fit_over_gaps(rt: HostRuntime) {
-    let mut arena = BuilderArenaImpl::new(rt.alloc(), HeapAllocator::new(rt.alloc(), 4));
-    assert!(rt; arena.is_empty());
-    check_first_fit(&rt, &mut arena);
-    assert!(rt; arena.len() == 5);
-}
 
 /// Whether these segments are given out, as one where there is one.
 fn gives(arena: &BuilderArenaImpl<HeapAllocator>, want: &[&[u8]]) -> Result<bool, ErrorKind> {
@@ -92,25 +64,5 @@ fn words_given_out(rt: HostRuntime) -> Result<(), ErrorKind> {
     write_words(&rt, &mut arena);
     arena.allocate_segment(0)?;
     assert!(rt; gives(&arena, &[b"99999999\0\0\0\0\0\0\0\0", b""])?);
-    Ok(())
-}
-
-fn check_lent<A: BuilderArena>(rt: &impl Abort, alloc: Global, arena: &mut A) {
-    assert!(rt; arena.get_segment(0).is_ok());
-    arena.segment_mut(0).fill(1);
-    assert!(rt; take(arena, 1) == Ok((0, 0)));
-    if let Some(words) = arena.allocated_mut(0) {
-        words.fill(7);
-    }
-    assert!(rt; take(arena, 1) == Ok((0, 1)));
-    assert!(rt; arena.allocated_mut(1).is_none());
-    assert!(rt; has_words(alloc, arena, "0707070707070707 0000000000000000"));
-}
-
-#[test]
-fn words_lent(rt: HostRuntime) -> Result<(), ErrorKind> {
-    let mut arena = BuilderArenaImpl::new(rt.alloc(), HeapAllocator::new(rt.alloc(), 4));
-    arena.allocate_segment(0)?;
-    check_lent(&rt, rt.alloc(), &mut arena);
     Ok(())
 }

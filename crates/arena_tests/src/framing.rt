@@ -1,6 +1,32 @@
-//! Tests of capnp_framing, by its public calls: messages beside their frames.
+//! An output over a writer: that it has the writer pass on what it has no clause says.
+ghost use Rattle.std.specs.Prelude.{None};
 
-mod faulty;
-mod reused;
-mod unframed;
-mod written;
+use capnp_framing::devices::WriterOutput;
+use std::cell::Cell;
+use std::io::Write;
+
+/// A writer that counts how often it is to pass on what it has.
+#[derive(Drop)]
+struct Counting<'a> {
+    flushes: &'a Cell<u32>,
+}
+
+impl Write for Counting<'_> {
+    ghost contents = { λ _. None };
+
+    fn write(&mut self, buf: &[u8]) -> std::io::Result<usize> {
+        Ok(buf.len())
+    }
+
+    fn flush(&mut self) -> std::io::Result<()> {
+        self.flushes.set(self.flushes.get().saturating_add(1));
+        Ok(())
+    }
+}
+
+#[test]
+fn flush_is_passed_on(rt: HostRuntime) {
+    let flushes = Cell::new(0);
+    let mut output = WriterOutput::new(Counting { flushes: &flushes });
+    assert!(rt; output.flush() == Ok(()) && flushes.get() == 1);
+}

@@ -1,6 +1,50 @@
-//! Tests of capnp_packing, by its public calls: words beside what they are packed to. The bytes of
-//! the examples are those of the encoding specification's "Packing".
+//! Words in memory beside what they are packed to, and what is refused. The bytes are those of the encoding
+//! specification's "Packing".
+use capnp_framing::devices::{DeviceFault, MemoryOutput, Output};
+use capnp_packing::packing::{PackingError, PackingOutput, pack, unpack};
+use std::alloc::Global;
 
-mod examples;
-mod in_memory;
-mod streams;
+/// Two words that have a few bytes which aren't zero.
+const WORDS: &[u8] = b"\x08\0\0\0\x03\0\x02\0\x19\0\0\0\xaa\x01\0\0";
+
+/// They are packed behind their tags.
+const PACKED: &[u8] = b"\x51\x08\x03\x02\x31\x19\xaa\x01";
+
+/// Four words without a byte of zero: the first is packed behind its tag, then how many stand behind it, and these as
+/// they are.
+const PACKED_WHOLE: &[u8] =
+    b"\xff\x8a\x8a\x8a\x8a\x8a\x8a\x8a\x8a\x03\x8a\x8a\x8a\x8a\x8a\x8a\x8a\x8a\x8a\x8a\x8a\x8a\x8a\x8a\x8a\x8a\x8a\x8a\x8a\x8a\x8a\x8a\x8a\x8a";
+
+/// Whether words are packed to these bytes, and these are unpacked to the words.
+fn are_packed(alloc: Global, words: &[u8], packed: &[u8]) -> Result<bool, PackingError> {
+    let there = pack(alloc, words)?.as_slice() == packed;
+    Ok(there && unpack(alloc, packed, words.len())?.as_slice() == words)
+}
+
+/// A number of words is a byte: of 257 words of zero, the last stands behind a tag of its own.
+#[test]
+fn in_memory(rt: HostRuntime) {
+    for (words, packed) in [
+        (WORDS, PACKED),
+        (&[0; 32][..], &[0, 3][..]),
+        (&[0x8a; 32], PACKED_WHOLE),
+        (&[], &[]),
+        (&[0; 2048], &[0, 255]),
+        (&[0; 2056], &[0, 255, 0, 0]),
+    ] {
+        assert!(rt; are_packed(rt.alloc(), words, packed) == Ok(true));
+    }
+}
+
+#[test]
+fn refusals(rt: HostRuntime) {
+    assert!(rt; pack(rt.alloc(), &WORDS[..15]).err() == Some(PackingError::CutWord));
+    assert!(rt; unpack(rt.alloc(), PACKED, 15).err() == Some(PackingError::TooLong));
+    for cut in [1, 2, 3, 5, 6, 7] {
+        let refused = unpack(rt.alloc(), &PACKED[..cut], 16).err();
+        assert!(rt; refused == Some(PackingError::Truncated));
+    }
+    assert!(rt; PackingError::Truncated.name() == "Truncated");
+    let mut output = PackingOutput::new(MemoryOutput::new(rt.alloc()));
+    assert!(rt; output.write(&WORDS[..7]) == Err(DeviceFault) && output.failed());
+}

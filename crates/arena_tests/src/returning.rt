@@ -50,15 +50,34 @@ fn filled<'a>(
     )
 }
 
-#[test]
-fn dropped(rt: HostRuntime) {
-    for (rows, made, want) in [(4, 4, ALL_USED), (3, 3, LAST_AT_ONCE), (0, 0, NONE_USED)] {
-        let returned = Cell::new(0);
-        let (arena, segments) = filled(&rt, rt.alloc(), rows, &returned);
-        assert!(rt; segments == made, "{rows} rows");
-        assert!(rt; arena.refused() == 4 - made, "{rows} rows");
+/// Whether so many segments were made, and what came back at the latest when the arena was dropped, or was taken
+/// apart: then nothing more comes back from the allocator.
+fn check_returned<A: Allocator>(
+    rt: &impl Abort,
+    (arena, segments): (BuilderArenaImpl<A>, u64),
+    (made, want): (u64, u64),
+    returned: &Cell<u64>,
+    is_apart: bool,
+) {
+    assert!(rt; segments == made && made <= 4 && arena.refused() == 4 - made);
+    if is_apart {
+        let allocator = arena.into_allocator();
+        assert!(rt; returned.get() == want && allocator.refused() == 4 - made);
+        drop(allocator);
+    } else {
         drop(arena);
-        assert!(rt; returned.get() == want, "{rows} rows");
+    }
+    assert!(rt; returned.get() == want, "{made} segments");
+}
+
+#[test]
+fn dropped_or_taken_apart(rt: HostRuntime) {
+    for (rows, made, want) in [(4, 4, ALL_USED), (3, 3, LAST_AT_ONCE), (0, 0, NONE_USED)] {
+        for is_apart in [false, true] {
+            let returned = Cell::new(0);
+            let arena = filled(&rt, rt.alloc(), rows, &returned);
+            check_returned(&rt, arena, (made, want), &returned, is_apart);
+        }
     }
 }
 
@@ -70,24 +89,8 @@ fn first_in_the_arena(rt: HostRuntime) {
         let returned = Cell::new(0);
         let heap = HeapAllocator::new(rt.alloc(), 0);
         let allocator = TestAllocator::new(heap, Granted::Rows(rows), &returned);
-        let (arena, segments) = filled_of(&rt, rt.alloc(), FirstInArena::new(allocator));
-        assert!(rt; segments == made, "{rows} rows");
-        assert!(rt; arena.refused() == 4 - made, "{rows} rows");
-        drop(arena);
-        assert!(rt; returned.get() == want, "{rows} rows");
-    }
-}
-
-#[test]
-fn taken_apart(rt: HostRuntime) {
-    for (rows, made, want) in [(4, 4, ALL_USED), (3, 3, LAST_AT_ONCE), (0, 0, NONE_USED)] {
-        let returned = Cell::new(0);
-        let (arena, _segments) = filled(&rt, rt.alloc(), rows, &returned);
-        let allocator = arena.into_allocator();
-        assert!(rt; returned.get() == want, "{rows} rows");
-        assert!(rt; allocator.refused() == 4 - made, "{rows} rows");
-        drop(allocator);
-        assert!(rt; returned.get() == want, "not once more, {rows} rows");
+        let arena = filled_of(&rt, rt.alloc(), FirstInArena::new(allocator));
+        check_returned(&rt, arena, (made, want), &returned, false);
     }
 }
 

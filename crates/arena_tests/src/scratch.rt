@@ -6,7 +6,7 @@ use capnp_arena::arena::{
 use capnp_words::error::ErrorKind;
 use std::alloc::Global;
 use std::process::Abort;
-use test_support::{ScratchAlone, arena_of_root, has_words};
+use test_support::has_words;
 
 /// Two words.
 const ZEROS: &[u8] = b"\0\0\0\0\0\0\0\0\0\0\0\0\0\0\0\0";
@@ -82,41 +82,4 @@ fn zeros_over_all_bytes(rt: HostRuntime) {
     let mut short = [0xff; 7];
     drop(ScratchSpaceHeapAllocator::new(rt.alloc(), &mut short, 0));
     assert!(rt; short == [0; 7]);
-}
-
-fn check_outgrown<A: BuilderArena>(rt: &impl Abort, arena: &mut A) {
-    for (amount, id, at) in [(3, 1, 0), (2, 2, 0), (2, 3, 0), (1, 0, 1), (1, 4, 0)] {
-        assert!(rt; take(arena, amount) == Ok((id, at)), "{amount}");
-    }
-    assert!(rt; arena.refused() == 0);
-}
-
-/// A message that outgrows it gets each other segment of the words that are asked for.
-#[test]
-fn outgrown(rt: HostRuntime) {
-    let mut scratch = [0xff; 16];
-    let allocator = ScratchSpaceHeapAllocator::new(rt.alloc(), &mut scratch, 0);
-    let mut arena = arena_of_root(rt.alloc(), allocator).expect(&rt, "memory");
-    check_outgrown(&rt, &mut arena);
-}
-
-fn check_alone<A: BuilderArena>(rt: &impl Abort, arena: &mut A) {
-    let refused = arena.refused();
-    assert!(rt; take(arena, 3) == Ok((0, 1)) && arena.refused() == refused);
-    assert!(rt; take(arena, 1_021) == Err(ErrorKind::AllocationFailed));
-    assert!(rt; take(arena, 1_020) == Ok((0, 4)));
-    assert!(rt; arena.refused() == refused.wrapping_add(1));
-}
-
-/// With every growth refused, what it has room for is taken, and what the next message needs too. What doesn't
-/// fit is refused.
-#[test]
-fn without_memory(rt: HostRuntime) {
-    let mut scratch = [0xff; 8_192];
-    let allocator = ScratchAlone::new(rt.alloc(), &mut scratch);
-    let mut arena = arena_of_root(rt.alloc(), allocator).expect(&rt, "memory");
-    check_alone(&rt, &mut arena);
-    assert!(rt; arena.refused() == 1);
-    let mut arena = arena_of_root(rt.alloc(), arena.into_allocator()).expect(&rt, "memory");
-    check_alone(&rt, &mut arena);
 }

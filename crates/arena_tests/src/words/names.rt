@@ -51,14 +51,19 @@ fn sizes(rt: HostRuntime) {
                 ElementSize::EightBytes
             ]
     );
-    assert!(rt; data_bits_per_element(Byte) == 8 && data_bits_per_element(InlineComposite) == 0);
-    assert!(rt; pointers_per_element(Pointer) == 1 && pointers_per_element(Byte) == 0);
-    assert!(rt; PointerType::List != PointerType::Capability);
     let most = StructSize {
         data_words: 65535,
         pointers: 65535,
     };
-    assert!(rt; most.total() == 131_070);
+    let numbers = [
+        data_bits_per_element(Byte),
+        data_bits_per_element(InlineComposite),
+        pointers_per_element(Pointer),
+        pointers_per_element(Byte),
+        most.total(),
+    ];
+    assert!(rt; numbers == [8, 0, 1, 0, 131_070]);
+    assert!(rt; PointerType::List != PointerType::Capability);
 }
 
 #[test]

@@ -80,12 +80,18 @@ fn words(rt: HostRuntime) {
 #[test]
 fn parts(rt: HostRuntime) {
     let pair = pointer(0x0400_0000_0100_0200);
-    assert!(rt; pair.is_positional() && !pair.is_null());
-    assert!(rt; (pair.struct_data_size(), pair.struct_ptr_count()) == (1, 2));
-    assert!(rt; pair.struct_word_size() == 3 && pair.inline_composite_list_element_count() == 1);
     let list = pointer(0x0100_0000_1f00_0000);
-    assert!(rt; list.list_inline_composite_word_count() == 3);
-    assert!(rt; pair.target(0, 2) == Some(2) && pair.target(0, 1) == None);
-    assert!(rt; WirePointer::empty_struct().target(7, 8) == Some(7));
-    assert!(rt; offset_between(0, 1) == 0 && offset_between(9, 2) == -8);
+    assert!(rt; pair.is_positional() && !pair.is_null());
+    let numbers = [
+        u32::from(pair.struct_data_size()),
+        u32::from(pair.struct_ptr_count()),
+        pair.struct_word_size(),
+        pair.inline_composite_list_element_count(),
+        list.list_inline_composite_word_count(),
+    ];
+    assert!(rt; numbers == [1, 2, 3, 1, 3]);
+    let empty = WirePointer::empty_struct();
+    let targets = [pair.target(0, 2), pair.target(0, 1), empty.target(7, 8)];
+    assert!(rt; targets == [Some(2), None, Some(7)]);
+    assert!(rt; [offset_between(0, 1), offset_between(9, 2)] == [0, -8]);
 }

@@ -1,6 +1,6 @@
 //! The texts of refusals.
 use capnp_words::error::ErrorKind;
-use std::test::Fail;
+use std::alloc::{AllocError, Global};
 
 const KINDS: [ErrorKind; 35] = [
     ErrorKind::AllocationFailed,
@@ -40,13 +40,20 @@ const KINDS: [ErrorKind; 35] = [
     ErrorKind::UnknownPointerType,
 ];
 
-// The text is the variant as Rust writes it.
+// Whether the text is the variant as Rust writes it.
+fn is_variant(alloc: Global, kind: ErrorKind) -> Result<bool, AllocError> {
+    let both = format!(in alloc; "{kind} {kind:?}")?;
+    Ok(
+        both.as_str()
+            .split_once(' ')
+            .is_some_and(|(text, variant)| text == variant),
+    )
+}
+
 #[test]
-fn texts_are_variants(rt: HostRuntime) -> Result<(), Fail> {
+fn texts_are_variants(rt: HostRuntime) -> Result<(), AllocError> {
     for kind in KINDS {
-        let text = kind.to_string(rt.alloc())?;
-        let variant = format!(in rt.alloc(); "{kind:?}")?;
-        assert!(rt; text.as_str() == variant.as_str());
+        assert!(rt; is_variant(rt.alloc(), kind)?);
     }
     Ok(())
 }

@@ -22,10 +22,10 @@ fn four(bytes: &[u8]) -> [u64; 4]
 
 /// A word is put among zeros.
 fn check_put(rt: &impl Abort, bytes: &mut [u8; 36]) {
-    assert!(rt; count(bytes) == 4 && used(bytes) == 0);
+    assert!(rt; [count(bytes), used(bytes)] == [4, 0]);
     put_word(bytes, 1, WORD);
-    assert!(rt; &bytes[8..16] == b"\x00\x01\x02\x03\x04\x05\x06\x07".as_slice());
-    assert!(rt; used(bytes) == 2 && used_part(bytes, 0, 1) == 0);
+    assert!(rt; four(bytes) == [0, WORD, 0, 0] && bytes[9] == 1);
+    assert!(rt; [used(bytes), used_part(bytes, 0, 1)] == [2, 0]);
     assert!(rt; word_at(part(bytes, 1, 2), 0) == WORD);
 }
 
