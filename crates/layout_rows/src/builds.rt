@@ -9,8 +9,9 @@ mod place;
 mod pointers;
 mod structs;
 
-use self::call::{Call, MessageCall};
+use self::call::{Call, FORMS, MessageCall};
 use self::place::Place;
+use crate::calls::{self, Values};
 use crate::memory::{self, Memory};
 use crate::output::Output;
 use crate::parse::{self, Fault};
@@ -97,20 +98,22 @@ fn call_once<A: Allocator>(
     out: &mut Output,
 ) -> Result<Option<Place>, Fault> {
     let (place, text) = made_of(kept, text);
-    let parts = parse::parts(alloc, text, ',')?;
-    let [name, arguments @ ..] = parts.as_slice() else {
-        return Err(Fault::Malformed);
-    };
-    match (Call::new(name, arguments)?, place) {
-        (Call::Message(call), _) => message_call(arena, call, out),
+    let (call, values) = calls::read(&FORMS, text)?;
+    if values.is_unfit {
+        return Err(Fault::Unfit);
+    }
+    match (call, place) {
+        (Call::Message(call), _) => message_call(arena, call, &values, out),
         (Call::Read, Some(place)) => place.read(arena, out),
         (Call::Pointer(call), Some(Place::Pointer(place))) => {
-            pointers::call(alloc, arena, place, call, out)
+            pointers::call(alloc, arena, place, (call, &values), out)
         }
         (Call::Struct(call), Some(Place::Struct(place))) => {
-            structs::call(alloc, arena, place, call, out)
+            structs::call(alloc, arena, place, (call, &values), out)
         }
-        (Call::List(call), Some(Place::List(place))) => lists::call(arena, place, call, out),
+        (Call::List(call), Some(Place::List(place))) => {
+            lists::call(arena, place, (call, &values), out)
+        }
         _ => Err(Fault::Unfit),
     }
 }
@@ -134,6 +137,7 @@ fn made_of<'a>(kept: &[Place], text: &'a str) -> (Option<Place>, &'a str) {
 fn message_call<A: Allocator>(
     arena: &mut BuilderArenaImpl<A>,
     call: MessageCall,
+    values: &Values<'_>,
     out: &mut Output,
 ) -> Result<Option<Place>, Fault> {
     match call {
@@ -141,11 +145,15 @@ fn message_call<A: Allocator>(
         MessageCall::Len => out.number(arena.len()),
         MessageCall::Refused => out.number(arena.refused()),
         MessageCall::Size => out.number(arena.size_in_words()),
-        MessageCall::Allocated(segment) => allocated(arena, segment, out),
-        MessageCall::WriteAllocated(segment, index, byte) => {
-            write_allocated(arena, segment, (index, byte), out)?;
+        MessageCall::Allocated => allocated(arena, values.count, out),
+        MessageCall::WriteAllocated => {
+            write_allocated(arena, values.count, (values.index, values.byte), out)?;
         }
-        MessageCall::PointerAt(place) => {
+        MessageCall::PointerAt => {
+            let place = PointerPlace {
+                segment: values.count,
+                word: values.word,
+            };
             if !place::is_pointer(&*arena, place) {
                 return Err(Fault::Unfit);
             }

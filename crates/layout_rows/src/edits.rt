@@ -1,13 +1,67 @@
 //! Edits of a message that is built, and what becomes of each.
 
+use crate::calls::{self, Form, Values};
 use crate::memory::{self, Memory};
 use crate::output::Output;
 use crate::parse::{self, Fault};
-use crate::source::SourceText;
-use capnp_arena::arena::{Allocator, BuilderArena, ReaderArenaImpl, ReaderOptions, SegmentArray};
+use capnp_arena::arena::{Allocator, BuilderArena, ReaderArenaImpl, SegmentArray};
 use capnp_edits::edit::{Edit, Op, Source, Step, apply};
 use capnp_words::error::ErrorKind;
 use std::alloc::Global;
+
+/// Which operation an edit does.
+#[derive(Clone, Copy)]
+enum Name {
+    InitStruct,
+    InitList,
+    InitStructList,
+    InitText,
+    InitData,
+    SetText,
+    SetData,
+    SetCapability,
+    Clear,
+    CopyFrom,
+    SetStruct,
+    SetList,
+    CopyContent,
+    GetStruct,
+    GetList,
+    GetStructList,
+    GetText,
+    GetData,
+    SetField,
+    SetBool,
+    SetElement,
+    WriteText,
+    WriteData,
+}
+
+static FORMS: [Form<Name>; 23] = [
+    ("is", "dp", 2, Name::InitStruct),
+    ("il", "sc", 2, Name::InitList),
+    ("isl", "cdp", 3, Name::InitStructList),
+    ("it", "c", 1, Name::InitText),
+    ("id", "c", 1, Name::InitData),
+    ("st", "h", 1, Name::SetText),
+    ("sd", "h", 1, Name::SetData),
+    ("sc", "c", 1, Name::SetCapability),
+    ("cl", "", 0, Name::Clear),
+    ("cf", "glrf", 4, Name::CopyFrom),
+    ("ss", "glrf", 4, Name::SetStruct),
+    ("sl", "glrf", 4, Name::SetList),
+    ("cc", "glr", 3, Name::CopyContent),
+    ("gs", "dpo", 3, Name::GetStruct),
+    ("gl", "so", 2, Name::GetList),
+    ("gsl", "dpo", 3, Name::GetStructList),
+    ("gt", "o", 1, Name::GetText),
+    ("gd", "o", 1, Name::GetData),
+    ("sf", "scn", 3, Name::SetField),
+    ("sb", "cf", 2, Name::SetBool),
+    ("se", "scn", 3, Name::SetElement),
+    ("wt", "cb", 2, Name::WriteText),
+    ("wd", "cb", 2, Name::WriteData),
+];
 
 /// The answer to a line of a number of words, a number of segments, and edits.
 pub fn answer(alloc: Global, line: &str) -> Result<String, Fault> {
@@ -70,16 +124,12 @@ fn edit_once<A: BuilderArena>(
     let Some((path, call)) = text.split_once(':') else {
         return Err(Fault::Malformed);
     };
-    let path = path_of(alloc, path)?;
-    let parts = parse::parts(alloc, call, ',')?;
-    match parts.as_slice() {
-        [name, segments, nesting, budget, flags @ ..] if is_copying(name) => {
-            let source = SourceText::new(segments, nesting, budget)?;
-            copy(alloc, arena, path.as_slice(), (name, source, flags))
-        }
-        [name, arguments @ ..] => { change(alloc, arena, path.as_slice(), (name, arguments)) }
-        [] => Err(Fault::Malformed),
+    let (name, values) = calls::read(&FORMS, call)?;
+    if values.is_unfit {
+        return Err(Fault::Unfit);
     }
+    let path = path_of(alloc, path)?;
+    read_bytes(alloc, arena, path.as_slice(), (name, &values))
 }
 
 /// The steps of a path: `-`, or `c3` and `e12` with points between.
@@ -108,178 +158,84 @@ fn step_of(text: &str) -> Result<Step, Fault> {
     }
 }
 
-/// Whether an operation copies from another message.
-fn is_copying(name: &str) -> bool {
-    matches!(name, "cf" | "ss" | "sl" | "cc")
-}
-
-/// Does an edit that copies from another message.
-fn copy<A: BuilderArena>(
+/// Does an operation at the end of a path: its bytes are read.
+fn read_bytes<A: BuilderArena>(
     alloc: Global,
     arena: &mut A,
     path: &[Step],
-    (name, from, flags): (&str, SourceText<'_>, &[&str]),
+    (name, values): (Name, &Values<'_>),
 ) -> Result<Result<(), ErrorKind>, Fault> {
-    let segments = from.segments(alloc)?;
-    let slices = parse::slices(alloc, segments.as_slice())?;
-    let read = (slices.as_slice(), from.options);
-    copy_segments(arena, path, (name, flags), read)
+    let bytes = parse::bytes(alloc, values.hex.unwrap_or("-"))?;
+    let given = if values.hex.is_some() {
+        Some(bytes.as_slice())
+    } else {
+        None
+    };
+    read_source(alloc, arena, path, (name, values, given))
 }
 
-/// The same of the segments of the message and how much may be read of it.
-fn copy_segments<A: BuilderArena>(
+/// The same with these bytes: the message that is copied from is read.
+fn read_source<A: BuilderArena>(
+    alloc: Global,
     arena: &mut A,
     path: &[Step],
-    call: (&str, &[&str]),
-    (segments, options): (&[&[u8]], ReaderOptions),
+    call: (Name, &Values<'_>, Option<&[u8]>),
 ) -> Result<Result<(), ErrorKind>, Fault> {
-    let Some(array) = SegmentArray::new(segments) else {
+    let segments = call.1.source.segments(alloc)?;
+    let slices = parse::slices(alloc, segments.as_slice())?;
+    let Some(array) = SegmentArray::new(slices.as_slice()) else {
         return Err(Fault::Unfit);
     };
-    let message = ReaderArenaImpl::new(array, options);
-    copy_source(
-        arena,
-        path,
-        call,
-        (&message, options.traversal_limit_in_words),
-    )
+    let message = ReaderArenaImpl::new(array, call.1.source.options);
+    Ok(apply_at(arena, path, call, &message))
 }
 
-/// The same of the message and how many words may be read of it.
-fn copy_source<'a, A: BuilderArena>(
-    target: &mut A,
-    path: &'a [Step],
-    (name, flags): (&str, &[&str]),
-    (arena, budget): (&'a ReaderArenaImpl<SegmentArray<'a>>, Option<usize>),
-) -> Result<Result<(), ErrorKind>, Fault> {
-    let op = copying(name, Source { arena, budget }, flags)?;
-    Ok(apply_at(target, path, op))
-}
-
-/// Does an operation at the end of a path.
+/// The same with that message.
 fn apply_at<'a, A: BuilderArena>(
     arena: &mut A,
     path: &'a [Step],
-    op: Op<'a>,
+    (name, values, given): (Name, &Values<'_>, Option<&'a [u8]>),
+    message: &'a ReaderArenaImpl<SegmentArray<'a>>,
 ) -> Result<(), ErrorKind> {
+    let source = Source {
+        arena: message,
+        budget: values.source.options.traversal_limit_in_words,
+    };
+    let op = operation(name, values, given, source);
     apply(arena, &Edit { path, op })
 }
 
-/// The operation that copies from a message.
-fn copying<'a>(name: &str, source: Source<'a>, flags: &[&str]) -> Result<Op<'a>, Fault> {
-    match (name, flags) {
-        ("cf", [canonical]) => Ok(Op::CopyFrom(source, parse::flag(canonical)?)),
-        ("ss", [canonical]) => Ok(Op::SetStruct(source, parse::flag(canonical)?)),
-        ("sl", [canonical]) => Ok(Op::SetList(source, parse::flag(canonical)?)),
-        ("cc", []) => Ok(Op::CopyContent(source)),
-        _ => Err(Fault::Malformed),
-    }
-}
-
-/// Does an edit that copies from no other message.
-fn change<A: BuilderArena>(
-    alloc: Global,
-    arena: &mut A,
-    path: &[Step],
-    (name, arguments): (&str, &[&str]),
-) -> Result<Result<(), ErrorKind>, Fault> {
-    let given = given(alloc, name, arguments)?;
-    let bytes = match &given {
-        Some(bytes) => Some(bytes.as_slice()),
-        None => None,
-    };
-    let op = operation(name, arguments, bytes)?;
-    Ok(apply_at(arena, path, op))
-}
-
-/// The bytes of the last argument, where it is a default or the bytes of a text or of data; `None`
-/// where it is `none`.
-fn given(alloc: Global, name: &str, arguments: &[&str]) -> Result<Option<Vec<u8>>, Fault> {
-    match (name, arguments) {
-        ("st" | "sd" | "gs" | "gl" | "gsl" | "gt" | "gd", [.., last]) if *last != "none" => {
-            Ok(Some(parse::bytes(alloc, last)?))
-        }
-        _ => Ok(None),
-    }
-}
-
-/// The operation that copies from no other message.
-fn operation<'a>(name: &str, arguments: &[&str], given: Option<&'a [u8]>) -> Result<Op<'a>, Fault> {
+/// The operation of a name, of these values, bytes and message.
+fn operation<'a>(
+    name: Name,
+    values: &Values<'_>,
+    given: Option<&'a [u8]>,
+    source: Source<'a>,
+) -> Op<'a> {
+    let bytes = given.unwrap_or(&[]);
     match name {
-        "is" | "il" | "isl" | "it" | "id" => making(name, arguments),
-        "st" | "sd" | "sc" | "cl" => setting(name, arguments, given),
-        "gs" | "gl" | "gsl" | "gt" | "gd" => searching(name, arguments, given),
-        _ => writing(name, arguments),
-    }
-}
-
-/// An operation that makes an object of zeros.
-fn making<'a>(name: &str, arguments: &[&str]) -> Result<Op<'a>, Fault> {
-    match (name, arguments) {
-        ("is", [data, pointers]) => Ok(Op::InitStruct(parse::struct_size(data, pointers)?)),
-        ("il", [size, count]) => Ok(Op::InitList(
-            parse::element_size(size)?,
-            parse::number(count)?,
-        )),
-        ("isl", [count, data, pointers]) => Ok(Op::InitStructList(
-            parse::number(count)?,
-            parse::struct_size(data, pointers)?,
-        )),
-        ("it", [count]) => Ok(Op::InitText(parse::number(count)?)),
-        ("id", [count]) => Ok(Op::InitData(parse::number(count)?)),
-        _ => Err(Fault::Malformed),
-    }
-}
-
-/// An operation that makes of a pointer bytes that are given, a capability, or null.
-fn setting<'a>(name: &str, arguments: &[&str], given: Option<&'a [u8]>) -> Result<Op<'a>, Fault> {
-    match (name, arguments, given) {
-        ("st", [_], Some(bytes)) => Ok(Op::SetText(bytes)),
-        ("sd", [_], Some(bytes)) => Ok(Op::SetData(bytes)),
-        ("sc", [index], None) => Ok(Op::SetCapability(parse::number(index)?)),
-        ("cl", [], None) => Ok(Op::Clear),
-        _ => Err(Fault::Malformed),
-    }
-}
-
-/// An operation that looks for an object, with a default or without.
-fn searching<'a>(
-    name: &str,
-    arguments: &[&str],
-    default: Option<&'a [u8]>,
-) -> Result<Op<'a>, Fault> {
-    match (name, arguments) {
-        ("gs", [data, pointers, _]) => Ok(Op::GetStruct(
-            parse::struct_size(data, pointers)?,
-            default,
-        )),
-        ("gl", [size, _]) => Ok(Op::GetList(parse::element_size(size)?, default)),
-        ("gsl", [data, pointers, _]) => Ok(Op::GetStructList(
-            parse::struct_size(data, pointers)?,
-            default,
-        )),
-        ("gt", [_]) => Ok(Op::GetText(default)),
-        ("gd", [_]) => Ok(Op::GetData(default)),
-        _ => Err(Fault::Malformed),
-    }
-}
-
-/// An operation that writes in place.
-fn writing<'a>(name: &str, arguments: &[&str]) -> Result<Op<'a>, Fault> {
-    match (name, arguments) {
-        ("sf", [size, index, value]) => Ok(Op::SetField(
-            parse::element_size(size)?,
-            parse::number(index)?,
-            parse::number(value)?,
-        )),
-        ("sb", [index, value]) => Ok(Op::SetBool(parse::number(index)?, parse::flag(value)?)),
-        ("se", [size, index, value]) => Ok(Op::SetElement(
-            parse::element_size(size)?,
-            parse::number(index)?,
-            parse::number(value)?,
-        )),
-        ("wt", [index, byte]) => Ok(Op::WriteText(parse::number(index)?, parse::number(byte)?)),
-        ("wd", [index, byte]) => Ok(Op::WriteData(parse::number(index)?, parse::number(byte)?)),
-        _ => Err(Fault::Malformed),
+        Name::InitStruct => Op::InitStruct(values.sections),
+        Name::InitList => Op::InitList(values.size, values.count),
+        Name::InitStructList => Op::InitStructList(values.count, values.sections),
+        Name::InitText => Op::InitText(values.count),
+        Name::InitData => Op::InitData(values.count),
+        Name::SetText => Op::SetText(bytes),
+        Name::SetData => Op::SetData(bytes),
+        Name::SetCapability => Op::SetCapability(values.count),
+        Name::Clear => Op::Clear,
+        Name::CopyFrom => Op::CopyFrom(source, values.flag),
+        Name::SetStruct => Op::SetStruct(source, values.flag),
+        Name::SetList => Op::SetList(source, values.flag),
+        Name::CopyContent => Op::CopyContent(source),
+        Name::GetStruct => Op::GetStruct(values.sections, given),
+        Name::GetList => Op::GetList(values.size, given),
+        Name::GetStructList => Op::GetStructList(values.sections, given),
+        Name::GetText => Op::GetText(given),
+        Name::GetData => Op::GetData(given),
+        Name::SetField => Op::SetField(values.size, values.count, values.number),
+        Name::SetBool => Op::SetBool(values.count, values.flag),
+        Name::SetElement => Op::SetElement(values.size, values.count, values.number),
+        Name::WriteText => Op::WriteText(values.count, values.byte),
+        Name::WriteData => Op::WriteData(values.count, values.byte),
     }
 }

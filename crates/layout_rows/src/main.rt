@@ -4,6 +4,7 @@
 
 mod audits;
 mod builds;
+mod calls;
 mod edits;
 mod elements;
 mod memory;

@@ -4,10 +4,11 @@ ghost use Rattle.std.specs.Prelude.{◌<◌, ◌/◌, ◌^◌, length, IfOk, IfS
 mod calls;
 
 use self::calls::{Call, Op, read_calls};
+use crate::calls::Values;
 use crate::elements::{low_data_at, number_at, own_struct_at, pointer_at, struct_at};
 use crate::output::Output;
 use crate::parse::{self, Fault};
-use crate::types::{ElementType, NumberType, mask_of};
+use crate::types::{ElementType, NumberType, flag_of, mask_of};
 use capnp_arena::arena::{ReaderArena, ReaderArenaImpl, ReaderOptions, SegmentArray};
 use capnp_readers::readers::{
     ListReader, MessageSize, PointerPlace, PointerReader, PrimitiveElement, StructReader, Target,
@@ -108,10 +109,14 @@ impl Reading {
         of: Option<Reader<'a, A>>,
         call: &'a Call,
     ) -> Option<Reader<'a, A>> {
+        if call.values.is_unfit {
+            self.unfit();
+            return None;
+        }
         match call.op {
             Op::Root => self.root(arena),
             Op::NewPointer | Op::NewStruct | Op::NewList => from_nothing(arena, call.op),
-            Op::At(place, nesting_limit) => self.at(arena, place, nesting_limit),
+            Op::At => self.at(arena, &call.values),
             Op::FromDefault => self.from_default(call),
             _ => self.call_of(of, call),
         }
@@ -125,8 +130,8 @@ impl Reading {
     ) -> Option<Reader<'a, A>> {
         match of {
             Some(Reader::Pointer(from)) => self.call_of_pointer(from, call),
-            Some(Reader::Struct(from)) => self.call_of_struct(from, call.op),
-            Some(Reader::List(from)) => self.call_of_list(from, call.op),
+            Some(Reader::Struct(from)) => self.call_of_struct(from, call),
+            Some(Reader::List(from)) => self.call_of_list(from, call),
             None => {
                 self.unfit();
                 None
@@ -153,9 +158,13 @@ impl Reading {
     fn at<'a, A: ReaderArena>(
         &mut self,
         arena: &'a A,
-        place: PointerPlace,
-        nesting_limit: i32,
+        values: &Values<'_>,
     ) -> Option<Reader<'a, A>> {
+        let place = PointerPlace {
+            segment: values.count,
+            word: values.word,
+        };
+        let nesting_limit = values.source.options.nesting_limit;
         match reader_at(arena, place, nesting_limit) {
             Some(reader) => Some(Reader::Pointer(reader)),
             None => {
@@ -190,14 +199,14 @@ impl Reading {
         };
         match call.op {
             Op::Struct => self.structure(from, default),
-            Op::List(size) => self.list(from, size, default),
+            Op::List => self.list(from, call.values.size, default),
             Op::Next => self.next(from),
             Op::Text | Op::Data => {
                 self.bytes(from, call.op, default);
                 None
             }
             op => {
-                self.ask_pointer(from, op);
+                self.ask_pointer(from, op, call.values.count);
                 None
             }
         }
@@ -289,7 +298,7 @@ impl Reading {
     }
 
     /// Calls that give no reader, of a pointer.
-    fn ask_pointer<A: ReaderArena>(&mut self, from: PointerReader<'_, A>, op: Op) {
+    fn ask_pointer<A: ReaderArena>(&mut self, from: PointerReader<'_, A>, op: Op, head: u32) {
         match op {
             Op::IsNull => self.out.flag(from.is_null()),
             Op::Type => {
@@ -301,7 +310,7 @@ impl Reading {
                 let size = from.total_size(&mut self.limiter);
                 self.size(size);
             }
-            Op::Canonical(head) => self.canonical(from, head),
+            Op::Canonical => self.canonical(from, head),
             _ => self.unfit(),
         }
     }
@@ -309,35 +318,51 @@ impl Reading {
     fn call_of_struct<'a, A: ReaderArena>(
         &mut self,
         from: StructReader<'a, A>,
-        op: Op,
+        call: &Call,
     ) -> Option<Reader<'a, A>> {
-        match op {
-            Op::Pointer(index) => Some(Reader::Pointer(from.get_pointer_field(index))),
+        match call.op {
+            Op::Pointer => Some(Reader::Pointer(from.get_pointer_field(call.values.index))),
             Op::Section => Some(Reader::List(from.get_pointer_section_as_list())),
             op => {
-                self.ask_struct(from, op);
+                self.ask_struct(from, op, &call.values);
                 None
             }
         }
     }
 
     /// Calls that give no reader, of a struct.
-    fn ask_struct<A: ReaderArena>(&mut self, from: StructReader<'_, A>, op: Op) {
+    fn ask_struct<A: ReaderArena>(
+        &mut self,
+        from: StructReader<'_, A>,
+        op: Op,
+        values: &Values<'_>,
+    ) {
+        let index = values.index;
         match op {
-            Op::IsPointerNull(index) => self.out.flag(from.is_pointer_field_null(index)),
-            Op::Bool(index, None) => self.out.flag(from.get_bool_field(index)),
-            Op::Bool(index, Some(mask)) => {
-                self.out.flag(from.get_bool_field_mask(index, mask));
-            }
-            Op::Number(of, index, mask) => self.field(from, of, index, mask),
+            Op::IsPointerNull => self.out.flag(from.is_pointer_field_null(index)),
+            Op::Bool => self.bool_field(from, index, values.mask),
+            Op::Number(of) => self.field(from, of, index, values.mask),
             Op::Bytes => self.out.hex_or_dash(from.data_bytes()),
             Op::Size => {
                 let size = from.total_size(&mut self.limiter);
                 self.size(size);
             }
-            Op::CanonicalStruct(read, behind) => self.canonical_struct(from, read, behind),
-            Op::CanonicalShared(head) => self.canonical_shared(from, head),
+            Op::CanonicalStruct => self.canonical_struct(from, values),
+            Op::CanonicalShared => self.canonical_shared(from, values),
             _ => self.unfit(),
+        }
+    }
+
+    fn bool_field<A: ReaderArena>(
+        &mut self,
+        from: StructReader<'_, A>,
+        index: usize,
+        mask: Option<&str>,
+    ) {
+        match flag_of(mask) {
+            Ok(Some(mask)) => self.out.flag(from.get_bool_field_mask(index, mask)),
+            Ok(None) => self.out.flag(from.get_bool_field(index)),
+            Err(_) => self.unfit(),
         }
     }
 
@@ -348,14 +373,9 @@ impl Reading {
         self.head(head);
     }
 
-    fn canonical_struct<A: ReaderArena>(
-        &mut self,
-        from: StructReader<'_, A>,
-        read: u32,
-        behind: u32,
-    ) {
-        let (mut read, mut behind) = (read, behind);
-        let (mut data, mut pointers) = (false, false);
+    fn canonical_struct<A: ReaderArena>(&mut self, from: StructReader<'_, A>, values: &Values<'_>) {
+        let (mut read, mut behind) = (values.count, values.word);
+        let (mut data, mut pointers) = (values.flag, values.flag);
         let tested = from.is_canonical(
             &mut self.limiter,
             &mut read,
@@ -369,9 +389,9 @@ impl Reading {
         self.used(data, pointers);
     }
 
-    fn canonical_shared<A: ReaderArena>(&mut self, from: StructReader<'_, A>, head: u32) {
-        let mut head = head;
-        let (mut data, mut pointers) = (false, false);
+    fn canonical_shared<A: ReaderArena>(&mut self, from: StructReader<'_, A>, values: &Values<'_>) {
+        let mut head = values.count;
+        let (mut data, mut pointers) = (values.flag, values.flag);
         let tested = from.is_canonical_shared(
             &mut self.limiter,
             &mut head,
@@ -386,12 +406,13 @@ impl Reading {
     fn call_of_list<'a, A: ReaderArena>(
         &mut self,
         from: ListReader<'a, A>,
-        op: Op,
+        call: &Call,
     ) -> Option<Reader<'a, A>> {
-        match op {
-            Op::Element(index) => self.found(struct_at(&from, index)),
-            Op::OwnElement(index) => self.found(own_struct_at(&from, index)),
-            Op::PointerElement(index) => match pointer_at(&from, index) {
+        let index = call.values.count;
+        match call.op {
+            Op::Element => self.found(struct_at(&from, index)),
+            Op::OwnElement => self.found(own_struct_at(&from, index)),
+            Op::PointerElement => match pointer_at(&from, index) {
                 Some(pointer) => Some(Reader::Pointer(pointer)),
                 None => {
                     self.unfit();
@@ -399,7 +420,7 @@ impl Reading {
                 }
             },
             op => {
-                self.ask_list(from, op);
+                self.ask_list(from, op, &call.values);
                 None
             }
         }
@@ -420,12 +441,12 @@ impl Reading {
     }
 
     /// Calls that give no reader, of a list.
-    fn ask_list<A: ReaderArena>(&mut self, from: ListReader<'_, A>, op: Op) {
+    fn ask_list<A: ReaderArena>(&mut self, from: ListReader<'_, A>, op: Op, values: &Values<'_>) {
         match op {
-            Op::Get(of, index) => self.element(from, of, index),
+            Op::Get => self.element(from, values.element, values.count),
             Op::Bytes => self.out.hex_or_dash(from.data_bytes()),
             Op::Bits => self.out.number(from.element_data_bits()),
-            Op::Low(index) => self.number_or_none(low_data_at(&from, index)),
+            Op::Low => self.number_or_none(low_data_at(&from, values.count)),
             _ => self.unfit(),
         }
     }

@@ -7,30 +7,22 @@ use std::alloc::Global;
 /// Another message as three arguments of a call have it.
 #[derive(Clone, Copy)]
 pub struct SourceText<'a> {
-    segments: &'a str,
+    /// Its segments in hex digits, with slashes between.
+    pub segments: &'a str,
     /// How much of it may be read.
     pub options: ReaderOptions,
 }
 
-impl<'a> SourceText<'a> {
-    /// The message of segments with slashes between, a nesting limit, and a number of words or `none`.
-    pub fn new(segments: &'a str, nesting: &str, budget: &str) -> Result<Self, Fault> {
-        if segments != "-" && !segments.split('/').all(|part| part == "." || is_hex(part)) {
-            return Err(Fault::Malformed);
-        }
-        Ok(SourceText {
-            segments,
-            options: ReaderOptions {
-                traversal_limit_in_words: parse::limit(budget)?,
-                nesting_limit: parse::number(nesting)?,
-            },
-        })
-    }
-
+impl SourceText<'_> {
     /// The bytes of each segment.
     pub fn segments(&self, alloc: Global) -> Result<Vec<Vec<u8>>, Fault> {
         parse::segments(alloc, self.segments, '/', ".")
     }
+}
+
+/// Whether a text is segments with slashes between, each `.` or bytes.
+pub fn are_segments(text: &str) -> bool {
+    text.split('/').all(|part| part == "." || is_hex(part))
 }
 
 /// Whether a text is bytes in lower-case hex digits, or `-`.

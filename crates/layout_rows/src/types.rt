@@ -61,3 +61,11 @@ where
         None => Ok(None),
     }
 }
+
+/// Yes or no, where that isn't missing.
+pub fn flag_of(digits: Option<&str>) -> Result<Option<bool>, Fault> {
+    match digits {
+        Some(digits) => Ok(Some(parse::flag(digits)?)),
+        None => Ok(None),
+    }
+}

@@ -1,62 +1,34 @@
 //! Calls on a text or on data that a pointer leads to.
-ghost use Rattle.std.specs.Prelude.{IfOk};
 ghost use Rattle.capnp_builders.specs.Defaults.{IsShortDefault};
 
 use super::call::{Blob, BlobCall};
 use super::place::{Place, pointer, put_numbers, put_outcome, refuse};
 use super::pointers::LIST_LIMIT;
+use crate::calls::Values;
 use crate::output::Output;
-use crate::parse::{self, Fault};
+use crate::parse::Fault;
 use capnp_arena::arena::BuilderArena;
 use capnp_readers::readers::PointerPlace;
 use capnp_words::error::ErrorKind;
-use std::alloc::Global;
 
-/// Makes a call on a text or on data and adds its answer.
+/// Makes a call on a text or on data, with its bytes, also as a default, and adds its answer.
 pub fn call<A: BuilderArena>(
-    alloc: Global,
     arena: &mut A,
     place: PointerPlace,
-    (blob, call): (Blob, BlobCall<'_>),
+    call: (Blob, BlobCall, &Values<'_>),
+    bytes: &[u8],
+    default: Option<&[u8]>,
     out: &mut Output,
-) -> Result<Option<Place>, Fault> {
-    match call {
-        BlobCall::Init(count, first) => {
-            let first = parse::bytes(alloc, first.unwrap_or("-"))?;
-            init(arena, place, (blob, count), first.as_slice(), out)
-        }
-        BlobCall::Set(text) => {
-            let bytes = parse::bytes(alloc, text)?;
-            set(arena, place, blob, bytes.as_slice(), out)
-        }
-        BlobCall::Find(default) => {
-            let default = optional(alloc, default)?;
-            find(arena, place, blob, default_of(&default)?, out)
-        }
-        BlobCall::Get(default) => {
-            let default = optional(alloc, default)?;
-            get(arena, place, blob, default_of(&default)?, out)
-        }
-        BlobCall::Write(index, byte) => write(arena, place, blob, (index, byte), out),
-    }
-}
-
-/// The bytes of hex digits, where these aren't missing.
-pub fn optional(alloc: Global, text: Option<&str>) -> Result<Option<Vec<u8>>, Fault> {
-    match text {
-        Some(text) => Ok(Some(parse::bytes(alloc, text)?)),
-        None => Ok(None),
-    }
-}
-
-/// The same bytes as a default, `Unfit` where they are too many.
-pub fn default_of(bytes: &Option<Vec<u8>>) -> Result<Option<&[u8]>, Fault>
-    ensures { IfOk result IsShortDefault }
+) -> Result<Option<Place>, Fault>
+    requires { IsShortDefault default }
 {
-    match bytes {
-        Some(bytes) if bytes.len() / 8 <= u32::MAX as usize => Ok(Some(bytes.as_slice())),
-        Some(_) => Err(Fault::Unfit),
-        None => Ok(None),
+    let (blob, call, values) = call;
+    match call {
+        BlobCall::Init => init(arena, place, (blob, values.count), bytes, out),
+        BlobCall::Set => set(arena, place, blob, bytes, out),
+        BlobCall::Find => find(arena, place, blob, default, out),
+        BlobCall::Get => get(arena, place, blob, default, out),
+        BlobCall::Write => write(arena, place, blob, (values.index, values.byte), out),
     }
 }
 

@@ -1,24 +1,21 @@
 //! The calls of a line.
 
-use crate::parse::{self, Fault};
-use crate::source::{self, SourceText};
-use crate::types::{ElementType, NumberType, element_type, number_type};
-use capnp_readers::readers::PointerPlace;
-use capnp_words::wire_pointer::{ElementSize, StructSize};
+use crate::calls::Form;
+use crate::types::NumberType;
 
 /// A call, by what it is made of.
 #[derive(Clone, Copy)]
-pub enum Call<'a> {
+pub enum Call {
     /// Of the message.
     Message(MessageCall),
     /// Of a pointer, a struct or a list: what a reader of it reads.
     Read,
     /// Of a pointer.
-    Pointer(PointerCall<'a>),
+    Pointer(PointerCall),
     /// Of a struct.
-    Struct(StructCall<'a>),
+    Struct(StructCall),
     /// Of a list.
-    List(ListCall<'a>),
+    List(ListCall),
 }
 
 /// A call of the message.
@@ -33,50 +30,44 @@ pub enum MessageCall {
     /// `size_in_words`.
     Size,
     /// The allocated words of a segment, as they are lent to be written.
-    Allocated(u32),
+    Allocated,
     /// The same, and a byte of them is written.
-    WriteAllocated(u32, usize, u8),
+    WriteAllocated,
     /// The pointer of a word.
-    PointerAt(PointerPlace),
+    PointerAt,
 }
 
-/// A call of a pointer. Bytes are hex digits, and a default may be missing.
+/// A call of a pointer.
 #[derive(Clone, Copy)]
-pub enum PointerCall<'a> {
+pub enum PointerCall {
     IsNull,
     Clear,
-    SetCapability(u32),
+    SetCapability,
     GetCapability,
-    Make(Form, Object),
-    PutDefault(Option<&'a str>),
-    Seek(Form, Sought, Option<&'a str>),
-    Bytes(Blob, BlobCall<'a>),
-    Copy(Copying, SourceText<'a>, bool),
+    /// An object is made.
+    Make(Made, Object),
+    PutDefault,
+    /// An object is looked for.
+    Seek(Made, Object),
+    Bytes(Blob, BlobCall),
+    Copy(Copying),
 }
 
 /// In which form a call is made.
 #[derive(Clone, Copy)]
-pub enum Form {
+pub enum Made {
     /// `put_` and `find_`: the place is given.
     Place,
     /// `init_` and `get_`: the builder is given.
     Builder,
 }
 
-/// An object that is made.
+/// An object that is made or looked for.
 #[derive(Clone, Copy)]
 pub enum Object {
-    Struct(StructSize),
-    List(ElementSize, u32),
-    StructList(u32, StructSize),
-}
-
-/// An object that is looked for, of at least these sizes.
-#[derive(Clone, Copy)]
-pub enum Sought {
-    Struct(StructSize),
-    List(ElementSize),
-    StructList(StructSize),
+    Struct,
+    List,
+    StructList,
 }
 
 /// What the bytes of a list are.
@@ -88,17 +79,17 @@ pub enum Blob {
 
 /// A call on a text or on data.
 #[derive(Clone, Copy)]
-pub enum BlobCall<'a> {
+pub enum BlobCall {
     /// So many bytes are made, and some of them written.
-    Init(u32, Option<&'a str>),
+    Init,
     /// These bytes are made.
-    Set(&'a str),
+    Set,
     /// They are looked for.
-    Find(Option<&'a str>),
+    Find,
     /// They are lent.
-    Get(Option<&'a str>),
+    Get,
     /// One of them is written.
-    Write(usize, u8),
+    Write,
 }
 
 /// What is copied of another message.
@@ -109,330 +100,339 @@ pub enum Copying {
     /// The struct that its root leads to.
     Struct,
     /// The list that its root leads to, of elements of a size.
-    List(ElementSize),
+    List,
     /// An element of the list that its root leads to, as a struct.
-    Element(u32),
+    Element,
     /// The pointers of the struct that its root leads to, as a list.
     Section,
 }
 
-/// A call of a struct. Numbers are decimal, and a mask may be missing.
-#[derive(Clone, Copy)]
-pub enum StructCall<'a> {
-    Content(SourceText<'a>),
-    Field(usize),
-    IsFieldNull(usize),
-    SetBool(usize, bool, Option<bool>),
-    GetBool(usize, Option<bool>),
-    SetNumber(NumberType, usize, &'a str, Option<&'a str>),
-    GetNumber(NumberType, usize, Option<&'a str>),
-}
-
-/// A call of a list.
-#[derive(Clone, Copy)]
-pub enum ListCall<'a> {
-    Element(u32),
-    Pointer(u32),
-    Get(ElementType, u32),
-    Set(ElementType, u32, &'a str),
-}
-
-impl<'a> Call<'a> {
-    /// The call of a name with arguments.
-    pub fn new(name: &'a str, arguments: &[&'a str]) -> Result<Self, Fault> {
-        if let Some(call) = message_call(name, arguments)? {
-            return Ok(call);
-        }
-        if let Some(call) = pointer_call(name, arguments)? {
-            return Ok(Call::Pointer(call));
-        }
-        if let Some(call) = struct_call(name, arguments)? {
-            return Ok(Call::Struct(call));
-        }
-        match list_call(name, arguments)? {
-            Some(call) => Ok(Call::List(call)),
-            None => Err(Fault::Malformed),
-        }
-    }
-}
-
-/// A call of the message, or of any place.
-fn message_call<'a>(name: &str, arguments: &[&str]) -> Result<Option<Call<'a>>, Fault> {
-    let call = match (name, arguments) {
-        ("read", []) => return Ok(Some(Call::Read)),
-        ("words", []) => MessageCall::Words,
-        ("len", []) => MessageCall::Len,
-        ("refused", []) => MessageCall::Refused,
-        ("size", []) => MessageCall::Size,
-        _ => return segment_call(name, arguments),
-    };
-    Ok(Some(Call::Message(call)))
-}
-
-/// A call of the message that names a segment.
-fn segment_call<'a>(name: &str, arguments: &[&str]) -> Result<Option<Call<'a>>, Fault> {
-    let call = match (name, arguments) {
-        ("pointer_at", [segment, word]) => pointer_at(segment, word)?,
-        ("allocated", [segment]) => MessageCall::Allocated(parse::number(segment)?),
-        ("write_allocated", [segment, index, byte]) => write_allocated(segment, index, byte)?,
-        _ => return Ok(None),
-    };
-    Ok(Some(Call::Message(call)))
-}
-
-fn pointer_at(segment: &str, word: &str) -> Result<MessageCall, Fault> {
-    Ok(MessageCall::PointerAt(PointerPlace {
-        segment: parse::number(segment)?,
-        word: parse::number(word)?,
-    }))
-}
-
-fn write_allocated(segment: &str, index: &str, byte: &str) -> Result<MessageCall, Fault> {
-    Ok(MessageCall::WriteAllocated(
-        parse::number(segment)?,
-        parse::number(index)?,
-        parse::number(byte)?,
-    ))
-}
-
-/// A call of a pointer.
-fn pointer_call<'a>(name: &str, arguments: &[&'a str]) -> Result<Option<PointerCall<'a>>, Fault> {
-    if let Some(blob) = blob_of(name) {
-        return blob_call(blob, name, arguments);
-    }
-    Ok(Some(match (name, arguments) {
-        ("is_null", []) => PointerCall::IsNull,
-        ("clear", []) => PointerCall::Clear,
-        ("set_capability", [index]) => PointerCall::SetCapability(parse::number(index)?),
-        ("get_capability", []) => PointerCall::GetCapability,
-        ("put_default", default) => PointerCall::PutDefault(hex_if_any(default)?),
-        _ => return object_call(name, arguments),
-    }))
-}
-
-/// A call that makes an object, looks for one, or copies one.
-fn object_call<'a>(name: &str, arguments: &[&'a str]) -> Result<Option<PointerCall<'a>>, Fault> {
-    match name.split_once('_') {
-        Some(("put", object)) => making(Form::Place, object, arguments),
-        Some(("init", object)) => making(Form::Builder, object, arguments),
-        Some(("find", object)) => seeking(Form::Place, object, arguments),
-        Some(("get", object)) => seeking(Form::Builder, object, arguments),
-        _ => copy_call(name, arguments),
-    }
-}
-
-/// A call that makes an object.
-fn making<'a>(
-    form: Form,
-    object: &str,
-    arguments: &[&str],
-) -> Result<Option<PointerCall<'a>>, Fault> {
-    let object = match (object, arguments) {
-        ("struct", [data, pointers]) => Object::Struct(parse::struct_size(data, pointers)?),
-        ("list", [size, count]) => Object::List(plain_size(size)?, parse::number(count)?),
-        ("struct_list", [count, data, pointers]) => Object::StructList(
-            parse::number(count)?,
-            parse::struct_size(data, pointers)?,
-        ),
-        _ => return Ok(None),
-    };
-    Ok(Some(PointerCall::Make(form, object)))
-}
-
-/// A call that looks for an object.
-fn seeking<'a>(
-    form: Form,
-    object: &str,
-    arguments: &[&'a str],
-) -> Result<Option<PointerCall<'a>>, Fault> {
-    let (sought, default) = match (object, arguments) {
-        ("struct", [data, pointers, default @ ..]) => {
-            (Sought::Struct(parse::struct_size(data, pointers)?), default)
-        }
-        ("list", [size, default @ ..]) => (Sought::List(plain_size(size)?), default),
-        ("struct_list", [data, pointers, default @ ..]) => {
-            (
-                Sought::StructList(parse::struct_size(data, pointers)?),
-                default,
-            )
-        }
-        _ => return Ok(None),
-    };
-    Ok(Some(PointerCall::Seek(form, sought, hex_if_any(default)?)))
-}
-
-/// Whether a call is one on a text, or on data.
-fn blob_of(name: &str) -> Option<Blob> {
-    if name.ends_with("_text") {
-        Some(Blob::Text)
-    } else if name.ends_with("_data") {
-        Some(Blob::Data)
-    } else {
-        None
-    }
-}
-
-/// A call on a text or on data.
-fn blob_call<'a>(
-    blob: Blob,
-    name: &str,
-    arguments: &[&'a str],
-) -> Result<Option<PointerCall<'a>>, Fault> {
-    let call = match (name, arguments) {
-        ("init_text" | "init_data", [count, bytes @ ..]) => {
-            BlobCall::Init(parse::number(count)?, hex_if_any(bytes)?)
-        }
-        ("set_text" | "set_data", [bytes]) => BlobCall::Set(hex(bytes)?),
-        ("find_text" | "find_data", default) => BlobCall::Find(hex_if_any(default)?),
-        ("get_text" | "get_data", default) => BlobCall::Get(hex_if_any(default)?),
-        ("write_text" | "write_data", [index, byte]) => {
-            BlobCall::Write(parse::number(index)?, parse::number(byte)?)
-        }
-        _ => return Ok(None),
-    };
-    Ok(Some(PointerCall::Bytes(blob, call)))
-}
-
-/// A call that copies from another message.
-fn copy_call<'a>(name: &str, arguments: &[&'a str]) -> Result<Option<PointerCall<'a>>, Fault> {
-    let (copying, source, canonical) = match (name, arguments) {
-        ("copy", [source @ .., canonical]) => (Copying::Value, source, canonical),
-        ("set_struct", [source @ .., canonical]) => (Copying::Struct, source, canonical),
-        ("set_list", [size, source @ .., canonical]) => {
-            (Copying::List(parse::element_size(size)?), source, canonical)
-        }
-        ("set_struct_element", [index, source @ .., canonical]) => {
-            (Copying::Element(parse::number(index)?), source, canonical)
-        }
-        ("set_section", [source @ .., canonical]) => (Copying::Section, source, canonical),
-        _ => return Ok(None),
-    };
-    Ok(Some(PointerCall::Copy(copying, source_of(source)?, parse::flag(canonical)?)))
-}
-
 /// A call of a struct.
-fn struct_call<'a>(name: &str, arguments: &[&'a str]) -> Result<Option<StructCall<'a>>, Fault> {
-    Ok(Some(match (name, arguments) {
-        ("content", source) => StructCall::Content(source_of(source)?),
-        ("field", [index]) => StructCall::Field(parse::number(index)?),
-        ("is_field_null", [index]) => StructCall::IsFieldNull(parse::number(index)?),
-        ("set_bool", [index, value, mask @ ..]) => StructCall::SetBool(
-            parse::number(index)?,
-            parse::flag(value)?,
-            flag_if_any(mask)?,
-        ),
-        ("bool", [index, mask @ ..]) => {
-            StructCall::GetBool(parse::number(index)?, flag_if_any(mask)?)
-        }
-        _ => return number_call(name, arguments),
-    }))
-}
-
-/// A call on a number of a data section.
-fn number_call<'a>(name: &str, arguments: &[&'a str]) -> Result<Option<StructCall<'a>>, Fault> {
-    let set = name.strip_prefix("set_");
-    let Some(number) = number_type(set.unwrap_or(name)) else {
-        return Ok(None);
-    };
-    match (set, arguments) {
-        (Some(_), [index, value, mask @ ..]) => Ok(Some(StructCall::SetNumber(
-            number,
-            parse::number(index)?,
-            digits(value)?,
-            digits_if_any(mask)?,
-        ))),
-        (None, [index, mask @ ..]) => Ok(Some(StructCall::GetNumber(
-            number,
-            parse::number(index)?,
-            digits_if_any(mask)?,
-        ))),
-        _ => Ok(None),
-    }
+#[derive(Clone, Copy)]
+pub enum StructCall {
+    Content,
+    Field,
+    IsFieldNull,
+    SetBool,
+    GetBool,
+    SetNumber(NumberType),
+    GetNumber(NumberType),
 }
 
 /// A call of a list.
-fn list_call<'a>(name: &str, arguments: &[&'a str]) -> Result<Option<ListCall<'a>>, Fault> {
-    Ok(Some(match (name, arguments) {
-        ("element", [index]) => ListCall::Element(parse::number(index)?),
-        ("pointer", [index]) => ListCall::Pointer(parse::number(index)?),
-        ("get", [name, index]) => ListCall::Get(element_type(name)?, parse::number(index)?),
-        ("set", [name, index, value]) => {
-            ListCall::Set(
-                element_type(name)?,
-                parse::number(index)?,
-                element(name, value)?,
-            )
-        }
-        _ => return Ok(None),
-    }))
+#[derive(Clone, Copy)]
+pub enum ListCall {
+    Element,
+    Pointer,
+    Get,
+    Set,
 }
 
-/// The size of elements that are no structs.
-fn plain_size(text: &str) -> Result<ElementSize, Fault> {
-    match parse::element_size(text)? {
-        ElementSize::InlineComposite => Err(Fault::Unfit),
-        size => Ok(size),
-    }
-}
-
-/// The message of three arguments.
-fn source_of<'a>(arguments: &[&'a str]) -> Result<SourceText<'a>, Fault> {
-    match arguments {
-        [segments, nesting, budget] => SourceText::new(segments, nesting, budget),
-        _ => Err(Fault::Malformed),
-    }
-}
-
-/// The value of an element: decimal digits, `-` for nothing.
-fn element<'a>(name: &str, value: &'a str) -> Result<&'a str, Fault> {
-    if name == "void" && value == "-" {
-        Ok(value)
-    } else {
-        digits(value)
-    }
-}
-
-/// Decimal digits.
-fn digits(text: &str) -> Result<&str, Fault> {
-    if parse::is_number(text) {
-        Ok(text)
-    } else {
-        Err(Fault::Malformed)
-    }
-}
-
-/// Hex digits, `-` for no bytes.
-fn hex(text: &str) -> Result<&str, Fault> {
-    if source::is_hex(text) {
-        Ok(text)
-    } else {
-        Err(Fault::Malformed)
-    }
-}
-
-/// Decimal digits, where they aren't missing.
-fn digits_if_any<'a>(arguments: &[&'a str]) -> Result<Option<&'a str>, Fault> {
-    match arguments {
-        [] => Ok(None),
-        [argument] => Ok(Some(digits(argument)?)),
-        _ => Err(Fault::Malformed),
-    }
-}
-
-/// Hex digits, where they aren't missing.
-fn hex_if_any<'a>(arguments: &[&'a str]) -> Result<Option<&'a str>, Fault> {
-    match arguments {
-        [] => Ok(None),
-        [argument] => Ok(Some(hex(argument)?)),
-        _ => Err(Fault::Malformed),
-    }
-}
-
-/// Yes or no, where that isn't missing.
-fn flag_if_any(arguments: &[&str]) -> Result<Option<bool>, Fault> {
-    match arguments {
-        [] => Ok(None),
-        [argument] => Ok(Some(parse::flag(argument)?)),
-        _ => Err(Fault::Malformed),
-    }
-}
+/// The calls that there are.
+pub static FORMS: [Form<Call>; 65] = [
+    ("words", "", 0, Call::Message(MessageCall::Words)),
+    ("len", "", 0, Call::Message(MessageCall::Len)),
+    ("refused", "", 0, Call::Message(MessageCall::Refused)),
+    ("size", "", 0, Call::Message(MessageCall::Size)),
+    ("allocated", "c", 1, Call::Message(MessageCall::Allocated)),
+    (
+        "write_allocated",
+        "cib",
+        3,
+        Call::Message(MessageCall::WriteAllocated),
+    ),
+    ("pointer_at", "cw", 2, Call::Message(MessageCall::PointerAt)),
+    ("read", "", 0, Call::Read),
+    ("is_null", "", 0, Call::Pointer(PointerCall::IsNull)),
+    ("clear", "", 0, Call::Pointer(PointerCall::Clear)),
+    (
+        "set_capability",
+        "c",
+        1,
+        Call::Pointer(PointerCall::SetCapability),
+    ),
+    (
+        "get_capability",
+        "",
+        0,
+        Call::Pointer(PointerCall::GetCapability),
+    ),
+    (
+        "put_struct",
+        "dp",
+        2,
+        Call::Pointer(PointerCall::Make(Made::Place, Object::Struct)),
+    ),
+    (
+        "init_struct",
+        "dp",
+        2,
+        Call::Pointer(PointerCall::Make(Made::Builder, Object::Struct)),
+    ),
+    (
+        "put_list",
+        "sc",
+        2,
+        Call::Pointer(PointerCall::Make(Made::Place, Object::List)),
+    ),
+    (
+        "init_list",
+        "sc",
+        2,
+        Call::Pointer(PointerCall::Make(Made::Builder, Object::List)),
+    ),
+    (
+        "put_struct_list",
+        "cdp",
+        3,
+        Call::Pointer(PointerCall::Make(Made::Place, Object::StructList)),
+    ),
+    (
+        "init_struct_list",
+        "cdp",
+        3,
+        Call::Pointer(PointerCall::Make(Made::Builder, Object::StructList)),
+    ),
+    (
+        "put_default",
+        "h",
+        0,
+        Call::Pointer(PointerCall::PutDefault),
+    ),
+    (
+        "find_struct",
+        "dph",
+        2,
+        Call::Pointer(PointerCall::Seek(Made::Place, Object::Struct)),
+    ),
+    (
+        "get_struct",
+        "dph",
+        2,
+        Call::Pointer(PointerCall::Seek(Made::Builder, Object::Struct)),
+    ),
+    (
+        "find_list",
+        "sh",
+        1,
+        Call::Pointer(PointerCall::Seek(Made::Place, Object::List)),
+    ),
+    (
+        "get_list",
+        "sh",
+        1,
+        Call::Pointer(PointerCall::Seek(Made::Builder, Object::List)),
+    ),
+    (
+        "find_struct_list",
+        "dph",
+        2,
+        Call::Pointer(PointerCall::Seek(Made::Place, Object::StructList)),
+    ),
+    (
+        "get_struct_list",
+        "dph",
+        2,
+        Call::Pointer(PointerCall::Seek(Made::Builder, Object::StructList)),
+    ),
+    (
+        "init_text",
+        "ch",
+        1,
+        Call::Pointer(PointerCall::Bytes(Blob::Text, BlobCall::Init)),
+    ),
+    (
+        "init_data",
+        "ch",
+        1,
+        Call::Pointer(PointerCall::Bytes(Blob::Data, BlobCall::Init)),
+    ),
+    (
+        "set_text",
+        "h",
+        1,
+        Call::Pointer(PointerCall::Bytes(Blob::Text, BlobCall::Set)),
+    ),
+    (
+        "set_data",
+        "h",
+        1,
+        Call::Pointer(PointerCall::Bytes(Blob::Data, BlobCall::Set)),
+    ),
+    (
+        "find_text",
+        "h",
+        0,
+        Call::Pointer(PointerCall::Bytes(Blob::Text, BlobCall::Find)),
+    ),
+    (
+        "find_data",
+        "h",
+        0,
+        Call::Pointer(PointerCall::Bytes(Blob::Data, BlobCall::Find)),
+    ),
+    (
+        "get_text",
+        "h",
+        0,
+        Call::Pointer(PointerCall::Bytes(Blob::Text, BlobCall::Get)),
+    ),
+    (
+        "get_data",
+        "h",
+        0,
+        Call::Pointer(PointerCall::Bytes(Blob::Data, BlobCall::Get)),
+    ),
+    (
+        "write_text",
+        "ib",
+        2,
+        Call::Pointer(PointerCall::Bytes(Blob::Text, BlobCall::Write)),
+    ),
+    (
+        "write_data",
+        "ib",
+        2,
+        Call::Pointer(PointerCall::Bytes(Blob::Data, BlobCall::Write)),
+    ),
+    (
+        "copy",
+        "glrf",
+        4,
+        Call::Pointer(PointerCall::Copy(Copying::Value)),
+    ),
+    (
+        "set_struct",
+        "glrf",
+        4,
+        Call::Pointer(PointerCall::Copy(Copying::Struct)),
+    ),
+    (
+        "set_list",
+        "sglrf",
+        5,
+        Call::Pointer(PointerCall::Copy(Copying::List)),
+    ),
+    (
+        "set_struct_element",
+        "cglrf",
+        5,
+        Call::Pointer(PointerCall::Copy(Copying::Element)),
+    ),
+    (
+        "set_section",
+        "glrf",
+        4,
+        Call::Pointer(PointerCall::Copy(Copying::Section)),
+    ),
+    ("content", "glr", 3, Call::Struct(StructCall::Content)),
+    ("field", "i", 1, Call::Struct(StructCall::Field)),
+    (
+        "is_field_null",
+        "i",
+        1,
+        Call::Struct(StructCall::IsFieldNull),
+    ),
+    ("set_bool", "ifm", 2, Call::Struct(StructCall::SetBool)),
+    ("bool", "im", 1, Call::Struct(StructCall::GetBool)),
+    (
+        "set_u8",
+        "ivm",
+        2,
+        Call::Struct(StructCall::SetNumber(NumberType::U8)),
+    ),
+    (
+        "set_u16",
+        "ivm",
+        2,
+        Call::Struct(StructCall::SetNumber(NumberType::U16)),
+    ),
+    (
+        "set_u32",
+        "ivm",
+        2,
+        Call::Struct(StructCall::SetNumber(NumberType::U32)),
+    ),
+    (
+        "set_u64",
+        "ivm",
+        2,
+        Call::Struct(StructCall::SetNumber(NumberType::U64)),
+    ),
+    (
+        "set_i8",
+        "ivm",
+        2,
+        Call::Struct(StructCall::SetNumber(NumberType::I8)),
+    ),
+    (
+        "set_i16",
+        "ivm",
+        2,
+        Call::Struct(StructCall::SetNumber(NumberType::I16)),
+    ),
+    (
+        "set_i32",
+        "ivm",
+        2,
+        Call::Struct(StructCall::SetNumber(NumberType::I32)),
+    ),
+    (
+        "set_i64",
+        "ivm",
+        2,
+        Call::Struct(StructCall::SetNumber(NumberType::I64)),
+    ),
+    (
+        "u8",
+        "im",
+        1,
+        Call::Struct(StructCall::GetNumber(NumberType::U8)),
+    ),
+    (
+        "u16",
+        "im",
+        1,
+        Call::Struct(StructCall::GetNumber(NumberType::U16)),
+    ),
+    (
+        "u32",
+        "im",
+        1,
+        Call::Struct(StructCall::GetNumber(NumberType::U32)),
+    ),
+    (
+        "u64",
+        "im",
+        1,
+        Call::Struct(StructCall::GetNumber(NumberType::U64)),
+    ),
+    (
+        "i8",
+        "im",
+        1,
+        Call::Struct(StructCall::GetNumber(NumberType::I8)),
+    ),
+    (
+        "i16",
+        "im",
+        1,
+        Call::Struct(StructCall::GetNumber(NumberType::I16)),
+    ),
+    (
+        "i32",
+        "im",
+        1,
+        Call::Struct(StructCall::GetNumber(NumberType::I32)),
+    ),
+    (
+        "i64",
+        "im",
+        1,
+        Call::Struct(StructCall::GetNumber(NumberType::I64)),
+    ),
+    ("element", "c", 1, Call::List(ListCall::Element)),
+    ("pointer", "c", 1, Call::List(ListCall::Pointer)),
+    ("get", "tc", 2, Call::List(ListCall::Get)),
+    ("set", "tce", 3, Call::List(ListCall::Set)),
+];

@@ -3,10 +3,10 @@ ghost use Rattle.capnp_builders.specs.Building.{built, IsThere};
 
 use super::call::Copying;
 use super::place::{Place, pointer, structure};
+use crate::calls::Values;
 use crate::elements::struct_at;
 use crate::output::Output;
 use crate::parse::{self, Fault};
-use crate::source::SourceText;
 use capnp_arena::arena::{BuilderArena, ReaderArena, ReaderArenaImpl, SegmentArray};
 use capnp_builders::builders::PointerBuilder;
 use capnp_readers::readers::{PointerPlace, PointerReader, StructPlace};
@@ -19,7 +19,7 @@ use std::alloc::Global;
 #[derive(Clone, Copy)]
 enum Goal {
     /// To a pointer.
-    Pointer(PointerPlace, Copying, bool),
+    Pointer(PointerPlace, Copying),
     /// To the content of a struct.
     Content(StructPlace),
 }
@@ -38,16 +38,10 @@ pub fn copy<A: BuilderArena>(
     alloc: Global,
     arena: &mut A,
     place: PointerPlace,
-    (copying, source, canonical): (Copying, SourceText<'_>, bool),
+    (copying, values): (Copying, &Values<'_>),
     out: &mut Output,
 ) -> Result<Option<Place>, Fault> {
-    copy_to(
-        alloc,
-        arena,
-        Goal::Pointer(place, copying, canonical),
-        source,
-        out,
-    )
+    copy_to(alloc, arena, Goal::Pointer(place, copying), values, out)
 }
 
 /// Makes the content of a struct a copy and adds what becomes of it.
@@ -55,10 +49,10 @@ pub fn content<A: BuilderArena>(
     alloc: Global,
     arena: &mut A,
     place: StructPlace,
-    source: SourceText<'_>,
+    values: &Values<'_>,
     out: &mut Output,
 ) -> Result<Option<Place>, Fault> {
-    copy_to(alloc, arena, Goal::Content(place), source, out)
+    copy_to(alloc, arena, Goal::Content(place), values, out)
 }
 
 // Copies from the root of another message.
@@ -66,9 +60,10 @@ fn copy_to<A: BuilderArena>(
     alloc: Global,
     arena: &mut A,
     goal: Goal,
-    source: SourceText<'_>,
+    values: &Values<'_>,
     out: &mut Output,
 ) -> Result<Option<Place>, Fault> {
+    let source = values.source;
     let segments = source.segments(alloc)?;
     let slices = parse::slices(alloc, segments.as_slice())?;
     let Some(array) = SegmentArray::new(slices.as_slice()) else {
@@ -77,7 +72,7 @@ fn copy_to<A: BuilderArena>(
     let message = ReaderArenaImpl::new(array, source.options);
     let mut lim = ReadLimiter::new(source.options.traversal_limit_in_words);
     let outcome = match PointerReader::get_root_from_arena(&message, &mut lim) {
-        Ok(root) => copy_root(arena, goal, root, &mut lim)?,
+        Ok(root) => copy_root(arena, (goal, values), root, &mut lim)?,
         Err(kind) => Outcome::NoSource(kind),
     };
     put_outcome(outcome, &lim, out);
@@ -87,14 +82,12 @@ fn copy_to<A: BuilderArena>(
 // Copies from a pointer.
 fn copy_root<A: BuilderArena, B: ReaderArena>(
     arena: &mut A,
-    goal: Goal,
+    (goal, values): (Goal, &Values<'_>),
     root: PointerReader<'_, B>,
     lim: &mut ReadLimiter,
 ) -> Result<Outcome, Fault> {
     match goal {
-        Goal::Pointer(place, copying, canonical) => {
-            copy_value(arena, place, (copying, canonical), root, lim)
-        }
+        Goal::Pointer(place, copying) => copy_value(arena, place, (copying, values), root, lim),
         Goal::Content(place) => {
             let mut builder = structure(arena, place)?;
             match root.get_struct(lim, None) {
@@ -109,16 +102,17 @@ fn copy_root<A: BuilderArena, B: ReaderArena>(
 fn copy_value<A: BuilderArena, B: ReaderArena>(
     arena: &mut A,
     place: PointerPlace,
-    (copying, canonical): (Copying, bool),
+    (copying, values): (Copying, &Values<'_>),
     root: PointerReader<'_, B>,
     lim: &mut ReadLimiter,
 ) -> Result<Outcome, Fault> {
+    let canonical = values.flag;
     let mut pointer = pointer(arena, place)?;
     Ok(match copying {
         Copying::Value => Outcome::Copied(pointer.copy_from(root, lim, canonical)),
         Copying::Struct => copy_struct(pointer, canonical, root, lim),
-        Copying::List(size) => copy_list(pointer, size, canonical, root, lim),
-        Copying::Element(index) => return copy_element(pointer, index, canonical, root, lim),
+        Copying::List => copy_list(pointer, values.size, canonical, root, lim),
+        Copying::Element => return copy_element(pointer, values.count, canonical, root, lim),
         Copying::Section => copy_section(pointer, canonical, root, lim),
     })
 }

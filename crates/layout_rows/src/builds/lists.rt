@@ -3,6 +3,7 @@
 use super::call::ListCall;
 use super::numbers::{element, put_element, set_element, set_number};
 use super::place::{Place, list};
+use crate::calls::Values;
 use crate::output::Output;
 use crate::parse::{self, Fault};
 use crate::types::{ElementType, NumberType};
@@ -14,26 +15,37 @@ use capnp_words::wire_pointer::ElementSize;
 pub fn call<A: BuilderArena>(
     arena: &mut A,
     place: ListPlace,
-    call: ListCall<'_>,
+    (call, values): (ListCall, &Values<'_>),
     out: &mut Output,
 ) -> Result<Option<Place>, Fault> {
     match call {
-        ListCall::Element(index) => return struct_element(arena, place, index),
-        ListCall::Pointer(index) => return pointer_element(arena, place, index),
-        ListCall::Get(ElementType::Void, index) => {
-            let () = element(arena, place, index)?;
-            out.text("-");
-        }
-        ListCall::Get(ElementType::Bool, index) => out.flag(element(arena, place, index)?),
-        ListCall::Get(ElementType::Number(number), index) => {
-            get_number(arena, place, (number, index), out)?;
-        }
-        ListCall::Set(primitive, index, value) => {
-            set(arena, place, primitive, (index, value))?;
+        ListCall::Element => return struct_element(arena, place, values.count),
+        ListCall::Pointer => return pointer_element(arena, place, values.count),
+        ListCall::Get => get(arena, place, (values.element, values.count), out)?,
+        ListCall::Set => {
+            set(arena, place, values.element, (values.count, values.digits))?;
             out.text("ok");
         }
     }
     Ok(None)
+}
+
+// Adds an element.
+fn get<A: BuilderArena>(
+    arena: &mut A,
+    place: ListPlace,
+    (of, index): (ElementType, u32),
+    out: &mut Output,
+) -> Result<(), Fault> {
+    match of {
+        ElementType::Void => {
+            let () = element(arena, place, index)?;
+            out.text("-");
+        }
+        ElementType::Bool => out.flag(element(arena, place, index)?),
+        ElementType::Number(number) => get_number(arena, place, (number, index), out)?,
+    }
+    Ok(())
 }
 
 // An element as a struct.

@@ -1,12 +1,13 @@
 //! Calls of a pointer.
-ghost use Rattle.std.specs.Prelude.{◌≤◌};
+ghost use Rattle.std.specs.Prelude.{◌≤◌, IfOk};
 ghost use Rattle.capnp_words.specs.Sizes.{size_number};
 ghost use Rattle.capnp_builders.specs.Building.{built, IsThere};
 ghost use Rattle.capnp_builders.specs.Defaults.{IsShortDefault};
 
-use super::call::{Form, Object, PointerCall, Sought};
+use super::call::{Made, Object, PointerCall};
 use super::place::{Place, pointer, put_outcome, refuse};
 use super::{bytes, copies};
+use crate::calls::Values;
 use crate::output::Output;
 use crate::parse::{self, Fault};
 use capnp_arena::arena::BuilderArena;
@@ -24,26 +25,55 @@ pub fn call<A: BuilderArena>(
     alloc: Global,
     arena: &mut A,
     place: PointerPlace,
-    call: PointerCall<'_>,
+    (call, values): (PointerCall, &Values<'_>),
     out: &mut Output,
 ) -> Result<Option<Place>, Fault> {
     match call {
-        PointerCall::Make(form, object) => make(arena, place, (form, object), out),
-        PointerCall::Bytes(blob, call) => bytes::call(alloc, arena, place, (blob, call), out),
-        PointerCall::Copy(copying, source, canonical) => {
-            copies::copy(alloc, arena, place, (copying, source, canonical), out)
+        PointerCall::Make(form, object) => make(arena, place, (form, object, values), out),
+        PointerCall::Copy(copying) => copies::copy(alloc, arena, place, (copying, values), out),
+        PointerCall::Bytes(_, _) | PointerCall::Seek(_, _) | PointerCall::PutDefault => {
+            let given = parse::bytes(alloc, values.hex.unwrap_or("-"))?;
+            with_bytes(arena, place, (call, values), given.as_slice(), out)
         }
-        PointerCall::Seek(form, sought, default) => {
-            let default = bytes::optional(alloc, default)?;
-            let found = seek(arena, place, form, sought, bytes::default_of(&default)?)?;
+        _ => word(arena, place, call, values.count, out),
+    }
+}
+
+/// Makes a call that has bytes, or could have.
+fn with_bytes<A: BuilderArena>(
+    arena: &mut A,
+    place: PointerPlace,
+    (call, values): (PointerCall, &Values<'_>),
+    bytes: &[u8],
+    out: &mut Output,
+) -> Result<Option<Place>, Fault> {
+    let default = default_of(values, bytes)?;
+    match call {
+        PointerCall::Bytes(blob, call) => {
+            bytes::call(arena, place, (blob, call, values), bytes, default, out)
+        }
+        PointerCall::Seek(form, object) => {
+            let found = seek(arena, place, (form, object, values), default)?;
             give(found, out)
         }
-        PointerCall::PutDefault(default) => {
-            let default = bytes::optional(alloc, default)?;
+        _ => {
             let mut pointer = pointer(arena, place)?;
-            put_outcome(pointer.put_default(bytes::default_of(&default)?), out)
+            put_outcome(pointer.put_default(default), out)
         }
-        _ => word(arena, place, call, out),
+    }
+}
+
+/// A call's bytes as a default, if it has any; `Unfit` where they are too many.
+fn default_of<'a>(values: &Values<'_>, bytes: &'a [u8]) -> Result<Option<&'a [u8]>, Fault>
+    ensures { IfOk result IsShortDefault }
+{
+    if bytes.len() / 8 > u32::MAX as usize {
+        return Err(Fault::Unfit);
+    }
+    if values.hex.is_some() {
+        Ok(Some(bytes))
+    } else {
+        Ok(None)
     }
 }
 
@@ -51,7 +81,8 @@ pub fn call<A: BuilderArena>(
 fn word<A: BuilderArena>(
     arena: &mut A,
     place: PointerPlace,
-    call: PointerCall<'_>,
+    call: PointerCall,
+    index: u32,
     out: &mut Output,
 ) -> Result<Option<Place>, Fault> {
     let mut pointer = pointer(arena, place)?;
@@ -61,7 +92,7 @@ fn word<A: BuilderArena>(
             pointer.clear();
             out.text("ok");
         }
-        PointerCall::SetCapability(index) => {
+        PointerCall::SetCapability => {
             pointer.set_capability(index);
             out.text("ok");
         }
@@ -78,13 +109,15 @@ fn word<A: BuilderArena>(
 fn make<A: BuilderArena>(
     arena: &mut A,
     place: PointerPlace,
-    (form, object): (Form, Object),
+    (form, object, values): (Made, Object, &Values<'_>),
     out: &mut Output,
 ) -> Result<Option<Place>, Fault> {
     let made = match object {
-        Object::Struct(size) => make_struct(arena, place, form, size)?,
-        Object::List(size, count) => make_list(arena, place, form, (size, count))?,
-        Object::StructList(count, size) => make_struct_list(arena, place, form, (count, size))?,
+        Object::Struct => make_struct(arena, place, form, values.sections)?,
+        Object::List => make_list(arena, place, form, (values.size, values.count))?,
+        Object::StructList => {
+            make_struct_list(arena, place, form, (values.count, values.sections))?
+        }
     };
     give(made, out)
 }
@@ -100,16 +133,16 @@ fn give(made: Result<Place, ErrorKind>, out: &mut Output) -> Result<Option<Place
 fn make_struct<A: BuilderArena>(
     arena: &mut A,
     place: PointerPlace,
-    form: Form,
+    form: Made,
     size: StructSize,
 ) -> Result<Result<Place, ErrorKind>, Fault> {
     let mut pointer = pointer(arena, place)?;
     match form {
-        Form::Place => match pointer.put_struct(size) {
+        Made::Place => match pointer.put_struct(size) {
             Ok(place) => Ok(Ok(Place::Struct(place))),
             Err(kind) => Ok(Err(kind)),
         },
-        Form::Builder => match pointer.init_struct(size) {
+        Made::Builder => match pointer.init_struct(size) {
             Ok(builder) => Ok(Ok(Place::Struct(builder.place))),
             Err(kind) => Ok(Err(kind)),
         },
@@ -119,7 +152,7 @@ fn make_struct<A: BuilderArena>(
 fn make_list<A: BuilderArena>(
     arena: &mut A,
     place: PointerPlace,
-    form: Form,
+    form: Made,
     (size, count): (ElementSize, u32),
 ) -> Result<Result<Place, ErrorKind>, Fault> {
     let mut pointer = pointer(arena, place)?;
@@ -127,11 +160,11 @@ fn make_list<A: BuilderArena>(
         return Err(Fault::Unfit);
     }
     match form {
-        Form::Place => match pointer.put_list(size, count) {
+        Made::Place => match pointer.put_list(size, count) {
             Ok(place) => Ok(Ok(Place::List(place))),
             Err(kind) => Ok(Err(kind)),
         },
-        Form::Builder => match pointer.init_list(size, count) {
+        Made::Builder => match pointer.init_list(size, count) {
             Ok(builder) => Ok(Ok(Place::List(builder.place))),
             Err(kind) => Ok(Err(kind)),
         },
@@ -141,7 +174,7 @@ fn make_list<A: BuilderArena>(
 fn make_struct_list<A: BuilderArena>(
     arena: &mut A,
     place: PointerPlace,
-    form: Form,
+    form: Made,
     (count, size): (u32, StructSize),
 ) -> Result<Result<Place, ErrorKind>, Fault> {
     let mut pointer = pointer(arena, place)?;
@@ -150,11 +183,11 @@ fn make_struct_list<A: BuilderArena>(
         return Err(Fault::Unfit);
     }
     match form {
-        Form::Place => match pointer.put_struct_list(count, size) {
+        Made::Place => match pointer.put_struct_list(count, size) {
             Ok(place) => Ok(Ok(Place::List(place))),
             Err(kind) => Ok(Err(kind)),
         },
-        Form::Builder => match pointer.init_struct_list(count, size) {
+        Made::Builder => match pointer.init_struct_list(count, size) {
             Ok(builder) => Ok(Ok(Place::List(builder.place))),
             Err(kind) => Ok(Err(kind)),
         },
@@ -165,28 +198,28 @@ fn make_struct_list<A: BuilderArena>(
 fn seek<A: BuilderArena>(
     arena: &mut A,
     place: PointerPlace,
-    form: Form,
-    sought: Sought,
+    call: (Made, Object, &Values<'_>),
     default: Option<&[u8]>,
 ) -> Result<Result<Place, ErrorKind>, Fault>
     requires { IsShortDefault default }
 {
+    let (form, object, values) = call;
     let pointer = pointer(arena, place)?;
-    match sought {
-        Sought::Struct(size) => Ok(seek_struct(pointer, form, size, default)),
-        Sought::List(size) => {
-            if size == ElementSize::InlineComposite {
+    match object {
+        Object::Struct => Ok(seek_struct(pointer, form, values.sections, default)),
+        Object::List => {
+            if values.size == ElementSize::InlineComposite {
                 return Err(Fault::Unfit);
             }
-            Ok(seek_list(pointer, form, size, default))
+            Ok(seek_list(pointer, form, values.size, default))
         }
-        Sought::StructList(size) => Ok(seek_struct_list(pointer, form, size, default)),
+        Object::StructList => Ok(seek_struct_list(pointer, form, values.sections, default)),
     }
 }
 
 fn seek_struct<A: BuilderArena>(
     mut pointer: PointerBuilder<'_, A>,
-    form: Form,
+    form: Made,
     size: StructSize,
     default: Option<&[u8]>,
 ) -> Result<Place, ErrorKind>
@@ -194,15 +227,15 @@ fn seek_struct<A: BuilderArena>(
     requires few { IsShortDefault default }
 {
     let place = match form {
-        Form::Place => pointer.find_struct(size, default)?,
-        Form::Builder => pointer.get_struct(size, default)?.place,
+        Made::Place => pointer.find_struct(size, default)?,
+        Made::Builder => pointer.get_struct(size, default)?.place,
     };
     Ok(Place::Struct(place))
 }
 
 fn seek_list<A: BuilderArena>(
     mut pointer: PointerBuilder<'_, A>,
-    form: Form,
+    form: Made,
     size: ElementSize,
     default: Option<&[u8]>,
 ) -> Result<Place, ErrorKind>
@@ -211,15 +244,15 @@ fn seek_list<A: BuilderArena>(
     requires plain { size_number size ≤ 6 }
 {
     let place = match form {
-        Form::Place => pointer.find_list(size, default)?,
-        Form::Builder => pointer.get_list(size, default)?.place,
+        Made::Place => pointer.find_list(size, default)?,
+        Made::Builder => pointer.get_list(size, default)?.place,
     };
     Ok(Place::List(place))
 }
 
 fn seek_struct_list<A: BuilderArena>(
     mut pointer: PointerBuilder<'_, A>,
-    form: Form,
+    form: Made,
     size: StructSize,
     default: Option<&[u8]>,
 ) -> Result<Place, ErrorKind>
@@ -227,8 +260,8 @@ fn seek_struct_list<A: BuilderArena>(
     requires few { IsShortDefault default }
 {
     let place = match form {
-        Form::Place => pointer.find_struct_list(size, default)?,
-        Form::Builder => pointer.get_struct_list(size, default)?.place,
+        Made::Place => pointer.find_struct_list(size, default)?,
+        Made::Builder => pointer.get_struct_list(size, default)?.place,
     };
     Ok(Place::List(place))
 }

@@ -4,9 +4,10 @@ use super::call::StructCall;
 use super::copies;
 use super::numbers::{put_field, set_field};
 use super::place::{Place, structure};
+use crate::calls::Values;
 use crate::output::Output;
 use crate::parse::Fault;
-use crate::types::NumberType;
+use crate::types::{NumberType, flag_of};
 use capnp_arena::arena::BuilderArena;
 use capnp_readers::readers::{PointerPlace, StructPlace};
 use std::alloc::Global;
@@ -16,23 +17,26 @@ pub fn call<A: BuilderArena>(
     alloc: Global,
     arena: &mut A,
     place: StructPlace,
-    call: StructCall<'_>,
+    (call, values): (StructCall, &Values<'_>),
     out: &mut Output,
 ) -> Result<Option<Place>, Fault> {
     match call {
-        StructCall::Content(source) => return copies::content(alloc, arena, place, source, out),
-        StructCall::Field(index) => return field(arena, place, index),
-        StructCall::IsFieldNull(index) => is_field_null(arena, place, index, out)?,
-        StructCall::SetBool(index, value, mask) => {
-            set_bool(arena, place, (index, value, mask), out)?;
-        }
-        StructCall::GetBool(index, mask) => get_bool(arena, place, (index, mask), out)?,
-        StructCall::SetNumber(number, index, value, mask) => {
-            set_number(arena, place, number, (index, value, mask))?;
+        StructCall::Content => return copies::content(alloc, arena, place, values, out),
+        StructCall::Field => return field(arena, place, values.index),
+        StructCall::IsFieldNull => is_field_null(arena, place, values.index, out)?,
+        StructCall::SetBool => set_bool(arena, place, values, out)?,
+        StructCall::GetBool => get_bool(arena, place, values, out)?,
+        StructCall::SetNumber(number) => {
+            set_number(
+                arena,
+                place,
+                number,
+                (values.index, values.digits, values.mask),
+            )?;
             out.text("ok");
         }
-        StructCall::GetNumber(number, index, mask) => {
-            get_number(arena, place, number, (index, mask), out)?;
+        StructCall::GetNumber(number) => {
+            get_number(arena, place, number, (values.index, values.mask), out)?;
         }
     }
     Ok(None)
@@ -75,16 +79,18 @@ fn is_field_null<A: BuilderArena>(
 fn set_bool<A: BuilderArena>(
     arena: &mut A,
     place: StructPlace,
-    (index, value, mask): (usize, bool, Option<bool>),
+    values: &Values<'_>,
     out: &mut Output,
 ) -> Result<(), Fault> {
+    let mask = flag_of(values.mask)?;
     let mut builder = structure(arena, place)?;
+    let index = values.index;
     if index >= place.bits as usize {
         return Err(Fault::Unfit);
     }
     match mask {
-        Some(mask) => builder.set_bool_field_mask(index, value, mask),
-        None => builder.set_bool_field(index, value),
+        Some(mask) => builder.set_bool_field_mask(index, values.flag, mask),
+        None => builder.set_bool_field(index, values.flag),
     }
     out.text("ok");
     Ok(())
@@ -94,10 +100,12 @@ fn set_bool<A: BuilderArena>(
 fn get_bool<A: BuilderArena>(
     arena: &mut A,
     place: StructPlace,
-    (index, mask): (usize, Option<bool>),
+    values: &Values<'_>,
     out: &mut Output,
 ) -> Result<(), Fault> {
+    let mask = flag_of(values.mask)?;
     let builder = structure(arena, place)?;
+    let index = values.index;
     if index >= place.bits as usize {
         return Err(Fault::Unfit);
     }

@@ -1,0 +1,150 @@
+//! Calls as lines write them: a name, and arguments with commas between.
+
+use crate::parse::{self, Fault};
+use crate::source::{self, SourceText};
+use crate::types::{ElementType, element_type};
+use capnp_arena::arena::ReaderOptions;
+use capnp_words::wire_pointer::{ElementSize, StructSize};
+
+/// A call that lines may hold: its name, a letter for each of its arguments as `Values::put` has them, how many of these
+/// there are at least, and what the call is.
+pub type Form<T> = (&'static str, &'static str, usize, T);
+
+/// The arguments of a call, by what they are. Those that it doesn't have are zero or missing.
+#[derive(Clone, Copy)]
+pub struct Values<'l> {
+    pub sections: StructSize,
+    pub size: ElementSize,
+    pub element: ElementType,
+    pub index: usize,
+    pub count: u32,
+    pub word: u32,
+    pub number: u64,
+    pub byte: u8,
+    pub flag: bool,
+    /// Decimal digits of a number of any type.
+    pub digits: &'l str,
+    /// The same of a mask.
+    pub mask: Option<&'l str>,
+    /// Bytes in hex digits.
+    pub hex: Option<&'l str>,
+    /// Another message, or the nesting limit alone.
+    pub source: SourceText<'l>,
+    /// Whether one of them is outside of what its type allows.
+    pub is_unfit: bool,
+}
+
+impl<'l> Values<'l> {
+    fn none() -> Self {
+        Values {
+            sections: StructSize {
+                data_words: 0,
+                pointers: 0,
+            },
+            size: ElementSize::Void,
+            element: ElementType::Void,
+            index: 0,
+            count: 0,
+            word: 0,
+            number: 0,
+            byte: 0,
+            flag: false,
+            digits: "0",
+            mask: None,
+            hex: None,
+            source: SourceText {
+                segments: "-",
+                options: ReaderOptions {
+                    traversal_limit_in_words: None,
+                    nesting_limit: 0,
+                },
+            },
+            is_unfit: false,
+        }
+    }
+
+    /// Reads an argument, by its letter.
+    fn put(&mut self, letter: u8, word: &'l str) -> Result<(), Fault> {
+        match letter {
+            b'd' => self.sections.data_words = parse::number(word)?,
+            b'p' => self.sections.pointers = parse::number(word)?,
+            b's' => self.size = parse::element_size(word)?,
+            b't' => self.element = element_type(word)?,
+            b'i' => self.index = parse::number(word)?,
+            b'c' => self.count = parse::number(word)?,
+            b'w' => self.word = parse::number(word)?,
+            b'n' => self.number = parse::number(word)?,
+            b'b' => self.byte = parse::number(word)?,
+            b'f' => self.flag = parse::flag(word)?,
+            _ => return self.put_text(letter, word),
+        }
+        Ok(())
+    }
+
+    /// The same of an argument that is kept as it is written, and of what another message is.
+    fn put_text(&mut self, letter: u8, word: &'l str) -> Result<(), Fault> {
+        let has_form = match letter {
+            b'h' => source::is_hex(word),
+            b'o' => word == "none" || source::is_hex(word),
+            b'g' => source::are_segments(word),
+            b'e' if word == "-" => matches!(self.element, ElementType::Void),
+            b'e' | b'v' | b'm' => parse::is_number(word),
+            _ => true,
+        };
+        if !has_form {
+            return Err(Fault::Malformed);
+        }
+        match letter {
+            b'h' => self.hex = Some(word),
+            b'o' => self.hex = if word == "none" { None } else { Some(word) },
+            b'g' => self.source.segments = word,
+            b'm' => self.mask = Some(word),
+            b'l' => self.source.options.nesting_limit = parse::number(word)?,
+            b'r' => self.source.options.traversal_limit_in_words = parse::limit(word)?,
+            _ => self.digits = word,
+        }
+        Ok(())
+    }
+}
+
+/// The call that a text is, if it is one of those that there are.
+pub fn read<'l, T: Copy>(forms: &[Form<T>], text: &'l str) -> Result<(T, Values<'l>), Fault> {
+    let (name, arguments) = match text.split_once(',') {
+        Some((name, arguments)) => (name, Some(arguments)),
+        None => (text, None),
+    };
+    let count = match arguments {
+        Some(arguments) => arguments.split(',').count(),
+        None => 0,
+    };
+    let Some((letters, call)) = find(forms, name, count) else {
+        return Err(Fault::Malformed);
+    };
+    Ok((call, values_of(letters, arguments)?))
+}
+
+/// The letters of a call's arguments and the call, by its name and how many arguments it has.
+fn find<T: Copy>(forms: &[Form<T>], name: &str, count: usize) -> Option<(&'static str, T)> {
+    for (known, letters, least, call) in forms {
+        if *known == name && *least <= count && count <= letters.len() {
+            return Some((*letters, *call));
+        }
+    }
+    None
+}
+
+/// The arguments of these letters. One that isn't of its form stands before one that is outside of its type.
+fn values_of<'l>(letters: &str, arguments: Option<&'l str>) -> Result<Values<'l>, Fault> {
+    let mut values = Values::none();
+    let Some(arguments) = arguments else {
+        return Ok(values);
+    };
+    for (letter, word) in letters.as_bytes().iter().zip(arguments.split(',')) {
+        match values.put(*letter, word) {
+            Ok(()) => {}
+            Err(Fault::Unfit) => values.is_unfit = true,
+            Err(fault) => return Err(fault),
+        }
+    }
+    Ok(values)
+}
