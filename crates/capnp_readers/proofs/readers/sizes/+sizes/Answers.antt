@@ -168,3 +168,34 @@ add_struct-returns-clause-refused g t c =
     let many : c.from-count.result ≡ pointer_count (word_of r) = c.from-count.ensures ∙ c.struct_size-size.ensures.pointers_of ∙ ap pointer_count c.requires.there in
     let sum = c.in_ok-add_words.ensures.sum in
     err_so c.add_pointers.result c.add_pointers.ensures.refused (λ k h. struct_stops_at {r = r} {from = so_far c.args.walk.now.size c.args.lim.now} measured is_struct (rw (less, wide, many, sum.0, sum.1, words) at h))
+
+-- What is handed on.
+pub add_pointer-returns-in-Struct-clause-sized : goal.add_pointer-returns-in-Struct-clause-sized
+add_pointer-returns-in-Struct-clause-sized g t c = rw (to_z-of_z w32 c.args.nesting_limit c.ranges.nesting_limit) at c.add_struct.ensures.sized
+
+pub add_pointer-returns-in-Struct-clause-refused : goal.add_pointer-returns-in-Struct-clause-refused
+add_pointer-returns-in-Struct-clause-refused g t c = rw (to_z-of_z w32 c.args.nesting_limit c.ranges.nesting_limit) at c.add_struct.ensures.refused
+
+pub add_pointer-returns-in-List : goal.add_pointer-returns-in-List
+add_pointer-returns-in-List g t c =
+    let nl = to_z-of_z w32 c.args.nesting_limit c.ranges.nesting_limit in
+    record {
+      sized = rw nl at c.add_flat.ensures.sized;
+      fits = c.add_flat.ensures.fits;
+      refused = rw nl at c.add_flat.ensures.refused;
+    }
+
+pub add_pointer-returns-in_default : goal.add_pointer-returns-in_default
+add_pointer-returns-in_default g t c =
+    let nl = to_z-of_z w32 c.args.nesting_limit c.ranges.nesting_limit in
+    record {
+      sized = rw nl at c.add_object.ensures.sized;
+      fits = c.add_object.ensures.fits;
+      refused = rw nl at c.add_object.ensures.refused;
+    }
+
+pub add_pointers-returns-clause-sized : goal.add_pointers-returns-clause-sized
+add_pointers-returns-clause-sized g t c = rw (to_z-of_z w32 c.args.nesting_limit c.ranges.nesting_limit) at c.add_row.ensures.sized
+
+pub add_pointers-returns-clause-refused : goal.add_pointers-returns-clause-refused
+add_pointers-returns-clause-refused g t c = rw (to_z-of_z w32 c.args.nesting_limit c.ranges.nesting_limit) at c.add_row.ensures.refused
