@@ -42,3 +42,26 @@ pub returns-clause-exactly : goal.returns-clause-exactly
 returns-clause-exactly g c =
     measured_exactly (reading_at g.A.ReaderArena c.args.self c.args.place c.args.nesting_limit) c.args.lim.now c.read_pointer.new.lim c.read_pointer.result
     (rw (to_z-of_z w32 c.args.nesting_limit c.ranges.nesting_limit) at c.read_pointer.ensures.object) (returns-clause-refused g c)
+
+pub returns-then-is_null-clause-object : goal.returns-then-is_null-clause-object
+returns-then-is_null-clause-object g c =
+    let r : Reading = reading_at g.A.ReaderArena c.args.self c.args.place c.args.nesting_limit in
+    let word : c.word-word.result.0 ≡ word_of r = c.word-word.ensures.value ∙ ap (λ ws. get_or ws c.args.place.at 0) c.requires.held.0 in
+    (sym word ∙ c.if-is_null.ensures.0 refl, refl)
+
+pub read_pointer-requires-clause-word : goal.read_pointer-requires-clause-word
+read_pointer-requires-clause-word g c = record {
+  held = c.requires.held;
+  there = c.word-word.ensures.value ∙ ap (λ ws. get_or ws c.args.place.at 0) c.requires.held.0;
+  some = λ e. false≢true (c.if-is_null.ensures.1 e);
+  small = c.word-word.ensures.small;
+}
+
+pub read_pointer-requires-clause-level : goal.read_pointer-requires-clause-level
+read_pointer-requires-clause-level g c = λ _. omega arith
+
+pub returns-clause-object : goal.returns-clause-object
+returns-clause-object g c = rw (to_z-of_z w32 c.args.nesting_limit c.ranges.nesting_limit) at c.read_pointer.ensures.object
+
+pub returns-clause-few : goal.returns-clause-few
+returns-clause-few g c = c.read_pointer.ensures.few

@@ -23,3 +23,18 @@ returns-then-is_null-clause-exactly g c =
     let r : Reading = reading_at g.A.ReaderArena c.args.self c.args.place c.args.nesting_limit in
     let word : c.word-word.result.0 ≡ word_of r = c.word-word.ensures.value ∙ ap (λ ws. get_or ws c.args.place.at 0) c.requires.held.0 in
     ((λ _. could_be_read Value r c.args.lim.now c.args.lim.now ObjectNull (sym word ∙ c.if-is_null.ensures.0 refl, refl)), (λ _. refl))
+
+pub returns-then-is_null-clause-object : goal.returns-then-is_null-clause-object
+returns-then-is_null-clause-object g c =
+    let r : Reading = reading_at g.A.ReaderArena c.args.self c.args.place c.args.nesting_limit in
+    let word : c.word-word.result.0 ≡ word_of r = c.word-word.ensures.value ∙ ap (λ ws. get_or ws c.args.place.at 0) c.requires.held.0 in
+    (sym word ∙ c.if-is_null.ensures.0 refl, refl)
+
+pub returns-clause-object : goal.returns-clause-object
+returns-clause-object g c = rw (to_z-of_z w32 c.args.nesting_limit c.ranges.nesting_limit) at c.read_pointer.ensures.object
+
+pub returns-clause-refused : goal.returns-clause-refused
+returns-clause-refused g c = rw (to_z-of_z w32 c.args.nesting_limit c.ranges.nesting_limit) at c.read_pointer.ensures.refused
+
+pub returns-clause-few : goal.returns-clause-few
+returns-clause-few g c = c.read_pointer.ensures.few
