@@ -20,7 +20,6 @@ pub mod Shapes
 pub mod StructSteps
 pub mod StructsCopied
 pub mod UsedChildren
-pub mod OneReading
 pub mod Cleared
 pub mod KeptChildren
 pub mod KeptForms
@@ -34,12 +33,9 @@ pub mod TightObjects
 pub mod TooLarge
 pub mod FilledObjects
 pub mod FilledValues
-pub mod ListValues
 pub mod DataSections
 pub mod FilledSections
-pub mod EachCopied
 pub mod Growth
-pub mod BudgetRoom
 pub mod NoRoom
 pub mod ObjectsMade
 pub mod WordsInside

@@ -18,12 +18,9 @@ ghost use Rattle.capnp_copies.specs.Rooms.{CanBeCopied};
 ghost use Rattle.capnp_copies.specs.Originals.{value_original};
 
 mod children;
-mod each;
-pub(crate) mod elements;
+mod elements;
 mod flat;
-mod list_value;
 mod lists;
-mod struct_value;
 mod structs;
 
 use crate::form::CopyForm;
@@ -35,9 +32,10 @@ use capnp_words::error::ErrorKind;
 use capnp_words::read_limiter::ReadLimiter;
 use capnp_words::wire_pointer::WirePointer;
 use capnp_words::words::part;
-pub use each::copy_each;
-pub use list_value::copy_list;
-pub use struct_value::copy_struct_value;
+pub use children::copy_children;
+pub use elements::put_words;
+pub use flat::copy_flat;
+pub use lists::{copy_pointers, copy_structs};
 
 /// Copies what a pointer means to the null pointer at a place, as it stands or in canonical form, as
 /// `copy_in_form` does.

@@ -3,6 +3,4 @@
 
 pub mod copy;
 pub mod form;
-pub mod laws;
-pub(crate) mod section;
 pub(crate) mod widths;

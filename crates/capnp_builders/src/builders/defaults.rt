@@ -8,10 +8,10 @@ ghost use Rattle.capnp_builders.specs.Building.{ChangesWords};
 ghost use Rattle.capnp_builders.specs.Defaults.{DropsDefault, PutsDefault, IsShortDefault, IsNullDefault, object_default, blob_default, PutsDefaultOver, DefaultCopyFits, DefaultFits};
 
 use capnp_arena_traits::arena::BuilderArena;
-use capnp_copies::copy;
 use capnp_copies::form::CopyForm;
 use capnp_making::landing::word_of;
 use capnp_readers::readers::PointerReader;
+use capnp_value_copies::copy;
 use capnp_words::error::ErrorKind;
 use capnp_words::read_limiter::ReadLimiter;
 use capnp_words::words;

@@ -25,7 +25,7 @@ use capnp_words::words::part;
 /// from position `at` on.
 #[cycle(copies)]
 #[inline(always)]
-pub(crate) fn copy_children<A: BuilderArena, B: ReaderArena>(
+pub fn copy_children<A: BuilderArena, B: ReaderArena>(
     arena: &mut A,
     id: u32,
     at: u32,

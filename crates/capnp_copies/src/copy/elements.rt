@@ -129,7 +129,7 @@ fn copy_element<A: BuilderArena, B: ReaderArena>(
 }
 
 /// Writes words over others, if there are any to write.
-pub(crate) fn put_words<A: BuilderArena>(arena: &mut A, id: u32, at: u32, words: &[u8])
+pub fn put_words<A: BuilderArena>(arena: &mut A, id: u32, at: u32, words: &[u8])
     requires whole { length words.now ≡ 8 * length (words_of words.now) }
     requires inside { at + length (words_of words.now)
         ≤ length (segment (A.view arena.old).words id) }

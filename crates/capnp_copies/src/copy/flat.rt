@@ -22,7 +22,7 @@ use capnp_words::words;
 /// Copies so many elements, of which these are the words, and sets the pointer at a place to them.
 /// Where the arena refuses it, no word changes.
 #[inline(always)]
-pub(crate) fn copy_flat<A: BuilderArena>(
+pub fn copy_flat<A: BuilderArena>(
     arena: &mut A,
     id: u32,
     at: u32,

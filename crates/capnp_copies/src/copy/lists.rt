@@ -23,7 +23,7 @@ use capnp_words::wire_pointer::{ElementSize, StructSize};
 /// Copies a list of so many pointers, of which `from` is the first, to the pointer at a place.
 #[cycle(copies)]
 #[inline(always)]
-pub(crate) fn copy_pointers<A: BuilderArena, B: ReaderArena>(
+pub fn copy_pointers<A: BuilderArena, B: ReaderArena>(
     arena: &mut A,
     id: u32,
     at: u32,
@@ -53,7 +53,7 @@ pub(crate) fn copy_pointers<A: BuilderArena, B: ReaderArena>(
 /// at a place. In canonical form its elements have the least sections that lose nothing.
 #[cycle(copies)]
 #[inline(always)]
-pub(crate) fn copy_structs<A: BuilderArena, B: ReaderArena>(
+pub fn copy_structs<A: BuilderArena, B: ReaderArena>(
     arena: &mut A,
     id: u32,
     at: u32,

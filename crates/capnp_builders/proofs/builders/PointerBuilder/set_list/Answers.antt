@@ -2,7 +2,7 @@ use Rattle.std.proofs.Common.{refl, arith}
 use Rattle.capnp_copies.specs.Changes.{change}
 use Rattle.capnp_copies.specs.Forms.{form_of}
 use Rattle.capnp_copies.specs.ListValues.{list_read}
-use Rattle.capnp_copies.proofs.ListValues.{first_read}
+use Rattle.capnp_value_copies.proofs.ListValues.{first_read}
 use Rattle.capnp_copies.proofs.FlatRead.{ok_so, err_so}
 use Rattle.capnp_copies.proofs.Growth.{none_itself, none_pruned, taken_so, list_within, list_until_within}
 use Rattle.capnp_builders.proofs.CopiesHeld.{put_copied, put_stopped, can_later, grows_there}

@@ -1,0 +1,4 @@
+pub mod EachCopied
+pub mod ListValues
+pub mod OneReading
+pub mod BudgetRoom

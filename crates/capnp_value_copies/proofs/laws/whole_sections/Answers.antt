@@ -1,0 +1,5 @@
+use Rattle.capnp_copies.proofs.DataSections.{whole_section}
+use Rattle.capnp_value_copies.proofs.laws.whole_sections.Goals as goal
+
+pub returns : goal.returns
+returns c = whole_section

@@ -1,0 +1,10 @@
+//! The copies of what a pointer means, and of a struct or a list that is read.
+
+mod each;
+mod list_value;
+mod struct_value;
+
+pub use capnp_copies::copy::{copy_in_form, copy_value};
+pub use each::copy_each;
+pub use list_value::copy_list;
+pub use struct_value::copy_struct_value;

@@ -1,0 +1,59 @@
+//! The copy of pointers one behind the other, each of which is copied or stays null.
+ghost use Rattle.std.specs.Prelude.{◌≡◌, ℕ, ◌+◌, ◌<◌, ◌≤◌, length, IsOk, IfOk, IfErr};
+ghost use Rattle.capnp_format.specs.Segments.{segment, word_at};
+ghost use Rattle.capnp_objects.specs.Reading.{segment_read};
+ghost use Rattle.capnp_objects.specs.Wanted.{plain};
+ghost use Rattle.capnp_readers.specs.Readers.{reading};
+ghost use Rattle.capnp_copies.specs.Growth.{TakesAtMost};
+ghost use Rattle.capnp_copies.specs.Changes.{change, CopiesChildren, CopiesFirst};
+ghost use Rattle.capnp_copies.specs.Rooms.{CanBeCopied};
+ghost use Rattle.capnp_copies.specs.Originals.{children_original};
+
+use capnp_arena_traits::arena::{BuilderArena, ReaderArena};
+use capnp_copies::copy::copy_value;
+use capnp_objects::object::Place;
+use capnp_readers::readers::PointerReader;
+use capnp_words::error::ErrorKind;
+use capnp_words::read_limiter::ReadLimiter;
+
+/// Copies what so many pointers mean as it stands, from that of `from` on, to as many null pointers of
+/// a segment from position `at` on.
+///
+/// A refusal is the first one of `copy_value`: then the pointers before the refused one are copied, and
+/// it and those behind it are null. There is none where all the pointers can be read and the words of
+/// what they mean fit behind those of the segment.
+pub fn copy_each<A: BuilderArena, B: ReaderArena>(
+    arena: &mut A,
+    id: u32,
+    at: u32,
+    from: PointerReader<'_, B>,
+    count: u32,
+    lim: &mut ReadLimiter,
+) -> Result<(), ErrorKind>
+    requires room { at + count ≤ length (segment (A.view arena.old).words id) }
+    requires null { (i : ℕ) → i < count → word_at (A.view arena.old).words id (at + i) ≡ 0 }
+    requires inside { from.place.at + count ≤ length (segment_read (reading B.ReaderArena from)) }
+    ensures copied { IfOk result (λ _. CopiesChildren (reading B.ReaderArena from.entry) count
+        (change plain id at (A.view arena.old) (A.view arena.new) lim.old lim.new)) }
+    ensures fits { CanBeCopied (children_original (reading B.ReaderArena from.entry) count)
+        plain lim.old (A.view arena.old) id → IsOk result }
+    ensures refused { IfErr result
+        (CopiesFirst (reading B.ReaderArena from.entry) count
+        (change plain id at (A.view arena.old) (A.view arena.new) lim.old lim.new)) }
+    ensures taken { TakesAtMost result (children_original (reading B.ReaderArena from.entry) count)
+        (change plain id at (A.view arena.old) (A.view arena.new) lim.old lim.new) }
+{
+    for i in 0..count {
+        let child = PointerReader {
+            source: from.source,
+            place: Place {
+                segment: from.place.segment,
+                bytes: from.place.bytes,
+                at: from.place.at + i,
+            },
+            nesting_limit: from.nesting_limit,
+        };
+        copy_value(arena, id, at + i, child, lim, false)?;
+    }
+    Ok(())
+}

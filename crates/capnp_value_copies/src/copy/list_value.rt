@@ -1,0 +1,124 @@
+//! The copy of a list that is read, whose words are at hand ("Lists", "Canonicalization").
+ghost use Rattle.std.specs.Prelude.{◌≡◌, ◌+◌, ◌↔◌, IsTrue, Err, IsOk, IfOk, IfErr};
+ghost use Rattle.capnp_words.specs.declared.error.ErrorKind.{ErrorKind};
+ghost use Rattle.capnp_format.specs.Segments.{word_at, IsPlace};
+ghost use Rattle.capnp_format.specs.Tree.{Null};
+ghost use Rattle.capnp_copies.specs.Changes.{change, MakesCopy, StopsCopy, StopsHalfway};
+ghost use Rattle.capnp_copies.specs.Rooms.{CanBeCopied};
+ghost use Rattle.capnp_copies.specs.Forms.{form_of};
+ghost use Rattle.capnp_copies.specs.Growth.{TakesAtMost};
+ghost use Rattle.capnp_copies.specs.ListValues.{list_read};
+ghost use Rattle.capnp_copies.specs.Originals.{FitsListPointer};
+
+use capnp_arena_traits::arena::{BuilderArena, ReaderArena};
+use capnp_copies::copy::{copy_flat, copy_pointers, copy_structs};
+use capnp_copies::form::CopyForm;
+use capnp_making::making::clear;
+use capnp_readers::readers::{ListReader, PointerReader};
+use capnp_words::error::ErrorKind;
+use capnp_words::read_limiter::ReadLimiter;
+use capnp_words::wire_pointer::{ElementSize, StructSize};
+
+/// Copies a list that is read to the null pointer at a place, as it stands or in canonical form: as
+/// pointers where they are its elements, as structs, or as numbers with padding of zero. Its own words
+/// and its count cost nothing, and what its elements lead to costs what reading it does.
+///
+/// Its words stand behind those of the pointer's segment, in the canonical order of objects, where they
+/// all fit its room, or where the message has but one segment afterwards; then no other word changes but
+/// the pointer.
+///
+/// A refusal of the arena is `AllocationFailed` or `MessageTooLarge`, and comes only where the words
+/// don't fit behind those of the pointer's segment; a capability is
+/// `CannotCreateACanonicalMessageWithACapability` in canonical form; a refusal to read keeps its name;
+/// a list of more elements or words than a list pointer can say, which no message holds, is
+/// `MessageTooLarge(usize::MAX)`. Then the pointer is null and the words that were allocated are zero;
+/// the limiter keeps what was charged.
+pub fn copy_list<A: BuilderArena, B: ReaderArena>(
+    arena: &mut A,
+    id: u32,
+    at: u32,
+    value: ListReader<'_, B>,
+    lim: &mut ReadLimiter,
+    canonicalize: bool,
+) -> Result<(), ErrorKind>
+    requires place { IsPlace (A.view arena.old).words id at }
+    requires null { word_at (A.view arena.old).words id at ≡ 0 }
+    ensures copied { IfOk result (λ _. MakesCopy (list_read B.ReaderArena value.entry)
+        (change (form_of canonicalize) id at (A.view arena.old)
+        (A.view arena.new) lim.old lim.new)) }
+    ensures fits { CanBeCopied (list_read B.ReaderArena value.entry)
+        (form_of canonicalize) lim.old (A.view arena.old) id → IsOk result }
+    ensures refused { IfErr result (StopsCopy (list_read B.ReaderArena value.entry)
+        (change (form_of canonicalize) id at (A.view arena.old)
+        (A.view arena.new) lim.old lim.new) Null) }
+    ensures long { (k : ErrorKind) → (list_read B.ReaderArena value.entry).exceeds
+        (form_of canonicalize) k → (result ≡ Err k) × (lim.new ≡ lim.old) }
+    ensures taken { TakesAtMost result (list_read B.ReaderArena value.entry)
+        (change (form_of canonicalize) id at (A.view arena.old)
+        (A.view arena.new) lim.old lim.new) }
+{
+    match copy_elements_read(arena, id, at, value, lim, canonicalize) {
+        Ok(()) => Ok(()),
+        Err(k) => {
+            clear(arena, id, at);
+            Err(k)
+        }
+    }
+}
+
+/// Does what `copy_list` does, but leaves what it made where it is refused.
+fn copy_elements_read<A: BuilderArena, B: ReaderArena>(
+    arena: &mut A,
+    id: u32,
+    at: u32,
+    value: ListReader<'_, B>,
+    lim: &mut ReadLimiter,
+    canonicalize: bool,
+) -> Result<(), ErrorKind>
+    requires place { IsPlace (A.view arena.old).words id at }
+    requires null { word_at (A.view arena.old).words id at ≡ 0 }
+    ensures copied { IfOk result (λ _. MakesCopy (list_read B.ReaderArena value.entry)
+        (change (form_of canonicalize) id at (A.view arena.old)
+        (A.view arena.new) lim.old lim.new)) }
+    ensures refused { IfErr result
+        (StopsHalfway (list_read B.ReaderArena value.entry)
+        (change (form_of canonicalize) id at (A.view arena.old)
+        (A.view arena.new) lim.old lim.new)) }
+    ensures long { (k : ErrorKind) → (list_read B.ReaderArena value.entry).exceeds
+        (form_of canonicalize) k → (result ≡ Err k) × (lim.new ≡ lim.old) }
+    ensures taken { TakesAtMost result (list_read B.ReaderArena value.entry)
+        (change (form_of canonicalize) id at (A.view arena.old)
+        (A.view arena.new) lim.old lim.new) }
+{
+    let count = value.count;
+    if !fits_list_pointer(value.element_size, value.struct_size, count) {
+        return Err(ErrorKind::MessageTooLarge(usize::MAX));
+    }
+    let first = PointerReader {
+        source: value.source,
+        place: value.start,
+        nesting_limit: value.nesting_limit,
+    };
+    let form = CopyForm::of(canonicalize);
+    match value.element_size {
+        ElementSize::InlineComposite => {
+            let size = value.struct_size;
+            copy_structs(arena, id, at, first, size, count, lim, form)
+        }
+        ElementSize::Pointer => copy_pointers(arena, id, at, first, count, lim, form),
+        size => copy_flat(arena, id, at, size, count, value.content),
+    }
+}
+
+/// Whether so many elements are as many as a list pointer and its tag can say.
+fn fits_list_pointer(size: ElementSize, sections: StructSize, count: u32) -> bool
+    ensures { IsTrue result ↔ FitsListPointer size count (sections.data_words + sections.pointers) }
+{
+    match size {
+        ElementSize::InlineComposite => {
+            let words = u64::from(count) * u64::from(sections.total());
+            count < 1 << 30 && words < 1 << 29
+        }
+        _ => count < 1 << 29,
+    }
+}

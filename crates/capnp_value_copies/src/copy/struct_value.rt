@@ -1,0 +1,150 @@
+//! The copy of a struct that is read, whose sections may stand apart ("Structs",
+//! "Canonicalization").
+ghost use Rattle.std.specs.Prelude.{◌≡◌, ◌<◌, ◌^◌, Err, IsOk, IfOk, IfErr};
+ghost use Rattle.capnp_words.specs.declared.error.ErrorKind.{ErrorKind};
+ghost use Rattle.capnp_format.specs.Segments.{word_at, IsPlace};
+ghost use Rattle.capnp_format.specs.Tree.{Null};
+ghost use Rattle.capnp_objects.specs.Reading.{words_from};
+ghost use Rattle.capnp_readers.specs.Sizes.{pointers_read};
+ghost use Rattle.capnp_copies.specs.Changes.{change, MakesCopy, StopsCopy, StopsHalfway};
+ghost use Rattle.capnp_copies.specs.Rooms.{CanBeCopied};
+ghost use Rattle.capnp_copies.specs.Forms.{form_of};
+ghost use Rattle.capnp_copies.specs.Growth.{TakesAtMost};
+ghost use Rattle.capnp_copies.specs.Originals.{IsTooWide, kept_count};
+ghost use Rattle.capnp_copies.specs.StructValues.{data_of, struct_read};
+
+use crate::section::{kept_words, put_section};
+use capnp_arena_traits::arena::{BuilderArena, ReaderArena};
+use capnp_copies::copy::copy_children;
+use capnp_copies::form::CopyForm;
+use capnp_making::making::{clear, make_struct};
+use capnp_readers::readers::{PointerReader, StructReader};
+use capnp_words::error::ErrorKind;
+use capnp_words::read_limiter::ReadLimiter;
+use capnp_words::wire_pointer::StructSize;
+use capnp_words::words::used_part;
+
+/// Copies a struct that is read to the null pointer at a place, as it stands or in canonical form. Its
+/// data section is padded with zeros to whole words. Its own words cost nothing, and what its pointers
+/// mean costs what reading it does.
+///
+/// Its words stand behind those of the pointer's segment, in the canonical order of objects, where they
+/// all fit its room, or where the message has but one segment afterwards; then no other word changes but
+/// the pointer.
+///
+/// A refusal of the arena is `AllocationFailed` or `MessageTooLarge`, and comes only where the words
+/// don't fit behind those of the pointer's segment; a capability is
+/// `CannotCreateACanonicalMessageWithACapability` in canonical form; a refusal to read keeps its name;
+/// more than 65535 data words are `MessageTooLarge` with their number, and nothing is charged. Then the
+/// pointer is null and the words that were allocated are zero; the limiter keeps what was charged.
+pub fn copy_struct_value<A: BuilderArena, B: ReaderArena>(
+    arena: &mut A,
+    id: u32,
+    at: u32,
+    value: StructReader<'_, B>,
+    lim: &mut ReadLimiter,
+    canonicalize: bool,
+) -> Result<(), ErrorKind>
+    requires place { IsPlace (A.view arena.old).words id at }
+    requires null { word_at (A.view arena.old).words id at ≡ 0 }
+    ensures copied { IfOk result (λ _. MakesCopy (struct_read B.ReaderArena value.entry)
+        (change (form_of canonicalize) id at (A.view arena.old)
+        (A.view arena.new) lim.old lim.new)) }
+    ensures fits { CanBeCopied (struct_read B.ReaderArena value.entry)
+        (form_of canonicalize) lim.old (A.view arena.old) id → IsOk result }
+    ensures refused { IfErr result (StopsCopy (struct_read B.ReaderArena value.entry)
+        (change (form_of canonicalize) id at (A.view arena.old)
+        (A.view arena.new) lim.old lim.new) Null) }
+    ensures wide { (k : ErrorKind) → (struct_read B.ReaderArena value.entry).exceeds
+        (form_of canonicalize) k → (result ≡ Err k) × (lim.new ≡ lim.old) }
+    ensures taken { TakesAtMost result (struct_read B.ReaderArena value.entry)
+        (change (form_of canonicalize) id at (A.view arena.old)
+        (A.view arena.new) lim.old lim.new) }
+{
+    match copy_sections(arena, id, at, value, lim, canonicalize) {
+        Ok(()) => Ok(()),
+        Err(k) => {
+            clear(arena, id, at);
+            Err(k)
+        }
+    }
+}
+
+/// Does what `copy_struct_value` does, but leaves what it made where it is refused.
+fn copy_sections<A: BuilderArena, B: ReaderArena>(
+    arena: &mut A,
+    id: u32,
+    at: u32,
+    value: StructReader<'_, B>,
+    lim: &mut ReadLimiter,
+    canonicalize: bool,
+) -> Result<(), ErrorKind>
+    requires place { IsPlace (A.view arena.old).words id at }
+    requires null { word_at (A.view arena.old).words id at ≡ 0 }
+    ensures copied { IfOk result (λ _. MakesCopy (struct_read B.ReaderArena value.entry)
+        (change (form_of canonicalize) id at (A.view arena.old)
+        (A.view arena.new) lim.old lim.new)) }
+    ensures refused { IfErr result
+        (StopsHalfway (struct_read B.ReaderArena value.entry)
+        (change (form_of canonicalize) id at (A.view arena.old)
+        (A.view arena.new) lim.old lim.new)) }
+    ensures wide { (k : ErrorKind) → (struct_read B.ReaderArena value.entry).exceeds
+        (form_of canonicalize) k → (result ≡ Err k) × (lim.new ≡ lim.old) }
+    ensures taken { TakesAtMost result (struct_read B.ReaderArena value.entry)
+        (change (form_of canonicalize) id at (A.view arena.old)
+        (A.view arena.new) lim.old lim.new) }
+{
+    let kept = kept_sections(value, canonicalize)?;
+    let start = make_struct(arena, id, at, kept)?;
+    let data_words = kept.data_words;
+    put_section(
+        arena,
+        start.segment,
+        start.at,
+        value.content,
+        value.bits,
+        data_words,
+    );
+    let children = PointerReader {
+        source: value.source,
+        place: value.pointers,
+        nesting_limit: value.nesting_limit,
+    };
+    let first = start.at + u32::from(data_words);
+    let pointers = u32::from(kept.pointers);
+    let form = CopyForm::of(canonicalize);
+    copy_children(arena, start.segment, first, children, pointers, lim, form)
+}
+
+/// The sections that a copy of a struct keeps: in canonical form the words of each up to the last
+/// that is not zero.
+///
+/// More data words than a struct can have are `MessageTooLarge`.
+fn kept_sections<B: ReaderArena>(
+    value: StructReader<'_, B>,
+    canonicalize: bool,
+) -> Result<StructSize, ErrorKind>
+    ensures data { IfOk result (λ size. size.data_words
+        ≡ kept_count (form_of canonicalize) (data_of B.ReaderArena value.entry)) }
+    ensures pointers { IfOk result (λ size. size.pointers
+        ≡ kept_count (form_of canonicalize)
+        (words_from (pointers_read B.ReaderArena value.entry) value.entry.pointer_count)) }
+    ensures narrow { IfOk result (λ _.
+        kept_count (form_of canonicalize) (data_of B.ReaderArena value.entry) < 2 ^ 16) }
+    ensures wide { IfErr result
+        (IsTooWide (kept_count (form_of canonicalize) (data_of B.ReaderArena value.entry))) }
+{
+    let data_words = kept_words(value.content, value.bits, canonicalize);
+    if data_words > usize::from(u16::MAX) {
+        return Err(ErrorKind::MessageTooLarge(data_words));
+    }
+    let mut pointers = value.pointer_count;
+    if canonicalize {
+        let at = value.pointers.at as usize;
+        pointers = used_part(value.pointers.bytes, at, usize::from(pointers)) as u16;
+    }
+    Ok(StructSize {
+        data_words: data_words as u16,
+        pointers,
+    })
+}

@@ -1,0 +1,73 @@
+//! The data section of a struct that is read, as words. It may end inside a word, and inside a byte
+//! ("Structs").
+ghost use Rattle.std.specs.Prelude.{◌≡◌, ◌+◌, ◌*◌, ◌/◌, ◌%◌, ◌^◌, ◌≤◌, length, take, drop};
+ghost use Rattle.capnp_format.specs.Numbers.{from_digits};
+ghost use Rattle.capnp_format.specs.Segments.{segment};
+ghost use Rattle.capnp_arena_traits.specs.Written.{with_words};
+ghost use Rattle.capnp_readers.specs.Sections.{bytes_for};
+ghost use Rattle.capnp_copies.specs.Forms.{form_of};
+ghost use Rattle.capnp_copies.specs.StructValues.{section_words};
+ghost use Rattle.capnp_copies.specs.Originals.{kept_count};
+
+use capnp_arena_traits::arena::BuilderArena;
+use capnp_copies::copy::put_words;
+use capnp_words::words::{part, used_part};
+
+/// How many words of a data section a copy keeps: in canonical form those up to the last that is not
+/// zero.
+pub(crate) fn kept_words(bytes: &[u8], bits: u32, canonicalize: bool) -> usize
+    requires long { length bytes.now ≡ bytes_for bits }
+    ensures { result ≡ kept_count (form_of canonicalize) (section_words bits bytes.now) }
+{
+    if !canonicalize {
+        return (bits as usize + 63) / 64;
+    }
+    let whole = bits as usize / 64;
+    if last_word(bytes, bits) != 0 {
+        return whole + 1;
+    }
+    used_part(bytes, 0, whole)
+}
+
+/// Writes the first words of a data section over words of a segment.
+pub(crate) fn put_section<A: BuilderArena>(
+    arena: &mut A,
+    id: u32,
+    at: u32,
+    bytes: &[u8],
+    bits: u32,
+    kept: u16,
+)
+    requires long { length bytes.now ≡ bytes_for bits }
+    requires few { kept ≤ length (section_words bits bytes.now) }
+    requires inside { at + kept ≤ length (segment (A.view arena.old).words id) }
+    ensures { A.view arena.new
+        ≡ record (A.view arena.old) {
+          words = with_words (A.view arena.old).words id at
+              (take kept (section_words bits bytes.now));
+        } }
+{
+    let whole = bits / 64;
+    let kept = u32::from(kept);
+    if kept <= whole {
+        put_words(arena, id, at, part(bytes, 0, kept as usize));
+        return;
+    }
+    put_words(arena, id, at, part(bytes, 0, whole as usize));
+    arena.set_word(id, at + whole, last_word(bytes, bits));
+}
+
+/// The bits behind the whole words of a data section as a number, 0 where there are none.
+fn last_word(bytes: &[u8], bits: u32) -> u64
+    requires long { length bytes.now ≡ bytes_for bits }
+    ensures { result ≡ from_digits 256 (drop (8 * (bits / 64)) bytes.now) % 2 ^ (bits % 64) }
+{
+    let whole = 8 * (bits as usize / 64);
+    let mut word: u64 = 0;
+    let mut i = bytes.len();
+    while i > whole {
+        i -= 1;
+        word = word * 256 + u64::from(bytes[i]);
+    }
+    word & ((1 << (bits % 64)) - 1)
+}
