@@ -1,4 +1,4 @@
-use Rattle.std.proofs.Common.{◌≡◌, ◌≢◌, inl, ℕ, ◌+◌, ◌*◌, ◌<◌, ◌≤◌, ◌^◌, length, get_or, refl, ap, ap₂, sym, ◌∙◌, rules, take, subst, le_antisymm, le_refl, lt_of_le_of_lt}
+use Rattle.std.proofs.Common.{◌≡◌, inl, ℕ, ◌+◌, ◌*◌, ◌<◌, ◌≤◌, ◌^◌, length, get_or, refl, ap, ap₂, sym, ◌∙◌, arith, rules, take, subst, le_antisymm, le_refl, lt_of_le_of_lt}
 use Rattle.std.proofs.lemmas.Int.{to_z-of_z}
 use Rattle.std.proofs.lemmas.Bool.{false≢true}
 use mir.Syntax.{w32}
@@ -17,6 +17,7 @@ use Rattle.capnp_format.specs.Word.{kind, data_words, pointer_count}
 use Rattle.capnp_objects.specs.declared.object.Place.{Place}
 use Rattle.capnp_objects.specs.declared.object.Object.TheVariants.{Struct as ObjectStruct}
 use Rattle.capnp_objects.specs.Objects.{IsObject}
+use Rattle.capnp_objects.specs.Source.{levels}
 use Rattle.capnp_objects.specs.Reading.{Reading, behind, segment_read, word_of, words_from}
 use Rattle.capnp_objects.specs.declared.object.Purpose.TheVariants.{Value}
 use Rattle.capnp_readers.specs.Readers.{reading}
@@ -112,7 +113,8 @@ children::copy_in_line-copy_child-requires g t c κs within =
     child_ahead c.loop-i.invariant.0 (child_there c.args.at c.args.count c.loop-i.i
     c.requires.nulls.room c.loop-i-test.true (le_refl _)) ∙ c.requires.nulls.null c.loop-i.i
     c.loop-i-test.true in
-    search rules
+    let nl = to_z-of_z w32 c.args.from.nesting_limit (search rules) in
+    (omega (arith, ap levels nl, c.decreases), (within.0, (within.1, (PLACE, NULL))))
 
 pub children::copy_in_line-returns-in_err-copy_child : goal.children::copy_in_line-returns-in_err-copy_child
 children::copy_in_line-returns-in_err-copy_child g t c =
@@ -153,6 +155,20 @@ children::copy_children-returns-then-count-eq0 g t c =
           c.args.lim.now);
     }
 
+pub children::copy_row-copy_in_line-requires : goal.children::copy_row-copy_in_line-requires
+children::copy_row-copy_in_line-requires g t c κs within =
+    (omega (arith, c.decreases), (within.0, (within.1, (c.requires.nulls, c.requires.inside))))
+
+pub children::copy_row-returns : goal.children::copy_row-returns
+children::copy_row-returns g t c = c.copy_in_line.ensures
+
+pub children::copy_children-copy_row-requires : goal.children::copy_children-copy_row-requires
+children::copy_children-copy_row-requires g t c κs within =
+    (omega (arith, c.decreases), (within.0, (within.1, (c.requires.nulls, c.requires.inside))))
+
+pub children::copy_children-returns : goal.children::copy_children-returns
+children::copy_children-returns g t c = c.copy_row.ensures
+
 -- What a pointer means, told by its word.
 
 pub children::copy_child-returns-then-is_null-clause-copied : goal.children::copy_child-returns-then-is_null-clause-copied
@@ -166,6 +182,22 @@ children::copy_child-returns-then-is_null-clause-taken g t c =
     let r : Reading = reading g.B.ReaderArena c.args.from in
     let word : c.word-word.result.0 ≡ word_of r = c.word-word.ensures.value ∙ ap (λ ws. get_or ws c.args.from.place.at 0) c.args.from.held.0 in
     null_takes {r = r} (sym word ∙ c.if-is_null.ensures.0 refl, refl)
+
+pub children::copy_child-copy_object-requires : goal.children::copy_child-copy_object-requires
+children::copy_child-copy_object-requires g t c κs within =
+    (omega (arith, c.decreases), (within.0, (within.1, (c.requires.place, c.requires.null))))
+
+pub children::copy_child-returns-then-is_of_bits : goal.children::copy_child-returns-then-is_of_bits
+children::copy_child-returns-then-is_of_bits g t c =
+    record { copied = c.copy_near_flat.ensures.copied (form_in c.args.form); refused = c.copy_near_flat.ensures.refused (form_in c.args.form); taken = c.copy_near_flat.ensures.taken (form_in c.args.form) }
+
+pub children::copy_child-returns-then-eq : goal.children::copy_child-returns-then-eq
+children::copy_child-returns-then-eq g t c =
+    record { copied = c.copy_near_struct.ensures.copied; refused = c.copy_near_struct.ensures.refused; taken = c.copy_near_struct.ensures.taken }
+
+pub children::copy_child-returns-else-eq : goal.children::copy_child-returns-else-eq
+children::copy_child-returns-else-eq g t c =
+    record { copied = c.copy_object.ensures.copied; refused = c.copy_object.ensures.refused; taken = c.copy_object.ensures.taken }
 
 pub children::copy_near_struct-returns-in_err-start : goal.children::copy_near_struct-returns-in_err-start
 children::copy_near_struct-returns-in_err-start g t c =
@@ -208,7 +240,7 @@ children::copy_near_struct-copy_struct-requires g t c κs within =
     let LESS = less object.1.meets.levels in
     let SOME = object.1.meets.levels in
     let INSIDE : c.in_ok-start.start + (c.struct_size.result.data_words + c.struct_size.result.pointers) ≤ length (segment r.segments c.args.from.place.segment) = struct_room start c.struct_size.result object in
-    search rules
+    (omega (arith, LESS, SOME, c.decreases), (within.0, (within.1, (c.requires.place, (INSIDE, c.requires.null)))))
 
 -- What a pointer means.
 
@@ -222,17 +254,37 @@ copy_object-returns-in_err-object g t c =
       taken = rw p.1 (read_stop_taken (rw nl at c.in_err-object.ensures.refused));
     }
 
+pub copy_object-copy_struct-requires : goal.copy_object-copy_struct-requires
+copy_object-copy_struct-requires g t c κs within =
+    let fits : SFits w32 c.args.from.nesting_limit = search rules in
+    let nl = to_z-of_z w32 c.args.from.nesting_limit fits in
+    let object = rw (c.in-Struct.is, nl) at c.in_ok-object.ensures.object in
+    let SOME = object.1.meets.levels in
+    let LESS = one_level_in c.args.from.nesting_limit fits SOME in
+    let INSIDE = struct_room c.in-Struct.start c.in-Struct.size object in
+    (omega (arith, LESS, SOME, c.decreases), (within.0, (within.1, (c.requires.place, (INSIDE, c.requires.null)))))
+
 pub copy_object-copy_pointers-requires : goal.copy_object-copy_pointers-requires
 copy_object-copy_pointers-requires g t c κs within =
     let FEW : c.in-Pointers.count < 2 ^ 29 = rw c.in-Pointers.is at c.in_ok-object.ensures.few in
-    search rules
+    let fits : SFits w32 c.args.from.nesting_limit = search rules in
+    let nl = to_z-of_z w32 c.args.from.nesting_limit fits in
+    let object = rw (c.in-Pointers.is, nl) at c.in_ok-object.ensures.object in
+    let SOME = object.1.meets.levels in
+    let LESS = one_level_in c.args.from.nesting_limit fits SOME in
+    (omega (arith, LESS, SOME, c.decreases), (within.0, (within.1, (c.requires.place, (c.requires.null, (FEW, search rules))))))
 
 pub copy_object-copy_structs-requires : goal.copy_object-copy_structs-requires
 copy_object-copy_structs-requires g t c κs within =
     let few : (c.in-Structs.count < 2 ^ 30) × (c.in-Structs.count * (c.in-Structs.size.data_words + c.in-Structs.size.pointers) < 2 ^ 29) = rw c.in-Structs.is at c.in_ok-object.ensures.few in
     let FEW : c.in-Structs.count < 2 ^ 30 = few.0 in
     let WORDS : c.in-Structs.count * (c.in-Structs.size.data_words + c.in-Structs.size.pointers) < 2 ^ 29 = few.1 in
-    search rules
+    let fits : SFits w32 c.args.from.nesting_limit = search rules in
+    let nl = to_z-of_z w32 c.args.from.nesting_limit fits in
+    let object = rw (c.in-Structs.is, nl) at c.in_ok-object.ensures.object in
+    let SOME = object.1.meets.levels in
+    let LESS = one_level_in c.args.from.nesting_limit fits SOME in
+    (omega (arith, LESS, SOME, c.decreases), (within.0, (within.1, (c.requires.place, (c.requires.null, (FEW, (WORDS, search rules)))))))
 
 pub copy_object-returns-in-Null-clause-copied : goal.copy_object-returns-in-Null-clause-copied
 copy_object-returns-in-Null-clause-copied g t c =
@@ -330,7 +382,7 @@ elements::copy_element-returns g t c =
       copied = ok_so c.copy_in_line.result c.copy_in_line.ensures.copied (λ x made. element_copied put (rw (c.from.ensures, c.from-2.ensures, c.from-pointers.ensures, nl) at made));
       refused = err_so c.copy_in_line.result c.copy_in_line.ensures.refused (λ k stop. element_stops put (rw (c.from.ensures, c.from-2.ensures, c.from-pointers.ensures, nl) at stop));
       taken = (let none = c.put_words.ensures.taken in let last = none_itself (g.A.BuilderArena.view c.copy_in_line.new.arena) in taken_so c.copy_in_line.result _ _ _ _ (λ x. all_within none last x) (λ x. among_within (le_refl _) none
-    last x) (rw (c.from.ensures, c.from-pointers.ensures, nl) at c.copy_in_line.ensures.taken));
+          last x) (rw (c.from.ensures, c.from-pointers.ensures, nl) at c.copy_in_line.ensures.taken));
     }
 
 pub elements::copy_elements-returns-then-kept_words-eq0-clause-copied : goal.elements::copy_elements-returns-then-kept_words-eq0-clause-copied
@@ -385,7 +437,8 @@ elements::copy_elements-copy_element-requires g t c κs within =
     let ROOM : c.args.to.at + c.loop-i.i * c.total-kept_words.result + (c.args.sizes.kept.data_words + c.args.sizes.kept.pointers) ≤ length (segment (g.A.BuilderArena.view c.loop-i.arena).words c.args.to.segment) = rw c.total-kept_words.ensures (next_room here) in
     let NULL : (j : ℕ) → j < c.args.sizes.kept.pointers → word_at (g.A.BuilderArena.view c.loop-i.arena).words c.args.to.segment (c.args.to.at + c.loop-i.i * c.total-kept_words.result + c.args.sizes.kept.data_words + j) ≡ 0 = rw c.total-kept_words.ensures (next_null here) in
     let INSIDE : c.args.from.place.at + c.loop-i.i * c.total-source_words.result + (c.args.sizes.source.data_words + c.args.sizes.source.pointers) ≤ length (segment from.segments from.segment) = rw c.total-source_words.ensures (next_inside here) in
-    search rules
+    let nl = to_z-of_z w32 c.args.from.nesting_limit (search rules) in
+    (omega (arith, ap levels nl, c.decreases), (within.0, (within.1, (ROOM, (NULL, (INSIDE, (c.requires.less_data, c.requires.less_pointers)))))))
 
 pub elements::copy_elements-loop-i-preserved : goal.elements::copy_elements-loop-i-preserved
 elements::copy_elements-loop-i-preserved g t c =
@@ -411,13 +464,13 @@ elements::copy_elements-returns-in_err-copy_element g t c =
     record {
       copied = rw p.1 tt;
       refused = (let here : AtRow from c.args.sizes c.args.count c.loop-i.i (form_in c.args.form) c.args.to.segment c.args.to.at (g.A.BuilderArena.view c.args.arena.now) (g.A.BuilderArena.view c.loop-i.arena) c.args.lim.now c.loop-i.lim = record {
-      fits = record { inside = c.requires.inside; less_data = c.requires.less_data; less_pointers = c.requires.less_pointers; used = c.requires.pointers };
-      room = c.requires.room;
-      zero = c.requires.zero;
-      wide = some_words c.total-kept_words.ensures c.if-kept_words-eq0.false;
-      more = c.loop-i-test.true;
-      rows = c.loop-i.invariant.0;
-    } in rw (p.1, p.2) (row_stops here c.loop-i.invariant.1 (rw (c.total-source_words.ensures, c.total-kept_words.ensures, nl) at c.in_err-copy_element.ensures.refused)));
+        fits = record { inside = c.requires.inside; less_data = c.requires.less_data; less_pointers = c.requires.less_pointers; used = c.requires.pointers };
+        room = c.requires.room;
+        zero = c.requires.zero;
+        wide = some_words c.total-kept_words.ensures c.if-kept_words-eq0.false;
+        more = c.loop-i-test.true;
+        rows = c.loop-i.invariant.0;
+      } in rw (p.1, p.2) (row_stops here c.loop-i.invariant.1 (rw (c.total-source_words.ensures, c.total-kept_words.ensures, nl) at c.in_err-copy_element.ensures.refused)));
       taken = (let fits : SourceKept (form_in c.args.form) from c.args.sizes c.args.count = record { inside = c.requires.inside; less_data = c.requires.less_data; less_pointers = c.requires.less_pointers; used = c.requires.pointers } in rw p.1 (row_stop_taken fits c.loop-i-test.true c.loop-i.invariant.1 (rw (c.total-source_words.ensures, nl) at c.in_err-copy_element.ensures.taken)));
     }
 
@@ -445,17 +498,17 @@ lists::copy_pointers-copy_in_line-requires g t c κs within =
     let M : Segments = (g.A.BuilderArena.view c.make_list.new.arena).words in
     let begun : IsBegun S M c.args.id c.args.at c.args.count c.in_ok-start.start (Pointers (nulls c.args.count)) = record { made = c.in_ok-start.ensures.made; start = c.in_ok-start.ensures.start.leads; inside = c.in_ok-start.ensures.start.inside } in
     let NULLS : HasNulls M c.in_ok-start.start.segment c.in_ok-start.start.at c.args.count = record { room = begun.inside.1; null = pointers_ready S M c.args.id c.args.at c.args.count c.in_ok-start.start begun } in
-    search rules
+    (omega (arith, c.decreases), (within.0, (within.1, (NULLS, c.requires.inside))))
 
 pub lists::copy_pointers-returns : goal.lists::copy_pointers-returns
 lists::copy_pointers-returns g t c =
     record {
       copied = (let begun : ObjectBegun c.args.id c.args.at c.args.count (g.A.BuilderArena.view c.args.arena.now) (g.A.BuilderArena.view c.make_list.new.arena) c.in_ok-start.start (Pointers (nulls c.args.count)) =
-    record { begun = record { made = c.in_ok-start.ensures.made; start = c.in_ok-start.ensures.start.leads; inside = c.in_ok-start.ensures.start.inside }; memory = c.in_ok-start.ensures.memory.granted } in ok_so c.copy_in_line.result c.copy_in_line.ensures.copied (λ x made. pointers_copied begun (record { place = c.requires.place; memory = c.in_ok-start.ensures.memory.granted; taken = c.in_ok-start.ensures.memory.taken; near = c.in_ok-start.ensures.near; at_end = c.in_ok-start.ensures.at_end }) made));
+          record { begun = record { made = c.in_ok-start.ensures.made; start = c.in_ok-start.ensures.start.leads; inside = c.in_ok-start.ensures.start.inside }; memory = c.in_ok-start.ensures.memory.granted } in ok_so c.copy_in_line.result c.copy_in_line.ensures.copied (λ x made. pointers_copied begun (record { place = c.requires.place; memory = c.in_ok-start.ensures.memory.granted; taken = c.in_ok-start.ensures.memory.taken; near = c.in_ok-start.ensures.near; at_end = c.in_ok-start.ensures.at_end }) made));
       refused = (let begun : ObjectBegun c.args.id c.args.at c.args.count (g.A.BuilderArena.view c.args.arena.now) (g.A.BuilderArena.view c.make_list.new.arena) c.in_ok-start.start (Pointers (nulls c.args.count)) =
-    record { begun = record { made = c.in_ok-start.ensures.made; start = c.in_ok-start.ensures.start.leads; inside = c.in_ok-start.ensures.start.inside }; memory = c.in_ok-start.ensures.memory.granted } in err_so c.copy_in_line.result c.copy_in_line.ensures.refused (λ k stop. pointers_stop begun (record { place = c.requires.place; memory = c.in_ok-start.ensures.memory.granted; taken = c.in_ok-start.ensures.memory.taken; behind = c.in_ok-start.ensures.start.behind }) c.in_ok-start.ensures.at_end stop));
+          record { begun = record { made = c.in_ok-start.ensures.made; start = c.in_ok-start.ensures.start.leads; inside = c.in_ok-start.ensures.start.inside }; memory = c.in_ok-start.ensures.memory.granted } in err_so c.copy_in_line.result c.copy_in_line.ensures.refused (λ k stop. pointers_stop begun (record { place = c.requires.place; memory = c.in_ok-start.ensures.memory.granted; taken = c.in_ok-start.ensures.memory.taken; behind = c.in_ok-start.ensures.start.behind }) c.in_ok-start.ensures.at_end stop));
       taken = (let begun : Begins c.args.id c.in_ok-start.start.segment c.args.count (g.A.BuilderArena.view c.args.arena.now) (g.A.BuilderArena.view c.make_list.new.arena) =
-    record { there = there (g.A.BuilderArena.view c.args.arena.now).words c.args.id c.args.at c.requires.place; taken = c.in_ok-start.ensures.memory.taken; memory = c.in_ok-start.ensures.memory.granted; near = λ room. (c.in_ok-start.ensures.at_end room).0; far = λ full. (c.in_ok-start.ensures.start.behind.far full).0 } in taken_so c.copy_in_line.result _ _ _ _ (λ x. pointers_behind _ _ _ _ _ _ _ _ _ _ begun x) (λ x. pointers_stop_behind _ _ _ _ _ _ _ _ _ _ begun x) c.copy_in_line.ensures.taken);
+          record { there = there (g.A.BuilderArena.view c.args.arena.now).words c.args.id c.args.at c.requires.place; taken = c.in_ok-start.ensures.memory.taken; memory = c.in_ok-start.ensures.memory.granted; near = λ room. (c.in_ok-start.ensures.at_end room).0; far = λ full. (c.in_ok-start.ensures.start.behind.far full).0 } in taken_so c.copy_in_line.result _ _ _ _ (λ x. pointers_behind _ _ _ _ _ _ _ _ _ _ begun x) (λ x. pointers_stop_behind _ _ _ _ _ _ _ _ _ _ begun x) c.copy_in_line.ensures.taken);
     }
 
 pub lists::copy_pointers-returns-in_err-start : goal.lists::copy_pointers-returns-in_err-start
@@ -464,7 +517,7 @@ lists::copy_pointers-returns-in_err-start g t c =
     record {
       copied = rw p.1 tt;
       refused = (let full : HasRoom (g.A.BuilderArena.view c.args.arena.now) c.args.id c.args.count → ⊥ = λ room. absurd (false≢true (c.in_err-start.ensures.memory.fits room)) in let none = nothing_made (form_in c.args.form) c.args.id c.args.at c.args.count (g.A.BuilderArena.view c.args.arena.now) (g.A.BuilderArena.view c.make_list.new.arena) c.args.lim.now c.args.lim.now c.in_err-start.field-0.0 c.requires.place c.requires.null
-    c.in_err-start.ensures.memory.named c.in_err-start.ensures.refused full in rw (p.1, p.2) (halfway (inl (inl (c.args.count, refl, refl, (none.0, no_own_room (g.A.BuilderArena.view c.args.arena.now) c.args.id c.args.count full)), pointers_large (form_in c.args.form) (reading g.B.ReaderArena c.args.from) c.args.count (length (segment (g.A.BuilderArena.view c.args.arena.now).words c.args.id)) ((g.A.BuilderArena.view c.args.arena.now).room c.args.id) (no_pointers_room (form_in c.args.form) (reading g.B.ReaderArena c.args.from) c.args.count c.args.id (g.A.BuilderArena.view c.args.arena.now) full))) none.1));
+          c.in_err-start.ensures.memory.named c.in_err-start.ensures.refused full in rw (p.1, p.2) (halfway (inl (inl (c.args.count, refl, refl, (none.0, no_own_room (g.A.BuilderArena.view c.args.arena.now) c.args.id c.args.count full)), pointers_large (form_in c.args.form) (reading g.B.ReaderArena c.args.from) c.args.count (length (segment (g.A.BuilderArena.view c.args.arena.now).words c.args.id)) ((g.A.BuilderArena.view c.args.arena.now).room c.args.id) (no_pointers_room (form_in c.args.form) (reading g.B.ReaderArena c.args.from) c.args.count c.args.id (g.A.BuilderArena.view c.args.arena.now) full))) none.1));
       taken = rw p.1 (inl (refl, made_none (none_refused (g.A.BuilderArena.view c.args.arena.now) (g.A.BuilderArena.view c.make_list.new.arena) c.args.count c.in_err-start.field-0.0 c.in_err-start.ensures.memory.named c.in_err-start.ensures.refused)));
     }
 
@@ -481,7 +534,7 @@ lists::copy_structs-copy_elements-requires g t c κs within =
     rows_inside c.in_ok-list.list.at (c.args.count * (least.data_words + least.pointers)) begun.inside.1 in
     let ZERO : (i : ℕ) → i < c.args.count * (least.data_words + least.pointers) → word_at M c.in_ok-list.list.segment (c.in_ok-list.list.at + 1 + i) ≡ 0 = structs_ready S M c.args.id c.args.at least.data_words least.pointers c.args.count c.in_ok-list.list begun in
     let POINTERS : KeepsPointers (form_in c.args.form) from (record { source = c.args.size; kept = least }) c.args.count = widths_keep (form_in c.args.form) from (record { source = c.args.size; kept = least }) c.args.count c.kept_widths-kept.ensures.kept in
-    search rules
+    (omega (arith, c.decreases), (within.0, (within.1, (ROOM, (ZERO, (c.requires.inside, (c.kept_widths-kept.ensures.less_data, (c.kept_widths-kept.ensures.less_pointers, POINTERS))))))))
 
 pub lists::copy_structs-returns : goal.lists::copy_structs-returns
 lists::copy_structs-returns g t c =
@@ -489,27 +542,27 @@ lists::copy_structs-returns g t c =
     let less = no_wider c.args.count least.data_words least.pointers c.args.size.data_words c.args.size.pointers c.kept_widths-kept.ensures.less_data c.kept_widths-kept.ensures.less_pointers in
     record {
       copied = (let begun : ObjectBegun c.args.id c.args.at (1 + c.args.count * (least.data_words + least.pointers)) (g.A.BuilderArena.view c.args.arena.now) (g.A.BuilderArena.view c.make_struct_list.new.arena) c.in_ok-list.list (zero_structs c.args.count least) =
-    record { begun = record { made = c.in_ok-list.ensures.made; start = c.in_ok-list.ensures.start.leads; inside = c.in_ok-list.ensures.start.inside }; memory = c.in_ok-list.ensures.memory.granted } in ok_so c.copy_elements.result c.copy_elements.ensures.copied (λ x made. structs_copied c.requires.inside c.kept_widths-kept.ensures.kept begun (record { place = c.requires.place; memory = c.in_ok-list.ensures.memory.granted; taken = c.in_ok-list.ensures.memory.taken; behind = c.in_ok-list.ensures.start.behind; near = c.in_ok-list.ensures.near }) made));
+          record { begun = record { made = c.in_ok-list.ensures.made; start = c.in_ok-list.ensures.start.leads; inside = c.in_ok-list.ensures.start.inside }; memory = c.in_ok-list.ensures.memory.granted } in ok_so c.copy_elements.result c.copy_elements.ensures.copied (λ x made. structs_copied c.requires.inside c.kept_widths-kept.ensures.kept begun (record { place = c.requires.place; memory = c.in_ok-list.ensures.memory.granted; taken = c.in_ok-list.ensures.memory.taken; behind = c.in_ok-list.ensures.start.behind; near = c.in_ok-list.ensures.near }) made));
       refused = (let begun : ObjectBegun c.args.id c.args.at (1 + c.args.count * (least.data_words + least.pointers)) (g.A.BuilderArena.view c.args.arena.now) (g.A.BuilderArena.view c.make_struct_list.new.arena) c.in_ok-list.list (zero_structs c.args.count least) =
-    record { begun = record { made = c.in_ok-list.ensures.made; start = c.in_ok-list.ensures.start.leads; inside = c.in_ok-list.ensures.start.inside }; memory = c.in_ok-list.ensures.memory.granted } in err_so c.copy_elements.result c.copy_elements.ensures.refused (λ k stop. structs_stop c.requires.inside
-    c.kept_widths-kept.ensures.kept begun (record {
-      place = c.requires.place;
-      memory = c.in_ok-list.ensures.memory.granted;
-      taken = c.in_ok-list.ensures.memory.taken;
-      behind = c.in_ok-list.ensures.start.behind;
-      near = c.in_ok-list.ensures.near;
-    }) (one_more less) stop));
+          record { begun = record { made = c.in_ok-list.ensures.made; start = c.in_ok-list.ensures.start.leads; inside = c.in_ok-list.ensures.start.inside }; memory = c.in_ok-list.ensures.memory.granted } in err_so c.copy_elements.result c.copy_elements.ensures.refused (λ k stop. structs_stop c.requires.inside
+          c.kept_widths-kept.ensures.kept begun (record {
+            place = c.requires.place;
+            memory = c.in_ok-list.ensures.memory.granted;
+            taken = c.in_ok-list.ensures.memory.taken;
+            behind = c.in_ok-list.ensures.start.behind;
+            near = c.in_ok-list.ensures.near;
+          }) (one_more less) stop));
       taken = (let begun : Begins c.args.id c.in_ok-list.list.segment (1 + c.args.count * (least.data_words + least.pointers)) (g.A.BuilderArena.view c.args.arena.now) (g.A.BuilderArena.view c.make_struct_list.new.arena) =
-    record {
-      there = there (g.A.BuilderArena.view c.args.arena.now).words c.args.id c.args.at c.requires.place;
-      taken = c.in_ok-list.ensures.memory.taken;
-      memory = c.in_ok-list.ensures.memory.granted;
-      near = λ room. (c.in_ok-list.ensures.start.behind.near (some_more _) room).0;
-      far = λ full. (c.in_ok-list.ensures.start.behind.far full).0;
-    } in taken_so c.copy_elements.result _ _ _ _
-    (λ x. structs_behind _ (record { source = c.args.size; kept = c.kept_widths-kept.result }) _ _ _ _ _ _ _ _ _ _ begun (one_more less) x)
-    (λ x. structs_stop_behind _ (record { source = c.args.size; kept = c.kept_widths-kept.result }) _ _ _ _ _ _ _ _ _ _ begun (one_more less) x)
-    c.copy_elements.ensures.taken);
+          record {
+            there = there (g.A.BuilderArena.view c.args.arena.now).words c.args.id c.args.at c.requires.place;
+            taken = c.in_ok-list.ensures.memory.taken;
+            memory = c.in_ok-list.ensures.memory.granted;
+            near = λ room. (c.in_ok-list.ensures.start.behind.near (some_more _) room).0;
+            far = λ full. (c.in_ok-list.ensures.start.behind.far full).0;
+          } in taken_so c.copy_elements.result _ _ _ _
+          (λ x. structs_behind _ (record { source = c.args.size; kept = c.kept_widths-kept.result }) _ _ _ _ _ _ _ _ _ _ begun (one_more less) x)
+          (λ x. structs_stop_behind _ (record { source = c.args.size; kept = c.kept_widths-kept.result }) _ _ _ _ _ _ _ _ _ _ begun (one_more less) x)
+          c.copy_elements.ensures.taken);
     }
 
 pub lists::copy_structs-returns-in_err-list : goal.lists::copy_structs-returns-in_err-list
@@ -519,7 +572,7 @@ lists::copy_structs-returns-in_err-list g t c =
     record {
       copied = rw p.1 tt;
       refused = (let full : HasRoom (g.A.BuilderArena.view c.args.arena.now) c.args.id (1 + c.args.count * (least.data_words + least.pointers)) → ⊥ = λ room. absurd (false≢true (c.in_err-list.ensures.memory.fits room)) in let none = nothing_made (form_in c.args.form) c.args.id c.args.at (1 + c.args.count * (least.data_words + least.pointers)) (g.A.BuilderArena.view c.args.arena.now) (g.A.BuilderArena.view c.make_struct_list.new.arena) c.args.lim.now c.args.lim.now c.in_err-list.field-0.0 c.requires.place c.requires.null
-    c.in_err-list.ensures.memory.named c.in_err-list.ensures.refused full in rw (p.1, p.2) (halfway (inl (inl (1 + c.args.count * (least.data_words + least.pointers), refl, ap (structs_words c.args.count) c.kept_widths-kept.ensures.kept, (none.0, no_own_room (g.A.BuilderArena.view c.args.arena.now) c.args.id (1 + c.args.count * (least.data_words + least.pointers)) full)), structs_large (form_in c.args.form) (reading g.B.ReaderArena c.args.from) c.args.size c.args.count (length (segment (g.A.BuilderArena.view c.args.arena.now).words c.args.id)) ((g.A.BuilderArena.view c.args.arena.now).room c.args.id) (no_structs_room (reading g.B.ReaderArena c.args.from) c.args.size least c.args.count c.args.id (g.A.BuilderArena.view c.args.arena.now) (form_in c.args.form) c.requires.inside c.kept_widths-kept.ensures.kept full))) none.1));
+          c.in_err-list.ensures.memory.named c.in_err-list.ensures.refused full in rw (p.1, p.2) (halfway (inl (inl (1 + c.args.count * (least.data_words + least.pointers), refl, ap (structs_words c.args.count) c.kept_widths-kept.ensures.kept, (none.0, no_own_room (g.A.BuilderArena.view c.args.arena.now) c.args.id (1 + c.args.count * (least.data_words + least.pointers)) full)), structs_large (form_in c.args.form) (reading g.B.ReaderArena c.args.from) c.args.size c.args.count (length (segment (g.A.BuilderArena.view c.args.arena.now).words c.args.id)) ((g.A.BuilderArena.view c.args.arena.now).room c.args.id) (no_structs_room (reading g.B.ReaderArena c.args.from) c.args.size least c.args.count c.args.id (g.A.BuilderArena.view c.args.arena.now) (form_in c.args.form) c.requires.inside c.kept_widths-kept.ensures.kept full))) none.1));
       taken = rw p.1 (inl (refl, made_none (none_refused (g.A.BuilderArena.view c.args.arena.now) (g.A.BuilderArena.view c.make_struct_list.new.arena) (1 + c.args.count * (least.data_words + least.pointers)) c.in_err-list.field-0.0 c.in_err-list.ensures.memory.named c.in_err-list.ensures.refused)));
     }
 
@@ -532,17 +585,17 @@ structs::copy_struct-returns-in_err-start g t c =
     record {
       copied = rw p.1 tt;
       refused = (let full : HasRoom (g.A.BuilderArena.view c.args.arena.now) c.args.id (least.data_words + least.pointers) → ⊥ = λ room. absurd (false≢true (c.in_err-start.ensures.memory.fits room)) in let none = nothing_made (form_in c.args.form) c.args.id c.args.at (least.data_words + least.pointers) (g.A.BuilderArena.view c.args.arena.now) (g.A.BuilderArena.view c.make_struct.new.arena) c.args.lim.now c.args.lim.now c.in_err-start.field-0.0 c.requires.place c.requires.null
-    c.in_err-start.ensures.memory.named c.in_err-start.ensures.refused full in let r : Reading = reading g.B.ReaderArena c.args.from in let cut : SectionsCut (form_in c.args.form) (words_from r c.args.size.data_words) (behind r
-    c.args.size.data_words) c.args.size.pointers least = record {
-      inside = behind_inside
-          c.args.from.place.at c.args.size.data_words c.args.size.pointers c.requires.inside;
-      of_data = c.kept_sections-kept.ensures.data;
-      of_pointers = c.kept_sections-kept.ensures.pointers;
-    } in let makes = ap₂ (λ i j. i + j) cut.of_data cut.of_pointers in rw (p.1, p.2) (halfway (inl (
-      inl (least.data_words + least.pointers, refl, makes, (none.0, no_own_room (g.A.BuilderArena.view c.args.arena.now) c.args.id (least.data_words + least.pointers) full)),
-      sections_large (form_in c.args.form) (words_from r c.args.size.data_words) (behind r c.args.size.data_words) c.args.size.pointers (length (segment (g.A.BuilderArena.view c.args.arena.now).words c.args.id)) ((g.A.BuilderArena.view c.args.arena.now).room c.args.id)
-          (no_sections_room c.args.id (g.A.BuilderArena.view c.args.arena.now) (form_in c.args.form) cut full),
-    )) none.1));
+          c.in_err-start.ensures.memory.named c.in_err-start.ensures.refused full in let r : Reading = reading g.B.ReaderArena c.args.from in let cut : SectionsCut (form_in c.args.form) (words_from r c.args.size.data_words) (behind r
+          c.args.size.data_words) c.args.size.pointers least = record {
+            inside = behind_inside
+                c.args.from.place.at c.args.size.data_words c.args.size.pointers c.requires.inside;
+            of_data = c.kept_sections-kept.ensures.data;
+            of_pointers = c.kept_sections-kept.ensures.pointers;
+          } in let makes = ap₂ (λ i j. i + j) cut.of_data cut.of_pointers in rw (p.1, p.2) (halfway (inl (
+            inl (least.data_words + least.pointers, refl, makes, (none.0, no_own_room (g.A.BuilderArena.view c.args.arena.now) c.args.id (least.data_words + least.pointers) full)),
+            sections_large (form_in c.args.form) (words_from r c.args.size.data_words) (behind r c.args.size.data_words) c.args.size.pointers (length (segment (g.A.BuilderArena.view c.args.arena.now).words c.args.id)) ((g.A.BuilderArena.view c.args.arena.now).room c.args.id)
+                (no_sections_room c.args.id (g.A.BuilderArena.view c.args.arena.now) (form_in c.args.form) cut full),
+          )) none.1));
       taken = rw p.1 (inl (refl, made_none (none_refused (g.A.BuilderArena.view c.args.arena.now) (g.A.BuilderArena.view c.make_struct.new.arena) (least.data_words + least.pointers) c.in_err-start.field-0.0 c.in_err-start.ensures.memory.named c.in_err-start.ensures.refused)));
     }
 
@@ -556,53 +609,53 @@ structs::copy_struct-returns g t c =
     (rw (c.from-data_words.ensures, held) at c.part-data.ensures.words) ∙ sym (words_taken r.segments r.segment r.at least.data_words c.args.size.data_words c.kept_sections-kept.ensures.less_data) in
     record {
       copied = (let begun : SectionsBegun (form_in c.args.form) (words_from r c.args.size.data_words) (behind r c.args.size.data_words) c.args.size.pointers least c.args.id c.args.at (g.A.BuilderArena.view c.args.arena.now) (g.A.BuilderArena.view c.make_struct.new.arena) (g.A.BuilderArena.view c.put_words.new.arena) c.in_ok-start.start = record {
-      cut = record {
-        inside = behind_inside c.args.from.place.at c.args.size.data_words c.args.size.pointers
-            c.requires.inside;
-        of_data = c.kept_sections-kept.ensures.data;
-        of_pointers = c.kept_sections-kept.ensures.pointers;
-      };
-      begun = record { made = c.in_ok-start.ensures.made; start = c.in_ok-start.ensures.start.leads; inside = c.in_ok-start.ensures.start.inside };
-      memory = c.in_ok-start.ensures.memory.granted;
-      writes = rw section at c.put_words.ensures.words;
-      place = c.requires.place;
-      within = g.met.A.BuilderArena.within c.put_words.new.arena c.in_ok-start.start.segment;
-      taken = c.in_ok-start.ensures.memory.taken;
-      behind = c.in_ok-start.ensures.start.behind;
-      near = c.in_ok-start.ensures.near;
-      empty = c.in_ok-start.ensures.empty;
-    } in ok_so c.copy_children.result c.copy_children.ensures.copied (λ x made. sections_copied begun (rw (c.from.ensures, c.from-2.ensures, c.from-pointers.ensures, nl) at made)));
+        cut = record {
+          inside = behind_inside c.args.from.place.at c.args.size.data_words c.args.size.pointers
+              c.requires.inside;
+          of_data = c.kept_sections-kept.ensures.data;
+          of_pointers = c.kept_sections-kept.ensures.pointers;
+        };
+        begun = record { made = c.in_ok-start.ensures.made; start = c.in_ok-start.ensures.start.leads; inside = c.in_ok-start.ensures.start.inside };
+        memory = c.in_ok-start.ensures.memory.granted;
+        writes = rw section at c.put_words.ensures.words;
+        place = c.requires.place;
+        within = g.met.A.BuilderArena.within c.put_words.new.arena c.in_ok-start.start.segment;
+        taken = c.in_ok-start.ensures.memory.taken;
+        behind = c.in_ok-start.ensures.start.behind;
+        near = c.in_ok-start.ensures.near;
+        empty = c.in_ok-start.ensures.empty;
+      } in ok_so c.copy_children.result c.copy_children.ensures.copied (λ x made. sections_copied begun (rw (c.from.ensures, c.from-2.ensures, c.from-pointers.ensures, nl) at made)));
       refused = (let begun : SectionsBegun (form_in c.args.form) (words_from r c.args.size.data_words) (behind r c.args.size.data_words) c.args.size.pointers least c.args.id c.args.at (g.A.BuilderArena.view c.args.arena.now) (g.A.BuilderArena.view c.make_struct.new.arena) (g.A.BuilderArena.view c.put_words.new.arena) c.in_ok-start.start = record {
-      cut = record {
-        inside = behind_inside c.args.from.place.at c.args.size.data_words c.args.size.pointers
-            c.requires.inside;
-        of_data = c.kept_sections-kept.ensures.data;
-        of_pointers = c.kept_sections-kept.ensures.pointers;
-      };
-      begun = record { made = c.in_ok-start.ensures.made; start = c.in_ok-start.ensures.start.leads; inside = c.in_ok-start.ensures.start.inside };
-      memory = c.in_ok-start.ensures.memory.granted;
-      writes = rw section at c.put_words.ensures.words;
-      place = c.requires.place;
-      within = g.met.A.BuilderArena.within c.put_words.new.arena c.in_ok-start.start.segment;
-      taken = c.in_ok-start.ensures.memory.taken;
-      behind = c.in_ok-start.ensures.start.behind;
-      near = c.in_ok-start.ensures.near;
-      empty = c.in_ok-start.ensures.empty;
-    } in err_so c.copy_children.result c.copy_children.ensures.refused (λ k stop. sections_stop begun (rw (c.from.ensures, c.from-2.ensures, c.from-pointers.ensures, nl) at stop)));
+        cut = record {
+          inside = behind_inside c.args.from.place.at c.args.size.data_words c.args.size.pointers
+              c.requires.inside;
+          of_data = c.kept_sections-kept.ensures.data;
+          of_pointers = c.kept_sections-kept.ensures.pointers;
+        };
+        begun = record { made = c.in_ok-start.ensures.made; start = c.in_ok-start.ensures.start.leads; inside = c.in_ok-start.ensures.start.inside };
+        memory = c.in_ok-start.ensures.memory.granted;
+        writes = rw section at c.put_words.ensures.words;
+        place = c.requires.place;
+        within = g.met.A.BuilderArena.within c.put_words.new.arena c.in_ok-start.start.segment;
+        taken = c.in_ok-start.ensures.memory.taken;
+        behind = c.in_ok-start.ensures.start.behind;
+        near = c.in_ok-start.ensures.near;
+        empty = c.in_ok-start.ensures.empty;
+      } in err_so c.copy_children.result c.copy_children.ensures.refused (λ k stop. sections_stop begun (rw (c.from.ensures, c.from-2.ensures, c.from-pointers.ensures, nl) at stop)));
       taken = (let made = struct_begins c.args.id c.args.at least (g.A.BuilderArena.view c.args.arena.now) (g.A.BuilderArena.view c.make_struct.new.arena) c.in_ok-start.start c.requires.place c.in_ok-start.ensures.memory.taken c.in_ok-start.ensures.memory.granted c.in_ok-start.ensures.start.behind c.in_ok-start.ensures.start.leads c.in_ok-start.ensures.empty in let put = c.put_words.ensures.taken in let last = none_itself (g.A.BuilderArena.view c.copy_children.new.arena) in let fewer = c.kept_sections-kept.ensures.less_pointers in let cut : SectionsCut (form_in c.args.form) (words_from r c.args.size.data_words) (behind r
-    c.args.size.data_words) c.args.size.pointers least = record {
-      inside = behind_inside
-          c.args.from.place.at c.args.size.data_words c.args.size.pointers c.requires.inside;
-      of_data = c.kept_sections-kept.ensures.data;
-      of_pointers = c.kept_sections-kept.ensures.pointers;
-    } in let long = length_words r.segments r.segment r.at c.args.size.data_words (part_inside
-    c.args.from.place.at c.args.size.data_words c.args.size.data_words c.args.size.pointers
-    c.requires.inside (le_refl _)) in let less : least.data_words + least.pointers ≤ length (words_from r c.args.size.data_words) +
-    c.args.size.pointers = fewer_words c.kept_sections-kept.ensures.less_data fewer long in taken_so c.copy_children.result _ _ _ _ (λ x. sections_behind (words_from r c.args.size.data_words) (behind r c.args.size.data_words) c.args.size.pointers least.pointers (least.data_words + least.pointers) _ _ _ _ _ _ _ _ cut.inside cut.of_pointers made less (all_within put last x))
-    (λ x. sections_stop_behind (words_from r c.args.size.data_words) (behind r c.args.size.data_words)
-    c.args.size.pointers least.pointers (least.data_words + least.pointers) _ _ _ _ _ _ _ _ fewer made
-    less (among_within (le_refl _) put last x))
-    (rw (c.from.ensures, c.from-pointers.ensures, nl) at c.copy_children.ensures.taken));
+          c.args.size.data_words) c.args.size.pointers least = record {
+            inside = behind_inside
+                c.args.from.place.at c.args.size.data_words c.args.size.pointers c.requires.inside;
+            of_data = c.kept_sections-kept.ensures.data;
+            of_pointers = c.kept_sections-kept.ensures.pointers;
+          } in let long = length_words r.segments r.segment r.at c.args.size.data_words (part_inside
+          c.args.from.place.at c.args.size.data_words c.args.size.data_words c.args.size.pointers
+          c.requires.inside (le_refl _)) in let less : least.data_words + least.pointers ≤ length (words_from r c.args.size.data_words) +
+          c.args.size.pointers = fewer_words c.kept_sections-kept.ensures.less_data fewer long in taken_so c.copy_children.result _ _ _ _ (λ x. sections_behind (words_from r c.args.size.data_words) (behind r c.args.size.data_words) c.args.size.pointers least.pointers (least.data_words + least.pointers) _ _ _ _ _ _ _ _ cut.inside cut.of_pointers made less (all_within put last x))
+          (λ x. sections_stop_behind (words_from r c.args.size.data_words) (behind r c.args.size.data_words)
+          c.args.size.pointers least.pointers (least.data_words + least.pointers) _ _ _ _ _ _ _ _ fewer made
+          less (among_within (le_refl _) put last x))
+          (rw (c.from.ensures, c.from-pointers.ensures, nl) at c.copy_children.ensures.taken));
     }
 
 pub structs::copy_struct-copy_children-requires : goal.structs::copy_struct-copy_children-requires
@@ -631,7 +684,8 @@ structs::copy_struct-copy_children-requires g t c κs within =
       empty = c.in_ok-start.ensures.empty;
     } in
     let NULLS : HasNulls N c.in_ok-start.start.segment (c.in_ok-start.start.at + c.from-2.result) c.from-pointers.result = rw (c.from-2.ensures, c.from-pointers.ensures) (record { room = sections_fit begun; null = sections_null begun }) in
-    search rules
+    let nl = to_z-of_z w32 c.args.from.nesting_limit (search rules) in
+    (omega (arith, ap levels nl, c.decreases), (within.0, (within.1, (NULLS, rw (c.from.ensures, c.from-pointers.ensures) (omega (arith, c.requires.inside))))))
 
 pub structs::copy_struct-overflow_add-first : goal.structs::copy_struct-overflow_add-first
 structs::copy_struct-overflow_add-first g t c =
