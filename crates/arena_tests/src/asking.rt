@@ -4,7 +4,6 @@ use capnp_arena::arena::{
     Allocator, BuilderArena, BuilderArenaImpl, HeapAllocator, OutputSegments, ReaderArena,
     ReaderSegments,
 };
-use capnp_words::error::ErrorKind;
 use capnp_words::read_limiter::ReadLimiter;
 use std::process::Abort;
 use test_support::{FirstInArena, NotingAllocator, Request};
@@ -15,6 +14,9 @@ fn write_words<A: BuilderArena>(rt: &impl Abort, arena: &mut A) {
     arena.set_word(0, 1, 7);
     arena.copy_words(0, 0, b"99999999");
     arena.zero_words(0, 1, 1);
+}
+
+fn take_words<A: BuilderArena>(rt: &impl Abort, arena: &mut A) {
     assert!(rt; take_of(rt, arena, 0, 2) == None);
     assert!(rt; take_of(rt, arena, 0, 0) == Some(3));
     assert!(rt; take(arena, 1) == Ok((0, 3)));
@@ -34,18 +36,18 @@ fn read_words<A: BuilderArena>(rt: &impl Abort, arena: &A) {
 /// Words in a segment with room, the words of a segment to be written, one segment to be given out, and
 /// what is read: none of it asks for anything.
 #[test]
-fn nothing_is_asked(rt: HostRuntime) -> Result<(), ErrorKind> {
+fn nothing_is_asked(rt: HostRuntime) {
     let heap = HeapAllocator::new(rt.alloc(), 4);
     let mut arena = BuilderArenaImpl::new(rt.alloc(), NotingAllocator::new(rt.alloc(), heap));
-    arena.allocate_segment(1)?;
+    arena.allocate_segment(1).expect(&rt, "memory");
     write_words(&rt, &mut arena);
-    let output = arena.get_segments_for_output()?;
+    take_words(&rt, &mut arena);
+    let output = arena.get_segments_for_output().expect(&rt, "memory");
     assert!(rt; matches!(output, OutputSegments::SingleSegment(_)));
     drop(output);
     read_words(&rt, &arena);
     assert!(rt; arena.len() == 1);
     assert!(rt; asked_once(arena.into_allocator().requests(), 1, 1, 0));
-    Ok(())
 }
 
 /// A segment is asked for with just the words that found no room, and its row.
@@ -81,21 +83,17 @@ fn use_segment<A: BuilderArena>(rt: &impl Abort, arena: &mut A, id: u32) {
 
 /// Makes so many segments of two words in an arena, does in each what asks for nothing, and has all given out. Gives the
 /// allocator.
-fn use_all<A: Allocator>(
-    rt: &impl Abort,
-    mut arena: BuilderArenaImpl<A>,
-    segments: u32,
-) -> Result<A, ErrorKind> {
+fn use_all<A: Allocator>(rt: &impl Abort, mut arena: BuilderArenaImpl<A>, segments: u32) -> A {
     for _ in 0..segments {
-        arena.allocate_segment(2)?;
+        arena.allocate_segment(2).expect(rt, "memory");
     }
     for id in 0..segments {
         use_segment(rt, &mut arena, id);
     }
     let count = segments as usize;
     assert!(rt; arena.size_in_words() / 2 == arena.len() && arena.len() == count);
-    assert!(rt; arena.get_segments_for_output()?.len() == count);
-    Ok(arena.into_allocator())
+    assert!(rt; arena.get_segments_for_output().expect(rt, "memory").len() == count);
+    arena.into_allocator()
 }
 
 /// Whether each segment of so many words was asked for once, each with its row but for those that need none, and nothing else.
@@ -114,24 +112,22 @@ fn asked_once(requests: &[Request], words: u32, segments: usize, rowless: usize)
 
 /// However many segments there are, each request is for a segment or its row.
 #[test]
-fn nothing_is_asked_of_many(rt: HostRuntime) -> Result<(), ErrorKind> {
+fn nothing_is_asked_of_many(rt: HostRuntime) {
     for segments in [1, 10, 1_000] {
         let noting = NotingAllocator::new(rt.alloc(), HeapAllocator::new(rt.alloc(), 0));
         let arena = BuilderArenaImpl::new(rt.alloc(), noting);
-        let allocator = use_all(&rt, arena, segments)?;
+        let allocator = use_all(&rt, arena, segments);
         assert!(rt; asked_once(allocator.requests(), 2, segments as usize, 0));
     }
-    Ok(())
 }
 
 /// The same where the first needs no row.
 #[test]
-fn nothing_is_asked_behind_the_first(rt: HostRuntime) -> Result<(), ErrorKind> {
+fn nothing_is_asked_behind_the_first(rt: HostRuntime) {
     for segments in [1, 10, 1_000] {
         let noting = NotingAllocator::new(rt.alloc(), HeapAllocator::new(rt.alloc(), 0));
         let arena = BuilderArenaImpl::new(rt.alloc(), FirstInArena::new(noting));
-        let allocator = use_all(&rt, arena, segments)?;
+        let allocator = use_all(&rt, arena, segments);
         assert!(rt; asked_once(allocator.inner().requests(), 2, segments as usize, 1));
     }
-    Ok(())
 }

@@ -2,28 +2,25 @@
 use capnp_arena::arena::{
     BuilderArena, BuilderArenaImpl, HeapAllocator, OutputSegments, ReaderArena, ReaderSegments,
 };
-use capnp_words::error::ErrorKind;
 use std::alloc::Global;
 use std::process::Abort;
 use test_support::has_words;
 
 /// Whether these segments are given out, as one where there is one.
-fn gives(arena: &BuilderArenaImpl<HeapAllocator>, want: &[&[u8]]) -> Result<bool, ErrorKind> {
-    let output = arena.get_segments_for_output()?;
+fn gives(rt: &impl Abort, arena: &BuilderArenaImpl<HeapAllocator>, want: &[&[u8]]) -> bool {
+    let output = arena.get_segments_for_output().expect(rt, "memory");
     let is_single = matches!(output, OutputSegments::SingleSegment(_));
     let mut id = 0u32;
     for segment in want {
         if output.get_segment(id) != Some(*segment) {
-            return Ok(false);
+            return false;
         }
         id = id.saturating_add(1);
     }
-    Ok(
-        output.len() == want.len()
-            && output.is_empty() == want.is_empty()
-            && output.get_segment(id).is_none()
-            && is_single == (want.len() == 1),
-    )
+    output.len() == want.len()
+        && output.is_empty() == want.is_empty()
+        && output.get_segment(id).is_none()
+        && is_single == (want.len() == 1)
 }
 
 /// Takes two words, and writes the second.
@@ -50,19 +47,14 @@ fn write_words<A: BuilderArena>(rt: &impl Abort, arena: &mut A) {
 
 /// No segment, one, and two are given out.
 #[test]
-fn words_given_out(rt: HostRuntime) -> Result<(), ErrorKind> {
+fn words_given_out(rt: HostRuntime) {
     let mut arena = BuilderArenaImpl::new(rt.alloc(), HeapAllocator::new(rt.alloc(), 2));
-    assert!(rt; gives(&arena, &[])?);
-    arena.allocate_segment(1)?;
+    assert!(rt; gives(&rt, &arena, &[]));
+    arena.allocate_segment(1).expect(&rt, "memory");
     write_word(&rt, rt.alloc(), &mut arena);
-    assert!(rt;
-        gives(
-            &arena,
-            &[b"\0\0\0\0\0\0\0\0\x01\x02\x03\x04\x05\x06\x07\x08"]
-        )?
-    );
+    let word = b"\0\0\0\0\0\0\0\0\x01\x02\x03\x04\x05\x06\x07\x08";
+    assert!(rt; gives(&rt, &arena, &[word]));
     write_words(&rt, &mut arena);
-    arena.allocate_segment(0)?;
-    assert!(rt; gives(&arena, &[b"99999999\0\0\0\0\0\0\0\0", b""])?);
-    Ok(())
+    arena.allocate_segment(0).expect(&rt, "memory");
+    assert!(rt; gives(&rt, &arena, &[b"99999999\0\0\0\0\0\0\0\0", b""]));
 }

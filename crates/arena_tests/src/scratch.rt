@@ -3,13 +3,9 @@ use crate::steps::{take, take_of};
 use capnp_arena::arena::{
     Allocator, BuilderArena, BuilderArenaImpl, ScratchSegment, ScratchSpaceHeapAllocator, Segment,
 };
-use capnp_words::error::ErrorKind;
 use std::alloc::Global;
 use std::process::Abort;
 use test_support::has_words;
-
-/// Two words.
-const ZEROS: &[u8] = b"\0\0\0\0\0\0\0\0\0\0\0\0\0\0\0\0";
 
 /// The first segment is four words of zero. They are written, and outgrown.
 fn outgrow<A: BuilderArena>(rt: &impl Abort, alloc: Global, arena: &mut A) {
@@ -30,47 +26,45 @@ fn use_once<'a>(
     rt: &impl Abort,
     alloc: Global,
     allocator: ScratchSpaceHeapAllocator<'a>,
-) -> Result<ScratchSpaceHeapAllocator<'a>, ErrorKind> {
+) -> ScratchSpaceHeapAllocator<'a> {
     let mut arena = BuilderArenaImpl::new(alloc, allocator);
-    arena.allocate_segment(1)?;
+    arena.allocate_segment(1).expect(rt, "memory");
     outgrow(rt, alloc, &mut arena);
-    Ok(arena.into_allocator())
+    arena.into_allocator()
 }
 
 /// It is handed out again once it came back.
 #[test]
-fn handed_out_again(rt: HostRuntime) -> Result<(), ErrorKind> {
+fn handed_out_again(rt: HostRuntime) {
     let mut scratch = [0xff; 35];
     let allocator = ScratchSpaceHeapAllocator::new(rt.alloc(), &mut scratch, 0);
-    let allocator = use_once(&rt, rt.alloc(), allocator)?;
-    drop(use_once(&rt, rt.alloc(), allocator)?);
-    Ok(())
+    let allocator = use_once(&rt, rt.alloc(), allocator);
+    drop(use_once(&rt, rt.alloc(), allocator));
 }
 
-/// Asks for a segment.
-fn segment<'a>(
-    allocator: &mut ScratchSpaceHeapAllocator<'a>,
+/// Asks for a segment: whether it is lent, and its bytes.
+fn check_segment(
+    rt: &impl Abort,
+    allocator: &mut ScratchSpaceHeapAllocator<'_>,
     words: u32,
-) -> Result<ScratchSegment<&'a mut [u8]>, ErrorKind> {
-    allocator.allocate_segment(words)
+    (is_lent, bytes): (bool, usize),
+) {
+    let segment = allocator.allocate_segment(words).expect(rt, "memory");
+    assert!(rt; matches!(segment, ScratchSegment::Borrowed(_)) == is_lent);
+    assert!(rt; segment.bytes() == &[0; 32][..bytes.min(32)]);
 }
 
 /// It is handed out once, for what it can hold, and not where it has no whole word.
 #[test]
-fn borrowed_or_owned(rt: HostRuntime) -> Result<(), ErrorKind> {
+fn borrowed_or_owned(rt: HostRuntime) {
     let mut scratch = [0xff; 16];
     let mut allocator = ScratchSpaceHeapAllocator::new(rt.alloc(), &mut scratch, 3);
-    let larger = segment(&mut allocator, 4)?;
-    assert!(rt; matches!(larger, ScratchSegment::Owned(_)) && larger.bytes().len() == 32);
-    let lent = segment(&mut allocator, 2)?;
-    assert!(rt; matches!(lent, ScratchSegment::Borrowed(_)) && lent.bytes() == ZEROS);
-    let other = segment(&mut allocator, 2)?;
-    assert!(rt; matches!(other, ScratchSegment::Owned(_)) && other.bytes().len() == 24);
+    check_segment(&rt, &mut allocator, 4, (false, 32));
+    check_segment(&rt, &mut allocator, 2, (true, 16));
+    check_segment(&rt, &mut allocator, 2, (false, 24));
     let mut short = [0xff; 7];
     let mut allocator = ScratchSpaceHeapAllocator::new(rt.alloc(), &mut short, 0);
-    let none = segment(&mut allocator, 0)?;
-    assert!(rt; matches!(none, ScratchSegment::Owned(_)) && none.bytes().is_empty());
-    Ok(())
+    check_segment(&rt, &mut allocator, 0, (false, 0));
 }
 
 /// Zeros are written over all its bytes, also behind the last whole word.
