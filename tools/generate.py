@@ -37,7 +37,7 @@ def with_script(real, room, kept):
 def in_c(room, crate):
     """The C of a crate. Its module says nothing of a processor: it is compiled for the first one of x86-64."""
     module = room.at / f'{crate}.ll'
-    room.build(crate, room.at / f'{crate}.built', with_script(room.real, room.at / f'toolchain_of_{crate}', module), '--cpu', 'x86-64')
+    room.build(crate, room.at / f'{crate}.built', with_script(room.crates.kit, room.at / f'toolchain_of_{crate}', module), '--cpu', 'x86-64')
     writer = [sys.executable, '-B', str(proved.TOP / 'tools/c_of_module'), str(module), str(proved.TOP / 'c/capnp_canonical.h')]
     run = subprocess.run(writer, stdout=subprocess.PIPE, stderr=subprocess.PIPE, encoding='utf-8')
     if run.returncode:
@@ -52,7 +52,7 @@ def main(given):
     to.mkdir(parents=True, exist_ok=True)
     try:
         with proved.Room(proved.committed) as room:
-            room.prove_below(given[1:])
+            room.prove(given[1:])
             for crate in given[1:]:
                 (to / f'{crate}.c').write_text(in_c(room, crate), encoding='utf-8')
     except proved.Stopped as why:

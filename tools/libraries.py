@@ -1,15 +1,8 @@
-#!/usr/bin/env python3
 """The crates that `crates.txt` lists, the libraries of them that a run of `rt ci` or `rt check` has left, and the words by
 which the toolchain's program `rattle` is told of a crate over these. `rt check` and `rt lib` don't look at what `rt ci`
-left, and would prove it again.
-
-    libraries.py build CRATE FILE    builds the static library CRATE over them, which proves that crate alone
-    libraries.py lacking CRATE       prints the first library below it that isn't built of the sources as they stand, if one isn't
-
-The exit status of `build` is 3 where a library isn't built of the sources as they stand."""
+left, and would prove it again."""
 import pathlib
 import subprocess
-import sys
 
 TOP = pathlib.Path(__file__).resolve().parents[1]
 # What a check reads of a crate.
@@ -17,13 +10,14 @@ PARTS = 'src', 'specs', 'proofs'
 
 
 class Crates:
-    """The crates: which each stands on, and of what kind it is; and the folder of the toolchain."""
+    """The crates of a tree, which is this one if left out: what each stands on, and of what kind it is; and the folder of the toolchain."""
 
-    def __init__(self):
+    def __init__(self, top=TOP):
+        self.top = top
         page = subprocess.run(['rt', 'doc'], stdin=subprocess.DEVNULL, stdout=subprocess.PIPE, encoding='utf-8', check=True).stdout
         self.kit = pathlib.Path(page.strip()).parent
         self.stands_on, self.kind = {}, {}
-        for line in (TOP / 'crates.txt').read_text(encoding='utf-8').splitlines():
+        for line in (top / 'crates.txt').read_text(encoding='utf-8').splitlines():
             if line.strip() and not line.startswith('#'):
                 head, _, words = line.partition(':')
                 name, *kind = head.split()
@@ -39,7 +33,7 @@ class Crates:
 
     def rlib(self, name):
         """Where the library of a crate lies, or of the toolchain."""
-        return TOP / f'crates/{name}/out/rlib/{name}.rlib' if name in self.stands_on else self.kit / f'rlibs/{name}.rlib'
+        return self.top / f'crates/{name}/out/rlib/{name}.rlib' if name in self.stands_on else self.kit / f'rlibs/{name}.rlib'
 
     def lacking(self, name):
         """The first library below a crate that isn't built of the sources as they stand, or None."""
@@ -47,39 +41,17 @@ class Crates:
             if not (self.rlib(below) / 'format').is_file():
                 return below
             built = self.rlib(below).stat().st_mtime
-            files = (it for part in PARTS for it in (TOP / 'crates' / below / part).rglob('*') if it.is_file())
+            files = (it for part in PARTS for it in (self.top / 'crates' / below / part).rglob('*') if it.is_file())
             if any(it.stat().st_mtime > built for it in files):
                 return below
         return None
 
     def words(self, name):
         """What `rattle check` and `rattle build` are told of a crate, in its folder or in a copy of that."""
-        yield from ('--crate-name', name, 'src/main.rt' if (TOP / f'crates/{name}/src/main.rt').is_file() else 'src/lib.rt')
+        yield from ('--crate-name', name, 'src/main.rt' if (self.top / f'crates/{name}/src/main.rt').is_file() else 'src/lib.rt')
         for library in dict.fromkeys(['std', *self.stands_on[name]]):
             yield from ('--extern', f'{library}={self.rlib(library)}')
         for folder in [self.kit / 'rlibs', *(self.rlib(it).parent for it in self.below(name))]:
             yield from ('-L', f'dependency={folder}')
         yield from ('--antt-project', f'{self.kit}/rattle/logic/antt-project.json', '--logic-built', f'{self.kit}/logic_built')
         yield from ('--links', f'{name}=', *(['--crate-type', 'staticlib'] if 'staticlib' in self.kind[name] else []))
-
-
-def build(crates, name, file):
-    """Proves a crate over the libraries below it, and builds it as a static library; returns the status of that."""
-    words = [f'{crates.kit}/bin/rattle', 'build', *crates.words(name), '--toolchain', f'{crates.kit}/toolchain', '--progress', '-o', file]
-    return subprocess.run(words, cwd=TOP / 'crates' / name, stdin=subprocess.DEVNULL).returncode
-
-
-def main():
-    if len(sys.argv) not in (3, 4) or (sys.argv[1], len(sys.argv)) not in (('build', 4), ('lacking', 3)):
-        sys.exit(__doc__)
-    crates = Crates()
-    lacking = crates.lacking(sys.argv[2])
-    if sys.argv[1] == 'build':
-        return 3 if lacking else build(crates, sys.argv[2], str(pathlib.Path(sys.argv[3]).resolve()))
-    if lacking:
-        print(lacking)
-    return 0
-
-
-if __name__ == '__main__':
-    sys.exit(main())
