@@ -123,7 +123,7 @@ static void expect_looks(const char *digits, const char *wanted) {
 }
 
 /* The first bytes of `gzip`, `zstd`, `bzip2`, `xz` and `zip`, of a text, and what `capnp convert binary:packed` makes of the
- * struct of the numbers 2^32 and 42. */
+ * struct of the numbers 2^32 and 42. The words of that struct are a frame too. */
 static void test_looks(void) {
     expect_looks("1f8b080000000000", "gzip");
     expect_looks("28b52ffd24009900", "zstd");
@@ -132,7 +132,7 @@ static void test_looks(void) {
     expect_looks("504b030414000000", "a zip archive");
     expect_looks("2869642031290a", "text");
     expect_looks("10021001012a", "packed messages");
-    expect_looks("000000000200000000000000010000002a00000000000000", "bare canonical words");
+    expect_looks("000000000200000000000000010000002a00000000000000", NULL);
     expect_looks("fcffffff00000000", "bare canonical words");
     expect_looks("0000000003000000000000000100000005", NULL);
     expect_looks("0100000003000000000000000100000005", NULL);

@@ -23,7 +23,7 @@ lists_all() {
     (cd "$stage" && find . -type f -o -type l) | sed 's/^\.//' | sort >"$work/there"
     grep -v '/$' "$stage/usr/share/capnp_canonical/installed" >"$work/listed"
     echo /usr/share/capnp_canonical/installed >>"$work/listed"
-    sort -u "$work/listed" | grep -v '^/keep' | cmp - "$work/there"
+    sort -u "$work/listed" | cmp - "$work/there"
 }
 
 refuses() {

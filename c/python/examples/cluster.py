@@ -16,7 +16,6 @@ import mmap
 import os
 import sys
 import time
-from contextlib import contextmanager
 from dataclasses import dataclass, field
 from typing import Callable, Dict, List, Optional, Tuple
 
@@ -50,14 +49,12 @@ class Names:
     bytes: int = 0
 
 
-@contextmanager
-def mapped(name: str):
+def mapped(name: str) -> memoryview:
+    """The bytes of a file, which are read where they lie. They are let go with the last part that is held of them."""
     with open(name, 'rb') as file:
         if os.fstat(file.fileno()).st_size == 0:
-            yield b''
-            return
-        with mmap.mmap(file.fileno(), 0, access=mmap.ACCESS_READ) as content, memoryview(content) as view:
-            yield view
+            return memoryview(b'')
+        return memoryview(mmap.mmap(file.fileno(), 0, access=mmap.ACCESS_READ))
 
 
 def pieces_of(name: str, file: int, size: int) -> Tuple[List[Piece], Optional[str]]:
@@ -67,17 +64,14 @@ def pieces_of(name: str, file: int, size: int) -> Tuple[List[Piece], Optional[st
     first = number = 1
     refused = None
     try:
-        with mapped(name) as stream:
-            try:
-                for frame in frames(stream):
-                    at += len(frame)
-                    number += 1
-                    frame.release()
-                    if at - start >= size:
-                        pieces.append(Piece(file, start, at, first))
-                        start, first = at, number
-            except Error as error:
-                refused = f'{name}: {error}'
+        for frame in frames(mapped(name)):
+            at += len(frame)
+            number += 1
+            if at - start >= size:
+                pieces.append(Piece(file, start, at, first))
+                start, first = at, number
+    except Error as error:
+        refused = f'{name}: {error}'
     except OSError as error:
         refused = f'{name}: {error.strerror}'
     if at > start:
@@ -88,18 +82,16 @@ def pieces_of(name: str, file: int, size: int) -> Tuple[List[Piece], Optional[st
 def names_in(name: str, piece: Piece, buckets: int) -> Names:
     """The names of the messages of a piece."""
     names = Names([[] for _ in range(buckets)], bytes=piece.end - piece.start)
-    with mapped(name) as stream, stream[piece.start:piece.end] as part:
-        at = piece.start
-        for number, frame in enumerate(frames(part), piece.first):
-            try:
-                digest = hashlib.sha256(copy_flat(frame)).digest()
-                bucket = int.from_bytes(digest[:4], 'big') * buckets >> 32
-                names.buckets[bucket].append((digest, (piece.file, number)))
-            except Error as error:
-                names.refused.append(f'{name}: {error.at(number, at)}')
-            names.messages += 1
-            at += len(frame)
-            frame.release()
+    at = piece.start
+    for number, frame in enumerate(frames(mapped(name)[piece.start:piece.end]), piece.first):
+        try:
+            digest = hashlib.sha256(copy_flat(frame)).digest()
+            bucket = int.from_bytes(digest[:4], 'big') * buckets >> 32
+            names.buckets[bucket].append((digest, (piece.file, number)))
+        except Error as error:
+            names.refused.append(f'{name}: {error.at(number, at)}')
+        names.messages += 1
+        at += len(frame)
     return names
 
 
