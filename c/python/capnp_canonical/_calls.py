@@ -6,6 +6,7 @@ from typing import TYPE_CHECKING, Any, Callable, Iterable, List, Optional, Seque
 
 from capnp_canonical._answers import Error, Fault, Limits, Reason, Refusal, Size
 from capnp_canonical._library import Lent, RawFault, RawSegment, library
+from capnp_canonical._library import frame_size as raw_frame_size
 from capnp_canonical._looks import looks_like
 
 if TYPE_CHECKING:
@@ -59,7 +60,7 @@ def _segments(segments: Iterable[ReadableBuffer]) -> _Given:
 def _refused(answer: int, first: Any, size: int, wanted: int = 0) -> Error:
     """The error of a frame; where it is none, what the bytes look like."""
     taken = ctypes.c_size_t()
-    if answer not in _OF_FRAMES or library.capnp_canonical_frame_size(first, size, 2**64 - 1, taken) == DONE:
+    if answer not in _OF_FRAMES or raw_frame_size(first, size, 2**64 - 1, taken) == DONE:
         return Error(answer, wanted=wanted)
     return Error(answer, looks_like=looks_like(ctypes.string_at(first, min(size, 1 << 16)), size, words_is_canonical))
 
@@ -67,7 +68,7 @@ def _refused(answer: int, first: Any, size: int, wanted: int = 0) -> Error:
 def measured(first: Any, size: int, words: int) -> int:
     """How many bytes the frame takes at the front of so many bytes at an address."""
     taken = ctypes.c_size_t()
-    answer: int = library.capnp_canonical_frame_size(first, size, words, taken)
+    answer: int = raw_frame_size(first, size, words, taken)
     if answer != DONE:
         raise _refused(answer, first, size)
     return taken.value

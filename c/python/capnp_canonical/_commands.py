@@ -124,14 +124,16 @@ def opened(name: str) -> Iterator[Union[BinaryIO, mmap.mmap]]:
                 mapped.close()
 
 
+_ESCAPED = re.compile(r'[\\\n\r]')
 _ESCAPES = {'\\': '\\\\', '\n': '\\n', '\r': '\\r'}
 
 
 def line_of(digest: bytes, name: str, number: int) -> str:
     """A line as sha256sum writes it: a backslash in front says that the name has some."""
     whole = f'{name}:{number}'
-    escaped = re.sub(r'[\\\n\r]', lambda it: _ESCAPES[it[0]], whole)
-    return f'{"" if escaped == whole else chr(92)}{digest.hex()}  {escaped}'
+    if not _ESCAPED.search(whole):
+        return f'{digest.hex()}  {whole}'
+    return f'\\{digest.hex()}  {_ESCAPED.sub(lambda it: _ESCAPES[it[0]], whole)}'
 
 
 def read_line(line: str) -> Optional[Tuple[bytes, str, int]]:

@@ -119,3 +119,7 @@ def version() -> int:
 
 
 library = _load()
+# A call so short that it isn't worth while to let other threads run: of the same library.
+_at_once = ctypes.PyDLL(library._name)
+frame_size = _at_once.capnp_canonical_frame_size
+frame_size.argtypes, frame_size.restype = library.capnp_canonical_frame_size.argtypes, ctypes.c_uint32

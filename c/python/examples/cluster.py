@@ -12,18 +12,24 @@ each for the hashes with some first bytes, so that no process has to hold all of
 """
 import argparse
 import hashlib
+import itertools
 import mmap
 import os
+import struct
 import sys
 import time
 from dataclasses import dataclass, field
-from typing import Callable, Dict, List, Optional, Tuple
+from operator import itemgetter
+from typing import Callable, Dict, Iterator, List, Optional, Tuple
 
 from distributed import Client, Future, LocalCluster
 
 from capnp_canonical import Error, copy_flat, frames
 
 PIECE = 16 << 20
+
+# A message as bytes: its digest, the number of its file, and its number in the file.
+RECORD = '>32sIQ'
 
 # A message: the number of its file, and its number in the file.
 Place = Tuple[int, int]
@@ -40,13 +46,12 @@ class Piece:
 
 
 @dataclass
-class Names:
-    """The names of some messages, and why others have none. `buckets` has them by their first bytes."""
+class Counts:
+    """How many messages a piece has, and why some of them have no name."""
 
-    buckets: List[List[Tuple[bytes, Place]]]
-    refused: List[str] = field(default_factory=list)
-    messages: int = 0
-    bytes: int = 0
+    refused: List[str]
+    messages: int
+    bytes: int
 
 
 def mapped(name: str) -> memoryview:
@@ -79,32 +84,36 @@ def pieces_of(name: str, file: int, size: int) -> Tuple[List[Piece], Optional[st
     return pieces, refused
 
 
-def names_in(name: str, piece: Piece, buckets: int) -> Names:
-    """The names of the messages of a piece."""
-    names = Names([[] for _ in range(buckets)], bytes=piece.end - piece.start)
+def names_in(name: str, piece: Piece, buckets: int) -> Tuple[List[bytes], Counts]:
+    """The records of the messages of a piece, in buckets by the first bytes of their digests; and what is to be counted. Dask moves
+    bytes quickly from process to process, and knows how many they are."""
+    records = [bytearray() for _ in range(buckets)]
+    counts = Counts([], 0, piece.end - piece.start)
     at = piece.start
     for number, frame in enumerate(frames(mapped(name)[piece.start:piece.end]), piece.first):
         try:
             digest = hashlib.sha256(copy_flat(frame)).digest()
-            bucket = int.from_bytes(digest[:4], 'big') * buckets >> 32
-            names.buckets[bucket].append((digest, (piece.file, number)))
+            records[(digest[0] << 8 | digest[1]) * buckets >> 16] += struct.pack(RECORD, digest, piece.file, number)
         except Error as error:
-            names.refused.append(f'{name}: {error.at(number, at)}')
-        names.messages += 1
+            counts.refused.append(f'{name}: {error.at(number, at)}')
+        counts.messages += 1
         at += len(frame)
-    return names
+    return [bytes(it) for it in records], counts
 
 
-def bucket_of(names: Names, bucket: int) -> List[Tuple[bytes, Place]]:
-    return names.buckets[bucket]
+def records_in(parts: List[bytes]) -> Iterator[Tuple[bytes, int, int]]:
+    return itertools.chain.from_iterable(struct.iter_unpack(RECORD, part) for part in parts)
 
 
-def equal_in(parts: List[List[Tuple[bytes, Place]]]) -> List[Tuple[bytes, List[Place]]]:
+def bucket_of(names: Tuple[List[bytes], Counts], bucket: int) -> bytes:
+    return names[0][bucket]
+
+
+def equal_in(parts: List[bytes]) -> List[Tuple[bytes, List[Place]]]:
     """The messages that have a name together, where that are several."""
     groups: Dict[bytes, List[Place]] = {}
-    for part in parts:
-        for digest, place in part:
-            groups.setdefault(digest, []).append(place)
+    for digest, file, number in records_in(parts):
+        groups.setdefault(digest, []).append((file, number))
     return [(digest, sorted(places)) for digest, places in groups.items() if len(places) > 1]
 
 
@@ -131,19 +140,19 @@ class Work:
             self.refused += [refused] if refused else []
         return tasks
 
-    def _count(self, names: Names) -> None:
-        self.refused += names.refused
-        self.messages += names.messages
-        self.bytes += names.bytes
+    def _count(self, counts: Counts) -> None:
+        self.refused += counts.refused
+        self.messages += counts.messages
+        self.bytes += counts.bytes
 
     def digest(self):
         """The name and the place of each message."""
         tasks = self._tasks()
         for done, task in enumerate(tasks, 1):
-            names = task.result()
-            self._count(names)
+            buckets, counts = task.result()
+            self._count(counts)
             self.seen(done, len(tasks))
-            yield from sorted((place, digest) for bucket in names.buckets for digest, place in bucket)
+            yield from sorted(((file, number), digest) for digest, file, number in records_in(buckets))
 
     def duplicates(self) -> List[Tuple[bytes, List[Place]]]:
         """The groups of equal messages, by their first ones."""
@@ -152,15 +161,11 @@ class Work:
             self.client.submit(equal_in, [self.client.submit(bucket_of, task, bucket, pure=False) for task in tasks], pure=False)
             for bucket in range(self.buckets)
         ]
-        counts = [self.client.submit(without_names, task, pure=False) for task in tasks]
+        counts = [self.client.submit(itemgetter(1), task, pure=False) for task in tasks]
         for done, task in enumerate(counts, 1):
             self._count(task.result())
             self.seen(done, len(tasks))
         return sorted((group for task in groups for group in task.result()), key=lambda it: it[1])
-
-
-def without_names(names: Names) -> Names:
-    return Names([], names.refused, names.messages, names.bytes)
 
 
 def write(work: Work, command: str) -> int:
