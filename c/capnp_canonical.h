@@ -16,10 +16,12 @@
  *
  * Answers. Each call gives CAPNP_CANONICAL_DONE or the number of a refusal, and numbers are never given another meaning.
  *
- * Memory. No call keeps anything, so calls may run in several threads at once. The calls that copy take memory by malloc,
- * for about one copy of the canonical message, and give it back before they return; no other call takes any. A level of
- * nesting takes up to 608 bytes of stack as ./install builds the library, for processors of x86-64-v2 and later; of a release in
- * plain C, which isn't held to these, up to 640 bytes by clang, 720 by gcc, and 11 KB where the compiler doesn't optimise.
+ * Memory. No call keeps anything, so calls may run in several threads at once. A message that is canonical is copied from
+ * where it stands, and of another one of fewer than 128 words the copy is made on the stack, if it has as few. For others the
+ * calls that copy take memory by malloc, for about one copy of the canonical message, and give it back before they return. No
+ * other call takes any. A level of nesting takes up to 608 bytes of stack as ./install builds the library, for processors of
+ * x86-64-v2 and later; of a release in plain C, which isn't held to these, up to 640 bytes by clang, 720 by gcc, and 11 KB
+ * where the compiler doesn't optimise.
  *
  * What the caller keeps. A pointer to bytes or segments goes with how many there are, and may be null where that is 0. No
  * other pointer may be null. What a call writes to overlaps nothing else that it is given. The calls aren't for signal
@@ -182,6 +184,15 @@ uint32_t capnp_canonical_segments_check(const struct capnp_canonical_segment *se
 
 uint32_t capnp_canonical_segments_size(const struct capnp_canonical_segment *segments, size_t count, int32_t nesting, uint64_t words, uint64_t *word_count, uint32_t *cap_count);
 
+/* The same, of a message given as its bare words: all `size` bytes at `message` are its one segment, as copy_flat writes them,
+ * and the copy is bare words too. A frame that is given here is read as words, and is another value. No bytes are a message
+ * without a root, which is CAPNP_CANONICAL_MESSAGE_CONTAINS_OUT_OF_BOUNDS_POINTER. */
+uint32_t capnp_canonical_words_copy(const uint8_t *message, size_t size, int32_t nesting, uint64_t words, uint8_t *to, size_t room, size_t *written);
+
+uint32_t capnp_canonical_words_check(const uint8_t *message, size_t size, int32_t nesting, uint64_t words, bool *is_canonical, struct capnp_canonical_fault *fault);
+
+uint32_t capnp_canonical_words_size(const uint8_t *message, size_t size, int32_t nesting, uint64_t words, uint64_t *word_count, uint32_t *cap_count);
+
 /* Writes the name of a refusal, as `Truncated`, and a byte of zero behind it, to the `room` bytes at `to`, as snprintf does:
  * what there is no room for is cut, and the zero stands behind what is left, if there is any room. Gives the length of the
  * name in bytes, without the zero: 0 where the number has no name. */
@@ -213,26 +224,11 @@ CAPNP_CANONICAL_INLINE bool capnp_canonical_segments_is_canonical(const struct c
     return capnp_canonical_segments_check(segments, count, nesting, words, &is_canonical, &fault) == CAPNP_CANONICAL_DONE && is_canonical;
 }
 
-/* The same four, of a message given as its bare words: all `size` bytes at `message` are its one segment, as copy_flat writes
- * them, and the copy is bare words too. A frame that is given here is read as words, and is another value. */
-CAPNP_CANONICAL_INLINE uint32_t capnp_canonical_words_copy(const uint8_t *message, size_t size, int32_t nesting, uint64_t words, uint8_t *to, size_t room, size_t *written) {
-    struct capnp_canonical_segment segment = {message, size};
-    return capnp_canonical_segments_copy_flat(&segment, 1, nesting, words, to, room, written);
-}
-
-CAPNP_CANONICAL_INLINE uint32_t capnp_canonical_words_check(const uint8_t *message, size_t size, int32_t nesting, uint64_t words, bool *is_canonical, struct capnp_canonical_fault *fault) {
-    struct capnp_canonical_segment segment = {message, size};
-    return capnp_canonical_segments_check(&segment, 1, nesting, words, is_canonical, fault);
-}
-
+/* The same of a message given as its bare words. */
 CAPNP_CANONICAL_INLINE bool capnp_canonical_words_is_canonical(const uint8_t *message, size_t size, int32_t nesting, uint64_t words) {
-    struct capnp_canonical_segment segment = {message, size};
-    return capnp_canonical_segments_is_canonical(&segment, 1, nesting, words);
-}
-
-CAPNP_CANONICAL_INLINE uint32_t capnp_canonical_words_size(const uint8_t *message, size_t size, int32_t nesting, uint64_t words, uint64_t *word_count, uint32_t *cap_count) {
-    struct capnp_canonical_segment segment = {message, size};
-    return capnp_canonical_segments_size(&segment, 1, nesting, words, word_count, cap_count);
+    bool is_canonical = false;
+    struct capnp_canonical_fault fault;
+    return capnp_canonical_words_check(message, size, nesting, words, &is_canonical, &fault) == CAPNP_CANONICAL_DONE && is_canonical;
 }
 
 /* Room in bytes that is enough for any copy within a traversal limit of so many words, framed or flat; the message isn't

@@ -324,21 +324,42 @@ static void test_parts_of_words(struct parts *parts) {
 }
 
 #ifdef WRAP
-/* Each block refused in turn: the copy is refused, and nothing is written, until no more are asked for. */
-static void test_memory(const struct message *of) {
-    struct bytes to = block(of->flat.size);
-    struct copier flat = {"", 1, of->frame, NULL};
+/* Each block refused in turn: the copy is refused, and nothing is written, until no more are asked for. Gives how many it
+ * takes. */
+static long blocks_taken(struct bytes frame, struct bytes wanted) {
+    struct bytes to = block(wanted.size);
+    struct copier flat = {"", 1, frame, NULL};
     size_t written;
     uint32_t answer = CAPNP_CANONICAL_ALLOCATION_FAILED;
-    for (long n = 0; n < 64 && answer == CAPNP_CANONICAL_ALLOCATION_FAILED; n++) {
+    long n = 0;
+    for (; n < 64; n++) {
         blocks = n;
         answer = copied(&flat, to, &written);
         blocks = -1;
-        if (n == 0) expect(answer == CAPNP_CANONICAL_ALLOCATION_FAILED, "a copy takes no memory");
-        if (answer) expect(is_filled(to) && !written, "a copy without memory is written");
+        if (answer != CAPNP_CANONICAL_ALLOCATION_FAILED) break;
+        expect(is_filled(to) && !written, "a copy without memory is written");
     }
-    expect(answer == CAPNP_CANONICAL_DONE && are_same(to.at, written, of->flat), "a copy with memory");
+    expect(answer == CAPNP_CANONICAL_DONE && are_same(to.at, written, wanted), "a copy with memory");
     free(to.at);
+    return n;
+}
+
+static void put_word(uint8_t *at, uint32_t low, uint32_t high) {
+    for (int i = 0; i < 4; i++) at[i] = (uint8_t)(low >> 8 * i), at[4 + i] = (uint8_t)(high >> 8 * i);
+}
+
+/* A struct that leads to a list of 200 words, and a word behind it in the frame, so that it isn't canonical. */
+static void test_large_memory(void) {
+    enum { ELEMENTS = 200, WORDS_OF_VALUE = ELEMENTS + 2 };
+    struct bytes frame = block(8 * (WORDS_OF_VALUE + 2)), wanted = {frame.at + 8, 8 * WORDS_OF_VALUE};
+    put_word(frame.at, 0, WORDS_OF_VALUE + 1);
+    put_word(frame.at + 8, 0, 1 << 16);
+    put_word(frame.at + 16, 1, ELEMENTS << 3 | 5);
+    place = "a large message";
+    expect(blocks_taken(frame, wanted) > 0, "a copy takes no memory");
+    put_word(frame.at, 0, WORDS_OF_VALUE);
+    expect(blocks_taken(frame, wanted) == 0, "a message that is canonical is copied from where it stands");
+    free(frame.at);
 }
 #endif
 
@@ -361,7 +382,7 @@ static void test_message(const struct message *of) {
     test_cuts(of->frame);
     test_bits(of->frame);
 #ifdef WRAP
-    if (of->flat.size) test_memory(of);
+    if (of->flat.size) expect(blocks_taken(of->frame, of->flat) == 0, "a small message takes no memory");
 #endif
 }
 
@@ -447,6 +468,9 @@ int main(int count, char **words) {
     fclose(file);
     test_texts();
     test_limits();
+#ifdef WRAP
+    test_large_memory();
+#endif
     printf("%lu passed, %lu failed\n", passed, failed);
     return failed ? 1 : 0;
 }
