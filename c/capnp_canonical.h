@@ -5,6 +5,8 @@
  * serialize::write_message write it; as its segments, as MessageReader::getSegment and Rust's ReaderSegments give them; or
  * as its bare words, which are one segment without the table of a frame.
  *
+ * Two messages have the same canonical bytes exactly if their trimmed values are equal (docs/THEOREM.md).
+ *
  * WARNING: bare words aren't a frame. What capnp_canonical_copy_flat and capnp_canonical_segments_copy_flat write is to be
  * hashed, signed and stored, and is read back by the calls named capnp_canonical_words_*. The calls that take a frame may
  * SUCCEED on bare words, and then read ANOTHER value: the pointer to a root without pointers, 00 00 00 00 DD DD 00 00, is also

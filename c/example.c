@@ -1,5 +1,6 @@
 /* Reads framed messages from standard input, one behind the other, and writes the canonical words of each to standard
- * output: the bytes that `capnp convert binary:canonical` writes, and those that are to be hashed or signed. */
+ * output, which are those that are to be hashed or signed: the bytes that `capnp convert binary:canonical` writes, where the
+ * root is a struct and both accept the message. */
 #include "capnp_canonical.h"
 #include <stdio.h>
 #include <stdlib.h>
