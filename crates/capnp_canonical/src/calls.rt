@@ -14,10 +14,10 @@ ghost use Rattle.capnp_canonical.specs.declared.refusal.Refusal.{Refusal};
 
 use crate::refusal::Refusal;
 use capnp_arena::arena::{
-    Allocator, ReaderArena, ReaderArenaImpl, ReaderOptions, ReaderSegments,
+    Allocator, HeapAllocator, ReaderArena, ReaderArenaImpl, ReaderOptions, ReaderSegments,
     ScratchSpaceHeapAllocator,
 };
-use capnp_messages::messages::{CanonicalMessage, CopyMemory, Form};
+use capnp_messages::messages::{CanonicalMessage, Form};
 use std::alloc::Global;
 
 /// The limits within which a message is read.
@@ -92,7 +92,7 @@ fn put(form: Form, segment: &[u8], to: &mut [u8]) -> Result<usize, Refusal>
 }
 
 /// The bytes of memory on the stack, in which a small message is copied.
-const SMALL: usize = 1024;
+const SMALL: usize = 512;
 
 /// Puts the canonical message of what a message means to the front of a buffer in a form, and gives its
 /// size in bytes: from its own segment where it is canonical, else by a copy in an allocator's memory.
@@ -123,7 +123,7 @@ fn copy_by<A: Allocator, S: ReaderSegments>(
 /// its size in bytes.
 ///
 /// A message that is canonical is put there from its own segment. The copy of another one takes memory
-/// of the heap only where the message has 128 words or more, or its copy needs more.
+/// of the heap only where the message has 64 words or more, or its copy needs more.
 pub fn copy<S: ReaderSegments + Drop>(
     alloc: Global,
     form: Form,
@@ -146,6 +146,7 @@ pub fn copy<S: ReaderSegments + Drop>(
         let small = ScratchSpaceHeapAllocator::new(alloc, memory.as_mut_slice(), 0);
         copy_by(alloc, small, form, &source, limits, to)
     } else {
-        copy_by(alloc, CopyMemory::new(alloc), form, &source, limits, to)
+        let heap = HeapAllocator::new(alloc, 0);
+        copy_by(alloc, heap, form, &source, limits, to)
     }
 }
