@@ -19,7 +19,7 @@
  * Answers. Each call gives CAPNP_CANONICAL_DONE or the number of a refusal, and numbers are never given another meaning.
  *
  * Memory. No call keeps anything, so calls may run in several threads at once. A message that is canonical is copied from
- * where it stands, and of another one of fewer than 128 words the copy is made on the stack, if it has as few. For others the
+ * where it stands, and of another one of fewer than 64 words the copy is made on the stack, if it has as few. For others the
  * calls that copy take memory by malloc, for about one copy of the canonical message, and give it back before they return. No
  * other call takes any. A level of nesting takes up to 608 bytes of stack as ./install builds the library, for processors of
  * x86-64-v2 and later; of a release in plain C, which isn't held to these, up to 640 bytes by clang, 720 by gcc, and 11 KB
