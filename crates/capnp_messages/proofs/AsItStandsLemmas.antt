@@ -1,5 +1,5 @@
 -- A message that is canonical as a whole is its own canonical copy, and no other has a value and needs none.
-use Rattle.std.proofs.Common.{◌≡◌, slice_get, ℕ, ℤ, ◌+◌, ◌/◌, ◌*◌, ◌<◌, ◌≤◌, ◌^◌, List, [], ◌∷◌, length, Option, Some, None, refl, sym, ap, ◌∙◌, subst, arith}
+use Rattle.std.proofs.Common.{◌≡◌, slice_get, ℕ, ℤ, ◌+◌, ◌≤◌, List, [], ◌∷◌, length, Option, Some, None, sym, ap, ◌∙◌, subst, arith}
 use Rattle.capnp_words.specs.Meter.{Meter, FitsIn, unused}
 use Rattle.capnp_format.specs.Bytes.{message}
 use Rattle.capnp_format.specs.Canonical.{charge, encoding, trim}
