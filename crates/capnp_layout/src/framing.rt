@@ -6,7 +6,8 @@ pub use capnp_framing::framing::{
     write,
 };
 pub use capnp_messages::messages::{
-    CanonicalCopy, CanonicalError, CopyMemory, canonical_bytes, canonical_fault, copy_canonical,
-    copy_canonical_with, is_canonical_message, laws, read_root, write_canonical, write_copy,
+    CanonicalCopy, CanonicalError, CanonicalMessage, CopyMemory, canonical_bytes, canonical_fault,
+    copy_canonical, copy_canonical_with, is_canonical_message, laws, read_root, write_canonical,
+    write_copy,
 };
 pub use capnp_readers::readers::{CanonicalFault, CanonicalFaultReason};
