@@ -1,9 +1,8 @@
 //! What calls of builders ask for: nothing, where the words fit the segment. Here is each call that no row makes.
 use crate::messages::{ONE_EACH, arena_of_root, check_struct, root};
 use capnp_arena::arena::{BuilderArena, BuilderArenaImpl, HeapAllocator, ReaderArena};
-use capnp_builders::builders::{ListBuilder, PrimitiveElement, StructBuilder};
+use capnp_builders::builders::{PrimitiveElement, StructBuilder};
 use capnp_readers::readers::StructReader;
-use capnp_words::error::ErrorKind;
 use capnp_words::read_limiter::ReadLimiter;
 use capnp_words::wire_pointer::{ElementSize, StructSize};
 use std::alloc::Global;
@@ -22,46 +21,24 @@ fn check_asked(rt: &impl Abort, arena: BuilderArenaImpl<NotingAllocator>) {
     assert!(rt; arena.into_allocator().requests() == &asked[..]);
 }
 
-fn clear<A: BuilderArena>(rt: &impl Abort, arena: &mut A) {
-    root(rt, arena).clear();
-}
-
-fn check_capability<A: BuilderArena>(rt: &impl Abort, arena: &mut A) {
-    let mut pointer = root(rt, arena);
-    pointer.set_capability(3);
-    assert!(rt; pointer.get_capability() == Ok(3));
-}
-
-fn check_empty_struct<A: BuilderArena>(rt: &impl Abort, arena: &mut A) -> Result<(), ErrorKind> {
+/// A pointer is cleared, made a capability, and a struct of no words.
+fn check_pointer<A: BuilderArena>(rt: &impl Abort, arena: &mut A) {
     let size = StructSize {
         data_words: 0,
         pointers: 0,
     };
     let mut pointer = root(rt, arena);
-    let _place = pointer.put_struct(size)?;
+    pointer.clear();
+    pointer.set_capability(3);
+    assert!(rt; pointer.get_capability() == Ok(3));
+    let _place = pointer.put_struct(size).expect(rt, "room");
     assert!(rt; !pointer.is_null());
-    Ok(())
 }
 
-/// A pointer is cleared, made a capability, and a struct of no words.
-#[test]
-fn pointers(rt: HostRuntime) -> Result<(), ErrorKind> {
-    let mut arena = message(&rt, rt.alloc());
-    clear(&rt, &mut arena);
-    check_capability(&rt, &mut arena);
-    check_empty_struct(&rt, &mut arena)?;
-    clear(&rt, &mut arena);
-    check_asked(&rt, arena);
-    Ok(())
-}
-
-fn put_struct<'a, A: BuilderArena>(
-    rt: &impl Abort,
-    arena: &'a mut A,
-) -> Result<StructBuilder<'a, A>, ErrorKind> {
+fn put_struct<'a, A: BuilderArena>(rt: &impl Abort, arena: &'a mut A) -> StructBuilder<'a, A> {
     let mut pointer = root(rt, arena);
-    let place = pointer.put_struct(ONE_EACH)?;
-    Ok(pointer.into_struct(place))
+    let place = pointer.put_struct(ONE_EACH).expect(rt, "room");
+    pointer.into_struct(place)
 }
 
 fn write_data<A: BuilderArena>(rt: &impl Abort, builder: &mut StructBuilder<'_, A>) {
@@ -88,71 +65,52 @@ fn read_fields<A: ReaderArena>(rt: &impl Abort, reader: StructReader<'_, A>) {
 }
 
 /// A struct is made, and its fields are written and read.
-#[test]
-fn fields(rt: HostRuntime) -> Result<(), ErrorKind> {
-    let mut arena = message(&rt, rt.alloc());
-    let mut builder = put_struct(&rt, &mut arena)?;
-    write_data(&rt, &mut builder);
-    write_text(&rt, &mut builder);
-    check_struct(&rt, &builder);
-    read_fields(&rt, builder.into_reader());
-    check_asked(&rt, arena);
-    Ok(())
+fn check_fields<A: BuilderArena>(rt: &impl Abort, arena: &mut A) {
+    let mut builder = put_struct(rt, arena);
+    write_data(rt, &mut builder);
+    write_text(rt, &mut builder);
+    check_struct(rt, &builder);
+    read_fields(rt, builder.into_reader());
 }
 
-fn put_list<'a, A: BuilderArena>(
-    rt: &impl Abort,
-    arena: &'a mut A,
-) -> Result<ListBuilder<'a, A>, ErrorKind> {
+/// A list is made, and its elements are written and read.
+fn check_elements<A: BuilderArena>(rt: &impl Abort, arena: &mut A) {
     let mut pointer = root(rt, arena);
-    let place = pointer.put_list(ElementSize::TwoBytes, 4)?;
-    Ok(pointer.into_list(place))
-}
-
-fn check_list<A: BuilderArena>(rt: &impl Abort, list: &mut ListBuilder<'_, A>) {
-    let list = list.reborrow();
-    assert!(rt; list.len() == 4 && !list.is_empty());
-    assert!(rt; list.get_element_size() == ElementSize::TwoBytes);
-}
-
-fn write_elements<A: BuilderArena>(rt: &impl Abort, arena: &mut A) -> Result<(), ErrorKind> {
-    let mut pointer = root(rt, arena);
-    let place = pointer.put_list(ElementSize::TwoBytes, 4)?;
+    let place = pointer
+        .put_list(ElementSize::TwoBytes, 4)
+        .expect(rt, "room");
     let mut list = pointer.into_list(place);
+    assert!(rt; list.reborrow().len() == 4 && !list.is_empty());
+    assert!(rt; list.get_element_size() == ElementSize::TwoBytes);
     i16::set(&mut list, 3, -2);
     let reader = list.into_reader();
     assert!(rt; reader.nesting_limit == i32::MAX && i16::get(&reader, 3) == -2);
-    Ok(())
 }
 
-/// A list is made, and made again, and its elements are written and read.
 #[test]
-fn elements(rt: HostRuntime) -> Result<(), ErrorKind> {
+fn objects(rt: HostRuntime) {
     let mut arena = message(&rt, rt.alloc());
-    let mut list = put_list(&rt, &mut arena)?;
-    check_list(&rt, &mut list);
-    write_elements(&rt, &mut arena)?;
+    check_pointer(&rt, &mut arena);
+    check_fields(&rt, &mut arena);
+    check_elements(&rt, &mut arena);
     check_asked(&rt, arena);
-    Ok(())
 }
 
-fn write_bytes<A: BuilderArena>(rt: &impl Abort, arena: &mut A) -> Result<(), ErrorKind> {
+fn write_bytes<A: BuilderArena>(rt: &impl Abort, arena: &mut A) {
     let mut pointer = root(rt, arena);
-    pointer.set_data(b"abc\0x")?;
-    let place = pointer.find_data(None)?;
+    pointer.set_data(b"abc\0x").expect(rt, "room");
+    let place = pointer.find_data(None).expect(rt, "data");
     let bytes = pointer.bytes_mut(place);
     assert!(rt; bytes.len() == 5 && &*bytes == b"abc\0x".as_slice());
     bytes[0] = b'y';
-    Ok(())
 }
 
 /// The bytes that are found are lent, and written in place.
 #[test]
-fn bytes(rt: HostRuntime) -> Result<(), ErrorKind> {
+fn bytes(rt: HostRuntime) {
     let mut arena = message(&rt, rt.alloc());
-    write_bytes(&rt, &mut arena)?;
+    write_bytes(&rt, &mut arena);
     let want = "010000002a000000 7962630078000000";
     assert!(rt; has_words(rt.alloc(), &arena, want));
     check_asked(&rt, arena);
-    Ok(())
 }

@@ -1,16 +1,14 @@
-//! Edits in an arena without a root, no edit at all, and an edited message that is read where it stands.
+//! Edits in an arena without a root, and an edited message that is read where it stands.
 use super::messages::{check_outcomes, edit, size};
 use capnp_arena::arena::{BuilderArena, BuilderArenaImpl, HeapAllocator, ReaderArena};
-use capnp_edits::edit::Op::{
-    Clear, InitStruct, InitStructList, SetCapability, SetElement, SetField, SetText,
-};
+use capnp_edits::edit::Op::{Clear, InitStruct, InitStructList, SetElement, SetField, SetText};
 use capnp_edits::edit::Step::{Child, Element};
 use capnp_edits::edit::apply;
 use capnp_readers::readers::{MessageSize, PointerReader};
 use capnp_words::error::ErrorKind::NoSuchPlace;
 use capnp_words::read_limiter::ReadLimiter;
 use capnp_words::wire_pointer::ElementSize::EightBytes;
-use test_support::{arena_of_root, has_words};
+use test_support::arena_of_root;
 
 /// Without a word for the root there is no place.
 #[test]
@@ -24,17 +22,6 @@ fn no_root(rt: HostRuntime) {
     arena.allocate_segment(1).expect(&rt, "memory");
     assert!(rt; apply(&mut arena, &clear) == Err(NoSuchPlace));
     assert!(rt; arena.get_segment(0) == Ok(&[]));
-}
-
-/// No edits change nothing, and one that is done leaves no refusal.
-#[test]
-fn none_and_one(rt: HostRuntime) {
-    let alloc = rt.alloc();
-    let mut arena = arena_of_root(alloc, HeapAllocator::new(alloc, 8)).expect(&rt, "memory");
-    check_outcomes(&rt, &mut arena, &[], &[]);
-    assert!(rt; has_words(alloc, &arena, "0000000000000000"));
-    assert!(rt; apply(&mut arena, &edit(&[], SetCapability(1))) == Ok(()));
-    assert!(rt; has_words(alloc, &arena, "0300000001000000"));
 }
 
 /// A list of two structs that is edited is canonical, and has its size, where it stands.

@@ -107,27 +107,31 @@ fn a_default_without_an_arena(rt: HostRuntime) {
 
 #[test]
 fn element_sizes(rt: HostRuntime) {
-    let unsigned = [
+    let sizes = [
+        <() as PrimitiveElement>::element_size(),
+        bool::element_size(),
         u8::element_size(),
-        u16::element_size(),
-        u32::element_size(),
-        u64::element_size(),
-    ];
-    let signed = [
         i8::element_size(),
+        u16::element_size(),
         i16::element_size(),
+        u32::element_size(),
         i32::element_size(),
+        u64::element_size(),
         i64::element_size(),
     ];
     let want = [
+        ElementSize::Void,
+        ElementSize::Bit,
+        ElementSize::Byte,
         ElementSize::Byte,
         ElementSize::TwoBytes,
+        ElementSize::TwoBytes,
+        ElementSize::FourBytes,
         ElementSize::FourBytes,
         ElementSize::EightBytes,
+        ElementSize::EightBytes,
     ];
-    assert!(rt; unsigned == want && signed == want);
-    assert!(rt; bool::element_size() == ElementSize::Bit);
-    assert!(rt; <() as PrimitiveElement>::element_size() == ElementSize::Void);
+    assert!(rt; sizes == want);
 }
 
 #[test]
