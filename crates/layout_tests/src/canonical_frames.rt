@@ -6,7 +6,7 @@ use capnp_layout::framing::{CanonicalError, write_canonical};
 use capnp_layout::read_limiter::ReadLimiter;
 use capnp_layout::readers::PointerReader;
 use std::process::Abort;
-use test_support::{arena_of, bytes_of};
+use test_support::arena_of;
 
 /// Eight words that make 23: three structs of two pointers, each of which leads to the next one twice, and
 /// the last one to the number 9.
@@ -39,20 +39,4 @@ fn frames(rt: HostRuntime) {
             assert!(rt; to.bytes().is_empty());
         }
     }
-}
-
-/// The words of a frame, and the name of a refusal.
-#[test]
-fn words(rt: HostRuntime) {
-    let two = "0000000002000000 1111111111111111 0000000000000080";
-    let source = arena_of(rt.alloc(), two, ReaderOptions::default()).expect(&rt, "a message");
-    let mut lim = ReadLimiter::new(None);
-    let from = PointerReader::get_root_from_arena(&source, &mut lim).expect(&rt, "a root");
-    let mut to = MemoryOutput::new(rt.alloc());
-    assert!(rt; write_canonical(rt.alloc(), &mut to, from, &mut lim) == Ok(()));
-    let want = "0000000003000000 0000000002000000 1111111111111111 0000000000000080";
-    let want = bytes_of(rt.alloc(), want).expect(&rt, "hex digits");
-    assert!(rt; to.bytes() == want.as_slice());
-    let refused = CanonicalError::Layout(ErrorKind::NoSuchPlace);
-    assert!(rt; refused.name() == "NoSuchPlace");
 }

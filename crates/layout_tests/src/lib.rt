@@ -1,12 +1,10 @@
 //! Tests of capnp_layout, by its public calls: its devices, the names that it gives the crates below, what a run asks
-//! for, and canonical messages as a whole, tested and written. What its engine answers else, also where memory or a
-//! device fails, runs of programs show.
+//! for, and what canonical frames are charged. What its engine answers else, also where memory or a device fails, runs of
+//! programs show.
 #![tactic(auto)]
 
 #[cfg(test)]
 mod canonical_frames;
-#[cfg(test)]
-mod canonical_messages;
 #[cfg(test)]
 mod names;
 #[cfg(test)]
