@@ -20,6 +20,7 @@ VERSIONS = {
     'c/rust/capnp/Cargo.toml': r'^version = "(.*)"$', 'c/man/capnp_canon.1': r'"capnp_canon (.*)"$',
 }
 
+PACKAGED = {'LICENSE': 'LICENSE', 'tests/messages.txt': 'tests/library/messages.txt'}
 
 def in_capitals(name):
     """The name of a variant as C writes it: AListOfNULBytes is A_LIST_OF_NUL_BYTES."""
@@ -103,6 +104,8 @@ def main():
     facts += [(f'{text} is the version that the library gives', re.search(text, EXPORTS)) for text in (rf'result ≡ {version[0]} ', f'put_text\\("{version[1]}", to\\)')]
     facts += list(facts_of_bindings())
     facts += [(f'{name} has the version', re.findall(pattern, file(name), re.M) == [version[1]]) for name, pattern in VERSIONS.items()]
+    # what a package for cargo has of the repository stands in its folder, since the gate takes no links
+    facts += [(f'c/rust/{name} is {of}', file(f'c/rust/{name}') == file(of)) for name, of in PACKAGED.items()]
     failed = [what for what, holds in facts if not holds]
     for what in failed:
         print(f'not so: {what}')
