@@ -19,8 +19,9 @@ VERSIONS = {
     'c/python/pyproject.toml': r'^version = "(.*)"$', 'c/rust/Cargo.toml': r'^version = "(.*)"$',
     'c/rust/capnp/Cargo.toml': r'^version = "(.*)"$', 'c/man/capnp_canon.1': r'"capnp_canon (.*)"$',
 }
-
+# What the package for cargo has of the repository.
 PACKAGED = {'LICENSE': 'LICENSE', 'tests/messages.txt': 'tests/library/messages.txt'}
+
 
 def in_capitals(name):
     """The name of a variant as C writes it: AListOfNULBytes is A_LIST_OF_NUL_BYTES."""
