@@ -27,10 +27,21 @@ def measured(words, path, folder, runs):
     return min(seconds), size
 
 
+def with_words_behind(data):
+    """Frames of one segment, each with a word behind the value: a fault that is met at the very end."""
+    out, at = [], 0
+    while at < len(data):
+        count = int.from_bytes(data[at + 4:at + 8], 'little')
+        out += bytes(4), (count + 1).to_bytes(4, 'little'), data[at + 8:at + 8 + 8 * count], bytes(8)
+        at += 8 + 8 * count
+    return b''.join(out)
+
+
 def made(peer, words):
-    """Writes a stream into the peer's folder, as it is, in canonical form, and packed."""
+    """Writes a stream into the peer's folder, as it is, in canonical form, so with words behind, and packed."""
     data = peer.book(*words) if isinstance(words[0], str) else peer.people(*words)
     forms = {'plain': data, 'canonical': peer.copied(['canon'], data), 'packed': peer.copied(['copy', 'pack'], data)}
+    forms['late'] = with_words_behind(forms['canonical'])
     for form, content in forms.items():
         (peer.folder / form).write_bytes(content)
 
@@ -47,6 +58,8 @@ def apart(work, *args):
 def rows(name, of, converted):
     """What is measured of a stream: a title, our arguments, the peer's command, and which form of the stream is read."""
     yield f'`canon`, {name}', ['canon'], ['./peer', 'canon'], 'plain'
+    yield f'`canon`, {name} in canonical form', ['canon'], ['./peer', 'canon'], 'canonical'
+    yield f'`canon`, {name} in canonical form with a word behind', ['canon'], ['./peer', 'canon'], 'late'
     yield f'`check`, {name}', ['check'], ['./peer', 'check'], 'plain'
     yield f'`check`, {name} in canonical form', ['check'], ['./peer', 'check'], 'canonical'
     yield f'`size`, {name}', ['size'], ['./peer', 'size'], 'plain'
