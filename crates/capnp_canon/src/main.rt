@@ -10,7 +10,7 @@ mod texts;
 use capnp_framing::devices::DeviceFault;
 use capnp_packing::buffered::{BufferedInput, BufferedOutput};
 use capnp_packing::packing::PackingOutput;
-use capnp_streams::devices::{BufReaderInput, BufWriterOutput};
+use capnp_streams::devices::{BufReaderInput, BufWriterOutput, NoOutput};
 use capnp_streams::streams::{self, Fault, Request, Stop, Summary, Task};
 use std::alloc::AllocError;
 use std::env;
@@ -91,6 +91,10 @@ fn run(rt: &HostRuntime, task: Task) -> Result<Outcome, AllocError> {
         return Err(AllocError);
     };
     let input = BufReaderInput::new(reader);
+    if task.quiet {
+        let ended = run_to(rt, task, input, &mut NoOutput);
+        return Ok(ended_as(Ok(()), ended));
+    }
     let mut output = BufWriterOutput::new(writer);
     if !task.pack {
         let ended = run_to(rt, task, input, &mut output);

@@ -5,14 +5,14 @@ pub const VERSION: &str = "capnp_canon 1.0.0";
 
 /// How it is called.
 pub const USAGE: &str =
-    "usage: capnp_canon canon [--flat] [--pack] | check | size  [--packed] [--nesting N] [--words N]
+    "usage: capnp_canon canon [--flat] [--pack] | check [--quiet] | size  [--packed] [--nesting N] [--words N]
        capnp_canon --help | --version";
 
 /// What its arguments mean.
 pub const HELP: &str =
     "Reads framed messages of Cap'n Proto from standard input, one behind the other, and answers to each.
 
-usage: capnp_canon canon [--flat] [--pack] | check | size  [--packed] [--nesting N] [--words N]
+usage: capnp_canon canon [--flat] [--pack] | check [--quiet] | size  [--packed] [--nesting N] [--words N]
        capnp_canon --help | --version
 
 canon        writes each message in canonical form, as a frame of one segment
@@ -20,6 +20,7 @@ canon        writes each message in canonical form, as a frame of one segment
   --pack     packed
 check        writes a line for each message: `canonical`, or
              `not canonical: REASON at segment S, word W` (W counts words of 8 bytes, from 0)
+  --quiet    writes nothing; the status says it
 size         writes a line for each message: `words N caps M`, without landing pads
   --packed   the input is packed
   --nesting N   at most N structs and lists may be entered, one inside the other (64)

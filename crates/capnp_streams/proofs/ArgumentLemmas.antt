@@ -14,7 +14,7 @@ use Rattle.capnp_streams.specs.declared.streams.words.Setting.{Setting}
 use Rattle.capnp_streams.specs.declared.streams.words.Setting.TheVariants.{Nesting as SetNesting, Words as SetWords}
 use Rattle.capnp_streams.specs.declared.streams.words.Word.{Word}
 use Rattle.capnp_streams.specs.declared.streams.words.Word.TheVariants.{Help, HelpLetter, Version, VersionLetter, End}
-use Rattle.capnp_streams.specs.declared.streams.words.Word.TheVariants.{Canon, Check, Size, Packed, Pack, Flat, Nesting, Words}
+use Rattle.capnp_streams.specs.declared.streams.words.Word.TheVariants.{Canon, Check, Size, Packed, Pack, Flat, Quiet, Nesting, Words}
 
 -- a number for the first so many bytes of a text
 abbrev key : ℕ → List ℕ → ℕ
@@ -39,6 +39,7 @@ word_at k =
     if nat_eq k (key_of Packed) then Packed else
     if nat_eq k (key_of Pack) then Pack else
     if nat_eq k (key_of Flat) then Flat else
+    if nat_eq k (key_of Quiet) then Quiet else
     if nat_eq k (key_of Nesting) then Nesting else Words
 
 word_found : (word : Word) → word_at (key_of word) ≡ word
@@ -53,6 +54,7 @@ word_found Size = refl
 word_found Packed = refl
 word_found Pack = refl
 word_found Flat = refl
+word_found Quiet = refl
 word_found Nesting = refl
 word_found Words = refl
 
@@ -74,6 +76,7 @@ no_equals Size there = omega arith
 no_equals Packed there = omega arith
 no_equals Pack there = omega arith
 no_equals Flat there = omega arith
+no_equals Quiet there = omega arith
 no_equals Nesting there = omega arith
 no_equals Words there = omega arith
 

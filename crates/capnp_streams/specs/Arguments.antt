@@ -16,7 +16,7 @@ use Rattle.capnp_streams.specs.declared.streams.words.Verb.TheVariants.{Canon as
 use Rattle.capnp_streams.specs.declared.streams.words.Word.{Word}
 use Rattle.capnp_streams.specs.declared.streams.words.Word.TheVariants.{Help, HelpLetter, Version, VersionLetter, End}
 use Rattle.capnp_streams.specs.declared.streams.words.Word.TheVariants.{Canon as WordCanon, Check as WordCheck, Size as WordSize}
-use Rattle.capnp_streams.specs.declared.streams.words.Word.TheVariants.{Packed, Pack, Flat as WordFlat, Nesting, Words}
+use Rattle.capnp_streams.specs.declared.streams.words.Word.TheVariants.{Packed, Pack, Flat as WordFlat, Quiet, Nesting, Words}
 
 -- the text of a word that has a meaning by itself
 abbrev pub text_of_word : Word → List ℕ
@@ -31,6 +31,7 @@ text_of_word WordSize = codes "size"
 text_of_word Packed = codes "--packed"
 text_of_word Pack = codes "--pack"
 text_of_word WordFlat = codes "--flat"
+text_of_word Quiet = codes "--quiet"
 text_of_word Nesting = codes "--nesting"
 text_of_word Words = codes "--words"
 
@@ -47,18 +48,19 @@ plain_line = record {
   unpack = false;
   pack = false;
   flat = false;
+  quiet = false;
   expects = None;
 }
 
--- `canon` alone has options for what it writes
-abbrev pub verb_allows : Option Verb → Bool → Bool → Bool
-verb_allows None pack flat = true
-verb_allows (Some ToCanon) pack flat = true
-verb_allows (Some ToCheck) pack flat = not pack && not flat
-verb_allows (Some ToSize) pack flat = not pack && not flat
+-- `canon` alone has options for what it writes, and `check` alone that it writes nothing
+abbrev pub verb_allows : Option Verb → Bool → Bool → Bool → Bool
+verb_allows None pack flat quiet = true
+verb_allows (Some ToCanon) pack flat quiet = not quiet
+verb_allows (Some ToCheck) pack flat quiet = not pack && not flat
+verb_allows (Some ToSize) pack flat quiet = not pack && not flat && not quiet
 
 abbrev pub line_is_allowed : Line → Bool
-line_is_allowed line = verb_allows line.verb line.pack line.flat
+line_is_allowed line = verb_allows line.verb line.pack line.flat line.quiet
 
 abbrev pub line_if_allowed : Line → Option Line
 line_if_allowed line = if line_is_allowed line then Some line else None
@@ -84,6 +86,7 @@ line_after WordSize line = line_with_verb ToSize line
 line_after Packed line = line_if_allowed (record line { unpack = true })
 line_after Pack line = line_if_allowed (record line { pack = true })
 line_after WordFlat line = line_if_allowed (record line { flat = true })
+line_after Quiet line = line_if_allowed (record line { quiet = true })
 line_after Nesting line = Some (record line { expects = Some SetNesting })
 line_after Words line = Some (record line { expects = Some SetWords })
 
@@ -130,18 +133,21 @@ task_of_command None (Some ToCanon) line = Some (record {
   limits = line.limits;
   unpack = line.unpack;
   pack = line.pack;
+  quiet = line.quiet;
 })
 task_of_command None (Some ToCheck) line = Some (record {
   command = Check;
   limits = line.limits;
   unpack = line.unpack;
   pack = line.pack;
+  quiet = line.quiet;
 })
 task_of_command None (Some ToSize) line = Some (record {
   command = Size;
   limits = line.limits;
   unpack = line.unpack;
   pack = line.pack;
+  quiet = line.quiet;
 })
 
 abbrev pub task_of_line : Line → Option Task
@@ -164,6 +170,7 @@ request_of_word WordSize last line = None
 request_of_word Packed last line = None
 request_of_word Pack last line = None
 request_of_word WordFlat last line = None
+request_of_word Quiet last line = None
 request_of_word Nesting last line = None
 request_of_word Words last line = None
 

@@ -1,5 +1,5 @@
-//! A reader as an input that reads ahead, and a writer as an output that passes bytes on later.
-ghost use Rattle.std.specs.Prelude.{◌≡◌, ◌^◌, ◌-◌, length, false, true, Some};
+//! A reader as an input that reads ahead, and a writer as an output that passes bytes on later; and an output that writes nothing.
+ghost use Rattle.std.specs.Prelude.{◌≡◌, ◌^◌, ◌-◌, length, false, true, None, Some};
 ghost use Rattle.std.specs.Io.Buffered.{reader_buffer, reader_remaining, writer_buffer, writer_contents};
 ghost use Rattle.capnp_format.specs.Segments.{Segments};
 ghost use Rattle.capnp_framing.specs.Flat.{BeginsWithFrame};
@@ -114,6 +114,32 @@ impl<W: Write + Drop> BufferedOutput for BufWriterOutput<W> {
             self.failed = true;
             return Err(DeviceFault);
         }
+        Ok(())
+    }
+}
+
+/// An output that writes nothing of what it takes.
+#[derive(Clone, Copy)]
+pub struct NoOutput;
+
+impl Output for NoOutput {
+    ghost contents = { λ _. None };
+
+    ghost has_failed = { λ _. false };
+
+    fn write(&mut self, from: &[u8]) -> Result<usize, DeviceFault> {
+        Ok(from.len())
+    }
+
+    fn failed(&self) -> bool {
+        false
+    }
+}
+
+impl BufferedOutput for NoOutput {
+    ghost kept = { λ _. 0 };
+
+    fn pass_on(&mut self) -> Result<(), DeviceFault> {
         Ok(())
     }
 }

@@ -16,6 +16,8 @@ pub struct Task {
     pub unpack: bool,
     /// Whether canonical messages are written packed.
     pub pack: bool,
+    /// Whether nothing is written, and the status alone says whether each message is canonical.
+    pub quiet: bool,
 }
 
 /// What the program is asked for.
@@ -30,7 +32,7 @@ pub enum Request {
 }
 
 /// Reads the words behind the program's name: `canon`, `check` or `size`, and options before or behind
-/// that: `--flat` (of `canon`), `--packed`, `--pack` (of `canon`), `--nesting N` and `--words N`, of
+/// that: `--flat` and `--pack` (of `canon`), `--quiet` (of `check`), `--packed`, `--nesting N` and `--words N`, of
 /// which a later one stands for an earlier. `--nesting=N` and `--words=N` are the same; `--` may stand
 /// at the end. `--help` or `-h`, and `--version` or `-V`, stand behind any of these, and what is behind
 /// them isn't read. All else is refused, with how many words there are from the first wrong one on:

@@ -25,6 +25,7 @@ pub(super) enum Word {
     Packed,
     Pack,
     Flat,
+    Quiet,
     Nesting,
     Words,
 }
@@ -52,6 +53,7 @@ pub(super) struct Line {
     unpack: bool,
     pack: bool,
     flat: bool,
+    quiet: bool,
     /// The option of which the value comes next.
     expects: Option<Setting>,
 }
@@ -67,6 +69,7 @@ impl Line {
             unpack: false,
             pack: false,
             flat: false,
+            quiet: false,
             expects: None,
         }
     }
@@ -76,8 +79,10 @@ impl Line {
         ensures { result ≡ line_is_allowed self.now }
     {
         match self.verb {
-            Some(Verb::Check | Verb::Size) => !self.pack && !self.flat,
-            _ => true,
+            Some(Verb::Canon) => !self.quiet,
+            Some(Verb::Check) => !self.pack && !self.flat,
+            Some(Verb::Size) => !self.pack && !self.flat && !self.quiet,
+            None => true,
         }
     }
 
@@ -117,6 +122,11 @@ impl Line {
             .if_allowed(),
             Word::Pack => Line { pack: true, ..self }.if_allowed(),
             Word::Flat => Line { flat: true, ..self }.if_allowed(),
+            Word::Quiet => Line {
+                quiet: true,
+                ..self
+            }
+            .if_allowed(),
             Word::Nesting => Some(Line {
                 expects: Some(Setting::Nesting),
                 ..self
@@ -178,6 +188,7 @@ pub(super) fn task_of(line: Line) -> Option<Task>
         limits: line.limits,
         unpack: line.unpack,
         pack: line.pack,
+        quiet: line.quiet,
     })
 }
 
@@ -202,7 +213,7 @@ fn request_at(word: Word, is_last: bool, from: Line) -> Option<Request>
         Word::Version | Word::VersionLetter => Some(Request::Version),
         Word::End => { if is_last { run_of(from) } else { None } }
         Word::Canon | Word::Check | Word::Size | Word::Packed => None,
-        Word::Pack | Word::Flat | Word::Nesting | Word::Words => None,
+        Word::Pack | Word::Flat | Word::Quiet | Word::Nesting | Word::Words => None,
     }
 }
 
@@ -290,6 +301,8 @@ fn word_of(text: &str) -> Option<Word>
         Some(Word::Pack)
     } else if text == "--flat" {
         Some(Word::Flat)
+    } else if text == "--quiet" {
+        Some(Word::Quiet)
     } else if text == "--nesting" {
         Some(Word::Nesting)
     } else if text == "--words" {
