@@ -18,6 +18,10 @@ class Unknown(Exception):
     """Something of the module is met that isn't known here."""
 
 
+# Numbers of widths that C hasn't: bytes that are only moved.
+UNCOUNTED = 'i24', 'i40', 'i48', 'i56'
+
+
 # Types are 'i64', 'ptr', 'void', ('array', COUNT, OF), ('vector', COUNT, OF) and ('struct', (OF..)).
 def bits(kind):
     return int(kind[1:]) if isinstance(kind, str) and kind[0] == 'i' else None
@@ -25,6 +29,8 @@ def bits(kind):
 
 def size_of(kind):
     """The size in bytes and the alignment: the module's are those of C."""
+    if kind in UNCOUNTED:
+        raise Unknown(f'{kind} in memory')
     if isinstance(kind, str):
         size = 8 if kind == 'ptr' else max(bits(kind) // 8, 1)
         return size, size
@@ -125,7 +131,7 @@ class Line:
 
     def type(self):
         it = self.next()
-        if it in ('ptr', 'void', 'i1', 'i8', 'i16', 'i32', 'i64'):
+        if it in ('ptr', 'void', 'i1', 'i8', 'i16', 'i32', 'i64', *UNCOUNTED):
             return it
         if it == '{':
             kinds = [self.type()]

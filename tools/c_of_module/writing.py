@@ -1,7 +1,7 @@
 """Writes a function in C."""
 import re
 
-from reading import ZERO, Line, Unknown, bits, c_name, c_type, declared, laid_out, size_of, suffix
+from reading import UNCOUNTED, ZERO, Line, Unknown, bits, c_name, c_type, declared, laid_out, size_of, suffix
 
 BINARY = {'add': '+', 'sub': '-', 'mul': '*', 'udiv': '/', 'urem': '%', 'and': '&', 'or': '|', 'xor': '^'}
 SIGNED = {'sdiv': '/', 'srem': '%'}
@@ -161,7 +161,7 @@ class Writer:
         kind, a, b, reads = self.pair(it)
         if kind[0] == 'vector' and word in ('and', 'or', 'xor'):
             return self.define(name, kind, f'({a} {BINARY[word]} {b})', reads)
-        if not bits(kind) or kind == 'i1' and word not in ('and', 'or', 'xor'):
+        if not bits(kind) or kind in UNCOUNTED or kind == 'i1' and word not in ('and', 'or', 'xor'):
             raise Unknown('arithmetic')
         if kind == 'i1':
             return self.define(name, kind, f'(u8)((u8){a} {BINARY[word]} (u8){b})', reads)
@@ -186,7 +186,7 @@ class Writer:
         if kind[0] == 'vector':
             cast = f'(w{kind[1]})' if is_signed else ''
             return self.define(name, (*kind[:2], 'i1'), f'(v{kind[1]})({cast}{a} {sign} {cast}{b})', reads)
-        if is_signed and kind in ('i1', 'ptr'):
+        if kind in UNCOUNTED or is_signed and kind in ('i1', 'ptr'):
             raise Unknown('a comparison')
         cast = '(uptr)' if kind == 'ptr' else f'(i{bits(kind)})' if is_signed else ''
         return self.define(name, 'i1', f'({cast}{a} {sign} {cast}{b})', reads)
@@ -197,6 +197,8 @@ class Writer:
         it.next('to')
         to = it.type()
         it.end()
+        if kind in UNCOUNTED or to in UNCOUNTED:
+            raise Unknown('a cast of bytes')
         if 'vector' in (kind[0], to[0]) and (kind[0], to) != ('vector', ('vector', kind[1], 'i8')):
             raise Unknown('a cast of vectors')
         return kind, to, *self.get(kind, value)
@@ -487,6 +489,10 @@ def constant(kind, value):
     if bits(kind):
         number = {'true': 1, 'false': 0, **dict.fromkeys(ZERO, 0)}.get(value)
         number = (int(value) if number is None else number) % (1 << bits(kind))
+        if kind in UNCOUNTED:
+            if number:
+                raise Unknown(f'constant {value}')
+            return f'({c_type(kind)}){{ {{ 0 }} }}'
         return (str(number) if number < 1 << 16 else hex(number)) + ('u' if bits(kind) < 64 else 'ull')
     if value in ZERO and kind[0] in ('vector', 'struct'):
         return f'({c_type(kind)}){{ 0 }}'
