@@ -151,12 +151,13 @@ def remembering(cases):
                   f'{cut}store i{width} {a}, ptr %p, align 1\n%r = load i64, ptr %p, align 1\nret i64 %r',
                   lambda a, b, w=width: a % 2**w | 0x5555555555555555 >> w << w, edges(width)[:12])
         cases.add(f'%at = alloca i64, align 8\nstore i64 %a, ptr %at, align 8\n%v = load i{width}, ptr %at, align 1, !noundef !1\n{widened(width, "%v")}', lambda a, b, w=width: a % 2**w, edges(64)[:12])
-    # bytes that are only moved, also by way of a choice
+    # numbers that are only moved, cut and lengthened, also by way of a choice
     for width in (24, 40, 48, 56):
         cases.add(f'%x = alloca i64, align 8\n%y = alloca i64, align 8\nstore i64 %a, ptr %x, align 8\nstore i64 %b, ptr %y, align 8\n%v = load i{width}, ptr %x, align 1\n%w = load i{width}, ptr %y, align 1\n'
                   f'%c = icmp ult i64 %a, %b\n%m = select i1 %c, i{width} %w, i{width} %v\nstore i{width} %m, ptr %y, align 1\n%r = load i64, ptr %y, align 8\nret i64 %r',
                   lambda a, b, w=width: max(a, b) % 2**w | b >> w << w, edges(64)[:40])
         cases.add(f'%x = alloca i64, align 8\nstore i64 %a, ptr %x, align 8\nstore i{width} 0, ptr %x, align 1\n%r = load i64, ptr %x, align 8\nret i64 %r', lambda a, b, w=width: a >> w << w, edges(64)[:12])
+        cases.add(f'%v = trunc i64 %a to i{width}\n%r = zext i{width} %v to i64\nret i64 %r', lambda a, b, w=width: a % 2**w, edges(64)[:12])
     # what is read before a write is what stood there before
     cases.add('%at = alloca i64, align 8\nstore i64 %a, ptr %at, align 8\n%old = load i64, ptr %at, align 8\nstore i64 %b, ptr %at, align 8\n%new = load i64, ptr %at, align 8\n'
               '%r = sub i64 %old, %new\nret i64 %r', lambda a, b: a - b, [(9, 4), (4, 9)])
@@ -312,7 +313,7 @@ attributes #2 = { cold noinline nounwind }
 # What has to be refused: what a proved module doesn't have, or what would mean something else in C.
 BODY = 'define i64 @test_0(i64 %a, i64 %b) #0 {{\nstart:\n  {}\n  ret i64 %a\n}}\n'
 REFUSED = [BODY.format(it) for it in (
-    '%x = fadd double 1.0, 2.0', '%x = add i128 1, 2', '%x = add i24 1, 2', '%x = icmp eq i56 0, 0', '%x = trunc i64 %a to i56', '%x = zext i40 0 to i64', '%x = alloca i48, align 8', 'store i56 1, ptr null, align 1', '%x = uitofp i64 %a to double', 'fence seq_cst', '%x = atomicrmw add ptr null, i64 1 seq_cst, align 8',
+    '%x = fadd double 1.0, 2.0', '%x = add i128 1, 2', '%x = add i24 1, 2', '%x = icmp eq i56 0, 0', '%x = sext i40 0 to i64', '%x = ptrtoint ptr null to i56', '%x = alloca i48, align 8', '%x = uitofp i64 %a to double', 'fence seq_cst', '%x = atomicrmw add ptr null, i64 1 seq_cst, align 8',
     '%x = cmpxchg ptr null, i64 1, i64 2 seq_cst seq_cst, align 8', '%x = load volatile i64, ptr null, align 8', '%x = load atomic i64, ptr null seq_cst, align 8',
     'store volatile i64 1, ptr null, align 8', 'store atomic i64 1, ptr null seq_cst, align 8', '%x = load i1, ptr null, align 1', 'store i1 true, ptr null, align 1', '%x = load double, ptr null, align 8',
     '%x = load ptr addrspace(1), ptr null, align 8', '%p = inttoptr i64 %a to ptr\n  %x = call i64 %p(i64 1)', 'call void asm sideeffect "nop", ""()', '%x = va_arg ptr null, i64', '%x = udiv <16 x i8> zeroinitializer, zeroinitializer',

@@ -18,7 +18,7 @@ class Unknown(Exception):
     """Something of the module is met that isn't known here."""
 
 
-# Numbers of widths that C hasn't: bytes that are only moved.
+# Numbers of widths that C hasn't, which are only moved, cut and lengthened: in C they stand in one of 64 bits.
 UNCOUNTED = 'i24', 'i40', 'i48', 'i56'
 
 
@@ -55,7 +55,7 @@ def laid_out(kind):
 
 def c_type(kind):
     if isinstance(kind, str):
-        return {'ptr': 'u8 *', 'void': 'void', 'i1': 'u8'}.get(kind) or f'u{bits(kind)}'
+        return {'ptr': 'u8 *', 'void': 'void', 'i1': 'u8', **dict.fromkeys(UNCOUNTED, 'u64')}.get(kind) or f'u{bits(kind)}'
     if kind[0] == 'struct':
         return f'struct {struct_name(kind)}'
     if kind[0] == 'vector' and kind[2] in ('i8', 'i1'):

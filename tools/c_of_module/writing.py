@@ -197,8 +197,6 @@ class Writer:
         it.next('to')
         to = it.type()
         it.end()
-        if kind in UNCOUNTED or to in UNCOUNTED:
-            raise Unknown('a cast of bytes')
         if 'vector' in (kind[0], to[0]) and (kind[0], to) != ('vector', ('vector', kind[1], 'i8')):
             raise Unknown('a cast of vectors')
         return kind, to, *self.get(kind, value)
@@ -211,6 +209,8 @@ class Writer:
 
     def do_sext(self, it, name):
         kind, to, text, reads = self.cast(it)
+        if kind in UNCOUNTED or to in UNCOUNTED:
+            raise Unknown('a cast')
         if to[0] == 'vector':
             # a mask has a byte for each bit
             return self.define(name, to, text, reads)
@@ -222,10 +222,14 @@ class Writer:
         kind, to, text, reads = self.cast(it)
         if not bits(kind):
             raise Unknown('a cast of vectors')
+        if to in UNCOUNTED:
+            return self.define(name, to, f'((u64){text} & {hex((1 << bits(to)) - 1)}ull)', reads)
         self.define(name, to, f'(u8)({text} & 1)' if to == 'i1' else f'({c_type(to)}){text}', reads)
 
     def do_ptrtoaddr(self, it, name):
         _, to, text, reads = self.cast(it)
+        if to in UNCOUNTED:
+            raise Unknown('a cast')
         self.define(name, to, f'({c_type(to)})(uptr){text}', reads)
 
     do_ptrtoint = do_ptrtoaddr
@@ -489,10 +493,6 @@ def constant(kind, value):
     if bits(kind):
         number = {'true': 1, 'false': 0, **dict.fromkeys(ZERO, 0)}.get(value)
         number = (int(value) if number is None else number) % (1 << bits(kind))
-        if kind in UNCOUNTED:
-            if number:
-                raise Unknown(f'constant {value}')
-            return f'({c_type(kind)}){{ {{ 0 }} }}'
         return (str(number) if number < 1 << 16 else hex(number)) + ('u' if bits(kind) < 64 else 'ull')
     if value in ZERO and kind[0] in ('vector', 'struct'):
         return f'({c_type(kind)}){{ 0 }}'
