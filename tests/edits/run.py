@@ -124,7 +124,7 @@ def function_at(file, lines, number):
     block = enclosing(lines, first - 1, BLOCK) if head[1] and first else None
     path = '::'.join([*([type_of(block[2][2])] if block else module), head[2]])
     cycle = ''
-    while first and lines[first - 1].lstrip().startswith('#['):
+    while first and lines[first - 1].lstrip().startswith(('#[', '///')):
         first -= 1
         if named := CYCLE.match(lines[first]):
             cycle = named[1]
