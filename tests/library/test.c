@@ -382,7 +382,8 @@ static void test_message(const struct message *of) {
     test_cuts(of->frame);
     test_bits(of->frame);
 #ifdef WRAP
-    if (of->flat.size) expect(blocks_taken(of->frame, of->flat) == 0, "a small message takes no memory");
+    /* of fewer than 64 words, and a word for the table */
+    if (of->flat.size && of->frame.size <= 8 * 64) expect(blocks_taken(of->frame, of->flat) == 0, "a small message takes no memory");
 #endif
 }
 
