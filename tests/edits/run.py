@@ -234,7 +234,7 @@ def open_goal(function, lines):
             continue
         if said and (said[1] == function.file and function.first <= int(said[2]) <= function.last or function.has_answer(said[1])):
             found.append(line.removeprefix('note: ').removeprefix('./'))
-    # of many goals not all are printed, but the line of the function names its own
+    # the line of the function names its own goals too
     own = (it for it in lines if it.startswith('fn ') and f'::{function.path}: ' in it)
     named = next((it for it in own if '` did not prove `' in it or ': could not tell' in it), None)
     return next((it for it in found if not NAMES.search(it)), None) or next(iter(found), named)
