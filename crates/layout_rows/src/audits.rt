@@ -10,7 +10,11 @@ use std::alloc::Global;
 pub fn answer(alloc: Global, line: &str) -> Result<String, Fault> {
     let segments = parse::segments(alloc, line, ',', "")?;
     let segments = parse::slices(alloc, segments.as_slice())?;
-    let segments = segments.as_slice();
+    audited(alloc, segments.as_slice())
+}
+
+/// The answer to these segments.
+fn audited(alloc: Global, segments: &[&[u8]]) -> Result<String, Fault> {
     if SegmentArray::new(segments).is_none() {
         return Err(Fault::Unfit);
     }
@@ -20,7 +24,7 @@ pub fn answer(alloc: Global, line: &str) -> Result<String, Fault> {
     let mut out = Output::new(alloc);
     match audit(alloc, segments) {
         Ok(is_built) => out.flag(is_built),
-        Err(kind) => out.refusal(kind),
+        Err(kind) => out.put(kind),
     }
     Ok(out.into_text()?)
 }

@@ -9,71 +9,15 @@ mod place;
 mod pointers;
 mod structs;
 
-use self::call::{Call, FORMS, MessageCall};
+use self::call::{Call, Copying, FORMS, MessageCall};
 use self::place::Place;
 use crate::calls::{self, Values};
-use crate::memory::{self, Memory};
+use crate::memory;
 use crate::output::Output;
 use crate::parse::{self, Fault};
 use capnp_arena::arena::{Allocator, BuilderArena, BuilderArenaImpl, ReaderArena};
 use capnp_readers::readers::PointerPlace;
 use std::alloc::Global;
-
-/// The answer to a line of a number of words, a number of segments, and calls.
-pub fn answer(alloc: Global, line: &str) -> Result<String, Fault> {
-    let parts = parse::parts(alloc, line, ' ')?;
-    let [words, segments, calls @ ..] = parts.as_slice() else {
-        return Err(Fault::Malformed);
-    };
-    let memory = Memory::new(words, segments)?;
-    match memory.scratch(alloc)? {
-        Some(mut scratch) => {
-            let allocator = memory.over(alloc, &mut scratch);
-            built_with(alloc, allocator, calls)
-        }
-        None => built_with(alloc, memory.limited(alloc), calls),
-    }
-}
-
-/// The answer to calls, by an allocator.
-fn built_with<A: Allocator>(alloc: Global, allocator: A, calls: &[&str]) -> Result<String, Fault> {
-    let mut out = Output::new(alloc);
-    match memory::built(alloc, allocator) {
-        Ok(mut arena) => {
-            put_answers(alloc, &mut arena, calls, &mut out)?;
-            memory::put_words(&arena, &mut out);
-        }
-        Err(kind) => {
-            out.text("refused ");
-            out.refusal(kind);
-        }
-    }
-    Ok(out.into_text()?)
-}
-
-/// Makes calls in order, and adds the answer of each with a `;` behind it.
-fn put_answers<A: Allocator>(
-    alloc: Global,
-    arena: &mut BuilderArenaImpl<A>,
-    calls: &[&str],
-    out: &mut Output,
-) -> Result<(), Fault> {
-    let mut kept = Vec::new(alloc);
-    keep(&mut kept, Place::Pointer(ROOT))?;
-    for text in calls {
-        match call_once(alloc, arena, kept.as_slice(), text, out) {
-            Ok(Some(place)) => {
-                place.put(out);
-                keep(&mut kept, place)?;
-            }
-            Ok(None) => {}
-            Err(Fault::Unfit) => out.text("none"),
-            Err(fault) => return Err(fault),
-        }
-        out.text(";");
-    }
-    Ok(())
-}
 
 /// The place of the root pointer.
 const ROOT: PointerPlace = PointerPlace {
@@ -81,12 +25,29 @@ const ROOT: PointerPlace = PointerPlace {
     word: 0,
 };
 
-/// Puts a place behind those that are kept.
-fn keep(kept: &mut Vec<Place>, place: Place) -> Result<(), Fault> {
-    match kept.push(place) {
-        Ok(()) => Ok(()),
-        Err(_) => Err(Fault::NoMemory),
+/// Makes calls in order, and adds the answer of each with a `;` behind it.
+pub fn put_answers<A: Allocator>(
+    alloc: Global,
+    arena: &mut BuilderArenaImpl<A>,
+    calls: &[&str],
+    out: &mut Output,
+) -> Result<(), Fault> {
+    let mut kept = Vec::new(alloc);
+    kept.push(Place::Pointer(ROOT))?;
+    for text in calls {
+        match call_once(alloc, arena, kept.as_slice(), text, out) {
+            Ok(Some(place)) => {
+                place.put(out);
+                kept.push(place)?;
+            }
+            Ok(None) => {}
+            Err(Fault::Unfit) => out.text("none"),
+            Err(Fault::Refused(kind)) => out.put(kind),
+            Err(fault) => return Err(fault),
+        }
+        out.text(";");
     }
+    Ok(())
 }
 
 /// Makes a call and adds its answer. Gives the place that is to be kept, if there is one.
@@ -103,19 +64,35 @@ fn call_once<A: Allocator>(
         return Err(Fault::Unfit);
     }
     match (call, place) {
-        (Call::Message(call), _) => message_call(arena, call, &values, out),
-        (Call::Read, Some(place)) => place.read(arena, out),
+        (Call::Message(call), _) => return message_call(arena, call, &values, out),
+        (Call::Read, Some(place)) => place.read(arena, out)?,
         (Call::Pointer(call), Some(Place::Pointer(place))) => {
-            pointers::call(alloc, arena, place, (call, &values), out)
+            return pointers::call(alloc, arena, place, (call, &values), out);
+        }
+        (Call::Bytes(blob, call), Some(Place::Pointer(place))) => {
+            bytes::call(alloc, arena, place, (blob, call, &values), out)?;
         }
         (Call::Struct(call), Some(Place::Struct(place))) => {
-            structs::call(alloc, arena, place, (call, &values), out)
+            return structs::call(arena, place, (call, &values), out);
         }
         (Call::List(call), Some(Place::List(place))) => {
-            lists::call(arena, place, (call, &values), out)
+            return lists::call(arena, place, (call, &values), out);
         }
-        _ => Err(Fault::Unfit),
+        (Call::Copy(copying), Some(Place::Pointer(place))) => {
+            copies::copy(alloc, arena, Place::Pointer(place), (copying, &values), out)?;
+        }
+        (Call::Content, Some(Place::Struct(place))) => {
+            copies::copy(
+                alloc,
+                arena,
+                Place::Struct(place),
+                (Copying::Struct, &values),
+                out,
+            )?;
+        }
+        _ => return Err(Fault::Unfit),
     }
+    Ok(None)
 }
 
 /// The place that a call is made of, and the call: the place by its number before a point, or that
@@ -142,9 +119,9 @@ fn message_call<A: Allocator>(
 ) -> Result<Option<Place>, Fault> {
     match call {
         MessageCall::Words => memory::put_words(&*arena, out),
-        MessageCall::Len => out.number(arena.len()),
-        MessageCall::Refused => out.number(arena.refused()),
-        MessageCall::Size => out.number(arena.size_in_words()),
+        MessageCall::Len => out.put(arena.len()),
+        MessageCall::Refused => out.put(arena.refused()),
+        MessageCall::Size => out.put(arena.size_in_words()),
         MessageCall::Allocated => allocated(arena, values.count, out),
         MessageCall::WriteAllocated => {
             write_allocated(arena, values.count, (values.index, values.byte), out)?;

@@ -66,30 +66,38 @@ impl<'l> Values<'l> {
     /// Reads an argument, by its letter.
     fn put(&mut self, letter: u8, word: &'l str) -> Result<(), Fault> {
         match letter {
-            b'd' => self.sections.data_words = parse::number(word)?,
-            b'p' => self.sections.pointers = parse::number(word)?,
+            b'd' => parse::put_number(word, &mut self.sections.data_words),
+            b'p' => parse::put_number(word, &mut self.sections.pointers),
+            b'i' => parse::put_number(word, &mut self.index),
+            b'c' => parse::put_number(word, &mut self.count),
+            b'w' => parse::put_number(word, &mut self.word),
+            b'n' => parse::put_number(word, &mut self.number),
+            b'b' => parse::put_number(word, &mut self.byte),
+            b'l' => parse::put_number(word, &mut self.source.options.nesting_limit),
+            _ => self.put_named(letter, word),
+        }
+    }
+
+    /// The same of what isn't a mere number.
+    fn put_named(&mut self, letter: u8, word: &'l str) -> Result<(), Fault> {
+        match letter {
             b's' => self.size = parse::element_size(word)?,
             b't' => self.element = element_type(word)?,
-            b'i' => self.index = parse::number(word)?,
-            b'c' => self.count = parse::number(word)?,
-            b'w' => self.word = parse::number(word)?,
-            b'n' => self.number = parse::number(word)?,
-            b'b' => self.byte = parse::number(word)?,
             b'f' => self.flag = parse::flag(word)?,
+            b'r' => self.source.options.traversal_limit_in_words = parse::limit(word)?,
             _ => return self.put_text(letter, word),
         }
         Ok(())
     }
 
-    /// The same of an argument that is kept as it is written, and of what another message is.
+    /// The same of what is kept as it is written.
     fn put_text(&mut self, letter: u8, word: &'l str) -> Result<(), Fault> {
         let has_form = match letter {
-            b'h' => source::is_hex(word),
-            b'o' => word == "none" || source::is_hex(word),
+            b'h' => parse::is_hex(word),
+            b'o' => word == "none" || parse::is_hex(word),
             b'g' => source::are_segments(word),
-            b'e' if word == "-" => matches!(self.element, ElementType::Void),
-            b'e' | b'v' | b'm' => parse::is_number(word),
-            _ => true,
+            b'e' if matches!(self.element, ElementType::Void) => word == "-",
+            _ => parse::is_number(word),
         };
         if !has_form {
             return Err(Fault::Malformed);
@@ -99,8 +107,6 @@ impl<'l> Values<'l> {
             b'o' => self.hex = if word == "none" { None } else { Some(word) },
             b'g' => self.source.segments = word,
             b'm' => self.mask = Some(word),
-            b'l' => self.source.options.nesting_limit = parse::number(word)?,
-            b'r' => self.source.options.traversal_limit_in_words = parse::limit(word)?,
             _ => self.digits = word,
         }
         Ok(())

@@ -1,10 +1,9 @@
 //! Edits of a message that is built, and what becomes of each.
 
 use crate::calls::{self, Form, Values};
-use crate::memory::{self, Memory};
 use crate::output::Output;
 use crate::parse::{self, Fault};
-use capnp_arena::arena::{Allocator, BuilderArena, ReaderArenaImpl, SegmentArray};
+use capnp_arena::arena::{BuilderArena, ReaderArenaImpl, SegmentArray};
 use capnp_edits::edit::{Edit, Op, Source, Step, apply};
 use capnp_words::error::ErrorKind;
 use std::alloc::Global;
@@ -63,64 +62,32 @@ static FORMS: [Form<Name>; 23] = [
     ("wd", "cb", 2, Name::WriteData),
 ];
 
-/// The answer to a line of a number of words, a number of segments, and edits.
-pub fn answer(alloc: Global, line: &str) -> Result<String, Fault> {
-    let parts = parse::parts(alloc, line, ' ')?;
-    let [words, segments, edits] = parts.as_slice() else {
-        return Err(Fault::Malformed);
-    };
-    let memory = Memory::new(words, segments)?;
-    match memory.scratch(alloc)? {
-        Some(mut scratch) => {
-            let allocator = memory.over(alloc, &mut scratch);
-            built_with(alloc, allocator, edits)
-        }
-        None => built_with(alloc, memory.limited(alloc), edits),
-    }
-}
-
-/// The answer to edits, by an allocator.
-fn built_with<A: Allocator>(alloc: Global, allocator: A, edits: &str) -> Result<String, Fault> {
-    let mut out = Output::new(alloc);
-    match memory::built(alloc, allocator) {
-        Ok(mut arena) => {
-            put_outcomes(alloc, &mut arena, edits, &mut out)?;
-            out.text(" ");
-            memory::put_words(&arena, &mut out);
-        }
-        Err(kind) => {
-            out.text("refused ");
-            out.refusal(kind);
-        }
-    }
-    Ok(out.into_text()?)
-}
-
-/// Does edits, and adds what becomes of each, parted by `;`.
-fn put_outcomes<A: BuilderArena>(
+/// Does the edits of a word, and adds what becomes of each, parted by `;`.
+pub fn put_outcomes<A: BuilderArena>(
     alloc: Global,
     arena: &mut A,
-    edits: &str,
+    words: &[&str],
     out: &mut Output,
 ) -> Result<(), Fault> {
+    let [edits] = words else {
+        return Err(Fault::Malformed);
+    };
     for (i, edit) in edits.split(';').enumerate() {
         if i > 0 {
             out.text(";");
         }
-        match edit_once(alloc, arena, edit)? {
+        match edit_once(alloc, arena, edit) {
             Ok(()) => out.text("ok"),
-            Err(kind) => out.refusal(kind),
+            Err(Fault::Refused(kind)) => out.put(kind),
+            Err(fault) => return Err(fault),
         }
     }
+    out.text(" ");
     Ok(())
 }
 
 /// Does an edit of the form `PATH:OP,ARGUMENT,..`.
-fn edit_once<A: BuilderArena>(
-    alloc: Global,
-    arena: &mut A,
-    text: &str,
-) -> Result<Result<(), ErrorKind>, Fault> {
+fn edit_once<A: BuilderArena>(alloc: Global, arena: &mut A, text: &str) -> Result<(), Fault> {
     let Some((path, call)) = text.split_once(':') else {
         return Err(Fault::Malformed);
     };
@@ -139,10 +106,7 @@ fn path_of(alloc: Global, text: &str) -> Result<Vec<Step>, Fault> {
         return Ok(path);
     }
     for step in text.split('.') {
-        match path.push(step_of(step)?) {
-            Ok(()) => {}
-            Err(_) => return Err(Fault::NoMemory),
-        }
+        path.push(step_of(step)?)?;
     }
     Ok(path)
 }
@@ -164,7 +128,7 @@ fn read_bytes<A: BuilderArena>(
     arena: &mut A,
     path: &[Step],
     (name, values): (Name, &Values<'_>),
-) -> Result<Result<(), ErrorKind>, Fault> {
+) -> Result<(), Fault> {
     let bytes = parse::bytes(alloc, values.hex.unwrap_or("-"))?;
     let given = if values.hex.is_some() {
         Some(bytes.as_slice())
@@ -180,14 +144,14 @@ fn read_source<A: BuilderArena>(
     arena: &mut A,
     path: &[Step],
     call: (Name, &Values<'_>, Option<&[u8]>),
-) -> Result<Result<(), ErrorKind>, Fault> {
+) -> Result<(), Fault> {
     let segments = call.1.source.segments(alloc)?;
     let slices = parse::slices(alloc, segments.as_slice())?;
     let Some(array) = SegmentArray::new(slices.as_slice()) else {
         return Err(Fault::Unfit);
     };
     let message = ReaderArenaImpl::new(array, call.1.source.options);
-    Ok(apply_at(arena, path, call, &message))
+    Ok(apply_at(arena, path, call, &message)?)
 }
 
 /// The same with that message.

@@ -1,19 +1,28 @@
-//! Elements of lists that are read, where there are any of the kind that is asked for.
+//! Readers that calls give, and the elements of lists that they read. An element that there isn't is `Unfit`.
 
+use crate::parse::Fault;
 use capnp_arena::arena::ReaderArena;
 use capnp_readers::readers::{ListReader, PointerReader, PrimitiveElement, StructReader};
 use capnp_words::wire_pointer::{ElementSize, data_bits_per_element};
+
+/// A reader that a call has given.
+#[derive_where(Clone, Copy)]
+pub enum Reader<'a, A: ReaderArena> {
+    Pointer(PointerReader<'a, A>),
+    Struct(StructReader<'a, A>),
+    List(ListReader<'a, A>),
+}
 
 /// A number or a bit of a list whose elements are wide enough.
 pub fn number_at<E: PrimitiveElement, A: ReaderArena>(
     list: &ListReader<'_, A>,
     index: u32,
-) -> Option<E> {
+) -> Result<E, Fault> {
     let needed = data_bits_per_element(E::element_size());
     if index < list.len() && needed <= list.element_data_bits() {
-        Some(E::get(list, index))
+        Ok(E::get(list, index))
     } else {
-        None
+        Err(Fault::Unfit)
     }
 }
 
@@ -21,11 +30,11 @@ pub fn number_at<E: PrimitiveElement, A: ReaderArena>(
 pub fn struct_at<'a, A: ReaderArena>(
     list: &ListReader<'a, A>,
     index: u32,
-) -> Option<StructReader<'a, A>> {
+) -> Result<StructReader<'a, A>, Fault> {
     if index < list.len() && list.get_element_size() != ElementSize::Bit {
-        Some(list.get_struct_element(index))
+        Ok(list.get_struct_element(index))
     } else {
-        None
+        Err(Fault::Unfit)
     }
 }
 
@@ -33,11 +42,11 @@ pub fn struct_at<'a, A: ReaderArena>(
 pub fn own_struct_at<'a, A: ReaderArena>(
     list: &ListReader<'a, A>,
     index: u32,
-) -> Option<StructReader<'a, A>> {
+) -> Result<StructReader<'a, A>, Fault> {
     if index < list.len() && list.get_element_size() != ElementSize::Bit {
-        Some(list.element(index))
+        Ok(list.element(index))
     } else {
-        None
+        Err(Fault::Unfit)
     }
 }
 
@@ -45,24 +54,24 @@ pub fn own_struct_at<'a, A: ReaderArena>(
 pub fn pointer_at<'a, A: ReaderArena>(
     list: &ListReader<'a, A>,
     index: u32,
-) -> Option<PointerReader<'a, A>> {
+) -> Result<PointerReader<'a, A>, Fault> {
     if index >= list.len() {
-        return None;
+        return Err(Fault::Unfit);
     }
     match list.get_element_size() {
-        ElementSize::Pointer => Some(list.get_pointer_element(index)),
+        ElementSize::Pointer => Ok(list.get_pointer_element(index)),
         ElementSize::InlineComposite if list.struct_size().pointers > 0 => {
-            Some(list.get_pointer_element(index))
+            Ok(list.get_pointer_element(index))
         }
-        _ => None,
+        _ => Err(Fault::Unfit),
     }
 }
 
 /// The lowest bits of an element's data.
-pub fn low_data_at<A: ReaderArena>(list: &ListReader<'_, A>, index: u32) -> Option<u64> {
+pub fn low_data_at<A: ReaderArena>(list: &ListReader<'_, A>, index: u32) -> Result<u64, Fault> {
     if index < list.len() {
-        Some(list.element_data(index))
+        Ok(list.element_data(index))
     } else {
-        None
+        Err(Fault::Unfit)
     }
 }

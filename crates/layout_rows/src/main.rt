@@ -3,6 +3,7 @@
 #![tactic(auto)]
 
 mod audits;
+mod building;
 mod builds;
 mod calls;
 mod edits;
@@ -10,6 +11,7 @@ mod elements;
 mod memory;
 mod output;
 mod parse;
+mod reading;
 mod reads;
 mod source;
 mod types;
@@ -92,15 +94,16 @@ fn respond(rt: &HostRuntime, command: Command) -> io::Result<()> {
 /// The answer to a line.
 fn answer(alloc: Global, command: Command, line: &str) -> Result<String, AllocError> {
     let answered = match command {
-        Command::Walk => walk::answer(alloc, line),
-        Command::Reads => reads::answer(alloc, line),
-        Command::Edits => edits::answer(alloc, line),
-        Command::Builds => builds::answer(alloc, line),
+        Command::Walk => reading::answer(alloc, reading::Task::Walk, line),
+        Command::Reads => reading::answer(alloc, reading::Task::Calls, line),
+        Command::Edits => building::answer(alloc, building::Task::Edits, line),
+        Command::Builds => building::answer(alloc, building::Task::Calls, line),
         Command::Audits => audits::answer(alloc, line),
     };
     match answered {
         Ok(text) => Ok(text),
         Err(Fault::NoMemory) => Err(AllocError),
+        Err(Fault::Refused(kind)) => format!(in alloc; "refused {kind}"),
         Err(Fault::Malformed | Fault::Unfit) => String::from_str(alloc, "malformed"),
     }
 }

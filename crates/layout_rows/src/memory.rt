@@ -35,14 +35,11 @@ impl Memory {
         if words > MAX_SEGMENT_WORDS {
             return Err(Fault::Unfit);
         }
-        let (segments, rows) = match segments.split_once('/') {
-            Some((segments, rows)) => (count(segments)?, count(rows)?),
-            None => (count(segments)?, u32::MAX),
-        };
+        let (segments, rows) = segments.split_once('/').unwrap_or((segments, "none"));
         Ok(Memory {
             words,
-            segments,
-            rows,
+            segments: count(segments)?,
+            rows: count(rows)?,
             scratch_words,
         })
     }

@@ -1,7 +1,6 @@
 //! The line that is written, part by part.
 
-use capnp_words::error::ErrorKind;
-use capnp_words::wire_pointer::ElementSize;
+use capnp_words::wire_pointer::{ElementSize, PointerType, StructSize};
 use std::alloc::{AllocError, Global};
 use std::fmt::Display;
 
@@ -40,17 +39,31 @@ impl Output {
         }
     }
 
-    /// Adds a number in decimal digits, a negative one behind a `-`.
-    pub fn number<N: Display + Drop>(&mut self, n: N) {
-        match format!(in self.alloc; "{n}") {
-            Ok(digits) => self.text(digits.as_str()),
+    /// Adds a number in decimal digits, or the name of a refusal, with its number where it has one.
+    pub fn put<V: Display + Drop>(&mut self, value: V) {
+        match format!(in self.alloc; "{value}") {
+            Ok(shown) => self.text(shown.as_str()),
             Err(_) => self.is_lost = true,
         }
+    }
+
+    /// Adds a `/` and a number.
+    pub fn slash<V: Display + Drop>(&mut self, value: V) {
+        self.text("/");
+        self.put(value);
     }
 
     /// Adds 1 for yes, 0 for no.
     pub fn flag(&mut self, yes: bool) {
         self.text(if yes { "1" } else { "0" });
+    }
+
+    /// Adds what a limiter has left, or `none`.
+    pub fn left(&mut self, words: Option<usize>) {
+        match words {
+            Some(words) => self.put(words),
+            None => self.text("none"),
+        }
     }
 
     /// Adds bytes as hex digits.
@@ -84,11 +97,21 @@ impl Output {
         });
     }
 
-    /// Adds the name of a refusal, with its number where it has one.
-    pub fn refusal(&mut self, kind: ErrorKind) {
-        match format!(in self.alloc; "{kind}") {
-            Ok(name) => self.text(name.as_str()),
-            Err(_) => self.is_lost = true,
-        }
+    /// Adds what the elements of a list are, each number behind a `/`.
+    pub fn elements(&mut self, size: ElementSize, structs: StructSize) {
+        self.text("/");
+        self.element_size(size);
+        self.slash(structs.data_words);
+        self.slash(structs.pointers);
+    }
+
+    /// Adds the letter of what a pointer leads to.
+    pub fn pointer_type(&mut self, found: PointerType) {
+        self.text(match found {
+            PointerType::Null => "n",
+            PointerType::Struct => "s",
+            PointerType::List => "l",
+            PointerType::Capability => "c",
+        });
     }
 }

@@ -1,18 +1,27 @@
 //! The parts of a line: numbers, bytes, segments, sizes.
 
-use capnp_words::wire_pointer::{ElementSize, StructSize};
-use std::alloc::{AllocError, Global};
+use capnp_words::error::ErrorKind;
+use capnp_words::wire_pointer::ElementSize;
+use std::alloc::{AllocError, AllocFailed, Global};
 use std::str::FromStr;
 
 /// Why a line, or a call of it, has no answer of its own.
-#[derive(Clone, Copy, PartialEq, Eq)]
+#[derive(Clone, Copy)]
 pub enum Fault {
     /// The line isn't of its command's form.
     Malformed,
     /// A number is outside of what its type or its call allows, or a call doesn't fit what it is made of.
     Unfit,
+    /// The call is made, and refused.
+    Refused(ErrorKind),
     /// There was no memory.
     NoMemory,
+}
+
+impl From<ErrorKind> for Fault {
+    fn from(kind: ErrorKind) -> Self {
+        Fault::Refused(kind)
+    }
 }
 
 impl From<AllocError> for Fault {
@@ -21,14 +30,17 @@ impl From<AllocError> for Fault {
     }
 }
 
-/// The parts of a text between separators.
-pub fn parts(alloc: Global, text: &str, separator: char) -> Result<Vec<&str>, Fault> {
+impl<T: Drop> From<AllocFailed<T>> for Fault {
+    fn from(_: AllocFailed<T>) -> Self {
+        Fault::NoMemory
+    }
+}
+
+/// The words of a line, with one space between.
+pub fn words(alloc: Global, line: &str) -> Result<Vec<&str>, AllocError> {
     let mut list = Vec::new(alloc);
-    for part in text.split(separator) {
-        match list.push(part) {
-            Ok(()) => {}
-            Err(_) => return Err(Fault::NoMemory),
-        }
+    for word in line.split(' ') {
+        list.push(word)?;
     }
     Ok(list)
 }
@@ -55,6 +67,15 @@ where
         Ok(n) => Ok(n),
         Err(_) => Err(Fault::Unfit),
     }
+}
+
+/// Puts a number in decimal digits in the place of another one.
+pub fn put_number<T: FromStr + Copy>(text: &str, to: &mut T) -> Result<(), Fault>
+where
+    T::Err: Drop,
+{
+    *to = number(text)?;
+    Ok(())
 }
 
 /// Yes or no, as 1 and 0.
@@ -89,32 +110,24 @@ pub fn element_size(text: &str) -> Result<ElementSize, Fault> {
     }
 }
 
-/// The sections of a struct, in two arguments.
-pub fn struct_size(data_words: &str, pointers: &str) -> Result<StructSize, Fault> {
-    Ok(StructSize {
-        data_words: number(data_words)?,
-        pointers: number(pointers)?,
-    })
+/// Whether a text is bytes in lower-case hex digits, or `-`.
+pub fn is_hex(text: &str) -> bool {
+    let digits = text.as_bytes();
+    text == "-"
+        || digits.len() >= 2
+            && digits.len() % 2 == 0
+            && digits
+                .iter()
+                .all(|c| matches!(c, b'0'..=b'9' | b'a'..=b'f'))
 }
 
-/// The bytes of hex digits; `-` is none.
+/// The bytes of lower-case hex digits; `-` is none.
 pub fn bytes(alloc: Global, text: &str) -> Result<Vec<u8>, Fault> {
-    if text == "-" {
-        return Ok(Vec::new(alloc));
-    }
-    if text.is_empty() {
+    if !is_hex(text) {
         return Err(Fault::Malformed);
     }
-    hex_digits(alloc, text)
-}
-
-/// The bytes of lower-case hex digits, of which there may be none.
-fn hex_digits(alloc: Global, text: &str) -> Result<Vec<u8>, Fault> {
-    let upper = text.as_bytes().iter().any(|c| c.is_ascii_uppercase());
-    if upper {
-        return Err(Fault::Malformed);
-    }
-    match hex::decode(alloc, text) {
+    let digits = if text == "-" { "" } else { text };
+    match hex::decode(alloc, digits) {
         Ok(list) => Ok(list),
         Err(hex::FromHexError::OutOfMemory) => Err(Fault::NoMemory),
         Err(_) => Err(Fault::Malformed),
@@ -134,27 +147,17 @@ pub fn segments(
         return Ok(list);
     }
     for part in text.split(separator) {
-        let segment = if part == empty {
-            Vec::new(alloc)
-        } else {
-            bytes(alloc, part)?
-        };
-        match list.push(segment) {
-            Ok(()) => {}
-            Err(_) => return Err(Fault::NoMemory),
-        }
+        let digits = if part == empty { "-" } else { part };
+        list.push(bytes(alloc, digits)?)?;
     }
     Ok(list)
 }
 
 /// The bytes of each segment.
-pub fn slices(alloc: Global, segments: &[Vec<u8>]) -> Result<Vec<&[u8]>, Fault> {
+pub fn slices(alloc: Global, segments: &[Vec<u8>]) -> Result<Vec<&[u8]>, AllocError> {
     let mut list = Vec::new(alloc);
     for segment in segments {
-        match list.push(segment.as_slice()) {
-            Ok(()) => {}
-            Err(_) => return Err(Fault::NoMemory),
-        }
+        list.push(segment.as_slice())?;
     }
     Ok(list)
 }

@@ -22,16 +22,6 @@ impl SourceText<'_> {
 
 /// Whether a text is segments with slashes between, each `.` or bytes.
 pub fn are_segments(text: &str) -> bool {
-    text.split('/').all(|part| part == "." || is_hex(part))
-}
-
-/// Whether a text is bytes in lower-case hex digits, or `-`.
-pub fn is_hex(text: &str) -> bool {
-    let digits = text.as_bytes();
-    text == "-"
-        || digits.len() >= 2
-            && digits.len() % 2 == 0
-            && digits
-                .iter()
-                .all(|c| matches!(c, b'0'..=b'9' | b'a'..=b'f'))
+    text.split('/')
+        .all(|part| part == "." || parse::is_hex(part))
 }

@@ -24,30 +24,20 @@ pub enum ElementType {
     Number(NumberType),
 }
 
-/// The type of numbers of a name, if it is one.
-pub fn number_type(name: &str) -> Option<NumberType> {
-    match name {
-        "u8" => Some(NumberType::U8),
-        "u16" => Some(NumberType::U16),
-        "u32" => Some(NumberType::U32),
-        "u64" => Some(NumberType::U64),
-        "i8" => Some(NumberType::I8),
-        "i16" => Some(NumberType::I16),
-        "i32" => Some(NumberType::I32),
-        "i64" => Some(NumberType::I64),
-        _ => None,
-    }
-}
-
 /// The type of elements of a name.
 pub fn element_type(name: &str) -> Result<ElementType, Fault> {
     match name {
         "void" => Ok(ElementType::Void),
         "bool" => Ok(ElementType::Bool),
-        _ => match number_type(name) {
-            Some(number) => Ok(ElementType::Number(number)),
-            None => Err(Fault::Malformed),
-        },
+        "u8" => Ok(ElementType::Number(NumberType::U8)),
+        "u16" => Ok(ElementType::Number(NumberType::U16)),
+        "u32" => Ok(ElementType::Number(NumberType::U32)),
+        "u64" => Ok(ElementType::Number(NumberType::U64)),
+        "i8" => Ok(ElementType::Number(NumberType::I8)),
+        "i16" => Ok(ElementType::Number(NumberType::I16)),
+        "i32" => Ok(ElementType::Number(NumberType::I32)),
+        "i64" => Ok(ElementType::Number(NumberType::I64)),
+        _ => Err(Fault::Malformed),
     }
 }
 

@@ -1,15 +1,14 @@
-//! A message, of which all calls of readers are made in a fixed order, from the root two levels down.
+//! All calls of readers, in a fixed order, from the root of a message two levels down.
 ghost use Rattle.std.specs.Prelude.{◌<◌, ◌/◌, ◌^◌, length};
 
 use crate::elements::{number_at, pointer_at, struct_at};
 use crate::output::Output;
-use crate::parse::{self, Fault};
-use capnp_arena::arena::{ReaderArena, ReaderArenaImpl, ReaderOptions, SegmentArray};
+use capnp_arena::arena::ReaderArena;
 use capnp_readers::readers::{ListReader, MessageSize, PointerReader, StructReader};
 use capnp_words::error::ErrorKind;
 use capnp_words::read_limiter::ReadLimiter;
 use capnp_words::wire_pointer::{ElementSize, PointerType};
-use std::alloc::Global;
+use std::alloc::{AllocError, Global};
 
 /// How many levels below the root are read.
 const LEVELS: u32 = 2;
@@ -56,38 +55,19 @@ const BYTES: [u8; 16] = [
 /// A default whose root is null.
 const NULL: [u8; 8] = [0; 8];
 
-/// The answer to a line.
-pub fn answer(alloc: Global, line: &str) -> Result<String, Fault> {
-    let words = parse::parts(alloc, line, ' ')?;
-    let [nesting, budget, segments] = *words.as_slice() else {
-        return Err(Fault::Malformed);
-    };
-    let options = ReaderOptions {
-        nesting_limit: parse::number(nesting)?,
-        traversal_limit_in_words: parse::limit(budget)?,
-    };
-    let segments = parse::segments(alloc, segments, ',', "")?;
-    let slices = parse::slices(alloc, segments.as_slice())?;
-    walk_segments(alloc, slices.as_slice(), options)
-}
-
-/// The answer to a message of segments.
-fn walk_segments(
+/// The answers to all calls.
+pub fn answer<A: ReaderArena>(
     alloc: Global,
-    segments: &[&[u8]],
-    options: ReaderOptions,
-) -> Result<String, Fault> {
-    let Some(array) = SegmentArray::new(segments) else {
-        return Err(Fault::Malformed);
-    };
-    let arena = ReaderArenaImpl::new(array, options);
+    arena: &A,
+    limiter: ReadLimiter,
+) -> Result<String, AllocError> {
     let mut walk = Walk {
-        limiter: ReadLimiter::new(options.traversal_limit_in_words),
+        limiter,
         out: Output::new(alloc),
     };
-    walk.message(&arena);
+    walk.message(arena);
     let Walk { limiter: _, out } = walk;
-    Ok(out.into_text()?)
+    out.into_text()
 }
 
 /// The limiter of all calls, and what they have answered.
@@ -101,20 +81,15 @@ impl Walk {
     /// The root and all that it leads to, and what is left of the budget.
     fn message<A: ReaderArena>(&mut self, arena: &A) {
         match PointerReader::get_root_from_arena(arena, &mut self.limiter) {
-            Ok(root) => self.root(root),
+            Ok(root) => {
+                self.pointer(root, LEVELS);
+                self.out.text("left ");
+                self.out.left(self.limiter.left());
+            }
             Err(kind) => {
                 self.out.text("refused ");
                 self.out.text(kind.name());
             }
-        }
-    }
-
-    fn root<A: ReaderArena>(&mut self, root: PointerReader<'_, A>) {
-        self.pointer(root, LEVELS);
-        self.out.text("left ");
-        match self.limiter.left() {
-            Some(words) => self.out.number(words),
-            None => self.out.text("none"),
         }
     }
 
@@ -192,45 +167,39 @@ impl Walk {
     /// The bytes of a text or of data.
     fn bytes(&mut self, read: Result<&[u8], ErrorKind>) {
         match read {
-            Ok(bytes) => {
-                self.out.hex(bytes);
-                self.out.text(";");
-            }
-            Err(kind) => self.refusal(kind),
+            Ok(bytes) => self.out.hex(bytes),
+            Err(kind) => self.out.text(kind.name()),
         }
+        self.out.text(";");
     }
 
     /// How many words and capabilities there are.
     fn size(&mut self, size: Result<MessageSize, ErrorKind>) {
         match size {
             Ok(size) => {
-                self.out.number(size.word_count);
+                self.out.put(size.word_count);
                 self.out.text(" ");
-                self.out.number(size.cap_count);
-                self.out.text(";");
+                self.out.put(size.cap_count);
             }
-            Err(kind) => self.refusal(kind),
+            Err(kind) => self.out.text(kind.name()),
         }
+        self.out.text(";");
     }
 
     fn capability(&mut self, index: Result<u32, ErrorKind>) {
         match index {
-            Ok(index) => {
-                self.out.number(index);
-                self.out.text(";");
-            }
-            Err(kind) => self.refusal(kind),
+            Ok(index) => self.out.put(index),
+            Err(kind) => self.out.text(kind.name()),
         }
+        self.out.text(";");
     }
 
     fn pointer_type(&mut self, found: Result<PointerType, ErrorKind>) {
         match found {
-            Ok(PointerType::Null) => self.out.text("n;"),
-            Ok(PointerType::Struct) => self.out.text("s;"),
-            Ok(PointerType::List) => self.out.text("l;"),
-            Ok(PointerType::Capability) => self.out.text("c;"),
-            Err(kind) => self.refusal(kind),
+            Ok(found) => self.out.pointer_type(found),
+            Err(kind) => self.out.text(kind.name()),
         }
+        self.out.text(";");
     }
 
     /// The calls at a pointer that give no reader.
@@ -287,7 +256,7 @@ impl Walk {
     fn default_list<A: ReaderArena>(&mut self, list: &ListReader<'_, A>, size: ElementSize) {
         self.length(list);
         if size == ElementSize::InlineComposite && !list.is_empty() {
-            if let Some(last) = struct_at(list, list.len() - 1) {
+            if let Ok(last) = struct_at(list, list.len() - 1) {
                 self.out.hex(last.data_bytes());
             }
         }
@@ -296,7 +265,7 @@ impl Walk {
 
     /// How many elements a list has, and how wide they are.
     fn length<A: ReaderArena>(&mut self, list: &ListReader<'_, A>) {
-        self.out.number(list.len());
+        self.out.put(list.len());
         self.out.text(" ");
         self.out.element_size(list.get_element_size());
     }
@@ -314,14 +283,16 @@ impl Walk {
     fn element<A: ReaderArena>(&mut self, list: &ListReader<'_, A>, size: ElementSize, index: u32) {
         match size {
             ElementSize::Void => {}
-            ElementSize::Pointer => match pointer_at(list, index) {
-                Some(pointer) => self.out.flag(pointer.is_null()),
-                None => {}
-            },
-            ElementSize::InlineComposite => match struct_at(list, index) {
-                Some(found) => self.struct_element(found),
-                None => {}
-            },
+            ElementSize::Pointer => {
+                if let Ok(pointer) = pointer_at(list, index) {
+                    self.out.flag(pointer.is_null());
+                }
+            }
+            ElementSize::InlineComposite => {
+                if let Ok(found) = struct_at(list, index) {
+                    self.struct_element(found);
+                }
+            }
             _ => self.number_element(list, size, index),
         }
     }
@@ -339,22 +310,22 @@ impl Walk {
         index: u32,
     ) {
         match size {
-            ElementSize::Bit => self.out.flag(number_at(list, index) == Some(true)),
+            ElementSize::Bit => self.out.flag(number_at(list, index).unwrap_or(false)),
             ElementSize::Byte => {
                 let n: i8 = number_at(list, index).unwrap_or(0);
-                self.out.number(n);
+                self.out.put(n);
             }
             ElementSize::TwoBytes => {
                 let n: u16 = number_at(list, index).unwrap_or(0);
-                self.out.number(n);
+                self.out.put(n);
             }
             ElementSize::FourBytes => {
                 let n: i32 = number_at(list, index).unwrap_or(0);
-                self.out.number(n);
+                self.out.put(n);
             }
             _ => {
                 let n: u64 = number_at(list, index).unwrap_or(0);
-                self.out.number(n);
+                self.out.put(n);
             }
         }
     }
@@ -362,8 +333,7 @@ impl Walk {
     /// The data of a struct, and how many pointers it has.
     fn sections<A: ReaderArena>(&mut self, found: StructReader<'_, A>) {
         self.out.hex(found.data_bytes());
-        self.out.text("/");
-        self.out.number(found.pointer_count());
+        self.out.slash(found.pointer_count());
     }
 
     /// A struct and some of its fields.
@@ -380,13 +350,13 @@ impl Walk {
     fn fields_at<A: ReaderArena>(&mut self, found: StructReader<'_, A>, step: u8) {
         let i = usize::from(step);
         self.out.text(" ");
-        self.out.number(found.get_data_field::<u8>(7 * i));
+        self.out.put(found.get_data_field::<u8>(7 * i));
         self.out.text(" ");
-        self.out.number(found.get_data_field_mask::<i16>(3 * i, -2));
+        self.out.put(found.get_data_field_mask::<i16>(3 * i, -2));
         self.out.text(" ");
-        self.out.number(found.get_data_field::<u32>(i));
+        self.out.put(found.get_data_field::<u32>(i));
         self.out.text(" ");
-        self.out.number(found.get_data_field::<i64>(i));
+        self.out.put(found.get_data_field::<i64>(i));
         self.out.text(" ");
         self.out.flag(found.get_bool_field_mask(63 * i, i == 1));
         self.out.text(" ");
@@ -401,10 +371,10 @@ fn child_of<'a, A: ReaderArena>(
     index: u32,
 ) -> Option<PointerReader<'a, A>> {
     match size {
-        ElementSize::Pointer => pointer_at(list, index),
+        ElementSize::Pointer => pointer_at(list, index).ok(),
         ElementSize::InlineComposite => match struct_at(list, index) {
-            Some(found) => Some(found.get_pointer_field(0)),
-            None => None,
+            Ok(found) => Some(found.get_pointer_field(0)),
+            Err(_) => None,
         },
         _ => None,
     }

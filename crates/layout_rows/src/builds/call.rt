@@ -12,8 +12,14 @@ pub enum Call {
     Read,
     /// Of a pointer.
     Pointer(PointerCall),
+    /// Of a pointer that leads to text or to data.
+    Bytes(Blob, BlobCall),
+    /// Of a pointer, which becomes a copy.
+    Copy(Copying),
     /// Of a struct.
     Struct(StructCall),
+    /// Of a struct, whose content becomes a copy.
+    Content,
     /// Of a list.
     List(ListCall),
 }
@@ -40,34 +46,33 @@ pub enum MessageCall {
 /// A call of a pointer.
 #[derive(Clone, Copy)]
 pub enum PointerCall {
+    Word(WordCall),
+    PutDefault,
+    Struct(Verb),
+    List(Verb),
+    StructList(Verb),
+}
+
+/// A call on a pointer's word alone.
+#[derive(Clone, Copy)]
+pub enum WordCall {
     IsNull,
     Clear,
     SetCapability,
     GetCapability,
-    /// An object is made.
-    Make(Made, Object),
-    PutDefault,
-    /// An object is looked for.
-    Seek(Made, Object),
-    Bytes(Blob, BlobCall),
-    Copy(Copying),
 }
 
-/// In which form a call is made.
+/// How an object is made or looked for.
 #[derive(Clone, Copy)]
-pub enum Made {
-    /// `put_` and `find_`: the place is given.
-    Place,
-    /// `init_` and `get_`: the builder is given.
-    Builder,
-}
-
-/// An object that is made or looked for.
-#[derive(Clone, Copy)]
-pub enum Object {
-    Struct,
-    List,
-    StructList,
+pub enum Verb {
+    /// It is made, and its place is given.
+    Put,
+    /// It is made, and its builder is given.
+    Init,
+    /// It is looked for, and its place is given.
+    Find,
+    /// It is looked for, and its builder is given.
+    Get,
 }
 
 /// What the bytes of a list are.
@@ -107,25 +112,31 @@ pub enum Copying {
     Section,
 }
 
+/// Whether a value is read or written.
+#[derive(Clone, Copy)]
+pub enum Access {
+    Get,
+    Set,
+}
+
 /// A call of a struct.
 #[derive(Clone, Copy)]
 pub enum StructCall {
-    Content,
     Field,
     IsFieldNull,
-    SetBool,
-    GetBool,
-    SetNumber(NumberType),
-    GetNumber(NumberType),
+    Bool(Access),
+    Number(NumberType, Access),
 }
 
 /// A call of a list.
 #[derive(Clone, Copy)]
 pub enum ListCall {
-    Element,
+    /// An element as a struct.
+    Struct,
+    /// The pointer of an element.
     Pointer,
-    Get,
-    Set,
+    /// An element that is neither.
+    Element(Access),
 }
 
 /// The calls that there are.
@@ -143,55 +154,65 @@ pub static FORMS: [Form<Call>; 65] = [
     ),
     ("pointer_at", "cw", 2, Call::Message(MessageCall::PointerAt)),
     ("read", "", 0, Call::Read),
-    ("is_null", "", 0, Call::Pointer(PointerCall::IsNull)),
-    ("clear", "", 0, Call::Pointer(PointerCall::Clear)),
+    (
+        "is_null",
+        "",
+        0,
+        Call::Pointer(PointerCall::Word(WordCall::IsNull)),
+    ),
+    (
+        "clear",
+        "",
+        0,
+        Call::Pointer(PointerCall::Word(WordCall::Clear)),
+    ),
     (
         "set_capability",
         "c",
         1,
-        Call::Pointer(PointerCall::SetCapability),
+        Call::Pointer(PointerCall::Word(WordCall::SetCapability)),
     ),
     (
         "get_capability",
         "",
         0,
-        Call::Pointer(PointerCall::GetCapability),
+        Call::Pointer(PointerCall::Word(WordCall::GetCapability)),
     ),
     (
         "put_struct",
         "dp",
         2,
-        Call::Pointer(PointerCall::Make(Made::Place, Object::Struct)),
+        Call::Pointer(PointerCall::Struct(Verb::Put)),
     ),
     (
         "init_struct",
         "dp",
         2,
-        Call::Pointer(PointerCall::Make(Made::Builder, Object::Struct)),
+        Call::Pointer(PointerCall::Struct(Verb::Init)),
     ),
     (
         "put_list",
         "sc",
         2,
-        Call::Pointer(PointerCall::Make(Made::Place, Object::List)),
+        Call::Pointer(PointerCall::List(Verb::Put)),
     ),
     (
         "init_list",
         "sc",
         2,
-        Call::Pointer(PointerCall::Make(Made::Builder, Object::List)),
+        Call::Pointer(PointerCall::List(Verb::Init)),
     ),
     (
         "put_struct_list",
         "cdp",
         3,
-        Call::Pointer(PointerCall::Make(Made::Place, Object::StructList)),
+        Call::Pointer(PointerCall::StructList(Verb::Put)),
     ),
     (
         "init_struct_list",
         "cdp",
         3,
-        Call::Pointer(PointerCall::Make(Made::Builder, Object::StructList)),
+        Call::Pointer(PointerCall::StructList(Verb::Init)),
     ),
     (
         "put_default",
@@ -203,129 +224,79 @@ pub static FORMS: [Form<Call>; 65] = [
         "find_struct",
         "dph",
         2,
-        Call::Pointer(PointerCall::Seek(Made::Place, Object::Struct)),
+        Call::Pointer(PointerCall::Struct(Verb::Find)),
     ),
     (
         "get_struct",
         "dph",
         2,
-        Call::Pointer(PointerCall::Seek(Made::Builder, Object::Struct)),
+        Call::Pointer(PointerCall::Struct(Verb::Get)),
     ),
     (
         "find_list",
         "sh",
         1,
-        Call::Pointer(PointerCall::Seek(Made::Place, Object::List)),
+        Call::Pointer(PointerCall::List(Verb::Find)),
     ),
     (
         "get_list",
         "sh",
         1,
-        Call::Pointer(PointerCall::Seek(Made::Builder, Object::List)),
+        Call::Pointer(PointerCall::List(Verb::Get)),
     ),
     (
         "find_struct_list",
         "dph",
         2,
-        Call::Pointer(PointerCall::Seek(Made::Place, Object::StructList)),
+        Call::Pointer(PointerCall::StructList(Verb::Find)),
     ),
     (
         "get_struct_list",
         "dph",
         2,
-        Call::Pointer(PointerCall::Seek(Made::Builder, Object::StructList)),
+        Call::Pointer(PointerCall::StructList(Verb::Get)),
     ),
     (
         "init_text",
         "ch",
         1,
-        Call::Pointer(PointerCall::Bytes(Blob::Text, BlobCall::Init)),
+        Call::Bytes(Blob::Text, BlobCall::Init),
     ),
     (
         "init_data",
         "ch",
         1,
-        Call::Pointer(PointerCall::Bytes(Blob::Data, BlobCall::Init)),
+        Call::Bytes(Blob::Data, BlobCall::Init),
     ),
-    (
-        "set_text",
-        "h",
-        1,
-        Call::Pointer(PointerCall::Bytes(Blob::Text, BlobCall::Set)),
-    ),
-    (
-        "set_data",
-        "h",
-        1,
-        Call::Pointer(PointerCall::Bytes(Blob::Data, BlobCall::Set)),
-    ),
-    (
-        "find_text",
-        "h",
-        0,
-        Call::Pointer(PointerCall::Bytes(Blob::Text, BlobCall::Find)),
-    ),
-    (
-        "find_data",
-        "h",
-        0,
-        Call::Pointer(PointerCall::Bytes(Blob::Data, BlobCall::Find)),
-    ),
-    (
-        "get_text",
-        "h",
-        0,
-        Call::Pointer(PointerCall::Bytes(Blob::Text, BlobCall::Get)),
-    ),
-    (
-        "get_data",
-        "h",
-        0,
-        Call::Pointer(PointerCall::Bytes(Blob::Data, BlobCall::Get)),
-    ),
+    ("set_text", "h", 1, Call::Bytes(Blob::Text, BlobCall::Set)),
+    ("set_data", "h", 1, Call::Bytes(Blob::Data, BlobCall::Set)),
+    ("find_text", "h", 0, Call::Bytes(Blob::Text, BlobCall::Find)),
+    ("find_data", "h", 0, Call::Bytes(Blob::Data, BlobCall::Find)),
+    ("get_text", "h", 0, Call::Bytes(Blob::Text, BlobCall::Get)),
+    ("get_data", "h", 0, Call::Bytes(Blob::Data, BlobCall::Get)),
     (
         "write_text",
         "ib",
         2,
-        Call::Pointer(PointerCall::Bytes(Blob::Text, BlobCall::Write)),
+        Call::Bytes(Blob::Text, BlobCall::Write),
     ),
     (
         "write_data",
         "ib",
         2,
-        Call::Pointer(PointerCall::Bytes(Blob::Data, BlobCall::Write)),
+        Call::Bytes(Blob::Data, BlobCall::Write),
     ),
-    (
-        "copy",
-        "glrf",
-        4,
-        Call::Pointer(PointerCall::Copy(Copying::Value)),
-    ),
-    (
-        "set_struct",
-        "glrf",
-        4,
-        Call::Pointer(PointerCall::Copy(Copying::Struct)),
-    ),
-    (
-        "set_list",
-        "sglrf",
-        5,
-        Call::Pointer(PointerCall::Copy(Copying::List)),
-    ),
+    ("copy", "glrf", 4, Call::Copy(Copying::Value)),
+    ("set_struct", "glrf", 4, Call::Copy(Copying::Struct)),
+    ("set_list", "sglrf", 5, Call::Copy(Copying::List)),
     (
         "set_struct_element",
         "cglrf",
         5,
-        Call::Pointer(PointerCall::Copy(Copying::Element)),
+        Call::Copy(Copying::Element),
     ),
-    (
-        "set_section",
-        "glrf",
-        4,
-        Call::Pointer(PointerCall::Copy(Copying::Section)),
-    ),
-    ("content", "glr", 3, Call::Struct(StructCall::Content)),
+    ("set_section", "glrf", 4, Call::Copy(Copying::Section)),
+    ("content", "glr", 3, Call::Content),
     ("field", "i", 1, Call::Struct(StructCall::Field)),
     (
         "is_field_null",
@@ -333,106 +304,111 @@ pub static FORMS: [Form<Call>; 65] = [
         1,
         Call::Struct(StructCall::IsFieldNull),
     ),
-    ("set_bool", "ifm", 2, Call::Struct(StructCall::SetBool)),
-    ("bool", "im", 1, Call::Struct(StructCall::GetBool)),
+    (
+        "set_bool",
+        "ifm",
+        2,
+        Call::Struct(StructCall::Bool(Access::Set)),
+    ),
+    ("bool", "im", 1, Call::Struct(StructCall::Bool(Access::Get))),
     (
         "set_u8",
         "ivm",
         2,
-        Call::Struct(StructCall::SetNumber(NumberType::U8)),
+        Call::Struct(StructCall::Number(NumberType::U8, Access::Set)),
     ),
     (
         "set_u16",
         "ivm",
         2,
-        Call::Struct(StructCall::SetNumber(NumberType::U16)),
+        Call::Struct(StructCall::Number(NumberType::U16, Access::Set)),
     ),
     (
         "set_u32",
         "ivm",
         2,
-        Call::Struct(StructCall::SetNumber(NumberType::U32)),
+        Call::Struct(StructCall::Number(NumberType::U32, Access::Set)),
     ),
     (
         "set_u64",
         "ivm",
         2,
-        Call::Struct(StructCall::SetNumber(NumberType::U64)),
+        Call::Struct(StructCall::Number(NumberType::U64, Access::Set)),
     ),
     (
         "set_i8",
         "ivm",
         2,
-        Call::Struct(StructCall::SetNumber(NumberType::I8)),
+        Call::Struct(StructCall::Number(NumberType::I8, Access::Set)),
     ),
     (
         "set_i16",
         "ivm",
         2,
-        Call::Struct(StructCall::SetNumber(NumberType::I16)),
+        Call::Struct(StructCall::Number(NumberType::I16, Access::Set)),
     ),
     (
         "set_i32",
         "ivm",
         2,
-        Call::Struct(StructCall::SetNumber(NumberType::I32)),
+        Call::Struct(StructCall::Number(NumberType::I32, Access::Set)),
     ),
     (
         "set_i64",
         "ivm",
         2,
-        Call::Struct(StructCall::SetNumber(NumberType::I64)),
+        Call::Struct(StructCall::Number(NumberType::I64, Access::Set)),
     ),
     (
         "u8",
         "im",
         1,
-        Call::Struct(StructCall::GetNumber(NumberType::U8)),
+        Call::Struct(StructCall::Number(NumberType::U8, Access::Get)),
     ),
     (
         "u16",
         "im",
         1,
-        Call::Struct(StructCall::GetNumber(NumberType::U16)),
+        Call::Struct(StructCall::Number(NumberType::U16, Access::Get)),
     ),
     (
         "u32",
         "im",
         1,
-        Call::Struct(StructCall::GetNumber(NumberType::U32)),
+        Call::Struct(StructCall::Number(NumberType::U32, Access::Get)),
     ),
     (
         "u64",
         "im",
         1,
-        Call::Struct(StructCall::GetNumber(NumberType::U64)),
+        Call::Struct(StructCall::Number(NumberType::U64, Access::Get)),
     ),
     (
         "i8",
         "im",
         1,
-        Call::Struct(StructCall::GetNumber(NumberType::I8)),
+        Call::Struct(StructCall::Number(NumberType::I8, Access::Get)),
     ),
     (
         "i16",
         "im",
         1,
-        Call::Struct(StructCall::GetNumber(NumberType::I16)),
+        Call::Struct(StructCall::Number(NumberType::I16, Access::Get)),
     ),
     (
         "i32",
         "im",
         1,
-        Call::Struct(StructCall::GetNumber(NumberType::I32)),
+        Call::Struct(StructCall::Number(NumberType::I32, Access::Get)),
     ),
     (
         "i64",
         "im",
         1,
-        Call::Struct(StructCall::GetNumber(NumberType::I64)),
+        Call::Struct(StructCall::Number(NumberType::I64, Access::Get)),
     ),
-    ("element", "c", 1, Call::List(ListCall::Element)),
+    ("element", "c", 1, Call::List(ListCall::Struct)),
     ("pointer", "c", 1, Call::List(ListCall::Pointer)),
-    ("get", "tc", 2, Call::List(ListCall::Get)),
-    ("set", "tce", 3, Call::List(ListCall::Set)),
+    ("get", "tc", 2, Call::List(ListCall::Element(Access::Get))),
+    ("set", "tce", 3, Call::List(ListCall::Element(Access::Set))),
 ];

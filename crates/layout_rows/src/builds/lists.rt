@@ -1,12 +1,12 @@
 //! Calls of a list.
 
-use super::call::ListCall;
-use super::numbers::{element, put_element, set_element, set_number};
+use super::call::{Access, ListCall};
+use super::numbers::{element, number, set_element};
 use super::place::{Place, list};
 use crate::calls::Values;
 use crate::output::Output;
 use crate::parse::{self, Fault};
-use crate::types::{ElementType, NumberType};
+use crate::types::ElementType;
 use capnp_arena::arena::BuilderArena;
 use capnp_readers::readers::{ListPlace, PointerPlace};
 use capnp_words::wire_pointer::ElementSize;
@@ -19,33 +19,13 @@ pub fn call<A: BuilderArena>(
     out: &mut Output,
 ) -> Result<Option<Place>, Fault> {
     match call {
-        ListCall::Element => return struct_element(arena, place, values.count),
-        ListCall::Pointer => return pointer_element(arena, place, values.count),
-        ListCall::Get => get(arena, place, (values.element, values.count), out)?,
-        ListCall::Set => {
-            set(arena, place, values.element, (values.count, values.digits))?;
-            out.text("ok");
+        ListCall::Struct => struct_element(arena, place, values.count),
+        ListCall::Pointer => pointer_element(arena, place, values.count),
+        ListCall::Element(access) => {
+            primitive(arena, place, access, values, out)?;
+            Ok(None)
         }
     }
-    Ok(None)
-}
-
-// Adds an element.
-fn get<A: BuilderArena>(
-    arena: &mut A,
-    place: ListPlace,
-    (of, index): (ElementType, u32),
-    out: &mut Output,
-) -> Result<(), Fault> {
-    match of {
-        ElementType::Void => {
-            let () = element(arena, place, index)?;
-            out.text("-");
-        }
-        ElementType::Bool => out.flag(element(arena, place, index)?),
-        ElementType::Number(number) => get_number(arena, place, (number, index), out)?,
-    }
-    Ok(())
 }
 
 // An element as a struct.
@@ -83,55 +63,32 @@ fn pointer_element<A: BuilderArena>(
     })))
 }
 
-// Writes an element.
-fn set<A: BuilderArena>(
+// Adds an element that is no struct and no pointer, or writes it.
+fn primitive<A: BuilderArena>(
     arena: &mut A,
     place: ListPlace,
-    primitive: ElementType,
-    (index, value): (u32, &str),
-) -> Result<(), Fault> {
-    match primitive {
-        ElementType::Void if value == "-" => set_element(arena, place, index, ()),
-        ElementType::Void => Err(Fault::Malformed),
-        ElementType::Bool => set_element(arena, place, index, parse::flag(value)?),
-        ElementType::Number(number) => set_as(arena, place, number, (index, value)),
-    }
-}
-
-// Writes an element that is a number of a type.
-fn set_as<A: BuilderArena>(
-    arena: &mut A,
-    place: ListPlace,
-    number: NumberType,
-    element: (u32, &str),
-) -> Result<(), Fault> {
-    match number {
-        NumberType::U8 => set_number::<A, u8>(arena, place, element),
-        NumberType::U16 => set_number::<A, u16>(arena, place, element),
-        NumberType::U32 => set_number::<A, u32>(arena, place, element),
-        NumberType::U64 => set_number::<A, u64>(arena, place, element),
-        NumberType::I8 => set_number::<A, i8>(arena, place, element),
-        NumberType::I16 => set_number::<A, i16>(arena, place, element),
-        NumberType::I32 => set_number::<A, i32>(arena, place, element),
-        NumberType::I64 => set_number::<A, i64>(arena, place, element),
-    }
-}
-
-// Adds an element that is a number of a type.
-fn get_number<A: BuilderArena>(
-    arena: &mut A,
-    place: ListPlace,
-    (number, index): (NumberType, u32),
+    access: Access,
+    values: &Values<'_>,
     out: &mut Output,
 ) -> Result<(), Fault> {
-    match number {
-        NumberType::U8 => put_element::<A, u8>(arena, place, index, out),
-        NumberType::U16 => put_element::<A, u16>(arena, place, index, out),
-        NumberType::U32 => put_element::<A, u32>(arena, place, index, out),
-        NumberType::U64 => put_element::<A, u64>(arena, place, index, out),
-        NumberType::I8 => put_element::<A, i8>(arena, place, index, out),
-        NumberType::I16 => put_element::<A, i16>(arena, place, index, out),
-        NumberType::I32 => put_element::<A, i32>(arena, place, index, out),
-        NumberType::I64 => put_element::<A, i64>(arena, place, index, out),
+    let index = values.count;
+    match (values.element, access) {
+        (ElementType::Void, Access::Get) => {
+            let () = element(arena, place, index)?;
+            out.text("-");
+        }
+        (ElementType::Void, Access::Set) => {
+            set_element(arena, place, index, ())?;
+            out.text("ok");
+        }
+        (ElementType::Bool, Access::Get) => out.flag(element(arena, place, index)?),
+        (ElementType::Bool, Access::Set) => {
+            set_element(arena, place, index, parse::flag(values.digits)?)?;
+            out.text("ok");
+        }
+        (ElementType::Number(of), access) => {
+            number(arena, Place::List(place), (of, access), values, out)?;
+        }
     }
+    Ok(())
 }

@@ -4,10 +4,12 @@ ghost use Rattle.capnp_format.specs.Numbers.{element_bits};
 ghost use Rattle.capnp_words.specs.Sizes.{size_number};
 ghost use Rattle.capnp_readers.specs.Sections.{IsInside, data_bits};
 
-use super::place::{list, structure};
+use super::call::Access;
+use super::place::{Place, list, structure};
+use crate::calls::Values;
 use crate::output::Output;
 use crate::parse::{self, Fault};
-use crate::types::mask_of;
+use crate::types::{NumberType, mask_of};
 use capnp_arena::arena::BuilderArena;
 use capnp_builders::builders::PrimitiveElement;
 use capnp_readers::readers::{ListPlace, StructPlace};
@@ -18,18 +20,77 @@ use capnp_words::zero::Zero;
 use std::fmt::Display;
 use std::str::FromStr;
 
-/// Writes a number of a struct, under a mask if there is one.
-pub fn set_field<A: BuilderArena, T: Primitive + Zero + Mask<T = T> + FromStr + Drop>(
+/// Adds a number of a type, of a struct or a list, or writes it.
+pub fn number<A: BuilderArena>(
     arena: &mut A,
-    place: StructPlace,
-    (index, value, mask): (usize, &str, Option<&str>),
+    place: Place,
+    (of, access): (NumberType, Access),
+    values: &Values<'_>,
+    out: &mut Output,
+) -> Result<(), Fault> {
+    match of {
+        NumberType::U8 => number_as::<A, u8>(arena, place, access, values, out),
+        NumberType::U16 => number_as::<A, u16>(arena, place, access, values, out),
+        NumberType::U32 => number_as::<A, u32>(arena, place, access, values, out),
+        NumberType::U64 => number_as::<A, u64>(arena, place, access, values, out),
+        NumberType::I8 => number_as::<A, i8>(arena, place, access, values, out),
+        NumberType::I16 => number_as::<A, i16>(arena, place, access, values, out),
+        NumberType::I32 => number_as::<A, i32>(arena, place, access, values, out),
+        NumberType::I64 => number_as::<A, i64>(arena, place, access, values, out),
+    }
+}
+
+// The same of its type.
+fn number_as<
+    A: BuilderArena,
+    T: Primitive + Zero + Mask<T = T> + PrimitiveElement + FromStr + Display + Drop,
+>(
+    arena: &mut A,
+    place: Place,
+    access: Access,
+    values: &Values<'_>,
+    out: &mut Output,
 ) -> Result<(), Fault>
 where
     T::Err: Drop,
 {
-    let value: T = parse::number(value)?;
-    let mask: Option<T> = mask_of(mask)?;
+    match (place, access) {
+        (Place::Struct(place), Access::Get) => {
+            let value: T = field(arena, place, values)?;
+            out.put(value);
+        }
+        (Place::List(place), Access::Get) => {
+            let value: T = element(arena, place, values.count)?;
+            out.put(value);
+        }
+        (Place::Struct(place), Access::Set) => {
+            let value: T = parse::number(values.digits)?;
+            set_field(arena, place, values, value)?;
+            out.text("ok");
+        }
+        (Place::List(place), Access::Set) => {
+            let value: T = parse::number(values.digits)?;
+            set_element(arena, place, values.count, value)?;
+            out.text("ok");
+        }
+        _ => return Err(Fault::Unfit),
+    }
+    Ok(())
+}
+
+// Writes a number of a struct, under a mask if there is one.
+fn set_field<A: BuilderArena, T: Primitive + Zero + Mask<T = T> + FromStr + Drop>(
+    arena: &mut A,
+    place: StructPlace,
+    values: &Values<'_>,
+    value: T,
+) -> Result<(), Fault>
+where
+    T::Err: Drop,
+{
+    let mask: Option<T> = mask_of(values.mask)?;
     let mut builder = structure(arena, place)?;
+    let index = values.index;
     if !is_field(place.bits, 8 * T::BYTES, index) {
         return Err(Fault::Unfit);
     }
@@ -40,27 +101,25 @@ where
     Ok(())
 }
 
-/// Adds a number of a struct, under a mask if there is one.
-pub fn put_field<A: BuilderArena, T: Primitive + Zero + Mask<T = T> + FromStr + Display + Drop>(
+// A number of a struct, under a mask if there is one.
+fn field<A: BuilderArena, T: Primitive + Zero + Mask<T = T> + FromStr + Drop>(
     arena: &mut A,
     place: StructPlace,
-    (index, mask): (usize, Option<&str>),
-    out: &mut Output,
-) -> Result<(), Fault>
+    values: &Values<'_>,
+) -> Result<T, Fault>
 where
     T::Err: Drop,
 {
-    let mask: Option<T> = mask_of(mask)?;
+    let mask: Option<T> = mask_of(values.mask)?;
     let builder = structure(arena, place)?;
+    let index = values.index;
     if !is_field(place.bits, 8 * T::BYTES, index) {
         return Err(Fault::Unfit);
     }
-    let value: T = match mask {
+    Ok(match mask {
         Some(mask) => builder.get_data_field_mask(index, mask),
         None => builder.get_data_field(index),
-    };
-    out.number(value);
-    Ok(())
+    })
 }
 
 // Whether a field of so many bits lies in a data section, by its index among fields as wide.
@@ -117,29 +176,4 @@ fn is_element(place: ListPlace, size: ElementSize, index: u32) -> bool
     };
     let wanted = data_bits_per_element(size);
     wanted == 0 || index < place.count && wanted <= bits
-}
-
-/// Writes a number of decimal digits over an element of a list.
-pub fn set_number<A: BuilderArena, T: PrimitiveElement + FromStr + Drop>(
-    arena: &mut A,
-    place: ListPlace,
-    (index, value): (u32, &str),
-) -> Result<(), Fault>
-where
-    T::Err: Drop,
-{
-    let value: T = parse::number(value)?;
-    set_element(arena, place, index, value)
-}
-
-/// Adds an element of a list as decimal digits.
-pub fn put_element<A: BuilderArena, T: PrimitiveElement + Display + Drop>(
-    arena: &mut A,
-    place: ListPlace,
-    index: u32,
-    out: &mut Output,
-) -> Result<(), Fault> {
-    let value: T = element(arena, place, index)?;
-    out.number(value);
-    Ok(())
 }

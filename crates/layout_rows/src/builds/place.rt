@@ -11,9 +11,8 @@ use crate::parse::Fault;
 use capnp_arena::arena::BuilderArena;
 use capnp_builders::builders::{ListBuilder, PointerBuilder, StructBuilder};
 use capnp_readers::readers::{ListPlace, PointerPlace, StructPlace};
-use capnp_words::error::ErrorKind;
 use capnp_words::read_limiter::ReadLimiter;
-use capnp_words::wire_pointer::{ElementSize, StructSize, data_bits_per_element};
+use capnp_words::wire_pointer::{ElementSize, data_bits_per_element};
 
 /// A place of a message that is built.
 #[derive(Clone, Copy)]
@@ -30,18 +29,28 @@ impl Place {
     /// Shows the place.
     pub fn put(self, out: &mut Output) {
         match self {
-            Place::Pointer(place) => put_numbers(&[place.segment.into(), place.word.into()], out),
-            Place::Struct(place) => put_struct(place, out),
-            Place::List(place) => put_list(place, out),
+            Place::Pointer(place) => {
+                out.put(place.segment);
+                out.slash(place.word);
+            }
+            Place::Struct(place) => {
+                out.put(place.segment);
+                out.slash(place.byte);
+                out.slash(place.bits);
+                out.slash(place.pointers_at);
+                out.slash(place.pointers);
+            }
+            Place::List(place) => {
+                out.put(place.segment);
+                out.slash(place.byte);
+                out.slash(place.count);
+                out.elements(place.size, place.struct_size);
+            }
         }
     }
 
     /// Shows what a reader of the place reads.
-    pub fn read<A: BuilderArena>(
-        self,
-        arena: &mut A,
-        out: &mut Output,
-    ) -> Result<Option<Place>, Fault> {
+    pub fn read<A: BuilderArena>(self, arena: &mut A, out: &mut Output) -> Result<(), Fault> {
         match self {
             Place::Pointer(place) => read_pointer(arena, place, out),
             Place::Struct(place) => read_struct(arena, place, out),
@@ -50,83 +59,21 @@ impl Place {
     }
 }
 
-/// Adds numbers, parted by `/`.
-pub fn put_numbers(numbers: &[u64], out: &mut Output) {
-    for (i, number) in numbers.iter().enumerate() {
-        if i > 0 {
-            out.text("/");
-        }
-        out.number(*number);
-    }
-}
-
-/// Adds a refusal.
-pub fn refuse(kind: ErrorKind, out: &mut Output) -> Result<Option<Place>, Fault> {
-    out.refusal(kind);
-    Ok(None)
-}
-
-/// Adds what became of a call that gives nothing.
-pub fn put_outcome(
-    outcome: Result<(), ErrorKind>,
-    out: &mut Output,
-) -> Result<Option<Place>, Fault> {
-    match outcome {
-        Ok(()) => out.text("ok"),
-        Err(kind) => out.refusal(kind),
-    }
-    Ok(None)
-}
-
-// Shows where a struct is.
-fn put_struct(place: StructPlace, out: &mut Output) {
-    put_numbers(
-        &[
-            u64::from(place.segment),
-            place.byte,
-            u64::from(place.bits),
-            u64::from(place.pointers_at),
-            u64::from(place.pointers),
-        ],
-        out,
-    );
-}
-
-// Shows where a list is.
-fn put_list(place: ListPlace, out: &mut Output) {
-    put_numbers(
-        &[u64::from(place.segment), place.byte, u64::from(place.count)],
-        out,
-    );
-    put_elements(place.size, place.struct_size, out);
-}
-
-// Shows what the elements of a list are.
-fn put_elements(size: ElementSize, structs: StructSize, out: &mut Output) {
-    out.text("/");
-    out.element_size(size);
-    out.text("/");
-    out.number(structs.data_words);
-    out.text("/");
-    out.number(structs.pointers);
-}
-
 // Shows what a pointer reads as.
 fn read_pointer<A: BuilderArena>(
     arena: &mut A,
     place: PointerPlace,
     out: &mut Output,
-) -> Result<Option<Place>, Fault> {
+) -> Result<(), Fault> {
     let builder = pointer(arena, place)?;
     let reader = builder.as_reader();
     let mut lim = ReadLimiter::new(None);
     out.flag(reader.is_null());
     out.text("/");
-    match reader.total_size(&mut lim) {
-        Ok(size) => put_numbers(&[size.word_count, u64::from(size.cap_count)], out),
-        Err(kind) => out.refusal(kind),
-    }
-    Ok(None)
+    let size = reader.total_size(&mut lim)?;
+    out.put(size.word_count);
+    out.slash(size.cap_count);
+    Ok(())
 }
 
 // Shows what a struct reads as.
@@ -134,13 +81,12 @@ fn read_struct<A: BuilderArena>(
     arena: &mut A,
     place: StructPlace,
     out: &mut Output,
-) -> Result<Option<Place>, Fault> {
+) -> Result<(), Fault> {
     let builder = structure(arena, place)?;
     let reader = builder.as_reader();
     out.hex_or_dash(reader.data_bytes());
-    out.text("/");
-    out.number(reader.pointer_count());
-    Ok(None)
+    out.slash(reader.pointer_count());
+    Ok(())
 }
 
 // Shows what a list reads as.
@@ -148,12 +94,12 @@ fn read_list<A: BuilderArena>(
     arena: &mut A,
     place: ListPlace,
     out: &mut Output,
-) -> Result<Option<Place>, Fault> {
+) -> Result<(), Fault> {
     let builder = list(arena, place)?;
     let reader = builder.as_reader();
-    out.number(reader.len());
-    put_elements(reader.get_element_size(), reader.struct_size(), out);
-    Ok(None)
+    out.put(reader.len());
+    out.elements(reader.get_element_size(), reader.struct_size());
+    Ok(())
 }
 
 // How many words a segment has, if it is there.

@@ -98,11 +98,7 @@ pub struct Call<'l> {
 pub fn read_calls<'l>(alloc: Global, words: &[&'l str]) -> Result<Vec<Call<'l>>, Fault> {
     let mut list = Vec::new(alloc);
     for word in words {
-        let call = read_call(alloc, *word)?;
-        match list.push(call) {
-            Ok(()) => {}
-            Err(_) => return Err(Fault::NoMemory),
-        }
+        list.push(read_call(alloc, *word)?)?;
     }
     Ok(list)
 }

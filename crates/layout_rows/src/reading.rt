@@ -1,0 +1,51 @@
+//! Lines of a message that is read.
+
+use crate::parse::{self, Fault};
+use crate::{reads, walk};
+use capnp_arena::arena::{ReaderArenaImpl, ReaderOptions, SegmentArray};
+use capnp_words::read_limiter::ReadLimiter;
+use std::alloc::Global;
+
+/// What is read of a message.
+#[derive(Clone, Copy)]
+pub enum Task {
+    /// All calls are made, in a fixed order.
+    Walk,
+    /// The calls are made that stand in the line.
+    Calls,
+}
+
+/// The answer to a line of a nesting limit, a traversal limit, segments, and calls.
+pub fn answer(alloc: Global, task: Task, line: &str) -> Result<String, Fault> {
+    let words = parse::words(alloc, line)?;
+    let [nesting, budget, segments, calls @ ..] = words.as_slice() else {
+        return Err(Fault::Malformed);
+    };
+    let options = ReaderOptions {
+        nesting_limit: parse::number(nesting)?,
+        traversal_limit_in_words: parse::limit(budget)?,
+    };
+    let segments = parse::segments(alloc, segments, ',', "")?;
+    let slices = parse::slices(alloc, segments.as_slice())?;
+    answer_of(alloc, task, slices.as_slice(), options, calls)
+}
+
+/// The answer of a message of segments.
+fn answer_of(
+    alloc: Global,
+    task: Task,
+    segments: &[&[u8]],
+    options: ReaderOptions,
+    calls: &[&str],
+) -> Result<String, Fault> {
+    let Some(array) = SegmentArray::new(segments) else {
+        return Err(Fault::Malformed);
+    };
+    let arena = ReaderArenaImpl::new(array, options);
+    let limiter = ReadLimiter::new(options.traversal_limit_in_words);
+    match task {
+        Task::Walk if calls.is_empty() => Ok(walk::answer(alloc, &arena, limiter)?),
+        Task::Walk => Err(Fault::Malformed),
+        Task::Calls => reads::answer(alloc, &arena, limiter, calls),
+    }
+}
