@@ -1,3 +1,4 @@
+pub mod BareLemmas
 pub mod FlatLemmas
 pub mod FrameLemmas
 pub mod OwnedLemmas

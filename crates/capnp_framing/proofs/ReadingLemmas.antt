@@ -158,7 +158,7 @@ lengths_told (ws ∷ S) zs h =
     let rest : words_told (length S) (drop 4 (four ++ (lengths S ++ zs))) ≡ total S = lengths_told S zs (All-tail (λ (ws : List ℕ). length ws < 2 ^ 32) ws S h) in
     ap (words_told (suc (length S))) same ∙ ap₂ (λ x y. x + y) first rest
 
-bytes-length : (ws : List ℕ) → length (bytes_of_words ws) ≡ 8 * length ws
+pub bytes-length : (ws : List ℕ) → length (bytes_of_words ws) ≡ 8 * length ws
 bytes-length [] = refl
 bytes-length (w ∷ ws) = omega (arith, bytes-length ws, length-append (to_le_bytes w64 w) (bytes_of_words ws))
 

@@ -1,7 +1,9 @@
 -- Which message bytes are a frame of.
-use Rattle.std.specs.Prelude.{◌≡◌, ℕ, ◌≤◌, List, ◌++◌, length}
+use Rattle.std.specs.Prelude.{◌≡◌, ℕ, ◌≤◌, List, [], ◌∷◌, ◌++◌, length}
+use Rattle.capnp_format.specs.Bytes.{message}
 use Rattle.capnp_format.specs.Segments.{Segments}
-use Rattle.capnp_framing.specs.Frames.{CanBeFramed, IsFrameOf, frame}
+use Rattle.capnp_framing.specs.Bare.{AreBareWords, NoBareWords, most_bare}
+use Rattle.capnp_framing.specs.Frames.{AreSegmentWords, CanBeFramed, IsFrameOf, bytes_of_words, frame}
 use Rattle.capnp_framing.specs.Reading.{NoFrame, total}
 use Rattle.capnp_framing.specs.declared.framing.frame_error.FrameError.{FrameError}
 
@@ -31,3 +33,15 @@ FramesAreAsLong = (S : Segments) (bytes : List ℕ) → IsFrameOf S bytes → le
 abbrev pub FrameIsRead : Type 0
 FrameIsRead = (S : Segments) (bytes rest : List ℕ) (most : ℕ) (e : FrameError) → IsFrameOf S bytes →
     total S ≤ most → NoFrame (bytes ++ rest) most e → ⊥
+
+-- The bytes of the words of a segment, of which so many may be, are its bare words: they mean the message of that
+-- segment alone.
+abbrev pub WordsAreBare : Type 0
+WordsAreBare =
+    (ws : List ℕ) (most : ℕ) → AreSegmentWords ws → length ws ≤ most_bare most →
+    AreBareWords (bytes_of_words ws) most × (message (bytes_of_words ws ∷ []) ≡ ws ∷ [])
+
+-- Whole words, of which so many may be, are refused for nothing that they hold.
+abbrev pub BareWordsAreRead : Type 0
+BareWordsAreRead =
+    (bytes : List ℕ) (most : ℕ) (e : FrameError) → AreBareWords bytes most → NoBareWords bytes most e → ⊥

@@ -1,3 +1,4 @@
+pub mod Bare
 pub mod Flat
 pub mod Frames
 pub mod Laws

@@ -3,10 +3,10 @@
 
 pub use capnp_framing::framing::{
     FrameError, FrameSegments, MAX_SEGMENTS, OwnedSegments, read, read_from_flat_slice, read_into,
-    write,
+    read_segment_into, write,
 };
 pub use capnp_messages::messages::{
-    CanonicalCopy, CanonicalError, CanonicalMessage, CopyMemory, canonical_bytes, canonical_fault,
+    CanonicalCopy, CanonicalError, CopyMemory, canonical_bytes, canonical_fault, canonical_segment,
     copy_canonical, copy_canonical_with, is_canonical_message, laws, read_root, write_canonical,
     write_copy,
 };

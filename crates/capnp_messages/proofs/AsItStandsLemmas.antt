@@ -1,7 +1,7 @@
--- A message that is canonical as a whole is its own canonical copy, and no other has a value and needs none.
+-- A message that is canonical as a whole is its own canonical copy.
 use Rattle.std.proofs.Common.{◌≡◌, slice_get, ℕ, ℤ, ◌+◌, ◌≤◌, List, [], ◌∷◌, length, Option, Some, None, sym, ap, ◌∙◌, subst, arith}
 use Rattle.capnp_words.specs.Meter.{Meter, FitsIn, unused}
-use Rattle.capnp_format.specs.Bytes.{message}
+use Rattle.capnp_format.specs.Bytes.{message, words_of}
 use Rattle.capnp_format.specs.Canonical.{charge, encoding, trim}
 use Rattle.capnp_format.specs.Segments.{Segments}
 use Rattle.capnp_format.specs.Tree.{Tree, depth}
@@ -9,7 +9,6 @@ use Rattle.capnp_format.proofs.Levels.{depth_within, one_value}
 use Rattle.capnp_arena_traits.proofs.MessageLemmas.{length-message}
 use Rattle.capnp_arena.specs.declared.arena.reader_arena_impl.ReaderOptions.{ReaderOptions}
 use Rattle.capnp_objects.specs.Source.{levels}
-use Rattle.capnp_messages.specs.AsItStands.{StandsWithin}
 use Rattle.capnp_messages.specs.CanonicalMessages.{CanBeTested, IsCanonicalMessage, IsCanonicalOf, IsPaid, IsWithinLevels}
 use Rattle.capnp_messages.specs.Messages.{IsValueOf}
 use Rattle.capnp_messages.proofs.CanonicalMessageLemmas.{has_root, means_its_value}
@@ -52,6 +51,12 @@ only_bytes [] bytes one got = absurd (omega (arith, one))
 only_bytes (b ∷ []) bytes one got = ap (λ (s : List ℕ). s ∷ []) (let same : b ≡ bytes = cc in same)
 only_bytes (b ∷ d ∷ B) bytes one got = absurd (omega (arith, one))
 
+-- Segments are this one alone, and the message is the canonical one of a value that it has within the limits.
+abbrev pub StandsWithin : List (List ℕ) → ReaderOptions → List ℕ → Type 0
+StandsWithin segments limits bytes =
+    (segments ≡ bytes ∷ [])
+    × ((t : Tree) × IsValueOf (message segments) limits t × IsCanonicalOf (message segments) t)
+
 -- its first segment is that one
 pub segment_stands : {B : List (List ℕ)} {bytes : List ℕ} {limits : ReaderOptions} {n : ℤ} {old new : Meter} →
     slice_get B 0 ≡ Some bytes → n ≡ limits.nesting_limit → old ≡ unused limits.traversal_limit_in_words →
@@ -59,25 +64,18 @@ pub segment_stands : {B : List (List ℕ)} {bytes : List ℕ} {limits : ReaderOp
 segment_stands {B} {bytes} got nesting begun within (t, canonical, paid) =
     (only_bytes B bytes (one_segment B (t, canonical)) got, value_within nesting begun within (t, canonical, paid))
 
--- which, as it stands, is the canonical words of that value
-pub own_copied : {B : List (List ℕ)} {bytes : List ℕ} {limits : ReaderOptions} → StandsWithin B limits bytes →
-    (t : Tree) × IsValueOf (message B) limits t × (message (bytes ∷ []) ≡ encoding (trim t) ∷ [])
-own_copied (same, (t, value, canonical)) = (
-  t,
-  value,
-  ap message (sym same) ∙ canonical.is ∙ ap (λ (v : Tree). encoding v ∷ []) (sym canonical.trimmed),
-)
+-- the words of which are the canonical words of that value
+pub own_words : {B : List (List ℕ)} {bytes : List ℕ} (whole : List ℕ) {limits : ReaderOptions} → StandsWithin B limits bytes →
+    words_of whole ≡ words_of bytes →
+    (t : Tree) × IsValueOf (message B) limits t × (words_of whole ≡ encoding (trim t))
+own_words {bytes = bytes} whole (same, (t, value, canonical)) is =
+    let only : words_of bytes ∷ [] ≡ encoding (trim t) ∷ [] =
+    ap message (sym same) ∙ canonical.is ∙ ap (λ (v : Tree). encoding v ∷ []) (sym canonical.trimmed) in
+    let words : words_of bytes ≡ encoding (trim t) = cc in
+    (t, value, is ∙ words)
 
--- a canonical message that has a value within the limits can be tested within them
-pub can_be_tested : {S : Segments} {limits : ReaderOptions} {t : Tree} → IsValueOf S limits t → IsCanonicalMessage S →
-    CanBeTested S (levels limits.nesting_limit) (unused limits.traversal_limit_in_words)
-can_be_tested {S} {limits} {t} value (u, canonical) =
-    let n : ℕ = levels limits.nesting_limit in
-    let own = means_its_value S u (depth u) canonical (omega arith) in
-    let same = one_value S n (depth u) 0 0 t u value.cost (charge u) value.means own in
-    let deep : depth t ≤ n = depth_within t (record { means = value.means }) in (
-      u,
-      canonical,
-      subst (λ (v : Tree). depth v ≤ n) same.0 deep,
-      subst (λ c. FitsIn limits.traversal_limit_in_words (1 + c)) same.1 value.covered,
-    )
+-- and the message itself
+pub own_message : {B : List (List ℕ)} {bytes : List ℕ} (whole : List ℕ) {limits : ReaderOptions} → StandsWithin B limits bytes →
+    words_of whole ≡ words_of bytes → IsCanonicalMessage (message B) × (message B ≡ words_of whole ∷ [])
+own_message whole (same, (t, value, canonical)) is =
+    ((t, canonical), ap message same ∙ ap (λ (ws : List ℕ). ws ∷ []) (sym is))

@@ -6,5 +6,4 @@ pub mod CopyMemory
 pub mod CanonicalErrors
 pub mod CanonicalMessages
 pub mod Messages
-pub mod AsItStands
 pub mod Commands

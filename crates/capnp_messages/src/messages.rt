@@ -12,7 +12,7 @@ mod root;
 mod whole;
 mod writing;
 
-pub use as_it_stands::CanonicalMessage;
+pub use as_it_stands::canonical_segment;
 pub use canonical_copy::{CanonicalCopy, copy_canonical, copy_canonical_with};
 pub use canonical_error::CanonicalError;
 pub use canonical_message::is_canonical_message;
@@ -20,5 +20,7 @@ pub use command::{Command, Form};
 pub use copy_memory::CopyMemory;
 pub use message_fault::canonical_fault;
 pub use root::read_root;
-pub use whole::{canonical_fault_of, canonical_of, canonical_with, is_canonical, size_of};
-pub use writing::{canonical_bytes, write_canonical, write_copy};
+pub use whole::{
+    canonical_fault_of, canonical_from, canonical_of, canonical_with, is_canonical, size_of,
+};
+pub use writing::{canonical_bytes, write_canonical, write_copy, write_words};

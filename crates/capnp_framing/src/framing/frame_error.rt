@@ -13,9 +13,10 @@ pub enum FrameError {
     NoSegments,
     /// A message has more than 512 segments; with their number.
     TooManySegments(u64),
-    /// A message has more words than were to be read; with their number.
+    /// A message has more words than were to be read; with their number, or of bare words that of the first one too
+    /// many.
     MessageTooLong(u64),
-    /// The input ended within a frame.
+    /// The input ended within a frame, or within a bare word.
     Truncated,
     /// The input failed.
     ReadFailed,

@@ -1,6 +1,8 @@
 //! The segments of a message that was read.
 ghost use Rattle.std.specs.Prelude.{◌≡◌, ◌<◌, ◌≤◌, ◌+◌, ◌*◌, [], length};
+ghost use Rattle.capnp_format.specs.Bytes.{message};
 ghost use Rattle.capnp_framing.specs.Flat.{AreEnds, part_at, parts};
+ghost use Rattle.capnp_framing.specs.Frames.{frame};
 ghost use Rattle.capnp_framing.specs.Reading.{words_told};
 
 use capnp_arena::arena::ReaderSegments;
@@ -43,12 +45,20 @@ impl OwnedSegments {
         self.ends.as_slice()[id]
     }
 
-    /// How many words stand before a segment.
+    /// How many words stand before a segment, or in all of them.
     fn words_before(&self, id: usize) -> usize
-        requires { id < self.now.count }
+        requires { id ≤ self.now.count }
         ensures { result ≡ words_told id self.now.table.items }
     {
         if id == 0 { 0 } else { self.end_of(id - 1) }
+    }
+
+    /// How many bytes the frame takes that they were read from: the table with its padding, and the words.
+    pub fn size_in_bytes(&self) -> usize
+        ensures { result ≡ length (frame (message (⟦<Self as ReaderSegments>⟧.segments self.now))) }
+    {
+        let table = 4 + 4 * self.count + 4 * ((self.count + 1) % 2);
+        table + 8 * self.words_before(self.count)
     }
 
     /// The segment with this number.

@@ -21,7 +21,7 @@ use std::alloc::{AllocError, Global};
 const PIECE: usize = 1 << 18;
 
 /// Reads until there is no more room or no more input: how many bytes came.
-fn read_up_to<R: Input>(input: &mut R, to: &mut [u8]) -> Result<usize, DeviceFault>
+pub(super) fn read_up_to<R: Input>(input: &mut R, to: &mut [u8]) -> Result<usize, DeviceFault>
     requires { R.has_failed input.old ≡ false }
     ensures within { IfOk result (λ n. n ≤ length to.new) }
     ensures bytes { IfOk result (λ n. Consumes (R.remaining input.old) (R.remaining input.new)
@@ -62,7 +62,7 @@ fn fill<R: Input>(input: &mut R, to: &mut [u8]) -> Result<(), FrameError>
 }
 
 /// Makes room for some bytes more behind the first n, where there is none.
-fn make_room(to: &mut Vec<u8>, n: usize, more: usize) -> Result<(), FrameError>
+pub(super) fn make_room(to: &mut Vec<u8>, n: usize, more: usize) -> Result<(), FrameError>
     requires within { n ≤ length to.old.items }
     requires some { 0 < more }
     ensures front { take n to.new.items ≡ take n to.old.items }

@@ -22,8 +22,8 @@ use capnp_words::error::ErrorKind;
 use capnp_words::read_limiter::ReadLimiter;
 use std::alloc::Global;
 
-/// Makes the value of a message canonical, as `canonical_with` has it.
-pub(super) fn copy_within<A: Allocator, S: ReaderSegments>(
+/// Makes the value of a message that is read canonical, as `canonical_with` has it.
+pub fn canonical_from<A: Allocator, S: ReaderSegments>(
     alloc: Global,
     allocator: A,
     source: &ReaderArenaImpl<S>,
@@ -75,7 +75,7 @@ pub fn canonical_with<A: Allocator, S: ReaderSegments + Drop>(
         (RefusesCanon (message (S.segments segments)) limits e.0)) }
 {
     let arena = ReaderArenaImpl::new(segments, limits);
-    copy_within(alloc, allocator, &arena, limits)
+    canonical_from(alloc, allocator, &arena, limits)
 }
 
 /// The same, with memory of the heap.

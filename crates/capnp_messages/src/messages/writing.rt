@@ -1,5 +1,5 @@
 //! A message made canonical and written as a frame ("Canonicalization", "Serialization Over a Stream").
-ghost use Rattle.std.specs.Prelude.{◌≡◌, ◌⊎◌, ◌∷◌, ◌<◌, ◌≤◌, ◌*◌, ◌/◌, ◌^◌, [], ℕ, List, false, true, length, OnOk, IfErr};
+ghost use Rattle.std.specs.Prelude.{◌≡◌, ◌⊎◌, ◌∷◌, ◌<◌, ◌≤◌, ◌*◌, ◌/◌, ◌^◌, [], ℕ, List, false, true, length, OnOk, OnErr, IfErr};
 ghost use Rattle.capnp_words.specs.declared.error.ErrorKind.{ErrorKind};
 ghost use Rattle.capnp_words.specs.declared.error.ErrorKind.TheVariants.{AllocationFailed};
 ghost use Rattle.capnp_format.specs.Bytes.{message, words_of};
@@ -13,13 +13,15 @@ ghost use Rattle.capnp_framing.specs.declared.framing.frame_error.FrameError.The
 ghost use Rattle.capnp_objects.specs.Outcomes.{Reads};
 ghost use Rattle.capnp_objects.specs.Wanted.{canonical};
 ghost use Rattle.capnp_readers.specs.Readers.{reading};
+ghost use Rattle.capnp_messages.specs.Commands.{form_bytes};
 ghost use Rattle.capnp_messages.specs.Copies.{RefusesCopy};
 
 use super::canonical_copy::copy_canonical_with;
 use super::canonical_error::CanonicalError;
+use super::command::Form;
 use super::copy_memory::CopyMemory;
 use capnp_arena::arena::{Allocator, BuilderArena, BuilderArenaImpl, OutputSegments, ReaderArena};
-use capnp_framing::devices::{DeviceFault, Output};
+use capnp_framing::devices::{DeviceFault, Output, write_all};
 use capnp_framing::framing::{FrameError, write};
 use capnp_readers::readers::PointerReader;
 use capnp_words::read_limiter::ReadLimiter;
@@ -68,6 +70,22 @@ pub(super) fn write_framed<W: Output>(output: &mut W, segment: &[u8]) -> Result<
     match write(output, &OutputSegments::SingleSegment(segment)) {
         Ok(()) => Ok(()),
         Err(_) => Err(DeviceFault),
+    }
+}
+
+/// Writes the bytes of canonical words in a form.
+pub fn write_words<W: Output>(output: &mut W, bytes: &[u8], form: Form) -> Result<(), DeviceFault>
+    requires works { W.has_failed output.old ≡ false }
+    requires short { length bytes.now < 2 ^ 35 }
+    requires whole { bytes.now ≡ bytes_of_words (words_of bytes.now) }
+    ensures written { OnOk result (Prints W.Output output.old output.new
+        (form_bytes form (words_of bytes.now))) }
+    ensures works { OnOk result (W.has_failed output.new ≡ false) }
+    ensures fails { OnErr result (W.has_failed output.new ≡ true) }
+{
+    match form {
+        Form::Framed => write_framed(output, bytes),
+        Form::Flat => write_all(output, bytes),
     }
 }
 

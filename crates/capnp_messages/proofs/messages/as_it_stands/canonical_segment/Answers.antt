@@ -1,8 +1,19 @@
-use Rattle.capnp_messages.proofs.AsItStandsLemmas.{segment_stands}
+use Rattle.std.proofs.Common.{◌≡◌, ◌∙◌, ap, sym}
+use Rattle.capnp_framing.specs.Frames.{bytes_of_words}
+use Rattle.capnp_messages.proofs.AsItStandsLemmas.{own_message, own_words, segment_stands}
 use Rattle.capnp_messages.proofs.messages.as_it_stands.canonical_segment.Goals as goal
 
-pub returns-in-Ok-clause-stands : goal.returns-in-Ok-clause-stands
-returns-in-Ok-clause-stands g c =
+pub returns-in-Ok-clause-words : goal.returns-in-Ok-clause-words
+returns-in-Ok-clause-words g c =
     let within = rw c.in-Ok-None.field-0-is at c.in-Ok-None.ensures.within in
     let paid = rw c.in-Ok-None.field-0-is at c.in-Ok-None.ensures.paid in
-    segment_stands c.in-Ok.ensures.bytes c.requires c.new-lim.ensures within paid
+    own_words _ (segment_stands c.in-Ok.ensures.bytes c.requires c.new-lim.ensures within paid) c.whole_words.ensures.words
+
+pub returns-in-Ok-clause-own : goal.returns-in-Ok-clause-own
+returns-in-Ok-clause-own g c =
+    let within = rw c.in-Ok-None.field-0-is at c.in-Ok-None.ensures.within in
+    let paid = rw c.in-Ok-None.field-0-is at c.in-Ok-None.ensures.paid in
+    own_message _ (segment_stands c.in-Ok.ensures.bytes c.requires c.new-lim.ensures within paid) c.whole_words.ensures.words
+
+pub returns-in-Ok-clause-whole : goal.returns-in-Ok-clause-whole
+returns-in-Ok-clause-whole g c = c.whole_words.ensures.bytes ∙ ap bytes_of_words (sym c.whole_words.ensures.words)

@@ -2,7 +2,7 @@ use Rattle.std.proofs.Common.{rules, IsOk, refl}
 use Rattle.std.proofs.lemmas.Result.{IfErr-weaker, IfOk-weaker}
 use Rattle.capnp_messages.proofs.TryLemmas.{moved_tries}
 use Rattle.capnp_messages.proofs.MessageLemmas.{AtRoot, at_root, copy_of, copy_refused}
-use Rattle.capnp_messages.proofs.messages.whole.copy_within.Goals as goal
+use Rattle.capnp_messages.proofs.messages.whole.canonical_from.Goals as goal
 
 pub returns-in-Ok-clause-copied : goal.returns-in-Ok-clause-copied
 returns-in-Ok-clause-copied g c =
