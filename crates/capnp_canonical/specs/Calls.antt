@@ -1,5 +1,5 @@
 -- What a call gives, and why it is refused.
-use Rattle.std.specs.Prelude.{◌≡◌, ◌⊎◌, ℕ, ℤ, ◌-◌, ◌/◌, ◌%◌, ◌^◌, ◌<◌, List, [], ◌∷◌, All, Bool, true, false}
+use Rattle.std.specs.Prelude.{◌≡◌, ◌⊎◌, ℕ, ℤ, ◌-◌, ◌/◌, ◌%◌, ◌^◌, ◌<◌, ◌≤◌, List, [], ◌∷◌, All, Bool, true, false}
 use Rattle.std.specs.Prelude.{length, map, Option, Some, None}
 use Rattle.std.specs.Borrow.{Bor}
 use Rattle.capnp_words.specs.declared.error.ErrorKind.{ErrorKind}
@@ -13,6 +13,7 @@ use Rattle.capnp_arena.specs.declared.arena.reader_arena_impl.ReaderOptions.{Rea
 use Rattle.capnp_framing.specs.Flat.{BeginsWithFrame}
 use Rattle.capnp_framing.specs.Reading.{NoFrame}
 use Rattle.capnp_framing.specs.declared.framing.frame_error.FrameError.{FrameError}
+use Rattle.capnp_framing.specs.declared.framing.frame_error.FrameError.TheVariants.{Truncated}
 use Rattle.capnp_messages.specs.CanonicalMessages.{IsCanonicalMessage}
 use Rattle.capnp_readers.specs.declared.readers.canonical_fault.CanonicalFault.{CanonicalFault}
 use Rattle.capnp_messages.specs.Messages.{IsFaultOf, IsValueOf}
@@ -21,6 +22,8 @@ use Rattle.capnp_messages.specs.declared.messages.command.Command.{Command}
 use Rattle.capnp_messages.specs.declared.messages.command.Command.TheVariants.{Canon}
 use Rattle.capnp_messages.specs.declared.messages.command.Form.{Form}
 use Rattle.capnp_messages.specs.declared.messages.command.Form.TheVariants.{Framed, Flat}
+use Rattle.capnp_packing.specs.Packing.{IsWhole, unpacked_bytes}
+use Rattle.capnp_packing.specs.declared.packing.place.Place.TheVariants.{Tag}
 use Rattle.capnp_canonical.specs.Numbers.{reason_number, answer_number}
 use Rattle.capnp_canonical.specs.declared.fault.Fault.{Fault}
 use Rattle.capnp_canonical.specs.declared.refusal.Refusal.{Refusal}
@@ -69,6 +72,15 @@ abbrev pub RefusesSegment : List ℕ → Refusal → Type 0
 RefusesSegment bytes r =
     ((r ≡ SegmentIsNotWholeWords) × (length bytes % 8 ≡ 0 → ⊥))
     ⊎ ((r ≡ Layout (MessageTooLarge (2 ^ 64 - 1))) × (length bytes / 8 < 2 ^ 32 → ⊥))
+
+-- Packed bytes aren't unpacked: they end within a word or before a number; they are whole, and stand for more bytes than
+-- there is room for; or for so many that no buffer has room for them.
+abbrev pub RefusesPacked : List ℕ → ℕ → Refusal → Type 0
+RefusesPacked packed room r =
+    let size = length (unpacked_bytes Tag packed) in
+    ((r ≡ Frame Truncated) × (IsWhole Tag packed → ⊥))
+    ⊎ ((r ≡ NoRoom size) × IsWhole Tag packed × (room < size))
+    ⊎ ((r ≡ NoRoom (2 ^ 64 - 1)) × (2 ^ 64 ≤ size))
 
 -- The canonical bytes of a message, in a form.
 abbrev pub IsCopyOf : Form → ReaderOptions → Segments → List ℕ → Type 0

@@ -17,7 +17,7 @@ use capnp_arena::arena::{
     Allocator, HeapAllocator, ReaderArena, ReaderArenaImpl, ReaderOptions, ReaderSegments,
     ScratchSpaceHeapAllocator,
 };
-use capnp_messages::messages::{CanonicalMessage, Form};
+use capnp_messages::messages::{Form, canonical_bytes, canonical_from, canonical_segment};
 use std::alloc::Global;
 
 /// The limits within which a message is read.
@@ -91,11 +91,11 @@ fn put(form: Form, segment: &[u8], to: &mut [u8]) -> Result<usize, Refusal>
     }
 }
 
-/// The bytes of memory on the stack, in which a small message is copied.
+/// The bytes of memory on the stack, in which a small message is copied: that costs less than a test first.
 const SMALL: usize = 512;
 
 /// Puts the canonical message of what a message means to the front of a buffer in a form, and gives its
-/// size in bytes: from its own segment where it is canonical, else by a copy in an allocator's memory.
+/// size in bytes, by a copy in an allocator's memory.
 fn copy_by<A: Allocator, S: ReaderSegments>(
     alloc: Global,
     allocator: A,
@@ -113,17 +113,48 @@ fn copy_by<A: Allocator, S: ReaderSegments>(
         (message (⟦<ReaderArenaImpl<S> as ReaderArena>⟧.segments source.now))) }
     ensures kept { OnErr result (to.new ≡ to.old) }
 {
-    match CanonicalMessage::of(alloc, allocator, source, limits) {
-        Ok(made) => put(form, made.bytes(), to),
+    match canonical_from(alloc, allocator, source, limits) {
+        Ok(made) => put(form, canonical_bytes(&made), to),
         Err((kind, _)) => Err(Refusal::Layout(kind)),
+    }
+}
+
+/// The same, from the message's own segment where it is canonical, and else by a copy on the heap.
+fn copy_large<S: ReaderSegments>(
+    alloc: Global,
+    form: Form,
+    source: &ReaderArenaImpl<S>,
+    limits: ReaderOptions,
+    to: &mut [u8],
+) -> Result<usize, Refusal>
+    requires { source.now.nesting_limit ≡ limits.nesting_limit }
+    ensures copied { IfOk result (λ n. IsCopyOf form limits
+        (message (⟦<ReaderArenaImpl<S> as ReaderArena>⟧.segments source.now)) (take n to.new)) }
+    ensures within { IfOk result (λ n. n ≤ length to.new) }
+    ensures behind { IfOk result (λ n. drop n to.new ≡ drop n to.old) }
+    ensures refused { IfErr result (RefusesRoom form limits (length to.old)
+        (message (⟦<ReaderArenaImpl<S> as ReaderArena>⟧.segments source.now))) }
+    ensures kept { OnErr result (to.new ≡ to.old) }
+{
+    match canonical_segment(source, limits) {
+        Some(words) => put(form, words, to),
+        None => copy_by(
+            alloc,
+            HeapAllocator::new(alloc, 0),
+            form,
+            source,
+            limits,
+            to,
+        ),
     }
 }
 
 /// Puts the canonical message of what the segments mean to the front of a buffer in a form, and gives
 /// its size in bytes.
 ///
-/// A message that is canonical is put there from its own segment. The copy of another one takes memory
-/// of the heap only where the message has 64 words or more, or its copy needs more.
+/// A message of 64 words or more that is canonical is put there from its own segment, without memory.
+/// The copy of another one of that size takes memory of the heap; that of a smaller one only where it
+/// needs 64 words or more.
 pub fn copy<S: ReaderSegments + Drop>(
     alloc: Global,
     form: Form,
@@ -146,7 +177,6 @@ pub fn copy<S: ReaderSegments + Drop>(
         let small = ScratchSpaceHeapAllocator::new(alloc, memory.as_mut_slice(), 0);
         copy_by(alloc, small, form, &source, limits, to)
     } else {
-        let heap = HeapAllocator::new(alloc, 0);
-        copy_by(alloc, heap, form, &source, limits, to)
+        copy_large(alloc, form, &source, limits, to)
     }
 }

@@ -12,7 +12,8 @@ ghost use Rattle.capnp_messages.specs.Messages.{HasSizeOf};
 ghost use Rattle.capnp_messages.specs.Commands.{HasAnswerWithin};
 ghost use Rattle.capnp_messages.specs.declared.messages.command.Command.{Command};
 ghost use Rattle.capnp_messages.specs.declared.messages.command.Form.{Form};
-ghost use Rattle.capnp_canonical.specs.Calls.{InFrame, InSegments, InWords, IsCopyOf, IsGranted, IsNumberWhere, RefusesBytes, RefusesMeaning, RefusesRoom, RefusesSegments, RefusesSegment, TestIs, limits_of, no_fault};
+ghost use Rattle.capnp_packing.specs.Packing.{IsWhole, Packs, unpacked_bytes};
+ghost use Rattle.capnp_canonical.specs.Calls.{InFrame, InSegments, InWords, IsCopyOf, IsGranted, IsNumberWhere, RefusesBytes, RefusesMeaning, RefusesPacked, RefusesRoom, RefusesSegments, RefusesSegment, TestIs, limits_of, no_fault};
 ghost use Rattle.capnp_canonical.specs.Numbers.{wanted_room};
 ghost use Rattle.capnp_canonical.specs.Texts.{PutsText, IsNameOf, IsReasonText};
 
@@ -20,14 +21,17 @@ mod calls;
 mod fault;
 mod frames;
 mod names;
+mod packed;
 mod refusal;
 mod segments;
 mod words;
 
 use capnp_messages::messages::Form;
+use capnp_packing::packing::Place;
 use fault::{Fault, NO_FAULT};
 use frames::{check_frame, copy_frame, frame_size, size_frame};
 use names::{name_of_number, put_text, text_of_reason};
+use packed::unpack;
 use segments::{check_segments, copy_segments, size_segments};
 use std::alloc::Global;
 use words::{check_words, copy_words, size_words};
@@ -413,6 +417,32 @@ pub extern "C" fn capnp_canonical_words_size(
         Err(refusal) => {
             *word_count = 0;
             *cap_count = 0;
+            refusal.number()
+        }
+    }
+}
+
+/// Unpacks packed bytes ("Packing") to the front of a buffer, and gives how many bytes they stand for.
+/// Where there is too little room the size that is wanted is given. What stands behind them in the
+/// buffer stays, and where it is refused all of the buffer. No memory is taken.
+#[unsafe(no_mangle)]
+pub extern "C" fn capnp_canonical_unpack(packed: &[u8], to: &mut [u8], written: &mut usize) -> u32
+    ensures done { result ≡ 0 → Packs packed.now (take written.new to.new) }
+    ensures within { result ≡ 0 → written.new ≤ length to.new }
+    ensures refused { result ≢ 0 → IsNumberWhere result (λ r. (written.new ≡ wanted_room r)
+        × RefusesPacked packed.now (length to.old) r) }
+    ensures kept { result ≢ 0 → to.new ≡ to.old }
+    ensures behind { result ≡ 0 → drop written.new to.new ≡ drop written.new to.old }
+    ensures granted { IsWhole Place.Tag packed.now
+        → length (unpacked_bytes Place.Tag packed.now) ≤ length to.old → result ≡ 0 }
+{
+    match unpack(packed, to) {
+        Ok(size) => {
+            *written = size;
+            0
+        }
+        Err(refusal) => {
+            *written = refusal.wanted_room();
             refusal.number()
         }
     }

@@ -1,5 +1,6 @@
 pub mod MemoryLemmas
 pub mod PackingLemmas
+pub mod SliceLemmas
 pub mod UnitLemmas
 pub mod UnpackingLemmas
 pub mod WholeLemmas

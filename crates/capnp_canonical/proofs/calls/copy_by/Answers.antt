@@ -15,14 +15,14 @@ returns-clause-refused g c = inl (c.in-Err.kind, refl, or_memory c.in-Err.ensure
 pub returns-in-Ok-clause-copied : goal.returns-in-Ok-clause-copied
 returns-in-Ok-clause-copied g c =
     let (t, value, is_made) = c.in-Ok.ensures.copied in
-    let bytes = c.bytes.ensures.bytes (encoding (trim t)) is_made in
+    let bytes = c.canonical_bytes.ensures.bytes (encoding (trim t)) is_made in
     IfOk-weaker c.put.result _ _ (λ n put. (t, value, put (encoding (trim t)) bytes)) c.put.ensures.put
 
 pub returns-in-Ok-clause-refused : goal.returns-in-Ok-clause-refused
 returns-in-Ok-clause-refused g c =
     let (t, value, is_made) = c.in-Ok.ensures.copied in
-    let bytes = c.bytes.ensures.bytes (encoding (trim t)) is_made in
-    let long : length (form_bytes c.args.form (encoding (trim t))) ≡ table_bytes c.args.form + length c.bytes.result.now =
+    let bytes = c.canonical_bytes.ensures.bytes (encoding (trim t)) is_made in
+    let long : length (form_bytes c.args.form (encoding (trim t))) ≡ table_bytes c.args.form + length c.canonical_bytes.result.now =
     omega (arith, copy_bytes c.args.form (encoding (trim t)), ap length bytes, length-bytes (encoding (trim t))) in
     IfErr-weaker c.put.result _ _ (λ r no. inr (
       form_bytes c.args.form (encoding (trim t)),

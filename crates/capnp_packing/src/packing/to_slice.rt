@@ -1,0 +1,106 @@
+//! Packed bytes unpacked to a slice that has just the room for what they stand for ("Packing").
+ghost use Rattle.std.specs.Prelude.{◌≡◌, ◌≤◌, ◌+◌, ◌^◌, length, take, IfSome, IsNone};
+ghost use Rattle.capnp_packing.specs.Packing.{all_given, place_after, place_at_end, unpacked_bytes};
+
+use super::place::{Place, step};
+use super::unpacking::{UNIT, put_zeros, unpack_words};
+
+/// How much a packed byte gives at a place, and the place behind it.
+#[derive(Clone, Copy)]
+struct Given {
+    /// In bytes.
+    count: usize,
+    /// The place behind the packed byte.
+    next: Place,
+}
+
+/// Counts what a packed byte gives at a place.
+fn count_given(place: Place, byte: u8) -> Given
+    ensures count { result.count ≡ length (all_given place byte) }
+    ensures next { result.next ≡ place_after place byte }
+{
+    let taken = step(place, byte);
+    let zeros = taken.zeros as usize;
+    let count = match taken.byte {
+        Some(_) => 1 + zeros,
+        None => zeros,
+    };
+    Given {
+        count,
+        next: taken.next,
+    }
+}
+
+/// Puts what a packed byte gives at a place to the front.
+fn put_given(place: Place, byte: u8, to: &mut [u8]) -> Given
+    requires { length (all_given place byte) ≤ length to.old }
+    ensures bytes { take result.count to.new ≡ all_given place byte }
+    ensures within { result.count ≤ length to.new }
+    ensures next { result.next ≡ place_after place byte }
+{
+    let taken = step(place, byte);
+    let zeros = taken.zeros as usize;
+    let next = taken.next;
+    match taken.byte {
+        Some(itself) => {
+            let count = 1 + zeros;
+            to[0] = itself;
+            put_zeros(&mut to[1..count]);
+            Given { count, next }
+        }
+        None => {
+            put_zeros(&mut to[..zeros]);
+            Given { count: zeros, next }
+        }
+    }
+}
+
+/// How many bytes packed bytes stand for, and the place behind them: before a tag where they are whole.
+/// `None` where they stand for 2^64 bytes or more.
+pub fn unpacked_size(packed: &[u8]) -> Option<(usize, Place)>
+    ensures size { IfSome result (λ s. s.0 ≡ length (unpacked_bytes Place.Tag packed.now)) }
+    ensures place { IfSome result (λ s. s.1 ≡ place_at_end Place.Tag packed.now) }
+    ensures none { IsNone result → 2 ^ 64 ≤ length (unpacked_bytes Place.Tag packed.now) }
+{
+    let mut size: usize = 0;
+    let mut place = Place::Tag;
+    for byte in packed {
+        let given = count_given(place, *byte);
+        let Some(sum) = size.checked_add(given.count) else {
+            return None;
+        };
+        size = sum;
+        place = given.next;
+    }
+    Some((size, place))
+}
+
+/// Unpacks packed bytes from a place on, one by one.
+fn unpack_bytes(start: Place, packed: &[u8], to: &mut [u8])
+    requires { length (unpacked_bytes start packed.now) ≡ length to.old }
+    ensures { to.new ≡ unpacked_bytes start packed.now }
+{
+    let mut place = start;
+    let mut given = 0;
+    for byte in packed {
+        let more = put_given(place, *byte, &mut to[given..]);
+        given += more.count;
+        place = more.next;
+    }
+}
+
+/// Unpacks packed bytes to a slice that is as long as what they stand for: words while there are
+/// enough packed bytes for any, and the bytes behind these one by one.
+pub fn unpack_to_slice(packed: &[u8], to: &mut [u8])
+    requires { length (unpacked_bytes Place.Tag packed.now) ≡ length to.old }
+    ensures { to.new ≡ unpacked_bytes Place.Tag packed.now }
+{
+    if packed.len() < UNIT || to.len() < 8 {
+        unpack_bytes(Place::Tag, packed, to);
+        return;
+    }
+    let front = unpack_words(packed, to);
+    let behind = front.given + front.zeros as usize;
+    put_zeros(&mut to[front.given..behind]);
+    unpack_bytes(front.place, &packed[front.taken..], &mut to[behind..]);
+}
