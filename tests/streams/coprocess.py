@@ -1,8 +1,10 @@
 """Runs that are asked as coprocesses are: whoever writes reads the answers so far before it writes on. Each has to come
 within a second, though the input is still open."""
 import os
+import pathlib
 import select
 import subprocess
+import tempfile
 import time
 
 from hostile import FORMS, MESSAGES, WANTED
@@ -69,3 +71,15 @@ def answered(program, counts):
             conversation(program, counts, args, asked, WANTED[form])
         conversation(program, counts, [*args, '--packed'], [packed(it) for it in MESSAGES], WANTED[form])
     conversation(program, counts, ['canon', '--pack'], MESSAGES, WANTED['canon'], whole)
+    digits = [it.hex().encode() + b'\n' for it in WANTED['canon,--flat']]
+    conversation(program, counts, ['canon', '--hex'], MESSAGES, digits)
+    with tempfile.TemporaryDirectory(prefix='streams-') as folder:
+        # the answers to a file before it are written before standard input is waited for
+        path = pathlib.Path(folder) / 'first'
+        path.write_bytes(MESSAGES[0])
+        wanted = [digits[0] + digits[1], *digits[2:]]
+        conversation(program, counts, ['canon', '--hex', str(path), '-'], MESSAGES[1:], wanted)
+        process = Coprocess(program, ['canon', '--hex', str(path), '-'])
+        got = process.asked(b'', lambda got: got == digits[0])
+        counts.told(got == digits[0], 'a coprocess, before standard input is asked', got)
+        process.ended(program.limit)

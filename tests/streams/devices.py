@@ -9,8 +9,12 @@ import tempfile
 # 1,000 messages of null, which take 16 bytes each, as their answers do.
 NULL = bytes.fromhex('0000000001000000') + bytes(8)
 MANY = NULL * 1000
-FORMS = ['canon'], ['canon', '--flat'], ['canon', '--pack'], ['check'], ['size']
-FAILED = 2, 'refused WriteFailed\n'
+FORMS = ['canon'], ['canon', '--flat'], ['canon', '--pack'], ['canon', '--hex'], ['check'], ['size']
+FULL = 2, 'refused WriteFailed: No space left on device (os error 28)\n'
+# Whoever leaves the pipe knows it.
+LEFT = 2, ''
+FOLDER = pathlib.Path(__file__).resolve().parent
+IS_FOLDER = 'message 1 at byte 0: refused ReadFailed: Is a directory (os error 21)\n'
 # A message of so many words: a list of bytes, none of them zero.
 WORDS = 1 << 17
 HELD, STEP, MOST = 1 << 21, 1 << 12, 1 << 26
@@ -59,27 +63,55 @@ def front(program, args, data, count):
 
 def unread(program, args):
     """The run on a folder as its input."""
-    folder = os.open(pathlib.Path(__file__).resolve().parent, os.O_RDONLY)
+    folder = os.open(FOLDER, os.O_RDONLY)
     try:
         return ended(program, args, folder, subprocess.DEVNULL)
     finally:
         os.close(folder)
 
 
+def shut(program, args):
+    """The run with no standard input."""
+    run = subprocess.run([program.path, *args], stdout=subprocess.DEVNULL, stderr=subprocess.PIPE, timeout=program.limit,
+                         preexec_fn=lambda: os.close(0))
+    return run.returncode, run.stderr.decode()
+
+
+def of_files(program, counts):
+    """A full disk, a closed pipe and no more files than may be open, where files are named."""
+    with tempfile.TemporaryDirectory(prefix='streams-') as folder:
+        names = [f'{folder}/{number}' for number in range(40)]
+        for name in names:
+            pathlib.Path(name).write_bytes(MANY)
+        for args in FORMS:
+            counts.told(full(program, [*args, *names], b'') == FULL, 'a full disk, of files', args)
+            counts.told(closed(program, [*args, *names], b'') == LEFT, 'a closed pipe, of files', args)
+            few = {'preexec_fn': lambda: resource.setrlimit(resource.RLIMIT_NOFILE, (16, 16))}
+            counts.told(program.run([*args, *names], b'', **few)[1:] == (0, ''), 'few files are open at a time', args)
+        got = program.run(['size', names[0], folder, names[1]], b'')
+        lines = f'{names[0]}: words 0 caps 0\n'.encode() * 1000
+        counts.told(got == (lines, 2, f'{folder}: {IS_FOLDER}'), 'a folder behind a file', got)
+
+
 def failing(program, counts):
     for args in FORMS:
-        counts.told(full(program, args, MANY) == FAILED, 'a full disk', args)
+        counts.told(full(program, args, MANY) == FULL, 'a full disk', args)
         counts.told(full(program, args, b'') == (0, ''), 'nothing to a full disk', args)
-        counts.told(full(program, args, NULL + b'\0') == FAILED, 'a cut stream to a full disk', args)
-        counts.told(closed(program, args, MANY) == FAILED, 'a closed pipe', args)
-        counts.told(unread(program, args) == (2, 'message 1: refused ReadFailed\n'), 'a folder as the input', args)
+        counts.told(full(program, args, NULL + b'\0') == FULL, 'a cut stream to a full disk', args)
+        counts.told(closed(program, args, MANY) == LEFT, 'a closed pipe', args)
+        counts.told(unread(program, args) == (2, IS_FOLDER), 'a folder as the input', args)
+        counts.told(unread(program, [*args, '-']) == (2, f'-: {IS_FOLDER}'), 'a folder as the input, by name', args)
+        closed_input = 'message 1 at byte 0: refused ReadFailed: Bad file descriptor (os error 9)\n'
+        counts.told(shut(program, args) == (2, closed_input), 'a closed input', args, shut(program, args))
         with open(os.devnull, 'rb') as given:
             counts.told(ended(program, args, given, subprocess.DEVNULL) == (0, ''), 'no input', args)
     for words in ['--help'], ['--version']:
-        counts.told(full(program, words, b'') == FAILED, 'a full disk', words)
+        counts.told(full(program, words, b'') == FULL, 'a full disk', words)
+        counts.told(closed(program, words, b'') == LEFT, 'a closed pipe', words)
     whole, _, _ = program.run(['canon'], MANY * 100)
     got = front(program, ['canon'], MANY * 100, 10)
-    counts.told(got == (whole[:10], *FAILED), 'a reader that leaves', got)
+    counts.told(got == (whole[:10], *LEFT), 'a reader that leaves', got)
+    of_files(program, counts)
 
 
 def scarce(program, counts):
@@ -87,7 +119,7 @@ def scarce(program, counts):
     one at which all is. What is refused is refused by its name, and what is written is the answers before."""
     body = (1 | 2 << 32 | 8 * WORDS << 35).to_bytes(8, 'little') + b'\x11' * 8 * WORDS
     large = bytes(4) + (WORDS + 1).to_bytes(4, 'little') + body
-    wanted = {NULL: 'message 2: refused AllocationFailed\n', b'': 'refused AllocationFailed\n', NULL + large: ''}
+    wanted = {NULL: 'message 2 at byte 16: refused AllocationFailed\n', b'': 'refused AllocationFailed\n', NULL + large: ''}
     found = set()
     for most in range(HELD, MOST, STEP * 16):
         how = {'preexec_fn': lambda: resource.setrlimit(resource.RLIMIT_AS, (most, most))}

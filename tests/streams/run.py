@@ -3,8 +3,8 @@
 
     run.py CAPNP_CANON STREAM_RUNS [--limit SECONDS] [--show N]
 
-- Each line of a .jsonl file is one run: its arguments, its whole input and the output that is wanted, both in hex digits,
-  standard error and the exit status. Those of peer.jsonl are real messages, with what C++ Cap'n Proto 0.9.2 answers
+- Each line of a .jsonl file is one run: its arguments, its whole input, its files where it has any, and the output that is
+  wanted, all three in hex digits, standard error and the exit status. Those of peer.jsonl are real messages, with what C++ Cap'n Proto 0.9.2 answers
   (tests/peer/rows.py). Those of worked.jsonl were worked out by hand from the encoding specification.
 - vectors.py makes streams of the vectors of tests/vectors, whose answers were made apart from this repository.
 - devices.py has standard input and output that fail, little memory, and how much of it a run takes.
@@ -33,7 +33,7 @@ def rows(program, counts):
         for number, line in enumerate(path.open(encoding='utf-8'), 1):
             row = json.loads(line)
             wanted = bytes.fromhex(row['output']), row['status'], row['stderr']
-            got = program.run(row['args'], bytes.fromhex(row['input']))
+            got = program.run_row(row)
             same(counts, f'{path.name}:{number} {row["name"]}: {row["args"]}', row['args'], wanted, got)
 
 

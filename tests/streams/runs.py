@@ -1,12 +1,15 @@
 """One run of the program, and whether it ended as it should."""
+import os
+import pathlib
 import subprocess
+import tempfile
 
 NOT_CANONICAL = b'not canonical'
 
 
 class Program:
     def __init__(self, path, limit):
-        self.path, self.limit = path, limit
+        self.path, self.limit = os.path.abspath(path), limit
 
     def run(self, args, data, **how):
         """The output, the exit status, and standard error."""
@@ -15,6 +18,18 @@ class Program:
         except subprocess.TimeoutExpired:
             return b'', 'no end', ''
         return run.stdout, run.returncode, run.stderr.decode('utf-8', 'replace')
+
+    def run_row(self, row):
+        """The run that a row of a .jsonl file asks for, in a folder that has its files and no others."""
+        data = bytes.fromhex(row['input'])
+        if 'files' not in row:
+            return self.run(row['args'], data)
+        with tempfile.TemporaryDirectory(prefix='streams-') as folder:
+            for name, content in row['files'].items():
+                path = pathlib.Path(folder) / name
+                path.parent.mkdir(exist_ok=True)
+                path.write_bytes(bytes.fromhex(content))
+            return self.run(row['args'], data, cwd=folder)
 
 
 def same(counts, what, args, wanted, got):

@@ -74,7 +74,8 @@ def stream(chain):
     output = b''.join(answer for _, answer in chain if not isinstance(answer, str))
     last = chain[-1][1]
     if isinstance(last, str):
-        return data, (output, 2, f'message {len(chain)}: refused {last}\n')
+        start = len(data) - len(chain[-1][0])
+        return data, (output, 2, f'message {len(chain)} at byte {start}: refused {last}\n')
     return data, (output, 1 if b'not canonical\n' in output else 0, '')
 
 
@@ -91,8 +92,13 @@ def runs():
                 yield [*args, '--packed'], packed(data), wanted
 
 
+def without_guess(output, status, error):
+    """An answer without what the input looks like, which is a guess."""
+    return output, status, ''.join(it for it in error.splitlines(True) if not it.startswith('the input looks like '))
+
+
 def streams(program, counts):
     given = list(runs())
     with ThreadPoolExecutor(4) as pool:
-        for (args, data, wanted), got in zip(given, pool.map(lambda it: program.run(it[0], it[1]), given)):
+        for (args, data, wanted), got in zip(given, pool.map(lambda it: without_guess(*program.run(it[0], it[1])), given)):
             same(counts, f'{args} {data.hex():.400}', args, wanted, got)

@@ -1,33 +1,28 @@
-//! The program `capnp_canon`: reads framed messages from standard input, one behind the other, and
-//! writes what each is in canonical form, whether it is in that form, or how large it is.
-//! `capnp_canon --help` says what its arguments are.
+//! The program `capnp_canon`: reads framed messages from standard input or from files, one behind
+//! the other, and writes what each is in canonical form, whether it is in that form, or how large it
+//! is. `capnp_canon --help` says what its arguments are.
 #![tactic(auto)]
 
-ghost use Rattle.std.specs.Prelude.{◌≡◌, ◌≤◌, false, length};
+ghost use Rattle.std.specs.Prelude.{◌≤◌, length};
 
+mod inputs;
 mod texts;
 
 use capnp_framing::devices::DeviceFault;
-use capnp_packing::buffered::{BufferedInput, BufferedOutput};
+use capnp_packing::buffered::BufferedOutput;
 use capnp_packing::packing::PackingOutput;
-use capnp_streams::devices::{BufReaderInput, BufWriterOutput, NoOutput};
-use capnp_streams::streams::{self, Fault, Request, Stop, Summary, Task};
+use capnp_streams::devices::{BufWriterOutput, NoOutput};
+use capnp_streams::seen::{Seen, Watched};
+use capnp_streams::streams::{self, Request, Task};
+use inputs::{Unanswered, answer_all};
 use std::alloc::AllocError;
 use std::env;
-use std::io::{self, BufReader, BufWriter};
+use std::io::{self, BufWriter};
 use std::process::ExitCode;
 use texts::{HELP, USAGE, VERSION};
 
 /// How many bytes of the input, and of the output, are kept at a time.
 const BUFFER: usize = 1 << 16;
-
-/// What a run of the program comes to.
-#[derive(Clone, Copy)]
-enum Outcome {
-    Done(Summary),
-    Stopped(Stop),
-    WriteFailed,
-}
 
 fn main(rt: HostRuntime) -> ExitCode {
     match answer(&rt) {
@@ -36,23 +31,22 @@ fn main(rt: HostRuntime) -> ExitCode {
     }
 }
 
-/// Does what the arguments ask for. An error is want of memory for the arguments or the buffers;
+/// Does what the arguments ask for. An error is want of memory for the arguments or the output;
 /// nothing is read or written then.
 fn answer(rt: &HostRuntime) -> Result<ExitCode, AllocError> {
     let Some(words) = words(rt)? else {
         return Ok(complain(rt, USAGE));
     };
-    Ok(match streams::parse_args(words.as_slice()) {
-        Err(left) => misunderstood(rt, words.as_slice(), left),
-        Ok(Request::Help) => say(rt, HELP),
-        Ok(Request::Version) => say(rt, VERSION),
-        Ok(Request::Run(task)) => match run(rt, task)? {
-            Outcome::Done(summary) if summary.holds => ExitCode::SUCCESS,
-            Outcome::Done(_) => ExitCode::from(1),
-            Outcome::Stopped(stop) => refuse(rt, stop.answered, stop.fault),
-            Outcome::WriteFailed => complain(rt, "refused WriteFailed"),
-        },
-    })
+    let words = words.as_slice();
+    match streams::parse_args(words) {
+        Err(left) => Ok(misunderstood(rt, words, left)),
+        Ok(Request::Help) => Ok(say(rt, HELP)),
+        Ok(Request::Version) => Ok(say(rt, VERSION)),
+        Ok(Request::Run(task, files)) => {
+            let first = words.len().saturating_sub(files);
+            run(rt, task, &words[first..])
+        }
+    }
 }
 
 /// The words behind the program's name; `None` where one isn't text.
@@ -82,53 +76,58 @@ fn misunderstood(rt: &HostRuntime, words: &[String], left: usize) -> ExitCode
     complain(rt, USAGE)
 }
 
-/// Does a task from standard input to standard output.
-fn run(rt: &HostRuntime, task: Task) -> Result<Outcome, AllocError> {
-    let Ok(reader) = BufReader::with_capacity(rt.alloc(), BUFFER, rt.reader()) else {
+/// Does a task from these files, or from standard input where there is none, to standard output.
+fn run(rt: &HostRuntime, task: Task, files: &[String]) -> Result<ExitCode, AllocError> {
+    let seen = Seen::new();
+    let writer = Watched::new(io::writer(rt), &seen);
+    let Ok(writer) = BufWriter::with_capacity(rt.alloc(), BUFFER, writer) else {
         return Err(AllocError);
     };
-    let Ok(writer) = BufWriter::with_capacity(rt.alloc(), BUFFER, io::writer(rt)) else {
-        return Err(AllocError);
-    };
-    let input = BufReaderInput::new(reader);
     if task.quiet {
-        let ended = run_to(rt, task, input, &mut NoOutput);
-        return Ok(ended_as(Ok(()), ended));
+        let ended = answer_all(rt, task, files, &mut NoOutput);
+        return Ok(end(rt, ended, &seen));
     }
     let mut output = BufWriterOutput::new(writer);
     if !task.pack {
-        let ended = run_to(rt, task, input, &mut output);
-        return Ok(ended_as(output.pass_on(), ended));
+        let ended = answer_all(rt, task, files, &mut output);
+        return Ok(end(rt, written(ended, output.pass_on()), &seen));
     }
     let mut packing = PackingOutput::new(output);
-    let ended = run_to(rt, task, input, &mut packing);
-    Ok(ended_as(packing.pass_on(), ended))
+    let ended = answer_all(rt, task, files, &mut packing);
+    Ok(end(rt, written(ended, packing.pass_on()), &seen))
 }
 
-/// Does a task from an input to an output, neither of which has failed.
-fn run_to<R: BufferedInput + Drop, W: BufferedOutput>(
-    rt: &HostRuntime,
-    task: Task,
-    mut input: R,
-    output: &mut W,
-) -> Result<Summary, Stop>
-    requires reads { R.has_failed input ≡ false }
-    requires writes { W.has_failed output.old ≡ false }
-{
-    if task.unpack {
-        streams::run_packed(rt.alloc(), task, input, output)
-    } else {
-        streams::run(rt.alloc(), task, &mut input, output)
+/// What a run comes to, where all that was written is passed on, or where it can't be.
+fn written(
+    ended: Result<bool, Unanswered>,
+    passed_on: Result<(), DeviceFault>,
+) -> Result<bool, Unanswered> {
+    match passed_on {
+        Ok(()) => ended,
+        Err(DeviceFault) => Err(Unanswered::WriteFailed),
     }
 }
 
-/// What a run comes to. The answers before a refusal are written too, where all that was written
-/// could be.
-fn ended_as(written: Result<(), DeviceFault>, ended: Result<Summary, Stop>) -> Outcome {
-    match (written, ended) {
-        (Err(_), _) => Outcome::WriteFailed,
-        (Ok(()), Ok(summary)) => Outcome::Done(summary),
-        (Ok(()), Err(stop)) => Outcome::Stopped(stop),
+/// The status of a run, and what is said where the output failed.
+fn end(rt: &HostRuntime, ended: Result<bool, Unanswered>, output: &Seen) -> ExitCode {
+    match ended {
+        Ok(true) => ExitCode::SUCCESS,
+        Ok(false) => ExitCode::from(1),
+        Err(Unanswered::Said) => ExitCode::from(2),
+        Err(Unanswered::WriteFailed) => write_failed(rt, output.fault()),
+    }
+}
+
+/// Says that the output failed, and why. Where nobody reads it nothing is said.
+fn write_failed(rt: &HostRuntime, fault: Option<io::Error>) -> ExitCode {
+    match fault {
+        None => complain(rt, "refused WriteFailed"),
+        Some(error) => {
+            if error.kind() != io::ErrorKind::BrokenPipe {
+                let _ = eprintln!(rt; "refused WriteFailed: {error}");
+            }
+            ExitCode::from(2)
+        }
     }
 }
 
@@ -136,15 +135,8 @@ fn ended_as(written: Result<(), DeviceFault>, ended: Result<Summary, Stop>) -> O
 fn say(rt: &HostRuntime, text: &str) -> ExitCode {
     match println!(rt; "{text}") {
         Ok(()) => ExitCode::SUCCESS,
-        Err(_) => complain(rt, "refused WriteFailed"),
+        Err(error) => write_failed(rt, Some(error)),
     }
-}
-
-/// Says which message is refused, counted from 1, and why.
-fn refuse(rt: &HostRuntime, answered: u64, fault: Fault) -> ExitCode {
-    let number = answered.saturating_add(1);
-    let _ = eprintln!(rt; "message {number}: refused {}", fault.name());
-    ExitCode::from(2)
 }
 
 /// Says what is wrong, where it can be said.

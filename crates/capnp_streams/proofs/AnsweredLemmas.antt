@@ -1,5 +1,5 @@
 -- Of messages that have an answer none is refused: a fault is that of memory or of a device.
-use Rattle.std.proofs.Common.{◌≡◌, ◌⊎◌, inl, inr, ℕ, ◌+◌, ◌++◌, List, [], ◌∷◌, Bool, Option, Some, None}
+use Rattle.std.proofs.Common.{◌≡◌, ◌⊎◌, inl, inr, ℕ, ◌++◌, List, [], ◌∷◌, Bool, Option, Some, None}
 use Rattle.std.proofs.Common.{All, IfSome, IsSomeAnd}
 use Rattle.std.proofs.Common.{refl, sym, ◌∙◌, subst}
 use Rattle.std.proofs.lemmas.List.Elements.{All-head, All-tail}
@@ -89,13 +89,14 @@ message_refused task S left before after failed (Layout k) begins (inr (refused,
 message_refused task S left before after failed TooManyMessages begins (inr (refused, unwritten)) = absurd refused
 
 -- behind messages that are done, one isn't answered: for what fault, and where it is none of a message
-pub stops_behind : {task : Task} {count : ℕ} {holds : Bool} {W : Type 0} (old : Stage)
+pub stops_behind : {task : Task} {count size : ℕ} {holds : Bool} {W : Type 0} (old : Stage)
     (left between after : Option (List ℕ)) (failed : Bool) (fault : Fault) →
-    AreDone task old (record { input = left; output = between }) (record { messages = count; holds = holds }) →
+    AreDone task old (record { input = left; output = between })
+    (record { messages = count; bytes = size; holds = holds }) →
     W ⊎ (((n : ℕ) → StopsAt task left failed n fault) × Keeps between after) →
-    W ⊎ StopsBehind task old after failed (record { answered = count; fault = fault })
+    W ⊎ StopsBehind task old after failed (record { answered = count; byte = size; fault = fault })
 stops_behind old left between after failed fault done (inl written) = inl written
-stops_behind {task} {count} {holds} old left between after failed fault done (inr (stops, kept)) =
+stops_behind {task} {count} {size} {holds} old left between after failed fault done (inr (stops, kept)) =
     inr (left, holds, done_kept left between after kept done, stops count)
 
 pub step_answerable : {task : Task} {summary : Summary} {P Q : Type 0} (old : Stage)

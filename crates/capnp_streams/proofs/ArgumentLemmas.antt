@@ -1,12 +1,13 @@
 -- What words ask for, one behind the other.
-use Rattle.std.proofs.Common.{◌≡◌, ◌∙◌, inl, inr, ℕ, zero, suc, ◌+◌, ◌*◌, ◌<◌, ℤ, List, [], ◌∷◌, Bool, Option, Some, None}
+use Rattle.std.proofs.Common.{◌≡◌, ◌∙◌, inl, inr, ℕ, zero, suc, ◌+◌, ◌*◌, ◌<◌, ℤ, List, [], ◌∷◌, Bool, true, false, not, ◌&&◌, Option, Some, None}
 use Rattle.std.proofs.Common.{String, Global, codes, length, map, string_bytes}
 use Rattle.std.proofs.Common.{ap, sym, subst, refl, arith}
 use Rattle.std.specs.Prelude.{if◌then◌else◌, nat_eq}
 use Rattle.std.specs.Str.Parse.{IsNumeral}
+use Rattle.std.proofs.lemmas.List.{length-map}
 use Rattle.capnp_messages.specs.Text.{IsBudget}
-use Rattle.capnp_streams.specs.Arguments.{AsksForBehind, MakesLine, MakesLineAlone, MakesLineBehind, Sets, Stops}
-use Rattle.capnp_streams.specs.Arguments.{after_equals, before_equals, equals_at, is_last, line_after}
+use Rattle.capnp_streams.specs.Arguments.{AsksForBehind, AsksForFiles, MakesLine, MakesLineAlone, MakesLineBehind, Sets, Stops}
+use Rattle.capnp_streams.specs.Arguments.{after_equals, are_files, before_equals, equals_at, is_first_file, is_option, line_after}
 use Rattle.capnp_streams.specs.Arguments.{setting_text, text_of_word}
 use Rattle.capnp_streams.specs.declared.streams.task.Request.{Request}
 use Rattle.capnp_streams.specs.declared.streams.words.Line.{Line}
@@ -14,7 +15,7 @@ use Rattle.capnp_streams.specs.declared.streams.words.Setting.{Setting}
 use Rattle.capnp_streams.specs.declared.streams.words.Setting.TheVariants.{Nesting as SetNesting, Words as SetWords}
 use Rattle.capnp_streams.specs.declared.streams.words.Word.{Word}
 use Rattle.capnp_streams.specs.declared.streams.words.Word.TheVariants.{Help, HelpLetter, Version, VersionLetter, End}
-use Rattle.capnp_streams.specs.declared.streams.words.Word.TheVariants.{Canon, Check, Size, Packed, Pack, Flat, Quiet, Nesting, Words}
+use Rattle.capnp_streams.specs.declared.streams.words.Word.TheVariants.{Canon, Check, Size, Packed, Pack, Flat, FromFlat, Hex, Quiet, Nesting, Words}
 
 -- a number for the first so many bytes of a text
 abbrev key : ℕ → List ℕ → ℕ
@@ -39,6 +40,8 @@ word_at k =
     if nat_eq k (key_of Packed) then Packed else
     if nat_eq k (key_of Pack) then Pack else
     if nat_eq k (key_of Flat) then Flat else
+    if nat_eq k (key_of FromFlat) then FromFlat else
+    if nat_eq k (key_of Hex) then Hex else
     if nat_eq k (key_of Quiet) then Quiet else
     if nat_eq k (key_of Nesting) then Nesting else Words
 
@@ -54,6 +57,8 @@ word_found Size = refl
 word_found Packed = refl
 word_found Pack = refl
 word_found Flat = refl
+word_found FromFlat = refl
+word_found Hex = refl
 word_found Quiet = refl
 word_found Nesting = refl
 word_found Words = refl
@@ -76,6 +81,8 @@ no_equals Size there = omega arith
 no_equals Packed there = omega arith
 no_equals Pack there = omega arith
 no_equals Flat there = omega arith
+no_equals FromFlat there = omega arith
+no_equals Hex there = omega arith
 no_equals Quiet there = omega arith
 no_equals Nesting there = omega arith
 no_equals Words there = omega arith
@@ -131,22 +138,83 @@ texts : {words more : List (String Global)} {word : String Global} {name : List 
 texts {more = more} same named =
     ap (map string_bytes) same ∙ ap (λ (x : List ℕ). x ∷ map string_bytes more) named
 
--- words that ask for nothing
+-- words behind a line, of which the first has this text, and what they ask for
 module _ {words more : List (String Global)} {word : String Global} {text : List ℕ} (from : Line)
     (same : words ≡ word ∷ more) (named : string_bytes word ≡ text) where
-  pub asks_nothing : (last : Bool) (r : Request) → last ≡ is_last (map string_bytes more) →
-      ((q : Request) → Stops from last text q → ⊥) →
+  -- if that is a file
+  pub asks_for_files : (r : Request) → is_first_file from text ≡ true → AsksForFiles from (map string_bytes words) r →
+      AsksForBehind from (map string_bytes words) r
+  asks_for_files r first asks =
+      subst (λ (ws : List (List ℕ)). AsksForBehind from ws r) (sym (texts same named))
+      (inl (first, subst (λ (ws : List (List ℕ)). AsksForFiles from ws r) (texts same named) asks))
+
+  pub asks_for_no_files : (r : Request) → is_first_file from text ≡ true →
+      (AsksForFiles from (map string_bytes words) r → ⊥) → AsksForBehind from (map string_bytes words) r → ⊥
+  asks_for_no_files r first none asks =
+      go (subst (λ (ws : List (List ℕ)). AsksForBehind from ws r) (texts same named) asks)
+    where
+      go : AsksForBehind from (text ∷ map string_bytes more) r → ⊥
+      go (inl (is, files)) = none (subst (λ (ws : List (List ℕ)). AsksForFiles from ws r) (sym (texts same named)) files)
+      go (inr (later, others)) = let wrong : true ≡ false = sym first ∙ later in cc
+
+  -- if it isn't
+  pub asks_at_stop : (behind : ℕ) (r : Request) → is_first_file from text ≡ false → behind ≡ length more →
+      Stops from behind text r → AsksForBehind from (map string_bytes words) r
+  asks_at_stop behind r later is stops =
+      let texts_behind : behind ≡ length (map string_bytes more) = is ∙ sym (length-map more string_bytes) in
+      subst (λ (ws : List (List ℕ)). AsksForBehind from ws r) (sym (texts same named))
+      (inr (later, inl (subst (λ (n : ℕ). Stops from n text r) texts_behind stops)))
+
+  pub asks_behind : (next : Line) (r : Request) → is_first_file from text ≡ false → MakesLine text from next →
+      AsksForBehind next (map string_bytes more) r → AsksForBehind from (map string_bytes words) r
+  asks_behind next r later makes asks =
+      subst (λ (ws : List (List ℕ)). AsksForBehind from ws r) (sym (texts same named))
+      (inr (later, inr (next, makes, asks)))
+
+  pub asks_nothing : (behind : ℕ) (r : Request) → is_first_file from text ≡ false → behind ≡ length more →
+      ((q : Request) → Stops from behind text q → ⊥) →
       ((next : Line) → MakesLine text from next → AsksForBehind next (map string_bytes more) r → ⊥) →
       AsksForBehind from (map string_bytes words) r → ⊥
-  asks_nothing last r is no_end no_next asks =
+  asks_nothing behind r later is no_end no_next asks =
       neither (subst (λ (ws : List (List ℕ)). AsksForBehind from ws r) (texts same named) asks)
     where
+      texts_behind : length (map string_bytes more) ≡ behind
+      texts_behind = length-map more string_bytes ∙ sym is
+
       neither : AsksForBehind from (text ∷ map string_bytes more) r → ⊥
-      neither (inl stops) = no_end r (subst (λ (b : Bool). Stops from b text r) (sym is) stops)
-      neither (inr (next, read, asks)) = no_next next read asks
+      neither (inl (first, files)) = let wrong : true ≡ false = sym first ∙ later in cc
+      neither (inr (other, inl stops)) = no_end r (subst (λ (n : ℕ). Stops from n text r) texts_behind stops)
+      neither (inr (other, inr (next, read, asks))) = no_next next read asks
 
   pub asks_nothing_behind : (next : Line) (r : Request) → MakesLine text from next →
       (AsksForBehind next (map string_bytes more) r → ⊥) →
       (other : Line) → MakesLine text from other → AsksForBehind other (map string_bytes more) r → ⊥
   asks_nothing_behind next r read none other too asks =
       none (subst (λ (x : Line). AsksForBehind x (map string_bytes more) r) (read_one from.expects text from other next too read) asks)
+
+-- words of which the first has this text are files
+module _ {words more : List (String Global)} {word : String Global} {text : List ℕ}
+    (same : words ≡ word ∷ more) (named : string_bytes word ≡ text) where
+  -- where those behind it are, if it is one
+  pub files_as_behind : is_option text ≡ false → are_files (map string_bytes words) ≡ are_files (map string_bytes more)
+  files_as_behind later =
+      ap are_files (texts same named) ∙ ap (λ (b : Bool). not b && are_files (map string_bytes more)) later
+
+  pub first_is_option : is_option text ≡ true → are_files (map string_bytes words) ≡ false
+  first_is_option is =
+      ap are_files (texts same named) ∙ ap (λ (b : Bool). not b && are_files (map string_bytes more)) is
+
+-- no words are files
+pub none_are_files : (words : List (String Global)) → length words ≡ 0 → are_files (map string_bytes words) ≡ true
+none_are_files [] none = refl
+none_are_files (word ∷ more) none = absurd (omega arith)
+
+pub asks_at_end : (from : Line) (words : List (String Global)) (r : Request) → length words ≡ 0 →
+    AsksForFiles from (map string_bytes words) r → AsksForBehind from (map string_bytes words) r
+asks_at_end from [] r none asks = asks
+asks_at_end from (word ∷ more) r none asks = absurd (omega arith)
+
+pub asks_nothing_at_end : (from : Line) (words : List (String Global)) (r : Request) → length words ≡ 0 →
+    (AsksForFiles from (map string_bytes words) r → ⊥) → AsksForBehind from (map string_bytes words) r → ⊥
+asks_nothing_at_end from [] r none later asks = later asks
+asks_nothing_at_end from (word ∷ more) r none later asks = omega arith

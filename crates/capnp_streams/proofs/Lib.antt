@@ -1,5 +1,7 @@
 pub mod AnsweredLemmas
 pub mod ArgumentLemmas
+pub mod DigitLemmas
+pub mod FlatLemmas
 pub mod FramesLemmas
 pub mod PackedLemmas
 pub mod StreamLemmas

@@ -30,15 +30,15 @@ pub cut_behind : {task : Task} (packed given output after : Option (List ℕ)) (
     (summary : Summary) (stop : Stop) → given ≡ option_map (unpacked_bytes Tag) packed → before ≡ whole_behind Tag packed →
     KeepsWhole before behind → KeepsWhole behind (Some false) →
     AllAreDone task (record { input = given; output = output }) after summary →
-    stop.answered ≡ summary.messages → stop.fault ≡ Frame Truncated →
+    stop.answered ≡ summary.messages → stop.byte ≡ summary.bytes → stop.fault ≡ Frame Truncated →
     IsCutBehind task (record { input = packed; output = output }) after stop
-cut_behind {task} packed given output after before behind summary stop same whole kept last done answered fault =
+cut_behind {task} packed given output after before behind summary stop same whole kept last done answered byte fault =
     let both = keeps_whole_both before behind (Some false) kept last in
     let cut = are_cut packed (subst (λ (o : Option Bool). KeepsWhole o (Some false)) whole both) in
     let there : AllAreDone task (record { input = option_map (unpacked_bytes Tag) packed; output = output }) after
-    (record { messages = summary.messages; holds = summary.holds }) =
+    (record { messages = summary.messages; bytes = summary.bytes; holds = summary.holds }) =
     subst (λ (i : Option (List ℕ)). AllAreDone task (record { input = i; output = output }) after summary) same done in
-    (fault, cut, (summary.holds, rw answered there))
+    (fault, cut, (summary.holds, rw (answered, byte) there))
 
 -- no bytes are refused by the name of a failed read
 bytes_are_read : {bytes : List ℕ} {most : ℕ} → NoFrame bytes most ReadFailed → ⊥

@@ -1,5 +1,5 @@
 -- A stream is read and answered message by message.
-use Rattle.std.proofs.Common.{◌≡◌, ◌≤◌, ℕ, ◌+◌, List, [], ◌∷◌, ◌++◌, Bool, true, false, ◌&&◌, Option, Some, None, length}
+use Rattle.std.proofs.Common.{◌≡◌, ◌≤◌, ℕ, ◌+◌, ◌-◌, ◌^◌, min, List, [], ◌∷◌, ◌++◌, Bool, true, false, ◌&&◌, Option, Some, None, length}
 use Rattle.std.proofs.Common.{IfSome, refl, sym, ap, ◌∙◌, append_assoc, append-nil, arith, length-append}
 use Rattle.std.specs.Io.KnownBytes.{Appends, Consumes, Keeps}
 use Rattle.capnp_format.specs.Segments.{Segments}
@@ -10,6 +10,7 @@ use Rattle.capnp_framing.proofs.ReadingLemmas.{consumes_both}
 use Rattle.capnp_framing.proofs.WritingLemmas.{appends_both}
 use Rattle.capnp_streams.specs.Streams.{AnswerIs, AreAnswered, AreDone, AreFrames, IsOneDone, Stage, TakesRefused, TakesUpToRefused}
 use Rattle.capnp_streams.specs.declared.streams.fault.Fault.{Fault}
+use Rattle.capnp_streams.specs.declared.streams.runs.Answered.{Answered}
 use Rattle.capnp_streams.specs.declared.streams.runs.Summary.{Summary}
 use Rattle.capnp_streams.specs.declared.streams.task.Task.{Task}
 
@@ -32,7 +33,7 @@ and_assoc false b c = refl
 
 -- one answer more
 module _ (task : Task) (S : Segments) (holds : Bool) (last : List ℕ)
-    (is : AnswerIs task.command task.limits S holds last) where
+    (is : AnswerIs task.command task S holds last) where
   answers_more : (Ss : List Segments) (all : Bool) (bytes : List ℕ) → AreAnswered task Ss all bytes →
       AreAnswered task (Ss ++ S ∷ []) (all && holds) (bytes ++ last)
   answers_more [] all bytes (none, nothing) =
@@ -49,12 +50,13 @@ consumes_none : (a : Option (List ℕ)) → Consumes a a []
 consumes_none None = tt
 consumes_none (Some x) = refl
 
-pub none_done : (task : Task) (from : Stage) → AreDone task from from (record { messages = 0; holds = true })
+pub none_done : (task : Task) (from : Stage) → AreDone task from from (record { messages = 0; bytes = 0; holds = true })
 none_done task from = record {
   messages = [];
   bytes = [];
   answers = [];
   many = refl;
+  sized = omega arith;
   framed = refl;
   consumed = consumes_none from.input;
   answered = (refl, refl);
@@ -66,25 +68,28 @@ none_done task from = record {
     appends_none (Some x) = sym (append-nil x)
 
 -- one message more is done
-pub one_more_done : {task : Task} {old mid new : Stage} {count : ℕ} {holds here : Bool} →
-    AreDone task old mid (record { messages = count; holds = holds }) → IsOneDone task mid new here →
-    AreDone task old new (record { messages = count + 1; holds = holds && here })
-one_more_done {task} {old} {mid} {new} {count} {holds} {here} done one = record {
-  messages = done.messages ++ one.message ∷ [];
-  bytes = done.bytes ++ one.bytes;
-  answers = done.answers ++ one.answer;
-  many = omega (arith, length-append done.messages (one.message ∷ []), done.many);
-  framed = frames_more _ one.message one.bytes done.messages done.bytes done.framed one.framed one.short;
-  consumed = consumes_both old.input mid.input new.input done.bytes one.bytes done.consumed one.consumed;
-  answered = answers_more task one.message here one.answer one.answered done.messages holds done.answers done.answered;
-  written = appends_both old.output mid.output new.output done.answers one.answer done.written one.written;
+pub one_more_done : {task : Task} {old mid new : Stage} {count size : ℕ} {holds : Bool} {one : Answered} →
+    AreDone task old mid (record { messages = count; bytes = size; holds = holds }) → IsOneDone task mid new one →
+    AreDone task old new
+    (record { messages = count + 1; bytes = min (size + one.bytes) (2 ^ 64 - 1); holds = holds && one.holds })
+one_more_done {task} {old} {mid} {new} {count} {size} {holds} {one} done is = record {
+  messages = done.messages ++ is.message ∷ [];
+  bytes = done.bytes ++ is.bytes;
+  answers = done.answers ++ is.answer;
+  many = omega (arith, length-append done.messages (is.message ∷ []), done.many);
+  sized = omega (arith, length-append done.bytes is.bytes, done.sized, is.sized);
+  framed = frames_more _ is.message is.bytes done.messages done.bytes done.framed is.framed is.short;
+  consumed = consumes_both old.input mid.input new.input done.bytes is.bytes done.consumed is.consumed;
+  answered = answers_more task is.message one.holds is.answer is.answered done.messages holds done.answers done.answered;
+  written = appends_both old.output mid.output new.output done.answers is.answer done.written is.written;
 }
 
 -- behind those that are done the frame of a message is taken that is refused
-pub refused_taken : {task : Task} {old mid : Stage} {count : ℕ} {holds : Bool} (new : Option (List ℕ)) (fault : Fault) →
-    AreDone task old mid (record { messages = count; holds = holds }) → TakesRefused task mid.input new fault →
-    TakesUpToRefused task old.input new (record { answered = count; fault = fault })
-refused_taken {task} {old} {mid} {count} {holds} new fault done taken = λ k same.
+pub refused_taken : {task : Task} {old mid : Stage} {count size : ℕ} {holds : Bool} (new : Option (List ℕ)) (fault : Fault) →
+    AreDone task old mid (record { messages = count; bytes = size; holds = holds }) →
+    TakesRefused task mid.input new fault →
+    TakesUpToRefused task old.input new (record { answered = count; byte = size; fault = fault })
+refused_taken {task} {old} {mid} {count} {size} {holds} new fault done taken = λ k same.
     let (S, last, framed, short, consumed) = taken k same in
     let many : length (done.messages ++ S ∷ []) ≡ count + 1 = omega (arith, length-append done.messages (S ∷ []), done.many) in
     (done.messages ++ S ∷ [], done.bytes ++ last, many, frames_more _ S last done.messages done.bytes done.framed framed short, consumes_both old.input mid.input new done.bytes last done.consumed consumed)
@@ -112,6 +117,7 @@ done_kept {old = old} left between after kept done = record {
   bytes = done.bytes;
   answers = done.answers;
   many = done.many;
+  sized = done.sized;
   framed = done.framed;
   consumed = done.consumed;
   answered = done.answered;

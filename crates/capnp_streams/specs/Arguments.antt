@@ -1,8 +1,11 @@
--- The words behind the program's name: one names a command, and options stand before or behind it, in any order.
-use Rattle.std.specs.Prelude.{◌≡◌, ◌⊎◌, ℕ, ℤ, ◌<◌, ◌==◌, pos, List, [], ◌∷◌, length, codes, Option, Some, None}
-use Rattle.std.specs.Prelude.{Bool, true, false, not, ◌&&◌, if◌then◌else◌}
+-- The words behind the program's name: one names a command, options stand before or behind it, in any order, and
+-- files behind all of these.
+use Rattle.std.specs.Prelude.{◌≡◌, ◌⊎◌, ℕ, ℤ, ◌<◌, ◌==◌, nat_lt, pos, List, [], ◌∷◌, length, codes, Option, Some, None}
+use Rattle.std.specs.Prelude.{Bool, true, false, not, ◌&&◌, ◌||◌, is_some, if◌then◌else◌}
 use Rattle.std.specs.List.{after_first, before_first, position_or_len}
+use Rattle.std.specs.Str.Parse.{starts_with_minus}
 use Rattle.capnp_messages.specs.Text.{IsBudget, IsNesting}
+use Rattle.capnp_messages.specs.declared.messages.command.Command.{Command}
 use Rattle.capnp_messages.specs.declared.messages.command.Command.TheVariants.{Canon, Check, Size}
 use Rattle.capnp_messages.specs.declared.messages.command.Form.TheVariants.{Framed, Flat}
 use Rattle.capnp_streams.specs.declared.streams.task.Request.{Request}
@@ -16,7 +19,7 @@ use Rattle.capnp_streams.specs.declared.streams.words.Verb.TheVariants.{Canon as
 use Rattle.capnp_streams.specs.declared.streams.words.Word.{Word}
 use Rattle.capnp_streams.specs.declared.streams.words.Word.TheVariants.{Help, HelpLetter, Version, VersionLetter, End}
 use Rattle.capnp_streams.specs.declared.streams.words.Word.TheVariants.{Canon as WordCanon, Check as WordCheck, Size as WordSize}
-use Rattle.capnp_streams.specs.declared.streams.words.Word.TheVariants.{Packed, Pack, Flat as WordFlat, Quiet, Nesting, Words}
+use Rattle.capnp_streams.specs.declared.streams.words.Word.TheVariants.{Packed, Pack, Flat as WordFlat, FromFlat, Hex, Quiet, Nesting, Words}
 
 -- the text of a word that has a meaning by itself
 abbrev pub text_of_word : Word → List ℕ
@@ -31,6 +34,8 @@ text_of_word WordSize = codes "size"
 text_of_word Packed = codes "--packed"
 text_of_word Pack = codes "--pack"
 text_of_word WordFlat = codes "--flat"
+text_of_word FromFlat = codes "--from-flat"
+text_of_word Hex = codes "--hex"
 text_of_word Quiet = codes "--quiet"
 text_of_word Nesting = codes "--nesting"
 text_of_word Words = codes "--words"
@@ -48,19 +53,36 @@ plain_line = record {
   unpack = false;
   pack = false;
   flat = false;
+  from_flat = false;
+  hex = false;
   quiet = false;
   expects = None;
 }
 
--- `canon` alone has options for what it writes, and `check` alone that it writes nothing
+-- `canon` alone has options for what it writes, and `check` alone that it writes nothing; `--flat` is of all three
 abbrev pub verb_allows : Option Verb → Bool → Bool → Bool → Bool
-verb_allows None pack flat quiet = true
-verb_allows (Some ToCanon) pack flat quiet = not quiet
-verb_allows (Some ToCheck) pack flat quiet = not pack && not flat
-verb_allows (Some ToSize) pack flat quiet = not pack && not flat && not quiet
+verb_allows None pack hex quiet = true
+verb_allows (Some ToCanon) pack hex quiet = not quiet
+verb_allows (Some ToCheck) pack hex quiet = not pack && not hex
+verb_allows (Some ToSize) pack hex quiet = not pack && not hex && not quiet
+
+-- whether the input is one message's bare words: `--from-flat` says so, and of `check` and `size` `--flat` too
+abbrev pub verb_reads_flat : Option Verb → Bool → Bool → Bool
+verb_reads_flat None flat from_flat = from_flat
+verb_reads_flat (Some ToCanon) flat from_flat = from_flat
+verb_reads_flat (Some ToCheck) flat from_flat = flat || from_flat
+verb_reads_flat (Some ToSize) flat from_flat = flat || from_flat
+
+abbrev pub line_reads_flat : Line → Bool
+line_reads_flat line = verb_reads_flat line.verb line.flat line.from_flat
+
+-- digits are written neither as bare words nor packed, and bare words are read as they are
+abbrev pub options_agree : Line → Bool
+options_agree line =
+    not (line.hex && (line.flat || line.pack)) && (not line.unpack || not (line_reads_flat line))
 
 abbrev pub line_is_allowed : Line → Bool
-line_is_allowed line = verb_allows line.verb line.pack line.flat line.quiet
+line_is_allowed line = verb_allows line.verb line.pack line.hex line.quiet && options_agree line
 
 abbrev pub line_if_allowed : Line → Option Line
 line_if_allowed line = if line_is_allowed line then Some line else None
@@ -86,6 +108,8 @@ line_after WordSize line = line_with_verb ToSize line
 line_after Packed line = line_if_allowed (record line { unpack = true })
 line_after Pack line = line_if_allowed (record line { pack = true })
 line_after WordFlat line = line_if_allowed (record line { flat = true })
+line_after FromFlat line = line_if_allowed (record line { from_flat = true })
+line_after Hex line = line_if_allowed (record line { hex = true })
 line_after Quiet line = line_if_allowed (record line { quiet = true })
 line_after Nesting line = Some (record line { expects = Some SetNesting })
 line_after Words line = Some (record line { expects = Some SetWords })
@@ -124,74 +148,83 @@ MakesLineBehind (Some option) text from to = Sets option text from to
 abbrev pub MakesLine : List ℕ → Line → Line → Type 0
 MakesLine text from to = MakesLineBehind from.expects text from to
 
+-- a task with the options of a line
+abbrev pub task_with : Command → Line → Task
+task_with command line = record {
+  command = command;
+  limits = line.limits;
+  unpack = line.unpack;
+  from_flat = line_reads_flat line;
+  pack = line.pack;
+  hex = line.hex;
+  quiet = line.quiet;
+}
+
 -- the task that a line asks for which is whole
 abbrev pub task_of_command : Option Setting → Option Verb → Line → Option Task
 task_of_command (Some _) verb line = None
 task_of_command None None line = None
-task_of_command None (Some ToCanon) line = Some (record {
-  command = Canon (if line.flat then Flat else Framed);
-  limits = line.limits;
-  unpack = line.unpack;
-  pack = line.pack;
-  quiet = line.quiet;
-})
-task_of_command None (Some ToCheck) line = Some (record {
-  command = Check;
-  limits = line.limits;
-  unpack = line.unpack;
-  pack = line.pack;
-  quiet = line.quiet;
-})
-task_of_command None (Some ToSize) line = Some (record {
-  command = Size;
-  limits = line.limits;
-  unpack = line.unpack;
-  pack = line.pack;
-  quiet = line.quiet;
-})
+task_of_command None (Some ToCanon) line = Some (task_with (Canon (if line.flat then Flat else Framed)) line)
+task_of_command None (Some ToCheck) line = Some (task_with Check line)
+task_of_command None (Some ToSize) line = Some (task_with Size line)
 
 abbrev pub task_of_line : Line → Option Task
 task_of_line line = task_of_command line.expects line.verb line
 
-abbrev pub run_of_task : Option Task → Option Request
-run_of_task None = None
-run_of_task (Some task) = Some (Run task)
+-- the run of a task with so many files
+abbrev pub run_of_task : Option Task → ℕ → Option Request
+run_of_task None files = None
+run_of_task (Some task) files = Some (Run task files)
 
--- what a word asks for behind which none is read, where it may be the last one
-abbrev pub request_of_word : Word → Bool → Line → Option Request
-request_of_word Help last line = Some AskHelp
-request_of_word HelpLetter last line = Some AskHelp
-request_of_word Version last line = Some AskVersion
-request_of_word VersionLetter last line = Some AskVersion
-request_of_word End last line = if last then run_of_task (task_of_line line) else None
-request_of_word WordCanon last line = None
-request_of_word WordCheck last line = None
-request_of_word WordSize last line = None
-request_of_word Packed last line = None
-request_of_word Pack last line = None
-request_of_word WordFlat last line = None
-request_of_word Quiet last line = None
-request_of_word Nesting last line = None
-request_of_word Words last line = None
+-- what a word asks for behind which no option is read, and so many words stand; behind `--` they are files
+abbrev pub request_of_word : Word → ℕ → Line → Option Request
+request_of_word Help behind line = Some AskHelp
+request_of_word HelpLetter behind line = Some AskHelp
+request_of_word Version behind line = Some AskVersion
+request_of_word VersionLetter behind line = Some AskVersion
+request_of_word End behind line = run_of_task (task_of_line line) behind
+request_of_word WordCanon behind line = None
+request_of_word WordCheck behind line = None
+request_of_word WordSize behind line = None
+request_of_word Packed behind line = None
+request_of_word Pack behind line = None
+request_of_word WordFlat behind line = None
+request_of_word FromFlat behind line = None
+request_of_word Hex behind line = None
+request_of_word Quiet behind line = None
+request_of_word Nesting behind line = None
+request_of_word Words behind line = None
 
--- A word that isn't the value of an option ends the line, and it asks for this.
-abbrev pub Stops : Line → Bool → List ℕ → Request → Type 0
-Stops from last text r =
+-- A word that isn't the value of an option ends the line, with so many words behind it, and it asks for this.
+abbrev pub Stops : Line → ℕ → List ℕ → Request → Type 0
+Stops from behind text r =
     (from.expects ≡ None)
-    × ((word : Word) × (text_of_word word ≡ text) × (request_of_word word last from ≡ Some r))
+    × ((word : Word) × (text_of_word word ≡ text) × (request_of_word word behind from ≡ Some r))
 
--- whether there are no words behind a word
-abbrev pub is_last : List (List ℕ) → Bool
-is_last [] = true
-is_last (text ∷ more) = false
+-- whether a text has the form of an option: a `-` with more behind it. All others can be files; `-` is standard input
+abbrev pub is_option : List ℕ → Bool
+is_option text = starts_with_minus text && nat_lt 1 (length text)
 
--- Words behind others, which make this line, ask for something.
+abbrev pub are_files : List (List ℕ) → Bool
+are_files [] = true
+are_files (text ∷ more) = not (is_option text) && are_files more
+
+-- whether a text is the first file behind a line: that has its command, and waits for no value
+abbrev pub is_first_file : Line → List ℕ → Bool
+is_first_file from text = is_some from.verb && not (is_some from.expects) && not (is_option text)
+
+-- Words behind others, which make this line, are files, and all of them ask for this.
+abbrev pub AsksForFiles : Line → List (List ℕ) → Request → Type 0
+AsksForFiles from files r =
+    (are_files files ≡ true) × (run_of_task (task_of_line from) (length files) ≡ Some r)
+
+-- Words behind others, which make this line, ask for something. From the first file on all are files.
 abbrev pub AsksForBehind : Line → List (List ℕ) → Request → Type 0
-AsksForBehind from [] AskHelp = ⊥
-AsksForBehind from [] AskVersion = ⊥
-AsksForBehind from [] (Run task) = task_of_line from ≡ Some task
+AsksForBehind from [] r = AsksForFiles from [] r
 AsksForBehind from (text ∷ more) r =
-    Stops from (is_last more) text r ⊎ ((next : Line) × MakesLine text from next × AsksForBehind next more r)
+    ((is_first_file from text ≡ true) × AsksForFiles from (text ∷ more) r)
+    ⊎ ((is_first_file from text ≡ false)
+    × (Stops from (length more) text r ⊎ ((next : Line) × MakesLine text from next × AsksForBehind next more r)))
 
 abbrev pub AsksFor : List (List ℕ) → Request → Type 0
 AsksFor words r = AsksForBehind plain_line words r

@@ -1,3 +1,4 @@
 pub mod Arguments
+pub mod Flat
 pub mod Packed
 pub mod Streams

@@ -1,8 +1,9 @@
 -- The messages that stand in a stream, one frame behind the other, and what a task answers to them.
-use Rattle.std.specs.Prelude.{◌≡◌, ◌⊎◌, ℕ, ◌+◌, ◌-◌, ◌^◌, ◌≤◌, List, [], ◌∷◌, ◌++◌, All, length, codes, ⊤}
+use Rattle.std.specs.Prelude.{◌≡◌, ◌⊎◌, ℕ, ◌+◌, ◌-◌, ◌^◌, ◌≤◌, min, List, [], ◌∷◌, ◌++◌, All, length, codes, ⊤}
 use Rattle.std.specs.Prelude.{Bool, true, false, ◌&&◌, Option, IfSome, IsSomeAnd, unwrap_or}
 use Rattle.std.specs.Fmt.{decimal}
 use Rattle.std.specs.Io.KnownBytes.{Appends, Consumes, IsAtEnd}
+use Rattle.hex.specs.Hex.{encode_lower}
 use Rattle.capnp_words.specs.Names.{name_of}
 use Rattle.capnp_words.specs.declared.error.ErrorKind.{ErrorKind}
 use Rattle.capnp_words.specs.declared.error.ErrorKind.TheVariants.{AllocationFailed}
@@ -11,7 +12,7 @@ use Rattle.capnp_format.specs.Segments.{Segments}
 use Rattle.capnp_format.specs.Tree.{Tree}
 use Rattle.capnp_arena.specs.declared.arena.reader_arena_impl.ReaderOptions.{ReaderOptions}
 use Rattle.capnp_framing.specs.Flat.{BeginsWithFrame}
-use Rattle.capnp_framing.specs.Frames.{IsFrameOf}
+use Rattle.capnp_framing.specs.Frames.{IsFrameOf, bytes_of_words}
 use Rattle.capnp_framing.specs.Names.{frame_error_name}
 use Rattle.capnp_framing.specs.Reading.{NoFrame, total}
 use Rattle.capnp_framing.specs.declared.devices.Input.{Ghosts as InputGhosts}
@@ -25,10 +26,12 @@ use Rattle.capnp_messages.specs.CanonicalMessages.{IsCanonicalMessage}
 use Rattle.capnp_messages.specs.Messages.{HasSizeOf, IsFaultOf, IsValueOf}
 use Rattle.capnp_streams.specs.declared.streams.fault.Fault.{Fault}
 use Rattle.capnp_streams.specs.declared.streams.fault.Fault.TheVariants.{Frame, Layout, TooManyMessages}
+use Rattle.capnp_streams.specs.declared.streams.runs.Answered.{Answered}
 use Rattle.capnp_streams.specs.declared.streams.runs.Stop.{Stop}
 use Rattle.capnp_streams.specs.declared.streams.runs.Summary.{Summary}
 use Rattle.capnp_messages.specs.declared.messages.command.Command.{Command}
 use Rattle.capnp_messages.specs.declared.messages.command.Command.TheVariants.{Canon, Check, Size}
+use Rattle.capnp_messages.specs.declared.messages.command.Form.{Form}
 use Rattle.capnp_streams.specs.declared.streams.task.Task.{Task}
 use Rattle.capnp_messages.specs.Commands.{HasAnswerWithin, RefusesAnswer, form_bytes}
 
@@ -55,21 +58,31 @@ word_text word = codes ", word " ++ decimal word ++ 10 ∷ []
 abbrev pub fault_line : CanonicalFault → List ℕ
 fault_line f = no_text ++ fault_reason_text f.reason ++ segment_text f.segment ++ word_text f.word
 
--- What a command answers to a message: yes or no, and these bytes. The line that says that a message isn't
--- canonical says why: the reason is true of the word that it names.
-abbrev pub AnswerIs : Command → ReaderOptions → Segments → Bool → List ℕ → Type 0
-AnswerIs (Canon form) limits S holds bytes =
-    (holds ≡ true) × ((t : Tree) × IsValueOf S limits t × (bytes ≡ form_bytes form (encoding (trim t))))
-AnswerIs Check limits S true bytes = IsCanonicalMessage S × (bytes ≡ check_line true)
-AnswerIs Check limits S false bytes =
-    (IsCanonicalMessage S → ⊥) × ((f : CanonicalFault) × IsFaultOf S limits f × (bytes ≡ fault_line f))
-AnswerIs Size limits S holds bytes =
-    (holds ≡ true) × ((words : ℕ) × (caps : ℕ) × HasSizeOf S limits words caps ×
+-- The line of canonical words as lower case hex digits: the bytes of each word in order, two digits for each.
+abbrev pub hex_line : List ℕ → List ℕ
+hex_line words = encode_lower (bytes_of_words words) ++ 10 ∷ []
+
+-- The bytes that are written of canonical words: such a line, or their bytes in a form.
+abbrev pub written_words : Bool → Form → List ℕ → List ℕ
+written_words true form words = hex_line words
+written_words false form words = form_bytes form words
+
+-- What a command answers to a message, with what else a task asks for: yes or no, and these bytes. The line
+-- that says that a message isn't canonical says why: the reason is true of the word that it names.
+abbrev pub AnswerIs : Command → Task → Segments → Bool → List ℕ → Type 0
+AnswerIs (Canon form) task S holds bytes =
+    (holds ≡ true)
+    × ((t : Tree) × IsValueOf S task.limits t × (bytes ≡ written_words task.hex form (encoding (trim t))))
+AnswerIs Check task S true bytes = IsCanonicalMessage S × (bytes ≡ check_line true)
+AnswerIs Check task S false bytes =
+    (IsCanonicalMessage S → ⊥) × ((f : CanonicalFault) × IsFaultOf S task.limits f × (bytes ≡ fault_line f))
+AnswerIs Size task S holds bytes =
+    (holds ≡ true) × ((words : ℕ) × (caps : ℕ) × HasSizeOf S task.limits words caps ×
     (bytes ≡ size_line words caps))
 
 -- P holds of the bytes that it answers.
-abbrev pub AnswersWith : Command → ReaderOptions → Segments → Bool → (List ℕ → Type 0) → Type 0
-AnswersWith command limits S holds P = (bytes : List ℕ) × AnswerIs command limits S holds bytes × P bytes
+abbrev pub AnswersWith : Command → Task → Segments → Bool → (List ℕ → Type 0) → Type 0
+AnswersWith command task S holds P = (bytes : List ℕ) × AnswerIs command task S holds bytes × P bytes
 
 -- A fault says why.
 abbrev pub RefusesBy : Command → ReaderOptions → Segments → Fault → Type 0
@@ -93,7 +106,7 @@ abbrev pub AreAnswered : Task → List Segments → Bool → List ℕ → Type 0
 AreAnswered task [] holds bytes = (holds ≡ true) × (bytes ≡ [])
 AreAnswered task (S ∷ more) holds bytes =
     (here : Bool) × (there : Bool) × (first : List ℕ) × (rest : List ℕ)
-    × AnswerIs task.command task.limits S here first × AreAnswered task more there rest
+    × AnswerIs task.command task S here first × AreAnswered task more there rest
     × (holds ≡ here && there) × (bytes ≡ first ++ rest)
 
 -- How far a run has come: what its input has left and what its output holds, where these are known.
@@ -105,27 +118,33 @@ module _ {R W : Type 0} (g : InputGhosts R) (h : OutputGhosts W) where
   abbrev pub stage_of : R → W → Stage
   stage_of input output = record { input = g.remaining input; output = h.contents output }
 
--- From one stage to another the frames of so many messages were taken from the front of the input, and what a
--- task answers to these was written behind what the output had.
+-- How many bytes these are, where 64 bits count them, and else as many as these count.
+abbrev pub bytes_counted : List ℕ → ℕ
+bytes_counted bytes = min (length bytes) (2 ^ 64 - 1)
+
+-- From one stage to another the frames of so many messages were taken from the front of the input, of so many
+-- bytes, and what a task answers to these was written behind what the output had.
 pub record AreDone (task : Task) (old new : Stage) (summary : Summary) : Type 0 where
   pub messages : List Segments
   pub bytes : List ℕ
   pub answers : List ℕ
   pub many : length messages ≡ summary.messages
+  pub sized : summary.bytes ≡ bytes_counted bytes
   pub framed : AreFrames (most_words task.limits) messages bytes
   pub consumed : Consumes old.input new.input bytes
   pub answered : AreAnswered task messages summary.holds answers
   pub written : Appends old.output new.output answers
 
 -- So those of one message.
-pub record IsOneDone (task : Task) (old new : Stage) (holds : Bool) : Type 0 where
+pub record IsOneDone (task : Task) (old new : Stage) (one : Answered) : Type 0 where
   pub message : Segments
   pub bytes : List ℕ
   pub answer : List ℕ
+  pub sized : one.bytes ≡ length bytes
   pub framed : IsFrameOf message bytes
   pub short : total message ≤ most_words task.limits
   pub consumed : Consumes old.input new.input bytes
-  pub answered : AnswerIs task.command task.limits message holds answer
+  pub answered : AnswerIs task.command task message one.holds answer
   pub written : Appends old.output new.output answer
 
 -- So those of all messages: behind them the input is at its end.
@@ -145,12 +164,15 @@ StopsAt task left failed answered (Layout k) =
     × RefusesAnswer task.command task.limits S k
 StopsAt task left failed answered TooManyMessages = answered ≡ 2 ^ 64 - 1
 
--- So many messages are answered, and the one behind them isn't.
+-- What was done before a run stopped.
+abbrev pub done_before : Stop → Bool → Summary
+done_before stop holds = record { messages = stop.answered; bytes = stop.byte; holds = holds }
+
+-- So many messages are answered, whose frames have so many bytes, and the one behind them isn't.
 abbrev pub StopsBehind : Task → Stage → Option (List ℕ) → Bool → Stop → Type 0
 StopsBehind task old output failed stop =
     (left : Option (List ℕ)) × (holds : Bool)
-    × AreDone task old (record { input = left; output = output })
-    (record { messages = stop.answered; holds = holds })
+    × AreDone task old (record { input = left; output = output }) (done_before stop holds)
     × StopsAt task left failed stop.answered stop.fault
 
 -- Where a message is refused, its frame was taken from the front of an input, and nothing behind it.
@@ -167,11 +189,10 @@ TakesUpToRefused task old new stop =
     (messages : List Segments) × (bytes : List ℕ) × (length messages ≡ stop.answered + 1)
     × AreFrames (most_words task.limits) messages bytes × Consumes old new bytes
 
--- So many messages at the front of an input are answered.
-abbrev pub WereAnswered : Task → Stage → ℕ → Type 0
-WereAnswered task old answered =
-    (new : Stage) × (holds : Bool)
-    × AreDone task old new (record { messages = answered; holds = holds })
+-- So many messages at the front of an input are answered, whose frames have so many bytes.
+abbrev pub WereAnswered : Task → Stage → Stop → Type 0
+WereAnswered task old stop =
+    (new : Stage) × (holds : Bool) × AreDone task old new (done_before stop holds)
 
 -- Bytes are frames of messages that a task has an answer to.
 abbrev pub CanBeAnswered : Task → List ℕ → Type 0

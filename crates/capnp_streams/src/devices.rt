@@ -1,10 +1,11 @@
-//! A reader as an input that reads ahead, and a writer as an output that passes bytes on later; and an output that writes nothing.
-ghost use Rattle.std.specs.Prelude.{◌≡◌, ◌^◌, ◌-◌, length, false, true, None, Some};
+//! A reader as an input that reads ahead, and a writer as an output that passes bytes on later; an output that writes
+//! nothing, and one that puts a name before each line.
+ghost use Rattle.std.specs.Prelude.{◌≡◌, ◌<◌, ◌≤◌, ◌^◌, ◌-◌, length, false, true, None, Some, IfOk};
 ghost use Rattle.std.specs.Io.Buffered.{reader_buffer, reader_remaining, writer_buffer, writer_contents};
 ghost use Rattle.capnp_format.specs.Segments.{Segments};
 ghost use Rattle.capnp_framing.specs.Flat.{BeginsWithFrame};
 
-use capnp_framing::devices::{DeviceFault, Input, Output};
+use capnp_framing::devices::{DeviceFault, Input, Output, write_all};
 use capnp_framing::framing::read_from_flat_slice;
 use capnp_packing::buffered::{BufferedInput, BufferedOutput};
 use std::io::{BufReader, BufWriter, Read, Write};
@@ -140,6 +141,97 @@ impl BufferedOutput for NoOutput {
     ghost kept = { λ _. 0 };
 
     fn pass_on(&mut self) -> Result<(), DeviceFault> {
+        Ok(())
+    }
+}
+
+/// An output of lines that puts a name and `: ` before each. What the output below then has isn't said.
+#[derive(Drop)]
+pub struct NamedLines<'n, 'w, W> {
+    name: &'n str,
+    output: &'w mut W,
+    // Whether the next byte is the first of a line.
+    begins: bool,
+    failed: bool,
+}
+
+impl<'n, 'w, W: Output> NamedLines<'n, 'w, W> {
+    /// The output of lines that begin with a name.
+    pub fn new(name: &'n str, output: &'w mut W) -> Self
+        ensures works { result.failed ≡ false }
+    {
+        NamedLines {
+            name,
+            output,
+            begins: true,
+            failed: false,
+        }
+    }
+
+    /// Writes the name where a line begins, and then bytes up to the line's end; how many of these were taken.
+    fn write_line(&mut self, from: &[u8]) -> Result<usize, DeviceFault>
+        requires { 0 < length from.now }
+        ensures some { IfOk result (λ n. 0 < n) }
+        ensures bound { IfOk result (λ n. n ≤ length from.now) }
+        ensures failed { self.new.failed ≡ self.old.failed }
+    {
+        if self.output.failed() {
+            return Err(DeviceFault);
+        }
+        if self.begins {
+            write_all(self.output, self.name.as_bytes())?;
+            write_all(self.output, b": ")?;
+            self.begins = false;
+        }
+        let end = line_end(from);
+        let n = self.output.write(&from[..end])?;
+        self.begins = n == end && from[end - 1] == b'\n';
+        Ok(n)
+    }
+}
+
+/// Where the first line of some bytes ends, behind its line feed.
+fn line_end(bytes: &[u8]) -> usize
+    ensures some { 0 < length bytes.now → 0 < result }
+    ensures within { result ≤ length bytes.now }
+{
+    match bytes.iter().position(|byte| *byte == b'\n') {
+        Some(at) => at + 1,
+        None => bytes.len(),
+    }
+}
+
+impl<W: Output> Output for NamedLines<'_, '_, W> {
+    ghost contents = { λ _. None };
+
+    ghost has_failed = { λ n. n.failed };
+
+    fn write(&mut self, from: &[u8]) -> Result<usize, DeviceFault> {
+        if from.is_empty() {
+            return Ok(0);
+        }
+        match self.write_line(from) {
+            Ok(n) => Ok(n),
+            Err(DeviceFault) => {
+                self.failed = true;
+                Err(DeviceFault)
+            }
+        }
+    }
+
+    fn failed(&self) -> bool {
+        self.failed
+    }
+}
+
+impl<W: BufferedOutput> BufferedOutput for NamedLines<'_, '_, W> {
+    ghost kept = { λ n. W.kept n.output.now };
+
+    fn pass_on(&mut self) -> Result<(), DeviceFault> {
+        if self.output.pass_on().is_err() {
+            self.failed = true;
+            return Err(DeviceFault);
+        }
         Ok(())
     }
 }

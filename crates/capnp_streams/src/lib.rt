@@ -4,4 +4,6 @@
 #![tactic(auto)]
 
 pub mod devices;
+pub mod looks;
+pub mod seen;
 pub mod streams;

@@ -2,6 +2,7 @@
 
 mod answers;
 mod fault;
+mod flat;
 mod packed;
 mod runs;
 mod task;
@@ -10,6 +11,7 @@ mod writing;
 
 pub use capnp_messages::messages::{Command, Form};
 pub use fault::Fault;
+pub use flat::run_flat;
 pub use packed::run_packed;
 pub use runs::{Stop, Summary, run};
 pub use task::{Request, Task, parse_args};

@@ -57,7 +57,7 @@ fn read_task(alloc: Global, text: &str) -> Result<Option<Task>, AllocError> {
         words.push(String::from_str(alloc, word)?)?;
     }
     Ok(match streams::parse_args(words.as_slice()) {
-        Ok(Request::Run(task)) => Some(task),
+        Ok(Request::Run(task, 0)) if !task.from_flat => Some(task),
         _ => None,
     })
 }

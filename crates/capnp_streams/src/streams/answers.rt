@@ -7,12 +7,13 @@ ghost use Rattle.capnp_streams.specs.Streams.{AnswersWith, IsWriteFault, Refuses
 
 use super::fault::Fault;
 use super::task::Task;
-use super::writing::{write_canonical, write_fault};
-use capnp_arena::arena::{ReaderArenaImpl, ReaderOptions, ReaderSegments};
+use super::writing::{write_canonical, write_canonical_words, write_fault};
+use capnp_arena::arena::{ReaderArena, ReaderArenaImpl, ReaderSegments};
 use capnp_framing::devices::{DeviceFault, Output};
 use capnp_framing::framing::FrameError;
 use capnp_messages::messages::{
-    CanonicalMessage, Command, CopyMemory, Form, canonical_fault_of, size_of,
+    Command, CopyMemory, Form, canonical_bytes, canonical_fault_of, canonical_from,
+    canonical_segment, size_of,
 };
 use capnp_messages::text::write_size;
 use std::alloc::Global;
@@ -21,19 +22,24 @@ use std::mem;
 /// The fault of an output.
 const WRITE_FAILED: Fault = Fault::Frame(FrameError::WriteFailed);
 
-/// Memory that is used for one message after the other.
+/// What is kept from one message to the next.
 #[derive(Drop)]
 pub(super) struct Memory {
     alloc: Global,
+    /// Memory for copies.
     copies: CopyMemory,
+    /// Whether the message before was canonical as it stood. A test costs more than it saves where messages
+    /// aren't, so only behind one that was is the next one tested before it is copied.
+    was_canonical: bool,
 }
 
 impl Memory {
-    /// None is taken yet.
+    /// None is taken yet, and the first message is tested.
     pub(super) fn new(alloc: Global) -> Self {
         Memory {
             alloc,
             copies: CopyMemory::new(alloc),
+            was_canonical: true,
         }
     }
 
@@ -43,29 +49,39 @@ impl Memory {
     }
 }
 
-/// Writes a message in canonical form: as it stands, where it is in that form, and else by a copy.
-fn canon<S: ReaderSegments + Drop, W: Output>(
+/// Whether these are the bytes of a message's first segment.
+fn is_first_segment<S: ReaderSegments>(source: &ReaderArenaImpl<S>, bytes: &[u8]) -> bool {
+    match source.get_segment(0) {
+        Ok(segment) => segment == bytes,
+        Err(_) => false,
+    }
+}
+
+/// Writes a message in canonical form by a copy, and notes whether it is the message as it stands.
+fn canon_copy<S: ReaderSegments, W: Output>(
     memory: &mut Memory,
     form: Form,
-    limits: ReaderOptions,
-    segments: S,
+    task: Task,
+    source: &ReaderArenaImpl<S>,
     output: &mut W,
 ) -> Result<bool, Fault>
-    requires small { IsSmall (S.segments segments) }
+    requires nesting { source.now.nesting_limit ≡ task.limits.nesting_limit }
     requires works { W.has_failed output.old ≡ false }
-    ensures answered { IfOk result (λ holds.
-        AnswersWith (Command.Canon form) limits (message (S.segments segments)) holds
+    ensures answered { IfOk result (λ holds. AnswersWith (Command.Canon form) task
+        (message (⟦<ReaderArenaImpl<S> as ReaderArena>⟧.segments source.now)) holds
         (Prints W.Output output.old output.new)) }
     ensures works { OnOk result (W.has_failed output.new ≡ false) }
     ensures refused { IfErr result (λ fault. IsWriteFault W.Output output.new fault
-        ⊎ (RefusesBy (Command.Canon form) limits (message (S.segments segments)) fault
+        ⊎ (RefusesBy (Command.Canon form) task.limits
+        (message (⟦<ReaderArenaImpl<S> as ReaderArena>⟧.segments source.now)) fault
         × IsUnwritten W.Output output.old output.new)) }
 {
     let copies = memory.take_copies();
-    let source = ReaderArenaImpl::new(segments, limits);
-    match CanonicalMessage::of(memory.alloc, copies, &source, limits) {
+    match canonical_from(memory.alloc, copies, source, task.limits) {
         Ok(made) => {
-            let written = made.write(output, form);
+            let words = canonical_bytes(&made);
+            memory.was_canonical = is_first_segment(source, words);
+            let written = write_canonical_words(output, words, task.hex, form);
             memory.copies = made.into_allocator();
             match written {
                 Ok(()) => Ok(true),
@@ -79,23 +95,54 @@ fn canon<S: ReaderSegments + Drop, W: Output>(
     }
 }
 
-/// Writes whether a message is canonical, and if not where and why; gives whether it is.
-fn check<S: ReaderSegments + Drop, W: Output>(
-    limits: ReaderOptions,
+/// Writes a message in canonical form: as it stands, where it is in that form and the one before was,
+/// and else by a copy.
+fn canon<S: ReaderSegments + Drop, W: Output>(
+    memory: &mut Memory,
+    form: Form,
+    task: Task,
     segments: S,
     output: &mut W,
 ) -> Result<bool, Fault>
     requires small { IsSmall (S.segments segments) }
     requires works { W.has_failed output.old ≡ false }
     ensures answered { IfOk result (λ holds.
-        AnswersWith Command.Check limits (message (S.segments segments)) holds
+        AnswersWith (Command.Canon form) task (message (S.segments segments)) holds
         (Prints W.Output output.old output.new)) }
     ensures works { OnOk result (W.has_failed output.new ≡ false) }
     ensures refused { IfErr result (λ fault. IsWriteFault W.Output output.new fault
-        ⊎ (RefusesBy Command.Check limits (message (S.segments segments)) fault
+        ⊎ (RefusesBy (Command.Canon form) task.limits (message (S.segments segments)) fault
         × IsUnwritten W.Output output.old output.new)) }
 {
-    match canonical_fault_of(segments, limits) {
+    let source = ReaderArenaImpl::new(segments, task.limits);
+    if memory.was_canonical {
+        if let Some(words) = canonical_segment(&source, task.limits) {
+            return match write_canonical_words(output, words, task.hex, form) {
+                Ok(()) => Ok(true),
+                Err(DeviceFault) => Err(WRITE_FAILED),
+            };
+        }
+    }
+    canon_copy(memory, form, task, &source, output)
+}
+
+/// Writes whether a message is canonical, and if not where and why; gives whether it is.
+fn check<S: ReaderSegments + Drop, W: Output>(
+    task: Task,
+    segments: S,
+    output: &mut W,
+) -> Result<bool, Fault>
+    requires small { IsSmall (S.segments segments) }
+    requires works { W.has_failed output.old ≡ false }
+    ensures answered { IfOk result (λ holds.
+        AnswersWith Command.Check task (message (S.segments segments)) holds
+        (Prints W.Output output.old output.new)) }
+    ensures works { OnOk result (W.has_failed output.new ≡ false) }
+    ensures refused { IfErr result (λ fault. IsWriteFault W.Output output.new fault
+        ⊎ (RefusesBy Command.Check task.limits (message (S.segments segments)) fault
+        × IsUnwritten W.Output output.old output.new)) }
+{
+    match canonical_fault_of(segments, task.limits) {
         Ok(None) => match write_canonical(output) {
             Ok(()) => Ok(true),
             Err(DeviceFault) => Err(WRITE_FAILED),
@@ -110,21 +157,21 @@ fn check<S: ReaderSegments + Drop, W: Output>(
 
 /// Writes how large a message is.
 fn size<S: ReaderSegments + Drop, W: Output>(
-    limits: ReaderOptions,
+    task: Task,
     segments: S,
     output: &mut W,
 ) -> Result<bool, Fault>
     requires small { IsSmall (S.segments segments) }
     requires works { W.has_failed output.old ≡ false }
     ensures answered { IfOk result (λ holds.
-        AnswersWith Command.Size limits (message (S.segments segments)) holds
+        AnswersWith Command.Size task (message (S.segments segments)) holds
         (Prints W.Output output.old output.new)) }
     ensures works { OnOk result (W.has_failed output.new ≡ false) }
     ensures refused { IfErr result (λ fault. IsWriteFault W.Output output.new fault
-        ⊎ (RefusesBy Command.Size limits (message (S.segments segments)) fault
+        ⊎ (RefusesBy Command.Size task.limits (message (S.segments segments)) fault
         × IsUnwritten W.Output output.old output.new)) }
 {
-    match size_of(segments, limits) {
+    match size_of(segments, task.limits) {
         Ok(size) => match write_size(output, size) {
             Ok(()) => Ok(true),
             Err(DeviceFault) => Err(WRITE_FAILED),
@@ -143,7 +190,7 @@ pub(super) fn answer<S: ReaderSegments + Drop, W: Output>(
     requires small { IsSmall (S.segments segments) }
     requires works { W.has_failed output.old ≡ false }
     ensures answered { IfOk result (λ holds.
-        AnswersWith task.command task.limits (message (S.segments segments)) holds
+        AnswersWith task.command task (message (S.segments segments)) holds
         (Prints W.Output output.old output.new)) }
     ensures works { OnOk result (W.has_failed output.new ≡ false) }
     ensures refused { IfErr result (λ fault. IsWriteFault W.Output output.new fault
@@ -151,8 +198,8 @@ pub(super) fn answer<S: ReaderSegments + Drop, W: Output>(
         × IsUnwritten W.Output output.old output.new)) }
 {
     match task.command {
-        Command::Canon(form) => canon(memory, form, task.limits, segments, output),
-        Command::Check => check(task.limits, segments, output),
-        Command::Size => size(task.limits, segments, output),
+        Command::Canon(form) => canon(memory, form, task, segments, output),
+        Command::Check => check(task, segments, output),
+        Command::Size => size(task, segments, output),
     }
 }

@@ -51,10 +51,12 @@ pub fn run_packed<R: Input + Drop, W: BufferedOutput>(
 /// A stop behind all messages, where no frame is read.
 fn behind(summary: Summary, error: FrameError) -> Stop
     ensures answered { result.answered ≡ summary.messages }
+    ensures byte { result.byte ≡ summary.bytes }
     ensures fault { result.fault ≡ Fault.Frame error }
 {
     Stop {
         answered: summary.messages,
+        byte: summary.bytes,
         fault: Fault::Frame(error),
     }
 }

@@ -19,6 +19,9 @@ use std::alloc::Global;
 pub struct Summary {
     /// How many messages there were.
     pub messages: u64,
+    /// How many bytes their frames have, one behind the other; where 64 bits don't count them, as
+    /// many as these count.
+    pub bytes: u64,
     /// Whether each answer was a yes: of a test whether each message is canonical, and else always.
     pub holds: bool,
 }
@@ -28,12 +31,25 @@ pub struct Summary {
 pub struct Stop {
     /// How many messages were answered before.
     pub answered: u64,
+    /// At which byte of the input the frame of the one behind them begins: how many the frames of
+    /// the answered ones have, counted from 0. Of packed bytes it is a byte of what they stand for.
+    /// Where 64 bits don't count them, it is the last number that these count.
+    pub byte: u64,
     /// Why the one behind them isn't.
     pub fault: Fault,
 }
 
+/// What was done with one message.
+#[derive(Clone, Copy)]
+struct Answered {
+    /// Whether the answer was a yes.
+    holds: bool,
+    /// How many bytes its frame has.
+    bytes: u64,
+}
+
 /// How many words a message may have whose frame is read.
-fn words_of(limits: ReaderOptions) -> u64
+pub(super) fn words_of(limits: ReaderOptions) -> u64
     ensures { result ≡ most_words limits }
 {
     match limits.traversal_limit_in_words {
@@ -56,7 +72,7 @@ fn step<R: Input, W: Output>(
     segments: &mut OwnedSegments,
     memory: &mut Memory,
     output: &mut W,
-) -> Result<Option<bool>, Fault>
+) -> Result<Option<Answered>, Fault>
     requires input { R.has_failed input.old ≡ false }
     requires output { W.has_failed output.old ≡ false }
     ensures end { result ≡ Ok None → IsAtEnd (R.remaining input.old)
@@ -78,7 +94,11 @@ fn step<R: Input, W: Output>(
 {
     match read_into(input, words_of(task.limits), segments) {
         Ok(false) => Ok(None),
-        Ok(true) => Ok(Some(answer(memory, task, &*segments, output)?)),
+        Ok(true) => {
+            let holds = answer(memory, task, &*segments, output)?;
+            let bytes = segments.size_in_bytes() as u64;
+            Ok(Some(Answered { holds, bytes }))
+        }
         Err(error) => Err(Fault::Frame(error)),
     }
 }
@@ -90,7 +110,7 @@ fn next<R: BufferedInput, W: BufferedOutput>(
     segments: &mut OwnedSegments,
     memory: &mut Memory,
     output: &mut W,
-) -> Result<Option<bool>, Fault>
+) -> Result<Option<Answered>, Fault>
     requires input { R.has_failed input.old ≡ false }
     requires output { W.has_failed output.old ≡ false }
     ensures end { result ≡ Ok None → IsAtEnd (R.remaining input.old)
@@ -121,10 +141,10 @@ fn next<R: BufferedInput, W: BufferedOutput>(
 ///
 /// The input holds frames, one behind the other, each of a message of at most so many words as the
 /// traversal limit. A message is read within the limits, as if it were alone. `Canon` answers with
-/// the canonical words of the message, as a frame of one segment, or bare ("Canonicalization");
-/// `Check` with the line `canonical` where the message is canonical as a whole, and else with `not
-/// canonical: REASON at segment S, word W`; `Size` with the line `words N caps M`, without landing
-/// pads.
+/// the canonical words of the message, as a frame of one segment, or bare ("Canonicalization"), or
+/// with a line of lower case hex digits where the task has `hex`, two for each byte; `Check` with the
+/// line `canonical` where the message is canonical as a whole, and else with `not canonical: REASON
+/// at segment S, word W`; `Size` with the line `words N caps M`, without landing pads.
 ///
 /// The first message that isn't answered ends the run: the frame isn't read, the message is
 /// refused, or the output fails. But for the last of these, the output has the answers to all
@@ -155,22 +175,28 @@ pub fn run<R: BufferedInput, W: BufferedOutput>(
         → s.fault ≡ Fault.Frame ReadFailed) }
     ensures taken { IfErr result
         (TakesUpToRefused task (R.remaining input.old) (R.remaining input.new)) }
-    ensures answered { IfErr result (λ s. WereAnswered task
-        (stage_of R.Input W.Output input.old output.old) s.answered) }
+    ensures answered { IfErr result (WereAnswered task
+        (stage_of R.Input W.Output input.old output.old)) }
 {
     let mut segments = OwnedSegments::new(alloc);
     let mut memory = Memory::new(alloc);
+    let mut bytes = 0u64;
     let mut holds = true;
     for number in 0..u64::MAX {
         match next(task, input, &mut segments, &mut memory, output) {
             Ok(None) => return Ok(Summary {
                 messages: number,
+                bytes,
                 holds,
             }),
-            Ok(Some(here)) => holds = both(holds, here),
+            Ok(Some(here)) => {
+                bytes = bytes.saturating_add(here.bytes);
+                holds = both(holds, here.holds);
+            }
             Err(fault) => {
                 return Err(Stop {
                     answered: number,
+                    byte: bytes,
                     fault,
                 });
             }
@@ -178,6 +204,7 @@ pub fn run<R: BufferedInput, W: BufferedOutput>(
     }
     Err(Stop {
         answered: u64::MAX,
+        byte: bytes,
         fault: Fault::TooManyMessages,
     })
 }

@@ -1,6 +1,6 @@
 //! The words behind the program's name, one by one.
 ghost use Rattle.std.specs.Prelude.{◌≡◌, ◌<◌, Bool, Option, IfSome, IsNone, MatchOption, ℕ, List, length};
-ghost use Rattle.capnp_streams.specs.Arguments.{MakesLine, MakesLineAlone, Sets, Stops, after_equals, before_equals, equals_at, line_after, line_if_allowed, line_is_allowed, line_with_verb, plain_line, request_of_word, run_of_task, setting_text, task_of_line, text_of_word};
+ghost use Rattle.capnp_streams.specs.Arguments.{MakesLine, MakesLineAlone, Sets, Stops, after_equals, before_equals, equals_at, is_first_file, is_option, line_after, line_if_allowed, line_is_allowed, line_reads_flat, line_with_verb, options_agree, plain_line, request_of_word, run_of_task, setting_text, task_of_line, text_of_word, verb_allows};
 ghost use Rattle.capnp_streams.specs.declared.streams.task.Request.{Request};
 ghost use Rattle.capnp_streams.specs.declared.streams.words.Line.{Line};
 ghost use Rattle.capnp_streams.specs.declared.streams.words.Setting.{Setting};
@@ -25,6 +25,8 @@ pub(super) enum Word {
     Packed,
     Pack,
     Flat,
+    FromFlat,
+    Hex,
     Quiet,
     Nesting,
     Words,
@@ -53,6 +55,8 @@ pub(super) struct Line {
     unpack: bool,
     pack: bool,
     flat: bool,
+    from_flat: bool,
+    hex: bool,
     quiet: bool,
     /// The option of which the value comes next.
     expects: Option<Setting>,
@@ -69,24 +73,61 @@ impl Line {
             unpack: false,
             pack: false,
             flat: false,
+            from_flat: false,
+            hex: false,
             quiet: false,
             expects: None,
         }
     }
 
     /// Whether its command has all of its options.
-    fn is_allowed(&self) -> bool
-        ensures { result ≡ line_is_allowed self.now }
+    fn has_its_options(&self) -> bool
+        ensures { result ≡ verb_allows self.now.verb self.now.pack self.now.hex self.now.quiet }
     {
         match self.verb {
             Some(Verb::Canon) => !self.quiet,
-            Some(Verb::Check) => !self.pack && !self.flat,
-            Some(Verb::Size) => !self.pack && !self.flat && !self.quiet,
+            Some(Verb::Check) => !self.pack && !self.hex,
+            Some(Verb::Size) => !self.pack && !self.hex && !self.quiet,
             None => true,
         }
     }
 
-    /// A line, if its command has all of its options.
+    /// Whether its input is one message's bare words.
+    fn reads_flat(&self) -> bool
+        ensures { result ≡ line_reads_flat self.now }
+    {
+        match self.verb {
+            Some(Verb::Check | Verb::Size) => self.flat || self.from_flat,
+            Some(Verb::Canon) | None => self.from_flat,
+        }
+    }
+
+    /// Whether its options go together: digits are neither bare words nor packed, and bare words
+    /// that are read aren't packed.
+    fn has_one_form(&self) -> bool
+        ensures { result ≡ options_agree self.now }
+    {
+        if self.hex && (self.flat || self.pack) {
+            return false;
+        }
+        !self.unpack || !self.reads_flat()
+    }
+
+    /// Whether its options are those of its command, and go together.
+    fn is_allowed(&self) -> bool
+        ensures { result ≡ line_is_allowed self.now }
+    {
+        self.has_its_options() && self.has_one_form()
+    }
+
+    /// Whether a text is the first file behind it: it has its command, and waits for no value.
+    pub(super) fn begins_files(&self, text: &str) -> bool
+        ensures { result ≡ is_first_file self.now text.now }
+    {
+        self.verb.is_some() && !self.expects.is_some() && !has_option_form(text)
+    }
+
+    /// A line, if it is allowed.
     fn if_allowed(self) -> Option<Self>
         ensures { result ≡ line_if_allowed self }
     {
@@ -122,6 +163,12 @@ impl Line {
             .if_allowed(),
             Word::Pack => Line { pack: true, ..self }.if_allowed(),
             Word::Flat => Line { flat: true, ..self }.if_allowed(),
+            Word::FromFlat => Line {
+                from_flat: true,
+                ..self
+            }
+            .if_allowed(),
+            Word::Hex => Line { hex: true, ..self }.if_allowed(),
             Word::Quiet => Line {
                 quiet: true,
                 ..self
@@ -172,7 +219,7 @@ impl Line {
 }
 
 /// The task that a line asks for, if it is whole.
-pub(super) fn task_of(line: Line) -> Option<Task>
+fn task_of(line: Line) -> Option<Task>
     ensures { result ≡ task_of_line line }
 {
     if line.expects.is_some() {
@@ -187,42 +234,54 @@ pub(super) fn task_of(line: Line) -> Option<Task>
         command,
         limits: line.limits,
         unpack: line.unpack,
+        from_flat: line.reads_flat(),
         pack: line.pack,
+        hex: line.hex,
         quiet: line.quiet,
     })
 }
 
-/// What a word asks for behind which none is read. It isn't the value of an option, and is the last word or not.
-pub(super) fn stopped(text: &str, is_last: bool, from: Line) -> Option<Request>
-    ensures read { IfSome result (Stops from is_last text.now) }
-    ensures none { IsNone result → (r : Request) → Stops from is_last text.now r → ⊥ }
+/// Whether a text has the form of an option: a `-`, with more behind it. `-` alone is a file.
+pub(super) fn has_option_form(text: &str) -> bool
+    ensures { result ≡ is_option text.now }
+{
+    let bytes = text.as_bytes();
+    1 < bytes.len() && bytes[0] == b'-'
+}
+
+/// What a word asks for behind which no option is read. It isn't the value of an option, and so many
+/// words stand behind it.
+pub(super) fn stopped(text: &str, behind: usize, from: Line) -> Option<Request>
+    ensures read { IfSome result (Stops from behind text.now) }
+    ensures none { IsNone result → (r : Request) → Stops from behind text.now r → ⊥ }
 {
     if from.expects.is_some() {
         return None;
     }
     let word = word_of(text)?;
-    request_at(word, is_last, from)
+    request_at(word, behind, from)
 }
 
-/// What a word asks for that isn't the value of an option, if none is read behind it.
-fn request_at(word: Word, is_last: bool, from: Line) -> Option<Request>
-    ensures { result ≡ request_of_word word is_last from }
+/// What a word asks for that isn't the value of an option, if no option is read behind it. So many
+/// words stand behind it.
+fn request_at(word: Word, behind: usize, from: Line) -> Option<Request>
+    ensures { result ≡ request_of_word word behind from }
 {
     match word {
         Word::Help | Word::HelpLetter => Some(Request::Help),
         Word::Version | Word::VersionLetter => Some(Request::Version),
-        Word::End => { if is_last { run_of(from) } else { None } }
-        Word::Canon | Word::Check | Word::Size | Word::Packed => None,
-        Word::Pack | Word::Flat | Word::Quiet | Word::Nesting | Word::Words => None,
+        Word::End => run_of(from, behind),
+        Word::Canon | Word::Check | Word::Size | Word::Packed | Word::Pack | Word::Flat => None,
+        Word::FromFlat | Word::Hex | Word::Quiet | Word::Nesting | Word::Words => None,
     }
 }
 
-/// The run of the task that a line asks for, if it is whole.
-fn run_of(line: Line) -> Option<Request>
-    ensures { result ≡ run_of_task (task_of_line line) }
+/// The run of the task that a line asks for, if it is whole, with so many files.
+pub(super) fn run_of(line: Line, files: usize) -> Option<Request>
+    ensures { result ≡ run_of_task (task_of_line line) files }
 {
     match task_of(line) {
-        Some(task) => Some(Request::Run(task)),
+        Some(task) => Some(Request::Run(task, files)),
         None => None,
     }
 }
@@ -301,6 +360,10 @@ fn word_of(text: &str) -> Option<Word>
         Some(Word::Pack)
     } else if text == "--flat" {
         Some(Word::Flat)
+    } else if text == "--from-flat" {
+        Some(Word::FromFlat)
+    } else if text == "--hex" {
+        Some(Word::Hex)
     } else if text == "--quiet" {
         Some(Word::Quiet)
     } else if text == "--nesting" {

@@ -1,12 +1,22 @@
 //! The lines that are written of a message.
-ghost use Rattle.std.specs.Prelude.{◌≡◌, false, true, OnOk, OnErr};
+ghost use Rattle.std.specs.Prelude.{◌≡◌, ◌≤◌, ◌<◌, ◌^◌, ◌++◌, ◌∷◌, [], false, true, length, OnOk, OnErr};
+ghost use Rattle.hex.specs.Hex.{encode_lower};
+ghost use Rattle.capnp_format.specs.Bytes.{words_of};
+ghost use Rattle.capnp_framing.specs.Frames.{bytes_of_words};
 ghost use Rattle.capnp_framing.specs.Writing.{Prints};
 ghost use Rattle.capnp_messages.specs.Text.{check_line};
-ghost use Rattle.capnp_streams.specs.Streams.{fault_line, no_text, segment_text, word_text};
+ghost use Rattle.capnp_streams.specs.Streams.{fault_line, no_text, segment_text, word_text, written_words};
 
 use capnp_framing::devices::{DeviceFault, Output, write_all};
+use capnp_messages::messages::{Form, write_words};
 use capnp_messages::text::write_number;
 use capnp_readers::readers::CanonicalFault;
+
+/// How many bytes are written as digits at a time.
+const PIECE: usize = 512;
+
+/// How many digits these have.
+const DIGITS: usize = 2 * PIECE;
 
 /// Writes the line of a message that is canonical.
 pub(super) fn write_canonical<W: Output>(output: &mut W) -> Result<(), DeviceFault>
@@ -68,4 +78,57 @@ pub(super) fn write_fault<W: Output>(
     write_all(output, fault.reason.text().as_bytes())?;
     write_segment(output, fault.segment)?;
     write_word(output, u64::from(fault.word))
+}
+
+/// Writes at most 512 bytes as lower case hex digits, two for each.
+fn write_digits<W: Output>(output: &mut W, bytes: &[u8]) -> Result<(), DeviceFault>
+    requires works { W.has_failed output.old ≡ false }
+    requires few { length bytes.now ≤ 512 }
+    ensures written { OnOk result (Prints W.Output output.old output.new (encode_lower bytes.now)) }
+    ensures works { OnOk result (W.has_failed output.new ≡ false) }
+    ensures fails { OnErr result (W.has_failed output.new ≡ true) }
+{
+    let mut buffer = [0u8; DIGITS];
+    let digits = &mut buffer[..2 * bytes.len()];
+    let _ = hex::encode_to_slice(bytes, &mut *digits);
+    write_all(output, &*digits)
+}
+
+/// Writes bytes as a line of lower case hex digits, two for each.
+fn write_hex_line<W: Output>(output: &mut W, bytes: &[u8]) -> Result<(), DeviceFault>
+    requires { W.has_failed output.old ≡ false }
+    ensures written { OnOk result (Prints W.Output output.old output.new
+        (encode_lower bytes.now ++ 10 ∷ [])) }
+    ensures works { OnOk result (W.has_failed output.new ≡ false) }
+    ensures fails { OnErr result (W.has_failed output.new ≡ true) }
+{
+    let mut rest = bytes;
+    while !rest.is_empty() {
+        let n = rest.len().min(PIECE);
+        write_digits(output, &rest[..n])?;
+        rest = &rest[n..];
+    }
+    write_all(output, b"\n")
+}
+
+/// Writes the bytes of canonical words: as a line of lower case hex digits, or in a form.
+pub(super) fn write_canonical_words<W: Output>(
+    output: &mut W,
+    bytes: &[u8],
+    hex: bool,
+    form: Form,
+) -> Result<(), DeviceFault>
+    requires works { W.has_failed output.old ≡ false }
+    requires short { length bytes.now < 2 ^ 35 }
+    requires whole { bytes.now ≡ bytes_of_words (words_of bytes.now) }
+    ensures written { OnOk result (Prints W.Output output.old output.new
+        (written_words hex form (words_of bytes.now))) }
+    ensures works { OnOk result (W.has_failed output.new ≡ false) }
+    ensures fails { OnErr result (W.has_failed output.new ≡ true) }
+{
+    if hex {
+        write_hex_line(output, bytes)
+    } else {
+        write_words(output, bytes, form)
+    }
 }

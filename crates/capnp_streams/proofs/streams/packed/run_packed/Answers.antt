@@ -9,7 +9,7 @@ returns-in-Ok-false-clause-refused g c =
     let cut = rw no at (c.in-Ok-false.ensures.whole c.in_ok-summary.ensures.end) in
     inr (inr (cut_behind _ _ _ _ _ _ c.in_ok-summary.summary c.behind.result c.new-input.ensures.remaining
     c.new-input.ensures.whole c.in_ok-summary.ensures.whole cut
-    c.in_ok-summary.ensures.done c.behind.ensures.answered c.behind.ensures.fault))
+    c.in_ok-summary.ensures.done c.behind.ensures.answered c.behind.ensures.byte c.behind.ensures.fault))
 
 pub returns-in-Ok-false-clause-failed : goal.returns-in-Ok-false-clause-failed
 returns-in-Ok-false-clause-failed g c = λ is. absurd (cut_not_failed c.behind.ensures.fault is)

@@ -8,7 +8,7 @@ invariant-loop-number g l = record {
   done : AreDone l.task
       (stage_of g.R.Input g.W.Output l.fn.input l.fn.output)
       (stage_of g.R.Input g.W.Output l.input l.output)
-      (record { messages = l.number; holds = l.holds });
+      (record { messages = l.number; bytes = l.bytes; holds = l.holds });
   whole : KeepsWhole (g.R.Input.ends_whole l.fn.input) (g.R.Input.ends_whole l.input);
   reads : g.R.Input.has_failed l.input ≡ false;
   writes : g.W.Output.has_failed l.output ≡ false;

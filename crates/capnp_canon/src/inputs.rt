@@ -1,0 +1,176 @@
+//! The inputs of a run: each is opened, read and answered in turn, and what isn't answered is said on standard error.
+
+ghost use Rattle.std.specs.Prelude.{◌≡◌, false};
+
+use crate::BUFFER;
+use capnp_framing::devices::Output;
+use capnp_framing::framing::FrameError;
+use capnp_packing::buffered::{BufferedInput, BufferedOutput};
+use capnp_streams::devices::{BufReaderInput, NamedLines};
+use capnp_streams::looks::looks_like;
+use capnp_streams::seen::{Seen, Watched};
+use capnp_streams::streams::{self, Command, Fault, Stop, Summary, Task};
+use std::fs::File;
+use std::io::{BufReader, Read};
+
+/// Why a run ends before all inputs are answered.
+#[derive(Clone, Copy)]
+pub enum Unanswered {
+    /// Standard error says why. The answers before it are passed on.
+    Said,
+    /// The output failed.
+    WriteFailed,
+}
+
+/// Does a task with each of these files in turn, or with standard input where there is none; says whether each answer was a
+/// yes. The first file that can't be opened or isn't answered to its end ends it.
+///
+/// Of several files each line of an answer begins with the name of its file.
+pub fn answer_all<W: BufferedOutput>(
+    rt: &HostRuntime,
+    task: Task,
+    files: &[String],
+    output: &mut W,
+) -> Result<bool, Unanswered> {
+    if files.is_empty() {
+        return answer(rt, task, None, rt.reader(), output);
+    }
+    let are_named = files.len() > 1 && !matches!(task.command, Command::Canon(_));
+    let mut holds = true;
+    for file in files {
+        let here = if are_named {
+            let mut lines = NamedLines::new(file.as_str(), output);
+            answer_file(rt, task, file.as_str(), &mut lines)?
+        } else {
+            answer_file(rt, task, file.as_str(), output)?
+        };
+        holds = holds && here;
+    }
+    Ok(holds)
+}
+
+/// Does a task with a file; `-` is standard input.
+fn answer_file<W: BufferedOutput>(
+    rt: &HostRuntime,
+    task: Task,
+    name: &str,
+    output: &mut W,
+) -> Result<bool, Unanswered> {
+    if name == "-" {
+        return answer(rt, task, Some(name), rt.reader(), output);
+    }
+    match File::open(rt, name) {
+        Ok(file) => answer(rt, task, Some(name), file, output),
+        Err(error) => {
+            if output.pass_on().is_err() {
+                return Err(Unanswered::WriteFailed);
+            }
+            let _ = eprintln!(rt; "{name}: {error}");
+            Err(Unanswered::Said)
+        }
+    }
+}
+
+/// Does a task with what a reader gives, which has this name.
+fn answer<R: Read + Drop, W: BufferedOutput>(
+    rt: &HostRuntime,
+    task: Task,
+    name: Option<&str>,
+    reader: R,
+    output: &mut W,
+) -> Result<bool, Unanswered> {
+    // bare words are waited for to their end
+    if task.from_flat && output.pass_on().is_err() {
+        return Err(Unanswered::WriteFailed);
+    }
+    if output.failed() {
+        return Err(Unanswered::WriteFailed);
+    }
+    let seen = Seen::new();
+    let reader = Watched::new(reader, &seen);
+    let Ok(reader) = BufReader::with_capacity(rt.alloc(), BUFFER, reader) else {
+        if output.pass_on().is_err() {
+            return Err(Unanswered::WriteFailed);
+        }
+        let _ = eprintln!(rt; "refused AllocationFailed");
+        return Err(Unanswered::Said);
+    };
+    match run(rt, task, BufReaderInput::new(reader), output) {
+        Ok(summary) => Ok(summary.holds),
+        Err(stop) => {
+            let is_written = !matches!(stop.fault, Fault::Frame(FrameError::WriteFailed));
+            if !is_written || output.pass_on().is_err() {
+                return Err(Unanswered::WriteFailed);
+            }
+            refuse(rt, task, name, stop, &seen);
+            Err(Unanswered::Said)
+        }
+    }
+}
+
+/// Does a task from an input to an output, neither of which has failed.
+fn run<R: BufferedInput + Drop, W: BufferedOutput>(
+    rt: &HostRuntime,
+    task: Task,
+    mut input: R,
+    output: &mut W,
+) -> Result<Summary, Stop>
+    requires reads { R.has_failed input ≡ false }
+    requires writes { W.has_failed output.old ≡ false }
+{
+    if task.unpack {
+        streams::run_packed(rt.alloc(), task, input, output)
+    } else if task.from_flat {
+        run_flat(rt, task, &mut input, output)
+    } else {
+        streams::run(rt.alloc(), task, &mut input, output)
+    }
+}
+
+/// Does a task with the one message that an input is, as one message of a stream.
+fn run_flat<R: BufferedInput, W: BufferedOutput>(
+    rt: &HostRuntime,
+    task: Task,
+    input: &mut R,
+    output: &mut W,
+) -> Result<Summary, Stop>
+    requires reads { R.has_failed input.old ≡ false }
+    requires writes { W.has_failed output.old ≡ false }
+{
+    match streams::run_flat(rt.alloc(), task, input, output) {
+        Ok(holds) => Ok(Summary {
+            messages: 1,
+            bytes: 0,
+            holds,
+        }),
+        Err(fault) => Err(Stop {
+            answered: 0,
+            byte: 0,
+            fault,
+        }),
+    }
+}
+
+/// Says which message is refused, counted from 1, at which byte it begins, and why; and what the input looks like, where it is
+/// the first message of something else.
+fn refuse(rt: &HostRuntime, task: Task, name: Option<&str>, stop: Stop, seen: &Seen) {
+    let (name, colon) = match name {
+        Some(name) => (name, ": "),
+        None => ("", ""),
+    };
+    let number = stop.answered.saturating_add(1);
+    let byte = stop.byte;
+    let reason = stop.fault.name();
+    let _ = match seen.fault() {
+        None => eprintln!(rt; "{name}{colon}message {number} at byte {byte}: refused {reason}"),
+        Some(error) => {
+            eprintln!(rt; "{name}{colon}message {number} at byte {byte}: refused {reason}: {error}")
+        }
+    };
+    let front = seen.front();
+    if stop.answered == 0 {
+        if let Some(looks) = looks_like(task, stop.fault, front.first(), front.given()) {
+            let _ = eprintln!(rt; "{name}{colon}the input looks like {}", looks.text());
+        }
+    }
+}

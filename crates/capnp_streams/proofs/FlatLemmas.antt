@@ -1,0 +1,69 @@
+-- An input that is one message without a frame is answered, or is not.
+use Rattle.std.proofs.Common.{◌≡◌, ◌⊎◌, inl, inr, ℕ, List, [], ◌∷◌, Bool, Option, Some, None, IfSome, refl, sym, subst}
+use Rattle.std.specs.Io.KnownBytes.{Appends, Consumes, IsAtEnd}
+use Rattle.capnp_format.specs.Bytes.{message}
+use Rattle.capnp_framing.proofs.BareLemmas.{all_so, bare_words_are_read}
+use Rattle.capnp_framing.specs.Bare.{AreBareWords}
+use Rattle.capnp_framing.specs.declared.devices.Input.{Ghosts}
+use Rattle.capnp_framing.specs.declared.framing.frame_error.FrameError.TheVariants.{WriteFailed}
+use Rattle.capnp_messages.proofs.AnsweredLemmas.{answer_refused}
+use Rattle.capnp_messages.specs.Commands.{RefusesAnswer}
+use Rattle.capnp_streams.specs.Flat.{CanFlatBeAnswered, HasTakenFlat, IsFlatDone, StopsFlat, WhereFlatAnswerable}
+use Rattle.capnp_streams.specs.Streams.{AnswerIs, AnswersWith, IsOfDevices, RefusesBy, most_words}
+use Rattle.capnp_streams.specs.declared.streams.fault.Fault.{Fault}
+use Rattle.capnp_streams.specs.declared.streams.fault.Fault.TheVariants.{Frame, Layout, TooManyMessages}
+use Rattle.capnp_streams.specs.declared.streams.task.Task.{Task}
+
+-- the message is answered
+pub flat_done : (task : Task) (holds : Bool) (from to before after : Option (List ℕ)) (segments : List (List ℕ)) (bytes : List ℕ) →
+    AreBareWords bytes (most_words task.limits) → Consumes from to bytes → segments ≡ bytes ∷ [] →
+    AnswersWith task.command task (message segments) holds (Appends before after) →
+    IsFlatDone task (record { input = from; output = before }) (record { input = to; output = after }) holds
+flat_done task holds from to before after segments bytes bare consumed only (answer, is, written) = record {
+  bytes = bytes;
+  answer = answer;
+  bare = bare;
+  consumed = consumed;
+  answered = subst (λ (B : List (List ℕ)). AnswerIs task.command task (message B) holds answer) only is;
+  written = written;
+}
+
+-- the message is refused
+pub flat_refused : {P Q : Type 0} (task : Task) (from to : Option (List ℕ)) (segments : List (List ℕ)) (bytes : List ℕ) (failed : Bool) (fault : Fault) →
+    AreBareWords bytes (most_words task.limits) → Consumes from to bytes → IsAtEnd to → segments ≡ bytes ∷ [] →
+    P ⊎ (RefusesBy task.command task.limits (message segments) fault × Q) → P ⊎ (StopsFlat task from failed fault × Q)
+flat_refused task from to segments bytes failed fault bare consumed end only (inl written) = inl written
+flat_refused task from to segments bytes failed (Frame e) bare consumed end only (inr (refused, kept)) = absurd refused
+flat_refused task from to segments bytes failed (Layout k) bare consumed end only (inr (refused, kept)) =
+    let all : IfSome from (λ all. all ≡ bytes) = all_so from to bytes (λ all. all ≡ bytes) consumed end refl in
+    let why = subst (λ (B : List (List ℕ)). RefusesAnswer task.command task.limits (message B) k) only refused in
+    inr ((bytes, all, bare, why), kept)
+flat_refused task from to segments bytes failed TooManyMessages bare consumed end only (inr (refused, kept)) = absurd refused
+
+-- all of it was taken
+pub flat_taken : {R P Q : Type 0} (g : Ghosts R) (task : Task) (from to : R) (segments : List (List ℕ)) (bytes : List ℕ) (fault : Fault) →
+    IsAtEnd (g.remaining to) → segments ≡ bytes ∷ [] →
+    ((fault ≡ Frame WriteFailed) × P) ⊎ (RefusesBy task.command task.limits (message segments) fault × Q) →
+    HasTakenFlat g from to fault
+flat_taken g task from to segments bytes fault end only (inl (named, device)) = subst (HasTakenFlat g from to) (sym named) tt
+flat_taken g task from to segments bytes (Frame e) end only (inr (refused, kept)) = absurd refused
+flat_taken g task from to segments bytes (Layout k) end only (inr (refused, kept)) = end
+flat_taken g task from to segments bytes TooManyMessages end only (inr (refused, kept)) = absurd refused
+
+-- a message that has an answer is refused for nothing that it holds
+answerable_so : (task : Task) (bytes : List ℕ) (failed : Bool) (fault : Fault) → CanFlatBeAnswered task bytes →
+    StopsFlat task (Some bytes) failed fault → IsOfDevices fault
+answerable_so task bytes failed (Frame e) can (inl memory) = inl memory
+answerable_so task bytes failed (Frame e) can (inr (inl (named, device))) = inr (inl named)
+answerable_so task bytes failed (Frame e) (bare, has) (inr (inr none)) =
+    absurd (bare_words_are_read bytes (most_words task.limits) e bare none)
+answerable_so task bytes failed (Layout k) (bare, has) (all, same, are, refused) =
+    let why = subst (λ (bs : List ℕ). RefusesAnswer task.command task.limits (message (bs ∷ [])) k) (sym same) refused in
+    answer_refused task.command task.limits (message (bytes ∷ [])) has why
+answerable_so task bytes failed TooManyMessages can stops = absurd stops
+
+pub flat_answerable : {P Q : Type 0} (task : Task) (input : Option (List ℕ)) (failed : Bool) (fault : Fault) →
+    ((fault ≡ Frame WriteFailed) × P) ⊎ (StopsFlat task input failed fault × Q) → WhereFlatAnswerable task input fault
+flat_answerable task input failed fault (inl (named, device)) = λ can. subst IsOfDevices (sym named) (inr (inr refl))
+flat_answerable task None failed fault (inr (stops, kept)) = λ can. absurd can
+flat_answerable task (Some bytes) failed fault (inr (stops, kept)) = λ can. answerable_so task bytes failed fault can stops

@@ -1,0 +1,50 @@
+-- What a run says of an input that is one message of one segment: its bare words, without a frame.
+use Rattle.std.specs.Prelude.{◌≡◌, ◌⊎◌, ℕ, List, [], ◌∷◌, Bool, true, Option, IfSome, IsSomeAnd}
+use Rattle.std.specs.Io.KnownBytes.{Appends, Consumes, IsAtEnd}
+use Rattle.capnp_format.specs.Bytes.{message}
+use Rattle.capnp_framing.specs.Bare.{AreBareWords, HasTakenBare, NoBareWords}
+use Rattle.capnp_framing.specs.declared.devices.Input.{Ghosts}
+use Rattle.capnp_framing.specs.declared.framing.frame_error.FrameError.TheVariants.{AllocationFailed as NoMemory}
+use Rattle.capnp_framing.specs.declared.framing.frame_error.FrameError.TheVariants.{ReadFailed}
+use Rattle.capnp_messages.specs.Commands.{HasAnswerWithin, RefusesAnswer}
+use Rattle.capnp_streams.specs.Streams.{AnswerIs, IsOfDevices, Stage, most_words}
+use Rattle.capnp_streams.specs.declared.streams.fault.Fault.{Fault}
+use Rattle.capnp_streams.specs.declared.streams.fault.Fault.TheVariants.{Frame, Layout, TooManyMessages}
+use Rattle.capnp_streams.specs.declared.streams.task.Task.{Task}
+
+-- From one stage to another all that the input had was taken, bare words of at most as many as the traversal limit;
+-- and what a task answers to the message that they mean was written behind what the output had.
+pub record IsFlatDone (task : Task) (old new : Stage) (holds : Bool) : Type 0 where
+  pub bytes : List ℕ
+  pub answer : List ℕ
+  pub bare : AreBareWords bytes (most_words task.limits)
+  pub consumed : Consumes old.input new.input bytes
+  pub answered : AnswerIs task.command task (message (bytes ∷ [])) holds answer
+  pub written : Appends old.output new.output answer
+
+-- Why the message whose bare words an input has isn't answered: they are cut or too many, a task refuses the message,
+-- or memory or the input fails.
+abbrev pub StopsFlat : Task → Option (List ℕ) → Bool → Fault → Type 0
+StopsFlat task input failed (Frame e) =
+    (e ≡ NoMemory) ⊎ ((e ≡ ReadFailed) × (failed ≡ true))
+    ⊎ IfSome input (λ bytes. NoBareWords bytes (most_words task.limits) e)
+StopsFlat task input failed (Layout k) =
+    (bytes : List ℕ) × IfSome input (λ all. all ≡ bytes) × AreBareWords bytes (most_words task.limits)
+    × RefusesAnswer task.command task.limits (message (bytes ∷ [])) k
+StopsFlat task input failed TooManyMessages = ⊥
+
+module _ {R : Type 0} (g : Ghosts R) where
+  -- What a stop has taken of an input: all of it, where the message is refused.
+  abbrev pub HasTakenFlat : R → R → Fault → Type 0
+  HasTakenFlat from to (Frame e) = HasTakenBare g from to e
+  HasTakenFlat from to (Layout k) = IsAtEnd (g.remaining to)
+  HasTakenFlat from to TooManyMessages = ⊥
+
+-- Bytes are bare words of a message that a task has an answer to.
+abbrev pub CanFlatBeAnswered : Task → List ℕ → Type 0
+CanFlatBeAnswered task bytes =
+    AreBareWords bytes (most_words task.limits) × HasAnswerWithin task.command task.limits (message (bytes ∷ []))
+
+-- Where all that an input has are such bytes, a fault is of no message: memory or a device fails.
+abbrev pub WhereFlatAnswerable : Task → Option (List ℕ) → Fault → Type 0
+WhereFlatAnswerable task input fault = IsSomeAnd input (CanFlatBeAnswered task) → IsOfDevices fault

@@ -1,0 +1,65 @@
+#!/bin/sh
+# shell.sh [PROGRAM]: runs the commands of docs/PROGRAM.md as they stand there, one part behind the other in one folder, and
+# compares what each writes with the page. PROGRAM is a built capnp_canon; if it is left out ./capnp_canon at the top is run, and
+# so is ./layout_tool, each proved and built first where that isn't done yet. Where a tool isn't there the part is skipped.
+#
+# A line `ok: COMMAND`, `FAILED: COMMAND` or `skipped: COMMAND: no TOOL` for each part; the last line is `N passed, M failed`.
+set -u
+top=$(cd "$(dirname "$0")/.." && pwd) || exit 2
+case ${1-} in '' | /*) program=${1-$top/capnp_canon} ;; *) program=$(pwd)/$1 ;; esac
+work=$(mktemp -d) || exit 2
+trap 'rm -rf "$work"' EXIT
+mkdir "$work/parts" "$work/folder" || exit 2
+
+# A script of this name in the folder that runs a program.
+run_by() {
+    printf '#!/bin/sh\nexec "%s" "$@"\n' "$2" >"$work/folder/$1" && chmod +x "$work/folder/$1"
+}
+
+# Writes the parts of the page: N.sh or N.bash is one, and N.text what it writes.
+take_apart() {
+    awk -v to="$work/parts/" '
+        /^```(sh|bash)$/ { number++; file = to sprintf("%02d", number) "." substr($0, 4); next }
+        /^```text$/ { file = to sprintf("%02d", number) ".text"; next }
+        /^```$/ { file = ""; next }
+        file { print >file }' "$top/docs/PROGRAM.md"
+}
+
+# What isn't there of what a part needs.
+lacking() {
+    grep -q layout_tool "$1" && [ ! -e "$work/folder/layout_tool" ] && echo layout_tool
+    for tool in bash openssl sha256sum xxd; do
+        if [ "${1##*.}" = $tool ] || grep -qw -e "$tool" "$1"; then command -v $tool >/dev/null || echo $tool; fi
+    done
+}
+
+run_by capnp_canon "$program"
+[ $# -gt 0 ] || run_by layout_tool "$top/layout_tool"
+# what is built first says so here
+"$program" --version >"$work/log" || exit 2
+take_apart
+cd "$work/folder" || exit 2
+passed=0 failed=0
+for part in "$work"/parts/*.*sh; do
+    what=$(grep -v '^[^ ]* [|(] *$' "$part" | tail -n 1)
+    none=$(lacking "$part" | head -n 1)
+    if [ "$none" ]; then
+        echo "skipped: $what: no $none"
+        continue
+    fi
+    touch "${part%.*}.text"
+    # a command that waits for ever is ended
+    LC_ALL=C timeout 60 "${part##*.}" -e "$part" >"$work/written" 2>"$work/error"
+    status=$?
+    if [ $status = 0 ] && cmp -s "$work/written" "${part%.*}.text"; then
+        passed=$((passed + 1))
+        echo "ok: $what"
+    else
+        failed=$((failed + 1))
+        diff "${part%.*}.text" "$work/written"
+        cat "$work/error"
+        echo "FAILED: $what, status $status"
+    fi
+done
+echo "$passed passed, $failed failed"
+[ $failed = 0 ] && [ $passed != 0 ]
