@@ -56,7 +56,7 @@ def names_of(lines):
         if found:
             yield found[2]
             inside, kind = indent, found[1]
-        elif found := re.match(r' *(?:(?:abbrev|unfoldable) )?(?:pub )?(\S+) :', line):
+        elif found := re.match(r' *(?:(?:abbrev|unfoldable) )?(?:pub )?([^\s(){}]+) :', line):
             if found[1] not in NOT_NAMES:
                 yield found[1]
 
@@ -97,6 +97,18 @@ def specs(crate, module):
         if names:
             found.append(Definition(crate, module, names, '\n'.join(block), begun + 1))
     return Specs(crate, module, '\n'.join(heading), tuple(found), imported(text))
+
+
+def said_of(definition, name):
+    """The comment above a name of a definition; where it has none, that of the last one before it in its file."""
+    lines = (TOP / f'crates/{definition.crate}/specs/{definition.module}.antt').read_text(encoding='utf-8').split('\n')
+    at = next(i for i in range(definition.line - 1, len(lines)) if re.match(rf' *(?:abbrev )?(?:pub )?(?:(?:record|data) )?{re.escape(name)}(?= )', lines[i]))
+    while not lines[at - 1].strip().startswith('--'):
+        at -= 1
+    start = at
+    while lines[start - 1].strip().startswith('--'):
+        start -= 1
+    return ' '.join(line.strip().removeprefix('--').strip() for line in lines[start:at])
 
 
 @functools.cache

@@ -14,6 +14,7 @@ A page says what is quoted in a line of its own; the quotation stands behind tha
     <!-- definitions N -->                      of docs/THEOREM.md: what the clauses that are quoted in the sections of part N rest on
     <!-- types N -->                            of docs/THEOREM.md: the types of the program that these definitions and clauses name
     <!-- notation -->                           of docs/THEOREM.md: the words of the standard library in these definitions and clauses
+    <!-- elsewhere N -->                        of docs/THEOREM.md: what the clauses of section N cite that isn't printed there, and where it stands
     <!-- count N -->                            how many definitions that are, in how many lines; all parts, without a number
     <!-- tries -->                              how many edits, vectors, rows and streams the gate tries
 """
@@ -67,37 +68,38 @@ WORDS = (
     ('◌≡◌', '`≡`, `≢`, `<`, `≤`', 'equal, not equal, less, at most'),
     ('◌⊎◌', '`P × Q`, `P ⊎ Q`, `P → Q`, `P ↔ Q`', 'both; one of them; Q follows from P; each from the other'),
     ('', '`(x : A) → P`, `(x : A) × P`', 'P for every x; there is an x with P. `{x : A}` for `(x : A)` leaves x out where it is called'),
-    ('⊤', '`⊤`, `⊥`, `Type 0`', 'what always holds, and what never does; `Type 0` as a result says that a definition is a statement'),
+    ('⊤', '`⊤`, `⊥`, `Type 0`', 'what always holds, and what never does; `Type 0` as a result says that a definition is a statement, and `A : Type 0` is any type'),
     ('', '`λ x. e`, `f x y`, `let x = e in y`', 'the function that gives e for x; f called with x and y; y, in which x is e'),
     ('', '`x.0`, `x.1`, `x.field`', 'the first and the second part of a pair; a field of a record or struct'),
-    ('', '`record`, `data`', 'facts or values by name, all of which hold, `record { a = x }` being a value; the forms that a value, or the ways in which a '
-     'statement, can have'),
-    ('', '`abbrev`, `pub`, `unfoldable`, `mutual`', 'change nothing in the meaning'),
+    ('', '`record`, `data`', 'facts or values by name, all of which hold, `record { a = x }` being a value, and `record r { a = x }` r with x as its a; the forms '
+     'that a value, or the ways in which a statement, can have'),
+    ('', '`◌`, `_`', 'in the name of an operator, where an operand stands; in an equation, anything'),
+    ('', '`abbrev`, `pub`, `unfoldable`, `mutual`, `infixl 10`', 'change nothing in the meaning'),
     ('', '`fn f<A: T>(x: X) -> R`', 'a function of Rust, for every type A that has the trait T, of an x to `result`'),
     ('', '`requires { P }`, `ensures NAME { P }`', 'P holds where it is called; P holds at its end: this is proved. NAME is how the text calls it'),
-    ('Bor', '`x.old`, `x.new`, `x.now`, `Bor A`', 'what a `&mut` refers to as the call begins, and as it ends; what a `&` refers to; a reference to an A'),
+    ('Bor', '`x.old`, `x.new`, `x.now`, `Bor A`', 'what a `&mut` refers to as the call begins, and as it ends; what a `&` refers to; a reference to an A. What is handed over has its plain name'),
     ('', '`A.view x`, `⟦<A as T>⟧.view x`', 'what the type A says of x as a T, by the name `view`'),
 )
-MARK = re.compile(r'<!-- (clauses|function|item|definitions|definition|types|notation|count|tries)\b ?(.*?) ?-->')
+MARK = re.compile(r'<!-- (clauses|function|item|definitions|definition|types|notation|elsewhere|count|tries)\b ?(.*?) ?-->')
 END = '<!-- end -->'
 
 
 @functools.cache
-def statements(number):
-    """The clauses that the page quotes in the sections of a part: of each function the lines, and what its file imports."""
+def statements(sections):
+    """The clauses that the page quotes in these sections: of each function the lines, and what its file imports."""
     found, section = [], None
     for line in PAGE.read_text(encoding='utf-8').split('\n'):
         if heading := re.match(r'## (\d+)?', line):
             section = heading[1]
-        if section in PARTS[number] and (mark := MARK.fullmatch(line)) and mark[1] == 'clauses':
+        if section in sections and (mark := MARK.fullmatch(line)) and mark[1] == 'clauses':
             function, labels = chosen(mark[2])
             found.append(('\n'.join([*function.signature, *function.chosen(labels)[0]]), function.imports))
     return found
 
 
-def rests_on(number, without=frozenset()):
+def rests_on(sections, without=frozenset()):
     begin, types, words = set(), set(), set()
-    for code, imports in statements(number):
+    for code, imports in statements(sections):
         more, named, used = quoted.cited(code, imports)
         begin |= more
         types |= named
@@ -110,12 +112,30 @@ def rests_on(number, without=frozenset()):
 def parts():
     """The definitions, types and words of each part, without the definitions and types of those before it."""
     done, named, found = frozenset(), frozenset(), {}
-    for number in PARTS:
-        definitions_of, types, words = rests_on(number, done)
+    for number, sections in PARTS.items():
+        definitions_of, types, words = rests_on(sections, done)
         found[number] = definitions_of, types - named, words
         done |= definitions_of
         named |= types
     return found
+
+
+def elsewhere(section):
+    """What the clauses of a section cite that no part prints: each name with its file and what is said of it there."""
+    printed = frozenset().union(*(found for found, _, _ in parts().values()))
+    rests, _, _ = rests_on((section,), printed)
+    cited = {}
+    for code, imports in statements((section,)):
+        for definition in quoted.cited(code, imports)[0] - printed:
+            names = {there for name in quoted.words_in(code) if name in imports for _, _, there in [imports[name]]} & set(definition.names)
+            cited.setdefault(definition, set()).update(names)
+    lines = ['| Cited | In `crates/` | Says |', '|---|---|---|']
+    for definition in sorted(cited, key=lambda it: (it.crate, it.module, it.line)):
+        for name in sorted(cited[definition]):
+            says = quoted.said_of(definition, name).replace('|', '&#124;')
+            lines.append(f'| `{name}` | `{definition.crate}/specs/{definition.module}.antt` | {says} |')
+    files = len({(definition.crate, definition.module) for definition in rests})
+    return [*lines, '', f'With what these rest on they are {len(rests)} definitions in {length(rests)} lines of {files} files.']
 
 
 def in_order(found, number):
@@ -133,8 +153,16 @@ def renamed(file, found):
     """A line on the names under which a file has those of others, where its definitions use them."""
     used = set().union(*(quoted.words_in(definition.code) for definition in found if (definition.crate, definition.module) == file))
     names = [(here, there, module) for here, (_, module, there) in quoted.specs(*file).imports.items() if here != there and here in used]
-    names = [f'`{here}` is `{there}` of `{module.removeprefix("declared.").removesuffix(".TheVariants").split(".")[-1]}`' for here, there, module in sorted(names)]
+    names = [f'`{here}` is {origin(module, there)}' for here, there, module in sorted(names)]
     return [f'Here {", ".join(names)}.', ''] if names else []
+
+
+def origin(module, name):
+    """What a name is where it comes from: a type of the program, a variant of one, or a definition."""
+    of = module.removesuffix('.TheVariants').split('.')[-1]
+    if not module.startswith('declared.'):
+        return f'`{name}` of `{of}`'
+    return f'`{name}` of the type `{of}`' if module.endswith('.TheVariants') else f'the type `{name}` of the program'
 
 
 def definitions(number):
@@ -186,7 +214,7 @@ def both_counts():
     first, second = (found for found, _, _ in parts().values())
     return [
         f'{len(first)} definitions in {length(first)} lines for the copy and the test, and {len(second)} further ones in '
-        f'{length(second)} lines for the test at a pointer and the edits.'
+        f'{length(second)} lines for both at a pointer and for the edits.'
     ]
 
 
@@ -233,7 +261,7 @@ def quotation(kind, rest):
         return ['```antt', *found.text.split('\n'), '```']
     if kind == 'item':
         return ['```rust', *quoted.item(*rest.split()), '```']
-    return {'definitions': definitions, 'types': types, 'count': count}[kind](rest) if rest else {'notation': notation, 'tries': tries, 'count': both_counts}[kind]()
+    return {'definitions': definitions, 'types': types, 'count': count, 'elsewhere': elsewhere}[kind](rest) if rest else {'notation': notation, 'tries': tries, 'count': both_counts}[kind]()
 
 
 def written(text):
@@ -257,7 +285,7 @@ def pages():
 
 def prose(text):
     """The words that a page has besides what it quotes by this script."""
-    return len(re.sub(r'<!-- (?:clauses|function|item|definitions?|types|notation|count|tries)\b.*?<!-- end -->', '', text, flags=re.S).split())
+    return len(re.sub(r'<!-- (?:clauses|function|item|definitions?|types|notation|elsewhere|count|tries)\b.*?<!-- end -->', '', text, flags=re.S).split())
 
 
 def main():

@@ -1,5 +1,5 @@
 -- Values put at the root of a forest, and at a pointer of the root's struct.
-use Rattle.std.proofs.Common.{◌≡◌, ℕ, zero, suc, ◌+◌, ◌<◌, List, [], ◌∷◌, length, refl, sym, ap, arith}
+use Rattle.std.proofs.Common.{◌≡◌, ℕ, zero, suc, ◌+◌, ◌*◌, ◌<◌, List, [], ◌∷◌, length, refl, sym, ap, arith}
 use Rattle.std.proofs.lemmas.List.{length-replicate}
 use Rattle.capnp_format.specs.Segments.{Segments}
 use Rattle.capnp_format.specs.Tree.{Tree, Null, Struct}
@@ -13,7 +13,8 @@ use Rattle.capnp_making.specs.Stored.{Puts}
 use Rattle.capnp_making.proofs.Placed.{count-nulls}
 use Rattle.capnp_making.proofs.Replaced.{forest_stored, forest_updated, stored_within}
 use Rattle.capnp_widening.specs.Opening.{existing_struct}
-use Rattle.capnp_builders.specs.Places.{struct_place}
+use Rattle.capnp_making.specs.Makes.{CallAt}
+use Rattle.capnp_builders.specs.Places.{IsStructOf, struct_place}
 
 pub root_put : (S R : Segments) (t y : Tree) → IsForest S t → Puts S R 0 0 y → IsForest R y
 root_put S R t y forest puts = forest_updated S R t [] 0 0 t y forest (refl, refl, refl) (puts t (forest_stored S t forest))
@@ -36,3 +37,15 @@ field_put S M R t y size place forest first leads some puts =
 -- what is put at a pointer, wherever in a tree it is
 pub put_where_it_leads : (S R : Segments) (s p : ℕ) (y : Tree) → Puts S R s p y → (t x : Tree) (path : List Step) → IsForest S t → PathLeads S 0 0 t path s p x → IsForest R (update t path y)
 put_where_it_leads S R s p y puts t x path forest leads = forest_updated S R t path s p x y forest leads (puts x (stored_within S 0 0 t path s p x leads (forest_stored S t forest)))
+
+-- where the sections of a struct are that a pointer leads to
+pub place_leads : {c : CallAt} {size : StructSize} {place : StructPlace} → IsStructOf c size place →
+    (place.segment ≡ (target c.new.words c.segment c.at).segment) × (place.byte ≡ 8 * (target c.new.words c.segment c.at).start) × (place.bits ≡ 64 * size.data_words) ×
+    (place.pointers_at ≡ (target c.new.words c.segment c.at).start + size.data_words) × (place.pointers ≡ size.pointers)
+place_leads is = (
+  ap (λ (p : StructPlace). p.segment) is.is,
+  ap (λ (p : StructPlace). p.byte) is.is,
+  ap (λ (p : StructPlace). p.bits) is.is,
+  ap (λ (p : StructPlace). p.pointers_at) is.is,
+  ap (λ (p : StructPlace). p.pointers) is.is,
+)

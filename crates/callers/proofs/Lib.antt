@@ -1,5 +1,6 @@
 pub mod AgreedLemmas
 pub mod Copied
+pub mod CopiedAt
 pub mod Evenness
 pub mod Extending
 pub mod Fields

@@ -1,6 +1,7 @@
 //! Callers of builders that know their contracts alone, generic over the arena: they show that a
 //! message's value can be followed from call to call, whether a call is granted or refused.
-ghost use Rattle.std.specs.Prelude.{ℕ, ◌≡◌, ◌<◌, ◌≤◌, ◌+◌, ◌^◌, ◌∷◌, [], length, IsOk, IsOkAnd, IfOk, OnOk, OnErr};
+ghost use Rattle.std.specs.Prelude.{ℕ, ◌≡◌, ◌<◌, ◌≤◌, ◌+◌, ◌^◌, ◌∷◌, [], length, IsOk, IsOkAnd, IfErr, IfOk, OnOk, OnErr};
+ghost use Rattle.capnp_words.specs.declared.error.ErrorKind.TheVariants.{AllocationFailed};
 ghost use Rattle.capnp_making.specs.Makes.{call_at};
 ghost use Rattle.capnp_builders.specs.Places.{IsStructOf};
 ghost use Rattle.capnp_making.specs.Stored.{Puts};
@@ -99,14 +100,21 @@ fn field_struct<A: BuilderArena>(
     field.put_struct(size)
 }
 
-/// A message that was built, as those have it who read what it gives to be written out: each place
-/// means there what it means in the message.
+/// A message that was built, as those have it who read what it gives to be written out: its words are those of
+/// the message, so each place means there what it means in the message. It is refused for want of memory alone, and
+/// not where it has one segment.
 pub fn read_back<'a, L: Allocator>(
     built: &'a BuilderArenaImpl<L>,
 ) -> Result<ReaderArenaImpl<OutputSegments<'a>>, ErrorKind>
-    ensures { IfOk result (λ r.
+    ensures words { IfOk result (λ r.
+        message (⟦<ReaderArenaImpl<OutputSegments<'a>> as ReaderArena>⟧.segments r)
+        ≡ (⟦<BuilderArenaImpl<L> as BuilderArena>⟧.view built.now).words) }
+    ensures same { IfOk result (λ r.
         MeansTheSame (⟦<BuilderArenaImpl<L> as BuilderArena>⟧.view built.now).words
         (message (⟦<ReaderArenaImpl<OutputSegments<'a>> as ReaderArena>⟧.segments r))) }
+    ensures answered { length (⟦<BuilderArenaImpl<L> as BuilderArena>⟧.view built.now).words ≡ 1
+        → IsOk result }
+    ensures refused { IfErr result (λ k. k ≡ AllocationFailed) }
 {
     let output = built.get_segments_for_output()?;
     Ok(ReaderArenaImpl::new(output, ReaderOptions::default()))
@@ -119,12 +127,13 @@ pub fn edited<'a, L: Allocator>(
     edits: &[Edit<'_>],
     outcomes: &mut [Option<ErrorKind>],
 ) -> Result<ReaderArenaImpl<OutputSegments<'a>>, ErrorKind>
-    requires { length outcomes.old ≡ length edits.now }
-    ensures { IfOk result (λ r. (t : Tree)
+    requires each { length outcomes.old ≡ length edits.now }
+    ensures meant { IfOk result (λ r. (t : Tree)
         → IsForest (⟦<BuilderArenaImpl<L> as BuilderArena>⟧.view built.old).words t
         → (u : Tree) × TakesAll edits.now outcomes.new t u × (n : ℕ) × (c : ℕ)
         × Means (message (⟦<ReaderArenaImpl<OutputSegments<'a>> as ReaderArena>⟧.segments r))
         n 0 0 u c) }
+    ensures refused { IfErr result (λ k. k ≡ AllocationFailed) }
 {
     apply_all(&mut *built, edits, outcomes);
     read_back(built)

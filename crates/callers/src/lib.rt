@@ -4,6 +4,7 @@
 pub mod agreed;
 pub mod arena;
 pub mod builders;
+pub mod copies;
 pub mod edits;
 pub mod frames;
 pub mod theorem;

@@ -5,8 +5,9 @@ ghost use Rattle.capnp_words.specs.declared.error.ErrorKind.TheVariants.{Allocat
 ghost use Rattle.capnp_words.specs.Meter.{FitsIn};
 ghost use Rattle.capnp_format.specs.Bytes.{message};
 ghost use Rattle.capnp_format.specs.Canonical.{Stands, charge, encoding, trim, word_count};
+ghost use Rattle.capnp_format.specs.Means.{Means};
 ghost use Rattle.capnp_format.specs.Segments.{AreWords, IsPlace, segment, word_at};
-ghost use Rattle.capnp_format.specs.Tree.{Null, Tree, depth};
+ghost use Rattle.capnp_format.specs.Tree.{Null, Tree, capabilities, depth};
 ghost use Rattle.capnp_arena_traits.specs.Allocations.{max_segment_words, one_more};
 ghost use Rattle.capnp_arena_traits.specs.Limits.{IsSmall};
 ghost use Rattle.capnp_framing.specs.Writing.{Prints};
@@ -15,15 +16,16 @@ ghost use Rattle.capnp_making.specs.Made.{zero_struct};
 ghost use Rattle.capnp_making.specs.Memory.{IsRefusedFor};
 ghost use Rattle.capnp_objects.specs.Source.{levels};
 ghost use Rattle.capnp_objects.specs.Spending.{Paid, pointers_in};
-ghost use Rattle.capnp_readers.specs.Checking.{TestStops, progress};
+ghost use Rattle.capnp_readers.specs.Checking.{IsUnfit, TestEnds, TestStops, progress};
 ghost use Rattle.capnp_readers.specs.Readers.{reading};
 ghost use Rattle.capnp_edits.specs.Edits.{IsApplied, TakesAll};
+ghost use Rattle.capnp_edits.specs.Steps.{AreSteps};
 ghost use Rattle.capnp_messages.specs.CanonicalMessages.{IsCanonicalMessage};
 ghost use Rattle.capnp_messages.specs.Commands.{form_bytes};
-ghost use Rattle.capnp_messages.specs.Copies.{LacksMemoryOr, RefusesCopyAnywhere};
+ghost use Rattle.capnp_messages.specs.Copies.{LacksMemoryOr, RefusesCopy, RefusesCopyAnywhere};
 ghost use Rattle.capnp_messages.specs.Messages.{HasCanonicalCopy, IsReadable, IsValueOf, RefusesAt, RefusesCanon, RefusesCheck, left_of, root_within};
 ghost use Rattle.capnp_making.specs.Path.{PathLeads, Step, update};
-ghost use Rattle.capnp_format.specs.Forest.{IsForest};
+ghost use Rattle.capnp_format.specs.Forest.{IsForest, target};
 ghost use Rattle.callers.specs.Truly.{AreRefusedTruly, read_at};
 
 use capnp_arena::arena::{
@@ -35,7 +37,8 @@ use capnp_edits::edit::{Edit, apply_all};
 use capnp_framing::devices::{Output, write_all};
 use capnp_framing::framing::FrameError;
 use capnp_messages::messages::{
-    CanonicalError, Form, canonical_bytes, canonical_with, is_canonical, read_root, write_copy,
+    CanonicalError, Form, canonical_bytes, canonical_with, copy_canonical_with, is_canonical,
+    read_root, write_copy,
 };
 use capnp_readers::readers::{PointerPlace, PointerReader, StructPlace};
 use capnp_words::error::ErrorKind;
@@ -123,7 +126,7 @@ pub fn canonical_copy_in_room<A: BuilderArena, S: ReaderSegments + Drop>(
 /// The canonical copy of a message as bytes: the frame of its only segment, or that segment's bytes.
 ///
 /// It is written where, and only where, the message has a canonical copy, unless the allocator refuses memory or
-/// the output fails.
+/// the output fails. Where the message is refused nothing is written.
 pub fn canonical_copy_in_bytes<W: Output, A: Allocator, S: ReaderSegments + Drop>(
     alloc: Global,
     allocator: A,
@@ -141,6 +144,10 @@ pub fn canonical_copy_in_bytes<W: Output, A: Allocator, S: ReaderSegments + Drop
     ensures exactly_what { OnOk result ((t : Tree)
         × IsValueOf (message (S.segments segments)) limits t
         × Prints W.Output output.old output.new (form_bytes form (encoding (trim t)))) }
+    ensures refused { IfErr result (λ e. ((k : ErrorKind) × (e.0 ≡ CanonicalError.Layout k)
+        × LacksMemoryOr (A.refusals allocator) (A.refusals e.1) k
+        (RefusesCanon (message (S.segments segments)) limits k) × (output.new ≡ output.old))
+        ⊎ ((e.0 ≡ CanonicalError.Frame WriteFailed) × (W.has_failed output.new ≡ true))) }
 {
     match canonical_with(alloc, allocator, segments, limits) {
         Ok(made) => match write_bytes(output, &made, form) {
@@ -200,6 +207,10 @@ pub fn two_copies<A: Allocator, S: ReaderSegments + Drop, R: ReaderSegments + Dr
         → IsTrue same ↔ (trim t ≡ trim u)) }
     ensures only { OnOk result (HasCanonicalCopy (message (S.segments first)) limits
         × HasCanonicalCopy (message (R.segments second)) limits) }
+    ensures refused { IfErr result (λ e. LacksMemoryOr (A.refusals one) (A.refusals e.1) e.0
+        (RefusesCanon (message (S.segments first)) limits e.0)
+        ⊎ LacksMemoryOr (A.refusals other) (A.refusals e.1) e.0
+        (RefusesCanon (message (R.segments second)) limits e.0)) }
 {
     let left = match canonical_copy(alloc, one, first, limits) {
         Ok(made) => made,
@@ -270,12 +281,64 @@ pub fn canonical_test_at<S: ReaderSegments>(
         (read_at (message (⟦<ReaderArenaImpl<S> as ReaderArena>⟧.segments arena.now))
         (levels arena.now.nesting_limit) place.segment place.word)
         (progress head.old lim.old) lim.new) }
+    ensures failed { result ≡ Ok false → TestEnds IsUnfit
+        (read_at (message (⟦<ReaderArenaImpl<S> as ReaderArena>⟧.segments arena.now))
+        (levels arena.now.nesting_limit) place.segment place.word)
+        (progress head.old lim.old) lim.new }
 {
     pointer_at(arena, place).is_canonical(lim, head)
 }
 
+/// The canonical copy of what a pointer of a message means, with memory of an allocator.
+///
+/// It succeeds where, and only where, the pointer means a value without capabilities within the levels of the
+/// reader, and the limiter covers what reading it costs, unless the allocator refuses memory, which it counts. The
+/// limiter has paid that cost then, and counted each pointer; a refusal leaves it as it was.
+pub fn canonical_copy_at<A: Allocator, S: ReaderSegments>(
+    alloc: Global,
+    allocator: A,
+    arena: &ReaderArenaImpl<S>,
+    place: PointerPlace,
+    lim: &mut ReadLimiter,
+) -> Result<BuilderArenaImpl<A>, (ErrorKind, A)>
+    requires place { IsPlace (message (⟦<ReaderArenaImpl<S> as ReaderArena>⟧.segments arena.now))
+        place.segment place.word }
+    ensures exactly_where { (t : Tree) (c : ℕ)
+        → Means (message (⟦<ReaderArenaImpl<S> as ReaderArena>⟧.segments arena.now))
+        (levels arena.now.nesting_limit) place.segment place.word t c
+        → capabilities t ≡ 0 → FitsIn lim.old.left c
+        → 1 + word_count (trim t) ≤ max_segment_words
+        → IfErr result (λ e. (e.0 ≡ AllocationFailed)
+        × (A.refusals e.1 ≡ one_more (A.refusals allocator))) }
+    ensures exactly_what { IfOk result (λ made. (t : Tree) × (c : ℕ)
+        × Means (message (⟦<ReaderArenaImpl<S> as ReaderArena>⟧.segments arena.now))
+        (levels arena.now.nesting_limit) place.segment place.word t c
+        × (capabilities t ≡ 0) × Paid true lim.old lim.new c (pointers_in t)
+        × ((⟦<BuilderArenaImpl<A> as BuilderArena>⟧.view made).words
+        ≡ encoding (trim t) ∷ [])) }
+    ensures asked { IfOk result (λ made. (n : ℕ)
+        × IsTrue (A.offers allocator n
+        ((⟦<BuilderArenaImpl<A> as BuilderArena>⟧.view made).room 0))
+        × ((t : Tree) (c : ℕ)
+        → Means (message (⟦<ReaderArenaImpl<S> as ReaderArena>⟧.segments arena.now))
+        (levels arena.now.nesting_limit) place.segment place.word t c
+        → (n ≤ sum (map length
+        (message (⟦<ReaderArenaImpl<S> as ReaderArena>⟧.segments arena.now))) + 1)
+        ⊎ (n < 2 * (1 + word_count (trim t))))) }
+    ensures granted { IfOk result (λ made.
+        (⟦<BuilderArenaImpl<A> as BuilderArena>⟧.view made).refusals ≡ A.refusals allocator) }
+    ensures unread { OnErr result (lim.new ≡ lim.old) }
+    ensures refused { IfErr result (λ e. LacksMemoryOr (A.refusals allocator) (A.refusals e.1)
+        e.0 (RefusesCopy
+        (read_at (message (⟦<ReaderArenaImpl<S> as ReaderArena>⟧.segments arena.now))
+        (levels arena.now.nesting_limit) place.segment place.word)
+        lim.old.left max_segment_words e.0)) }
+{
+    copy_canonical_with(alloc, allocator, pointer_at(arena, place), lim)
+}
+
 /// The pointer at a place of a message, with the levels of its reader.
-fn pointer_at<S: ReaderSegments>(
+pub(crate) fn pointer_at<S: ReaderSegments>(
     arena: &ReaderArenaImpl<S>,
     place: PointerPlace,
 ) -> PointerReader<'_, ReaderArenaImpl<S>>
@@ -289,7 +352,7 @@ fn pointer_at<S: ReaderSegments>(
 }
 
 /// Makes the object of a pointer a struct, all zero: wherever in a tree the pointer is, the message is then the
-/// tree with that struct there, or with null where it is refused.
+/// tree with that struct there, or with null where it is refused. What is given is where its sections are.
 pub fn struct_made<A: BuilderArena>(
     builder: &mut PointerBuilder<'_, A>,
     size: StructSize,
@@ -306,6 +369,12 @@ pub fn struct_made<A: BuilderArena>(
         → PathLeads (A.view builder.old.arena.now).words 0 0 t path builder.old.segment
         builder.old.at x
         → IsForest (A.view builder.new.arena.now).words (update t path Null)) }
+    ensures leads { IfOk result (λ place.
+        let there = target (A.view builder.new.arena.now).words builder.old.segment builder.old.at
+        in (place.segment ≡ there.segment) × (place.byte ≡ 8 * there.start)
+        × (place.bits ≡ 64 * size.data_words)
+        × (place.pointers_at ≡ there.start + size.data_words)
+        × (place.pointers ≡ size.pointers)) }
     ensures fits { length (segment (A.view builder.old.arena.now).words builder.old.segment)
         + (size.data_words + size.pointers)
         ≤ (A.view builder.old.arena.now).room builder.old.segment → IsOk result }
@@ -324,11 +393,12 @@ pub fn edited_tree<A: BuilderArena>(
     edits: &[Edit<'_>],
     outcomes: &mut [Option<ErrorKind>],
 )
-    requires { length outcomes.old ≡ length edits.now }
+    requires each { length outcomes.old ≡ length edits.now }
     ensures applied { IsApplied (TakesAll edits.now outcomes.new) (A.view arena.old).words
         (A.view arena.new).words }
     ensures refused { AreRefusedTruly (A.view arena.old) (A.view arena.new) edits.now
         outcomes.new }
+    ensures steps { AreSteps (A.view arena.old) (A.view arena.new) edits.now outcomes.new }
 {
     apply_all(arena, edits, outcomes);
 }

@@ -1,6 +1,6 @@
 use Rattle.std.proofs.Common.{inl}
-use Rattle.std.proofs.lemmas.Result.{on_err_weaker, on_ok_weaker}
-use Rattle.callers.proofs.Fields.{put_where_it_leads}
+use Rattle.std.proofs.lemmas.Result.{IfOk-weaker, on_err_weaker, on_ok_weaker}
+use Rattle.callers.proofs.Fields.{place_leads, put_where_it_leads}
 use Rattle.callers.proofs.theorem.struct_made.Goals as goal
 
 pub returns-clause-made : goal.returns-clause-made
@@ -8,6 +8,9 @@ returns-clause-made g c = on_ok_weaker c.put_struct.result (put_where_it_leads _
 
 pub returns-clause-refused : goal.returns-clause-refused
 returns-clause-refused g c = on_err_weaker c.put_struct.result (put_where_it_leads _ _ _ _ _) c.put_struct.ensures.object.refused
+
+pub returns-clause-leads : goal.returns-clause-leads
+returns-clause-leads g c = IfOk-weaker c.put_struct.result _ _ (λ place. place_leads) c.put_struct.ensures.leads
 
 pub returns-clause-fits : goal.returns-clause-fits
 returns-clause-fits g c = λ near. c.put_struct.ensures.object.memory.fits (inl near)

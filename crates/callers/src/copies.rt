@@ -1,0 +1,63 @@
+//! Callers of canonical copies that know their contracts alone.
+ghost use Rattle.std.specs.Prelude.{◌≡◌, ◌⊎◌, ◌∷◌, ◌+◌, ◌*◌, ◌<◌, ◌≤◌, [], ℕ, true, length, map, sum, IfOk, IfErr, OnErr};
+ghost use Rattle.capnp_words.specs.declared.error.ErrorKind.TheVariants.{AllocationFailed};
+ghost use Rattle.capnp_words.specs.Meter.{FitsIn};
+ghost use Rattle.capnp_format.specs.Bytes.{message};
+ghost use Rattle.capnp_format.specs.Canonical.{encoding, trim, word_count};
+ghost use Rattle.capnp_format.specs.Means.{Means};
+ghost use Rattle.capnp_format.specs.Segments.{IsPlace};
+ghost use Rattle.capnp_format.specs.Tree.{Tree, capabilities};
+ghost use Rattle.capnp_arena_traits.specs.Allocations.{max_segment_words};
+ghost use Rattle.capnp_objects.specs.Source.{levels};
+ghost use Rattle.capnp_objects.specs.Spending.{Paid, pointers_in};
+ghost use Rattle.capnp_messages.specs.Copies.{RefusesCopy};
+ghost use Rattle.callers.specs.Truly.{read_at};
+
+use crate::theorem::pointer_at;
+use capnp_arena::arena::{BuilderArena, ReaderArena, ReaderArenaImpl, ReaderSegments};
+use capnp_messages::messages::{CanonicalCopy, copy_canonical};
+use capnp_readers::readers::PointerPlace;
+use capnp_words::error::ErrorKind;
+use capnp_words::read_limiter::ReadLimiter;
+use std::alloc::Global;
+
+/// The canonical copy of what a pointer of a message means, with memory of the heap.
+///
+/// It succeeds where, and only where, the pointer means a value without capabilities within the levels of the
+/// reader, and the limiter covers what reading it costs, unless there is no memory. The limiter has paid that cost
+/// then, and counted each pointer; a refusal leaves it as it was. The copy's segment has room for no more than the
+/// words of the message and one, or for less than twice the words that are made.
+pub fn heap_copy_at<S: ReaderSegments>(
+    alloc: Global,
+    arena: &ReaderArenaImpl<S>,
+    place: PointerPlace,
+    lim: &mut ReadLimiter,
+) -> Result<CanonicalCopy, ErrorKind>
+    requires place { IsPlace (message (⟦<ReaderArenaImpl<S> as ReaderArena>⟧.segments arena.now))
+        place.segment place.word }
+    ensures exactly_where { (t : Tree) (c : ℕ)
+        → Means (message (⟦<ReaderArenaImpl<S> as ReaderArena>⟧.segments arena.now))
+        (levels arena.now.nesting_limit) place.segment place.word t c
+        → capabilities t ≡ 0 → FitsIn lim.old.left c
+        → 1 + word_count (trim t) ≤ max_segment_words
+        → IfErr result (λ k. k ≡ AllocationFailed) }
+    ensures exactly_what { IfOk result (λ made. (t : Tree) × (c : ℕ)
+        × Means (message (⟦<ReaderArenaImpl<S> as ReaderArena>⟧.segments arena.now))
+        (levels arena.now.nesting_limit) place.segment place.word t c
+        × (capabilities t ≡ 0) × Paid true lim.old lim.new c (pointers_in t)
+        × ((⟦<CanonicalCopy as BuilderArena>⟧.view made).words ≡ encoding (trim t) ∷ [])) }
+    ensures asked { IfOk result (λ made. (t : Tree) (c : ℕ)
+        → Means (message (⟦<ReaderArenaImpl<S> as ReaderArena>⟧.segments arena.now))
+        (levels arena.now.nesting_limit) place.segment place.word t c
+        → ((⟦<CanonicalCopy as BuilderArena>⟧.view made).room 0 ≤ sum (map length
+        (message (⟦<ReaderArenaImpl<S> as ReaderArena>⟧.segments arena.now))) + 1)
+        ⊎ ((⟦<CanonicalCopy as BuilderArena>⟧.view made).room 0
+        < 2 * (1 + word_count (trim t)))) }
+    ensures unread { OnErr result (lim.new ≡ lim.old) }
+    ensures refused { IfErr result (λ k. (k ≡ AllocationFailed) ⊎ RefusesCopy
+        (read_at (message (⟦<ReaderArenaImpl<S> as ReaderArena>⟧.segments arena.now))
+        (levels arena.now.nesting_limit) place.segment place.word)
+        lim.old.left max_segment_words k) }
+{
+    copy_canonical(alloc, pointer_at(arena, place), lim)
+}
