@@ -3,7 +3,8 @@
  *
  * A message is given as a frame ("Serialization Over a Stream"), as `capnp encode`, capnp::writeMessage and Rust's
  * serialize::write_message write it; as its segments, as MessageReader::getSegment and Rust's ReaderSegments give them; or
- * as its bare words, which are one segment without the table of a frame.
+ * as its bare words, which are one segment without the table of a frame. What is packed ("Packing") is unpacked first, by
+ * capnp_canonical_unpack.
  *
  * Two messages have the same canonical bytes exactly if their trimmed values are equal (docs/THEOREM.md).
  *
@@ -18,10 +19,10 @@
  *
  * Answers. Each call gives CAPNP_CANONICAL_DONE or the number of a refusal, and numbers are never given another meaning.
  *
- * Memory. No call keeps anything, so calls may run in several threads at once. A message that is canonical is copied from
- * where it stands, and of another one of fewer than 64 words the copy is made on the stack, if it has as few. For others the
- * calls that copy take memory by malloc, for about one copy of the canonical message, and give it back before they return. No
- * other call takes any. A level of nesting takes up to 608 bytes of stack as ./install builds the library, for processors of
+ * Memory. No call keeps anything, so calls may run in several threads at once. A message of fewer than 64 words is copied on
+ * the stack, if its copy has as few, and a longer one that is canonical from where it stands. For others the calls that copy
+ * take memory by malloc, for about one copy of the canonical message, and give it back before they return. No other call takes
+ * any. A level of nesting takes up to 608 bytes of stack as ./install builds the library, for processors of
  * x86-64-v2 and later; of a release in plain C, which isn't held to these, up to 640 bytes by clang, 720 by gcc, and 11 KB
  * where the compiler doesn't optimise.
  *
@@ -67,7 +68,7 @@ enum capnp_canonical_answer {
     CAPNP_CANONICAL_TOO_MANY_SEGMENTS = 17,
     /* A frame has more words than the limit. */
     CAPNP_CANONICAL_MESSAGE_TOO_LONG = 18,
-    /* The bytes end within a frame. */
+    /* The bytes end within a frame, or packed ones within a word or before a number. */
     CAPNP_CANONICAL_TRUNCATED = 19,
     /* malloc gave nothing. */
     CAPNP_CANONICAL_ALLOCATION_FAILED = 32,
@@ -194,6 +195,17 @@ uint32_t capnp_canonical_words_copy(const uint8_t *message, size_t size, int32_t
 uint32_t capnp_canonical_words_check(const uint8_t *message, size_t size, int32_t nesting, uint64_t words, bool *is_canonical, struct capnp_canonical_fault *fault);
 
 uint32_t capnp_canonical_words_size(const uint8_t *message, size_t size, int32_t nesting, uint64_t words, uint64_t *word_count, uint32_t *cap_count);
+
+/* Unpacks `packed_size` packed bytes, all of them, to the front of the `room` bytes at `to`, and writes to `*written` how many
+ * bytes they stand for, which are whole words. What capnp::writePackedMessage, `capnp encode --packed` and Rust's
+ * serialize_packed::write_message write becomes so the frames of one or more messages, which the calls above take.
+ *
+ * CAPNP_CANONICAL_NO_ROOM says that they stand for more than `room` bytes, and `*written` for how many; so null and 0 ask for the
+ * size. It is SIZE_MAX where that is 2^64 bytes or more. Two packed bytes stand for up to 2,048, so compare the size with what
+ * you accept before you make room for it. CAPNP_CANONICAL_TRUNCATED says that they end within a word or before a number, and
+ * `*written` is 0 then. There is no other refusal. What stands in `to` behind the bytes written stays, and where the call is
+ * refused all of it. */
+uint32_t capnp_canonical_unpack(const uint8_t *packed, size_t packed_size, uint8_t *to, size_t room, size_t *written);
 
 /* Writes the name of a refusal, as `Truncated`, and a byte of zero behind it, to the `room` bytes at `to`, as snprintf does:
  * what there is no room for is cut, and the zero stands behind what is left, if there is any room. Gives the length of the

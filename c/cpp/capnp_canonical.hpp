@@ -2,7 +2,8 @@
 //
 // A message is given as a frame, which is what capnp::writeMessage and capnp::messageToFlatArray make, or as its segments. Its
 // bare words, which copy_flat and capnp::canonicalize make, are given to the calls whose names begin with `words_` alone: a call
-// that takes a frame may SUCCEED on bare words, and then reads ANOTHER value (capnp_canonical.h says why).
+// that takes a frame may SUCCEED on bare words, and then reads ANOTHER value (capnp_canonical.h says why). What is packed is
+// unpacked first, by unpack.
 //
 // Where <capnp/message.h> is there a message may also be a capnp::MessageReader or a capnp::MessageBuilder, of which no frame
 // is made, or a struct of any place in a message; define CAPNP_CANONICAL_WITHOUT_CAPNP before this header to leave that out.
@@ -314,6 +315,22 @@ Bytes copy_into(std::vector<std::uint8_t>& buffer, const Source& source, Form fo
     return {buffer.data(), written};
 }
 
+// How many bytes packed bytes stand for, of at most so many words.
+inline std::size_t unpacked_size(Bytes packed, std::uint64_t words) {
+    std::size_t size = 0;
+    std::uint32_t answer = capnp_canonical_unpack(packed.data(), packed.size(), nullptr, 0, &size);
+    if (answer != CAPNP_CANONICAL_DONE && answer != CAPNP_CANONICAL_NO_ROOM) throw Error(answer, packed.place());
+    if (size / 8 > words) throw Error(CAPNP_CANONICAL_MESSAGE_TOO_LONG, packed.place());
+    return size;
+}
+
+// Unpacks to a buffer that is large enough.
+inline void unpack_to(std::vector<std::uint8_t>& to, Bytes packed) {
+    std::size_t size = 0;
+    std::uint32_t answer = capnp_canonical_unpack(packed.data(), packed.size(), to.data(), to.size(), &size);
+    if (answer != CAPNP_CANONICAL_DONE) throw Error(answer, packed.place());
+}
+
 template <typename Source>
 Checked checked(const Source& source) {
     bool is_canonical = false;
@@ -395,6 +412,23 @@ inline bool words_is_canonical(Bytes words, Limits limits = {}) noexcept {
     return capnp_canonical_words_is_canonical(words.data(), words.size(), limits.nesting, limits.words);
 }
 inline Size words_size(Bytes words, Limits limits = {}) { return size(Segments{words}, limits); }
+
+// What packed bytes stand for, as capnp::writePackedMessage writes them: the frames of one or more messages, which the calls above
+// take, and Frames one by one. Two packed bytes stand for up to 2,048. So Error is thrown where there are more words than the
+// limit, with the number CAPNP_CANONICAL_MESSAGE_TOO_LONG, before room is made for them; and where the packed bytes are cut.
+inline std::vector<std::uint8_t> unpack(Bytes packed, std::uint64_t words = CAPNP_CANONICAL_WORDS) {
+    std::vector<std::uint8_t> to(detail::unpacked_size(packed, words));
+    detail::unpack_to(to, packed);
+    return to;
+}
+
+// The same into a buffer that is kept, as copy_into has it.
+inline Bytes unpack_into(std::vector<std::uint8_t>& buffer, Bytes packed, std::uint64_t words = CAPNP_CANONICAL_WORDS) {
+    std::size_t size = detail::unpacked_size(packed, words);
+    if (buffer.size() < size) buffer.resize(size);
+    detail::unpack_to(buffer, packed);
+    return {buffer.data(), size};
+}
 
 // The frames of a stream, one behind the other: `for (Bytes frame : Frames(stream))`. Each knows its place, which an Error then
 // says. Error is thrown where the bytes that are left don't begin with a frame.

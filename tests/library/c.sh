@@ -101,11 +101,17 @@ for which in static shared; do
     part "functions of the header, $which" "$folder/inline_$which" "$here/messages.txt"
     part "test, $which, built" build "test_$which" tests/library/test.c "$which"
     part "test, $which" "$folder/test_$which" "$here/messages.txt"
+    part "packed bytes, $which, built" build "unpack_$which" tests/library/unpack.c "$which"
+    part "packed bytes, $which" "$folder/unpack_$which" "$here/packed.txt"
 done
 part "test with the address sanitizer, built" build sanitized tests/library/test.c static -fsanitize=address,undefined -fno-sanitize-recover
 part "test with the address sanitizer" "$folder/sanitized" "$here/messages.txt"
 part "functions of the header with the address sanitizer, built" build inline_sanitized tests/library/inline.c static -fsanitize=address,undefined -fno-sanitize-recover
 part "functions of the header with the address sanitizer" "$folder/inline_sanitized" "$here/messages.txt"
+part "packed bytes with the address sanitizer, built" build unpack_sanitized tests/library/unpack.c static -fsanitize=address,undefined -fno-sanitize-recover
+part "packed bytes with the address sanitizer" "$folder/unpack_sanitized" "$here/packed.txt"
+part "packed bytes where malloc is counted, built" build unpack_counting tests/library/unpack.c static -DWRAP -Wl,--wrap=malloc -Wl,--wrap=realloc
+part "packed bytes where malloc is counted" "$folder/unpack_counting" "$here/packed.txt"
 part "test where malloc refuses, built" build refusing tests/library/test.c static -DWRAP -Wl,--wrap=malloc -Wl,--wrap=realloc
 part "test where malloc refuses" "$folder/refusing" "$here/messages.txt"
 if has valgrind "the example and the test under it"; then

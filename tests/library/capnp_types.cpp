@@ -5,7 +5,9 @@
 #include "capnp_canonical.hpp"
 #include "people.capnp.h"
 #include <capnp/message.h>
+#include <capnp/serialize-packed.h>
 #include <capnp/serialize.h>
+#include <kj/io.h>
 #include <cstdio>
 #include <cstring>
 #include <vector>
@@ -46,6 +48,9 @@ void test_messages(capnp::MallocMessageBuilder& builder) {
     report(same(capnp_canonical::copy_flat(reader), theirs), "a MessageReader");
     report(same(capnp_canonical::copy_flat(reader.getRoot<Book>()), theirs), "a reader of the root");
     report(same(capnp_canonical::copy_flat(reader, {64, 1000}), theirs), "limits");
+    kj::VectorOutputStream packed;
+    capnp::writePackedMessage(packed, builder);
+    report(same(capnp_canonical::copy_flat(capnp_canonical::unpack(packed.getArray())), theirs), "writePackedMessage");
     report(!capnp_canonical::is_canonical(reader) && !capnp_canonical::check(builder).is_canonical(), "not canonical");
     report(capnp_canonical::size(builder).words == reader.getRoot<capnp::AnyPointer>().targetSize().wordCount, "size");
 }

@@ -20,7 +20,7 @@ VERSIONS = {
     'c/rust/capnp/Cargo.toml': r'^version = "(.*)"$', 'c/man/capnp_canon.1': r'"capnp_canon (.*)"$',
 }
 # What the package for cargo has of the repository.
-PACKAGED = {'LICENSE': 'LICENSE', 'tests/messages.txt': 'tests/library/messages.txt'}
+PACKAGED = {'LICENSE': 'LICENSE', **{f'tests/{it}': f'tests/library/{it}' for it in ('messages.txt', 'packed.txt')}}
 
 
 def in_capitals(name):

@@ -1,6 +1,7 @@
 // Tests of capnp_canonical.hpp, without Cap'n Proto's own headers.
 //
-//     messages FILE    the messages of messages.txt; a line `ok: NAME` or `FAILED: NAME: WHAT` for each test
+//     messages FILE PACKED    the messages of messages.txt, and what packed.txt has; a line `ok: NAME` or `FAILED: NAME: WHAT`
+//                             for each test
 #include "capnp_canonical.hpp"
 
 #include <algorithm>
@@ -283,6 +284,42 @@ void test_frames() {
                  }), "message 1 at byte 0: ReadLimitExceeded: the traversal limit doesn't cover what is to be read");
 }
 
+// The rows of packed.txt.
+void test_packed(const char* path) {
+    std::ifstream file(path);
+    int count = 0;
+    Vector buffer;
+    for (std::string line; std::getline(file, line);) {
+        if (line.empty() || line[0] == '#') continue;
+        std::string name, digits, wanted;
+        std::istringstream(line) >> name >> digits >> wanted;
+        Vector packed = bytes_of(digits);
+        require_same(name, answer([&] { return digits_of(capnp_canonical::unpack(packed)); }), wanted);
+        require_same(name, answer([&] { return digits_of(capnp_canonical::unpack_into(buffer, packed)); }), wanted);
+        count++;
+    }
+    require(count == 22, std::to_string(count) + " rows");
+}
+
+void test_unpacked() {
+    // three messages by capnp convert binary:packed
+    Vector frames = capnp_canonical::unpack(bytes_of("10021001012a10021001012a10021001012a"));
+    int count = 0;
+    for (Bytes frame : capnp_canonical::Frames(frames)) {
+        require(capnp_canonical::copy_flat(frame) == bytes_of("00000000010000002a00000000000000"), "a message");
+        count++;
+    }
+    require(count == 3, "three messages");
+    Vector zeros;
+    for (int i = 0; i < 100; i++) zeros.insert(zeros.end(), {0, 255});
+    require(capnp_canonical::unpack(zeros, 25600) == Vector(8 * 25600), "a limit that is met");
+    require_same("more words", answer([&] { return digits_of(capnp_canonical::unpack(zeros, 25599)); }), "MessageTooLong");
+    Vector buffer;
+    Bytes first = capnp_canonical::unpack_into(buffer, zeros), second = capnp_canonical::unpack_into(buffer, Bytes(zeros.data(), 2));
+    require(first.size() == 204800 && second.size() == 2048 && buffer.size() == 204800, "a buffer that is kept");
+    require(second.data() == buffer.data(), "the front of the buffer");
+}
+
 void test_errors() {
     try {
         capnp_canonical::copy(Bytes());
@@ -305,8 +342,10 @@ void test_errors() {
 }
 
 int main(int count, char** words) {
-    if (count != 2) return 2;
+    if (count != 3) return 2;
     test_messages(words[1]);
+    test("packed bytes", [&] { test_packed(words[2]); });
+    test("packed messages", test_unpacked);
     test("ranges of bytes", test_ranges);
     test("segments", test_segments);
     test("copies that are longer than their message", test_longer_copies);

@@ -58,7 +58,7 @@ summed() {
 cxx_messages() {
     "$cxx" -std="$1" -Wall -Wextra -Wpedantic -Wshadow -Werror -O1 -DCAPNP_CANONICAL_WITHOUT_CAPNP -I"$prefix/include" \
         -o "$work/messages" "$here/messages.cpp" "$prefix/lib/libcapnp_canonical.a" &&
-        "$work/messages" "$here/messages.txt"
+        "$work/messages" "$here/messages.txt" "$here/packed.txt"
 }
 
 # Random messages, flat ones and nested ones, and their canonical words by C++ Cap'n Proto.

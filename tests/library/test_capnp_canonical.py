@@ -18,6 +18,7 @@ import capnp_canonical
 from capnp_canonical import Error, Fault, Limits, Reason, Refusal, Size
 
 MESSAGES = pathlib.Path(__file__).with_name('messages.txt')
+PACKED = pathlib.Path(__file__).with_name('packed.txt')
 LIBRARY = 'CAPNP_CANONICAL_LIBRARY'
 # A struct of three words, of which the last is zero.
 ZERO_WORD = bytes.fromhex('0000000004000000 0000000003000000 1111111111111111 ffffffffffffffff 0000000000000000')
@@ -191,7 +192,7 @@ class Calls(unittest.TestCase):
             with self.assertRaises(ValueError):
                 Limits(**numbers)
         for numbers in {'words': None}, {'words': 5.5}, {'nesting': '64'}:
-            with self.assertRaises(TypeError):
+            with self.assertRaisesRegex(TypeError, f'{next(iter(numbers))} is a number'):
                 Limits(**numbers)
         with self.assertRaisesRegex(TypeError, 'class Limits'):
             capnp_canonical.copy(ZERO_WORD, (64, 8))
@@ -257,6 +258,48 @@ class Calls(unittest.TestCase):
 
     def test_version(self):
         self.assertEqual(capnp_canonical.version() // 10000, 1)
+
+
+class Packed(unittest.TestCase):
+    """Those of packed.txt, and what that file can't say."""
+
+    def test_rows(self):
+        rows = [line.split() for line in PACKED.read_text().splitlines() if not line.startswith('#')]
+        self.assertEqual(len(rows), 22)
+        for name, digits, wanted in rows:
+            packed = bytes.fromhex(digits.strip('-'))
+            for given in packed, bytearray(packed), memoryview(b'.' + packed)[1:]:
+                self.assertEqual(answer(bytes.hex, capnp_canonical.unpack, given), wanted.strip('-'), name)
+
+    def test_messages(self):
+        packed = bytes.fromhex('10021001012a') * 3
+        frames = list(capnp_canonical.frames(capnp_canonical.unpack(packed)))
+        words = bytes.fromhex('0000000001000000 2a00000000000000')
+        self.assertEqual([capnp_canonical.copy_flat(it) for it in frames], [words] * 3)
+
+    def test_into(self):
+        to = bytearray(b'.' * 20)
+        self.assertEqual(capnp_canonical.unpack_into(to, bytes.fromhex('510803023119aa01')), 16)
+        self.assertEqual(to, bytes.fromhex('0800000003000200 19000000aa010000') + b'.' * 4)
+        self.assertEqual(capnp_canonical.unpack_into(bytearray(), b''), 0)
+        for room in 0, 15:
+            to = bytearray(b'.' * room)
+            with self.assertRaises(Error) as refused:
+                capnp_canonical.unpack_into(to, bytes.fromhex('510803023119aa01'))
+            self.assertEqual((refused.exception.number, refused.exception.wanted), (Refusal.NO_ROOM, 16))
+            self.assertEqual(to, b'.' * room)
+
+    def test_limit(self):
+        packed = bytes.fromhex('00ff') * 100
+        self.assertEqual(capnp_canonical.unpack(packed, 25600), bytes(8 * 25600))
+        for given, words in (packed, 25599), (bytes.fromhex('00ff') * 40000, 8388608):
+            with self.assertRaises(Error) as refused:
+                capnp_canonical.unpack(given, words)
+            self.assertIs(refused.exception.number, Refusal.MESSAGE_TOO_LONG)
+        with self.assertRaises(ValueError):
+            capnp_canonical.unpack(packed, -1)
+        with self.assertRaisesRegex(TypeError, 'bytes-like'):
+            capnp_canonical.unpack('text')
 
 
 class Raw:

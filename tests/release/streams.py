@@ -37,7 +37,7 @@ def main():
             for number, line in enumerate(path.open(encoding='utf-8'), 1):
                 row = json.loads(line)
                 wanted = bytes.fromhex(row['output']), row['status'], row['stderr']
-                got = program.run(row['args'], bytes.fromhex(row['input']))
+                got = program.run_row(row)
                 same(counts, f'{path.name}:{number} {row["name"]}: {row["args"]}', row['args'], wanted, got)
         hostile.runs(runs, counts)
     print(f'{counts.passed} passed, {counts.failed} failed')

@@ -13,8 +13,8 @@ SILENT = {'alwaysinline', 'inlinehint', 'memory', 'mustprogress', 'nobuiltin', '
 OUTSIDE = {
     **{name: name for name in ('rattle_alloc', 'rattle_realloc', 'rattle_dealloc', 'rattle_arg', 'rattle_arg_count', 'rattle_env',
                                'rattle_env_at', 'rattle_errno', 'rattle_set_errno')},
-    **{name: f'c_{name}' for name in ('read', 'write', 'lseek', 'chdir', 'getcwd')},
-    '__sysv_signal': 'c_signal',
+    **{name: f'c_{name}' for name in ('read', 'write', 'lseek', 'chdir', 'getcwd', 'open', 'close')},
+    '__sysv_signal': 'c_signal', '__xpg_strerror_r': 'c_strerror',
 }
 
 
@@ -31,6 +31,8 @@ class Signature:
         it.next('(')
         self.parameters = []
         while not it.takes(')'):
+            if self.is_outside and it.takes('...'):
+                continue
             kind = it.type()
             it.skip_promises()
             self.parameters.append((kind, it.next() if it.peek()[0] == '%' else None))

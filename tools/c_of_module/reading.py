@@ -1,7 +1,7 @@
 """Reads the text of an LLVM module: the tokens of a line, types, values and names."""
 import re
 
-TOKEN = re.compile(r'''c"[^"]*"|[%@](?:"[^"]*"|[-\w.$]+)|"[^"]*"|!\w+|\#\d+|-?\d+(?![\w.])|[A-Za-z_][\w.]*|[][(){}<>,=:]''')
+TOKEN = re.compile(r'''c"[^"]*"|[%@](?:"[^"]*"|[-\w.$]+)|"[^"]*"|!\w+|\#\d+|-?\d+(?![\w.])|[A-Za-z_][\w.]*|\.\.\.|[][(){}<>,=:]''')
 # What is promised of a value or a call, and advice how to call: C may do without.
 PROMISES = {
     'align', 'captures', 'ccc', 'dereferenceable', 'dereferenceable_or_null', 'disjoint', 'dso_local', 'exact', 'fastcc',
@@ -146,6 +146,12 @@ class Line:
             self.next(']' if it == '[' else '>')
             return ('array' if it == '[' else 'vector'), count, of
         raise Unknown(f'type {it}')
+
+    def skip_parameters(self):
+        """The types of the parameters, which stand in a call of a function that takes more than these."""
+        if self.takes('('):
+            while self.next() != ')':
+                pass
 
     def value(self):
         """A value: a token, a list of constants, or the address of a constant, as ('address', NAME, OFFSET) or ('number', NAME)."""

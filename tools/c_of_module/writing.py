@@ -363,7 +363,9 @@ class Writer:
 
     def do_call(self, it, name):
         it.skip_promises()
-        result, called = it.type(), it.next()
+        result = it.type()
+        it.skip_parameters()
+        called = it.next()
         it.next('(')
         words = []
         while not it.takes(')'):

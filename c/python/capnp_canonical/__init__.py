@@ -8,7 +8,7 @@ segments. Bytes behind the frame at the front aren't looked at.
 
 Its bare words, which `copy_flat` gives, are read back by the calls whose names begin with `words_` alone. A call that takes a
 frame may SUCCEED on bare words, and then reads ANOTHER value, since the pointer to a root without pointers is also the table
-of a frame.
+of a frame. What is packed is unpacked first, by `unpack`.
 
 Bytes are any object with a buffer: bytes, bytearray, memoryview, mmap, an array of NumPy. They are read where they lie, and
 nobody may change them meanwhile. Each call that is refused raises `Error`. No call keeps anything, so calls may run in several
@@ -24,8 +24,8 @@ of this package or the one around it, or in the folder `lib` beside that; else t
 from capnp_canonical._answers import Error, Fault, Limits, Reason, Refusal, Size
 from capnp_canonical._calls import (
     check, copy, copy_flat, copy_flat_into, copy_into, frame_size, is_canonical, segments_check, segments_copy,
-    segments_copy_flat, segments_is_canonical, segments_size, size, words_check, words_copy, words_is_canonical,
-    words_size,
+    segments_copy_flat, segments_is_canonical, segments_size, size, unpack, unpack_into, words_check, words_copy,
+    words_is_canonical, words_size,
 )
 from capnp_canonical._frames import frames
 from capnp_canonical._library import version
@@ -33,8 +33,8 @@ from capnp_canonical._library import version
 __all__ = [
     'Error', 'Fault', 'Limits', 'Reason', 'Refusal', 'Size', 'check', 'copy', 'copy_flat', 'copy_flat_into', 'copy_into',
     'frame_size', 'frames', 'is_canonical', 'segments_check', 'segments_copy', 'segments_copy_flat',
-    'segments_is_canonical', 'segments_size', 'size', 'version', 'words_check', 'words_copy', 'words_is_canonical',
-    'words_size',
+    'segments_is_canonical', 'segments_size', 'size', 'unpack', 'unpack_into', 'version', 'words_check', 'words_copy',
+    'words_is_canonical', 'words_size',
 ]
 
 for _shown in Error, Fault, Limits, Reason, Refusal, Size:

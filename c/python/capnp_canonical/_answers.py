@@ -19,6 +19,11 @@ class Limits:
     """How many words of 8 bytes may be read, and how many a frame may have, below 2^64."""
 
     def __post_init__(self) -> None:
+        for name, number in ('nesting', self.nesting), ('words', self.words):
+            try:
+                index(number)
+            except TypeError:
+                raise TypeError(f'{name} is a number, and not {number!r}; no limit is the largest one') from None
         if not -2**31 <= index(self.nesting) < 2**31:
             raise ValueError(f'a nesting limit of {self.nesting}')
         if not 0 <= index(self.words) < 2**64:

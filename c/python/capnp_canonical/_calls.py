@@ -240,3 +240,38 @@ def frame_size(stream: ReadableBuffer, words: int = LIMITS.words) -> int:
     """How many bytes the frame at the front takes, of at most so many words. Its message isn't read."""
     with _frame(stream) as given:
         return measured(given.first, given.size, Limits(words=words).words)
+
+
+def _unpacked(given: _Given, to: Any, room: int) -> Tuple[bool, int]:
+    """Unpacks to an address with so much room: whether that was enough, and how many bytes the packed ones stand for."""
+    written = ctypes.c_size_t()
+    answer = library.capnp_canonical_unpack(given.first, given.second, to, room, written)
+    if answer not in (DONE, Refusal.NO_ROOM):
+        raise Error(answer)
+    return answer == DONE, written.value
+
+
+def unpack(packed: ReadableBuffer, words: int = LIMITS.words) -> bytes:
+    """What packed bytes stand for, as `capnp encode --packed` and pycapnp's `to_bytes_packed` write them: the frames of one or
+    more messages, which the other calls take, and `frames` one by one.
+
+    Two packed bytes stand for up to 2,048. So `Error` is raised where there are more than so many words, with the number
+    `Refusal.MESSAGE_TOO_LONG`, before memory is taken for them; and where the packed bytes are cut."""
+    words = Limits(words=words).words
+    with _frame(packed) as given:
+        _, size = _unpacked(given, None, 0)
+        if size // 8 > words:
+            raise Error(Refusal.MESSAGE_TOO_LONG)
+        to = ctypes.create_string_buffer(size)
+        _unpacked(given, to, size)
+    return ctypes.string_at(to, size)
+
+
+def unpack_into(to: WriteableBuffer, packed: ReadableBuffer) -> int:
+    """The same to the front of a buffer, which overlaps nothing of the packed bytes. Gives how many bytes are written. `Error`
+    says how many are wanted, where there is too little room, and nothing is written then."""
+    with _frame(packed) as given, Lent(to, writable=True) as lent:
+        has_room, size = _unpacked(given, lent.address, lent.size)
+    if not has_room:
+        raise Error(Refusal.NO_ROOM, wanted=size)
+    return size

@@ -97,6 +97,7 @@ def _load() -> ctypes.CDLL:
         ('frame_size', [at, size, u64, pointer(size)], u32),
         ('name', [u32, ctypes.c_char_p, size], size),
         ('reason_text', [u32, ctypes.c_char_p, size], size),
+        ('unpack', [at, size, at, size, pointer(size)], u32),
         ('version', [], u32),
     )
     for call, arguments, result in others:

@@ -5,7 +5,7 @@ use alloc::vec::Vec;
 use core::fmt;
 
 const DONE: u32 = 0;
-const NO_ROOM: u32 = 1;
+pub(crate) const NO_ROOM: u32 = 1;
 
 /// Why a call is refused. `{}` writes its name and what it says, as `Truncated: the bytes end within a frame`.
 #[derive(Clone, Copy, PartialEq, Eq, Hash)]
@@ -19,9 +19,9 @@ impl Error {
     pub const SEGMENT_IS_NOT_WHOLE_WORDS: Error = Error(3);
     /// A frame has more than 512 segments.
     pub const TOO_MANY_SEGMENTS: Error = Error(17);
-    /// A frame has more words than the limit.
+    /// A frame has more words than the limit, or packed bytes stand for more.
     pub const MESSAGE_TOO_LONG: Error = Error(18);
-    /// The bytes end within a frame.
+    /// The bytes end within a frame, or packed ones within a word or before a number.
     pub const TRUNCATED: Error = Error(19);
     /// There is no memory.
     pub const ALLOCATION_FAILED: Error = Error(32);

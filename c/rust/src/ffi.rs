@@ -25,5 +25,6 @@ extern "C" {
     pub fn capnp_canonical_segments_copy_flat(segments: *const RawSegment, count: usize, nesting: i32, words: u64, to: *mut u8, room: usize, written: *mut usize) -> u32;
     pub fn capnp_canonical_segments_check(segments: *const RawSegment, count: usize, nesting: i32, words: u64, is_canonical: *mut bool, fault: *mut RawFault) -> u32;
     pub fn capnp_canonical_segments_size(segments: *const RawSegment, count: usize, nesting: i32, words: u64, word_count: *mut u64, cap_count: *mut u32) -> u32;
+    pub fn capnp_canonical_unpack(packed: *const u8, packed_size: usize, to: *mut u8, room: usize, written: *mut usize) -> u32;
     pub fn capnp_canonical_version() -> u32;
 }

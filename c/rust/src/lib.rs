@@ -6,7 +6,7 @@
 //!
 //! Its bare words, which [`canonical_words`] gives, are read back by the module [`words`] alone. A call that takes a frame may
 //! **succeed** on bare words, and then reads **another** value, since the pointer to a root without pointers is also the table
-//! of a frame.
+//! of a frame. What is packed is unpacked first, by [`unpack`].
 //!
 //! The crate is `no_std`, with `alloc`; the feature `std`, on by default, makes an `Error` an `std::io::Error`.
 //!
@@ -39,6 +39,7 @@ extern crate std;
 mod answers;
 mod ffi;
 mod looks;
+mod packed;
 pub mod segments;
 mod stream;
 mod texts;
@@ -48,6 +49,7 @@ use alloc::vec::Vec;
 use answers::{append, done, fault_of, size_of};
 pub use answers::{Error, Fault, Reason, Size};
 pub use looks::looks_like;
+pub use packed::{unpack, unpack_into};
 pub use stream::{frames, Frame, Frames, StreamError};
 
 /// Within which limits a message is read. The defaults are those of `capnp::message::ReaderOptions`.
@@ -74,15 +76,19 @@ impl Default for Limits {
 }
 
 /// The canonical message of the frame at the front of a slice, as a frame of one segment.
-pub fn canonical_copy(frame: &[u8], limits: Limits) -> Result<Vec<u8>, Error> {
+pub fn canonical_copy(frame: impl AsRef<[u8]>, limits: Limits) -> Result<Vec<u8>, Error> {
     let mut to = Vec::new();
     canonical_copy_into(frame, limits, &mut to)?;
     Ok(to)
 }
 
 /// The same, appended to a vector, whose memory is so used again. Gives how many bytes that is. A refusal leaves it as it was.
-pub fn canonical_copy_into(frame: &[u8], limits: Limits, to: &mut Vec<u8>) -> Result<usize, Error> {
-    let frame = first_frame(frame, limits)?;
+pub fn canonical_copy_into(
+    frame: impl AsRef<[u8]>,
+    limits: Limits,
+    to: &mut Vec<u8>,
+) -> Result<usize, Error> {
+    let frame = first_frame(frame.as_ref(), limits)?;
     append(to, frame.len() + 8, |to, room, written| {
         // SAFETY: the slice is a pointer and its length, and `to` has this room.
         unsafe {
@@ -101,7 +107,7 @@ pub fn canonical_copy_into(frame: &[u8], limits: Limits, to: &mut Vec<u8>) -> Re
 
 /// The canonical message as bare words, without the table of a frame: the bytes to be hashed or signed. What is stored of them
 /// is read back by the module [`words`].
-pub fn canonical_words(frame: &[u8], limits: Limits) -> Result<Vec<u8>, Error> {
+pub fn canonical_words(frame: impl AsRef<[u8]>, limits: Limits) -> Result<Vec<u8>, Error> {
     let mut to = Vec::new();
     canonical_words_into(frame, limits, &mut to)?;
     Ok(to)
@@ -109,11 +115,11 @@ pub fn canonical_words(frame: &[u8], limits: Limits) -> Result<Vec<u8>, Error> {
 
 /// The same, appended to a vector. Gives how many bytes that is. A refusal leaves the vector as it was.
 pub fn canonical_words_into(
-    frame: &[u8],
+    frame: impl AsRef<[u8]>,
     limits: Limits,
     to: &mut Vec<u8>,
 ) -> Result<usize, Error> {
-    let frame = first_frame(frame, limits)?;
+    let frame = first_frame(frame.as_ref(), limits)?;
     append(to, frame.len(), |to, room, written| {
         // SAFETY: as in `canonical_copy_into`.
         unsafe {
@@ -132,7 +138,8 @@ pub fn canonical_words_into(
 
 /// Why and where the message of the frame at the front of a slice isn't canonical; `None` where it is one segment that holds
 /// the canonical words of a value and nothing else.
-pub fn check(frame: &[u8], limits: Limits) -> Result<Option<Fault>, Error> {
+pub fn check(frame: impl AsRef<[u8]>, limits: Limits) -> Result<Option<Fault>, Error> {
+    let frame = frame.as_ref();
     fault_of(|is_canonical, fault| {
         // SAFETY: the slice is a pointer and its length.
         unsafe {
@@ -150,12 +157,13 @@ pub fn check(frame: &[u8], limits: Limits) -> Result<Option<Fault>, Error> {
 
 /// Whether the message of the frame at the front of a slice is canonical. It is false too where the message isn't read, since a
 /// limit is met or the bytes are no frame; [`check`] says why.
-pub fn is_canonical(frame: &[u8], limits: Limits) -> bool {
+pub fn is_canonical(frame: impl AsRef<[u8]>, limits: Limits) -> bool {
     check(frame, limits) == Ok(None)
 }
 
 /// How large the message of the frame at the front of a slice is.
-pub fn size(frame: &[u8], limits: Limits) -> Result<Size, Error> {
+pub fn size(frame: impl AsRef<[u8]>, limits: Limits) -> Result<Size, Error> {
+    let frame = frame.as_ref();
     size_of(|words, capabilities| {
         // SAFETY: the slice is a pointer and its length.
         unsafe {
@@ -172,7 +180,8 @@ pub fn size(frame: &[u8], limits: Limits) -> Result<Size, Error> {
 }
 
 /// How many bytes the frame at the front takes, of at most so many words. Its message isn't read.
-pub fn frame_size(stream: &[u8], words: u64) -> Result<usize, Error> {
+pub fn frame_size(stream: impl AsRef<[u8]>, words: u64) -> Result<usize, Error> {
+    let stream = stream.as_ref();
     let mut size = 0;
     // SAFETY: the slice is a pointer and its length.
     done(unsafe {

@@ -6,13 +6,13 @@ use crate::{segments, Error, Fault, Limits, Size};
 use alloc::vec::Vec;
 
 /// The canonical words of the value that the words have.
-pub fn canonical_words(words: &[u8], limits: Limits) -> Result<Vec<u8>, Error> {
+pub fn canonical_words(words: impl AsRef<[u8]>, limits: Limits) -> Result<Vec<u8>, Error> {
     segments::canonical_words(&[words], limits)
 }
 
 /// The same, appended to a vector. Gives how many bytes that is. A refusal leaves the vector as it was.
 pub fn canonical_words_into(
-    words: &[u8],
+    words: impl AsRef<[u8]>,
     limits: Limits,
     to: &mut Vec<u8>,
 ) -> Result<usize, Error> {
@@ -20,16 +20,16 @@ pub fn canonical_words_into(
 }
 
 /// Why and where the words aren't canonical; `None` where they are the canonical words of a value and nothing else.
-pub fn check(words: &[u8], limits: Limits) -> Result<Option<Fault>, Error> {
+pub fn check(words: impl AsRef<[u8]>, limits: Limits) -> Result<Option<Fault>, Error> {
     segments::check(&[words], limits)
 }
 
 /// Whether the words are canonical. It is false too where they aren't read, since a limit is met or they are no message.
-pub fn is_canonical(words: &[u8], limits: Limits) -> bool {
+pub fn is_canonical(words: impl AsRef<[u8]>, limits: Limits) -> bool {
     segments::is_canonical(&[words], limits)
 }
 
 /// How large the message is.
-pub fn size(words: &[u8], limits: Limits) -> Result<Size, Error> {
+pub fn size(words: impl AsRef<[u8]>, limits: Limits) -> Result<Size, Error> {
     segments::size(&[words], limits)
 }

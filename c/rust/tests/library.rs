@@ -1,11 +1,13 @@
 //! The messages of tests/library/messages.txt, and what that file can't say.
 use capnp_canonical::{
     canonical_copy, canonical_words, canonical_words_into, check, frame_size, frames, is_canonical,
-    looks_like, segments, size, version, words, Error, Fault, Limits, Reason, Size,
+    looks_like, segments, size, unpack, unpack_into, version, words, Error, Fault, Limits, Reason,
+    Size,
 };
 use std::fs;
 
 const MESSAGES: &str = concat!(env!("CARGO_MANIFEST_DIR"), "/tests/messages.txt");
+const PACKED: &str = concat!(env!("CARGO_MANIFEST_DIR"), "/tests/packed.txt");
 /// A struct of three words, of which the last is zero.
 const ZERO_WORD: &str =
     "000000000400000000000000030000001111111111111111ffffffffffffffff0000000000000000";
@@ -276,6 +278,73 @@ fn a_vector_that_is_used_again() {
         Err(Error::TRUNCATED)
     );
     assert_eq!(to, bytes_of(ZERO_WORD_FLAT));
+}
+
+#[test]
+fn bytes_in_any_container() {
+    let frame = bytes_of(ZERO_WORD);
+    let limits = Limits::default();
+    let wanted = Ok(bytes_of(ZERO_WORD_FLAT));
+    assert_eq!(canonical_words(frame.as_slice(), limits), wanted);
+    assert_eq!(
+        canonical_words(std::rc::Rc::<[u8]>::from(frame.clone()), limits),
+        wanted
+    );
+    assert_eq!(
+        words::canonical_words(bytes_of(ZERO_WORD_FLAT), limits),
+        wanted
+    );
+    assert_eq!(canonical_words(frame, limits), wanted);
+}
+
+#[test]
+fn packed_bytes() -> Tested {
+    let text = fs::read_to_string(PACKED)?;
+    let (mut count, mut to) = (0, b"front".to_vec());
+    for line in text.lines().filter(|line| !line.starts_with('#')) {
+        let [name, packed, wanted] = line
+            .split(' ')
+            .collect::<Vec<_>>()
+            .try_into()
+            .map_err(|_| format!("not three words: {line}"))?;
+        let wanted = match wanted {
+            "Truncated" => Err(Error::TRUNCATED),
+            digits => Ok(bytes_of(digits)),
+        };
+        let packed = bytes_of(packed);
+        assert_eq!(unpack(&packed, 256), wanted, "{name}");
+        to.truncate(5);
+        let written = unpack_into(&packed, 256, &mut to);
+        assert_eq!(written.is_ok(), wanted.is_ok(), "{name}");
+        assert_eq!(to[..5], *b"front", "{name}");
+        assert_eq!(to[5..], wanted.unwrap_or_default(), "{name}");
+        assert_eq!(to.len(), 5 + written.unwrap_or(0), "{name}");
+        count += 1;
+    }
+    assert_eq!(count, 22);
+    Ok(())
+}
+
+#[test]
+fn packed_messages() -> Tested {
+    // three messages by `capnp convert binary:packed`
+    let limits = Limits::default();
+    let stream = unpack(
+        bytes_of("10021001012a10021001012a10021001012a"),
+        limits.words,
+    )?;
+    let words: Result<Vec<_>, _> = frames(&stream, limits.words)
+        .map(|frame| canonical_words(frame?, limits))
+        .collect();
+    assert_eq!(
+        words,
+        Ok(vec![bytes_of("00000000010000002a00000000000000"); 3])
+    );
+    let zeros = [0_u8, 255].repeat(40_000);
+    assert_eq!(unpack(&zeros[..200], 25_600), Ok(vec![0; 8 * 25_600]));
+    assert_eq!(unpack(&zeros[..200], 25_599), Err(Error::MESSAGE_TOO_LONG));
+    assert_eq!(unpack(&zeros, limits.words), Err(Error::MESSAGE_TOO_LONG));
+    Ok(())
 }
 
 #[test]

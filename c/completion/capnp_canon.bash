@@ -1,0 +1,31 @@
+# Completion of capnp_canon for bash: its commands, options and files. tests/completion.py compares it with `--help`.
+_capnp_canon() {
+    local word=${COMP_WORDS[COMP_CWORD]} before=${COMP_WORDS[COMP_CWORD - 1]} command='' at
+    COMPREPLY=()
+    case $before in
+    --nesting) return ;;
+    --words) COMPREPLY=($(compgen -W none -- "$word")) && return ;;
+    esac
+    for ((at = 1; at < COMP_CWORD; at++)); do
+        case ${COMP_WORDS[at]} in
+        canon | check | size) command=${COMP_WORDS[at]} && break ;;
+        esac
+    done
+    local options='--packed --from-flat --nesting --words --help --version'
+    case $command in
+    canon) options="--flat --pack --hex $options" ;;
+    check) options="--quiet --flat $options" ;;
+    size) options="--flat $options" ;;
+    *) options="--flat --pack --hex --quiet $options" ;;
+    esac
+    if [[ $word == -* ]]; then
+        COMPREPLY=($(compgen -W "$options" -- "$word"))
+    elif [[ $command ]]; then
+        compopt -o filenames 2>/dev/null
+        local IFS=$'\n'
+        COMPREPLY=($(compgen -f -- "$word"))
+    else
+        COMPREPLY=($(compgen -W 'canon check size' -- "$word"))
+    fi
+}
+complete -F _capnp_canon capnp_canon
