@@ -20,7 +20,7 @@ from hostile import STREAM
 from packing import packed
 
 RUNS = (['canon'], STREAM), (['canon', '--flat'], STREAM), (['canon', '--packed', '--pack'], packed(STREAM)), (['check'], STREAM), (['size'], STREAM)
-REFUSED = re.compile(r'(message (\d+): )?refused AllocationFailed\n')
+REFUSED = re.compile(r'(message (\d+) at byte \d+: )?refused AllocationFailed\n')
 
 
 class Preloaded:
