@@ -88,7 +88,7 @@ COMPARED = {
     'sge': of_signed(lambda a, b: a >= b),
 }
 NUMBERS = {
-    'ctpop': lambda a, b, w: bin(a).count('1'), 'cttz': lambda a, b, w: (a & -a).bit_length() - 1 if a else w, 'ctlz': lambda a, b, w: w - a.bit_length(),
+    'abs': lambda a, b, w: abs(signed(a, w)), 'ctpop': lambda a, b, w: bin(a).count('1'), 'cttz': lambda a, b, w: (a & -a).bit_length() - 1 if a else w, 'ctlz': lambda a, b, w: w - a.bit_length(),
     'bswap': lambda a, b, w: int.from_bytes(a.to_bytes(w // 8, 'little'), 'big'), 'umin': lambda a, b, w: min(a, b), 'umax': lambda a, b, w: max(a, b),
     'smin': of_signed(min), 'smax': of_signed(max), 'uadd.sat': lambda a, b, w: min(a + b, 2**w - 1), 'usub.sat': lambda a, b, w: max(a - b, 0),
 }
@@ -158,6 +158,8 @@ def remembering(cases):
                   lambda a, b, w=width: max(a, b) % 2**w | b >> w << w, edges(64)[:40])
         cases.add(f'%x = alloca i64, align 8\nstore i64 %a, ptr %x, align 8\nstore i{width} 0, ptr %x, align 1\n%r = load i64, ptr %x, align 8\nret i64 %r', lambda a, b, w=width: a >> w << w, edges(64)[:12])
         cases.add(f'%v = trunc i64 %a to i{width}\n%r = zext i{width} %v to i64\nret i64 %r', lambda a, b, w=width: a % 2**w, edges(64)[:12])
+    # a cast that nothing uses, nor what is read for it alone
+    cases.add('%at = alloca i64, align 8\nstore i64 %a, ptr %at, align 8\n%v = load i8, ptr %at, align 8\n%u = trunc i8 %v to i1\nret i64 %b', lambda a, b: b, [(5, 8)])
     # what is read before a write is what stood there before
     cases.add('%at = alloca i64, align 8\nstore i64 %a, ptr %at, align 8\n%old = load i64, ptr %at, align 8\nstore i64 %b, ptr %at, align 8\n%new = load i64, ptr %at, align 8\n'
               '%r = sub i64 %old, %new\nret i64 %r', lambda a, b: a - b, [(9, 4), (4, 9)])
@@ -300,7 +302,7 @@ def counting(cases):
         if word == 'bswap' and width == 8:
             continue
         cut, (a, b) = narrowed(width, 'a', 'b')
-        given = f'i{width} {a}, i{width} {b}' if word[:1] in 'us' else f'i{width} {a}, i1 false' if word in ('cttz', 'ctlz') else f'i{width} {a}'
+        given = f'i{width} {a}, i{width} {b}' if word[:1] in 'us' else f'i{width} {a}, i1 false' if word in ('abs', 'cttz', 'ctlz') else f'i{width} {a}'
         cases.add(f'{cut}%r = call i{width} @llvm.{word}.i{width}({given})\n{widened(width, "%r")}', lambda x, y, count=count, width=width: count(x % 2**width, y, width) % 2**width, edges(width))
 
 
@@ -317,7 +319,7 @@ REFUSED = [BODY.format(it) for it in (
     '%x = cmpxchg ptr null, i64 1, i64 2 seq_cst seq_cst, align 8', '%x = load volatile i64, ptr null, align 8', '%x = load atomic i64, ptr null seq_cst, align 8',
     'store volatile i64 1, ptr null, align 8', 'store atomic i64 1, ptr null seq_cst, align 8', '%x = load i1, ptr null, align 1', 'store i1 true, ptr null, align 1', '%x = load double, ptr null, align 8',
     '%x = load ptr addrspace(1), ptr null, align 8', '%p = inttoptr i64 %a to ptr\n  %x = call i64 %p(i64 1)', 'call void asm sideeffect "nop", ""()', '%x = va_arg ptr null, i64', '%x = udiv <16 x i8> zeroinitializer, zeroinitializer',
-    '%x = add <16 x i8> zeroinitializer, zeroinitializer', '%x = call i64 @llvm.fshl.i64(i64 %a, i64 %b, i64 3)', '%x = call i64 @llvm.abs.i64(i64 %a, i1 false)', '%x = call { i64, i1 } @llvm.uadd.with.overflow.i64(i64 %a, i64 %b)',
+    '%x = add <16 x i8> zeroinitializer, zeroinitializer', '%x = call i64 @llvm.fshl.i64(i64 %a, i64 %b, i64 3)', '%x = call i64 @llvm.bitreverse.i64(i64 %a)', '%x = call { i64, i1 } @llvm.uadd.with.overflow.i64(i64 %a, i64 %b)',
     'call void @llvm.memset.p0.i64(ptr null, i8 0, i64 8, i1 true)', 'call void @llvm.memcpy.p0.p0.i64(ptr null, ptr null, i64 8, i1 true)', '%x = extractelement <16 x i8> zeroinitializer, i64 0',
     '%x = insertelement <16 x i8> zeroinitializer, i8 1, i64 0', '%x = shufflevector <16 x i8> zeroinitializer, <16 x i8> poison, <2 x i32> <i32 1, i32 0>', '%x = getelementptr { i64, i64 }, ptr null, i64 0, i32 1',
     '%x = getelementptr i8, ptr null, i32 1', 'musttail call void @test_0(i64 1, i64 2)', 'invoke void @test_0() to label %start unwind label %start', 'indirectbr ptr null, [label %start]', 'resume { ptr, i32 } poison',

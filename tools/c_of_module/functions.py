@@ -17,6 +17,9 @@ OUTSIDE = {
     '__sysv_signal': 'c_signal', '__xpg_strerror_r': 'c_strerror',
 }
 
+# A cast of a number, and the name of its result.
+CAST = re.compile(r'(%(?:"[^"]*"|[-\w.$]+)) = (?:trunc|zext|sext) i\d+ %(?:"[^"]*"|[-\w.$]+) to i\d+$')
+
 
 class Signature:
     def __init__(self, module, line):
@@ -83,8 +86,7 @@ class Function:
             elif text:
                 lines.append(text.strip())
         self.choices = {label: [self.choice(line) for line in lines if ' = phi ' in line] for label, lines in self.blocks.items()}
-        self.uses, self.places = Counter(), {}
-        self.count_uses()
+        self.leave_unused_casts()
         self.locals = dict(self.local(Line(line)) for lines in self.blocks.values() for line in lines if ' = alloca ' in line)
         self.slots = self.shared()
 
@@ -107,7 +109,17 @@ class Function:
         it.end()
         return name, kind, values
 
+    def leave_unused_casts(self):
+        """Takes out the casts of numbers whose result nothing uses, so that nothing is kept for these alone; and counts what is used."""
+        while True:
+            self.count_uses()
+            unused = {line for lines in self.blocks.values() for line in lines if (cast := CAST.match(line)) and not self.uses[cast[1]]}
+            if not unused:
+                return
+            self.blocks = {label: [line for line in lines if line not in unused] for label, lines in self.blocks.items()}
+
     def count_uses(self):
+        self.uses, self.places = Counter(), {}
         for label, lines in self.blocks.items():
             for _, _, values in self.choices[label]:
                 for before, value in values.items():
