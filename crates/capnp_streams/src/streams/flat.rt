@@ -15,36 +15,6 @@ use capnp_framing::devices::{Input, Output};
 use capnp_framing::framing::{OwnedSegments, read_segment_into};
 use std::alloc::Global;
 
-/// Reads the only message of an input and answers to it, as `run_flat` has it.
-fn answer_flat<R: Input, W: Output>(
-    alloc: Global,
-    task: Task,
-    input: &mut R,
-    output: &mut W,
-) -> Result<bool, Fault>
-    requires input { R.has_failed input.old ≡ false }
-    requires output { W.has_failed output.old ≡ false }
-    ensures done { IfOk result (IsFlatDone task (stage_of R.Input W.Output input.old output.old)
-        (stage_of R.Input W.Output input.new output.new)) }
-    ensures end { OnOk result (IsAtEnd (R.remaining input.new)) }
-    ensures whole { OnOk result (KeepsWhole (R.ends_whole input.old) (R.ends_whole input.new)) }
-    ensures reads { OnOk result (R.has_failed input.new ≡ false) }
-    ensures works { OnOk result (W.has_failed output.new ≡ false) }
-    ensures refused { IfErr result (λ fault. IsWriteFault W.Output output.new fault
-        ⊎ (StopsFlat task (R.remaining input.old) (R.has_failed input.new) fault
-        × IsUnwritten W.Output output.old output.new)) }
-    ensures failed { IfErr result (λ fault. R.has_failed input.new ≡ true
-        → fault ≡ Fault.Frame ReadFailed) }
-    ensures taken { IfErr result (HasTakenFlat R.Input input.old input.new) }
-{
-    let mut segments = OwnedSegments::new(alloc);
-    let mut memory = Memory::new(alloc);
-    match read_segment_into(input, words_of(task.limits), &mut segments) {
-        Ok(()) => answer(&mut memory, task, &segments, output),
-        Err(error) => Err(Fault::Frame(error)),
-    }
-}
-
 /// Does a task with the one message that an input is, writes the answer to an output, and gives whether it is a yes.
 ///
 /// All that the input has, to its end, are the words of the only segment of the message, of at most so many words as
@@ -77,5 +47,10 @@ pub fn run_flat<R: Input, W: Output>(
         → fault ≡ Fault.Frame ReadFailed) }
     ensures taken { IfErr result (HasTakenFlat R.Input input.old input.new) }
 {
-    answer_flat(alloc, task, input, output)
+    let mut segments = OwnedSegments::new(alloc);
+    let mut memory = Memory::new(alloc);
+    match read_segment_into(input, words_of(task.limits), &mut segments) {
+        Ok(()) => answer(&mut memory, task, &segments, output),
+        Err(error) => Err(Fault::Frame(error)),
+    }
 }
