@@ -62,6 +62,7 @@ WORDS = (
     ('Result Ok Err result_ok', '`Result A E`: `Ok x`, `Err e`', 'an answer, or a refusal; `result_ok` is the answer as an `Option`'),
     ('IfOk IfErr', '`IfOk r P`, `IfErr r P`', 'if r is `Ok x`, P x; if r is `Err e`, P e'),
     ('OnOk OnErr', '`OnOk r P`, `OnErr r P`', 'P, if r is an `Ok`; P, if it is an `Err`'),
+    ('MatchOption', '`MatchOption o P Q`', 'P, if o is `None`; Q x, if o is `Some x`'),
     ('IsOk IsTrue', '`IsOk r`, `IsTrue b`', 'r is `Ok` of something; b is true'),
     ('AllByRecursion', '`AllByRecursion P xs`', 'P of each element'),
     ('from_le_bytes w64', '`from_le_bytes w64`', 'the number with these eight bytes, the lowest first'),

@@ -3,10 +3,10 @@ ghost use Rattle.std.specs.Prelude.{◌≡◌, ◌⊎◌, ◌∷◌, ◌+◌, �
 ghost use Rattle.capnp_words.specs.declared.error.ErrorKind.TheVariants.{AllocationFailed};
 ghost use Rattle.capnp_words.specs.Meter.{FitsIn};
 ghost use Rattle.capnp_format.specs.Bytes.{message};
-ghost use Rattle.capnp_format.specs.Canonical.{encoding, trim, word_count};
+ghost use Rattle.capnp_format.specs.Canonical.{IsFree, encoding, trim, word_count};
 ghost use Rattle.capnp_format.specs.Means.{Means};
 ghost use Rattle.capnp_format.specs.Segments.{IsPlace};
-ghost use Rattle.capnp_format.specs.Tree.{Tree, capabilities};
+ghost use Rattle.capnp_format.specs.Tree.{Tree};
 ghost use Rattle.capnp_arena_traits.specs.Allocations.{max_segment_words};
 ghost use Rattle.capnp_objects.specs.Source.{levels};
 ghost use Rattle.capnp_objects.specs.Spending.{Paid, pointers_in};
@@ -38,13 +38,13 @@ pub fn heap_copy_at<S: ReaderSegments>(
     ensures exactly_where { (t : Tree) (c : ℕ)
         → Means (message (⟦<ReaderArenaImpl<S> as ReaderArena>⟧.segments arena.now))
         (levels arena.now.nesting_limit) place.segment place.word t c
-        → capabilities t ≡ 0 → FitsIn lim.old.left c
+        → IsFree t → FitsIn lim.old.left c
         → 1 + word_count (trim t) ≤ max_segment_words
         → IfErr result (λ k. k ≡ AllocationFailed) }
     ensures exactly_what { IfOk result (λ made. (t : Tree) × (c : ℕ)
         × Means (message (⟦<ReaderArenaImpl<S> as ReaderArena>⟧.segments arena.now))
         (levels arena.now.nesting_limit) place.segment place.word t c
-        × (capabilities t ≡ 0) × Paid true lim.old lim.new c (pointers_in t)
+        × IsFree t × Paid true lim.old lim.new c (pointers_in t)
         × ((⟦<CanonicalCopy as BuilderArena>⟧.view made).words ≡ encoding (trim t) ∷ [])) }
     ensures asked { IfOk result (λ made. (t : Tree) (c : ℕ)
         → Means (message (⟦<ReaderArenaImpl<S> as ReaderArena>⟧.segments arena.now))

@@ -4,10 +4,10 @@ ghost use Rattle.std.specs.Prelude.{◌≡◌, ◌↔◌, ◌⊎◌, ◌∷◌, 
 ghost use Rattle.capnp_words.specs.declared.error.ErrorKind.TheVariants.{AllocationFailed};
 ghost use Rattle.capnp_words.specs.Meter.{FitsIn};
 ghost use Rattle.capnp_format.specs.Bytes.{message};
-ghost use Rattle.capnp_format.specs.Canonical.{Stands, charge, encoding, trim, word_count};
+ghost use Rattle.capnp_format.specs.Canonical.{IsFree, Stands, charge, encoding, trim, word_count};
 ghost use Rattle.capnp_format.specs.Means.{Means};
 ghost use Rattle.capnp_format.specs.Segments.{AreWords, IsPlace, segment, word_at};
-ghost use Rattle.capnp_format.specs.Tree.{Null, Tree, capabilities, depth};
+ghost use Rattle.capnp_format.specs.Tree.{Null, Tree, depth};
 ghost use Rattle.capnp_arena_traits.specs.Allocations.{max_segment_words, one_more};
 ghost use Rattle.capnp_arena_traits.specs.Limits.{IsSmall};
 ghost use Rattle.capnp_framing.specs.Writing.{Prints};
@@ -306,14 +306,14 @@ pub fn canonical_copy_at<A: Allocator, S: ReaderSegments>(
     ensures exactly_where { (t : Tree) (c : ℕ)
         → Means (message (⟦<ReaderArenaImpl<S> as ReaderArena>⟧.segments arena.now))
         (levels arena.now.nesting_limit) place.segment place.word t c
-        → capabilities t ≡ 0 → FitsIn lim.old.left c
+        → IsFree t → FitsIn lim.old.left c
         → 1 + word_count (trim t) ≤ max_segment_words
         → IfErr result (λ e. (e.0 ≡ AllocationFailed)
         × (A.refusals e.1 ≡ one_more (A.refusals allocator))) }
     ensures exactly_what { IfOk result (λ made. (t : Tree) × (c : ℕ)
         × Means (message (⟦<ReaderArenaImpl<S> as ReaderArena>⟧.segments arena.now))
         (levels arena.now.nesting_limit) place.segment place.word t c
-        × (capabilities t ≡ 0) × Paid true lim.old lim.new c (pointers_in t)
+        × IsFree t × Paid true lim.old lim.new c (pointers_in t)
         × ((⟦<BuilderArenaImpl<A> as BuilderArena>⟧.view made).words
         ≡ encoding (trim t) ∷ [])) }
     ensures asked { IfOk result (λ made. (n : ℕ)

@@ -44,10 +44,11 @@ use Rattle.capnp_edits.specs.declared.edit.tasks.StructChange.{StructChange}
 use Rattle.capnp_edits.specs.declared.edit.tasks.StructChange.TheVariants.{Bits, Content}
 use Rattle.capnp_edits.specs.declared.edit.path.PathEnd.TheVariants.{Pointer as AtPointer, Element as AtElement}
 use Rattle.capnp_edits.specs.Tasks.{task_of}
-use Rattle.capnp_edits.specs.Edits.{refusal_of, bits_of, value_of, Making, becomes, denied, struct_with, struct_changed, made_at, is_of_path, DoesAt, Leaves, as_it_stands, is_done, is_denied, is_allocated, is_not_allocated, leads_to, are_written, are_outside, PutsBits, Takes, leads_nowhere, IsApplied, refusals_after}
+use Rattle.capnp_edits.specs.Edits.{refusal_of, bits_of, value_of, Making, becomes, denied, struct_with, struct_changed, made_at, is_of_path, DoesAt, Leaves, are_written, are_outside, PutsBits, Takes, IsApplied, refusals_after}
 use Rattle.capnp_edits.specs.Steps.{DoesThere, IsDoneAt, LeadsThere}
 use Rattle.capnp_edits.proofs.Steps.{first, same_some, struct_of}
 use Rattle.capnp_edits.proofs.Taken.{KeepsLengths, writes}
+use Rattle.capnp_edits.proofs.Ways.{as_it_stands, is_allocated, is_denied, is_done, is_not_allocated, leads_nowhere, leads_to, takes}
 use Rattle.capnp_edits.proofs.Walks.{found-append, update-append}
 
 -- What is done where a task is, at a pointer, whatever that means; and what an edit's task makes, if its numbers are in range.
@@ -258,8 +259,8 @@ at_pointer : (S R : Segments) (e : Edit) (place : PointerPlace) (making : Making
 at_pointer S R e place making r t x makes leads end_value forest does = stands does.left (subst (λ m. Leaves m r does.left) (sym makes) does.leaves) does.stands
   where
     stands : (o : Option Tree) → Leaves (made (task_of e.op) (PointerTo x)) r o → MatchOption o (R ≡ S) (IsReplaced S R place.segment place.word x) → (u : Tree) × IsForest R u × Takes e r t u
-    stands (Some y) left replaced = (update t (path_of e.path.now) y, forest_updated S R t (path_of e.path.now) place.segment place.word x y forest leads replaced, leads_to (PointerTo x) (Some y) end_value left refl)
-    stands None left same = (t, subst (λ Q. IsForest Q t) (sym same) forest, leads_to (PointerTo x) None end_value left refl)
+    stands (Some y) left replaced = (update t (path_of e.path.now) y, forest_updated S R t (path_of e.path.now) place.segment place.word x y forest leads replaced, takes e r t (leads_to (PointerTo x) (Some y) end_value left refl))
+    stands None left same = (t, subst (λ Q. IsForest Q t) (sym same) forest, takes e r t (leads_to (PointerTo x) None end_value left refl))
 
 pub applied_pointer : (S R : Segments) (e : Edit) (place : PointerPlace) (task : Task) (r : Option ErrorKind) → task_of e.op ≡ Some task →
     ((t : Tree) → IsStored S 0 0 t → IsPathFound S 0 0 t (path_of e.path.now) (Some (AtPointer place))) → Does S R place task r → IsApplied (Takes e r) S R
@@ -299,12 +300,12 @@ at_element S R e s n r t f ws ts is wide stored end_value forest makes (are_writ
     ap (λ p. update t p y) f.path_is ∙ update-append t f.front (Element f.index ∷ []) list y f.end_value in (
       update t f.front (Structs d q (put_struct f.elements f.index y)),
       forest_updated S R t f.front f.list_segment f.list_at list (Structs d q (put_struct f.elements f.index y)) forest f.leads replaced,
-      leads_to (ElementOf (Struct ws ts)) (Some y) end_value (as_it_stands (is_done y (makes ∙ field_there n ws ts within) done refl)) (sym same),
+      takes e r t (leads_to (ElementOf (Struct ws ts)) (Some y) end_value (as_it_stands (is_done y (makes ∙ field_there n ws ts within) done refl)) (sym same)),
     )
 at_element S R e s n r t f ws ts is wide stored end_value forest makes (are_outside far named same) =
     let g = bits_of n in
     let past : 64 * length ws < g.start + g.bits = rw wide far in
-    (t, subst (λ Q. IsForest Q t) (sym same) forest, leads_to (ElementOf (Struct ws ts)) None end_value (as_it_stands (is_denied NoSuchPlace (makes ∙ field_past n ws ts past) named refl)) refl)
+    (t, subst (λ Q. IsForest Q t) (sym same) forest, takes e r t (leads_to (ElementOf (Struct ws ts)) None end_value (as_it_stands (is_denied NoSuchPlace (makes ∙ field_past n ws ts past) named refl)) refl))
 
 -- what a path leads to that leads to an element
 pub element_end : (S : Segments) (e : Edit) (s : ExistingStruct) (t : Tree) (f : IsElementFound S 0 0 t (path_of e.path.now) s) (ws : List ℕ) (ts : Trees) → struct_at f.elements f.index ≡ Struct ws ts → found t (path_of e.path.now) ≡ Some (ElementOf (Struct ws ts))
@@ -349,19 +350,20 @@ none_applied S e s task is_task other leads t forest =
     let f = leads t (forest_stored S t forest) in
     let (ws, ts, is) = element_struct f.elements f.index f.counts in
     let x : Tree = Struct ws ts in
-    (t, forest, leads_to (ElementOf x) None (element_end S e s t f ws ts is) (as_it_stands (is_denied NoSuchPlace (ap (λ o. made o (ElementOf x)) is_task ∙ none_made task x other) refl refl)) refl)
+    (t, forest, takes e (Some NoSuchPlace) t (leads_to (ElementOf x) None (element_end S e s t f ws ts is) (as_it_stands (is_denied NoSuchPlace (ap (λ o. made o (ElementOf x)) is_task ∙ none_made task x other) refl refl)) refl))
 
 -- numbers that are out of range
 pub out_applied : (S : Segments) (e : Edit) → task_of e.op ≡ None → IsApplied (Takes e (Some NoSuchPlace)) S S
-out_applied S e out t forest = (t, forest, takes (found t (path_of e.path.now)) refl)
+out_applied S e out t forest = (t, forest, end (found t (path_of e.path.now)) refl)
   where
-    takes : (o : Option EndValue) → found t (path_of e.path.now) ≡ o → Takes e (Some NoSuchPlace) t t
-    takes (Some end_value) is = leads_to end_value None is (as_it_stands (is_denied NoSuchPlace (ap (λ x. made x end_value) out) refl refl)) refl
-    takes None is = leads_nowhere is refl refl
+    end : (o : Option EndValue) → found t (path_of e.path.now) ≡ o → Takes e (Some NoSuchPlace) t t
+    end (Some end_value) is = takes e (Some NoSuchPlace) t (leads_to end_value None is (as_it_stands (is_denied NoSuchPlace (ap (λ x. made x end_value) out) refl refl)) refl)
+    end None is = takes e (Some NoSuchPlace) t (leads_nowhere is refl refl)
 
 -- nowhere
 pub applied_nowhere : (S : Segments) (e : Edit) → ((t : Tree) → IsStored S 0 0 t → IsPathFound S 0 0 t (path_of e.path.now) None) → IsApplied (Takes e (Some NoSuchPlace)) S S
-applied_nowhere S e none t forest = (t, forest, leads_nowhere (ap (found t) (sym (append-nil (path_of e.path.now))) ∙ none t (forest_stored S t forest) []) refl refl)
+applied_nowhere S e none t forest =
+    (t, forest, takes e (Some NoSuchPlace) t (leads_nowhere (ap (found t) (sym (append-nil (path_of e.path.now))) ∙ none t (forest_stored S t forest) []) refl refl))
 
 -- a forest has a root
 pub no_forest : (S : Segments) (e : Edit) (r : Option ErrorKind) → (1 ≤ length (segment S 0) → ⊥) → IsApplied (Takes e r) S S

@@ -48,13 +48,14 @@ use Rattle.capnp_edits.specs.declared.edit.copying.Wanted.{Wanted}
 use Rattle.capnp_edits.specs.declared.edit.copying.Wanted.TheVariants.{Value, Struct as AStruct, List as AList}
 use Rattle.capnp_edits.specs.declared.edit.tasks.Task.TheVariants.{CopyRoot}
 use Rattle.capnp_edits.specs.Sources.{root_of, once_at_root, as_wanted, HasRoot, IsRootReader, Copies, IsRootless, IsWithheld, HasNothingToCopy, Sections, ListElements, LeadsToStruct, LeadsToList, OfWanted, CopiedOrRefused}
-use Rattle.capnp_edits.specs.Edits.{as_it_stands, refusal_of, is_of_path, refusals_after, CopiesRoot, root_copied, root_not_copied, root_unread, is_copied, is_not_copied, is_unread}
+use Rattle.capnp_edits.specs.Edits.{refusal_of, is_of_path, refusals_after, CopiesRoot, root_copied, root_not_copied, root_unread}
 use Rattle.capnp_edits.specs.Steps.{result_of, CopiesWhole, IsDoneAt}
 use Rattle.capnp_edits.proofs.Applied.{Does, of_allocation, of_no_place, named_refusal, never_refused}
 use Rattle.capnp_edits.proofs.CopiedStruct.{CanBeCopiedAs, struct_at, struct_reads, struct_refused, struct_given, struct_fits}
 use Rattle.capnp_edits.proofs.CopiedList.{elements_read, list_at, list_reads, list_refused, list_given, list_small, list_fits}
 use Rattle.capnp_edits.proofs.ListReads.{list_read_as}
 use Rattle.capnp_edits.proofs.Steps.{same_some}
+use Rattle.capnp_edits.proofs.Ways.{as_it_stands, is_copied, is_not_copied, is_unread}
 use Rattle.capnp_making.specs.Near.{HasOwnRoom}
 use Rattle.capnp_widening.specs.Rooms.{is_allocation_name}
 

@@ -58,7 +58,7 @@ use Rattle.capnp_edits.specs.declared.edit.tasks.StructChange.TheVariants.{Bits,
 use Rattle.capnp_edits.specs.Tasks.{task_of}
 use Rattle.capnp_edits.specs.Paths.{path_of, found, IsElementFound, ElementOf}
 use Rattle.capnp_edits.specs.Sources.{root_of, once_at_root, HasRoot, IsRootReader, Sections, LeadsToStruct, no_struct, a_struct, ContentRead, ContentFitsBehind, HasNothingToCopy, FilledOrRefused}
-use Rattle.capnp_edits.specs.Edits.{as_it_stands, refusal_of, bits_of, struct_changed, fills, is_of_path, PutsBits, FillsAt, Changes, all_filled, first_filled, none_filled, refusals_after, IsApplied, Takes, leads_to, is_filled, is_half_filled, is_not_filled, DoesAt}
+use Rattle.capnp_edits.specs.Edits.{refusal_of, bits_of, struct_changed, fills, is_of_path, PutsBits, FillsAt, Changes, all_filled, first_filled, none_filled, refusals_after, IsApplied, Takes, DoesAt}
 use Rattle.capnp_edits.specs.Steps.{FillsThere, IsStructAt, StopsFilling, FitsAt, IsRefusedAt, TakesForChange, IsDoneAt, IsChanged, result_of}
 use Rattle.capnp_edits.specs.declared.edit.path.PathEnd.TheVariants.{Pointer as AtPointer, Element as AtElement}
 use Rattle.capnp_edits.proofs.Taken.{bits_lengths, copy_taken, writes}
@@ -67,6 +67,7 @@ use Rattle.capnp_edits.proofs.Copied.{where_read}
 use Rattle.capnp_edits.proofs.CopiedStruct.{struct_at as source_at, whole_words, whole_bits, struct_suits}
 use Rattle.capnp_edits.proofs.Steps.{same_some, first, struct_of}
 use Rattle.capnp_edits.proofs.Walks.{update-append}
+use Rattle.capnp_edits.proofs.Ways.{as_it_stands, is_filled, is_half_filled, is_not_filled, leads_to, takes}
 use Rattle.capnp_objects.proofs.Followed.{entered_leads}
 
 -- Content isn't copied over a struct, or not all of it; and the words that are taken for it.
@@ -359,9 +360,9 @@ filled_element S R e s source r is leads h t forest =
         ap (λ p. update t p y) f.path_is ∙ update-append t f.front (Element f.index ∷ []) list y f.end_value in (
           update t f.front (Structs d q (put_struct f.elements f.index y)),
           forest_updated S R t f.front f.list_segment f.list_at list (Structs d q (put_struct f.elements f.index y)) forest f.leads now,
-          leads_to (ElementOf (Struct ws ts)) (Some y) end_value
+          takes e r t (leads_to (ElementOf (Struct ws ts)) (Some y) end_value
               (as_it_stands (is_filled source d q y makes
-              (h.content, record { section = vs; holds = holds; is_filled = refl }, counts) done refl)) (sym path),
+              (h.content, record { section = vs; holds = holds; is_filled = refl }, counts) done refl)) (sym path)),
         )
     done_there stored f ws ts at there end_value makes (first_filled h k fewer null why named) =
         let d : ℕ = s.size.data_words in
@@ -375,12 +376,12 @@ filled_element S R e s source r is leads h t forest =
         ap (λ p. update t p y) f.path_is ∙ update-append t f.front (Element f.index ∷ []) list y f.end_value in (
           update t f.front (Structs d q (put_struct f.elements f.index y)),
           forest_updated S R t f.front f.list_segment f.list_at list (Structs d q (put_struct f.elements f.index y)) forest f.leads replaced,
-          leads_to (ElementOf (Struct ws ts)) (Some y) end_value
+          takes e r t (leads_to (ElementOf (Struct ws ts)) (Some y) end_value
               (as_it_stands (is_half_filled source d q k y makes
-              (h.content, record { section = vs; holds = holds; is_filled = refl }, fewer, why) named refl)) (sym path),
+              (h.content, record { section = vs; holds = holds; is_filled = refl }, fewer, why) named refl)) (sym path)),
         )
     done_there stored f ws ts at there end_value makes (none_filled k unread same named) =
-        (t, subst (λ Q. IsForest Q t) (sym same) forest, leads_to (ElementOf (Struct ws ts)) None end_value (as_it_stands (is_not_filled source s.size.data_words s.size.pointers k makes unread named refl)) refl)
+        (t, subst (λ Q. IsForest Q t) (sym same) forest, takes e r t (leads_to (ElementOf (Struct ws ts)) None end_value (as_it_stands (is_not_filled source s.size.data_words s.size.pointers k makes unread named refl)) refl))
 
 -- a change of an element
 pub element_applied : (S R : Segments) (e : Edit) (s : ExistingStruct) (change : StructChange) (r : Option ErrorKind) → task_of e.op ≡ Some (InStruct change) → ((t : Tree) → IsStored S 0 0 t → IsElementFound S 0 0 t (path_of e.path.now) s) → Changes S R s change r →

@@ -2,6 +2,7 @@ pub mod Tasks
 pub mod Walks
 pub mod Steps
 pub mod Taken
+pub mod Ways
 pub mod Applied
 pub mod Fields
 pub mod Folded

@@ -53,12 +53,13 @@ use Rattle.capnp_edits.specs.declared.edit.tasks.Task.TheVariants.{Search}
 use Rattle.capnp_edits.specs.declared.edit.tasks.Sought.{Sought}
 use Rattle.capnp_edits.specs.declared.edit.tasks.Sought.TheVariants.{Struct as ForStruct, List as ForList, StructList as ForStructs, Text as ForText, Data as ForData}
 use Rattle.capnp_edits.specs.Tasks.{is_small_default, is_in_range}
-use Rattle.capnp_edits.specs.Edits.{refusal_of, Making, allocates, becomes, nowhere, made_of_found, looked_for, with_default, default_for, is_of_path, Yields, is_done, is_denied, is_allocated, is_not_allocated, as_it_stands, default_put, default_dropped, DoesAt}
+use Rattle.capnp_edits.specs.Edits.{refusal_of, Making, allocates, becomes, nowhere, made_of_found, looked_for, with_default, default_for, is_of_path, Yields, DoesAt}
 use Rattle.capnp_edits.specs.Steps.{FitsAt, IsOpeningRefused, IsSearchRefused, FindsSought, OpeningHasRoom, OpensThere, IsDoneAt, result_of}
 use Rattle.capnp_edits.proofs.Applied.{Does, never_refused, of_allocation, of_no_place, denied_at}
 use Rattle.capnp_edits.proofs.Contents.{list_anywhere, data_anywhere, text_anywhere}
 use Rattle.capnp_edits.proofs.Names.{elsewhere, struct_elsewhere, structs_elsewhere, list_elsewhere, data_elsewhere, text_elsewhere, fault_elsewhere, unfound_name, list_unfound, data_unfound, text_unfound}
 use Rattle.capnp_edits.proofs.Steps.{same_some}
+use Rattle.capnp_edits.proofs.Ways.{Way, as_it_stands, default_dropped, default_put, is_allocated, is_denied, is_done, is_not_allocated, yielded}
 
 -- a small default has few words
 pub few_words : (default : Option (Bor (List ℕ))) → is_small_default default ≡ true → IsShortDefault default
@@ -78,7 +79,7 @@ same_words e = ap (λ (v : View). v.words) e
 -- so is done, where this is made of a value that stands
 record DoesAs (S R : Segments) (place : PointerPlace) (making : Making) (t : Tree) (r : Option ErrorKind) : Type 0 where
   left : Option Tree
-  yields : Yields making r left
+  yields : Way making r left
   stands : MatchOption left (R ≡ S) (IsReplaced S R place.segment place.word t)
 
 -- by what a call does with a value
@@ -168,11 +169,11 @@ null_does result (is_copied_from bytes) made_of P c stored does (inl on) =
     let then = does (record c { old = on.mid }) on.value on.put.replaced.stored on.does in
     record {
       left = Some (unwrap_or then.left on.value);
-      leaves = default_put bytes made_of on.value then.left refl (on.put.meant.0, on.put.meant.1, on.put.plain) then.yields refl;
+      leaves = default_put bytes made_of on.value (refusal_of result) then.left (on.put.meant.0, on.put.meant.1, on.put.plain) then.yields;
       stands = replaced_if c.old.words on.mid.words c.new.words (place_in c) on.value then.left on.put.replaced then.stands;
     }
 null_does (Err k) (is_copied_from bytes) made_of P c stored does (inr drops) =
-    record { left = Some Null; leaves = default_dropped bytes made_of k refl (dropped_name bytes c.segment c.at c.old c.new k drops.named) refl refl; stands = drops.replaced }
+    record { left = Some Null; leaves = default_dropped bytes made_of k (dropped_name bytes c.segment c.at c.old c.new k drops.named); stands = drops.replaced }
 null_does (Ok x) (is_copied_from bytes) made_of P c stored does (inr drops) = absurd drops
 
 -- a default is used for null alone
@@ -359,8 +360,8 @@ structs_found result size c Null h = (ap refusal_of h.0, h.1)
 structs_found result size c t h = opens_so result size IsListGiven c t (list_widened size.data_words size.pointers t) h
 
 yields_so : {A : Type 0} (q : Result A ErrorKind) (r : Option ErrorKind) (t : Tree) → r ≡ refusal_of q → (o : Option Tree) × Yields (made_of_found (λ x. becomes t) q) r o
-yields_so (Ok x) r t e = (Some t, is_done t refl e refl)
-yields_so (Err k) r t e = (None, is_denied k refl e refl)
+yields_so (Ok x) r t e = (Some t, yielded (is_done t refl e refl))
+yields_so (Err k) r t e = (None, yielded (is_denied k refl e refl))
 
 list_found : (result : Result ListPlace ErrorKind) (size : ElementSize) (c : CallAt) (t : Tree) → GivesFoundList size result c t → FindsSought (ForList size) (refusal_of result) c t
 list_found result size c t h =

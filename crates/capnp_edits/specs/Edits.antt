@@ -1,7 +1,7 @@
 -- What edits make of the value of a message.
 use Rattle.std.specs.Option.{option_map_or}
-use Rattle.std.specs.Prelude.{MatchOption, ◌≡◌, ◌⊎◌, ℕ, min, ◌+◌, ◌*◌, ◌<◌, ◌≤◌, Bool, true}
-use Rattle.std.specs.Prelude.{if◌then◌else◌, nat_le, nat_lt, List, ◌++◌, [], ◌∷◌, length, get_or}
+use Rattle.std.specs.Prelude.{MatchOption, ◌≡◌, ◌⊎◌, ℕ, min, ◌+◌, ◌*◌, ◌^◌, ◌<◌, ◌≤◌, Bool, true}
+use Rattle.std.specs.Prelude.{if◌then◌else◌, ◌&&◌, nat_le, nat_lt, List, ◌++◌, [], ◌∷◌, length, get_or}
 use Rattle.std.specs.Prelude.{slice_set, Option, Some, None, unwrap_or, Result, Ok, Err}
 use Rattle.std.specs.Borrow.{Bor}
 use Rattle.capnp_words.specs.declared.error.ErrorKind.{ErrorKind}
@@ -11,10 +11,12 @@ use Rattle.capnp_words.specs.declared.error.ErrorKind.TheVariants.{MessageContai
 use Rattle.capnp_words.specs.declared.error.ErrorKind.TheVariants.{NoSuchPlace}
 use Rattle.capnp_words.specs.declared.error.ErrorKind.TheVariants.{UnknownPointerType}
 use Rattle.capnp_words.specs.declared.wire_pointer.ElementSize.{ElementSize}
+use Rattle.capnp_words.specs.declared.wire_pointer.ElementSize.TheVariants.{Bit}
 use Rattle.capnp_words.specs.Sizes.{size_number}
 use Rattle.capnp_format.specs.Numbers.{element_bits}
 use Rattle.capnp_format.specs.Segments.{Segments, Target}
-use Rattle.capnp_format.specs.Tree.{Tree, Null, Capability, Struct, Flat, Structs, count, capabilities}
+use Rattle.capnp_format.specs.Tree.{Tree, Null, Capability, Struct, Flat, Structs, count}
+use Rattle.capnp_format.specs.Canonical.{IsFree}
 use Rattle.capnp_format.specs.Forest.{IsForest}
 use Rattle.capnp_contents.specs.Existing.{is_unfound, list_in, data_in, text_in, BytesLieIn}
 use Rattle.capnp_making.specs.Fields.{with_bits, put_field, with_field}
@@ -45,7 +47,16 @@ use Rattle.capnp_builders.specs.declared.builders.PointerBuilder.{PointerBuilder
 use Rattle.capnp_builders.specs.Places.{Field, list_place, struct_place}
 use Rattle.capnp_edits.specs.declared.edit.Edit.{Edit}
 use Rattle.capnp_edits.specs.declared.edit.copying.Copying.{Copying}
-use Rattle.capnp_edits.specs.declared.edit.copying.Wanted.TheVariants.{Struct as AStruct}
+use Rattle.capnp_edits.specs.declared.edit.Op.{Op}
+use Rattle.capnp_edits.specs.declared.edit.Op.TheVariants.{InitStruct, InitList, InitStructList}
+use Rattle.capnp_edits.specs.declared.edit.Op.TheVariants.{InitText, InitData, SetText, SetData}
+use Rattle.capnp_edits.specs.declared.edit.Op.TheVariants.{SetCapability, Clear, SetField, SetBool}
+use Rattle.capnp_edits.specs.declared.edit.Op.TheVariants.{SetElement, WriteText, WriteData}
+use Rattle.capnp_edits.specs.declared.edit.Op.TheVariants.{GetStruct, GetList, GetStructList}
+use Rattle.capnp_edits.specs.declared.edit.Op.TheVariants.{GetText, GetData, CopyFrom, SetStruct}
+use Rattle.capnp_edits.specs.declared.edit.Op.TheVariants.{SetList, CopyContent}
+use Rattle.capnp_edits.specs.declared.edit.copying.Wanted.TheVariants.{Value, Struct as AStruct}
+use Rattle.capnp_edits.specs.declared.edit.copying.Wanted.TheVariants.{List as AList}
 use Rattle.capnp_edits.specs.declared.edit.tasks.Task.{Task}
 use Rattle.capnp_edits.specs.declared.edit.tasks.Task.TheVariants.{Make, Point, InStruct, Write}
 use Rattle.capnp_edits.specs.declared.edit.tasks.Task.TheVariants.{Search, CopyRoot}
@@ -64,7 +75,7 @@ use Rattle.capnp_edits.specs.declared.edit.tasks.Sought.TheVariants.{List as For
 use Rattle.capnp_edits.specs.declared.edit.tasks.Sought.TheVariants.{StructList as ForStructs}
 use Rattle.capnp_edits.specs.declared.edit.tasks.Sought.TheVariants.{Text as ForText}
 use Rattle.capnp_edits.specs.declared.edit.tasks.Sought.TheVariants.{Data as ForData}
-use Rattle.capnp_edits.specs.Tasks.{task_of}
+use Rattle.capnp_edits.specs.Tasks.{is_number, is_small_default}
 use Rattle.capnp_edits.specs.Sources.{Copies, ContentRead, Fills, IsNextUnreadable}
 use Rattle.capnp_edits.specs.Sources.{HasNothingToCopy, IsUnreadable}
 use Rattle.capnp_edits.specs.Paths.{EndValue, PointerTo, ElementOf, path_of, found}
@@ -173,7 +184,7 @@ default_for ForText default t = default_use (is_denied_by ExistingPointerIsNotAL
 default_for ForData default t = default_use (is_denied_by ExistingPointerIsNotAList) default t
 default_for sought default t = default_use ignored default t
 
--- What a task makes where a path leads; or by what name it is refused, and nothing is changed.
+-- The same of a task, which is an operation whose numbers are in range.
 abbrev pub made_at : Task → EndValue → Making
 made_at (InStruct change) (PointerTo t) = struct_changed change t
 made_at (InStruct change) (ElementOf t) = struct_changed change t
@@ -203,60 +214,114 @@ refusals_after None n = n
 abbrev pub place_of : {A : Type 0} → PointerBuilder A → PointerPlace
 place_of b = record { segment = b.segment; word = b.at }
 
--- What an operation leaves where it makes this, with its outcome: o in the value's stead, if
--- anything is changed. It is what is made; or all as it was; or, for want of memory, what stands
--- then; or it is what is copied; or null, where that is refused; or all as it was, where there is
--- nothing to be copied. Of content it is all that is copied, as many pointers as both have; or what
--- is before one that is refused, for memory or for what it reads; or all as it was.
-pub data Yields (making : Making) (r : Option ErrorKind) (o : Option Tree) : Type 0 where
-  is_done : (u : Tree) → making ≡ becomes u → r ≡ None → o ≡ Some u → Yields making r o
-  is_denied : (k : ErrorKind) → making ≡ denied k → r ≡ Some k → o ≡ None → Yields making r o
-  is_allocated : (t u : Tree) → making ≡ allocates t u → r ≡ None → o ≡ Some u → Yields making r o
-  is_not_allocated : (t u : Tree) (k : ErrorKind) → making ≡ allocates t u → is_allocation_name k ≡ true →
-      r ≡ Some k → o ≡ Some t → Yields making r o
-  is_copied : (c : Copying) (u : Tree) → making ≡ copies c → Copies c u → r ≡ None → o ≡ Some u →
-      Yields making r o
-  is_not_copied : (c : Copying) (k : ErrorKind) → making ≡ copies c → (is_allocation_name k ≡ true) ⊎
-      IsUnreadable c k → r ≡ Some k → o ≡ Some Null → Yields making r o
-  is_unread : (c : Copying) (k : ErrorKind) → making ≡ copies c → HasNothingToCopy c.source c.wanted k →
-      r ≡ Some k → o ≡ None → Yields making r o
-  is_filled :
-      (source : Source) (d q : ℕ) (u : Tree) →
-      making ≡ fills source d q →
-      (c : ContentRead source) × Fills source c d q u × (count c.children ≡ min q c.from.pointers) →
-      r ≡ None →
-      o ≡ Some u →
-      Yields making r o
-  is_half_filled :
-      (source : Source) (d q : ℕ) (k : ErrorKind) (u : Tree) →
-      making ≡ fills source d q →
-      (c : ContentRead source) × Fills source c d q u × (count c.children < min q c.from.pointers) ×
-      ((is_allocation_name k ≡ true) ⊎ IsNextUnreadable source c k) →
-      r ≡ Some k →
-      o ≡ Some u →
-      Yields making r o
-  is_not_filled : (source : Source) (d q : ℕ) (k : ErrorKind) → making ≡ fills source d q →
-      HasNothingToCopy source AStruct k → r ≡ Some k → o ≡ None →
-      Yields making r o
+-- What is made where what is asked is in range; else it is NoSuchPlace, and nothing is changed.
+abbrev pub where_in_range : Bool → Making → Making
+where_in_range b making = if b then making else denied NoSuchPlace
 
--- What is left where a default's value may come first: as of what stands; or a default's value, and
--- what is left of that; or null, where its copy is refused, for memory or for what it reads.
-pub data Leaves (making : Making) (r : Option ErrorKind) (o : Option Tree) : Type 0 where
-  as_it_stands : Yields making r o → Leaves making r o
-  default_put :
-      (bytes : List ℕ) (made_of : Tree → Making) (d : Tree) (left : Option Tree) →
-      making ≡ defaults bytes made_of →
-      (n : ℕ) × MeansThere (default_root bytes) d n × (capabilities d ≡ 0) →
-      Yields (made_of d) r left →
-      o ≡ Some (unwrap_or left d) →
-      Leaves making r o
-  default_dropped :
-      (bytes : List ℕ) (made_of : Tree → Making) (k : ErrorKind) →
-      making ≡ defaults bytes made_of →
-      (is_allocation_name k ≡ true) ⊎ HasFault of_default (default_root bytes) k →
-      r ≡ Some k →
-      o ≡ Some Null →
-      Leaves making r o
+-- The value at the end of a path.
+abbrev pub end_tree : EndValue → Tree
+end_tree (PointerTo t) = t
+end_tree (ElementOf t) = t
+
+-- What is made where a number of the data section of a struct is written, by its index among numbers
+-- as wide, if the section has it.
+abbrev pub field_written : ElementSize → ℕ → ℕ → Tree → Making
+field_written size i v (Struct ws ts) =
+    let w = element_bits (size_number size) in
+    where_in_range (nat_le (i * w + w) (64 * length ws)) (becomes (Struct (put_field ws (i * w) w v) ts))
+field_written size i v t = denied NoSuchPlace
+
+-- What is made where content is copied over a struct.
+abbrev pub content_filled : Source → Tree → Making
+content_filled source (Struct ws ts) = fills source (length ws) (count ts)
+content_filled source t = denied NoSuchPlace
+
+-- What is made where something is looked for, with a default of fewer than 2^32 words.
+abbrev pub searched : Sought → Option (Bor (List ℕ)) → Tree → Making
+searched sought default t =
+    where_in_range (is_small_default default) (with_default (default_for sought default t) (looked_for sought) t)
+
+-- What an operation makes where a path leads; or by what name it is refused, and nothing is changed.
+-- A struct may be an element of a list; for all else there is a pointer. A bit of a data section has
+-- an operation of its own.
+abbrev pub making_of : Op → EndValue → Making
+making_of (SetField size i v) there =
+    where_in_range (nat_le 2 (size_number size) && is_number size v) (field_written size i v (end_tree there))
+making_of (SetBool i b) there = field_written Bit i (if b then 1 else 0) (end_tree there)
+making_of (CopyContent source) there = content_filled source (end_tree there)
+making_of op (ElementOf t) = denied NoSuchPlace
+making_of (InitStruct size) (PointerTo t) = allocates Null (zero_struct size)
+making_of (InitList size n) (PointerTo t) =
+    where_in_range (nat_le (size_number size) 6 && nat_lt n (2 ^ 29))
+    (allocates Null (zero_list (size_number size) n))
+making_of (InitStructList n size) (PointerTo t) =
+    where_in_range (nat_lt n (2 ^ 30) && nat_lt (n * (size.data_words + size.pointers)) (2 ^ 29))
+    (allocates Null (zero_structs n size))
+making_of (InitText n) (PointerTo t) =
+    where_in_range (nat_lt (n + 1) (2 ^ 29)) (allocates Null (zero_list 2 (n + 1)))
+making_of (InitData n) (PointerTo t) = where_in_range (nat_lt n (2 ^ 29)) (allocates Null (zero_list 2 n))
+making_of (SetText bytes) (PointerTo t) =
+    where_in_range (nat_lt (length bytes.now + 1) (2 ^ 29)) (allocates Null (Flat 2 (bytes.now ++ 0 ∷ [])))
+making_of (SetData bytes) (PointerTo t) =
+    where_in_range (nat_lt (length bytes.now) (2 ^ 29)) (allocates Null (Flat 2 bytes.now))
+making_of (SetCapability i) (PointerTo t) = becomes (Capability i)
+making_of Clear (PointerTo t) = becomes Null
+making_of (SetElement size i v) (PointerTo t) =
+    where_in_range (is_number size v)
+    (if_reached (λ l. l.count) i (with_lowest i (element_bits (size_number size)) v t) (list_in nowhere size t))
+making_of (WriteText i b) (PointerTo t) =
+    if_reached (λ x. x.length) i (with_lowest i 8 b t) (text_in nowhere t)
+making_of (WriteData i b) (PointerTo t) =
+    if_reached (λ x. x.length) i (with_lowest i 8 b t) (data_in nowhere t)
+making_of (GetStruct size default) (PointerTo t) = searched (ForStruct size) default t
+making_of (GetList size default) (PointerTo t) =
+    where_in_range (nat_le (size_number size) 6) (searched (ForList size) default t)
+making_of (GetStructList size default) (PointerTo t) = searched (ForStructs size) default t
+making_of (GetText default) (PointerTo t) = searched ForText default t
+making_of (GetData default) (PointerTo t) = searched ForData default t
+making_of (CopyFrom source canonicalize) (PointerTo t) =
+    copies (record { source = source; wanted = Value; canonicalize = canonicalize })
+making_of (SetStruct source canonicalize) (PointerTo t) =
+    copies (record { source = source; wanted = AStruct; canonicalize = canonicalize })
+making_of (SetList source canonicalize) (PointerTo t) =
+    copies (record { source = source; wanted = AList; canonicalize = canonicalize })
+
+-- A call of this outcome is done, and u is left.
+abbrev pub Succeeds : Tree → Option ErrorKind → Option Tree → Type 0
+Succeeds u r o = (r ≡ None) × (o ≡ Some u)
+
+-- It is refused by a name of which P holds, and so much is left, None being all as it was.
+abbrev pub Fails : (ErrorKind → Type 0) → Option Tree → Option ErrorKind → Option Tree → Type 0
+Fails P left r o = (k : ErrorKind) × P k × (r ≡ Some k) × (o ≡ left)
+
+-- What an operation leaves where it makes this, with its outcome: o in the value's stead, if
+-- anything is changed. Of a copy it is what is copied; or null, where that is refused, for memory or
+-- for what it reads; or all as it was, where there is nothing to be copied. Of content it is all that
+-- is copied, as many pointers as both have; or what is before one that is refused.
+unfoldable pub Yields : Making → Option ErrorKind → Option Tree → Type 0
+Yields (becomes u) r o = Succeeds u r o
+Yields (denied k) r o = Fails (λ j. j ≡ k) None r o
+Yields (allocates t u) r o = Succeeds u r o ⊎ Fails (λ k. is_allocation_name k ≡ true) (Some t) r o
+Yields (copies c) r o =
+    ((u : Tree) × Copies c u × Succeeds u r o)
+    ⊎ (Fails (λ k. (is_allocation_name k ≡ true) ⊎ IsUnreadable c k) (Some Null) r o
+    ⊎ Fails (HasNothingToCopy c.source c.wanted) None r o)
+Yields (fills source d q) r o =
+    ((c : ContentRead source) × (u : Tree) × Fills source c d q u
+    × (((count c.children ≡ min q c.from.pointers) × Succeeds u r o)
+    ⊎ ((count c.children < min q c.from.pointers)
+    × Fails (λ k. (is_allocation_name k ≡ true) ⊎ IsNextUnreadable source c k) (Some u) r o)))
+    ⊎ Fails (HasNothingToCopy source AStruct) None r o
+Yields (defaults bytes made_of) r o = ⊥
+
+-- What is left where a default's value may come first: that value, and what is left of it; or null,
+-- where its copy is refused, for memory or for what it reads. Else it is as of what stands.
+unfoldable pub Leaves : Making → Option ErrorKind → Option Tree → Type 0
+Leaves (defaults bytes made_of) r o =
+    ((d : Tree) × (n : ℕ) × (left : Option Tree) × MeansThere (default_root bytes) d n × IsFree d
+    × Yields (made_of d) r left × (o ≡ Some (unwrap_or left d)))
+    ⊎ Fails (λ k. (is_allocation_name k ≡ true) ⊎ HasFault of_default (default_root bytes) k) (Some Null) r o
+Leaves making r o = Yields making r o
 
 -- What is done at a pointer that means t, where this is made of it: what is left comes in t's
 -- stead, if anything is changed.
@@ -341,14 +406,14 @@ pub data PutsByte (S R : Segments) (looked : Result (Option ExistingBytes) Error
   no_bytes_there : looked ≡ Ok None → r ≡ Some NoSuchPlace → R ≡ S → PutsByte S R looked i v r
   bytes_denied : (k : ErrorKind) → looked ≡ Err k → r ≡ Some k → R ≡ S → PutsByte S R looked i v r
 
--- An edit with its outcome takes the value t of a message to u.
-pub data Takes (e : Edit) (r : Option ErrorKind) (t u : Tree) : Type 0 where
-  leads_to : (end_value : EndValue) (o : Option Tree) →
-      found t (path_of e.path.now) ≡ Some end_value →
-      Leaves (option_map_or (λ task. made_at task end_value) (task_of e.op)
-      (denied NoSuchPlace)) r o → u ≡ option_map_or (update t
-      (path_of e.path.now)) o t → Takes e r t u
-  leads_nowhere : found t (path_of e.path.now) ≡ None → r ≡ Some NoSuchPlace → u ≡ t → Takes e r t u
+-- An edit with its outcome takes the value t of a message to u. Its path leads nowhere, and it is
+-- NoSuchPlace; or the path leads to a value, and what is left comes in its stead, if anything is
+-- changed.
+unfoldable pub Takes : Edit → Option ErrorKind → Tree → Tree → Type 0
+Takes e r t u =
+    MatchOption (found t (path_of e.path.now)) ((r ≡ Some NoSuchPlace) × (u ≡ t))
+    (λ there. (o : Option Tree) × Leaves (making_of e.op there) r o
+    × (u ≡ option_map_or (update t (path_of e.path.now)) o t))
 
 -- From S to R a forest becomes a forest, and P holds of their values: as an edit takes one to the
 -- other, or several do.

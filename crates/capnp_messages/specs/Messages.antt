@@ -2,7 +2,7 @@
 use Rattle.std.specs.Prelude.{◌≡◌, ◌⊎◌, ℕ, ◌+◌, ◌≤◌, Option, length}
 use Rattle.capnp_words.specs.declared.error.ErrorKind.{ErrorKind}
 use Rattle.capnp_words.specs.Meter.{Meter, FitsIn, less, unused}
-use Rattle.capnp_format.specs.Canonical.{trim, word_count}
+use Rattle.capnp_format.specs.Canonical.{IsFree, trim, word_count}
 use Rattle.capnp_format.specs.Segments.{Segments}
 use Rattle.capnp_format.specs.Tree.{Tree, capabilities}
 use Rattle.capnp_format.specs.Means.{Means}
@@ -16,27 +16,31 @@ use Rattle.capnp_messages.specs.Roots.{CoversRoot, RefusesRoot, message_root}
 use Rattle.capnp_messages.specs.Copies.{RefusesCopy}
 use Rattle.capnp_messages.specs.CanonicalMessages.{IsMessageFault, RefusesTest}
 
--- The root of a message means t without capabilities, within the nesting limit, and the traversal limit
--- covers what reading it costs, and one word for the root pointer ("Messages", "Security Considerations").
+-- The root of a message means t, with capabilities or without, within the nesting limit, and the
+-- traversal limit covers what reading it costs, and one word for the root pointer ("Messages",
+-- "Security Considerations").
+pub record IsReadAs (S : Segments) (limits : ReaderOptions) (t : Tree) : Type 0 where
+  pub root : CoversRoot S limits.traversal_limit_in_words
+  pub cost : ℕ
+  pub means : Means S (levels limits.nesting_limit) 0 0 t cost
+  pub covered : FitsIn limits.traversal_limit_in_words (1 + cost)
+
+-- It means some value so ("Messages", "Security Considerations").
+abbrev pub IsReadable : Segments → ReaderOptions → Type 0
+IsReadable S limits = (t : Tree) × IsReadAs S limits t
+
+-- It means t so, and t has no capabilities ("Messages", "Security Considerations").
 pub record IsValueOf (S : Segments) (limits : ReaderOptions) (t : Tree) : Type 0 where
   pub root : CoversRoot S limits.traversal_limit_in_words
   pub cost : ℕ
   pub means : Means S (levels limits.nesting_limit) 0 0 t cost
-  pub free : capabilities t ≡ 0
+  pub free : IsFree t
   pub covered : FitsIn limits.traversal_limit_in_words (1 + cost)
 
 -- It has a canonical copy: a value so, whose canonical words, a pointer and a body, fit a segment
 -- ("Canonicalization").
 abbrev pub HasCanonicalCopy : Segments → ReaderOptions → Type 0
 HasCanonicalCopy S limits = (t : Tree) × IsValueOf S limits t × (1 + word_count (trim t) ≤ max_segment_words)
-
--- It means some value so, with capabilities or without ("Messages", "Security Considerations").
-pub record IsReadable (S : Segments) (limits : ReaderOptions) : Type 0 where
-  pub root : CoversRoot S limits.traversal_limit_in_words
-  pub value : Tree
-  pub cost : ℕ
-  pub means : Means S (levels limits.nesting_limit) 0 0 value cost
-  pub covered : FitsIn limits.traversal_limit_in_words (1 + cost)
 
 -- The walk that takes a size gives so many words and capabilities at the root of a message, within
 -- n levels, and with what the budget leaves behind the root pointer. Where the root means a value
