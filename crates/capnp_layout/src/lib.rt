@@ -3,6 +3,7 @@
 #![tactic(auto)]
 
 pub mod framing;
+pub mod laws;
 pub mod tool;
 
 pub use capnp_arena::arena;
@@ -12,5 +13,5 @@ pub use capnp_framing::devices;
 pub use capnp_readers::{object, readers, source};
 pub use capnp_words::error::Result;
 pub use capnp_words::{
-    error, lanes, laws, mask, primitive, read_limiter, units, wire_pointer, words, zero,
+    error, lanes, mask, primitive, read_limiter, units, wire_pointer, words, zero,
 };

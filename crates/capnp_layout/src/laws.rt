@@ -1,0 +1,19 @@
+//! Laws: those of the format's definitions, and in a module each what follows of the contracts of the crates below, by
+//! what it is about.
+
+pub use capnp_builders::laws as builders;
+pub use capnp_contents::laws as contents;
+pub use capnp_edits::laws as edits;
+pub use capnp_format::laws::{
+    body_length, canonical_again, canonical_words_are_cheap, canonical_words_mean,
+    copied_is_tested, decode_agrees, elements_are_bits, encodings_differ, least_widths,
+    levels_from_depth, meaning_is_value, no_encoding_begins_another, one_arena_value, one_meaning,
+    one_stands, others_may_change, same_canonical_words, small_is_encodable, tested_is_copied,
+    trimming, worked_examples,
+};
+pub use capnp_framing::laws as frames;
+pub use capnp_messages::messages::laws as messages;
+pub use capnp_objects::laws as objects;
+pub use capnp_readers::laws as readers;
+pub use capnp_value_copies::laws as copies;
+pub use capnp_widening::laws as widening;
