@@ -1,10 +1,18 @@
 -- The rows that an arena keeps, where it is known how.
-use Rattle.std.proofs.Common.{◌≡◌, Bool, true, false, [], refl}
+use Rattle.std.proofs.Common.{◌≡◌, ℕ, Bool, true, false, List, [], ◌≤◌, length, refl, sym}
+use Rattle.std.proofs.lemmas.Bool.{false≢true}
+use Rattle.capnp_format.specs.Bytes.{message}
+use Rattle.capnp_format.specs.Segments.{Segments}
+use Rattle.capnp_arena_traits.specs.Allocations.{max_segments}
+use Rattle.capnp_arena_traits.specs.View.{view_of}
 use Rattle.capnp_arena.specs.Kept.{arena_rows}
+use Rattle.capnp_arena.specs.Row.{capacity_at, shown}
 use Rattle.capnp_arena.specs.Rows.{all}
+use Rattle.capnp_arena.specs.declared.arena.row.Row.{Row}
 use Rattle.capnp_arena.specs.declared.arena.rows.Rows.{Rows}
 use Rattle.capnp_arena.specs.declared.arena.listed.Listed.{Listed}
 use Rattle.capnp_arena.specs.declared.arena.allocator.Segment.{Ghosts}
+use Rattle.capnp_arena.proofs.ListedLemmas.{listed_few}
 
 module _ {S : Type 0} (g : Ghosts S) where
   pub kept_apart : (f : Bool) (v : Listed S g) (b : Rows S g) → f ≡ true → arena_rows g f v b ≡ all g b
@@ -18,5 +26,51 @@ module _ {S : Type 0} (g : Ghosts S) where
   pub kept_none : (f : Bool) (v : Listed S g) (b : Rows S g) → v.rows.items ≡ [] → all g b ≡ [] → arena_rows g f v b ≡ []
   kept_none false v b e h = e
   kept_none true v b e h = h
+
+  -- what is so of all rows of the arena, where they stand apart or in a list
+  pub of_apart : (P : List (Row S g) → Type 0) (f : Bool) (v : Listed S g) (b : Rows S g) → f ≡ true → P (arena_rows g f v b) → P (all g b)
+  of_apart P false v b e p = absurd (false≢true e)
+  of_apart P true v b e p = p
+
+  pub of_listed : (P : List (Row S g) → Type 0) (f : Bool) (v : Listed S g) (b : Rows S g) → f ≡ false → P (arena_rows g f v b) → P v.rows.items
+  of_listed P false v b e p = p
+  of_listed P true v b e p = absurd (false≢true (sym e))
+
+  pub to_apart : (P : List (Row S g) → Type 0) (f : Bool) (v : Listed S g) (b : Rows S g) → f ≡ true → P (all g b) → P (arena_rows g f v b)
+  to_apart P false v b e p = absurd (false≢true e)
+  to_apart P true v b e p = p
+
+  pub to_listed : (P : List (Row S g) → Type 0) (f : Bool) (v : Listed S g) (b : Rows S g) → f ≡ false → P v.rows.items → P (arena_rows g f v b)
+  to_listed P false v b e p = p
+  to_listed P true v b e p = absurd (false≢true (sym e))
+
+  -- what is so of the rows before and after
+  pub both_apart : (P : List (Row S g) → List (Row S g) → Type 0) (f : Bool) (v : Listed S g) (old new : Rows S g) → f ≡ true → P (all g old) (all g new) → P (arena_rows g f v old) (arena_rows g f v new)
+  both_apart P false v old new e p = absurd (false≢true e)
+  both_apart P true v old new e p = p
+
+  pub both_listed : (P : List (Row S g) → List (Row S g) → Type 0) (f : Bool) (old new : Listed S g) (b : Rows S g) → f ≡ false → P old.rows.items new.rows.items → P (arena_rows g f old b) (arena_rows g f new b)
+  both_listed P false old new b e p = p
+  both_listed P true old new b e p = absurd (false≢true (sym e))
+
+  -- how many rows there are at most
+  pub kept_few : (f : Bool) (v : Listed S g) (b : Rows S g) → length (arena_rows g f v b) ≤ max_segments
+  kept_few false v b = v.few
+  kept_few true v b = listed_few g b.there b.first b.others.items b.few
+
+  -- words written in rows of either kind are written in the arena's view
+  pub written_apart : (W : Segments → Segments) {refusals : ℕ} {offers : ℕ → ℕ → Bool} (f : Bool) (v : Listed S g) (old new : Rows S g) → f ≡ true →
+      message (shown g (all g new)) ≡ W (message (shown g (all g old))) → capacity_at g (all g new) ≡ capacity_at g (all g old) →
+      view_of (message (shown g (arena_rows g f v new))) (capacity_at g (arena_rows g f v new)) refusals offers
+      ≡ view_of (W (message (shown g (arena_rows g f v old)))) (capacity_at g (arena_rows g f v old)) refusals offers
+  written_apart W false v old new e words room = absurd (false≢true e)
+  written_apart W {refusals} {offers} true v old new e words room = λ i. view_of (words i) (room i) refusals offers
+
+  pub written_listed : (W : Segments → Segments) {refusals : ℕ} {offers : ℕ → ℕ → Bool} (f : Bool) (old new : Listed S g) (b : Rows S g) → f ≡ false →
+      message (shown g new.rows.items) ≡ W (message (shown g old.rows.items)) → capacity_at g new.rows.items ≡ capacity_at g old.rows.items →
+      view_of (message (shown g (arena_rows g f new b))) (capacity_at g (arena_rows g f new b)) refusals offers
+      ≡ view_of (W (message (shown g (arena_rows g f old b)))) (capacity_at g (arena_rows g f old b)) refusals offers
+  written_listed W {refusals} {offers} false old new b e words room = λ i. view_of (words i) (room i) refusals offers
+  written_listed W true old new b e words room = absurd (false≢true (sym e))
 
 pub ruleset keeping = (kept_apart, kept_listed, kept_none)

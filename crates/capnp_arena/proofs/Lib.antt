@@ -1,9 +1,11 @@
 pub mod BoundsLemmas
 pub mod Fronts
+pub mod ItemsLemmas
 pub mod KeptLemmas
 pub mod LentLemmas
 pub mod ListPushed
 pub mod ListedLemmas
+pub mod PutLemmas
 pub mod RangeLemmas
 pub mod RowLemmas
 pub mod RowsCopied

@@ -44,6 +44,15 @@ module _ {S : Type 0} (g : Ghosts S) where
   first_changed true old new others zero e = refl
   first_changed true old new others (suc id) e = absurd (omega arith)
 
+  pub first_written : (f : List ℕ → List ℕ) (t : Bool) (old new : Row S g) (others : List (Row S g)) (id : ℕ) → id ≡ 0 → id < length (with_first g t old others) → words_of (allocated g new) ≡ f (words_of (allocated g old)) →
+      message (shown g (with_first g t new others)) ≡ with_segment (message (shown g (with_first g t old others))) id (f (segment (message (shown g (with_first g t old others))) id))
+  first_written f t old new others id e l h =
+      first_changed t old new others id e ∙ ap (with_segment (message (shown g (with_first g t old others))) id) (h ∙ ap f (sym (first_words t old others id e l)))
+
+  -- what is within segment 0 is within the first row
+  pub first_inside : (t : Bool) (first : Row S g) (others : List (Row S g)) (id n : ℕ) → id ≡ 0 → id < length (with_first g t first others) → n ≤ length (segment (message (shown g (with_first g t first others))) id) → n ≤ first.used
+  first_inside t first others id n e l h = subst (λ m. n ≤ m) (first_used t first others id e l) h
+
   -- what is asked of another row, which is one less far among the others
   pub other_there : (t : Bool) (first : Row S g) (others : List (Row S g)) (id : ℕ) → 0 < id → id < length (with_first g t first others) → id - 1 < length others
   other_there false first others id some l = absurd (omega arith)
@@ -65,6 +74,10 @@ module _ {S : Type 0} (g : Ghosts S) where
   other_room false first [] (suc id) few some = refl
   other_room false first (r ∷ others) (suc id) few some = absurd (omega arith)
   other_room true first others (suc id) few some = ap (capacity_at g others) (let same : id ≡ suc id - 1 = omega arith in same)
+
+  pub other_inside : (t : Bool) (first : Row S g) (others : List (Row S g)) (id n : ℕ) → length others ≤ most_others t → 0 < id → n ≤ length (segment (message (shown g (with_first g t first others))) id) →
+      n ≤ length (segment (message (shown g others)) (id - 1))
+  other_inside t first others id n few some h = subst (λ m. n ≤ m) (ap length (other_words t first others id few some)) h
 
   pub other_changed : (t : Bool) (first : Row S g) (old new : List (Row S g)) (id : ℕ) (ws : List ℕ) → 0 < id → message (shown g new) ≡ with_segment (message (shown g old)) (id - 1) ws →
       message (shown g (with_first g t first new)) ≡ with_segment (message (shown g (with_first g t first old))) id ws

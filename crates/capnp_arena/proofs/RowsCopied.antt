@@ -1,6 +1,6 @@
 -- Words of one row copied over those of another, where the rows are cut in two between them.
 use Rattle.std.proofs.Common.{◌≡◌, ℕ, zero, suc, ◌-◌, ◌<◌, ◌≤◌, List, [], ◌∷◌, ◌++◌, length, get_or, set, refl, sym, ap, ap₂, ◌∙◌, arith, subst}
-use Rattle.std.proofs.lemmas.List.{get_or_append_left, get_or-append_right}
+use Rattle.std.proofs.lemmas.List.{get_or_append_left, get_or-append_right, length-append, length-set}
 use Rattle.capnp_format.specs.Bytes.{words_of, message}
 use Rattle.capnp_format.specs.Segments.{segment, words_at}
 use Rattle.capnp_arena.specs.Row.{allocated, capacity, shown, capacity_at}
@@ -92,3 +92,13 @@ module _ {S : Type 0} (g : Ghosts S) where
   bounded_front rows front back i j r new cut l f h used bound b =
       subst (HasBounds g) (sym (set_front front back j new (omega (arith, cut.long)) ∙ ap (λ xs. set xs j new) (sym cut.parts)))
       (bounded_same g rows j r new (in_front j r cut l f) (h ∙ ap (capacity g) (sym f)) (used ∙ ap (λ (q : Row S g). q.used) (sym f)) (bound ∙ ap (λ (q : Row S g). q.bound) (sym f)) b)
+
+  -- and as many
+  pub many_back : (rows front back : List (Row S g)) (j : ℕ) (new : Row S g) → IsCut rows front back j → length (front ++ set back 0 new) ≡ length rows
+  many_back rows front back j new cut = ap length (set_back front back new ∙ ap₂ (λ xs k. set xs k new) (sym cut.parts) cut.long) ∙ length-set rows j new
+
+  pub many_front : (rows front back : List (Row S g)) (i j : ℕ) (new : Row S g) → IsCut rows front back i → j < i → length (set front j new ++ back) ≡ length rows
+  many_front rows front back i j new cut l = ap length (set_front front back j new (omega (arith, cut.long)) ∙ ap (λ xs. set xs j new) (sym cut.parts)) ∙ length-set rows j new
+
+pub back_there : {R : Type 0} (rows front back : List R) (j : ℕ) → IsCut rows front back j → 0 < length back
+back_there rows front back j cut = omega (arith, ap length cut.parts, length-append front back, cut.long, cut.there)

@@ -50,6 +50,15 @@ module _ {S : Type 0} (g : Ghosts S) where
   pub row_old : (rows : List (Row S g)) (i : ℕ) (r : Row S g) → i < length rows → r ≡ get_or rows i r → length (segment (message (shown g rows)) i) ≡ r.used
   row_old rows i r l e = ap length (row_is rows i r l e) ∙ row_words r
 
+  -- the words of one row written over, where it is known by its number, and where it was lent
+  pub row_over : (f : List ℕ → List ℕ) (rows : List (Row S g)) (i : ℕ) (old new : Row S g) → i < length rows → words_of (allocated g new) ≡ f (words_of (allocated g (get_or rows i old))) →
+      message (shown g (set rows i new)) ≡ with_segment (message (shown g rows)) i (f (segment (message (shown g rows)) i))
+  row_over f rows i old new l e = row_changed rows i new ∙ ap (with_segment (message (shown g rows)) i) (e ∙ ap f (sym (segment_row rows i old l)))
+
+  pub row_written : (f : List ℕ → List ℕ) (rows : List (Row S g)) (i : ℕ) (old new : Row S g) → i < length rows → old ≡ get_or rows i old → words_of (allocated g new) ≡ f (words_of (allocated g old)) →
+      message (shown g (set rows i new)) ≡ with_segment (message (shown g rows)) i (f (segment (message (shown g rows)) i))
+  row_written f rows i old new l is e = row_changed rows i new ∙ ap (with_segment (message (shown g rows)) i) (e ∙ ap f (sym (row_is rows i old l is)))
+
   -- the room of a row
   pub room_row : (rows : List (Row S g)) (i : ℕ) (d : Row S g) → i < length rows → capacity_at g rows i ≡ capacity g (get_or rows i d)
   room_row [] i d l = absurd (omega arith)

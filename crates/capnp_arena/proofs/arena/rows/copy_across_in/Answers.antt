@@ -1,5 +1,5 @@
 use Rattle.std.proofs.Common.{◌<◌, arith}
-use Rattle.capnp_arena.proofs.RowsCopied.{IsCut, room_front, room_back, copied_back, kept_back, bounded_back, copied_front, kept_front, bounded_front}
+use Rattle.capnp_arena.proofs.RowsCopied.{IsCut, room_front, room_back, copied_back, kept_back, bounded_back, copied_front, kept_front, bounded_front, many_back, many_front, back_there}
 use Rattle.capnp_arena.proofs.arena.rows.copy_across_in.Goals as goal
 
 -- The row that is copied stands before the other one: the rows are cut before that.
@@ -90,3 +90,36 @@ returns-else-from-to-clause-bounded g c =
     let before : c.args.to.row < c.args.from.row = omega (arith, c.requires.apart, c.if-from-to.false) in
     bounded_front g.S.Segment rows front back c.args.from.row c.args.to.row c.index-front-to.result c.copy_from-else-from-to.new.self cut before c.index-front-to.is c.copy_from-else-from-to.ensures.capacity
     c.copy_from-else-from-to.ensures.used c.copy_from-else-from-to.ensures.bound
+
+pub returns-then-from-to-clause-many : goal.returns-then-from-to-clause-many
+returns-then-from-to-clause-many g c =
+    let rows = c.args.rows.now in
+    let front = c.split_at_mut-front.result.0.now in
+    let back = c.split_at_mut-front.result.1.now in
+    let cut : IsCut rows front back c.args.to.row = record { parts = c.split_at_mut-front.ensures.value; long = c.split_at_mut-front.ensures.front_len; there = c.requires.rows.1 } in
+    many_back g.S.Segment rows front back c.args.to.row c.copy_from.new.self cut
+
+pub bounds-back-0 : goal.bounds-back-0
+bounds-back-0 g c =
+    let rows = c.args.rows.now in
+    let front = c.split_at_mut-front.result.0.now in
+    let back = c.split_at_mut-front.result.1.now in
+    let cut : IsCut rows front back c.args.to.row = record { parts = c.split_at_mut-front.ensures.value; long = c.split_at_mut-front.ensures.front_len; there = c.requires.rows.1 } in
+    back_there rows front back c.args.to.row cut
+
+pub returns-else-from-to-clause-many : goal.returns-else-from-to-clause-many
+returns-else-from-to-clause-many g c =
+    let rows = c.args.rows.now in
+    let front = c.split_at_mut-front-else-from-to.result.0.now in
+    let back = c.split_at_mut-front-else-from-to.result.1.now in
+    let cut : IsCut rows front back c.args.from.row = record { parts = c.split_at_mut-front-else-from-to.ensures.value; long = c.split_at_mut-front-else-from-to.ensures.front_len; there = c.requires.rows.0 } in
+    let before : c.args.to.row < c.args.from.row = omega (arith, c.requires.apart, c.if-from-to.false) in
+    many_front g.S.Segment rows front back c.args.from.row c.args.to.row c.copy_from-else-from-to.new.self cut before
+
+pub bounds-back-0-else-from-to : goal.bounds-back-0-else-from-to
+bounds-back-0-else-from-to g c =
+    let rows = c.args.rows.now in
+    let front = c.split_at_mut-front-else-from-to.result.0.now in
+    let back = c.split_at_mut-front-else-from-to.result.1.now in
+    let cut : IsCut rows front back c.args.from.row = record { parts = c.split_at_mut-front-else-from-to.ensures.value; long = c.split_at_mut-front-else-from-to.ensures.front_len; there = c.requires.rows.0 } in
+    back_there rows front back c.args.from.row cut

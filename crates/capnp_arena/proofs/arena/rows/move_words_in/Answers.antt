@@ -1,5 +1,7 @@
-use Rattle.std.proofs.Common.{ap, arith}
-use Rattle.capnp_arena.proofs.RowsLemmas.{row_old}
+use Rattle.capnp_arena.specs.Row.{capacity}
+use Rattle.capnp_arena_traits.specs.Written.{overwritten}
+use Rattle.std.proofs.Common.{ap, arith, take, drop, sym, ◌∙◌}
+use Rattle.capnp_arena.proofs.RowsLemmas.{row_old, row_over, room_same}
 use Rattle.capnp_arena.proofs.BoundsLemmas.{bounded_over}
 use Rattle.capnp_arena.proofs.arena.rows.move_words_in.Goals as goal
 
@@ -20,3 +22,11 @@ move_words-requires-clause-inside g c =
 pub returns-clause-bounded : goal.returns-clause-bounded
 returns-clause-bounded g c =
     bounded_over g.S.Segment c.args.rows.now c.args.id c.index-rows-id.result c.move_words.new.self c.index-rows-id.is c.move_words.ensures.capacity c.move_words.ensures.used c.move_words.ensures.bound
+
+pub returns-clause-words : goal.returns-clause-words
+returns-clause-words g c =
+    row_over g.S.Segment (λ ws. overwritten ws c.args.to (take c.args.n (drop c.args.from ws))) c.args.rows.now c.args.id c.index-rows-id.result c.move_words.new.self c.requires.room c.move_words.ensures.words
+
+pub returns-clause-room : goal.returns-clause-room
+returns-clause-room g c =
+    room_same g.S.Segment c.args.rows.now c.args.id c.index-rows-id.result c.move_words.new.self c.index-rows-id.is (c.move_words.ensures.capacity ∙ ap (capacity g.S.Segment) (sym c.index-rows-id.is))

@@ -31,3 +31,7 @@ returns-clause-words g c =
 pub returns-clause-room : goal.returns-clause-room
 returns-clause-room g c =
     room_same g.S.Segment c.args.rows.now c.args.id c.index-rows-id.result c.set_word.new.self c.index-rows-id.is (c.set_word.ensures.capacity ∙ ap (capacity g.S.Segment) (sym c.index-rows-id.is))
+
+pub bounds-rows-id : goal.bounds-rows-id
+bounds-rows-id g c =
+    row_there g.S.Segment c.args.rows.now c.args.id c.args.at c.requires

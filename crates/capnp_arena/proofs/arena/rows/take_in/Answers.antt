@@ -1,6 +1,6 @@
-use Rattle.std.proofs.Common.{ap, arith}
+use Rattle.std.proofs.Common.{ap, arith, ◌++◌, replicate, sym, ◌∙◌}
 use Rattle.capnp_arena.specs.Row.{capacity}
-use Rattle.capnp_arena.proofs.RowsLemmas.{row_old, room_is}
+use Rattle.capnp_arena.proofs.RowsLemmas.{row_old, room_is, row_over, room_same}
 use Rattle.capnp_arena.proofs.BoundsLemmas.{bounded_grown}
 use Rattle.capnp_arena.proofs.arena.rows.take_in.Goals as goal
 
@@ -14,3 +14,11 @@ take-requires g c =
 pub returns-clause-bounded : goal.returns-clause-bounded
 returns-clause-bounded g c =
     bounded_grown g.S.Segment c.args.rows.now c.args.id c.args.amount c.index-rows-id.result c.take.new.self c.index-rows-id.is c.take.ensures.capacity c.take.ensures.used c.take.ensures.bound
+
+pub returns-clause-taken : goal.returns-clause-taken
+returns-clause-taken g c =
+    row_over g.S.Segment (λ ws. ws ++ replicate c.args.amount 0) c.args.rows.now c.args.id c.index-rows-id.result c.take.new.self c.requires.there c.take.ensures.taken
+
+pub returns-clause-room : goal.returns-clause-room
+returns-clause-room g c =
+    room_same g.S.Segment c.args.rows.now c.args.id c.index-rows-id.result c.take.new.self c.index-rows-id.is (c.take.ensures.capacity ∙ ap (capacity g.S.Segment) (sym c.index-rows-id.is))

@@ -13,3 +13,7 @@ returns g c =
     let rows = c.args.rows.now in
     let there : c.args.id < length rows = row_there g.S.Segment rows c.args.id c.args.at c.requires in
     c.word.ensures ∙ ap (λ ws. slice_index ws c.args.at) (sym (row_is g.S.Segment rows c.args.id c.index-rows-id.result there c.index-rows-id.is))
+
+pub bounds-rows-id : goal.bounds-rows-id
+bounds-rows-id g c =
+    row_there g.S.Segment c.args.rows.now c.args.id c.args.at c.requires

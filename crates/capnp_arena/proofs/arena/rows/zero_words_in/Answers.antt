@@ -1,5 +1,7 @@
-use Rattle.std.proofs.Common.{ap, arith}
-use Rattle.capnp_arena.proofs.RowsLemmas.{row_old}
+use Rattle.capnp_arena.specs.Row.{capacity}
+use Rattle.capnp_arena_traits.specs.Written.{overwritten}
+use Rattle.std.proofs.Common.{ap, arith, replicate, sym, ◌∙◌}
+use Rattle.capnp_arena.proofs.RowsLemmas.{row_old, row_over, room_same}
 use Rattle.capnp_arena.proofs.BoundsLemmas.{bounded_over}
 use Rattle.capnp_arena.proofs.arena.rows.zero_words_in.Goals as goal
 
@@ -13,3 +15,11 @@ zero_words-requires g c =
 pub returns-clause-bounded : goal.returns-clause-bounded
 returns-clause-bounded g c =
     bounded_over g.S.Segment c.args.rows.now c.args.id c.index-rows-id.result c.zero_words.new.self c.index-rows-id.is c.zero_words.ensures.capacity c.zero_words.ensures.used c.zero_words.ensures.bound
+
+pub returns-clause-words : goal.returns-clause-words
+returns-clause-words g c =
+    row_over g.S.Segment (λ ws. overwritten ws c.args.at (replicate c.args.n 0)) c.args.rows.now c.args.id c.index-rows-id.result c.zero_words.new.self c.requires.there c.zero_words.ensures.words
+
+pub returns-clause-room : goal.returns-clause-room
+returns-clause-room g c =
+    room_same g.S.Segment c.args.rows.now c.args.id c.index-rows-id.result c.zero_words.new.self c.index-rows-id.is (c.zero_words.ensures.capacity ∙ ap (capacity g.S.Segment) (sym c.index-rows-id.is))

@@ -1,5 +1,5 @@
-use Rattle.std.proofs.Common.{arith}
-use Rattle.capnp_arena.proofs.RowsLemmas.{row_old, room_is}
+use Rattle.std.proofs.Common.{arith, ◌++◌, replicate}
+use Rattle.capnp_arena.proofs.RowsLemmas.{row_old, room_is, row_written, room_same}
 use Rattle.capnp_arena.proofs.BoundsLemmas.{bounded_taken}
 use Rattle.capnp_arena.proofs.arena.listed.Listed.take.Goals as goal
 
@@ -13,3 +13,11 @@ take-requires g c =
 pub invariant_of-self-clause-bounded : goal.invariant_of-self-clause-bounded
 invariant_of-self-clause-bounded g c =
     bounded_taken g.S.Segment c.args.self.now.rows.items c.args.id c.args.amount c.index_mut-row.result.now c.take.new.self c.index_mut-row.ensures.value c.take.ensures.capacity c.take.ensures.used c.take.ensures.bound c.args.self.now.bounded
+
+pub returns-clause-taken : goal.returns-clause-taken
+returns-clause-taken g c =
+    row_written g.S.Segment (λ ws. ws ++ replicate c.args.amount 0) c.args.self.now.rows.items c.args.id c.index_mut-row.result.now c.take.new.self c.requires.there c.index_mut-row.ensures.value c.take.ensures.taken
+
+pub returns-clause-room : goal.returns-clause-room
+returns-clause-room g c =
+    room_same g.S.Segment c.args.self.now.rows.items c.args.id c.index_mut-row.result.now c.take.new.self c.index_mut-row.ensures.value c.take.ensures.capacity

@@ -1,3 +1,4 @@
+use Rattle.capnp_arena.proofs.ItemsLemmas.{as_many_shown, others_shown}
 use Rattle.std.proofs.Common.{◌≡◌, ◌+◌, ◌≤◌, length, refl, sym, ap, ◌∙◌, subst, arith}
 use Rattle.std.proofs.lemmas.Bool.{false≢true}
 use Rattle.capnp_arena.specs.Bounds.{view_of_rows}
@@ -37,3 +38,15 @@ returns-in-None-clause-capacity g c =
     let b = c.args.self.now in
     let many : length c.first_by_bounds.new.rows ≡ length c.deref_mut.result.now = omega (arith, length_shown g.S.Segment c.first_by_bounds.new.rows, length_shown g.S.Segment c.deref_mut.result.now, ap length c.first_by_bounds.ensures.segments) in
     others_kept g.S.Segment b.there b.first b.others _ _ c.deref_mut.ensures.value many c.first_by_bounds.ensures.capacity
+
+pub returns-in-Some-clause-segments : goal.returns-in-Some-clause-segments
+returns-in-Some-clause-segments g c =
+    let seg = g.S.Segment in
+    let b = c.args.self.now in
+    others_shown seg b.there b.first b.others c.deref_mut.result.now c.first_by_bounds.new.rows c.deref_mut.ensures.value (as_many_shown seg c.deref_mut.result.now c.first_by_bounds.new.rows c.first_by_bounds.ensures.segments) c.first_by_bounds.ensures.segments
+
+pub returns-in-None-clause-segments : goal.returns-in-None-clause-segments
+returns-in-None-clause-segments g c =
+    let seg = g.S.Segment in
+    let b = c.args.self.now in
+    others_shown seg b.there b.first b.others c.deref_mut.result.now c.first_by_bounds.new.rows c.deref_mut.ensures.value (as_many_shown seg c.deref_mut.result.now c.first_by_bounds.new.rows c.first_by_bounds.ensures.segments) c.first_by_bounds.ensures.segments

@@ -1,6 +1,27 @@
-use Rattle.capnp_arena.proofs.ListedLemmas.{others_kept}
+use Rattle.std.proofs.Common.{◌++◌, replicate, arith}
+use Rattle.capnp_arena.proofs.ListedLemmas.{others_kept, first_written, first_kept, others_written, others_few, others_bounded}
 use Rattle.capnp_arena.proofs.arena.rows.Rows.take.Goals as goal
 
 pub returns-else-id-eq0-clause-room : goal.returns-else-id-eq0-clause-room
 returns-else-id-eq0-clause-room g c =
     others_kept g.S.Segment c.args.self.now.there c.args.self.now.first c.args.self.now.others _ _ c.deref_mut.ensures.value c.take_in.ensures.many c.take_in.ensures.room
+
+pub returns-then-id-eq0-clause-taken : goal.returns-then-id-eq0-clause-taken
+returns-then-id-eq0-clause-taken g c =
+    first_written g.S.Segment (λ ws. ws ++ replicate c.args.amount 0) c.args.self.now.there c.args.self.now.first c.take.new.self c.args.self.now.others.items c.args.id c.if-id-eq0.true c.requires.there c.take.ensures.taken
+
+pub returns-then-id-eq0-clause-room : goal.returns-then-id-eq0-clause-room
+returns-then-id-eq0-clause-room g c =
+    first_kept g.S.Segment c.args.self.now.there c.args.self.now.first c.take.new.self c.args.self.now.others.items c.take.ensures.capacity
+
+pub returns-else-id-eq0-clause-taken : goal.returns-else-id-eq0-clause-taken
+returns-else-id-eq0-clause-taken g c =
+    others_written g.S.Segment c.args.self.now.there c.args.self.now.first c.args.self.now.others _ _ c.args.id (λ ws. ws ++ replicate c.args.amount 0) c.args.self.now.few c.deref_mut.ensures.value c.take_in.ensures.many (omega (arith, c.if-id-eq0.false)) c.take_in.ensures.taken
+
+pub invariant_of-self-else-id-eq0-clause-few : goal.invariant_of-self-else-id-eq0-clause-few
+invariant_of-self-else-id-eq0-clause-few g c =
+    others_few g.S.Segment c.args.self.now.others _ _ _ c.deref_mut.ensures.value c.take_in.ensures.many c.args.self.now.few
+
+pub invariant_of-self-else-id-eq0-clause-bounded : goal.invariant_of-self-else-id-eq0-clause-bounded
+invariant_of-self-else-id-eq0-clause-bounded g c =
+    others_bounded g.S.Segment c.args.self.now.others _ _ c.deref_mut.ensures.value c.take_in.ensures.many c.take_in.ensures.bounded c.args.self.now.bounded
