@@ -36,23 +36,6 @@ module _ {S : Type 0} (g : Ghosts S) where
   of_listed P false v b e p = p
   of_listed P true v b e p = absurd (false≢true (sym e))
 
-  pub to_apart : (P : List (Row S g) → Type 0) (f : Bool) (v : Listed S g) (b : Rows S g) → f ≡ true → P (all g b) → P (arena_rows g f v b)
-  to_apart P false v b e p = absurd (false≢true e)
-  to_apart P true v b e p = p
-
-  pub to_listed : (P : List (Row S g) → Type 0) (f : Bool) (v : Listed S g) (b : Rows S g) → f ≡ false → P v.rows.items → P (arena_rows g f v b)
-  to_listed P false v b e p = p
-  to_listed P true v b e p = absurd (false≢true (sym e))
-
-  -- what is so of the rows before and after
-  pub both_apart : (P : List (Row S g) → List (Row S g) → Type 0) (f : Bool) (v : Listed S g) (old new : Rows S g) → f ≡ true → P (all g old) (all g new) → P (arena_rows g f v old) (arena_rows g f v new)
-  both_apart P false v old new e p = absurd (false≢true e)
-  both_apart P true v old new e p = p
-
-  pub both_listed : (P : List (Row S g) → List (Row S g) → Type 0) (f : Bool) (old new : Listed S g) (b : Rows S g) → f ≡ false → P old.rows.items new.rows.items → P (arena_rows g f old b) (arena_rows g f new b)
-  both_listed P false old new b e p = p
-  both_listed P true old new b e p = absurd (false≢true (sym e))
-
   -- how many rows there are at most
   pub kept_few : (f : Bool) (v : Listed S g) (b : Rows S g) → length (arena_rows g f v b) ≤ max_segments
   kept_few false v b = v.few
