@@ -34,9 +34,6 @@ few_after s m r n more same = omega arith
 pub rows_few : (s m r k i n : ℕ) → m ≤ s + 2 * (i * k) → r ≤ m + 2 * k → i < n → r ≤ s + 2 * (n * k)
 rows_few s m r k i n before row less = omega (arith, element_within k n i less)
 
-pub rows_room : (k i n : ℕ) → i < n → 2 * (i * k) + 2 * k ≤ 2 * (n * k)
-rows_room k i n less = omega (arith, element_within k n i less)
-
 pub some_in_rows : (k i n : ℕ) → i < n → 0 < k → 0 < n * k
 some_in_rows k i n less some = omega (arith, element_within k n i less)
 

@@ -20,6 +20,7 @@ pub mod NewRows
 pub mod NumberLists
 pub mod NumberSteps
 pub mod NumbersRead
+pub mod PadRooms
 pub mod PlainLists
 pub mod Pointed
 pub mod PointerSteps

@@ -1,26 +1,29 @@
 -- How many words a list of structs takes that is made of another list.
-use Rattle.std.proofs.Common.{◌≡◌, inl, inr, ℕ, ◌+◌, ◌*◌, ◌^◌, ◌<◌, ◌≤◌, max, Bool, true, false, cond, nat_lt, Option, Some, None, Result, Ok, Err, length, sym, ap, ap₂, ◌∙◌, subst, arith}
+use Rattle.std.proofs.Common.{◌≡◌, inl, inr, ℕ, ◌+◌, ◌-◌, ◌*◌, ◌^◌, ◌<◌, ◌≤◌, max, Bool, true, false, cond, nat_lt, Option, Some, None, Result, Ok, Err, length, refl, sym, ap, ap₂, ◌∙◌, subst, arith}
 use Rattle.capnp_words.specs.declared.error.ErrorKind.{ErrorKind}
 use Rattle.capnp_words.specs.declared.error.ErrorKind.TheVariants.{MessageTooLarge}
 use Rattle.capnp_arena_traits.specs.View.{View}
-use Rattle.capnp_format.specs.Segments.{Segments, leads, Target}
+use Rattle.capnp_format.specs.Segments.{Segments, segment, leads, Target}
 use Rattle.capnp_format.specs.Word.{list_count}
 use Rattle.capnp_format.specs.Tree.{Tree, Structs, count, element_count}
 use Rattle.capnp_format.specs.Forest.{target}
 use Rattle.capnp_words.specs.Sizes.{size_number}
 use Rattle.capnp_words.specs.declared.wire_pointer.StructSize.{StructSize}
 use Rattle.capnp_contents.specs.declared.existing.ExistingList.{ExistingList}
-use Rattle.capnp_making.specs.Memory.{HasRoom, SpendsMemory, RefusesWords}
-use Rattle.capnp_making.specs.Near.{HasOwnRoom}
+use Rattle.capnp_making.specs.Memory.{HasRoom, SpendsMemory, RefusesWords, start_of}
 use Rattle.capnp_making.specs.Made.{structs_words, zero_elements}
 use Rattle.capnp_making.proofs.PlacedStructs.{count-zero_elements}
+use Rattle.capnp_making.specs.declared.making.Start.{Start}
 use Rattle.capnp_widening.specs.declared.remaking.ElementRows.{ElementRows}
-use Rattle.capnp_widening.specs.Rooms.{GrowsByAtMost, RefusesGrowth, RefusesToBecome, widened_words, direct_pointers, HasRoomFor, RemadeRowsFit}
-use Rattle.capnp_widening.specs.RowsRemade.{StoresRows, IsList}
+use Rattle.capnp_widening.specs.Moved.{moves_into, near_pointers, rows_of_moves}
+use Rattle.capnp_widening.specs.Rooms.{GrowsByAtMost, RefusesGrowth, RefusesToBecome, widened_words, direct_pointers, HasRoomAndPads, HasRoomFor}
+use Rattle.capnp_widening.specs.RowsRemade.{StoresRows, IsList, element_moves}
 use Rattle.capnp_widening.specs.Widened.{fill_elements, struct_for_each, struct_for_each_tree, limited, list_widened}
 use Rattle.capnp_widening.proofs.Listed.{structs_widen}
 use Rattle.capnp_widening.proofs.ListsWidened.{count-struct_for_each, count-struct_for_each_tree}
+use Rattle.capnp_widening.proofs.PadRooms.{near_few, near_same_rows}
 use Rattle.capnp_widening.proofs.Refusing.{growth_named}
+use Rattle.capnp_widening.proofs.Rows.{no_moves}
 use Rattle.capnp_widening.proofs.PlainLists.{are_pointers, pointers_of, has_pointers, are_numbers, void_of, are_void, numbers_limited}
 use Rattle.capnp_widening.proofs.StructLists.{are_structs, rows_of, has_rows}
 use Rattle.capnp_widening.proofs.Widenings.{count-fill_elements}
@@ -38,6 +41,15 @@ pub record AreRows (S : Segments) (s p : ℕ) (t u : Tree) (rows : ElementRows) 
   pub there : (target S s p).segment ≡ rows.segment
   pub words : widened_words u ≡ 1 + rows.count * (size.data_words + size.pointers)
   pub pointers : direct_pointers t ≡ rows.count * rows.size.pointers
+  pub near : (to : Start) → near_pointers S (moves_into (start_of (target S s p)) (start_of (target S s p)) t u) ≡ near_pointers S (element_moves rows to size)
+
+-- the pointers of elements, from a place on
+near_of_rows : (S : Segments) (a h : Start) (p w k n r z : ℕ) (rows : ElementRows) (size : StructSize) → rows.segment ≡ a.segment → rows.at + rows.tag + rows.size.data_words ≡ p → rows.size.data_words + rows.size.pointers ≡ w → rows.size.pointers ≡ k → rows.count ≡ n →
+    near_pointers S (rows_of_moves a.segment p w a.segment r z k n) ≡ near_pointers S (element_moves rows h size)
+near_of_rows S a h p w k n r z rows size segment at step pointers count =
+    let near : ℕ → ℕ → ℕ → ℕ → ℕ → ℕ = λ b c d e f. near_pointers S (rows_of_moves b c d h.segment (h.at + size.data_words) (size.data_words + size.pointers) e f) in
+    near_same_rows S S a.segment p w a.segment r z h.segment (h.at + size.data_words) (size.data_words + size.pointers) k n (p + n * w + k) (omega arith) (λ y l. refl)
+    ∙ sym (ap₂ (λ b c. near b c (rows.size.data_words + rows.size.pointers) rows.size.pointers rows.count) segment at ∙ ap₂ (λ d e. near a.segment p d e rows.count) step pointers ∙ ap (near a.segment p w k) count)
 
 pub pointers_are : (S : Segments) (s p : ℕ) (t u : Tree) (l : ExistingList) (size wide : StructSize) → size_number l.size ≡ 6 → wide.data_words ≡ size.data_words → wide.pointers ≡ max 1 size.pointers → IsList S s p l t →
     list_widened size.data_words size.pointers t ≡ Ok u → AreRows S s p t u (pointers_of l) wide
@@ -52,6 +64,9 @@ pointers_are S s p t u l size wide is wd wp i e =
       there = sym (ap (λ (o : ExistingList). o.segment) k.list);
       words = ap widened_words same ∙ ap₂ (λ x y. 1 + x * y) (count-struct_for_each_tree d q k.children ∙ sym n) (ap₂ (λ x y. x + y) (sym wd) (sym wp));
       pointers = ap direct_pointers k.tree_of ∙ omega (arith, n);
+      near = λ to. (let a : Start = start_of (target S s p) in
+          ap₂ (λ x y. near_pointers S (moves_into a a x y)) k.tree_of same
+          ∙ near_of_rows S a to a.at 1 1 (count k.children) (a.at + 1 + d) (d + max 1 q) (pointers_of l) wide (ap (λ (o : ExistingList). o.segment) k.list) (omega (arith, ap (λ (o : ExistingList). o.start) k.list)) refl refl n);
     }
 
 pub void_are : (S : Segments) (s p n : ℕ) (t u : Tree) (l : ExistingList) (size : StructSize) → size_number l.size ≡ 0 → ((a : Target) → leads S s p ≡ Some a → n ≡ list_count a.word) → IsList S s p l t →
@@ -66,6 +81,8 @@ void_are S s p n t u l size is counts i e =
       there = sym (ap (λ (o : ExistingList). o.segment) (are_numbers S s p t l (omega (arith, is)) i).list);
       words = ap widened_words same ∙ ap (λ x. 1 + x * (d + q)) (count-zero_elements d q (length k.numbers) ∙ sym k.counts);
       pointers = ap direct_pointers k.tree_of ∙ omega arith;
+      near = λ to. ap (λ x. near_pointers S (moves_into (start_of (target S s p)) (start_of (target S s p)) x u)) k.tree_of
+          ∙ sym (ap (near_pointers S) (no_moves l.segment (l.start + 0 + 0) (0 + 0) to.segment (to.at + size.data_words) (size.data_words + size.pointers) n));
     }
 
 pub structs_are : (S : Segments) (s p : ℕ) (t u : Tree) (l : ExistingList) (size wide : StructSize) → size_number l.size ≡ 7 → (size.data_words ≤ l.struct_size.data_words → size.pointers ≤ l.struct_size.pointers → ⊥) →
@@ -84,12 +101,17 @@ structs_are S s p t u l size wide is narrow wd wp i e =
       there = sym (ap (λ (o : ExistingList). o.segment) k.list);
       words = ap widened_words same ∙ ap₂ (λ x y. 1 + x * y) (count-fill_elements d q k.elements ∙ sym n) (ap₂ (λ x y. x + y) (sym wd) (sym wp));
       pointers = ap direct_pointers k.tree ∙ ap (λ x. x * g) (sym n);
+      near = λ to. (let a : Start = start_of (target S s p) in
+          ap₂ (λ x y. near_pointers S (moves_into a a x y)) k.tree same
+          ∙ near_of_rows S a to (a.at + 1 + f) (f + g) g (element_count k.elements) (a.at + 1 + max f d) (max f d + max g q) (rows_of l) wide (ap (λ (o : ExistingList). o.segment) k.list) (omega (arith, ap (λ (o : ExistingList). o.start) k.list)) refl refl n);
     }
 
 -- so the room for it is the room for the rows
-pub rows_fit : (v : View) (s p : ℕ) (t u : Tree) (rows : ElementRows) (size : StructSize) → AreRows v.words s p t u rows size → HasRoomFor v s p t u → RemadeRowsFit v s rows size
-rows_fit v s p t u rows size r (inl fits) = inl (subst (λ m. HasRoom v s m) (ap₂ (λ x y. x + 2 * y) r.words r.pointers) fits)
-rows_fit v s p t u rows size r (inr (here, fits)) = inr (sym r.there ∙ here, subst (λ m. HasOwnRoom v s m) r.words fits)
+pub rows_fit : (v : View) (s p : ℕ) (t u : Tree) (rows : ElementRows) (size : StructSize) (to : Start) → AreRows v.words s p t u rows size → HasRoomFor v s p t u → HasRoomAndPads v s (structs_words rows.count size) rows.segment (near_pointers v.words (element_moves rows to size))
+rows_fit v s p t u rows size to r fits =
+    let n : ℕ = near_pointers v.words (element_moves rows to size) in
+    let near = subst (λ i. HasRoomAndPads v s (widened_words u) (target v.words s p).segment i) (r.near to) fits in
+    subst (λ m. HasRoomAndPads v s m rows.segment n) r.words (subst (λ k. HasRoomAndPads v s (widened_words u) k n) r.there near)
 
 pub rows_few : (S R : Segments) (s p : ℕ) (t u : Tree) (rows : ElementRows) (size : StructSize) → AreRows S s p t u rows size → GrowsByAtMost S R (structs_words rows.count size + 1 + 2 * (rows.count * rows.size.pointers)) → GrowsByAtMost S R (widened_words u + 1 + 2 * direct_pointers t)
 rows_few S R s p t u rows size r few = subst (λ m. GrowsByAtMost S R m) (sym (ap₂ (λ x y. x + 1 + 2 * y) r.words r.pointers)) few
@@ -110,9 +132,8 @@ room_small : (v : View) (s n : ℕ) → ((k : ℕ) → v.room k < 2 ^ 29) → Ha
 room_small v s n small (inl fits) = omega (arith, fits, small s)
 room_small v s n small (inr (k, fit)) = omega (arith, fit.1, small k)
 
-pub rows_small : (v : View) (s : ℕ) (rows : ElementRows) (size : StructSize) → ((k : ℕ) → v.room k < 2 ^ 29) → RemadeRowsFit v s rows size → rows.count * (size.data_words + size.pointers) < 2 ^ 29
-rows_small v s rows size small (inl fits) = omega (arith, room_small v s _ small fits)
-rows_small v s rows size small (inr (here, fits)) = omega (arith, fits, small s)
+pub rows_small : (v : View) (s n m : ℕ) → ((k : ℕ) → v.room k < 2 ^ 29) → HasRoom v s (1 + n + m) → n < 2 ^ 29
+rows_small v s n m small fits = omega (arith, room_small v s (1 + n + m) small fits)
 
 -- numbers have no pointers
 pub numbers_take : (S : Segments) (s p : ℕ) (t u : Tree) (l : ExistingList) (size wide : StructSize) → 2 ≤ size_number l.size → size_number l.size ≤ 5 → wide.data_words ≡ max 1 size.data_words → wide.pointers ≡ size.pointers →
@@ -137,8 +158,10 @@ numbers_unmade a b s p n l size k memory full same are = record {
 }
 
 pub numbers_fit : (v : View) (s p m : ℕ) (t u : Tree) → (widened_words u ≡ m) × (direct_pointers t ≡ 0) → HasRoomFor v s p t u → HasRoom v s m
-numbers_fit v s p m t u (e, none) (inl fits) = subst (λ i. HasRoom v s i) (let f : widened_words u + 2 * direct_pointers t ≡ m = omega (arith, e, none) in f) fits
-numbers_fit v s p m t u (e, none) (inr (here, fits)) = inl (subst (λ i. HasOwnRoom v s i) e fits)
+numbers_fit v s p m t u (e, none) fits =
+    let a : Start = start_of (target v.words s p) in
+    let few = near_few v.words a a t u in
+    subst (λ i. HasRoom v s i) (let f : widened_words u + 2 * (near_pointers v.words (moves_into a a t u) - (v.room a.segment - length (segment v.words a.segment))) ≡ m = omega (arith, e, none, few) in f) fits
 
 pub numbers_small : (v : View) (s n : ℕ) → ((k : ℕ) → v.room k < 2 ^ 29) → HasRoom v s (1 + n) → n < 2 ^ 29
 numbers_small v s n small fits = omega (arith, room_small v s (1 + n) small fits)

@@ -29,7 +29,7 @@ pad_null s v x e = grind (arith, nat_tests)
 pad_copied : (s v x : ℕ) → 2 ≤ kind x → pad_words s v x ≡ 0
 pad_copied s v x l = grind (arith, nat_tests)
 
-pad_far : (s v x : ℕ) → s ≢ v → x ≢ 0 → kind x < 2 → pad_words s v x ≡ 1
+pub pad_far : (s v x : ℕ) → s ≢ v → x ≢ 0 → kind x < 2 → pad_words s v x ≡ 1
 pad_far s v x other some l = grind (arith, nat_tests)
 
 -- one that is copied

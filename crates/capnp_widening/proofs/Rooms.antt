@@ -10,7 +10,8 @@ use Rattle.capnp_arena_traits.specs.Taking.{IsFirstFit, IsFull, IsTaken, SameRoo
 use Rattle.capnp_arena_traits.specs.View.{View, KeepsLimits}
 use Rattle.capnp_arena_traits.specs.Written.{extended, with_word}
 use Rattle.capnp_making.specs.Memory.{HasRoom, RefusesWords}
-use Rattle.capnp_widening.specs.Rooms.{GrowsByAtMost, HasSomeRoom}
+use Rattle.capnp_making.specs.Near.{HasOwnRoom}
+use Rattle.capnp_widening.specs.Rooms.{GrowsByAtMost}
 
 -- the words of all segments
 abbrev pub all_words : Segments → ℕ
@@ -74,6 +75,10 @@ gained [] R n k g t = omega (arith, one_of_all R k)
 gained (s ∷ S) [] n k g t = absurd (omega (arith, g.segments))
 gained (s ∷ S) (r ∷ R) n zero g t = omega (arith, none_fewer S R (behind s r S R g), more_words s S, more_words r R)
 gained (s ∷ S) (r ∷ R) n (suc k) g t = gained S R n k (behind s r S R g) (omega (arith, g.words 0, more_words s S, more_words r R))
+
+-- some segment has room for n words more
+abbrev pub HasSomeRoom : View → ℕ → Type 0
+HasSomeRoom v n = (k : ℕ) × (k < length v.words) × HasOwnRoom v k n
 
 -- the room that is left
 

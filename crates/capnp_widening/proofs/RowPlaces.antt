@@ -14,6 +14,9 @@ pub row_inside : (at step k n i place length now : ℕ) → at + n * step + k �
 row_inside at step k n i place length now inside less is more =
     omega (arith, element_within step n i less)
 
+pub row_there : (at step k n i : ℕ) {length : ℕ} → at + n * step + k ≤ length + step → i < n → at + i * step + k ≤ length
+row_there at step k n i inside less = omega (arith, element_within step n i less)
+
 pub row_behind_fits : (at step k n i place length room : ℕ) → at + n * step + k ≤ length + step → i < n →
     place ≡ at + i * step → length ≤ room → room < 2 ^ 29 → step < 2 ^ 18 → place + step < 2 ^ 32
 row_behind_fits at step k n i place length room inside less is within small narrow =

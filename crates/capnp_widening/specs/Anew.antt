@@ -4,7 +4,7 @@ use Rattle.std.specs.Prelude.{◌*◌, IfErr, IfOk, IsOk, List, [], ◌∷◌, l
 use Rattle.capnp_words.specs.declared.error.ErrorKind.{ErrorKind}
 use Rattle.capnp_format.specs.Forest.{target}
 use Rattle.capnp_format.specs.Segments.{Segments, Grows, segment, word_at}
-use Rattle.capnp_format.specs.Tree.{Tree, Null, Struct, Pointers, Structs, Trees, count, element_count}
+use Rattle.capnp_format.specs.Tree.{Tree, Null, Struct, Trees}
 use Rattle.capnp_words.specs.declared.wire_pointer.StructSize.{StructSize}
 use Rattle.capnp_format.specs.Word.{kind, is_double, struct_word, upper_half}
 use Rattle.capnp_arena_traits.specs.View.{View, KeepsLimits}
@@ -12,9 +12,8 @@ use Rattle.capnp_contents.specs.declared.existing.ExistingStruct.{ExistingStruct
 use Rattle.capnp_making.specs.Makes.{CallAt}
 use Rattle.capnp_making.specs.Memory.{KeepsMemory, SpendsMemory, RefusesWords}
 use Rattle.capnp_making.specs.Memory.{StandsBehind, TakesWords, start_of}
-use Rattle.capnp_making.specs.declared.making.Start.{Start}
-use Rattle.capnp_widening.specs.Moved.{CanMove, Move, Moves, MovesSome, row_of_moves, rows_of_moves}
-use Rattle.capnp_widening.specs.Rooms.{GrowsByAtMost, HasSomeRoom, widened_words}
+use Rattle.capnp_widening.specs.Moved.{CanMove, Move, Moves, MovesSome, moves_into, near_pointers}
+use Rattle.capnp_widening.specs.Rooms.{GrowsByAtMost, HasPadRoom, widened_words}
 use Rattle.capnp_widening.specs.Widened.{HasSections, LeadsToWiderStruct, LeavesAll, WidensStruct}
 use Rattle.capnp_widening.specs.Widened.{list_widened, rewriting, widened}
 
@@ -67,8 +66,8 @@ WritesAnew old new ms =
     (S : Segments) → CanMove S old.words ms →
     AreWrittenAnew S new.words ms × TakesPadsInTurn S old new ms
 
--- A call moves n pointers in turn, and takes at most two words for each. Or two words are refused,
--- which they never are where there is room for all: then some of the first pointers are moved.
+-- A call moves n pointers in turn, and takes at most two words for each. Or two words are refused:
+-- then some of the first pointers are moved.
 pub record MovesInTurn {A : Type 0} (result : Result A ErrorKind) (old new : View) (ms : List Move)
     (n : ℕ) : Type 0 where
   pub moved : OnOk result (Moves old.words new.words ms)
@@ -79,7 +78,16 @@ pub record MovesInTurn {A : Type 0} (result : Result A ErrorKind) (old new : Vie
   pub memory : IfErr result (SpendsMemory old new)
   pub full : IfErr result (λ k. (0 < n) × RefusesWords old new 1 k)
   pub few : GrowsByAtMost old.words new.words (2 * n)
-  pub fits : HasSomeRoom old (2 * n) → IsOk result
+
+-- A call moves these pointers out of segment k into another one. It is granted where there is room
+-- for their landing pads; where there was room for n pads more, it is left. The old words of segment
+-- k stay.
+pub record MovesApart {A : Type 0} (result : Result A ErrorKind) (old new : View) (k : ℕ)
+    (ms : List Move) : Type 0 where
+  pub fits : (n : ℕ) → HasPadRoom old k (near_pointers old.words ms + n) → IsOk result ×
+      HasPadRoom new k n
+  pub kept : OnOk result ((y : ℕ) → y < length (segment old.words k) →
+      word_at new.words k y ≡ word_at old.words k y)
 
 -- A call makes an object of n words anew, to which its place leads, behind all words that were
 -- there, and writes these pointers into it. Its words are taken first, then those of the landing
@@ -91,16 +99,6 @@ pub record StandsAnew (c : CallAt) (n : ℕ) (ms : List Move) : Type 0 where
   pub kept : KeepsMemory c.old begun
   pub object : TakesWords c.old begun c.segment n
   pub pads : TakesPadsInTurn c.old.words begun c.new ms
-
--- The pointers of an object t at a, as they go into the object at b that it becomes, which is u.
-abbrev pub moves_into : Start → Start → Tree → Tree → List Move
-moves_into a b (Struct ws ts) (Struct vs us) =
-    row_of_moves a.segment (a.at + length ws) b.segment (b.at + length vs) (count ts)
-moves_into a b (Pointers ts) (Structs d q es) =
-    rows_of_moves a.segment a.at 1 b.segment (b.at + 1 + d) (d + q) 1 (count ts)
-moves_into a b (Structs e k es) (Structs d q fs) =
-    rows_of_moves a.segment (a.at + 1 + e) (e + k) b.segment (b.at + 1 + d) (d + q) k (element_count es)
-moves_into a b t u = []
 
 -- A call makes an object anew that was t, and becomes u.
 abbrev pub BecomesAnew : CallAt → Tree → Tree → Type 0

@@ -1,13 +1,14 @@
 -- Pointers written anew at other places, to what the old ones lead to ("Inter-Segment Pointers").
 use Rattle.std.specs.Prelude.{flat_map, ◌≡◌, ℕ, zero, suc, ◌+◌, ◌%◌, ◌^◌, ◌<◌, ◌≤◌, ◌⊎◌}
-use Rattle.std.specs.Prelude.{if◌then◌else◌, nat_eq, List, [], ◌∷◌, ◌++◌, length, ⊤}
+use Rattle.std.specs.Prelude.{if◌then◌else◌, nat_eq, nat_lt, List, [], ◌∷◌, ◌++◌, length, ⊤}
 use Rattle.capnp_format.specs.Word.{kind, upper_half}
 use Rattle.capnp_format.specs.Segments.{Segments, Grows, segment, word_at, Target}
-use Rattle.capnp_format.specs.Tree.{Tree}
+use Rattle.capnp_format.specs.Tree.{Tree, Struct, Pointers, Structs, count, element_count}
 use Rattle.capnp_format.specs.Means.{Leads, Means}
 use Rattle.capnp_format.specs.Forest.{Interval, times, pads_of}
 use Rattle.capnp_making.specs.Path.{word_interval, extent}
 use Rattle.capnp_making.specs.Zeroed.{IsZeroed}
+use Rattle.capnp_making.specs.declared.making.Start.{Start}
 
 -- Where the objects of two targets start: at one place, or they have no words, being structs of
 -- none or capabilities.
@@ -53,6 +54,24 @@ row_of_moves s p v r (suc k) = a_move s p v r ∷ row_of_moves s (p + 1) v (r + 
 abbrev pub rows_of_moves : ℕ → ℕ → ℕ → ℕ → ℕ → ℕ → ℕ → ℕ → List Move
 rows_of_moves s p w v r z k zero = []
 rows_of_moves s p w v r z k (suc n) = row_of_moves s p v r k ++ rows_of_moves s (p + w) w v (r + z) z k n
+
+-- The pointers of an object t at a, as they go into the object at b that it becomes, which is u.
+abbrev pub moves_into : Start → Start → Tree → Tree → List Move
+moves_into a b (Struct ws ts) (Struct vs us) =
+    row_of_moves a.segment (a.at + length ws) b.segment (b.at + length vs) (count ts)
+moves_into a b (Pointers ts) (Structs d q es) =
+    rows_of_moves a.segment a.at 1 b.segment (b.at + 1 + d) (d + q) 1 (count ts)
+moves_into a b (Structs e k es) (Structs d q fs) =
+    rows_of_moves a.segment (a.at + 1 + e) (e + k) b.segment (b.at + 1 + d) (d + q) k (element_count es)
+moves_into a b t u = []
+
+-- How many of the old pointers are near, null apart: in another segment each of these needs a
+-- landing pad.
+abbrev pub near_pointers : Segments → List Move → ℕ
+near_pointers S [] = 0
+near_pointers S (m ∷ ms) =
+    (if nat_eq (word_at S m.segment m.at) 0 then 0
+    else if nat_lt (kind (word_at S m.segment m.at)) 2 then 1 else 0) + near_pointers S ms
 
 -- The old places and the new ones.
 abbrev pub old_places : List Move → List Interval

@@ -1,27 +1,35 @@
 -- The words that making an object wider takes, and the room for them.
-use Rattle.std.specs.Prelude.{◌≡◌, ◌⊎◌, ℕ, ◌+◌, ◌*◌, ◌<◌, ◌≤◌, Bool, true, false, Result, Ok, List}
+use Rattle.std.specs.Prelude.{◌≡◌, ◌≢◌, ◌⊎◌, ℕ, ◌+◌, ◌-◌, ◌*◌, ◌<◌, ◌≤◌, Bool, true, false, Result, Ok, List}
 use Rattle.std.specs.Prelude.{length, sum_by}
 use Rattle.capnp_words.specs.declared.error.ErrorKind.{ErrorKind}
 use Rattle.capnp_words.specs.declared.error.ErrorKind.TheVariants.{AllocationFailed, MessageTooLarge}
-use Rattle.capnp_format.specs.Segments.{Segments, word_at}
+use Rattle.capnp_format.specs.Segments.{Segments, segment, word_at}
 use Rattle.capnp_format.specs.Tree.{Tree, Struct, Pointers, Structs, Trees, count, element_count}
 use Rattle.capnp_format.specs.Forest.{target}
 use Rattle.capnp_words.specs.declared.wire_pointer.StructSize.{StructSize}
 use Rattle.capnp_arena_traits.specs.View.{View}
-use Rattle.capnp_making.specs.Made.{structs_words}
-use Rattle.capnp_making.specs.Memory.{HasRoom, SpendsMemory, RefusesWords}
+use Rattle.capnp_making.specs.Memory.{HasRoom, SpendsMemory, RefusesWords, start_of}
 use Rattle.capnp_making.specs.Near.{HasOwnRoom}
 use Rattle.capnp_making.specs.Stored.{IsStored}
-use Rattle.capnp_widening.specs.declared.remaking.ElementRows.{ElementRows}
+use Rattle.capnp_making.specs.declared.making.Start.{Start}
+use Rattle.capnp_widening.specs.Moved.{moves_into, near_pointers}
 use Rattle.capnp_widening.specs.Widened.{widened, list_widened}
 
 -- From S to R at most n words are taken.
 abbrev pub GrowsByAtMost : Segments → Segments → ℕ → Type 0
 GrowsByAtMost S R n = sum_by length R ≤ sum_by length S + n
 
--- Some segment has room for n words more.
-abbrev pub HasSomeRoom : View → ℕ → Type 0
-HasSomeRoom v n = (k : ℕ) × (k < length v.words) × HasOwnRoom v k n
+-- There is room for landing pads of n objects in segment k: one word each in that segment, as far as
+-- it has room, and for the others two words each in another one.
+abbrev pub HasPadRoom : View → ℕ → ℕ → Type 0
+HasPadRoom v k n = (j : ℕ) × (j < length v.words) × (j ≢ k)
+    × HasOwnRoom v j (2 * (n - (v.room k - length (segment v.words k))))
+
+-- There is room for an object of m words, whose pointer stands in segment s, and for landing pads of
+-- n objects in segment k: one word each in that segment, as far as it has room, and for the others
+-- two words each, beside the object.
+abbrev pub HasRoomAndPads : View → ℕ → ℕ → ℕ → ℕ → Type 0
+HasRoomAndPads v s m k n = HasRoom v s (m + 2 * (n - (v.room k - length (segment v.words k))))
 
 -- The words of a struct and of a list of structs, and how many pointers a struct and the elements
 -- of a list have.
@@ -59,11 +67,11 @@ pub record RefusesToBecome (Stands : Tree → Type 0) (becomes : Tree → Result
   pub full : (t u : Tree) → Stands t → becomes t ≡ Ok u →
       RefusesGrowth old new (widened_words u) (direct_pointers t) k
 
--- There is room for u, which t becomes at a place, and for two words for each pointer of t; or t
--- stands in the segment of the place, and that has room for u.
+-- There is room for u, which t becomes at a place, and for landing pads of the near pointers of t.
 abbrev pub HasRoomFor : View → ℕ → ℕ → Tree → Tree → Type 0
-HasRoomFor v s p t u = HasRoom v s (widened_words u + 2 * direct_pointers t) ⊎
-    (((target v.words s p).segment ≡ s) × HasOwnRoom v s (widened_words u))
+HasRoomFor v s p t u =
+    let a : Start = start_of (target v.words s p) in
+    HasRoomAndPads v s (widened_words u) a.segment (near_pointers v.words (moves_into a a t u))
 
 -- The place stores a struct, and there is room for what it becomes.
 abbrev pub WiderStructFits : View → ℕ → ℕ → StructSize → Type 0
@@ -97,10 +105,3 @@ abbrev pub GrowsForList : (Tree → Type 0) → Segments → Segments → Struct
 GrowsForList Stands S R size =
     (t u : Tree) → Stands t → list_widened size.data_words size.pointers t ≡ Ok u →
     GrowsByAtMost S R (widened_words u + 1 + 2 * direct_pointers t)
-
--- There is room for a list of structs of a size made of these elements, and for two words for each
--- of their pointers; or they stand in segment s, and that has room for the list.
-abbrev pub RemadeRowsFit : View → ℕ → ElementRows → StructSize → Type 0
-RemadeRowsFit v s rows size =
-    HasRoom v s (structs_words rows.count size + 2 * (rows.count * rows.size.pointers)) ⊎
-    ((rows.segment ≡ s) × HasOwnRoom v s (structs_words rows.count size))

@@ -15,10 +15,10 @@ ghost use Rattle.capnp_making.specs.Makes.{call_at};
 ghost use Rattle.capnp_making.specs.Memory.{KeepsMemory, SpendsMemory, RefusesWords};
 ghost use Rattle.capnp_making.specs.Path.{word_interval};
 ghost use Rattle.capnp_making.specs.Zeroed.{IsPruned};
-ghost use Rattle.capnp_widening.specs.Anew.{MovesInTurn, WritesAnew, WritesPointer};
+ghost use Rattle.capnp_widening.specs.Anew.{MovesApart, MovesInTurn, WritesAnew, WritesPointer};
 ghost use Rattle.capnp_widening.specs.Moved.{a_move, row_of_moves, Moves, Unmoves, rows_of_moves};
 ghost use Rattle.capnp_widening.specs.Pointed.{HasPlainPads, PointsTo};
-ghost use Rattle.capnp_widening.specs.Rooms.{GrowsByAtMost, HasSomeRoom};
+ghost use Rattle.capnp_widening.specs.Rooms.{GrowsByAtMost, HasPadRoom};
 
 use capnp_arena_traits::arena::BuilderArena;
 use capnp_making::landing::{length_of, word_of};
@@ -47,8 +47,10 @@ pub fn move_pointer<A: BuilderArena>(arena: &mut A, from: Start, to: Start) -> R
     ensures full { IfErr result (RefusesWords (A.view arena.old) (A.view arena.new) 1) }
     ensures refused { OnErr result ((A.view arena.new).words ≡ (A.view arena.old).words) }
     ensures few { GrowsByAtMost (A.view arena.old).words (A.view arena.new).words 2 }
-    ensures fits { HasSomeRoom (A.view arena.old) 2 → IsOk result }
     ensures near { from.segment ≡ to.segment → IsOk result }
+    ensures apart { from.segment ≢ to.segment
+        → MovesApart result (A.view arena.old) (A.view arena.new) from.segment
+        (a_move from.segment from.at to.segment to.at ∷ []) }
 {
     let word = word_of(arena, from.segment, from.at);
     if word.is_null() {
@@ -105,8 +107,8 @@ fn point_to<A: BuilderArena>(
     ensures full { IfErr result (RefusesWords (A.view arena.old) (A.view arena.new) 1) }
     ensures refused { OnErr result ((A.view arena.new).words ≡ (A.view arena.old).words) }
     ensures few { GrowsByAtMost (A.view arena.old).words (A.view arena.new).words 2 }
-    ensures fits { HasSomeRoom (A.view arena.old) 2 → IsOk result }
     ensures near { object.segment ≡ to.segment → IsOk result }
+    ensures fits { HasPadRoom (A.view arena.old) object.segment 1 → IsOk result }
     ensures pads { OnOk result (HasPlainPads (A.view arena.new).words
         (word_at (A.view arena.new).words to.segment to.at)) }
 {
@@ -194,6 +196,9 @@ pub fn move_row<A: BuilderArena>(
     ensures moves { MovesInTurn result (A.view arena.old) (A.view arena.new)
         (row_of_moves from.segment from.at to.segment to.at count) count }
     ensures near { from.segment ≡ to.segment → IsOk result }
+    ensures apart { from.segment ≢ to.segment
+        → MovesApart result (A.view arena.old) (A.view arena.new) from.segment
+        (row_of_moves from.segment from.at to.segment to.at count) }
 {
     if from.segment == to.segment {
         move_each(arena, from, to, count)
@@ -216,6 +221,9 @@ fn move_row_apart<A: BuilderArena>(
     ensures moves { MovesInTurn result (A.view arena.old) (A.view arena.new)
         (row_of_moves from.segment from.at to.segment to.at count) count }
     ensures near { from.segment ≡ to.segment → IsOk result }
+    ensures apart { from.segment ≢ to.segment
+        → MovesApart result (A.view arena.old) (A.view arena.new) from.segment
+        (row_of_moves from.segment from.at to.segment to.at count) }
 {
     move_each(arena, from, to, count)
 }
@@ -233,6 +241,9 @@ fn move_each<A: BuilderArena>(
     ensures moves { MovesInTurn result (A.view arena.old) (A.view arena.new)
         (row_of_moves from.segment from.at to.segment to.at count) count }
     ensures near { from.segment ≡ to.segment → IsOk result }
+    ensures apart { from.segment ≢ to.segment
+        → MovesApart result (A.view arena.old) (A.view arena.new) from.segment
+        (row_of_moves from.segment from.at to.segment to.at count) }
 {
     for i in 0..count {
         let source = Start {
@@ -308,6 +319,9 @@ pub fn move_rows<A: BuilderArena>(
         (rows_of_moves from.segment from.at from.step to.segment to.at to.step pointers count)
         (count * pointers) }
     ensures near { from.segment ≡ to.segment → IsOk result }
+    ensures apart { from.segment ≢ to.segment
+        → MovesApart result (A.view arena.old) (A.view arena.new) from.segment
+        (rows_of_moves from.segment from.at from.step to.segment to.at to.step pointers count) }
 {
     let mut source = from.at;
     let mut place = to.at;

@@ -1,17 +1,17 @@
 //! Lists of structs made anew of the elements of other lists: their data words are copied, and their
 //! pointers moved, element by element.
-ghost use Rattle.std.specs.Prelude.{ℕ, ◌≡◌, ◌↔◌, ◌<◌, ◌≤◌, ◌+◌, ◌*◌, ◌^◌, IsTrue, length, IsOk, IfOk, OnOk, IfErr, OnErr};
+ghost use Rattle.std.specs.Prelude.{ℕ, ◌≡◌, ◌≢◌, ◌↔◌, ◌<◌, ◌≤◌, ◌+◌, ◌*◌, ◌^◌, IsTrue, length, IsOk, IfOk, OnOk, IfErr, OnErr};
 ghost use Rattle.capnp_arena_traits.specs.View.{KeepsLimits};
 ghost use Rattle.capnp_format.specs.Segments.{Segments, segment, IsPlace, Grows};
 ghost use Rattle.capnp_making.specs.Made.{structs_words};
-ghost use Rattle.capnp_making.specs.Memory.{HasRoom, KeepsMemory, SpendsMemory, RefusesWords, StandsBehind, TakesWords};
-ghost use Rattle.capnp_making.specs.Near.{HasOwnRoom};
-ghost use Rattle.capnp_widening.specs.Rooms.{GrowsByAtMost, HasSomeRoom, RefusesGrowth, RemadeRowsFit};
+ghost use Rattle.capnp_making.specs.Memory.{KeepsMemory, SpendsMemory, RefusesWords, StandsBehind, TakesWords};
+ghost use Rattle.capnp_widening.specs.Rooms.{GrowsByAtMost, HasPadRoom, HasRoomAndPads, RefusesGrowth};
 ghost use Rattle.capnp_widening.specs.Housed.{IsRoom, object_start};
-ghost use Rattle.capnp_widening.specs.Moved.{MovesSome, Unmoves};
+ghost use Rattle.capnp_widening.specs.Moved.{MovesSome, Unmoves, near_pointers};
 ghost use Rattle.capnp_widening.specs.RowsRemade.{AreRowsCopied, CopiesData, FillsRows, IsTagWritten, MakesListAnew, RowsInside, RefusesRows, StoresRows, element_moves};
 ghost use Rattle.capnp_widening.specs.Widened.{rewriting};
 ghost use Rattle.capnp_making.specs.Makes.{call_at};
+ghost use Rattle.capnp_making.specs.declared.making.Start.{Start};
 
 use crate::moving::{PointerRows, move_rows, unmove_rows};
 use crate::widening::{Room, copy_words, settle, take};
@@ -101,10 +101,9 @@ pub(crate) fn begin_list<A: BuilderArena>(
     ensures refused { OnErr result ((A.view arena.new).words ≡ (A.view arena.old).words) }
     ensures few { GrowsByAtMost (A.view arena.old).words (A.view arena.new).words
         (structs_words count size + 1) }
-    ensures fits { (n : ℕ) → HasRoom (A.view arena.old) id (structs_words count size + n)
-        → IsOk result × HasSomeRoom (A.view arena.new) n }
-    ensures near { HasOwnRoom (A.view arena.old) id (structs_words count size)
-        → IsOk result × IfOk result (λ r. r.segment ≡ id) }
+    ensures fits { (k n : ℕ) → HasRoomAndPads (A.view arena.old) id (structs_words count size) k n
+        → IsOk result × IfOk result (λ room. k < length (A.view arena.old).words
+        → room.segment ≢ k → n ≤ structs_words count size → HasPadRoom (A.view arena.new) k n) }
 {
     let words = count * size.total();
     let room = take(arena, id, 1 + words)?;
@@ -143,9 +142,9 @@ fn fill_rows<A: BuilderArena>(
         × RefusesWords (A.view arena.old) (A.view arena.new) 1 k) }
     ensures few { GrowsByAtMost (A.view arena.old).words (A.view arena.new).words
         (2 * (old.count * old.size.pointers)) }
-    ensures fits { HasSomeRoom (A.view arena.old) (2 * (old.count * old.size.pointers))
-        → IsOk result }
     ensures near { old.segment ≡ first.segment → IsOk result }
+    ensures fits { old.segment ≢ first.segment → HasPadRoom (A.view arena.old) old.segment
+        (near_pointers (A.view arena.old).words (element_moves old first size)) → IsOk result }
 {
     let rows = PointerRows {
         segment: old.segment,
@@ -209,9 +208,9 @@ pub(crate) fn widen_rows<A: BuilderArena>(
         (RefusesRows old size (call_at id at (A.view arena.old) (A.view arena.new))) }
     ensures few { GrowsByAtMost (A.view arena.old).words (A.view arena.new).words
         (structs_words old.count size + 1 + 2 * (old.count * old.size.pointers)) }
-    ensures fits { RowsInside (A.view arena.old).words old
-        → RemadeRowsFit (A.view arena.old) id old size
-        → IsOk result }
+    ensures fits { RowsInside (A.view arena.old).words old → (to : Start)
+        → HasRoomAndPads (A.view arena.old) id (structs_words old.count size) old.segment
+        (near_pointers (A.view arena.old).words (element_moves old to size)) → IsOk result }
 {
     let words = u64::from(old.count) * u64::from(size.total());
     if words >= 0x2000_0000 {
@@ -252,7 +251,9 @@ fn remake_rows<A: BuilderArena>(
         (structs_words old.count size) (old.count * old.size.pointers)) }
     ensures few { GrowsByAtMost (A.view arena.old).words (A.view arena.new).words
         (structs_words old.count size + 1 + 2 * (old.count * old.size.pointers)) }
-    ensures fits { RemadeRowsFit (A.view arena.old) id old size → IsOk result }
+    ensures fits { (to : Start)
+        → HasRoomAndPads (A.view arena.old) id (structs_words old.count size) old.segment
+        (near_pointers (A.view arena.old).words (element_moves old to size)) → IsOk result }
 {
     let pointer = word_of(arena, id, at);
     let words = old.count * size.total();

@@ -1,21 +1,22 @@
 //! Structs and lists made wider where they are too small: the object stands anew in more words, its
 //! pointers are moved there, and at last its pointer is overwritten. Until then the old object stands
 //! as it was, and a refusal leaves nothing but zeros.
-ghost use Rattle.std.specs.Prelude.{ℕ, Some, ◌≡◌, ◌<◌, ◌≤◌, ◌+◌, ◌*◌, ◌^◌, max, length, IsOk, IfOk, OnOk, IfErr, OnErr};
+ghost use Rattle.std.specs.Prelude.{ℕ, Some, ◌≡◌, ◌≢◌, ◌<◌, ◌≤◌, ◌+◌, ◌*◌, ◌^◌, max, length, IsOk, IfOk, OnOk, IfErr, OnErr};
 ghost use Rattle.capnp_arena_traits.specs.View.{KeepsLimits};
 ghost use Rattle.capnp_format.specs.Segments.{segment, word_at, IsPlace, Grows};
 ghost use Rattle.capnp_format.specs.Forest.{target};
 ghost use Rattle.capnp_format.specs.Tree.{Tree};
 ghost use Rattle.capnp_contents.specs.Existing.{StructLiesIn, struct_in};
 ghost use Rattle.capnp_making.specs.Made.{CountFits, AsksWords};
-ghost use Rattle.capnp_making.specs.Memory.{HasRoom, KeepsMemory, SpendsMemory, RefusesWords, StandsBehind, TakesWords};
+ghost use Rattle.capnp_making.specs.Memory.{KeepsMemory, SpendsMemory, RefusesWords, StandsBehind, TakesWords};
 ghost use Rattle.capnp_making.specs.Makes.{call_at};
-ghost use Rattle.capnp_making.specs.Near.{HasOwnRoom};
+ghost use Rattle.capnp_making.specs.declared.making.Start.{Start};
 ghost use Rattle.capnp_making.specs.Stored.{IsStored};
 ghost use Rattle.capnp_making.specs.Zeroed.{IsPruned};
 ghost use Rattle.capnp_widening.specs.Anew.{MakesStructWider};
 ghost use Rattle.capnp_widening.specs.Housed.{IsRoom, AreWordsCopied, Settles, object_start};
-ghost use Rattle.capnp_widening.specs.Rooms.{GrowsByAtMost, HasSomeRoom, RefusesGrowth, WiderStructFits, GrowsForStruct};
+ghost use Rattle.capnp_widening.specs.Moved.{near_pointers, row_of_moves};
+ghost use Rattle.capnp_widening.specs.Rooms.{GrowsByAtMost, HasPadRoom, HasRoomAndPads, RefusesGrowth, WiderStructFits, GrowsForStruct};
 ghost use Rattle.capnp_widening.specs.Widened.{IsStruct, rewriting};
 
 use crate::moving::{move_row, unmove_row};
@@ -54,10 +55,9 @@ pub(crate) fn take<A: BuilderArena>(arena: &mut A, id: u32, amount: u32) -> Resu
     ensures full { IfErr result (RefusesWords (A.view arena.old) (A.view arena.new) amount) }
     ensures refused { OnErr result ((A.view arena.new).words ≡ (A.view arena.old).words) }
     ensures few { GrowsByAtMost (A.view arena.old).words (A.view arena.new).words (amount + 1) }
-    ensures fits { (n : ℕ) → HasRoom (A.view arena.old) id (amount + n)
-        → IsOk result × HasSomeRoom (A.view arena.new) n }
-    ensures near { HasOwnRoom (A.view arena.old) id amount
-        → IsOk result × IfOk result (λ r. r.segment ≡ id) }
+    ensures fits { (k n : ℕ) → HasRoomAndPads (A.view arena.old) id amount k n → IsOk result
+        × IfOk result (λ room. k < length (A.view arena.old).words → room.segment ≢ k → n ≤ amount
+        → HasPadRoom (A.view arena.new) k n) }
 {
     match arena.allocate(id, amount) {
         Some(at) => Ok(Room {
@@ -215,10 +215,10 @@ fn widen_struct<A: BuilderArena>(
         (size.data_words + size.pointers) old.size.pointers) }
     ensures few { GrowsByAtMost (A.view arena.old).words (A.view arena.new).words
         (size.data_words + size.pointers + 1 + 2 * old.size.pointers) }
-    ensures fits { HasRoom (A.view arena.old) id
-        (size.data_words + size.pointers + 2 * old.size.pointers) → IsOk result }
-    ensures near { old.segment ≡ id
-        → HasOwnRoom (A.view arena.old) id (size.data_words + size.pointers) → IsOk result }
+    ensures fits { (to : Start) → HasRoomAndPads (A.view arena.old) id
+        (size.data_words + size.pointers) old.segment
+        (near_pointers (A.view arena.old).words (row_of_moves old.segment
+        (old.start + old.size.data_words) to.segment to.at old.size.pointers)) → IsOk result }
 {
     let pointer = word_of(arena, id, at);
     let room = take(arena, id, size.total())?;

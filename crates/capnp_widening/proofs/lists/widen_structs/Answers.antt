@@ -4,6 +4,7 @@ use Rattle.capnp_words.specs.declared.wire_pointer.StructSize.{StructSize}
 use Rattle.capnp_arena_traits.specs.View.{View}
 use Rattle.capnp_making.proofs.Memory.{keeps_itself}
 use Rattle.capnp_making.proofs.Outcomes.{on_err_so, on_made_so}
+use Rattle.capnp_making.specs.declared.making.Start.{Start}
 use Rattle.capnp_widening.proofs.Listed.{if_ok_both, if_err_so}
 use Rattle.capnp_widening.proofs.AnyRows.{rows_inside}
 use Rattle.capnp_widening.proofs.ListRooms.{structs_are, rows_fit, rows_few, rows_refused}
@@ -71,8 +72,9 @@ returns-clause-wider g c =
       ]);
       fits = λ h.
           (let (t, u, i, becomes, fits) = h in
+          let to : Start = record { segment = 0; at = 0 } in
           let rows = structs_are a.words c.args.id c.args.at t u l size wide c.requires.kind narrow c.greater.ensures c.greater-2.ensures i becomes in
           let goes = rw start at e.fits in
-          goes (rows_inside a.words c.args.id c.args.at t _ rows.has) (rows_fit a c.args.id c.args.at t u _ _ rows fits));
+          goes (rows_inside a.words c.args.id c.args.at t _ rows.has) to (rows_fit a c.args.id c.args.at t u _ _ to rows fits));
       few = λ t u i becomes. rows_few a.words b.words c.args.id c.args.at t u _ _ (structs_are a.words c.args.id c.args.at t u l size wide c.requires.kind narrow c.greater.ensures c.greater-2.ensures i becomes) e.few;
     }

@@ -3,6 +3,7 @@ use Rattle.capnp_format.specs.Word.{list_count}
 use Rattle.capnp_format.specs.Segments.{Segments, Target, leads}
 use Rattle.capnp_arena_traits.specs.View.{View}
 use Rattle.capnp_making.proofs.Outcomes.{on_err_so, on_made_so}
+use Rattle.capnp_making.specs.declared.making.Start.{Start}
 use Rattle.capnp_widening.proofs.Listed.{if_ok_both, if_err_so}
 use Rattle.capnp_widening.proofs.AnyRows.{rows_inside}
 use Rattle.capnp_widening.proofs.ListRooms.{void_are, rows_fit, rows_few, rows_refused}
@@ -36,7 +37,8 @@ returns-clause-wider g c =
       ]);
       fits = λ h.
           (let (t, u, i, becomes, fits) = h in
+          let to : Start = record { segment = 0; at = 0 } in
           let rows = void_are a.words c.args.id c.args.at n t u l c.args.size c.requires.kind counts i becomes in
-          e.fits (rows_inside a.words c.args.id c.args.at t _ rows.has) (rows_fit a c.args.id c.args.at t u _ c.args.size rows fits));
+          e.fits (rows_inside a.words c.args.id c.args.at t _ rows.has) to (rows_fit a c.args.id c.args.at t u _ c.args.size to rows fits));
       few = λ t u i becomes. rows_few a.words b.words c.args.id c.args.at t u _ c.args.size (void_are a.words c.args.id c.args.at n t u l c.args.size c.requires.kind counts i becomes) e.few;
     }

@@ -1,17 +1,18 @@
 use Rattle.std.proofs.lemmas.Result.{err_from_is_err_and}
-use Rattle.std.proofs.Common.{◌*◌, sym, ap, subst, le_trans, arith}
+use Rattle.std.proofs.Common.{◌≡◌, ap, subst, le_antisymm, le_trans, sym, arith}
 use Rattle.capnp_format.specs.Segments.{Segments}
 use Rattle.capnp_making.proofs.Memory.{keeps_both, keeps_itself, keeps_then_spends, words_refused_after}
 use Rattle.capnp_widening.specs.Moved.{row_of_moves, Moves}
 use Rattle.capnp_widening.proofs.Movings.{none_moved, moves_next, moves_some}
-use Rattle.capnp_widening.proofs.Rooms.{all_words, room_left, less_room}
+use Rattle.capnp_widening.proofs.PadRooms.{Apart, apart_next, apart_none, apart_of, made_apart, pads_at, refused_apart}
+use Rattle.capnp_widening.proofs.Rooms.{all_words}
 use Rattle.capnp_widening.proofs.WrittenAnew.{writes_none, writes_next}
 use Rattle.capnp_widening.proofs.moving.move_each.Goals as goal
 
 pub loop-i-init : goal.loop-i-init
 loop-i-init g c =
     let S : Segments = (g.A.BuilderArena.view c.args.arena.now).words in
-    record { moves = none_moved S; written = writes_none (g.A.BuilderArena.view c.args.arena.now); longer = record { segments = omega arith; words = λ x. omega arith }; few = omega arith; memory = keeps_itself (g.A.BuilderArena.view c.args.arena.now) }
+    record { moves = none_moved S; written = writes_none (g.A.BuilderArena.view c.args.arena.now); longer = record { segments = omega arith; words = λ x. omega arith }; few = omega arith; memory = keeps_itself (g.A.BuilderArena.view c.args.arena.now); apart = λ other. apart_none (g.A.BuilderArena.view c.args.arena.now) c.args.from.segment }
 
 -- One pointer more.
 pub loop-i-preserved : goal.loop-i-preserved
@@ -26,6 +27,9 @@ loop-i-preserved g c =
       longer = record { segments = le_trans c.loop-i.invariant.longer.segments longer.segments; words = λ x. le_trans (c.loop-i.invariant.longer.words x) (longer.words x) };
       few = omega (arith, c.loop-i.invariant.few, c.in_ok-move_pointer.ensures.few);
       memory = keeps_both _ _ _ c.loop-i.invariant.longer.segments c.loop-i.invariant.memory c.in_ok-move_pointer.ensures.granted;
+      apart = λ other.
+          apart_next (g.A.BuilderArena.view c.args.arena.now) (g.A.BuilderArena.view c.loop-i.arena) (g.A.BuilderArena.view c.move_pointer.new.arena) c.args.from.segment c.args.from.at c.args.to.segment c.args.to.at c.args.count c.loop-i.i
+          c.requires.from c.loop-i-test.true c.loop-i.invariant.longer (c.loop-i.invariant.apart other) (apart_of (c.in_ok-move_pointer.ensures.apart other));
     }
 
 -- The refused move changes nothing, and each pointer before has taken two words at most.
@@ -48,5 +52,22 @@ returns-in_err-move_pointer-clause-moves g c =
       memory = keeps_then_spends a m b _ before.longer.segments before.memory e.memory;
       full = (omega (arith, less), words_refused_after a m b 1 _ before.memory e.full);
       few = omega (arith, before.few, less, ap all_words e.refused);
-      fits = λ h. e.fits (room_left a m (2 * c.loop-i.i) 2 before.longer before.few before.memory.1 (less_room a (2 * c.args.count) _ (omega (arith, less)) h));
     })
+
+-- Where there is room for all pads, it is there for those of the next pointer.
+pub returns-in_err-move_pointer-clause-apart : goal.returns-in_err-move_pointer-clause-apart
+returns-in_err-move_pointer-clause-apart g c =
+    let p = err_from_is_err_and c.from_residual.result c.from_residual.ensures.1 in
+    let a = g.A.BuilderArena.view c.args.arena.now in
+    let m = g.A.BuilderArena.view c.loop-i.arena in
+    let b = g.A.BuilderArena.view c.move_pointer.new.arena in
+    rw (p.1, p.2) (λ other. refused_apart a b c.args.from.segment _ _
+    (λ n h. ((c.in_err-move_pointer.ensures.apart other).fits n (pads_at a m c.args.from.segment c.args.from.at c.args.to.segment c.args.to.at c.args.count c.loop-i.i n c.requires.from c.loop-i-test.true (c.loop-i.invariant.apart other) h)).0))
+
+pub returns-clause-apart : goal.returns-clause-apart
+returns-clause-apart g c =
+    let a = g.A.BuilderArena.view c.args.arena.now in
+    let b = g.A.BuilderArena.view c.loop-i.arena in
+    let all : c.loop-i.i ≡ c.args.count = le_antisymm c.loop-i.auto.i-end c.loop-i-test.false in
+    λ other. made_apart _ a b c.args.from.segment _
+    (subst (λ n. Apart a b c.args.from.segment (row_of_moves c.args.from.segment c.args.from.at c.args.to.segment c.args.to.at n)) all (c.loop-i.invariant.apart other))

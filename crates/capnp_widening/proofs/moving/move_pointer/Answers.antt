@@ -1,4 +1,4 @@
-use Rattle.std.proofs.Common.{◌≡◌, ◌≢◌, ℕ, ◌<◌, ◌≤◌, refl, sym, ap, subst, arith, rules}
+use Rattle.std.proofs.Common.{◌≡◌, ◌≢◌, ℕ, ◌+◌, ◌<◌, ◌≤◌, [], ◌∷◌, refl, sym, ap, subst, arith, rules}
 use Rattle.capnp_format.specs.Segments.{Segments, word_at}
 use Rattle.capnp_format.specs.Word.{kind}
 use Rattle.std.proofs.Common.{inl, inr, ◌∙◌}
@@ -11,9 +11,14 @@ use Rattle.capnp_making.proofs.Outcomes.{on_made_so}
 use Rattle.capnp_making.proofs.MadeWords.{word_put}
 use Rattle.capnp_making.proofs.Memory.{words_in}
 use Rattle.capnp_making.proofs.Zeros.{there}
+use Rattle.capnp_making.specs.Memory.{TakesWords}
 use Rattle.capnp_widening.specs.Anew.{WritesPointer}
+use Rattle.capnp_widening.specs.Moved.{a_move, near_pointers}
+use Rattle.capnp_widening.specs.Rooms.{HasPadRoom}
 use Rattle.capnp_widening.proofs.Basics.{on_both_so}
-use Rattle.capnp_widening.proofs.PointersWritten.{null_written, copied_written}
+use Rattle.capnp_widening.proofs.PadRooms.{fewer_pads, granted_so, made_apart, near_far, none_elsewhere, pad_taken, pads_written}
+use Rattle.capnp_widening.proofs.PointersWritten.{null_written, copied_written, pad_far}
+use Rattle.capnp_widening.proofs.TakingWords.{put_writes}
 use Rattle.capnp_widening.proofs.WrittenAnew.{writes_one}
 use Rattle.capnp_widening.proofs.Rooms.{words_put}
 use Rattle.capnp_widening.proofs.Single.{copied_moves, near_moves, means_nothing}
@@ -112,3 +117,54 @@ returns-in-None-clause-written g c =
     let near : kind x < 2 = search rules in
     let goes = rw (is, c.length_of.ensures) at (sym c.target.ensures ∙ c.in-None.is) in
     λ B k. absurd (means_nothing B S c.args.from.segment c.args.from.at c.args.to.segment c.args.to.at (λ e. some (is ∙ e)) (λ e. omega (arith, near, ap kind is)) goes k)
+
+-- Room for the landing pad of a near pointer is enough in another segment, and one pad is taken then at most.
+pub returns-then-is_null-clause-apart : goal.returns-then-is_null-clause-apart
+returns-then-is_null-clause-apart g c =
+    let v : View = g.A.BuilderArena.view c.args.arena.now in
+    λ other. made_apart _ v v c.args.from.segment (a_move c.args.from.segment c.args.from.at c.args.to.segment c.args.to.at ∷ [])
+    (record { left = λ n h. fewer_pads v c.args.from.segment n (near_pointers v.words (a_move c.args.from.segment c.args.from.at c.args.to.segment c.args.to.at ∷ []) + n) (omega arith) h; kept = λ y l. refl })
+
+pub returns-then-not-is_positional-clause-apart : goal.returns-then-not-is_positional-clause-apart
+returns-then-not-is_positional-clause-apart g c =
+    let v : View = g.A.BuilderArena.view c.args.arena.now in
+    let R : View = g.A.BuilderArena.view c.set_word.new.self in
+    let x : ℕ = c.word_of-word.result.0 in
+    let put = word_put v.words R.words c.args.to.segment c.args.to.at x c.requires.to (ap words_in c.set_word.ensures) in
+    let only = put_writes v R c.args.to.segment c.args.to.at x c.requires.to c.set_word.ensures in
+    λ other. made_apart _ v R c.args.from.segment (a_move c.args.from.segment c.args.from.at c.args.to.segment c.args.to.at ∷ [])
+    (record {
+      left = λ n h. pads_written v R c.args.from.segment n only (fewer_pads v c.args.from.segment n (near_pointers v.words (a_move c.args.from.segment c.args.from.at c.args.to.segment c.args.to.at ∷ []) + n) (omega arith) h);
+      kept = λ y l. put.kept c.args.from.segment y (none_elsewhere c.args.to.segment c.args.to.at 1 c.args.from.segment y other);
+    })
+
+pub returns-in-Some-clause-apart : goal.returns-in-Some-clause-apart
+returns-in-Some-clause-apart g c =
+    let a : View = g.A.BuilderArena.view c.args.arena.now in
+    let b : View = g.A.BuilderArena.view c.point_to.new.arena in
+    let k : ℕ = c.args.from.segment in
+    let x : ℕ = c.word_of-word.result.0 in
+    let is : x ≡ word_at a.words k c.args.from.at = c.word_of-word.ensures in
+    let some : x ≢ 0 = λ e. search rules in
+    let near : kind x < 2 = search rules in
+    let shaped = c.shape_of.ensures.shape near in
+    let one : near_pointers a.words (a_move k c.args.from.at c.args.to.segment c.args.to.at ∷ []) ≡ 1 =
+    near_far a.words k c.args.from.at c.args.to.segment c.args.to.at (λ e. some (is ∙ e)) (omega (arith, near, ap kind is)) in
+    λ other. record {
+      fits = λ n h.
+          (let room : HasPadRoom a k (1 + n) = subst (λ i. HasPadRoom a k (i + n)) one h in
+          let goes = c.point_to.ensures.fits (fewer_pads a k 1 (1 + n) (omega arith) room) in (
+            goes,
+            granted_so c.point_to.result (HasPadRoom b k n) goes (on_both_so c.point_to.result _ _ _ c.point_to.ensures.written c.point_to.ensures.granted
+                (λ w kept. pad_taken a b k n (there a.words k c.args.from.at c.requires.from) kept
+                (subst (λ i. TakesWords a b k i) (pad_far k c.args.to.segment x other some near) (w x shaped some).taken) room)),
+          ));
+      kept = on_made_so c.point_to.result _ _ c.point_to.ensures.points
+          (λ w. λ y l. (let (o, p, shaped, lies) = w in p.kept k y (none_elsewhere c.args.to.segment c.args.to.at 1 k y other) l));
+    }
+
+pub returns-in-None-clause-apart : goal.returns-in-None-clause-apart
+returns-in-None-clause-apart g c =
+    let v : View = g.A.BuilderArena.view c.args.arena.now in
+    λ other. made_apart _ v v c.args.from.segment (a_move c.args.from.segment c.args.from.at c.args.to.segment c.args.to.at ∷ [])
+    (record { left = λ n h. fewer_pads v c.args.from.segment n (near_pointers v.words (a_move c.args.from.segment c.args.from.at c.args.to.segment c.args.to.at ∷ []) + n) (omega arith) h; kept = λ y l. refl })

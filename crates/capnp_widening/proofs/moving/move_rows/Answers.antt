@@ -1,15 +1,15 @@
 use Rattle.std.proofs.lemmas.Result.{err_from_is_err_and}
-use Rattle.std.proofs.Common.{◌≡◌, ◌+◌, ◌*◌, ℕ, List, le-add_right, le_antisymm, refl, subst}
+use Rattle.std.proofs.Common.{◌≡◌, ◌+◌, ◌*◌, ℕ, List, le-add_right, le_antisymm, subst}
 use Rattle.capnp_arena_traits.specs.View.{View}
 use Rattle.capnp_format.specs.Segments.{Segments}
 use Rattle.capnp_making.proofs.Memory.{keeps_both, keeps_itself, keeps_then_spends, words_refused_after}
 use Rattle.capnp_widening.specs.Anew.{WritesAnew}
 use Rattle.capnp_widening.specs.Moved.{Move, rows_of_moves, Moves}
 use Rattle.capnp_widening.specs.Rooms.{GrowsByAtMost}
-use Rattle.capnp_widening.proofs.Kept.{grows_again, grows_itself, lt_next, rows_few, rows_room, some_in_rows}
+use Rattle.capnp_widening.proofs.Kept.{grows_again, grows_itself, lt_next, rows_few, some_in_rows}
 use Rattle.capnp_widening.proofs.Movings.{none_moved}
-use Rattle.capnp_widening.proofs.Rooms.{room_left, less_room}
-use Rattle.capnp_widening.proofs.RowPlaces.{first_row, next_row, row_inside, row_behind_fits}
+use Rattle.capnp_widening.proofs.PadRooms.{Apart, apart_none, apart_of, apart_rows, made_apart, refused_apart, row_pads_at}
+use Rattle.capnp_widening.proofs.RowPlaces.{first_row, next_row, row_inside, row_behind_fits, row_there}
 use Rattle.capnp_widening.proofs.Rows.{rows_moves_next, rows_some}
 use Rattle.capnp_widening.proofs.WrittenAnew.{writes_none, rows_writes_next}
 use Rattle.capnp_widening.proofs.moving.move_rows.Goals as goal
@@ -61,6 +61,7 @@ loop-i-init g c =
       longer = grows_itself v.words;
       few = le-add_right _ _;
       memory = keeps_itself v;
+      apart = λ other. apart_none v c.args.from.segment;
     }
 
 -- One row more.
@@ -81,6 +82,10 @@ loop-i-preserved g c =
       few = rows_few _ _ _ c.args.pointers c.loop-i.i (c.loop-i.i + 1) c.loop-i.invariant.few
           c.in_ok-move_row.ensures.moves.few (lt_next c.loop-i.i);
       memory = keeps_both _ _ _ c.loop-i.invariant.longer.segments c.loop-i.invariant.memory c.in_ok-move_row.ensures.moves.granted;
+      apart = λ other.
+          apart_rows (g.A.BuilderArena.view c.args.arena.now) (g.A.BuilderArena.view c.loop-i.arena) (g.A.BuilderArena.view c.move_row.new.arena) c.args.from.segment c.args.from.at c.args.from.step c.args.to.segment c.args.to.at c.args.to.step c.args.pointers c.loop-i.i
+          (row_there c.args.from.at c.args.from.step c.args.pointers c.args.count c.loop-i.i c.requires.from c.loop-i-test.true) c.loop-i.invariant.longer (c.loop-i.invariant.apart other)
+          (apart_of (rw (c.loop-i.invariant.source_at, c.loop-i.invariant.place_at) at (c.in_ok-move_row.ensures.apart other)));
     }
 
 pub returns-clause-moves : goal.returns-clause-moves
@@ -98,7 +103,6 @@ returns-clause-moves g c =
       memory = tt;
       full = tt;
       few = subst (λ n. GrowsByAtMost a.words b.words (2 * (n * c.args.pointers))) all c.loop-i.invariant.few;
-      fits = λ h. refl;
     }
 
 -- Each row before has taken two words for a pointer at most.
@@ -111,8 +115,6 @@ returns-in_err-move_row-clause-moves g c =
     let before = c.loop-i.invariant in
     let e = c.in_err-move_row.ensures.moves in
     let less = c.loop-i-test.true in
-    let row : ℕ = 2 * c.args.pointers in
-    let rows : ℕ = 2 * (c.loop-i.i * c.args.pointers) in
     rw (p.1, p.2) (record {
       moved = tt;
       written = tt;
@@ -127,8 +129,28 @@ returns-in_err-move_row-clause-moves g c =
             _ before.memory e.full.1,
       );
       few = rows_few _ _ _ c.args.pointers c.loop-i.i c.args.count before.few e.few less;
-      fits = λ h. e.fits
-          (room_left a m rows row before.longer before.few before.memory.1
-          (less_room a (2 * (c.args.count * c.args.pointers)) (rows + row)
-          (rows_room c.args.pointers c.loop-i.i c.args.count less) h));
     })
+
+-- Where there is room for all pads, it is there for those of the next row.
+pub returns-in_err-move_row-clause-apart : goal.returns-in_err-move_row-clause-apart
+returns-in_err-move_row-clause-apart g c =
+    let p = err_from_is_err_and c.from_residual.result c.from_residual.ensures.1 in
+    let a : View = g.A.BuilderArena.view c.args.arena.now in
+    let m : View = g.A.BuilderArena.view c.loop-i.arena in
+    let b : View = g.A.BuilderArena.view c.move_row.new.arena in
+    let from = c.args.from in
+    let to = c.args.to in
+    let inside = row_there from.at from.step c.args.pointers c.args.count c.loop-i.i c.requires.from c.loop-i-test.true in
+    rw (p.1, p.2) (λ other. refused_apart a b from.segment _ _
+    (λ n h. (let e = rw (c.loop-i.invariant.source_at, c.loop-i.invariant.place_at) at (c.in_err-move_row.ensures.apart other) in
+    (e.fits n (row_pads_at a m from.segment from.at from.step to.segment to.at to.step c.args.pointers c.args.count c.loop-i.i n inside c.loop-i-test.true (c.loop-i.invariant.apart other) h)).0)))
+
+pub returns-clause-apart : goal.returns-clause-apart
+returns-clause-apart g c =
+    let a : View = g.A.BuilderArena.view c.args.arena.now in
+    let b : View = g.A.BuilderArena.view c.loop-i.arena in
+    let from = c.args.from in
+    let to = c.args.to in
+    let all : c.loop-i.i ≡ c.args.count = le_antisymm c.loop-i.auto.i-end c.loop-i-test.false in
+    λ other. made_apart _ a b from.segment _
+    (subst (λ n. Apart a b from.segment (rows_of_moves from.segment from.at from.step to.segment to.at to.step c.args.pointers n)) all (c.loop-i.invariant.apart other))

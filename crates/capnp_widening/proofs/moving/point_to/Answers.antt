@@ -10,7 +10,8 @@ use Rattle.std.proofs.Common.{◌∙◌}
 use Rattle.capnp_arena_traits.specs.View.{View}
 use Rattle.capnp_arena_traits.specs.Written.{extended, with_word}
 use Rattle.capnp_widening.proofs.Refusing.{anywhere_refused}
-use Rattle.capnp_widening.proofs.Rooms.{all_words, not_true, words_put, words_extended, words_taken, room_still, none_refused}
+use Rattle.capnp_widening.proofs.PadRooms.{one_pad}
+use Rattle.capnp_widening.proofs.Rooms.{all_words, not_true, not_within, words_put, words_extended, words_taken, room_still, none_refused}
 use Rattle.capnp_making.specs.Memory.{KeepsMemory}
 use Rattle.capnp_making.proofs.Memory.{keeps_both, keeps_written, words_in}
 use Rattle.capnp_making.proofs.Shapes.{shape_near}
@@ -189,7 +190,8 @@ returns-in_err-segment-in-None-clause-fits g c = λ h.
     let room : b.room ≡ a.room = ap (λ (v : View). v.room) c.in_err-segment-in-None.ensures.refused ∙ ap (λ (v : View). v.room) (c.in-None.ensures.none refl) in
     let e = c.in_err-segment-in-None.ensures in
     let refused = anywhere_refused a (g.A.BuilderArena.view c.allocate.new.self) b c.args.object.segment 1 _ (c.in-None.ensures.none refl) (λ l. not_true (c.in-None.ensures.exactly.1 l)) e.named e.refused (λ j fit. e.first j fit) in
-    absurd (none_refused a b 1 _ refused (room_still a b 2 words room h)))
+    let full = not_within _ _ (λ l. not_true (c.in-None.ensures.exactly.1 l)) in
+    absurd (none_refused a b 1 _ refused (room_still a b 2 words room (one_pad a c.args.object.segment full h))))
 
 -- In the object's segment.
 pub returns-then-object-to-clause-written : goal.returns-then-object-to-clause-written

@@ -1,12 +1,12 @@
 use Rattle.std.proofs.lemmas.Result.{err_from_is_err_and}
 use Rattle.std.proofs.Common.{◌+◌, ◌*◌, ◌^◌, ◌∙◌, ◌<◌, ◌≤◌, ℕ, length, ap, sym, subst, le_of_eq}
-use Rattle.std.proofs.Common.{le_trans, lt_of_lt_of_le, add-zero}
+use Rattle.std.proofs.Common.{le_trans, lt_of_lt_of_le}
 use Rattle.capnp_arena_traits.specs.View.{View}
 use Rattle.capnp_format.specs.Segments.{Segments, segment}
 use Rattle.capnp_format.proofs.Slices.{there}
 use Rattle.capnp_making.proofs.Memory.{keeps_both}
 use Rattle.capnp_widening.proofs.NumberLists.{NumbersMade, numbers_made, numbers_made_anew}
-use Rattle.capnp_making.specs.Memory.{HasRoom}
+use Rattle.capnp_widening.proofs.PadRooms.{no_pads}
 use Rattle.capnp_widening.proofs.Kept.{few_after}
 use Rattle.capnp_widening.proofs.Rooms.{same_words}
 use Rattle.capnp_widening.proofs.RowPlaces.{first_fits, near_or_behind, product_fits, rows_fit, some_total}
@@ -189,6 +189,6 @@ returns-clause-few g c =
 pub returns-in_err-room-clause-fits : goal.returns-in_err-room-clause-fits
 returns-in_err-room-clause-fits g c =
     let p = err_from_is_err_and c.from_residual.result c.from_residual.ensures.1 in rw p.1 (λ h.
-    (let n : ℕ = 1 + c.args.old.count * (c.args.size.data_words + c.args.size.pointers) in
-    (c.in_err-room.ensures.fits 0
-    (subst (λ m. HasRoom (g.A.BuilderArena.view c.args.arena.now) c.args.id m) (sym (add-zero n)) h)).0))
+    (let v : View = g.A.BuilderArena.view c.args.arena.now in
+    let n : ℕ = 1 + c.args.old.count * (c.args.size.data_words + c.args.size.pointers) in
+    (c.in_err-room.ensures.fits c.args.id 0 (no_pads v c.args.id n c.args.id h)).0))

@@ -1,13 +1,14 @@
 use Rattle.std.proofs.lemmas.Result.{err_from_is_err_and}
-use Rattle.std.proofs.Common.{ℕ, ◌+◌, ◌*◌, ◌<◌, length, refl, sym, ap, ◌∙◌, subst, arith}
-use Rattle.capnp_arena_traits.specs.View.{View, KeepsLimits}
+use Rattle.std.proofs.Common.{ℕ, ◌+◌, ◌*◌, ◌<◌, ◌≤◌, length, refl, sym, ap, subst, arith}
+use Rattle.capnp_arena_traits.specs.View.{View}
 use Rattle.capnp_format.specs.Segments.{Segments, segment}
 use Rattle.capnp_format.specs.Means.{IsTag}
 use Rattle.capnp_making.proofs.MadeWords.{word_put}
 use Rattle.capnp_making.proofs.Memory.{words_in}
-use Rattle.capnp_making.specs.Memory.{HasRoom, TakesWords}
-use Rattle.capnp_making.specs.Near.{HasOwnRoom}
-use Rattle.capnp_widening.proofs.Rooms.{words_put, room_written, not_true}
+use Rattle.capnp_making.specs.Memory.{TakesWords}
+use Rattle.capnp_widening.specs.Rooms.{HasRoomAndPads}
+use Rattle.capnp_widening.proofs.PadRooms.{pads_written}
+use Rattle.capnp_widening.proofs.Rooms.{words_put, not_true}
 use Rattle.capnp_widening.proofs.TakingWords.{put_writes}
 use Rattle.capnp_widening.proofs.WrittenAnew.{taken_after}
 use Rattle.capnp_widening.proofs.remaking.begin_list.Goals as goal
@@ -42,28 +43,19 @@ pub returns-in_err-room-clause-few : goal.returns-in_err-room-clause-few
 returns-in_err-room-clause-few g c = let taken = rw c.total.ensures at c.take.ensures.few in omega (arith, taken)
 
 pub returns-clause-fits : goal.returns-clause-fits
-returns-clause-fits g c = λ n h.
-    (let T : View = g.A.BuilderArena.view c.take.new.arena in
+returns-clause-fits g c = λ k n h.
+    (let S : View = g.A.BuilderArena.view c.args.arena.now in
+    let T : View = g.A.BuilderArena.view c.take.new.arena in
     let R : View = g.A.BuilderArena.view c.set_word.new.self in
-    let x : ℕ = c.new_tag-tag.result.0 in
     let room = rw c.total.ensures at c.in_ok-room.ensures.taken in
     let inside : c.in_ok-room.room.at + c.in_ok-room.room.pads < length (segment T.words c.in_ok-room.room.segment) = omega (arith, room.0.room) in
-    let put = word_put T.words R.words c.in_ok-room.room.segment (c.in_ok-room.room.at + c.in_ok-room.room.pads) x inside (ap words_in c.set_word.ensures) in
-    let limits : KeepsLimits T R = c.set_word.ensures ∙ ap (λ (S : Segments). record T { words = S }) (sym (ap words_in c.set_word.ensures)) in
-    let left = (c.in_ok-room.ensures.fits n (subst (λ m. HasRoom (g.A.BuilderArena.view c.args.arena.now) c.args.id (1 + c.args.count * m + n)) (sym c.total.ensures) h)).1 in
-    (refl, room_written T R n limits put.segments put.words left))
+    let put = put_writes T R c.in_ok-room.room.segment (c.in_ok-room.room.at + c.in_ok-room.room.pads) c.new_tag-tag.result.0 inside c.set_word.ensures in
+    let left = (c.in_ok-room.ensures.fits k n (subst (λ m. HasRoomAndPads S c.args.id (1 + c.args.count * m) k n) (sym c.total.ensures) h)).1 in
+    (refl, λ exists apart few. pads_written T R k n put (left exists apart (subst (λ m. n ≤ 1 + c.args.count * m) (sym c.total.ensures) few))))
 
 pub returns-in_err-room-clause-fits : goal.returns-in_err-room-clause-fits
-returns-in_err-room-clause-fits g c = λ n h.
-    absurd (not_true (c.in_err-room.ensures.fits n (subst (λ m. HasRoom (g.A.BuilderArena.view c.args.arena.now) c.args.id (1 + c.args.count * m + n)) (sym c.total.ensures) h)).0)
-
-pub returns-clause-near : goal.returns-clause-near
-returns-clause-near g c = λ h.
-    (refl, (c.in_ok-room.ensures.near (subst (λ m. HasOwnRoom (g.A.BuilderArena.view c.args.arena.now) c.args.id (1 + c.args.count * m)) (sym c.total.ensures) h)).1)
-
-pub returns-in_err-room-clause-near : goal.returns-in_err-room-clause-near
-returns-in_err-room-clause-near g c = λ h.
-    absurd (not_true (c.in_err-room.ensures.near (subst (λ m. HasOwnRoom (g.A.BuilderArena.view c.args.arena.now) c.args.id (1 + c.args.count * m)) (sym c.total.ensures) h)).0)
+returns-in_err-room-clause-fits g c = λ k n h.
+    absurd (not_true (c.in_err-room.ensures.fits k n (subst (λ m. HasRoomAndPads (g.A.BuilderArena.view c.args.arena.now) c.args.id (1 + c.args.count * m) k n) (sym c.total.ensures) h)).0)
 
 -- They stand behind all that were there.
 pub returns-clause-words : goal.returns-clause-words

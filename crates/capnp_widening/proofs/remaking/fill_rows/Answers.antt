@@ -1,11 +1,14 @@
-use Rattle.std.proofs.Common.{◌≡◌, ◌*◌, ◌∙◌, sym, subst}
+use Rattle.std.proofs.Common.{◌≡◌, ◌+◌, ◌*◌, ◌∙◌, ℕ, sym, subst, arith}
 use Rattle.capnp_arena_traits.specs.View.{View}
 use Rattle.capnp_format.specs.Segments.{Segments}
 use Rattle.capnp_making.proofs.Memory.{keeps_written, words_refused_after, words_refused_before}
 use Rattle.capnp_widening.proofs.Kept.{few_after, few_before, few_none, grown_between}
 use Rattle.capnp_widening.proofs.Movings.{none_moved}
-use Rattle.capnp_widening.specs.Rooms.{HasSomeRoom}
-use Rattle.capnp_widening.proofs.Rooms.{same_words, room_written}
+use Rattle.capnp_widening.specs.Moved.{near_pointers}
+use Rattle.capnp_widening.specs.Rooms.{HasPadRoom}
+use Rattle.capnp_widening.specs.RowsRemade.{element_moves}
+use Rattle.capnp_widening.proofs.PadRooms.{near_same_rows, none_elsewhere, pads_written}
+use Rattle.capnp_widening.proofs.Rooms.{same_words}
 use Rattle.capnp_widening.proofs.Rows.{no_moves}
 use Rattle.capnp_widening.proofs.WrittenAnew.{writes_none}
 use Rattle.capnp_widening.proofs.remaking.fill_rows.Goals as goal
@@ -75,12 +78,25 @@ returns-in-Err-clause-few g c =
     let undone = same_words (g.A.BuilderArena.view c.move_rows.new.arena).words (g.A.BuilderArena.view c.unmove_rows.new.arena).words c.unmove_rows.ensures.pruned.segments c.unmove_rows.ensures.pruned.words in
     few_after _ _ _ _ (few_before _ copied moved) undone
 
+-- The pointers stand in another segment as they did.
 pub returns-in-Err-clause-fits : goal.returns-in-Err-clause-fits
-returns-in-Err-clause-fits g c = λ h.
+returns-in-Err-clause-fits g c = λ other h.
     (let S : View = g.A.BuilderArena.view c.args.arena.now in
     let D : View = g.A.BuilderArena.view c.copy_rows.new.arena in
-    let left = room_written S D (2 * (c.args.old.count * c.args.old.size.pointers)) c.copy_rows.ensures.limits c.copy_rows.ensures.copied.segments c.copy_rows.ensures.copied.words h in
-    c.in-Err.ensures.moves.fits (subst (λ m. HasSomeRoom D (2 * (c.args.old.count * m))) (sym c.from-pointers.ensures) left))
+    let copied = c.copy_rows.ensures.copied in
+    let old = c.args.old in
+    let first = c.args.first in
+    let size = c.args.size in
+    let k : ℕ = old.segment in
+    let w : ℕ = old.size.data_words + old.size.pointers in
+    let z : ℕ = size.data_words + size.pointers in
+    let p : ℕ = old.at + old.tag + old.size.data_words in
+    let r : ℕ = first.at + size.data_words in
+    let moved = rw (c.total.ensures, c.total-2.ensures, c.from-pointers.ensures, c.from-2.ensures, c.from-3.ensures) at (c.in-Err.ensures.apart other) in
+    let same = near_same_rows S.words D.words k p w first.segment r z first.segment r z old.size.pointers old.count (p + old.count * w + old.size.pointers) (omega arith) (λ y l. copied.kept k y (none_elsewhere _ _ _ k y other)) in
+    let left = pads_written S D k _ (record { limits = c.copy_rows.ensures.limits; segments = copied.segments; words = copied.words }) h in
+    let e : near_pointers S.words (element_moves old first size) ≡ near_pointers D.words (element_moves old first size) + 0 = omega (arith, same) in
+    (moved.fits 0 (subst (λ n. HasPadRoom D k n) e left)).0)
 
 pub returns-in-Err-clause-longer : goal.returns-in-Err-clause-longer
 returns-in-Err-clause-longer g c = record {

@@ -1,6 +1,8 @@
 use Rattle.std.proofs.lemmas.Result.{err_from_is_err_and}
 use Rattle.std.proofs.Common.{◌∙◌, ◌+◌, ◌<◌, ◌≤◌, ◌*◌, ◌^◌, inl, inr, ℕ, length, refl, ap, sym, subst}
-use Rattle.std.proofs.Common.{le_of_eq, le_trans, lt_of_lt_of_le}
+use Rattle.std.proofs.Common.{le_of_eq, le_trans, lt_of_lt_of_le, arith}
+use Rattle.std.proofs.Math.Nat.{mul-le-mul_left}
+use Rattle.std.proofs.lemmas.Bool.{cases_eq}
 use Rattle.capnp_arena_traits.specs.View.{View}
 use Rattle.capnp_format.specs.Segments.{Segments, segment}
 use Rattle.capnp_format.proofs.Slices.{there}
@@ -9,6 +11,10 @@ use Rattle.capnp_making.proofs.Memory.{keeps_both, keeps_then_spends, spends_the
 use Rattle.capnp_widening.proofs.AnyRows.{rows_anew, rows_remade, rows_left}
 use Rattle.capnp_widening.proofs.ListSteps.{ListSteps, ListUndone}
 use Rattle.capnp_widening.proofs.Kept.{few_after, few_again, few_at_most}
+use Rattle.capnp_widening.specs.Moved.{near_pointers}
+use Rattle.capnp_widening.specs.Rooms.{HasPadRoom}
+use Rattle.capnp_widening.specs.RowsRemade.{element_moves}
+use Rattle.capnp_widening.proofs.PadRooms.{near_rows_few, near_same_rows, none_elsewhere}
 use Rattle.capnp_widening.proofs.Rooms.{same_words}
 use Rattle.capnp_widening.proofs.RowPlaces.{first_fits, near_or_behind, product_fits, product_small, rows_fit}
 use Rattle.capnp_widening.proofs.RowPlaces.{rows_small, stands_before, sum_fits, sum_small, tag_fits}
@@ -255,16 +261,37 @@ pub returns-in_err-room-clause-few : goal.returns-in_err-room-clause-few
 returns-in_err-room-clause-few g c = few_at_most _ _ (structs_words c.args.old.count c.args.size + 1) _
     c.begin_list.ensures.few
 
--- Where there is room for all of that, nothing is refused.
+-- Where there is room for the list and for the landing pads that its pointers need, nothing is refused.
 pub returns-in_err-room-clause-fits : goal.returns-in_err-room-clause-fits
 returns-in_err-room-clause-fits g c =
-    let p = err_from_is_err_and c.from_residual.result c.from_residual.ensures.1 in rw p.1 (λ h. elim h [
-      | inl fits ↦ (c.in_err-room.ensures.fits (2 * (c.args.old.count * c.args.old.size.pointers)) fits).0
-      | inr (here, fits) ↦ (c.in_err-room.ensures.near fits).0
-    ])
+    let p = err_from_is_err_and c.from_residual.result c.from_residual.ensures.1 in
+    rw p.1 (λ to h. (c.in_err-room.ensures.fits c.args.old.segment _ h).0)
 
 pub returns-in-Err-clause-fits : goal.returns-in-Err-clause-fits
-returns-in-Err-clause-fits g c = λ h. elim h [
-  | inl fits ↦ c.in-Err.ensures.fits (c.in_ok-room.ensures.fits (2 * (c.args.old.count * c.args.old.size.pointers)) fits).1
-  | inr (here, fits) ↦ c.in-Err.ensures.near (here ∙ sym (c.in_ok-room.ensures.near fits).1)
-]
+returns-in-Err-clause-fits g c = λ to h.
+    (let S : View = g.A.BuilderArena.view c.args.arena.now in
+    let B : View = g.A.BuilderArena.view c.begin_list.new.arena in
+    let (T, room, tagged) = c.in_ok-room.ensures.begun in
+    let old = c.args.old in
+    let size = c.args.size in
+    let k : ℕ = old.segment in
+    let v : ℕ = c.in_ok-room.room.segment in
+    let w : ℕ = old.size.data_words + old.size.pointers in
+    let z : ℕ = size.data_words + size.pointers in
+    let p : ℕ = old.at + old.tag + old.size.data_words in
+    let r : ℕ = c.in_ok-room.room.at + c.in_ok-room.room.pads + 1 + size.data_words in
+    let n : ℕ = near_pointers S.words (element_moves old to size) in
+    let (some, refused) = c.in-Err.ensures.full in
+    let exists = there S.words k 0 (omega (arith, some, c.requires.inside)) in
+    let few : n ≤ structs_words old.count size = omega (
+      arith,
+      near_rows_few S.words k p w to.segment (to.at + size.data_words) z old.size.pointers old.count,
+      mul-le-mul_left old.count c.requires.pointers,
+    ) in
+    elim (cases_eq k v) [
+      | inl here ↦ c.in-Err.ensures.near here
+      | inr other ↦ (let left = (c.in_ok-room.ensures.fits k n h).1 exists (λ e. other (sym e)) few in
+          let same = near_same_rows S.words B.words k p w v r z to.segment (to.at + size.data_words) z old.size.pointers old.count (length (segment S.words k)) (omega (arith, c.requires.inside))
+          (λ y l. tagged.kept k y (none_elsewhere _ _ _ k y other) ∙ room.0.kept k y l) in
+          c.in-Err.ensures.fits other (subst (λ i. HasPadRoom B k i) (sym same) left))
+    ])

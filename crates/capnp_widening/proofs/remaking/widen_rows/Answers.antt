@@ -25,16 +25,16 @@ returns-then-not-are_inside-clause-named g c = inl (refl, λ t h. absurd (search
 
 -- Words for which there is room are few enough.
 pub returns-then-words-ge536870912-clause-fits : goal.returns-then-words-ge536870912-clause-fits
-returns-then-words-ge536870912-clause-fits g c = λ inside h.
+returns-then-words-ge536870912-clause-fits g c = λ inside to h.
     (let size = c.args.size in
     let n : ℕ = c.args.old.count * (size.data_words + size.pointers) in
     let same : c.from.result * c.from-2.result ≡ n = ap₂ (λ x y. x * y) c.from.ensures (c.from-2.ensures ∙ c.total.ensures) in
     let many : 2 ^ 29 ≤ n = subst (λ x. 2 ^ 29 ≤ x) same (omega arith) in
-    let few = rows_small (g.A.BuilderArena.view c.args.arena.now) c.args.id c.args.old size (λ k. g.met.A.BuilderArena.small c.args.arena.now k) h in
+    let few = rows_small (g.A.BuilderArena.view c.args.arena.now) c.args.id n _ (λ k. g.met.A.BuilderArena.small c.args.arena.now k) h in
     absurd (omega (arith, many, few)))
 
 pub returns-then-not-are_inside-clause-fits : goal.returns-then-not-are_inside-clause-fits
-returns-then-not-are_inside-clause-fits g c = λ inside h. absurd (search (rules, inside))
+returns-then-not-are_inside-clause-fits g c = λ inside to h. absurd (search (rules, inside))
 
 -- Nothing is changed then.
 pub returns-then-words-ge536870912-clause-made : goal.returns-then-words-ge536870912-clause-made

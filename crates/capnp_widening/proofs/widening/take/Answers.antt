@@ -1,16 +1,17 @@
 use Rattle.std.proofs.lemmas.Result.{err_from_is_err_and}
-use Rattle.std.proofs.Common.{◌≡◌, ℕ, ◌+◌, inr, length, replicate, refl, ap, subst, arith}
+use Rattle.std.proofs.Common.{◌≡◌, ℕ, ◌+◌, ◌-◌, ◌*◌, inl, inr, length, replicate, refl, ap, subst, arith}
 use Rattle.capnp_format.specs.Segments.{Segments, segment}
 use Rattle.capnp_making.specs.Made.{IsGrown}
-use Rattle.capnp_making.proofs.MadeWords.{taken_grown, extended_grown}
+use Rattle.capnp_making.proofs.MadeWords.{taken_grown}
 use Rattle.std.proofs.Common.{◌∙◌}
 use Rattle.std.proofs.lemmas.List.{length-replicate}
 use Rattle.capnp_arena_traits.specs.View.{View}
 use Rattle.capnp_arena_traits.specs.Written.{extended}
-use Rattle.capnp_making.specs.Memory.{StandsBehind}
-use Rattle.capnp_widening.specs.Rooms.{GrowsByAtMost}
+use Rattle.capnp_making.specs.Memory.{Lengthens, StandsBehind, TakesWords}
+use Rattle.capnp_making.proofs.Taken.{anywhere_lengthens}
 use Rattle.capnp_widening.proofs.Refusing.{anywhere_refused}
-use Rattle.capnp_widening.proofs.Rooms.{all_words, words_extended, words_taken, room_some, room_elsewhere, room_left, room_still, less_room, not_true, not_within, none_refused}
+use Rattle.capnp_widening.proofs.PadRooms.{pads_left}
+use Rattle.capnp_widening.proofs.Rooms.{all_words, words_extended, words_taken, room_elsewhere, room_still, less_room, not_true, not_within, none_refused}
 use Rattle.capnp_making.proofs.Memory.{words_in}
 use Rattle.capnp_widening.proofs.TakingWords.{took_near, took_far, stands_near}
 use Rattle.capnp_widening.proofs.widening.take.Goals as goal
@@ -42,15 +43,19 @@ returns-in-Some-clause-few g c =
     omega (arith, ap all_words taken, words_extended S c.args.id (replicate c.args.amount 0) c.requires.there, length-replicate {A = ℕ} c.args.amount 0)
 
 pub returns-in-Some-clause-fits : goal.returns-in-Some-clause-fits
-returns-in-Some-clause-fits g c = λ n h.
+returns-in-Some-clause-fits g c = λ k n h.
     (let a : View = g.A.BuilderArena.view c.args.arena.now in
     let b : View = g.A.BuilderArena.view c.allocate.new.self in
     let m : ℕ = c.args.amount in
-    let taken : b.words ≡ extended a.words c.args.id (replicate m 0) = ap words_in c.in-Some.ensures.taken.1 in
-    let grown : IsGrown a.words b.words c.args.id (length (segment a.words c.args.id)) m = rw taken (extended_grown a.words c.args.id m c.requires.there) in
-    let few : GrowsByAtMost a.words b.words m = omega (arith, ap all_words taken, words_extended a.words c.args.id (replicate m 0) c.requires.there, length-replicate {A = ℕ} m 0) in
-    let room = ap (λ (v : View). v.room) c.in-Some.ensures.taken.1 in
-    (refl, room_left a b m n grown.grows few (λ k l. ap (λ (f : ℕ → ℕ). f k) room) (room_some a c.args.id (m + n) c.requires.there h)))
+    let taken : TakesWords a b c.args.id m = took_near a b c.args.id m c.in-Some.at c.requires.there (c.in-Some.ensures.exactly.0 refl) c.in-Some.ensures.taken in
+    let long = taken.near (c.in-Some.ensures.exactly.0 refl) in
+    let room = ap (λ (v : View). v.room) c.in-Some.ensures.taken.1 in (
+      refl,
+      λ exists apart few. elim h [
+        | inl fits ↦ pads_left a b c.args.id m k n c.args.id apart exists few long (λ i l. ap (λ (f : ℕ → ℕ). f i) room) (g.met.A.BuilderArena.within c.allocate.new.self c.args.id) c.requires.there fits
+        | inr (j, fit) ↦ pads_left a b c.args.id m k n j apart exists few long (λ i l. ap (λ (f : ℕ → ℕ). f i) room) (g.met.A.BuilderArena.within c.allocate.new.self c.args.id) fit.0 (omega (arith, fit.1))
+      ],
+    ))
 
 -- Words and a pad are taken elsewhere.
 pub returns-in_ok-segment-in-None-clause-few : goal.returns-in_ok-segment-in-None-clause-few
@@ -61,30 +66,35 @@ returns-in_ok-segment-in-None-clause-few g c =
     omega (arith, words_taken S T (c.args.amount + 1) c.in_ok-segment-in-None.segment c.in_ok-segment-in-None.at (rw same at c.in_ok-segment-in-None.ensures.taken))
 
 pub returns-in_ok-segment-in-None-clause-fits : goal.returns-in_ok-segment-in-None-clause-fits
-returns-in_ok-segment-in-None-clause-fits g c = λ n h.
+returns-in_ok-segment-in-None-clause-fits g c = λ k n h.
     (let a : View = g.A.BuilderArena.view c.args.arena.now in
+    let mid : View = g.A.BuilderArena.view c.allocate.new.self in
     let b : View = g.A.BuilderArena.view c.allocate_anywhere.new.self in
     let m : ℕ = c.args.amount in
-    let before : g.A.BuilderArena.view c.allocate.new.self ≡ a = c.in-None.ensures.none refl in
-    let grown : IsGrown a.words b.words c.in_ok-segment-in-None.segment c.in_ok-segment-in-None.at (m + 1) = taken_grown a.words b.words (m + 1) c.in_ok-segment-in-None.segment c.in_ok-segment-in-None.at (rw before at c.in_ok-segment-in-None.ensures.taken) in
-    (refl, room_left a b (m + 1) n grown.grows (returns-in_ok-segment-in-None-clause-few g c) (rw before at c.in_ok-segment-in-None.ensures.room) (room_elsewhere a c.args.id m n (not_within _ _ (λ l. not_true (c.in-None.ensures.exactly.1 l))) h)))
+    let z : ℕ = c.in_ok-segment-in-None.segment in
+    let before : mid ≡ a = c.in-None.ensures.none refl in
+    let (next, more, start) = anywhere_lengthens mid b (m + 1) z c.in_ok-segment-in-None.at c.in_ok-segment-in-None.ensures.first c.in_ok-segment-in-None.ensures.another in
+    let long : Lengthens a.words b.words z (m + 1) = subst (λ (v : View). Lengthens v.words b.words z (m + 1)) before more in
+    let (j, there, fits) = room_elsewhere a c.args.id m _ (not_within _ _ (λ l. not_true (c.in-None.ensures.exactly.1 l))) h in
+    (refl, λ exists apart few. pads_left a b z (m + 1) k n j apart exists (omega (arith, few)) long (rw before at c.in_ok-segment-in-None.ensures.room) (g.met.A.BuilderArena.within c.allocate_anywhere.new.self z) there fits))
 
 -- No segment has room for them.
 pub returns-in_err-segment-in-None-clause-few : goal.returns-in_err-segment-in-None-clause-few
 returns-in_err-segment-in-None-clause-few g c = omega (arith, ap all_words (ap words_in c.in_err-segment-in-None.ensures.refused ∙ ap words_in (c.in-None.ensures.none refl)))
 
 pub returns-in_err-segment-in-None-clause-fits : goal.returns-in_err-segment-in-None-clause-fits
-returns-in_err-segment-in-None-clause-fits g c = λ n h.
+returns-in_err-segment-in-None-clause-fits g c = λ k n h.
     (let a : View = g.A.BuilderArena.view c.args.arena.now in
     let b : View = g.A.BuilderArena.view c.allocate_anywhere.new.self in
     let m : ℕ = c.args.amount in
     let before : g.A.BuilderArena.view c.allocate.new.self ≡ a = c.in-None.ensures.none refl in
     let words : b.words ≡ a.words = ap words_in c.in_err-segment-in-None.ensures.refused ∙ ap words_in before in
     let room : b.room ≡ a.room = ap (λ (v : View). v.room) c.in_err-segment-in-None.ensures.refused ∙ ap (λ (v : View). v.room) before in
-    let some = room_elsewhere a c.args.id m n (not_within _ _ (λ l. not_true (c.in-None.ensures.exactly.1 l))) h in
+    let pads : ℕ = 2 * (n - (a.room k - length (segment a.words k))) in
+    let some = room_elsewhere a c.args.id m pads (not_within _ _ (λ l. not_true (c.in-None.ensures.exactly.1 l))) h in
     let e = c.in_err-segment-in-None.ensures in
     let refused = anywhere_refused a (g.A.BuilderArena.view c.allocate.new.self) b c.args.id m _ before (λ l. not_true (c.in-None.ensures.exactly.1 l)) e.named e.refused (λ j fit. e.first j fit) in
-    absurd (none_refused a b m _ refused (room_still a b (m + 1) words room (less_room a (m + 1 + n) (m + 1) (omega arith) some))))
+    absurd (none_refused a b m _ refused (room_still a b (m + 1) words room (less_room a (m + 1 + pads) (m + 1) (omega arith) some))))
 
 -- They stand behind all that were there.
 pub returns-in-Some-clause-words : goal.returns-in-Some-clause-words

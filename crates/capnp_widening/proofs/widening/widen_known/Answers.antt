@@ -1,17 +1,20 @@
-use Rattle.std.proofs.Common.{inl, inr, subst, ◌≡◌, ◌+◌, ◌*◌, sym, ap, ◌∙◌, arith}
-use Rattle.capnp_format.specs.Tree.{Struct, count}
+use Rattle.std.proofs.Common.{ℕ, length, subst, ◌+◌, ap, arith}
+use Rattle.capnp_format.specs.Forest.{target}
+use Rattle.capnp_format.specs.Tree.{Struct}
 use Rattle.capnp_arena_traits.specs.View.{View}
-use Rattle.capnp_making.specs.Memory.{HasRoom}
-use Rattle.capnp_making.specs.Near.{HasOwnRoom}
+use Rattle.capnp_contents.specs.declared.existing.ExistingStruct.{ExistingStruct}
+use Rattle.capnp_making.specs.Memory.{start_of}
+use Rattle.capnp_making.specs.declared.making.Start.{Start}
 use Rattle.capnp_making.proofs.Outcomes.{on_err_so, on_made_so, if_ok_so}
-use Rattle.capnp_widening.specs.Rooms.{widened_words}
+use Rattle.capnp_widening.specs.Moved.{near_pointers, row_of_moves}
+use Rattle.capnp_widening.specs.Rooms.{HasRoomAndPads}
 use Rattle.capnp_widening.proofs.Filled.{greater_size, same_wide}
 use Rattle.capnp_widening.proofs.StructRooms.{wider_words}
 use Rattle.capnp_widening.proofs.StructSteps.{the_struct, same_struct}
 use Rattle.capnp_making.specs.Makes.{call_at}
 use Rattle.capnp_widening.specs.Anew.{BecomesAnew}
 use Rattle.capnp_widening.proofs.widening.widen_known.Goals as goal
-use Rattle.capnp_widening.specs.Widened.{widened}
+use Rattle.capnp_widening.specs.Widened.{fill_words}
 
 pub returns-clause-wider : goal.returns-clause-wider
 returns-clause-wider g c =
@@ -47,11 +50,10 @@ returns-clause-fits g c = λ h.
     let d = ap (λ e. e.size.data_words) same in
     let k = ap (λ e. e.size.pointers) same in
     let n = wider_words c.args.size ws ts c.greater.result c.greater-2.result (omega (arith, c.greater.ensures, d)) (omega (arith, c.greater-2.ensures, k)) in
-    let all : widened_words (widened c.args.size ws ts) + 2 * count ts ≡ c.greater.result + c.greater-2.result + 2 * c.args.old.size.pointers = omega (arith, n, k) in
-    elim room [
-      | inl fits ↦ c.widen_struct.ensures.fits (subst (λ m. HasRoom v c.args.id m) all fits)
-      | inr (here, fits) ↦ c.widen_struct.ensures.near (sym (ap (λ e. e.segment) same) ∙ here) (subst (λ m. HasOwnRoom v c.args.id m) n fits)
-    ])
+    let a : Start = start_of (target v.words c.args.id c.args.at) in
+    let to : Start = record { segment = a.segment; at = a.at + length (fill_words c.args.size.data_words ws) } in
+    let asks : ℕ → ExistingStruct → Type 0 = λ m e. HasRoomAndPads v c.args.id m e.segment (near_pointers v.words (row_of_moves e.segment (e.start + e.size.data_words) to.segment to.at e.size.pointers)) in
+    c.widen_struct.ensures.fits to (subst (λ e. asks (c.greater.result + c.greater-2.result) e) same (subst (λ m. asks m (the_struct v.words c.args.id c.args.at ws ts)) n room)))
 
 pub returns-clause-few : goal.returns-clause-few
 returns-clause-few g c = λ ws ts x.

@@ -1,17 +1,18 @@
 use Rattle.std.proofs.lemmas.Result.{err_from_is_err_and}
 use Rattle.std.proofs.Common.{◌≡◌, inl, inr, ◌+◌, ◌*◌, ◌^◌, ◌<◌, ◌≤◌, ℕ, length, sym, ap, subst, ◌∙◌}
 use Rattle.std.proofs.Common.{le_of_eq, le_trans, lt_of_lt_of_le, arith}
+use Rattle.std.proofs.lemmas.Bool.{cases_eq}
 use Rattle.capnp_arena_traits.specs.View.{View}
 use Rattle.capnp_format.specs.Segments.{Segments, segment}
 use Rattle.capnp_format.proofs.Slices.{there}
 use Rattle.capnp_making.specs.declared.making.Start.{Start}
-use Rattle.capnp_making.specs.Memory.{HasRoom}
-use Rattle.capnp_making.specs.Near.{HasOwnRoom}
 use Rattle.capnp_making.proofs.Memory.{keeps_both, keeps_then_spends, keeps_written, spends_then_limits, words_refused_after, words_refused_before}
-use Rattle.capnp_widening.specs.Rooms.{HasSomeRoom}
+use Rattle.capnp_widening.specs.Moved.{near_pointers, row_of_moves}
+use Rattle.capnp_widening.specs.Rooms.{HasPadRoom, HasRoomAndPads}
 use Rattle.capnp_widening.proofs.Kept.{few_after, few_again, few_at_most, few_before}
 use Rattle.capnp_widening.proofs.RowPlaces.{near_or_behind}
-use Rattle.capnp_widening.proofs.Rooms.{same_words, room_written}
+use Rattle.capnp_widening.proofs.PadRooms.{near_row_few, near_same_row, none_elsewhere, pads_written}
+use Rattle.capnp_widening.proofs.Rooms.{same_words}
 use Rattle.capnp_widening.proofs.StructSteps.{StructSteps, struct_rehoused, struct_leads, struct_anew, StructUndone, struct_left, nothing_grown}
 use Rattle.capnp_widening.specs.Anew.{OnlyWrites}
 use Rattle.capnp_widening.proofs.TakingWords.{pruned_writes}
@@ -305,29 +306,39 @@ pub returns-in_err-room-clause-few : goal.returns-in_err-room-clause-few
 returns-in_err-room-clause-few g c = let taken = rw c.total.ensures at c.take.ensures.few in few_at_most _ _
     (c.args.size.data_words + c.args.size.pointers + 1) _ taken
 
--- Where there is room for the struct and for all that its pointers can take, neither is refused.
+-- Where there is room for the struct and for the landing pads that its pointers need, neither is refused.
 pub returns-in_err-room-clause-fits : goal.returns-in_err-room-clause-fits
 returns-in_err-room-clause-fits g c =
-    let p = err_from_is_err_and c.from_residual.result c.from_residual.ensures.1 in rw p.1 (λ h.
-    (let n : ℕ = 2 * c.args.old.size.pointers in
-    (c.in_err-room.ensures.fits n (subst (λ m. HasRoom (g.A.BuilderArena.view c.args.arena.now) c.args.id (m + n)) (sym c.total.ensures) h)).0))
+    let v : View = g.A.BuilderArena.view c.args.arena.now in
+    let p = err_from_is_err_and c.from_residual.result c.from_residual.ensures.1 in rw p.1 (λ to h.
+    (let old = c.args.old in
+    let n : ℕ = near_pointers v.words (row_of_moves old.segment (old.start + old.size.data_words) to.segment to.at old.size.pointers) in
+    (c.in_err-room.ensures.fits old.segment n (subst (λ m. HasRoomAndPads v c.args.id m old.segment n) (sym c.total.ensures) h)).0))
 
 pub returns-in-Err-clause-fits : goal.returns-in-Err-clause-fits
-returns-in-Err-clause-fits g c = λ h.
-    (let n : ℕ = 2 * c.args.old.size.pointers in
+returns-in-Err-clause-fits g c = λ to h.
+    (let S : View = g.A.BuilderArena.view c.args.arena.now in
     let T : View = g.A.BuilderArena.view c.take.new.arena in
     let D : View = g.A.BuilderArena.view c.copy_words.new.arena in
-    let left = (c.in_ok-room.ensures.fits n (subst (λ m. HasRoom (g.A.BuilderArena.view c.args.arena.now) c.args.id (m + n)) (sym c.total.ensures) h)).1 in
-    c.in-Err.ensures.moves.fits (subst (λ m. HasSomeRoom D (2 * m)) (sym c.from-count.ensures) (room_written T D n c.copy_words.ensures.limits c.copy_words.ensures.copied.segments c.copy_words.ensures.copied.words left)))
-
--- In the segment of the old struct no pointer takes any.
-pub returns-in_err-room-clause-near : goal.returns-in_err-room-clause-near
-returns-in_err-room-clause-near g c =
-    let p = err_from_is_err_and c.from_residual.result c.from_residual.ensures.1 in rw p.1 (λ here h. (c.in_err-room.ensures.near (subst (λ m. HasOwnRoom (g.A.BuilderArena.view c.args.arena.now) c.args.id m) (sym c.total.ensures) h)).0)
-
-pub returns-in-Err-clause-near : goal.returns-in-Err-clause-near
-returns-in-Err-clause-near g c = λ here h.
-    (let there = (c.in_ok-room.ensures.near (subst (λ m. HasOwnRoom (g.A.BuilderArena.view c.args.arena.now) c.args.id m) (sym c.total.ensures) h)).1 in
-    let from = ap (λ (x : Start). x.segment) c.pointers_of-from.ensures in
-    let to = ap (λ (x : Start). x.segment) c.pointers_of-to.ensures in
-    c.in-Err.ensures.near (from ∙ (here ∙ (sym there ∙ sym to))))
+    let (grown, near) = c.in_ok-room.ensures.taken in
+    let copied = rw (c.data_of.ensures, c.data_of-2.ensures, c.from.ensures) at c.copy_words.ensures.copied in
+    let old = c.args.old in
+    let k : ℕ = old.segment in
+    let v : ℕ = c.in_ok-room.room.segment in
+    let p : ℕ = old.start + old.size.data_words in
+    let r : ℕ = c.in_ok-room.room.at + c.in_ok-room.room.pads + c.args.size.data_words in
+    let n : ℕ = near_pointers S.words (row_of_moves k p to.segment to.at old.size.pointers) in
+    let (more, refused) = c.in-Err.ensures.moves.full in
+    let some : 0 < old.size.pointers = rw c.from-count.ensures at more in
+    let exists = there S.words k p (omega (arith, some, c.requires.inside)) in
+    let few : n ≤ c.total.result = omega (arith, near_row_few S.words k p to.segment to.at old.size.pointers, c.requires.pointers, c.total.ensures) in
+    elim (cases_eq k v) [
+      | inl here ↦ c.in-Err.ensures.near (ap (λ (x : Start). x.segment) c.pointers_of-from.ensures ∙ (here ∙ sym (ap (λ (x : Start). x.segment) c.pointers_of-to.ensures)))
+      | inr other ↦ (let moved = rw (c.pointers_of-from.ensures, c.pointers_of-to.ensures, c.from-count.ensures) at c.in-Err.ensures.apart in
+          let left = (c.in_ok-room.ensures.fits k n (subst (λ m. HasRoomAndPads S c.args.id m k n) (sym c.total.ensures) h)).1 exists (λ e. other (sym e)) few in
+          let first = pads_written T D k n (record { limits = c.copy_words.ensures.limits; segments = copied.segments; words = copied.words }) left in
+          let same = near_same_row S.words D.words k p v r to.segment to.at old.size.pointers
+          (λ y l. copied.kept k y (none_elsewhere v _ _ k y other) ∙ grown.kept k y (lt_of_lt_of_le l c.requires.inside)) in
+          let e : n ≡ near_pointers D.words (row_of_moves k p v r old.size.pointers) + 0 = omega (arith, same) in
+          ((moved other).fits 0 (subst (λ i. HasPadRoom D k i) e first)).0)
+    ])
