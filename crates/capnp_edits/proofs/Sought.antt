@@ -13,7 +13,7 @@ use Rattle.capnp_words.specs.declared.wire_pointer.ElementSize.{ElementSize}
 use Rattle.capnp_words.specs.declared.wire_pointer.StructSize.{StructSize}
 use Rattle.capnp_format.specs.Bytes.{words_of}
 use Rattle.capnp_format.specs.Forest.{target}
-use Rattle.capnp_format.specs.Segments.{Segments, Target, word_at, IsPlace}
+use Rattle.capnp_format.specs.Segments.{Segments, Target, segment, word_at, IsPlace}
 use Rattle.capnp_format.specs.Word.{struct_word}
 use Rattle.capnp_format.specs.Tree.{Tree, Null, Capability, Struct, Flat, Pointers, Structs, capabilities, count}
 use Rattle.capnp_format.proofs.Levels.{one_value}
@@ -23,7 +23,6 @@ use Rattle.capnp_contents.specs.declared.existing.ExistingList.{ExistingList}
 use Rattle.capnp_contents.specs.Existing.{is_unfound, list_in, data_in, text_in}
 use Rattle.capnp_making.specs.Made.{nulls, words_of_zero, zero_struct}
 use Rattle.capnp_making.specs.Memory.{HasRoom, KeepsMemory, SpendsMemory}
-use Rattle.capnp_making.specs.Near.{HasOwnRoom}
 use Rattle.capnp_making.proofs.Placed.{count-nulls}
 use Rattle.capnp_making.specs.Stored.{IsStored, IsReplaced}
 use Rattle.capnp_making.proofs.Filling.{unchanged as stays}
@@ -391,8 +390,9 @@ opened_fits v s p size Null u stored is room = inl (stored.means.2.0, new_room r
     words = ap widened_words (sym (same_ok (zero_struct size) u is)) ∙ (let e : length (words_of_zero size.data_words) + count (nulls size.pointers) ≡ size.data_words + size.pointers = omega (arith, length-replicate {A = ℕ} size.data_words 0, count-nulls size.pointers) in e)
 
     new_room : HasRoomFor v s p Null u → HasRoom v s (size.data_words + size.pointers)
-    new_room (inl h) = subst (HasRoom v s) (let e : widened_words u + 2 * 0 ≡ size.data_words + size.pointers = omega (arith, words) in e) h
-    new_room (inr (here, h)) = inl (subst (HasOwnRoom v s) words h)
+    new_room h =
+        let a = (target v.words s p).segment in
+        subst (HasRoom v s) (let e : widened_words u + 2 * (0 - (v.room a - length (segment v.words a))) ≡ size.data_words + size.pointers = omega (arith, words) in e) h
 opened_fits v s p size (Struct ws ts) u stored is room = inr (ws, ts, stored, subst (HasRoomFor v s p (Struct ws ts)) (sym (same_ok (widened size ws ts) u is)) room)
 opened_fits v s p size (Capability i) u stored is room = absurd (cc)
 opened_fits v s p size (Flat z ns) u stored is room = absurd (cc)
