@@ -2,9 +2,9 @@
 use Rattle.std.proofs.Common.{◌≡◌, ℕ, pred, ◌+◌, ◌*◌, ◌<◌, ◌≤◌, length, sym, ap, ap₂, ◌∙◌, subst, arith}
 use Rattle.capnp_format.specs.Word.{kind, offset_bits, data_words, pointer_count, element_size, list_count}
 use Rattle.capnp_format.specs.Segments.{Segments, segment, word_at, words_at, Target}
-use Rattle.capnp_format.specs.Tree.{Trees, Elements, count, element_count, depth, depth_all, depth_elements}
+use Rattle.capnp_format.specs.Tree.{Tree, Trees, no_trees, tree, Elements, count, element_count, depth, depth_all, depth_elements}
 use Rattle.capnp_format.specs.Means.{count_cost}
-use Rattle.capnp_format.specs.Canonical.{Stands, charge, charge_all, charge_elements}
+use Rattle.capnp_format.specs.Canonical.{ForOffset, Stands, charge, charge_all, charge_elements}
 use Rattle.capnp_words.specs.Meter.{Meter, Affords}
 use Rattle.capnp_words.specs.declared.error.ErrorKind.{ErrorKind}
 use Rattle.capnp_objects.specs.Demands.{claim, tag, own}
@@ -14,6 +14,7 @@ use Rattle.capnp_objects.specs.Faults.{child_at}
 use Rattle.capnp_objects.specs.Refusals.{in_struct, in_pointers, in_element, here as stopped_here}
 use Rattle.capnp_objects.specs.Spending.{Paid}
 use Rattle.capnp_objects.specs.declared.object.Purpose.TheVariants.{Value}
+use Rattle.capnp_format.proofs.Appending.{append_trees}
 use Rattle.capnp_format.proofs.Slices.{length_words}
 use Rattle.capnp_format.proofs.Unique.{for_offset}
 use Rattle.capnp_objects.proofs.Budgets.{affords_rest, paid_both, paid_own}
@@ -21,19 +22,28 @@ use Rattle.capnp_objects.proofs.Objects.{own_struct, own_pointers, own_structs}
 use Rattle.capnp_objects.proofs.Parts.{claim_struct, claim_list}
 use Rattle.capnp_objects.proofs.Refusals.{unreadable}
 use Rattle.capnp_objects.proofs.Walked.{paid_none}
-use Rattle.capnp_readers.specs.Standing.{AllStand, ElementsStand}
+use Rattle.capnp_readers.specs.Standing.{AllStand, ForOffsets, ElementsStand}
 use Rattle.capnp_readers.specs.Checking.{Progress, FindsAll, FindsElements, CanBeFound, CanAllBeFound, behind_object, TestStops, here, below, TestsStop}
-use Rattle.capnp_readers.proofs.Chains.{all_within, elements_within}
+use Rattle.capnp_readers.proofs.Chains.{for_offset_map, all_within, elements_within}
 use Rattle.capnp_readers.proofs.Checks.{near_object, all_at, struct_at, list_at, struct_pointers, list_pointers, list_elements}
 use Rattle.capnp_readers.proofs.Found.{struct_found, pointers_found, structs_found}
 use Rattle.capnp_readers.proofs.Growing.{next_stands, next_element_stands}
 use Rattle.capnp_readers.proofs.Takes.{stands_means_at}
 use Rattle.capnp_objects.proofs.Followed.{entered_leads}
 
+-- What is so is so where some pointer has an offset, and then for each of them.
+for_offsets : (ts : Trees) (P : Type 0) → P → ForOffsets ts P
+for_offsets no_trees P h = tt
+for_offsets (tree t ts) P h = (for_offset t P h, for_offsets ts P h)
+
+offset_among : (ts : Trees) (u : Tree) (vs : Trees) (P : Type 0) → ForOffsets (append_trees ts (tree u vs)) P → ForOffset u P
+offset_among no_trees u vs P h = h.0
+offset_among (tree t ts) u vs P h = offset_among ts u vs P h.1
+
 -- The pointer that comes next where a row of more pointers stands can be found, if what was charged before it is part of what is covered.
 record Rest (r : Reading) (from : Progress) (m : Meter) (us : Trees) : Type 0 where
   stand : AllStand r.segments r.segment r.at from.head us
-  within : from.head ≤ length (segment_read r)
+  within : ForOffsets us (from.head ≤ length (segment_read r))
   levels : depth_all us ≤ r.levels
   before : ℕ
   pointers : ℕ
@@ -46,10 +56,12 @@ next_can : {r : Reading} {from mid : Progress} {m : Meter} {us : Trees} (ts : Tr
 next_can {r} {from} {mid} {m} {us} ts rest all less =
     let S : Segments = r.segments in
     let next = next_stands S r.segment r.at from.head ts us all.stand rest.stand less in
-    let inside : mid.head ≤ length (segment_read r) = omega (arith, all.head_is, all_within S r.segment r.at from.head ts rest.within all.stand) in (
+    let short : from.head ≤ length (segment_read r) → mid.head ≤ length (segment_read r) = λ within. omega (arith, all.head_is, all_within S r.segment r.at from.head ts within all.stand) in
+    let inside : ForOffset next.next (from.head ≤ length (segment_read r)) =
+    offset_among ts next.next next.rest (from.head ≤ length (segment_read r)) (subst (λ vs. ForOffsets vs (from.head ≤ length (segment_read r))) next.parts rest.within) in (
       next.next,
       subst (λ h. Stands S r.segment (r.at + count ts) h next.next) (sym all.head_is) next.stands,
-      for_offset next.next (mid.head ≤ length (segment_read r)) inside,
+      for_offset_map next.next (from.head ≤ length (segment_read r)) (mid.head ≤ length (segment_read r)) short inside,
       omega (arith, next.levelled, rest.levels),
       affords_rest (charge next.next) rest.whole (paid_both rest.paid all.paid) (omega (arith, next.charged, rest.fits)) rest.covers,
     )
@@ -75,7 +87,7 @@ struct_next {r} {from = from} {mid = mid} {first = first} {a = a} ts near o z le
     let cost : charge t ≡ d + q + charge_all us = ap charge same ∙ omega (arith, long, len) in
     let rest : Rest (struct_pointers r a) (behind_object a first) from.meter us = record {
       stand = moved;
-      within = room;
+      within = for_offsets us (a.start + claim a.word ≤ length (segment S a.segment)) room;
       levels = level_less (depth_all us) r.levels deep;
       before = own Value S a;
       pointers = 1;
@@ -101,7 +113,7 @@ pointers_next {r} {from = from} {mid = mid} {first = first} {a = a} ts near o z 
     let cost : charge t ≡ n + charge_all us = ap charge same ∙ omega (arith, len) in
     let rest : Rest (list_pointers r a) (behind_object a first) from.meter us = record {
       stand = moved;
-      within = room;
+      within = for_offsets us (a.start + claim a.word ≤ length (segment S a.segment)) room;
       levels = level_less (depth_all us) r.levels deep;
       before = own Value S a;
       pointers = 1;
@@ -147,7 +159,7 @@ structs_next {r} {from = from} {between = between} {mid = mid} {first = first} {
     ∙ (let k : m + 1 + count_cost (d + q) (offset_bits (tag S a)) + charge_elements fs ≡ own Value S a + charge_elements fs = omega (arith, own_structs S a z seven, close.no_pads) in k) in
     let rest : Rest (pointers_of (list_elements r a) (tag_size S a) (element_count es)) between from.meter next.next = record {
       stand = subst (λ h. AllStand S a.segment (a.start + 1 + element_count es * (d + q) + d) h next.next) (sym rows.head_is) next.stand;
-      within = omega (arith, rows.head_is, elements_within S a.segment (a.start + 1) d q head es room rows.stand);
+      within = for_offsets next.next (between.head ≤ length (segment S a.segment)) (omega (arith, rows.head_is, elements_within S a.segment (a.start + 1) d q head es room rows.stand));
       levels = omega (arith, next.levelled, level_less (depth_elements fs) r.levels deep);
       before = own Value S a + charge_elements es;
       pointers = _;
@@ -168,7 +180,7 @@ stops_never {r = r} {from = from} (below {mid = mid} a q near o start exact (in_
 stops_never {r = r} {from = from} (below {mid = mid} a q near o start exact (in_element es ts between list fewer less e rows all) stops) can =
     stops_never stops (subst (λ y. CanBeFound (child_at r a (pred r.levels) y) mid) (sym e) (structs_next es ts near o list fewer less rows all can))
 
-pub row_stops_never : {k : ErrorKind} {r : Reading} {i : ℕ} {from : Progress} {m' : Meter} → TestsStop r i from m' k → from.head ≤ length (segment_read r) → CanAllBeFound r i from → ⊥
-row_stops_never {r = r} {from = from} h inside (us, len, stand, levels, covers) =
+pub row_stops_never : {k : ErrorKind} {r : Reading} {i : ℕ} {from : Progress} {m' : Meter} → TestsStop r i from m' k → CanAllBeFound r i from → ⊥
+row_stops_never {r = r} {from = from} h (us, len, stand, inside, levels, covers) =
     let rest : Rest r from from.meter us = record { stand = stand; within = inside; levels = levels; before = 0; pointers = 0; whole = charge_all us; paid = paid_none r from.meter; fits = omega arith; covers = covers } in
     stops_never h.ends (next_can h.first rest h.are_found (omega (arith, h.fewer, len)))

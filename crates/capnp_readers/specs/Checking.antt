@@ -49,7 +49,8 @@ use Rattle.capnp_readers.specs.declared.readers.canonical_fault.CanonicalFaultRe
 use Rattle.capnp_readers.specs.declared.readers.canonical_fault.CanonicalFaultReason.TheVariants.{ElementWords}
 use Rattle.capnp_readers.specs.declared.readers.canonical_fault.CanonicalFaultReason.TheVariants.{ElementData}
 use Rattle.capnp_readers.specs.declared.readers.canonical_fault.CanonicalFaultReason.TheVariants.{ElementPointers}
-use Rattle.capnp_readers.specs.Standing.{AllStand, ElementsStand, ElementsAccept, EndsUsed, IsPadded}
+use Rattle.capnp_readers.specs.Standing.{AllStand, ForOffsets, ElementsStand, ElementsAccept}
+use Rattle.capnp_readers.specs.Standing.{EndsUsed, IsPadded}
 
 -- How far a test has come: the word at which the next object has to start, and its limiter.
 pub record Progress : Type 0 where
@@ -180,7 +181,8 @@ CanBeFound r from =
 abbrev pub CanAllBeFound : Reading → ℕ → Progress → Type 0
 CanAllBeFound r i from =
     (ts : Trees) × (count ts ≡ i) × AllStand r.segments r.segment r.at from.head ts ×
-    (depth_all ts ≤ r.levels) × Affords r.charging from.meter (charge_all ts)
+    ForOffsets ts (from.head ≤ length (segment_read r)) × (depth_all ts ≤ r.levels) ×
+    Affords r.charging from.meter (charge_all ts)
 
 -- The name of a refusal: a list that has no level is refused by another than a struct is.
 abbrev pub level_refusal_name : ℕ → ErrorKind → ErrorKind

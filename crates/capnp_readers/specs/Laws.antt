@@ -13,7 +13,7 @@ use Rattle.capnp_readers.specs.Checking.{Progress, progress, Finds, CanBeFound, 
 use Rattle.capnp_readers.specs.Checking.{TestStops, TestsStop, TestEnds, IsUnfit, TestsEnd}
 
 -- The test of a place is not refused where canonical words stand that the limits cover; nor is that
--- of i pointers, the head of which lies in the segment.
+-- of i pointers.
 abbrev pub CanonicalIsAnswered : Type 0
 CanonicalIsAnswered = (k : ErrorKind) (r : Reading) (from : Progress) (m' : Meter) →
     TestStops k r from m' → CanBeFound r from → ⊥
@@ -21,7 +21,7 @@ CanonicalIsAnswered = (k : ErrorKind) (r : Reading) (from : Progress) (m' : Mete
 abbrev pub CanonicalPointersAreAnswered : Type 0
 CanonicalPointersAreAnswered =
     (k : ErrorKind) (r : Reading) (i : ℕ) (from : Progress) (m' : Meter) → TestsStop r i from m' k →
-    from.head ≤ length (segment_read r) → CanAllBeFound r i from → ⊥
+    CanAllBeFound r i from → ⊥
 
 -- The canonical words of a value stand at a place with a head in its segment, which is read within
 -- the same levels, and charged as the place that means the value is.

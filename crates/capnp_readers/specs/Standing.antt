@@ -5,11 +5,17 @@ use Rattle.capnp_format.specs.Tree.{Trees, no_trees, tree, Elements, no_elements
 use Rattle.capnp_format.specs.Tree.{element_count}
 pub use Rattle.capnp_format.specs.Padding.{IsPadded}
 use Rattle.capnp_format.specs.Canonical.{word_count, word_count_all, data_width, pointer_width, Stands}
+use Rattle.capnp_format.specs.Canonical.{ForOffset}
 
 -- The pointers of children stand from position p on, and their bodies in order from the head h on.
 abbrev pub AllStand : Segments → ℕ → ℕ → ℕ → Trees → Type 0
 AllStand S s p h no_trees = ⊤
 AllStand S s p h (tree t ts) = Stands S s p h t × AllStand S s (p + 1) (h + word_count t) ts
+
+-- P, where the pointer of one of these values has an offset that counts words.
+abbrev pub ForOffsets : Trees → Type 0 → Type 0
+ForOffsets no_trees P = ⊤
+ForOffsets (tree t ts) P = ForOffset t P × ForOffsets ts P
 
 -- Elements of d data words and q pointers stand from position p on, and the bodies of all their
 -- children in order from the head h on.

@@ -1,5 +1,5 @@
 //! The test for canonical form, in place.
-ghost use Rattle.std.specs.Prelude.{ℕ, ◌≡◌, ◌≢◌, ◌<◌, ◌≤◌, ◌+◌, ◌*◌, ◌/◌, ◌-◌, ◌⊎◌, ◌↔◌, pred, ◌^◌, None, IsTrue, IsNone, Ok, true, false, Some, Err, IfOk, IfErr, IfNone, IfSome, OnOk, OnErr, length, slice_index};
+ghost use Rattle.std.specs.Prelude.{ℕ, ◌≡◌, ◌≢◌, ◌<◌, ◌≤◌, ◌+◌, ◌*◌, ◌/◌, ◌-◌, ◌⊎◌, ◌↔◌, pred, ◌^◌, None, IsOk, IsTrue, IsNone, Ok, true, false, Some, Err, IfOk, IfErr, IfNone, IfSome, OnOk, OnErr, length, slice_index};
 ghost use Rattle.std.specs.Bool.{OnFalse};
 ghost use Rattle.capnp_format.specs.Bytes.{words_of};
 ghost use Rattle.capnp_format.specs.Word.{kind, element_size};
@@ -10,7 +10,7 @@ ghost use Rattle.capnp_objects.specs.Source.{levels};
 ghost use Rattle.capnp_readers.specs.Faults.{FaultIs};
 ghost use Rattle.capnp_readers.specs.Readers.{reading};
 ghost use Rattle.capnp_readers.specs.Sizes.{pointers_read, reading_on};
-ghost use Rattle.capnp_readers.specs.Checking.{progress, level_refusal_name, IsFound, AreFound, IsCanonicalAt, IsTested, StartsRight, Tells, TellsAll, TellsFlat, TellsStruct, TellsRows, TellsClaimed, TestStops, TestsStop, StructTestStops, RowTestsStop, TestEnds, IsFault, IsUnfit, TestsEnd, SectionsFail, RowsFail, ClaimedFails, StructTestFails, StartsWhole, IsCanonicalStruct, IsDataUsed, ArePointersUsed, head_behind};
+ghost use Rattle.capnp_readers.specs.Checking.{progress, level_refusal_name, IsFound, AreFound, IsCanonicalAt, IsTested, StartsRight, Tells, TellsAll, TellsFlat, TellsStruct, TellsRows, TellsClaimed, CanBeFound, CanAllBeFound, TestStops, TestsStop, StructTestStops, RowTestsStop, TestEnds, IsFault, IsUnfit, TestsEnd, SectionsFail, RowsFail, ClaimedFails, StructTestFails, StartsWhole, IsCanonicalStruct, IsDataUsed, ArePointersUsed, head_behind};
 
 use crate::readers::canonical_answer::{Answer, Stopped, fault_at, reason_of, refused, unanswered};
 use crate::readers::canonical_fault::{CanonicalFault, CanonicalFaultReason};
@@ -40,8 +40,8 @@ impl<'a, A: ReaderArena> PointerReader<'a, A> {
     /// The pointers are tested in order. Each but the null is counted, and the words that its object
     /// claims, and for elements without width their number, are charged, as `get_struct` and
     /// `get_list` do; a struct and a list take a level. It is answered wherever a canonical value
-    /// stands, the limiter covers these charges, and the nesting limit is at least the value's depth.
-    /// Else it may be refused by the first fault that is met:
+    /// stands at a head in the segment, the limiter covers these charges, and the nesting limit is at
+    /// least the value's depth. Else it may be refused by the first fault that is met:
     /// `MessageContainsOutOfBoundsPointer`, `MessageIsTooDeeplyNestedOrContainsCycles` for a struct
     /// and `NestingLimitExceeded` for a list that have no level,
     /// `InlineCompositeListsOfNonStructTypeAreNotSupported`,
@@ -54,6 +54,8 @@ impl<'a, A: ReaderArena> PointerReader<'a, A> {
         ensures found { IfOk result (λ b. IsTrue b
             → IsFound (reading A.ReaderArena self.now) (progress head.old lim.old)
             (progress head.new lim.new)) }
+        ensures answered { CanBeFound (reading A.ReaderArena self.now) (progress head.old lim.old)
+            → IsOk result }
         ensures refused { IfErr result
             (λ k. TestStops k (reading A.ReaderArena self.now)
             (progress head.old lim.old) lim.new) }
@@ -66,8 +68,8 @@ impl<'a, A: ReaderArena> PointerReader<'a, A> {
     }
 
     /// Where and why the pointer doesn't lead to a value in canonical form whose first object starts at
-    /// the head, or `None` where it does: `is_canonical` with the place of the no. What is charged,
-    /// refused and moved is as there.
+    /// the head, or `None` where it does: `is_canonical` with the place of the no. What is answered,
+    /// charged, refused and moved is as there.
     ///
     /// The fault is the first that is met, the pointers being tested in order, and its reason is true of
     /// the word that it names. Where both sections of a struct or of elements are wider than they need be,
@@ -82,6 +84,8 @@ impl<'a, A: ReaderArena> PointerReader<'a, A> {
         ensures found { IfOk result (λ o. IfNone o
             (IsFound (reading A.ReaderArena self.now) (progress head.old lim.old)
             (progress head.new lim.new))) }
+        ensures answered { CanBeFound (reading A.ReaderArena self.now) (progress head.old lim.old)
+            → IsOk result }
         ensures refused { IfErr result
             (λ k. TestStops k (reading A.ReaderArena self.now)
             (progress head.old lim.old) lim.new) }
@@ -112,8 +116,9 @@ impl<'a, A: ReaderArena> StructReader<'a, A> {
     /// `data_trunc` and `ptr_trunc` tell whether the data section and the pointer section are empty
     /// or end in a word that isn't zero. Else all four stay. The struct from nothing begins nowhere, so
     /// it is a no; nothing is charged for it, nor for a struct that starts elsewhere or has part words
-    /// of data. The pointers are tested, charged and refused as by `PointerReader::is_canonical`, under
-    /// the struct's own nesting limit; the struct's own words aren't charged.
+    /// of data. The pointers are tested, charged, answered and refused as by
+    /// `PointerReader::is_canonical`, under the struct's own nesting limit; the struct's own words
+    /// aren't charged.
     pub fn is_canonical(
         &self,
         lim: &mut ReadLimiter,
@@ -133,6 +138,8 @@ impl<'a, A: ReaderArena> StructReader<'a, A> {
             ↔ IsDataUsed A.ReaderArena self.now) }
         ensures pointers { IfOk result (λ b. IsTrue b → IsTrue ptr_trunc.new
             ↔ ArePointersUsed A.ReaderArena self.now) }
+        ensures answered { CanAllBeFound (pointers_read A.ReaderArena self.now)
+            self.now.pointer_count (progress ptr_head.old lim.old) → IsOk result }
         ensures started { IfErr result (λ k. StartsWhole A.ReaderArena self.now read_head.old) }
         ensures refused { IfErr result
             (TestsStop (pointers_read A.ReaderArena self.now) self.now.pointer_count
@@ -201,6 +208,9 @@ impl<'a, A: ReaderArena> StructReader<'a, A> {
             ↔ IsDataUsed A.ReaderArena self.now) }
         ensures pointers { IfOk result (λ b. IsTrue b → IsTrue ptr_trunc.new
             ↔ ArePointersUsed A.ReaderArena self.now) }
+        ensures answered { CanAllBeFound (pointers_read A.ReaderArena self.now)
+            self.now.pointer_count (progress (head_behind A.ReaderArena self.now head.old) lim.old)
+            → IsOk result }
         ensures started { IfErr result (λ k. StartsWhole A.ReaderArena self.now head.old) }
         ensures refused { IfErr result
             (TestsStop (pointers_read A.ReaderArena self.now) self.now.pointer_count

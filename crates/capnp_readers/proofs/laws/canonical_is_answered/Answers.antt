@@ -5,4 +5,4 @@ pub returns-clause-place : goal.returns-clause-place
 returns-clause-place c = λ k r from m' stops can. stops_never stops can
 
 pub returns-clause-pointers : goal.returns-clause-pointers
-returns-clause-pointers c = λ k r i from m' stops inside can. row_stops_never stops inside can
+returns-clause-pointers c = λ k r i from m' stops can. row_stops_never stops can
