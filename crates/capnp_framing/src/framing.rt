@@ -10,8 +10,8 @@ mod writing;
 pub use flat::{FrameSegments, read_from_flat_slice};
 pub use frame_error::FrameError;
 pub use owned_segments::OwnedSegments;
-pub use reading::{read, read_into};
-pub use segment::read_segment_into;
+pub use reading::{read, read_into, read_into_with};
+pub use segment::{read_segment_into, read_segment_into_with};
 pub use writing::write;
 
 /// The greatest number of segments of a frame, 512. The format itself has room for 2^32.

@@ -5,6 +5,7 @@ ghost use Rattle.std.specs.Io.KnownBytes.{Consumes, IsAtEnd};
 ghost use Rattle.capnp_format.specs.Bytes.{message};
 ghost use Rattle.capnp_arena_traits.specs.Limits.{IsSmall};
 ghost use Rattle.capnp_framing.specs.Flat.{AreEnds};
+ghost use Rattle.capnp_framing.specs.Memory.{IsOfNoMemory, frame_refusals};
 ghost use Rattle.capnp_framing.specs.Reading.{HasTaken, IsFrameRead, NoFrame, WhyUnread, max_length, total, words_told};
 ghost use Rattle.capnp_framing.specs.Wholeness.{KeepsWhole};
 ghost use Rattle.capnp_framing.specs.declared.framing.frame_error.FrameError.TheVariants.{AllocationFailed, ReadFailed, Truncated};
@@ -13,7 +14,7 @@ use super::MAX_SEGMENTS;
 use super::frame_error::FrameError;
 use super::owned_segments::OwnedSegments;
 use crate::devices::{DeviceFault, Input};
-use capnp_arena::arena::ReaderSegments;
+use capnp_arena::arena::{Allocator, HeapAllocator, ReaderSegments};
 use std::alloc::{AllocError, Global};
 
 /// By how many bytes at most memory is made longer, before bytes come for it: what a table only announces is
@@ -53,6 +54,7 @@ fn fill<R: Input>(input: &mut R, to: &mut [u8]) -> Result<(), FrameError>
     ensures refused { IfErr result (WhyUnread R.Input input.old input.new (length to.old)) }
     ensures failed { IfErr result (λ e. R.has_failed input.new ≡ true → e ≡ ReadFailed) }
     ensures cut { IfErr result (λ e. e ≡ Truncated → IsAtEnd (R.remaining input.new)) }
+    ensures uncounted { IfErr result IsOfNoMemory }
 {
     match read_up_to(input, to) {
         Ok(n) if n == to.len() => Ok(()),
@@ -62,21 +64,56 @@ fn fill<R: Input>(input: &mut R, to: &mut [u8]) -> Result<(), FrameError>
 }
 
 /// Makes room for some bytes more behind the first n, where there is none.
-pub(super) fn make_room(to: &mut Vec<u8>, n: usize, more: usize) -> Result<(), FrameError>
+pub(super) fn make_room<A: Allocator>(
+    allocator: &mut A,
+    to: &mut Vec<u8>,
+    n: usize,
+    more: usize,
+) -> Result<(), FrameError>
     requires within { n ≤ length to.old.items }
     requires some { 0 < more }
     ensures front { take n to.new.items ≡ take n to.old.items }
     ensures long { length to.old.items ≤ length to.new.items }
     ensures room { OnOk result (n < length to.new.items) }
+    ensures kept { OnOk result (A.refusals allocator.new ≡ A.refusals allocator.old) }
     ensures refused { IfErr result (λ e. e ≡ AllocationFailed) }
+    ensures counted { IfErr result (λ e. A.refusals allocator.new
+        ≡ frame_refusals e (A.refusals allocator.old)) }
 {
     if n < to.len() {
         return Ok(());
     }
     match to.resize(n + more.min(PIECE), 0) {
         Ok(()) => Ok(()),
-        Err(AllocError) => Err(FrameError::AllocationFailed),
+        Err(AllocError) => make_some_room(allocator, to, n),
     }
+}
+
+/// Makes room for a byte or more behind all bytes, of which n are kept. An allocator counts where there is
+/// no memory for one.
+#[cold]
+#[inline(never)]
+fn make_some_room<A: Allocator>(
+    allocator: &mut A,
+    to: &mut Vec<u8>,
+    n: usize,
+) -> Result<(), FrameError>
+    requires { n ≤ length to.old.items }
+    ensures front { take n to.new.items ≡ take n to.old.items }
+    ensures long { length to.old.items ≤ length to.new.items }
+    ensures room { OnOk result (length to.old.items < length to.new.items) }
+    ensures kept { OnOk result (A.refusals allocator.new ≡ A.refusals allocator.old) }
+    ensures refused { IfErr result (λ e. e ≡ AllocationFailed) }
+    ensures counted { IfErr result (λ e. A.refusals allocator.new
+        ≡ frame_refusals e (A.refusals allocator.old)) }
+{
+    if allocator.keep(to, 0u8).is_some() {
+        return Err(FrameError::AllocationFailed);
+    }
+    // All that was taken for it is used.
+    let room = to.capacity();
+    let _ = to.resize(room, 0);
+    Ok(())
 }
 
 /// Reads bytes over those from one position on, before another one.
@@ -98,13 +135,19 @@ fn fill_between<R: Input>(
     ensures refused { IfErr result (WhyUnread R.Input input.old input.new (end - start)) }
     ensures failed { IfErr result (λ e. R.has_failed input.new ≡ true → e ≡ ReadFailed) }
     ensures cut { IfErr result (λ e. e ≡ Truncated → IsAtEnd (R.remaining input.new)) }
+    ensures uncounted { IfErr result IsOfNoMemory }
 {
     fill(input, &mut to[start..end])
 }
 
 /// Reads so many bytes to the front of memory, which is made longer where it has to be.
 #[inline(always)]
-fn read_front<R: Input>(input: &mut R, to: &mut Vec<u8>, size: usize) -> Result<(), FrameError>
+fn read_front<A: Allocator, R: Input>(
+    allocator: &mut A,
+    input: &mut R,
+    to: &mut Vec<u8>,
+    size: usize,
+) -> Result<(), FrameError>
     requires { R.has_failed input.old ≡ false }
     ensures bytes { OnOk result (Consumes (R.remaining input.old) (R.remaining input.new)
         (take size to.new.items)) }
@@ -115,10 +158,13 @@ fn read_front<R: Input>(input: &mut R, to: &mut Vec<u8>, size: usize) -> Result<
         ⊎ WhyUnread R.Input input.old input.new size e) }
     ensures failed { IfErr result (λ e. R.has_failed input.new ≡ true → e ≡ ReadFailed) }
     ensures cut { IfErr result (λ e. e ≡ Truncated → IsAtEnd (R.remaining input.new)) }
+    ensures kept { OnOk result (A.refusals allocator.new ≡ A.refusals allocator.old) }
+    ensures counted { IfErr result (λ e. A.refusals allocator.new
+        ≡ frame_refusals e (A.refusals allocator.old)) }
 {
     let mut n = 0;
     while n < size {
-        make_room(to, n, size - n)?;
+        make_room(allocator, to, n, size - n)?;
         let end = size.min(to.len());
         fill_between(input, to.as_mut_slice(), n, end)?;
         n = end;
@@ -150,19 +196,27 @@ pub(super) fn words_between(table: &[u8], first: usize, end: usize) -> u64
 }
 
 /// Before which word each segment ends of which a table tells the length, and how many words there are.
-fn ends_of(table: &[u8], count: usize, ends: &mut Vec<usize>) -> Result<usize, FrameError>
+fn ends_of<A: Allocator>(
+    allocator: &mut A,
+    table: &[u8],
+    count: usize,
+    ends: &mut Vec<usize>,
+) -> Result<usize, FrameError>
     requires inside { 4 * count ≤ length table.now }
     requires few { count ≤ 512 }
     ensures ends { OnOk result (AreEnds count table.now ends.new.items) }
     ensures sum { IfOk result (λ words. words ≡ words_told count table.now) }
     ensures small { IfOk result (λ words. words ≤ max_length * count) }
+    ensures kept { OnOk result (A.refusals allocator.new ≡ A.refusals allocator.old) }
     ensures refused { IfErr result (λ e. e ≡ AllocationFailed) }
+    ensures counted { IfErr result (λ e. A.refusals allocator.new
+        ≡ frame_refusals e (A.refusals allocator.old)) }
 {
     ends.clear();
     let mut sum = 0;
     for i in 0..count {
         sum += number_at(table, 4 * i) as usize;
-        if ends.push(sum).is_err() {
+        if allocator.keep(ends, sum).is_some() {
             return Err(FrameError::AllocationFailed);
         }
     }
@@ -186,7 +240,62 @@ fn are_bytes(bytes: &[u8])
 /// are after a refusal.
 ///
 /// The memory that is taken grows with the bytes that came, and not with those that the table announces.
-/// None is taken for a message that has no more segments and words than one that was read before.
+/// None is taken for a message that has no more segments and words than one that was read before. An
+/// allocator counts where there is none: once for an `AllocationFailed`, and else not.
+pub fn read_into_with<A: Allocator, R: Input>(
+    allocator: &mut A,
+    input: &mut R,
+    max_words: u64,
+    into: &mut OwnedSegments,
+) -> Result<bool, FrameError>
+    requires { R.has_failed input.old ≡ false }
+    ensures end { result ≡ Ok false → IsAtEnd (R.remaining input.old) × IsAtEnd (R.remaining input.new) }
+    ensures none { result ≡ Ok false → ⟦<OwnedSegments as ReaderSegments>⟧.segments into.new ≡ [] }
+    ensures read { result ≡ Ok true → IsFrameRead R.Input input.old input.new
+        (message (⟦<OwnedSegments as ReaderSegments>⟧.segments into.new)) }
+    ensures most { result ≡ Ok true →
+        total (message (⟦<OwnedSegments as ReaderSegments>⟧.segments into.new)) ≤ max_words }
+    ensures small { IsSmall (⟦<OwnedSegments as ReaderSegments>⟧.segments into.new) }
+    ensures whole { OnOk result (KeepsWhole (R.ends_whole input.old) (R.ends_whole input.new)) }
+    ensures works { OnOk result (R.has_failed input.new ≡ false) }
+    ensures refused { IfErr result (λ e. (e ≡ AllocationFailed)
+        ⊎ ((e ≡ ReadFailed) × (R.has_failed input.new ≡ true))
+        ⊎ IfSome (R.remaining input.old) (λ bytes. NoFrame bytes max_words e)) }
+    ensures failed { IfErr result (λ e. R.has_failed input.new ≡ true → e ≡ ReadFailed) }
+    ensures taken { IfErr result (HasTaken R.Input input.old input.new) }
+    ensures kept { OnOk result (A.refusals allocator.new ≡ A.refusals allocator.old) }
+    ensures counted { IfErr result (λ e. A.refusals allocator.new
+        ≡ frame_refusals e (A.refusals allocator.old)) }
+{
+    into.count = 0;
+    let mut first = [0u8; 4];
+    match read_up_to(input, &mut first) {
+        Ok(0) => return Ok(false),
+        Ok(4) => {}
+        Ok(_) => return Err(FrameError::Truncated),
+        Err(DeviceFault) => return Err(FrameError::ReadFailed),
+    }
+    are_bytes(&first);
+    let told = u64::from(u32::from_le_bytes(first)) + 1;
+    if told > MAX_SEGMENTS as u64 {
+        return Err(FrameError::TooManySegments(told));
+    }
+    let count = told as usize;
+    let size = 4 * count + 4 * ((count + 1) % 2);
+    read_front(allocator, input, &mut into.table, size)?;
+    let words = ends_of(allocator, into.table.as_slice(), count, &mut into.ends)?;
+    if words as u64 > max_words {
+        return Err(FrameError::MessageTooLong(words as u64));
+    }
+    read_front(allocator, input, &mut into.words, 8 * words)?;
+    are_bytes(into.table.as_slice());
+    are_bytes(into.words.as_slice());
+    into.count = count;
+    Ok(true)
+}
+
+/// Reads a message from the front of an input into segments that are used again, as `read_into_with` does with
+/// memory of the heap.
 pub fn read_into<R: Input>(
     input: &mut R,
     max_words: u64,
@@ -208,31 +317,8 @@ pub fn read_into<R: Input>(
     ensures failed { IfErr result (λ e. R.has_failed input.new ≡ true → e ≡ ReadFailed) }
     ensures taken { IfErr result (HasTaken R.Input input.old input.new) }
 {
-    into.count = 0;
-    let mut first = [0u8; 4];
-    match read_up_to(input, &mut first) {
-        Ok(0) => return Ok(false),
-        Ok(4) => {}
-        Ok(_) => return Err(FrameError::Truncated),
-        Err(DeviceFault) => return Err(FrameError::ReadFailed),
-    }
-    are_bytes(&first);
-    let told = u64::from(u32::from_le_bytes(first)) + 1;
-    if told > MAX_SEGMENTS as u64 {
-        return Err(FrameError::TooManySegments(told));
-    }
-    let count = told as usize;
-    let size = 4 * count + 4 * ((count + 1) % 2);
-    read_front(input, &mut into.table, size)?;
-    let words = ends_of(into.table.as_slice(), count, &mut into.ends)?;
-    if words as u64 > max_words {
-        return Err(FrameError::MessageTooLong(words as u64));
-    }
-    read_front(input, &mut into.words, 8 * words)?;
-    are_bytes(into.table.as_slice());
-    are_bytes(into.words.as_slice());
-    into.count = count;
-    Ok(true)
+    let mut heap = HeapAllocator::new(*into.words.allocator(), 0);
+    read_into_with(&mut heap, input, max_words, into)
 }
 
 /// Reads a message from the front of an input, and leaves what stands behind it. `None` is an input that

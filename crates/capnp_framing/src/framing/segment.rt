@@ -1,9 +1,10 @@
 //! A message of one segment read as its bare words, without a frame ("Messages").
-ghost use Rattle.std.specs.Prelude.{◌≡◌, ◌⊎◌, ◌<◌, ◌≤◌, ◌+◌, [], false, true, length, take, drop, IfSome, IfOk, IfErr, OnOk, OnErr};
+ghost use Rattle.std.specs.Prelude.{◌≡◌, ◌⊎◌, ◌<◌, ◌≤◌, ◌+◌, ◌++◌, [], false, true, length, take, drop, IfSome, IfOk, IfErr, OnOk, OnErr};
 ghost use Rattle.std.specs.Io.KnownBytes.{Consumes, IsAtEnd};
 ghost use Rattle.capnp_arena_traits.specs.Limits.{IsSmall};
 ghost use Rattle.capnp_framing.specs.Bare.{HasTakenBare, IsSegmentRead, NoBareWords};
 ghost use Rattle.capnp_framing.specs.Flat.{AreEnds};
+ghost use Rattle.capnp_framing.specs.Memory.{IsOfNoMemory, frame_refusals};
 ghost use Rattle.capnp_framing.specs.Reading.{words_told};
 ghost use Rattle.capnp_framing.specs.Wholeness.{KeepsWhole};
 ghost use Rattle.capnp_framing.specs.declared.framing.frame_error.FrameError.TheVariants.{AllocationFailed, ReadFailed};
@@ -12,7 +13,7 @@ use super::frame_error::FrameError;
 use super::owned_segments::OwnedSegments;
 use super::reading::{make_room, read_up_to};
 use crate::devices::{DeviceFault, Input};
-use capnp_arena::arena::ReaderSegments;
+use capnp_arena::arena::{Allocator, HeapAllocator, ReaderSegments};
 
 /// The greatest number of words of a segment.
 const MAX_WORDS: u64 = (1 << 32) - 1;
@@ -39,6 +40,7 @@ fn read_between<R: Input>(
     ensures whole { OnOk result (KeepsWhole (R.ends_whole input.old) (R.ends_whole input.new)) }
     ensures works { OnOk result (R.has_failed input.new ≡ false) }
     ensures refused { IfErr result (λ e. (e ≡ ReadFailed) × (R.has_failed input.new ≡ true)) }
+    ensures uncounted { IfErr result IsOfNoMemory }
 {
     match read_up_to(input, &mut to[start..end]) {
         Ok(n) => Ok(n),
@@ -48,7 +50,12 @@ fn read_between<R: Input>(
 
 /// Reads to the front of memory, which is made longer as bytes come, until there are so many or no more input: how many
 /// came.
-fn read_to_end<R: Input>(input: &mut R, to: &mut Vec<u8>, most: usize) -> Result<usize, FrameError>
+fn read_to_end<A: Allocator, R: Input>(
+    allocator: &mut A,
+    input: &mut R,
+    to: &mut Vec<u8>,
+    most: usize,
+) -> Result<usize, FrameError>
     requires { R.has_failed input.old ≡ false }
     ensures most { IfOk result (λ n. n ≤ most) }
     ensures within { IfOk result (λ n. n ≤ length to.new.items) }
@@ -60,11 +67,14 @@ fn read_to_end<R: Input>(input: &mut R, to: &mut Vec<u8>, most: usize) -> Result
     ensures refused { IfErr result (λ e. (e ≡ AllocationFailed)
         ⊎ ((e ≡ ReadFailed) × (R.has_failed input.new ≡ true))) }
     ensures failed { IfErr result (λ e. R.has_failed input.new ≡ true → e ≡ ReadFailed) }
+    ensures kept { OnOk result (A.refusals allocator.new ≡ A.refusals allocator.old) }
+    ensures counted { IfErr result (λ e. A.refusals allocator.new
+        ≡ frame_refusals e (A.refusals allocator.old)) }
 {
     let mut n = 0;
     while n < most {
         let more = (most - n).min(n.max(FIRST_PIECE));
-        make_room(to, n, more)?;
+        make_room(allocator, to, n, more)?;
         let end = most.min(to.len());
         let came = read_between(input, to.as_mut_slice(), n, end)?;
         n += came;
@@ -75,22 +85,45 @@ fn read_to_end<R: Input>(input: &mut R, to: &mut Vec<u8>, most: usize) -> Result
     Ok(n)
 }
 
+/// Puts bytes behind others. An allocator counts where there is no memory for one.
+fn keep_bytes<A: Allocator>(
+    allocator: &mut A,
+    list: &mut Vec<u8>,
+    bytes: &[u8],
+) -> Result<(), FrameError>
+    ensures put { OnOk result (list.new.items ≡ list.old.items ++ bytes.now) }
+    ensures kept { OnOk result (A.refusals allocator.new ≡ A.refusals allocator.old) }
+    ensures refused { IfErr result (λ e. e ≡ AllocationFailed) }
+    ensures counted { IfErr result (λ e. A.refusals allocator.new
+        ≡ frame_refusals e (A.refusals allocator.old)) }
+{
+    for byte in bytes {
+        if allocator.keep(list, *byte).is_some() {
+            return Err(FrameError::AllocationFailed);
+        }
+    }
+    Ok(())
+}
+
 /// The table of one segment of so many words, and where it ends.
-fn tell_only(words: u32, table: &mut Vec<u8>, ends: &mut Vec<usize>) -> Result<(), FrameError>
+fn tell_only<A: Allocator>(
+    allocator: &mut A,
+    words: u32,
+    table: &mut Vec<u8>,
+    ends: &mut Vec<usize>,
+) -> Result<(), FrameError>
     ensures long { OnOk result (length table.new.items ≡ 4) }
     ensures told { OnOk result (words_told 1 table.new.items ≡ words) }
     ensures ends { OnOk result (AreEnds 1 table.new.items ends.new.items) }
+    ensures kept { OnOk result (A.refusals allocator.new ≡ A.refusals allocator.old) }
     ensures refused { IfErr result (λ e. e ≡ AllocationFailed) }
+    ensures counted { IfErr result (λ e. A.refusals allocator.new
+        ≡ frame_refusals e (A.refusals allocator.old)) }
 {
     table.clear();
     ends.clear();
-    if table
-        .extend_from_slice(words.to_le_bytes().as_slice())
-        .is_err()
-    {
-        return Err(FrameError::AllocationFailed);
-    }
-    if ends.push(words as usize).is_err() {
+    keep_bytes(allocator, table, words.to_le_bytes().as_slice())?;
+    if allocator.keep(ends, words as usize).is_some() {
         return Err(FrameError::AllocationFailed);
     }
     Ok(())
@@ -105,7 +138,53 @@ fn tell_only(words: u32, table: &mut Vec<u8>, ends: &mut Vec<usize>) -> Result<(
 /// memory. There are no segments after a refusal.
 ///
 /// The memory that is taken grows with the bytes that came, to twice as many at most, or 4 KiB. None is taken for a
-/// message of no more words than one that was read so before.
+/// message of no more words than one that was read so before. An allocator counts where there is none: once for an
+/// `AllocationFailed`, and else not.
+pub fn read_segment_into_with<A: Allocator, R: Input>(
+    allocator: &mut A,
+    input: &mut R,
+    max_words: u64,
+    into: &mut OwnedSegments,
+) -> Result<(), FrameError>
+    requires { R.has_failed input.old ≡ false }
+    ensures read { OnOk result (IsSegmentRead R.Input input.old input.new max_words
+        (⟦<OwnedSegments as ReaderSegments>⟧.segments into.new)) }
+    ensures end { OnOk result (IsAtEnd (R.remaining input.new)) }
+    ensures small { IsSmall (⟦<OwnedSegments as ReaderSegments>⟧.segments into.new) }
+    ensures whole { OnOk result (KeepsWhole (R.ends_whole input.old) (R.ends_whole input.new)) }
+    ensures works { OnOk result (R.has_failed input.new ≡ false) }
+    ensures refused { IfErr result (λ e. (e ≡ AllocationFailed)
+        ⊎ ((e ≡ ReadFailed) × (R.has_failed input.new ≡ true))
+        ⊎ IfSome (R.remaining input.old) (λ bytes. NoBareWords bytes max_words e)) }
+    ensures failed { IfErr result (λ e. R.has_failed input.new ≡ true → e ≡ ReadFailed) }
+    ensures taken { IfErr result (HasTakenBare R.Input input.old input.new) }
+    ensures none { OnErr result (⟦<OwnedSegments as ReaderSegments>⟧.segments into.new ≡ []) }
+    ensures kept { OnOk result (A.refusals allocator.new ≡ A.refusals allocator.old) }
+    ensures counted { IfErr result (λ e. A.refusals allocator.new
+        ≡ frame_refusals e (A.refusals allocator.old)) }
+{
+    into.count = 0;
+    let most = max_words.min(MAX_WORDS) as usize;
+    let beyond = 8 * most + 8;
+    let size = read_to_end(allocator, input, &mut into.words, beyond)?;
+    if size == beyond {
+        return Err(FrameError::MessageTooLong(most as u64 + 1));
+    }
+    if size % 8 != 0 {
+        return Err(FrameError::Truncated);
+    }
+    tell_only(
+        allocator,
+        (size / 8) as u32,
+        &mut into.table,
+        &mut into.ends,
+    )?;
+    into.count = 1;
+    Ok(())
+}
+
+/// Reads all that an input has, to its end, as the words of the only segment of a message, as `read_segment_into_with`
+/// does with memory of the heap.
 pub fn read_segment_into<R: Input>(
     input: &mut R,
     max_words: u64,
@@ -125,17 +204,6 @@ pub fn read_segment_into<R: Input>(
     ensures taken { IfErr result (HasTakenBare R.Input input.old input.new) }
     ensures none { OnErr result (⟦<OwnedSegments as ReaderSegments>⟧.segments into.new ≡ []) }
 {
-    into.count = 0;
-    let most = max_words.min(MAX_WORDS) as usize;
-    let beyond = 8 * most + 8;
-    let size = read_to_end(input, &mut into.words, beyond)?;
-    if size == beyond {
-        return Err(FrameError::MessageTooLong(most as u64 + 1));
-    }
-    if size % 8 != 0 {
-        return Err(FrameError::Truncated);
-    }
-    tell_only((size / 8) as u32, &mut into.table, &mut into.ends)?;
-    into.count = 1;
-    Ok(())
+    let mut heap = HeapAllocator::new(*into.words.allocator(), 0);
+    read_segment_into_with(&mut heap, input, max_words, into)
 }

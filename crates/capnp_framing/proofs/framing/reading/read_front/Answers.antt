@@ -18,8 +18,9 @@ loop-n-preserved g c =
           (read_more _ _ _ c.loop-n.n c.min-end.result c.loop-n.to.items xs (omega (arith, c.min-end.ensures, c.len.ensures, c.loop-n.invariant.within, c.in_ok-make_room.ensures.long, c.loop-n-test.true)) same c.loop-n.invariant.read c.in_ok-fill_between.ensures.bytes);
       works = search rules;
       whole = keeps_whole_both _ _ _ c.loop-n.invariant.whole c.in_ok-fill_between.ensures.whole;
+      kept = search rules;
     }
 
 pub loop-n-init : goal.loop-n-init
 loop-n-init g c =
-    record { within = search rules; below = search rules; read = search rules; works = search rules; whole = keeps_whole _ }
+    record { within = search rules; below = search rules; read = search rules; works = search rules; whole = keeps_whole _; kept = search rules }

@@ -10,6 +10,7 @@ invariant-loop-n g l = record {
   read : Consumes (g.R.Input.remaining l.fn.input) (g.R.Input.remaining l.input) (take l.n l.to.items);
   works : g.R.Input.has_failed l.input ≡ false;
   whole : KeepsWhole (g.R.Input.ends_whole l.fn.input) (g.R.Input.ends_whole l.input);
+  kept : g.A.Allocator.refusals l.allocator ≡ g.A.Allocator.refusals l.fn.allocator;
 }
 
 abbrev pub decreases-loop-n : goal.decreases-loop-n

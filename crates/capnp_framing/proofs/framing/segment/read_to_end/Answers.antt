@@ -5,7 +5,7 @@ use Rattle.capnp_framing.proofs.framing.segment.read_to_end.Goals as goal
 
 pub loop-n-init : goal.loop-n-init
 loop-n-init g c =
-    record { within = search rules; below = search rules; read = search rules; works = search rules; whole = keeps_whole _ }
+    record { within = search rules; below = search rules; read = search rules; works = search rules; whole = keeps_whole _; kept = search rules }
 
 pub loop-n-preserved : goal.loop-n-preserved
 loop-n-preserved g c =
@@ -18,6 +18,7 @@ loop-n-preserved g c =
       read = read_behind _ _ _ c.loop-n.n c.in_ok-came.came c.make_room.new.to.len c.loop-n.to.items room _ xs long c.in_ok-came.ensures.front c.as_mut_slice.ensures.value c.in_ok-make_room.ensures.front c.loop-n.invariant.read c.in_ok-came.ensures.bytes;
       works = search rules;
       whole = keeps_whole_both _ _ _ c.loop-n.invariant.whole c.in_ok-came.ensures.whole;
+      kept = search rules;
     }
 
 pub returns-then-n-end-clause-bytes : goal.returns-then-n-end-clause-bytes

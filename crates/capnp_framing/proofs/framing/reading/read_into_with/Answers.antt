@@ -11,7 +11,7 @@ use Rattle.capnp_framing.proofs.FlatLemmas.{AreParts, are_parts}
 use Rattle.capnp_framing.proofs.OwnedLemmas.{AtOwned, front, owned_frame, owned_small}
 use Rattle.capnp_framing.proofs.ReadingLemmas.{consumes_both, cut_table, long_table, read_so, table_long, whatever}
 use Rattle.capnp_framing.proofs.WholenessLemmas.{keeps_whole_both}
-use Rattle.capnp_framing.proofs.framing.reading.read_into.Goals as goal
+use Rattle.capnp_framing.proofs.framing.reading.read_into_with.Goals as goal
 
 pub returns-then-words-max_words-clause-refused : goal.returns-then-words-max_words-clause-refused
 returns-then-words-max_words-clause-refused g c =
@@ -108,4 +108,6 @@ returns g c =
       refused = search rules;
       failed = search rules;
       taken = search rules;
+      kept = search rules;
+      counted = search rules;
     }

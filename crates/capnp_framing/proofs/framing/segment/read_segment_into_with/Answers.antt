@@ -1,7 +1,7 @@
 use Rattle.std.proofs.Common.{◌≡◌, ◌+◌, ◌*◌, ◌%◌, ◌<◌, ℕ, List, rules, inr, length, take, arith, length-take}
 use Rattle.capnp_framing.specs.Bare.{most_bare}
 use Rattle.capnp_framing.proofs.BareLemmas.{beyond, cut, only_part, only_small}
-use Rattle.capnp_framing.proofs.framing.segment.read_segment_into.Goals as goal
+use Rattle.capnp_framing.proofs.framing.segment.read_segment_into_with.Goals as goal
 
 pub returns-then-size-beyond-clause-refused : goal.returns-then-size-beyond-clause-refused
 returns-then-size-beyond-clause-refused g c =
@@ -52,4 +52,6 @@ returns g c =
       failed = search rules;
       taken = search rules;
       none = search rules;
+      kept = search rules;
+      counted = search rules;
     }
