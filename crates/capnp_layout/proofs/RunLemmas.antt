@@ -49,7 +49,7 @@ pub text_refused : (text : Option (List ℕ)) (args : Args) (lines : List (List 
     → IfSome text (λ t. segments_of t ≡ Some lines) → mid ≡ old → AnswersRefusal lines args mid new P → WritesCountedRefusal text args old new P
 text_refused None args lines P held kept refusal = tt
 text_refused (Some text) args lines P held kept (inl (risen, written)) = (Layout AllocationFailed, inl (refl, risen ∙ ap one_more kept), written)
-text_refused (Some text) args lines P held kept (inr ((r, why, written), same)) = (r, inr (lines, held, why), written)
+text_refused (Some text) args lines P held kept (inr ((r, why, written), same)) = (r, inr ((lines, held, why), same ∙ kept), written)
 
 -- where the lines of a text have an answer, memory alone is refused
 pub wants_memory : (text : Option (List ℕ)) (args : Args) (lines : List (List ℕ)) (outcome : Outcome) (P : List ℕ → Type 0) {old mid new : ℕ}

@@ -29,7 +29,7 @@ WritesRefusal text args P =
 -- The same, where refusals of memory are counted.
 abbrev pub IsCountedRefusal : List ℕ → Args → ℕ → ℕ → Refusal → Type 0
 IsCountedRefusal text args old new r =
-    ((r ≡ Layout AllocationFailed) × (new ≡ one_more old)) ⊎ TextIsRefused text args r
+    ((r ≡ Layout AllocationFailed) × (new ≡ one_more old)) ⊎ (TextIsRefused text args r × (new ≡ old))
 
 abbrev pub WritesCountedRefusal : Option (List ℕ) → Args → ℕ → ℕ → (List ℕ → Type 0) → Type 0
 WritesCountedRefusal text args old new P =

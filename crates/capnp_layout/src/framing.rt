@@ -3,7 +3,7 @@
 
 pub use capnp_framing::framing::{
     FrameError, FrameSegments, MAX_SEGMENTS, OwnedSegments, read, read_from_flat_slice, read_into,
-    read_segment_into, write,
+    read_into_with, read_segment_into, read_segment_into_with, write,
 };
 pub use capnp_messages::messages::{
     CanonicalCopy, CanonicalError, CopyMemory, canonical_bytes, canonical_fault, canonical_segment,

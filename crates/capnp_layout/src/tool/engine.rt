@@ -59,6 +59,8 @@ fn read_message<A: Allocator, R: Input>(
     ensures bad { IfErr result (λ e. e ≡ InputFault.BadInput
         → (R.has_failed input.new ≡ true)
         ⊎ IfSome (R.remaining input.old) (λ text. segments_of text ≡ None)) }
+    ensures same { IfErr result (λ e. e ≡ InputFault.BadInput
+        → A.refusals allocator.new ≡ A.refusals allocator.old) }
     ensures memory { IfErr result (λ e. e ≡ InputFault.NoMemory
         → A.refusals allocator.new ≡ one_more (A.refusals allocator.old)) }
     ensures works { OnOk result (R.has_failed input.new ≡ false) }
@@ -121,6 +123,7 @@ fn canon<A: Allocator, W: Output>(
         (IsDoneOr result.0
         (WantsMemory (A.refusals allocator) (A.refusals result.1)
         (Prints W.Output output.old output.new))) }
+    ensures kept { result.0 ≡ Outcome.Done → A.refusals result.1 ≡ A.refusals allocator }
     ensures input { result.0 ≢ Outcome.BadInput }
     ensures works { result.0 ≢ Outcome.WriteFailed → W.has_failed output.new ≡ false }
     ensures failed { result.0 ≡ Outcome.WriteFailed → W.has_failed output.new ≡ true }
@@ -202,6 +205,9 @@ fn respond<A: Allocator, W: Output>(
         (IsDoneOr result.0
         (WantsMemory (A.refusals allocator) (A.refusals result.1)
         (Prints W.Output output.old output.new))) }
+    ensures kept { result.0 ≡ Outcome.Done → A.refusals result.1 ≡ A.refusals allocator }
+    ensures kept_unread { result.0 ≡ Outcome.BadInput
+        → A.refusals result.1 ≡ A.refusals allocator }
     ensures input { result.0 ≡ Outcome.BadInput → HasMoreLines args.now (segments_in lines) }
     ensures unwritten { result.0 ≡ Outcome.BadInput → W.contents output.new
         ≡ W.contents output.old }
@@ -252,6 +258,9 @@ pub fn run_with<A: Allocator, R: Input, W: Output>(
     ensures memory { IsRefusedOutcome result.0 → WhereItIsAnswered (R.remaining input.old) args.now
         (WantsMemory (A.refusals allocator) (A.refusals result.1)
         (Prints W.Output output.old output.new)) }
+    ensures kept { result.0 ≡ Outcome.Done → A.refusals result.1 ≡ A.refusals allocator }
+    ensures kept_unread { result.0 ≡ Outcome.BadInput
+        → A.refusals result.1 ≡ A.refusals allocator }
     ensures input { result.0 ≡ Outcome.BadInput → (R.has_failed input.new ≡ true)
         ⊎ IsBadInput (R.remaining input.old) args.now }
     ensures read { result.0 ≢ Outcome.BadInput → R.has_failed input.new ≡ false }

@@ -182,6 +182,7 @@ pub(crate) fn framed_canon<A: Allocator, W: Output>(
         (IsDoneOr result.0
         (WantsMemory (A.refusals allocator) (A.refusals result.1)
         (Prints W.Output output.old output.new))) }
+    ensures kept { result.0 ≡ Outcome.Done → A.refusals result.1 ≡ A.refusals allocator }
     ensures input { result.0 ≢ Outcome.BadInput }
     ensures works { result.0 ≢ Outcome.WriteFailed → W.has_failed output.new ≡ false }
     ensures failed { result.0 ≡ Outcome.WriteFailed → W.has_failed output.new ≡ true }

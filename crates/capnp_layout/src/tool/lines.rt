@@ -124,6 +124,8 @@ fn read_line<A: Allocator>(
     ensures bytes { IfOk result (λ v. decode_of line.now ≡ Ok v.items) }
     ensures kept { OnOk result (A.refusals allocator.new ≡ A.refusals allocator.old) }
     ensures bad { IfErr result (λ e. e ≡ InputFault.BadInput → IsErr (decode_of line.now)) }
+    ensures same { IfErr result (λ e. e ≡ InputFault.BadInput
+        → A.refusals allocator.new ≡ A.refusals allocator.old) }
     ensures memory { IfErr result (λ e. e ≡ InputFault.NoMemory
         → A.refusals allocator.new ≡ one_more (A.refusals allocator.old)) }
 {
@@ -149,6 +151,8 @@ pub fn read_lines<A: Allocator>(
         ≡ Some (⟦<Message as ReaderSegments>⟧.segments m)) }
     ensures kept { OnOk result (A.refusals allocator.new ≡ A.refusals allocator.old) }
     ensures bad { IfErr result (λ e. e ≡ InputFault.BadInput → segments_of text.now ≡ None) }
+    ensures same { IfErr result (λ e. e ≡ InputFault.BadInput
+        → A.refusals allocator.new ≡ A.refusals allocator.old) }
     ensures memory { IfErr result (λ e. e ≡ InputFault.NoMemory
         → A.refusals allocator.new ≡ one_more (A.refusals allocator.old)) }
 {

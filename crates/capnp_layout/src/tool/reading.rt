@@ -18,6 +18,8 @@ pub(crate) fn read_text<A: Allocator, R: Input>(
     ensures kept { OnOk result (A.refusals allocator.new ≡ A.refusals allocator.old) }
     ensures works { OnOk result (R.has_failed input.new ≡ false) }
     ensures bad { IfErr result (λ e. e ≡ InputFault.BadInput → R.has_failed input.new ≡ true) }
+    ensures same { IfErr result (λ e. e ≡ InputFault.BadInput
+        → A.refusals allocator.new ≡ A.refusals allocator.old) }
     ensures memory { IfErr result (λ e. e ≡ InputFault.NoMemory
         → A.refusals allocator.new ≡ one_more (A.refusals allocator.old)) }
     ensures unfailed { IfErr result (λ e. e ≡ InputFault.NoMemory
