@@ -14,10 +14,11 @@ ghost use Rattle.capnp_canonical.specs.declared.refusal.Refusal.{Refusal};
 
 use crate::refusal::Refusal;
 use capnp_arena::arena::{
-    Allocator, HeapAllocator, ReaderArena, ReaderArenaImpl, ReaderOptions, ReaderSegments,
-    ScratchSpaceHeapAllocator,
+    BuilderArenaImpl, HeapAllocator, ReaderArena, ReaderArenaImpl, ReaderOptions, ReaderSegments,
 };
-use capnp_messages::messages::{Form, canonical_bytes, canonical_from, canonical_segment};
+use capnp_messages::messages::{
+    Form, LentMemory, canonical_bytes, canonical_from, canonical_in_room, canonical_segment,
+};
 use std::alloc::Global;
 
 /// The limits within which a message is read.
@@ -95,10 +96,10 @@ fn put(form: Form, segment: &[u8], to: &mut [u8]) -> Result<usize, Refusal>
 const SMALL: usize = 512;
 
 /// Puts the canonical message of what a message means to the front of a buffer in a form, and gives its
-/// size in bytes, by a copy in an allocator's memory.
-fn copy_by<A: Allocator, S: ReaderSegments>(
+/// size in bytes, by a copy on the heap.
+#[inline(never)]
+fn copy_on_heap<S: ReaderSegments>(
     alloc: Global,
-    allocator: A,
     form: Form,
     source: &ReaderArenaImpl<S>,
     limits: ReaderOptions,
@@ -113,9 +114,40 @@ fn copy_by<A: Allocator, S: ReaderSegments>(
         (message (⟦<ReaderArenaImpl<S> as ReaderArena>⟧.segments source.now))) }
     ensures kept { OnErr result (to.new ≡ to.old) }
 {
-    match canonical_from(alloc, allocator, source, limits) {
+    match canonical_from(alloc, HeapAllocator::new(alloc, 0), source, limits) {
         Ok(made) => put(form, canonical_bytes(&made), to),
         Err((kind, _)) => Err(Refusal::Layout(kind)),
+    }
+}
+
+/// The same, by a copy on the stack where it has room there, and else on the heap.
+fn copy_small<S: ReaderSegments>(
+    alloc: Global,
+    form: Form,
+    source: &ReaderArenaImpl<S>,
+    limits: ReaderOptions,
+    to: &mut [u8],
+) -> Result<usize, Refusal>
+    requires { source.now.nesting_limit ≡ limits.nesting_limit }
+    ensures copied { IfOk result (λ n. IsCopyOf form limits
+        (message (⟦<ReaderArenaImpl<S> as ReaderArena>⟧.segments source.now)) (take n to.new)) }
+    ensures within { IfOk result (λ n. n ≤ length to.new) }
+    ensures behind { IfOk result (λ n. drop n to.new ≡ drop n to.old) }
+    ensures refused { IfErr result (RefusesRoom form limits (length to.old)
+        (message (⟦<ReaderArenaImpl<S> as ReaderArena>⟧.segments source.now))) }
+    ensures kept { OnErr result (to.new ≡ to.old) }
+{
+    let mut memory = [0u8; SMALL];
+    let mut made = BuilderArenaImpl::new(alloc, LentMemory::new(memory.as_mut_slice()));
+    match canonical_in_room(&mut made, SMALL as u32 / 8, source, limits) {
+        Ok(fits) => {
+            if fits {
+                put(form, canonical_bytes(&made), to)
+            } else {
+                copy_on_heap(alloc, form, source, limits, to)
+            }
+        }
+        Err(kind) => Err(Refusal::Layout(kind)),
     }
 }
 
@@ -138,14 +170,7 @@ fn copy_large<S: ReaderSegments>(
 {
     match canonical_segment(source, limits) {
         Some(words) => put(form, words, to),
-        None => copy_by(
-            alloc,
-            HeapAllocator::new(alloc, 0),
-            form,
-            source,
-            limits,
-            to,
-        ),
+        None => copy_on_heap(alloc, form, source, limits, to),
     }
 }
 
@@ -173,9 +198,7 @@ pub fn copy<S: ReaderSegments + Drop>(
 {
     let source = ReaderArenaImpl::new(segments, limits);
     if source.size_in_words() < SMALL / 8 {
-        let mut memory = [0u8; SMALL];
-        let small = ScratchSpaceHeapAllocator::new(alloc, memory.as_mut_slice(), 0);
-        copy_by(alloc, small, form, &source, limits, to)
+        copy_small(alloc, form, &source, limits, to)
     } else {
         copy_large(alloc, form, &source, limits, to)
     }

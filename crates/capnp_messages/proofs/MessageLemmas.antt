@@ -1,5 +1,5 @@
 -- What reading the root of a message says of the message.
-use Rattle.std.proofs.Common.{◌≡◌, inl, inr, ℕ, zero, suc, ℤ, List, [], ◌∷◌, length, Option, Some, None, Result, Ok, Err}
+use Rattle.std.proofs.Common.{◌≡◌, ◌⊎◌, inl, inr, ℕ, zero, suc, ℤ, List, [], ◌∷◌, length, Option, Some, None, Result, Ok, Err}
 use Rattle.std.proofs.Common.{IsOk, IfOk, IfSome, IfErr, true, false, refl, sym, ap, ◌∙◌, subst, arith}
 use Rattle.capnp_words.specs.declared.error.ErrorKind.{ErrorKind}
 use Rattle.capnp_words.specs.Meter.{Meter, spent, unused}
@@ -10,10 +10,12 @@ use Rattle.capnp_arena_traits.specs.Allocations.{max_segment_words}
 use Rattle.capnp_arena.specs.declared.arena.reader_arena_impl.ReaderOptions.{ReaderOptions}
 use Rattle.capnp_objects.specs.Outcomes.{Reads}
 use Rattle.capnp_objects.specs.Reading.{Reading}
+use Rattle.capnp_objects.specs.Refusals.{Refused}
 use Rattle.capnp_objects.specs.Source.{levels}
 use Rattle.capnp_objects.specs.Wanted.{canonical}
 use Rattle.capnp_messages.specs.Roots.{CoversRoot, message_root}
 use Rattle.capnp_messages.specs.Copies.{LacksMemoryOr, RefusesCopy}
+use Rattle.capnp_messages.specs.Tries.{NeedsMoreRoom}
 use Rattle.capnp_messages.proofs.CanonLemmas.{covers_root}
 use Rattle.capnp_messages.specs.CanonicalMessages.{IsMessageFault, RefusesTest}
 use Rattle.capnp_format.specs.Bytes.{message}
@@ -70,6 +72,27 @@ copy_refused {S} {limits} {r} {m} {k = k} root (inr (refused, kept)) =
     let left = ap (λ (x : Meter). x.left) root.left in
     let here = subst (λ (l : Option ℕ). RefusesCopy (root_within S limits) l max_segment_words k) left there in
     inr (inr (root.covers, here), kept)
+
+-- the same of a copy with a limiter of its own, of which what the limit has left is handed on
+pub own_copy_of : {S : Segments} {limits : ReaderOptions} {r : Reading} {m : Meter} {left : Option ℕ} {words : Segments} →
+    AtRoot S limits r m → left ≡ m.left →
+    (t : Tree) × (after : Meter) × Reads canonical r (unused left) after t × (words ≡ encoding (trim t) ∷ []) →
+    (t : Tree) × IsValueOf S limits t × (words ≡ encoding (trim t) ∷ [])
+own_copy_of {r = r} root same (t, after, read, is_made) =
+    let begun = ap unused same ∙ ap (λ (x : Meter). unused x.left) root.left ∙ sym root.left in
+    (t, value_of root (subst (λ (x : Meter). Reads canonical r x after t) begun read), is_made)
+
+pub own_copy_refused : {S : Segments} {limits : ReaderOptions} {r : Reading} {m : Meter} {left : Option ℕ} {k : ErrorKind} →
+    AtRoot S limits r m → left ≡ m.left → (after : Meter) × Refused canonical r (unused left) after k → RefusesCanon S limits k
+own_copy_refused {S} {limits} {left = left} {k = k} root same (after, refused) =
+    let there = subst (λ (x : Reading). Refused canonical x (unused left) after k) root.place refused in
+    let all = same ∙ ap (λ (x : Meter). x.left) root.left in
+    inr (root.covers, inr (after, subst (λ (l : Option ℕ). Refused canonical (root_within S limits) (unused l) after k) all there))
+
+pub own_copy_needs : {S : Segments} {limits : ReaderOptions} {r : Reading} {m : Meter} {room : ℕ} {P : Type 0} →
+    AtRoot S limits r m → NeedsMoreRoom r room ⊎ P → NeedsMoreRoom (root_within S limits) room ⊎ P
+own_copy_needs {room = room} root (inl more) = inl (subst (λ (x : Reading). NeedsMoreRoom x room) root.place more)
+own_copy_needs root (inr other) = inr other
 
 -- the test of a message, within the limits: what it finds, and why it is refused
 pub fault_of_message : {S T : Segments} {limits : ReaderOptions} {z : ℤ} {old : Meter}

@@ -7,7 +7,10 @@ use Rattle.capnp_format.proofs.WordsOf.{length-words_of}
 use Rattle.capnp_arena_traits.specs.Allocations.{max_segment_words}
 use Rattle.capnp_arena_traits.specs.Checks.{total_words}
 use Rattle.capnp_arena_traits.proofs.MessageLemmas.{total-cons}
+use Rattle.capnp_words.specs.Meter.{Meter, unused}
 use Rattle.capnp_objects.specs.Reading.{Reading}
+use Rattle.capnp_objects.specs.Refusals.{Refused}
+use Rattle.capnp_objects.specs.Wanted.{canonical}
 use Rattle.capnp_framing.specs.Reading.{total}
 use Rattle.capnp_messages.specs.Copies.{LacksMemoryOr, RefusesCopy, is_message_too_large}
 use Rattle.capnp_messages.specs.Tries.{IsMadeByFirstTry, NeedsMoreRoom, as_asked, room_of_try, words_read}
@@ -50,6 +53,15 @@ pub try_too_small : {r : Reading} {left : Option ℕ} {room old new : ℕ} {k : 
 try_too_small large (inl (named, risen)) = absurd (let wrong : false ≡ true = sym (ap is_message_too_large named) ∙ large in cc)
 try_too_small large (inr (inl (named, little, out), same)) = little
 try_too_small {k = k} large (inr (inr (m, refused), same)) = absurd (never_read k (large_wants k large) refused)
+
+pub try_outgrown : {r : Reading} {left : Option ℕ} {room : ℕ} {k : ErrorKind} → is_message_too_large k ≡ true → RefusesCopy r left room k → NeedsMoreRoom r room
+try_outgrown large (inl (named, little, out)) = little
+try_outgrown {k = k} large (inr (m, refused)) = absurd (never_read k (large_wants k large) refused)
+
+-- one that says something else says why the value isn't read
+pub try_unread : {r : Reading} {left : Option ℕ} {room : ℕ} {k : ErrorKind} → is_message_too_large k ≡ false → RefusesCopy r left room k → (m : Meter) × Refused canonical r (unused left) m k
+try_unread other (inl (named, little, out)) = absurd (let wrong : true ≡ false = sym (ap is_message_too_large named) ∙ other in cc)
+try_unread other (inr refused) = refused
 
 -- and memory wasn't refused
 pub try_is_granted : {old new : ℕ} {k : ErrorKind} {P : Type 0} → is_message_too_large k ≡ true → LacksMemoryOr old new k P → new ≡ old

@@ -7,6 +7,7 @@ mod canonical_message;
 mod command;
 mod copy_memory;
 pub mod laws;
+mod lent_memory;
 mod message_fault;
 mod root;
 mod whole;
@@ -18,9 +19,11 @@ pub use canonical_error::CanonicalError;
 pub use canonical_message::is_canonical_message;
 pub use command::{Command, Form};
 pub use copy_memory::CopyMemory;
+pub use lent_memory::LentMemory;
 pub use message_fault::canonical_fault;
 pub use root::read_root;
 pub use whole::{
-    canonical_fault_of, canonical_from, canonical_of, canonical_with, is_canonical, size_of,
+    canonical_fault_of, canonical_from, canonical_in_room, canonical_of, canonical_with,
+    is_canonical, size_of,
 };
 pub use writing::{canonical_bytes, write_canonical, write_copy, write_words};

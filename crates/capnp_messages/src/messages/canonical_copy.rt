@@ -3,12 +3,14 @@
 //! of the one before, so that all together take no longer than twice the last. While one runs, its
 //! allocator is taken out, so that it ends where that segment does.
 ghost use Rattle.std.specs.Prelude.{◌≡◌, ◌⊎◌, ◌<◌, ◌≤◌, ◌+◌, ◌*◌, ◌++◌, ◌∷◌, [], false, min, ℕ, IsTrue, OnOk, IfOk, OnErr, IfErr};
+ghost use Rattle.std.specs.Bool.{OnFalse, OnTrue};
 ghost use Rattle.capnp_format.specs.Canonical.{trim, encoding};
 ghost use Rattle.capnp_format.specs.Tree.{Tree};
-ghost use Rattle.capnp_words.specs.Meter.{raised, unused};
+ghost use Rattle.capnp_words.specs.Meter.{Meter, raised, unused};
 ghost use Rattle.capnp_words.specs.declared.error.ErrorKind.TheVariants.{AllocationFailed};
 ghost use Rattle.capnp_arena_traits.specs.Allocations.{max_segment_words, one_more};
 ghost use Rattle.capnp_objects.specs.Outcomes.{Reads};
+ghost use Rattle.capnp_objects.specs.Refusals.{Refused};
 ghost use Rattle.capnp_objects.specs.Wanted.{canonical};
 ghost use Rattle.capnp_readers.specs.Readers.{reading};
 ghost use Rattle.capnp_messages.specs.Copies.{IsAloneOr, HoldsCanonicalWords, IsMadeWhereAlone, LacksMemoryOr, RefusesCopy, RefusesCopyAnywhere, is_message_too_large, wants_room};
@@ -225,6 +227,43 @@ fn words_of_source<B: ReaderArena>(from: &PointerReader<'_, B>) -> usize
     match from.source {
         Source::Arena(arena) => arena.size_in_words(),
         _ => 0,
+    }
+}
+
+/// Makes the canonical words of what a pointer means in a message that has no segment yet, in one with
+/// room for so many words, and in that one alone. `false` says that there is too little room, or no memory
+/// for it.
+pub(super) fn copy_in_room<A: Allocator, B: ReaderArena>(
+    made: &mut BuilderArenaImpl<A>,
+    from: PointerReader<'_, B>,
+    left: Option<usize>,
+    room: u32,
+) -> Result<bool, ErrorKind>
+    requires none { ⟦<BuilderArenaImpl<A> as ReaderArena>⟧.segments made.old ≡ [] }
+    requires some { 1 ≤ room }
+    requires most { room ≤ max_segment_words }
+    ensures copied { IfOk result (λ fits. OnTrue fits ((t : Tree) × (after : Meter)
+        × Reads canonical (reading B.ReaderArena from.entry) (unused left) after t
+        × HoldsCanonicalWords (⟦<BuilderArenaImpl<A> as BuilderArena>⟧.view made.new) t)) }
+    ensures small { IfOk result (λ fits. OnFalse fits
+        (NeedsMoreRoom (reading B.ReaderArena from.entry) room
+        ⊎ ((⟦<BuilderArenaImpl<A> as BuilderArena>⟧.view made.new).refusals
+        ≡ one_more (⟦<BuilderArenaImpl<A> as BuilderArena>⟧.view made.old).refusals))) }
+    ensures refused { IfErr result (λ k. (m : Meter)
+        × Refused canonical (reading B.ReaderArena from.entry) (unused left) m k) }
+{
+    if let Err(_) = make_root(made, room) {
+        return Ok(false);
+    }
+    match copy_to_segment(made, from, left, room) {
+        Ok(_) => Ok(true),
+        Err(kind) => {
+            if is_too_large(kind) {
+                Ok(false)
+            } else {
+                Err(kind)
+            }
+        }
     }
 }
 

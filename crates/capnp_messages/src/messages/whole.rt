@@ -1,16 +1,18 @@
 //! What is said of a whole message, whatever holds its segments: its canonical copy, the test for
 //! canonical form, its size.
-ghost use Rattle.std.specs.Prelude.{◌≡◌, ◌⊎◌, ◌↔◌, IsOk, IfOk, IfSome, IfErr, IsNone, IsTrue};
+ghost use Rattle.std.specs.Prelude.{◌≡◌, ◌⊎◌, ◌↔◌, ◌≤◌, [], IsOk, IfOk, IfSome, IfErr, IsNone, IsTrue};
+ghost use Rattle.std.specs.Bool.{OnFalse, OnTrue};
 ghost use Rattle.capnp_words.specs.declared.error.ErrorKind.TheVariants.{AllocationFailed};
 ghost use Rattle.capnp_format.specs.Bytes.{message};
 ghost use Rattle.capnp_format.specs.Tree.{Tree};
+ghost use Rattle.capnp_arena_traits.specs.Allocations.{max_segment_words, one_more};
 ghost use Rattle.capnp_arena_traits.specs.Limits.{IsSmall};
 ghost use Rattle.capnp_messages.specs.Copies.{HoldsCanonicalWords, LacksMemoryOr};
 ghost use Rattle.capnp_messages.specs.CanonicalMessages.{IsCanonicalMessage};
-ghost use Rattle.capnp_messages.specs.Tries.{IsMadeByFirstTry, as_asked};
+ghost use Rattle.capnp_messages.specs.Tries.{IsMadeByFirstTry, NeedsMoreRoom, as_asked};
 ghost use Rattle.capnp_messages.specs.Messages.{HasSizeOf, HasSizeWithin, IsFaultOf, IsValueOf, RefusesCanon, RefusesCheck, RefusesSize, root_within};
 
-use super::canonical_copy::{CanonicalCopy, copy_canonical_with};
+use super::canonical_copy::{CanonicalCopy, copy_canonical_with, copy_in_room};
 use super::message_fault::canonical_fault;
 use super::root::read_root;
 use capnp_arena::arena::{
@@ -47,6 +49,34 @@ pub fn canonical_from<A: Allocator, S: ReaderSegments>(
         Ok(root) => copy_canonical_with(alloc, allocator, root, &mut lim),
         Err(kind) => Err((kind, allocator)),
     }
+}
+
+/// Makes the value of a message that is read canonical in a message that has no segment yet, in one with
+/// room for so many words. `false` says that there is too little room, or no memory for it: `canonical_from`
+/// finds how much is needed.
+pub fn canonical_in_room<A: Allocator, S: ReaderSegments>(
+    made: &mut BuilderArenaImpl<A>,
+    room: u32,
+    source: &ReaderArenaImpl<S>,
+    limits: ReaderOptions,
+) -> Result<bool, ErrorKind>
+    requires nesting { source.now.nesting_limit ≡ limits.nesting_limit }
+    requires none { ⟦<BuilderArenaImpl<A> as ReaderArena>⟧.segments made.old ≡ [] }
+    requires some { 1 ≤ room }
+    requires most { room ≤ max_segment_words }
+    ensures copied { IfOk result (λ fits. OnTrue fits ((t : Tree)
+        × IsValueOf (message (⟦<ReaderArenaImpl<S> as ReaderArena>⟧.segments source.now)) limits t
+        × HoldsCanonicalWords (⟦<BuilderArenaImpl<A> as BuilderArena>⟧.view made.new) t)) }
+    ensures small { IfOk result (λ fits. OnFalse fits (NeedsMoreRoom (root_within
+        (message (⟦<ReaderArenaImpl<S> as ReaderArena>⟧.segments source.now)) limits) room
+        ⊎ ((⟦<BuilderArenaImpl<A> as BuilderArena>⟧.view made.new).refusals
+        ≡ one_more (⟦<BuilderArenaImpl<A> as BuilderArena>⟧.view made.old).refusals))) }
+    ensures refused { IfErr result (RefusesCanon
+        (message (⟦<ReaderArenaImpl<S> as ReaderArena>⟧.segments source.now)) limits) }
+{
+    let mut lim = ReadLimiter::new(limits.traversal_limit_in_words);
+    let root = read_root(source, &mut lim)?;
+    copy_in_room(made, root, lim.left(), room)
 }
 
 /// Makes the value of a message canonical: a message of one segment, its canonical words

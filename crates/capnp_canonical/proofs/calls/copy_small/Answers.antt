@@ -1,4 +1,5 @@
 use Rattle.std.proofs.Common.{◌≡◌, ◌∙◌, ◌+◌, ◌<◌, ap, inl, inr, length, refl, sym, subst, arith}
+use Rattle.std.proofs.lemmas.Bool.{OnTrue_at}
 use Rattle.std.proofs.lemmas.Result.{IfOk-weaker, IfErr-weaker}
 use Rattle.capnp_format.specs.Canonical.{encoding, trim}
 use Rattle.capnp_messages.specs.Commands.{form_bytes}
@@ -6,21 +7,20 @@ use Rattle.capnp_canonical.specs.Calls.{table_bytes}
 use Rattle.capnp_canonical.specs.declared.refusal.Refusal.TheVariants.{NoRoom}
 use Rattle.capnp_canonical.proofs.CallLemmas.{copy_bytes}
 use Rattle.capnp_canonical.proofs.FrameLemmas.{length-bytes}
-use Rattle.capnp_messages.proofs.CanonLemmas.{or_memory}
-use Rattle.capnp_canonical.proofs.calls.copy_by.Goals as goal
+use Rattle.capnp_canonical.proofs.calls.copy_small.Goals as goal
 
 pub returns-clause-refused : goal.returns-clause-refused
-returns-clause-refused g c = inl (c.in-Err.kind, refl, or_memory c.in-Err.ensures.refused)
+returns-clause-refused g c = inl (c.in-Err.kind, refl, inr c.in-Err.ensures.refused)
 
-pub returns-in-Ok-clause-copied : goal.returns-in-Ok-clause-copied
-returns-in-Ok-clause-copied g c =
-    let (t, value, is_made) = c.in-Ok.ensures.copied in
+pub returns-then-fits-clause-copied : goal.returns-then-fits-clause-copied
+returns-then-fits-clause-copied g c =
+    let (t, value, is_made) = OnTrue_at c.if-fits.true c.in-Ok.ensures.copied in
     let bytes = c.canonical_bytes.ensures.bytes (encoding (trim t)) is_made in
     IfOk-weaker c.put.result _ _ (λ n put. (t, value, put (encoding (trim t)) bytes)) c.put.ensures.put
 
-pub returns-in-Ok-clause-refused : goal.returns-in-Ok-clause-refused
-returns-in-Ok-clause-refused g c =
-    let (t, value, is_made) = c.in-Ok.ensures.copied in
+pub returns-then-fits-clause-refused : goal.returns-then-fits-clause-refused
+returns-then-fits-clause-refused g c =
+    let (t, value, is_made) = OnTrue_at c.if-fits.true c.in-Ok.ensures.copied in
     let bytes = c.canonical_bytes.ensures.bytes (encoding (trim t)) is_made in
     let long : length (form_bytes c.args.form (encoding (trim t))) ≡ table_bytes c.args.form + length c.canonical_bytes.result.now =
     omega (arith, copy_bytes c.args.form (encoding (trim t)), ap length bytes, length-bytes (encoding (trim t))) in

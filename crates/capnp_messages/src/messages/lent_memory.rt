@@ -1,0 +1,152 @@
+//! Memory that is lent for one segment.
+ghost use Rattle.std.specs.Prelude.{◌++◌, ◌∷◌, [], ◌≡◌, ◌<◌, ◌≤◌, ◌*◌, ◌/◌, ◌==◌, ℕ, length, replicate, true, IsTrue, IsNone, IfSome, IsOk, IfOk, OnOk, IfErr, Err};
+ghost use Rattle.capnp_words.specs.declared.error.ErrorKind.TheVariants.{AllocationFailed, MessageTooLarge};
+ghost use Rattle.capnp_arena_traits.specs.Allocations.{IsFresh, max_segment_words, one_more, zeros};
+
+use capnp_arena::arena::{Allocator, MAX_SEGMENT_WORDS};
+use capnp_words::error::ErrorKind;
+use std::marker::Model;
+
+/// Bytes that are lent, all of them zero. A proof sees how many.
+#[derive(Drop)]
+struct LentZeros<'a> {
+    bytes: &'a mut [u8],
+}
+
+impl<'a> Model for LentZeros<'a> {
+    ghost Value = { ℕ };
+
+    ghost view = { λ z. length z.bytes.now };
+
+    ghost invariant = { λ z. z.bytes.now ≡ replicate (length z.bytes.now) 0 };
+}
+
+impl<'a> LentZeros<'a> {
+    /// All bytes of these, which are zero.
+    fn new(bytes: &'a mut [u8]) -> Self
+        requires { bytes.old ≡ replicate (length bytes.old) 0 }
+        ensures { result ≡ length bytes.old }
+    {
+        LentZeros { bytes }
+    }
+
+    /// How many there are.
+    fn len(&self) -> usize
+        ensures { result ≡ self.now }
+    {
+        self.bytes.len()
+    }
+
+    /// Those of so many words at the front.
+    fn into_words(self, words: u32) -> &'a mut [u8]
+        requires { 8 * words ≤ self }
+        ensures { result.now ≡ zeros words }
+    {
+        let LentZeros { bytes } = self;
+        &mut bytes[..8 * words as usize]
+    }
+}
+
+/// Makes one segment in memory that is lent, of just as many words as are asked for, and takes no other memory for it.
+/// A further segment is refused, and so is one for which the memory is too small: nothing is lent then either.
+#[derive(Drop)]
+pub struct LentMemory<'a> {
+    memory: Option<LentZeros<'a>>,
+    refused: u64,
+}
+
+impl<'a> LentMemory<'a> {
+    /// Over memory that is zero.
+    pub fn new(memory: &'a mut [u8]) -> Self
+        requires { memory.old ≡ replicate (length memory.old) 0 }
+        ensures refused { result.refused ≡ 0 }
+    {
+        LentMemory {
+            memory: Some(LentZeros::new(memory)),
+            refused: 0,
+        }
+    }
+
+    /// So many words, if there are as many and none were lent yet.
+    fn lend(&mut self, words: u32) -> Option<&'a mut [u8]>
+        ensures fresh { IfSome result (λ s. s.now ≡ zeros words) }
+        ensures refused { self.new.refused ≡ self.old.refused }
+    {
+        let memory = self.memory.take()?;
+        if memory.len() < 8 * words as usize {
+            return None;
+        }
+        Some(memory.into_words(words))
+    }
+}
+
+impl<'a> Allocator for LentMemory<'a> {
+    type Segment = &'a mut [u8];
+
+    ghost first_in_arena = { true };
+
+    #[inline(always)]
+    fn keeps_first_in_arena() -> bool
+        ensures { result ≡ true }
+    {
+        true
+    }
+
+    ghost refusals = { λ a. a.refused };
+
+    ghost offers = { λ _ asked words. words == asked };
+
+    fn allocate_segment(&mut self, min_words: u32) -> Result<&'a mut [u8], ErrorKind>
+        ensures fresh { IfOk result (λ s. IsFresh min_words s.now) }
+        ensures size { IfOk result (λ s. IsTrue (length s.now / 8 == min_words)) }
+        ensures counted { OnOk result (self.new.refused ≡ self.old.refused) }
+        ensures too_large { max_segment_words < min_words
+            → (result ≡ Err (MessageTooLarge min_words)) × (self.new.refused ≡ self.old.refused) }
+        ensures refused { min_words ≤ max_segment_words
+            → IfErr result (λ e. (e ≡ AllocationFailed)
+            × (self.new.refused ≡ one_more self.old.refused)) }
+        ensures offers { ⟦<Self as Allocator>⟧.offers self.new
+            ≡ ⟦<Self as Allocator>⟧.offers self.old }
+        ensures sure { IsTrue (⟦<Self as Allocator>⟧.grants self.old min_words) → IsOk result }
+    {
+        if min_words > MAX_SEGMENT_WORDS {
+            return Err(ErrorKind::MessageTooLarge(min_words as usize));
+        }
+        match self.lend(min_words) {
+            Some(segment) => Ok(segment),
+            None => {
+                self.refused = self.refused.saturating_add(1);
+                Err(ErrorKind::AllocationFailed)
+            }
+        }
+    }
+
+    /// It isn't lent again.
+    fn deallocate_segment(&mut self, _segment: &'a mut [u8], _used_words: u32)
+        ensures refusals { self.new.refused ≡ self.old.refused }
+        ensures offers { ⟦<Self as Allocator>⟧.offers self.new
+            ≡ ⟦<Self as Allocator>⟧.offers self.old }
+    {}
+
+    fn keep<T>(&mut self, list: &mut Vec<T>, row: T) -> Option<T>
+        ensures kept { IsNone result → (list.new.items ≡ list.old.items ++ row ∷ [])
+            × (self.new.refused ≡ self.old.refused) }
+        ensures given_back { IfSome result (λ r. (r ≡ row) × (list.new.items ≡ list.old.items)
+            × (self.new.refused ≡ one_more self.old.refused)) }
+        ensures offers { ⟦<Self as Allocator>⟧.offers self.new
+            ≡ ⟦<Self as Allocator>⟧.offers self.old }
+    {
+        match list.push(row) {
+            Ok(()) => None,
+            Err(e) => {
+                self.refused = self.refused.saturating_add(1);
+                let row = e.value;
+                Some(row)
+            }
+        }
+    }
+
+    fn refused(&self) -> u64 {
+        self.refused
+    }
+}
