@@ -2,6 +2,7 @@
 use Rattle.std.proofs.Common.{◌≡◌, ◌∙◌, inl, inr, ℕ, zero, suc, ◌+◌, ◌*◌, ◌<◌, ℤ, List, [], ◌∷◌, Bool, true, false, not, ◌&&◌, Option, Some, None}
 use Rattle.std.proofs.Common.{String, Global, codes, length, map, string_bytes}
 use Rattle.std.proofs.Common.{ap, sym, subst, refl, arith}
+use Rattle.std.specs.List.{Contains}
 use Rattle.std.specs.Prelude.{if◌then◌else◌, nat_eq}
 use Rattle.std.specs.Str.Parse.{IsNumeral}
 use Rattle.std.proofs.lemmas.List.{length-map}
@@ -16,6 +17,29 @@ use Rattle.capnp_streams.specs.declared.streams.words.Setting.TheVariants.{Nesti
 use Rattle.capnp_streams.specs.declared.streams.words.Word.{Word}
 use Rattle.capnp_streams.specs.declared.streams.words.Word.TheVariants.{Help, HelpLetter, Version, VersionLetter, End}
 use Rattle.capnp_streams.specs.declared.streams.words.Word.TheVariants.{Canon, Check, Size, Packed, Pack, Flat, FromFlat, Hex, Quiet, Nesting, Words}
+
+-- all words, and that each is one of them
+abbrev pub all_words : List Word
+all_words =
+    Help ∷ HelpLetter ∷ Version ∷ VersionLetter ∷ End ∷ Canon ∷ Check ∷ Size ∷ Packed ∷ Pack ∷ Flat ∷ FromFlat ∷ Hex ∷ Quiet ∷ Nesting ∷ Words ∷ []
+
+pub is_one : (word : Word) → Contains all_words word
+is_one Help = (0, omega arith, refl)
+is_one HelpLetter = (1, omega arith, refl)
+is_one Version = (2, omega arith, refl)
+is_one VersionLetter = (3, omega arith, refl)
+is_one End = (4, omega arith, refl)
+is_one Canon = (5, omega arith, refl)
+is_one Check = (6, omega arith, refl)
+is_one Size = (7, omega arith, refl)
+is_one Packed = (8, omega arith, refl)
+is_one Pack = (9, omega arith, refl)
+is_one Flat = (10, omega arith, refl)
+is_one FromFlat = (11, omega arith, refl)
+is_one Hex = (12, omega arith, refl)
+is_one Quiet = (13, omega arith, refl)
+is_one Nesting = (14, omega arith, refl)
+is_one Words = (15, omega arith, refl)
 
 -- a number for the first so many bytes of a text
 abbrev key : ℕ → List ℕ → ℕ

@@ -32,6 +32,52 @@ pub(super) enum Word {
     Words,
 }
 
+/// All of these words.
+const WORDS: [Word; 16] = [
+    Word::Help,
+    Word::HelpLetter,
+    Word::Version,
+    Word::VersionLetter,
+    Word::End,
+    Word::Canon,
+    Word::Check,
+    Word::Size,
+    Word::Packed,
+    Word::Pack,
+    Word::Flat,
+    Word::FromFlat,
+    Word::Hex,
+    Word::Quiet,
+    Word::Nesting,
+    Word::Words,
+];
+
+impl Word {
+    /// Its text.
+    fn text(self) -> &'static str
+        ensures { result.now ≡ text_of_word self }
+    {
+        match self {
+            Word::Help => "--help",
+            Word::HelpLetter => "-h",
+            Word::Version => "--version",
+            Word::VersionLetter => "-V",
+            Word::End => "--",
+            Word::Canon => "canon",
+            Word::Check => "check",
+            Word::Size => "size",
+            Word::Packed => "--packed",
+            Word::Pack => "--pack",
+            Word::Flat => "--flat",
+            Word::FromFlat => "--from-flat",
+            Word::Hex => "--hex",
+            Word::Quiet => "--quiet",
+            Word::Nesting => "--nesting",
+            Word::Words => "--words",
+        }
+    }
+}
+
 /// A command's name.
 #[derive(Clone, Copy)]
 pub(super) enum Verb {
@@ -338,39 +384,12 @@ fn word_of(text: &str) -> Option<Word>
     ensures read { IfSome result (λ w. text_of_word w ≡ text.now) }
     ensures none { IsNone result → (w : Word) → text_of_word w ≡ text.now → ⊥ }
 {
-    if text == "--help" {
-        Some(Word::Help)
-    } else if text == "-h" {
-        Some(Word::HelpLetter)
-    } else if text == "--version" {
-        Some(Word::Version)
-    } else if text == "-V" {
-        Some(Word::VersionLetter)
-    } else if text == "--" {
-        Some(Word::End)
-    } else if text == "canon" {
-        Some(Word::Canon)
-    } else if text == "check" {
-        Some(Word::Check)
-    } else if text == "size" {
-        Some(Word::Size)
-    } else if text == "--packed" {
-        Some(Word::Packed)
-    } else if text == "--pack" {
-        Some(Word::Pack)
-    } else if text == "--flat" {
-        Some(Word::Flat)
-    } else if text == "--from-flat" {
-        Some(Word::FromFlat)
-    } else if text == "--hex" {
-        Some(Word::Hex)
-    } else if text == "--quiet" {
-        Some(Word::Quiet)
-    } else if text == "--nesting" {
-        Some(Word::Nesting)
-    } else if text == "--words" {
-        Some(Word::Words)
-    } else {
-        None
+    let mut rest = WORDS.as_slice();
+    while let Some((word, more)) = rest.split_first() {
+        if word.text() == text {
+            return Some(*word);
+        }
+        rest = more;
     }
+    None
 }
