@@ -264,13 +264,19 @@ def unread(edits, lines):
 
 
 def tried(crates, edits):
-    """Tries edits of one crate together, and returns for each whether it is refused, and what to say of it. Where the check comes to no verdict, each half of them is tried."""
+    """Tries edits of one crate together, and returns for each whether it is refused, and what to say of it. A check prints only so many goals: edits of which it names none are
+    tried again without the others. Where it comes to no verdict at all, each half is tried."""
     status, lines = checked(crates, edits)
     if status == -signal.SIGKILL:
         return [(it, False, 'NOT TRIED: its check was killed, most likely for memory') for it in edits]
     bad = unread(edits, lines)
     if not bad and (lines[-1].startswith(('logic=', 'rattle: no verdict')) or any(it.startswith('fn ') for it in lines)):
-        return [(it, *verdict(it, lines)) for it in edits]
+        told = [(it, *verdict(it, lines)) for it in edits]
+        left = [edit for edit, is_refused, _ in told if not is_refused]
+        if not left or len(edits) == 1:
+            return told
+        if len(left) < len(edits):
+            return [it for it in told if it[1]] + tried(crates, left)
     if len(edits) > 1:
         half = len(edits) // 2
         return tried(crates, edits[:half]) + tried(crates, edits[half:])
