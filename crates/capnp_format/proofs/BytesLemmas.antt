@@ -1,9 +1,9 @@
 -- Words as numbers, by their bytes, and one digit of a number.
-use Rattle.std.proofs.Common.{◌≡◌, ℕ, zero, suc, ◌+◌, ◌*◌, ◌/◌, ◌%◌, ◌^◌, ◌<◌, [], ◌∷◌, get_or, refl, sym, ap, ap₂, ◌∙◌, arith, pow-suc, mul_comm}
+use Rattle.std.proofs.Common.{◌≡◌, ℕ, zero, suc, ◌+◌, ◌*◌, ◌/◌, ◌%◌, ◌^◌, ◌<◌, List, [], ◌∷◌, length, get_or, refl, sym, ap, ap₂, ◌∙◌, arith, pow-suc, mul_comm}
 use Rattle.std.proofs.Math.Nat.{pow-zero, div-div-eq-div-mul}
 use Rattle.std.specs.Int.{from_le_bytes, w64}
 use Rattle.capnp_format.specs.Numbers.{from_digits, digits}
-use Rattle.capnp_format.specs.Laws.{WordsAreBytes}
+use Rattle.capnp_format.specs.Bytes.{words_of}
 
 -- the i-th digit
 pub digit_at : (base n x i : ℕ) → i < n → get_or (digits base n x) i 0 ≡ x / base ^ i % base
@@ -14,7 +14,7 @@ digit_at base (suc n) x (suc i) l =
     ∙ ap (λ y. y % base) (div-div-eq-div-mul x base (base ^ i) ∙ ap (λ y. x / y) (mul_comm base (base ^ i) ∙ sym (pow-suc base i)))
 
 -- eight bytes are a word's digits; the words as one number are the bytes as one number
-pub words_are_bytes : WordsAreBytes
+pub words_are_bytes : (n : ℕ) (bytes : List ℕ) → length bytes ≡ 8 * n → from_digits (2 ^ 64) (words_of bytes) ≡ from_digits (2 ^ 8) bytes
 words_are_bytes zero [] l = refl
 words_are_bytes (suc n) (a ∷ b ∷ c ∷ d ∷ e ∷ f ∷ g ∷ h ∷ rest) l =
     let x = from_digits 256 rest in

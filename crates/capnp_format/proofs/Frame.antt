@@ -7,11 +7,13 @@ use Rattle.capnp_format.specs.Numbers.{words_for, unpacked}
 use Rattle.capnp_format.specs.Segments.{Segments, segment, word_at, words_at, HasWords, Target, Grows, leads}
 use Rattle.capnp_format.specs.Tree.{Tree, Null, Capability, Struct, Flat, Pointers, Structs, Trees, no_trees, tree, Elements, no_elements, element, count, element_count}
 use Rattle.capnp_format.specs.Means.{Leads, StructAt, ListAt, IsTag, Means, MeansAll, MeansElements}
-pub use Rattle.capnp_format.specs.Forest.{Agree}
 use Rattle.capnp_format.specs.Forest.{Interval, holds, row, times, pads_of, object_of, target, target_in, cover, cover_all, cover_elements}
-use Rattle.capnp_format.specs.Laws.{OthersMayChange}
 use Rattle.capnp_format.proofs.Meant.{Meant, AllMeant, ElementsMeant}
 use Rattle.capnp_format.proofs.Following.{leads_kept}
+
+-- the message R has the words of S in these intervals
+abbrev pub Agree : Segments → Segments → List Interval → Type 0
+Agree S R is = (u q : ℕ) → 0 < times is u q → word_at R u q ≡ word_at S u q
 
 pub times-append : (is js : List Interval) (u q : ℕ) → times (is ++ js) u q ≡ times is u q + times js u q
 times-append [] js u q = omega arith
@@ -158,5 +160,5 @@ mutual
       ((k, l, long, len, has_words_kept s p grows (omega arith) (λ r x y. same r x (omega arith)) e, first.0, others.0, g), ap₂ (λ x y. x ++ y) first.1 others.1)
 
 -- as the law says it
-pub frame : OthersMayChange
+pub frame : (S R : Segments) (n s p : ℕ) (t : Tree) (c : ℕ) → Grows S R → word_at R s p ≡ word_at S s p → Agree S R (cover S s p t) → Means S n s p t c → Means R n s p t c × (cover R s p t ≡ cover S s p t)
 frame S R n s p t c grows same h m = frame_one t (record { grows = grows; same = same }) h (record { means = m })

@@ -5,7 +5,6 @@ pub mod BytesLemmas
 pub mod Charges
 pub mod Children
 pub mod Digits
-pub mod ExampleLemmas
 pub mod Fields
 pub mod Following
 pub mod Frame

@@ -1,10 +1,9 @@
 -- A message of 1,073,741,823 empty structs in two words.
-use Rattle.std.proofs.Common.{◌≡◌, ℕ, zero, suc, ◌+◌, refl, sym, ap, ◌∙◌, arith}
+use Rattle.std.proofs.Common.{◌≡◌, ℕ, zero, suc, ◌+◌, [], ◌∷◌, refl, sym, ap, ◌∙◌, arith}
 use Rattle.capnp_format.specs.Segments.{Segments}
 pub use Rattle.capnp_format.specs.Tree.{blank}
 use Rattle.capnp_format.specs.Tree.{Structs, element_count}
 use Rattle.capnp_format.specs.Means.{Means, MeansElements}
-use Rattle.capnp_format.specs.Examples.{many_empty_structs}
 
 pub blank-count : (m : ℕ) → element_count (blank m) ≡ m
 blank-count zero = refl
@@ -13,6 +12,9 @@ blank-count (suc m) = ap suc (blank-count m)
 blank_means : (S : Segments) (n s p m : ℕ) → MeansElements S n s p 0 0 (blank m) 0
 blank_means S n s p zero = refl
 blank_means S n s p (suc m) = (0, 0, refl, refl, refl, refl, blank_means S n s (p + 0 + 0) m, refl)
+
+abbrev many_empty_structs : Segments
+many_empty_structs = (0x00000007_00000001 ∷ 0x00000000_fffffffc ∷ []) ∷ []
 
 pub many_means : (m : ℕ) → m ≡ 1073741823 → Means many_empty_structs 64 0 0 (Structs 0 0 (blank m)) (1 + m)
 many_means m e = (

@@ -5,7 +5,6 @@ use Rattle.capnp_format.specs.Tree.{Tree, Null, Capability, Struct, Flat, Pointe
 use Rattle.capnp_format.specs.Canonical.{body, encoding, ForOffset, IsEncodable, Reaches, Stands, charge}
 use Rattle.capnp_format.specs.Value.{IsValue}
 use Rattle.capnp_format.specs.Means.{Means}
-use Rattle.capnp_format.specs.Laws.{StandingMeans}
 use Rattle.capnp_format.proofs.Lies.{LiesAt, lies_means}
 use Rattle.capnp_format.proofs.Levels.{one_value}
 
@@ -44,7 +43,7 @@ one_encoding {ws = ws} {t = t} {u = u} a b =
     (subst (λ vs. Means (vs ∷ []) (depth u) 0 0 u (charge u)) b.begins (encoding_means u b.more b.is_value b.encodable))).0
 
 -- canonical words mean their value, at the cost that their value has
-pub stands_means : StandingMeans
+pub stands_means : (S : Segments) (n s p h : ℕ) (t : Tree) → depth t ≤ n → h ≤ length (segment S s) → Stands S s p h t → Means S n s p t (charge t)
 stands_means S n s p h t levels l a =
     let at : LiesAt S s p h t = record { place = a.0; inside = l; lies = a.5 } in
     lies_means n t a.1 a.4 levels at

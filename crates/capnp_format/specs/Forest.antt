@@ -29,10 +29,6 @@ abbrev pub times : List Interval → ℕ → ℕ → ℕ
 times [] u q = 0
 times (i ∷ is) u q = (if holds i u q then 1 else 0) + times is u q
 
--- The message R has the words of S in these intervals.
-abbrev pub Agree : Segments → Segments → List Interval → Type 0
-Agree S R is = (u q : ℕ) → 0 < times is u q → word_at R u q ≡ word_at S u q
-
 -- The landing pad of a word, if it is a far pointer ("Inter-Segment Pointers").
 abbrev pub pads_of : ℕ → List Interval
 pads_of x = if nat_eq (kind x) 2 then

@@ -9,5 +9,4 @@ pub mod Means
 pub mod Decode
 pub mod Canonical
 pub mod Forest
-pub mod Laws
 pub mod Examples

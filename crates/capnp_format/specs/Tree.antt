@@ -1,7 +1,7 @@
 -- The values that a message can hold, as trees. Where objects lie, in how many segments and by
 -- which kind of pointer they are reached is no part of a value; the lengths of its data and pointer
 -- sections are, until it is trimmed ("Canonicalization").
-use Rattle.std.specs.Prelude.{ℕ, zero, suc, ◌+◌, max, List, []}
+use Rattle.std.specs.Prelude.{◌≡◌, ◌⊎◌, ℕ, zero, suc, ◌+◌, max, List, [], ⊤}
 
 -- A value: the null pointer; a capability by its index; a struct by the words of its data section
 -- and its children; a list of numbers by an element size from 0 to 5 and the elements; a list of
@@ -81,3 +81,14 @@ abbrev mutual
 abbrev pub blank : ℕ → Elements
 blank zero = no_elements
 blank (suc n) = element [] no_trees (blank n)
+
+-- One of the elements has these data words and these children.
+abbrev pub HasElement : Elements → List ℕ → Trees → Type 0
+HasElement no_elements vs us = ⊥
+HasElement (element ws ts es) vs us = ((vs ≡ ws) × (us ≡ ts)) ⊎ HasElement es vs us
+
+-- From the n-th on all children are Null.
+abbrev pub AreNullFrom : ℕ → Trees → Type 0
+AreNullFrom n no_trees = ⊤
+AreNullFrom zero (tree t ts) = (t ≡ Null) × AreNullFrom zero ts
+AreNullFrom (suc n) (tree t ts) = AreNullFrom n ts

@@ -1,149 +1,192 @@
 //! Laws of the format's definitions. Each function does nothing: its contract is the law, proved for all messages and
-//! values. The definitions stand in `specs/`, and docs/FORMAT.md reads them in order.
+//! values. The definitions stand in `specs/`, and docs/FORMAT.md reads them in order. Where a law speaks of values it
+//! takes them as the format has them (`IsValue`), and where it speaks of words as numbers of 64 bits (`AreWords`).
 
-ghost use Rattle.capnp_format.specs.Laws.{OneMeaning, LevelsFromDepth, DecodeAgrees, DecodeRefuses, MeaningIsValue, BodyLength, CanonicalWordsMean, StandingMeans, OneStands, EncodingsDiffer, NoEncodingBegins, SameCanonicalWords, SmallIsEncodable, OthersMayChange, CanonicalCost, CanonicalLength, TrimTwice, TrimKeeps, CanonicalAgain, LeastWords, LeastChildren, LeastDataWidth, LeastPointerWidth, WordsAreBytes, ElementIsBits, OneArenaValue, TestedIsCopied, CopiedIsTested};
-ghost use Rattle.capnp_format.specs.Examples.{WorkedMessages, WorkedMeanings, WorkedWords, WorkedLists, WorkedTargets, WorkedValues, WorkedCanonical, WorkedCovers};
+mod examples;
+
+ghost use Rattle.std.specs.Prelude.{◌≡◌, ◌↔◌, ℕ, ◌*◌, ◌/◌, ◌%◌, ◌<◌, ◌≤◌, ◌^◌, get_or, List, [], ◌∷◌, ◌++◌, length, Some, None};
+ghost use Rattle.capnp_format.specs.Segments.{Segments, segment, word_at, AreWords, Grows};
+ghost use Rattle.capnp_format.specs.Numbers.{from_digits, element_bits, unpacked};
+ghost use Rattle.capnp_format.specs.Bytes.{words_of};
+ghost use Rattle.capnp_format.specs.Tree.{Tree, Trees, Elements, HasElement, AreNullFrom, depth, capabilities};
+ghost use Rattle.capnp_format.specs.Value.{IsValue};
+ghost use Rattle.capnp_format.specs.Means.{Means};
+ghost use Rattle.capnp_format.specs.Decode.{decode};
+ghost use Rattle.capnp_format.specs.Canonical.{used_words, used_trees, data_width, pointer_width, trim, word_count, body, encoding, charge, IsEncodable, IsTrimmed, Stands};
+ghost use Rattle.capnp_format.specs.Forest.{times, cover, ArenaHolds};
+
+pub use examples::worked_examples;
 
 /// At a place of a message there is at most one value and one cost, whatever the nesting limit.
 #[tactic(auto, using(crate::proofs::Levels::one_value))]
 pub fn one_meaning()
-    ensures { OneMeaning }
+    ensures { (S : Segments) (n m s p : ℕ) (t u : Tree) (c e : ℕ) → Means S n s p t c
+        → Means S m s p u e → (t ≡ u) × (c ≡ e) }
 {}
 
 /// What a place means within some levels it means within exactly the levels from the value's depth on.
 #[tactic(auto, using(crate::proofs::LawLemmas::levels_from_depth))]
 pub fn levels_from_depth()
-    ensures { LevelsFromDepth }
+    ensures { (S : Segments) (n m s p : ℕ) (t : Tree) (c : ℕ) → Means S n s p t c
+        → Means S m s p t c ↔ (depth t ≤ m) }
 {}
 
 /// Reading by the function `decode` and the relation `Means` agree, both where a value is found and where none is.
 #[tactic(auto, using(crate::proofs::LawLemmas::decode_agrees, crate::proofs::LawLemmas::decode_refuses))]
 pub fn decode_agrees()
-    ensures found { DecodeAgrees }
-    ensures nothing { DecodeRefuses }
+    ensures found { (S : Segments) (n s p : ℕ) (t : Tree) (c : ℕ)
+        → (decode S n s p ≡ Some (t, c)) ↔ Means S n s p t c }
+    ensures nothing { (S : Segments) (n s p : ℕ)
+        → (decode S n s p ≡ None) ↔ ((t : Tree) (c : ℕ) → Means S n s p t c → ⊥) }
 {}
 
 /// What words of 64 bits mean is a value of the format: each size in it fits the bits of its pointer word.
 #[tactic(auto, using(crate::proofs::Bounds::means_value))]
 pub fn meaning_is_value()
-    ensures { MeaningIsValue }
+    ensures { (S : Segments) (n s p : ℕ) (t : Tree) (c : ℕ) → AreWords S → Means S n s p t c
+        → IsValue t }
 {}
 
 /// A value's body has as many words as its objects together.
 #[tactic(auto, using(crate::proofs::LawLemmas::body_length))]
 pub fn body_length()
-    ensures { BodyLength }
+    ensures { (t : Tree) → IsValue t → length (body t) ≡ word_count t }
 {}
 
-/// Canonical words mean the value that they are the words of, whatever follows them, and wherever they stand.
+/// Canonical words mean the value that they are the words of, whatever follows them, at the cost that is the value's
+/// least; and so wherever they stand, in any segment in which the head is a position or the end.
 #[tactic(auto, using(crate::proofs::LawLemmas::canonical_words_mean, crate::proofs::Unique::stands_means))]
 pub fn canonical_words_mean()
-    ensures alone { CanonicalWordsMean }
-    ensures anywhere { StandingMeans }
+    ensures alone { (t : Tree) (more : List ℕ) (n : ℕ) → IsValue t → IsEncodable t → depth t ≤ n
+        → Means ((encoding t ++ more) ∷ []) n 0 0 t (charge t) }
+    ensures anywhere { (S : Segments) (n s p h : ℕ) (t : Tree) → depth t ≤ n
+        → h ≤ length (segment S s) → Stands S s p h t → Means S n s p t (charge t) }
 {}
 
 /// At most one value has its canonical words at a place with the body at a head.
 #[tactic(auto, using(crate::proofs::LawLemmas::one_stands))]
 pub fn one_stands()
-    ensures { OneStands }
+    ensures { (S : Segments) (s p h : ℕ) (t u : Tree) → Stands S s p h t → Stands S s p h u
+        → t ≡ u }
 {}
 
-/// Canonical words determine the value.
+/// Canonical words determine the value: two values have the same ones only if they are the same.
 #[tactic(auto, using(crate::proofs::LawLemmas::encodings_differ))]
 pub fn encodings_differ()
-    ensures { EncodingsDiffer }
+    ensures { (t u : Tree) → IsValue t → IsEncodable t → IsValue u → IsEncodable u
+        → encoding t ≡ encoding u → t ≡ u }
 {}
 
 /// No value's canonical words are a proper beginning of those of another one, or of its own.
 #[tactic(auto, using(crate::proofs::LawLemmas::no_encoding_begins))]
 pub fn no_encoding_begins_another()
-    ensures { NoEncodingBegins }
+    ensures { (t u : Tree) (more : List ℕ) → IsValue t → IsEncodable t → IsValue u → IsEncodable u
+        → encoding t ++ more ≡ encoding u → more ≡ [] }
 {}
 
 /// Two sources have the same canonical words exactly if their trimmed values are equal.
 #[tactic(auto, using(crate::proofs::LawLemmas::same_canonical_words))]
 pub fn same_canonical_words()
-    ensures { SameCanonicalWords }
+    ensures { (S R : Segments) (n s p m u q c e : ℕ) (t v : Tree) → AreWords S → AreWords R
+        → Means S n s p t c → Means R m u q v e → IsEncodable (trim t) → IsEncodable (trim v)
+        → (encoding (trim t) ≡ encoding (trim v)) ↔ (trim t ≡ trim v) }
 {}
 
 /// Where a value has fewer than 2^29 words all offsets inside it fit their bits.
 #[tactic(auto, using(crate::proofs::Trimmed::small_fits))]
 pub fn small_is_encodable()
-    ensures { SmallIsEncodable }
+    ensures { (t : Tree) → IsValue t → word_count t < 2 ^ 29 → IsEncodable t }
 {}
 
-/// A change outside of the words that a value covers changes neither what its place means nor what it covers.
+/// A change outside of the words that a value covers, also behind the ends of segments, changes neither what its place
+/// means nor what it covers.
 #[tactic(auto, using(crate::proofs::Frame::frame))]
 pub fn others_may_change()
-    ensures { OthersMayChange }
+    ensures { (S R : Segments) (n s p : ℕ) (t : Tree) (c : ℕ) → Grows S R
+        → word_at R s p ≡ word_at S s p
+        → ((u q : ℕ) → 0 < times (cover S s p t) u q → word_at R u q ≡ word_at S u q)
+        → Means S n s p t c → Means R n s p t c × (cover R s p t ≡ cover S s p t) }
 {}
 
-/// Canonical words cost no more than their source, and are no more than the words that the source cost.
+/// Canonical words cost no more than their source, and are no more than the words that the source cost, the root
+/// pointer apart.
 #[tactic(auto, using(crate::proofs::LawLemmas::canonical_cost, crate::proofs::LawLemmas::canonical_length))]
 pub fn canonical_words_are_cheap()
-    ensures cost { CanonicalCost }
-    ensures length { CanonicalLength }
+    ensures cost { (S : Segments) (n s p : ℕ) (t : Tree) (c : ℕ) → AreWords S → Means S n s p t c
+        → charge (trim t) ≤ c }
+    ensures length { (S : Segments) (n s p : ℕ) (t : Tree) (c : ℕ) → AreWords S → Means S n s p t c
+        → length (body (trim t)) ≤ c }
 {}
 
 /// Trimming a value twice is trimming it once, and gives a value of no more words, with the same levels and
 /// capabilities.
 #[tactic(auto, using(crate::proofs::LawLemmas::trim_twice, crate::proofs::LawLemmas::trim_keeps))]
 pub fn trimming()
-    ensures twice { TrimTwice }
-    ensures keeps { TrimKeeps }
+    ensures twice { (t : Tree) → IsTrimmed (trim t) }
+    ensures keeps { (t : Tree) → IsValue t → IsValue (trim t)
+        × (word_count (trim t) ≤ word_count t)
+        × (depth (trim t) ≡ depth t)
+        × (capabilities (trim t) ≡ capabilities t) }
 {}
 
-/// Reading canonical words and making them canonical again gives the same words.
+/// Reading canonical words, whatever follows them, and making them canonical again gives the same words.
 #[tactic(auto, using(crate::proofs::LawLemmas::canonical_again))]
 pub fn canonical_again()
-    ensures { CanonicalAgain }
+    ensures { (t u : Tree) (more : List ℕ) (n c : ℕ) → IsValue t → IsEncodable (trim t)
+        → Means ((encoding (trim t) ++ more) ∷ []) n 0 0 u c
+        → encoding (trim u) ≡ encoding (trim t) }
 {}
 
 /// What trimming keeps of each section is the least that loses only zero words and null pointers; in a list of structs
 /// it is the least for all elements together.
-#[tactic(auto, using(crate::proofs::LawLemmas::least_words, crate::proofs::LawLemmas::least_children, crate::proofs::LawLemmas::least_data_width, crate::proofs::LawLemmas::least_pointer_width))]
+#[tactic(auto, using(crate::proofs::LawLemmas::least_children))]
 pub fn least_widths()
-    ensures words { LeastWords }
-    ensures children { LeastChildren }
-    ensures data_width { LeastDataWidth }
-    ensures pointer_width { LeastPointerWidth }
+    ensures words { (n : ℕ) (ws : List ℕ)
+        → (used_words ws ≤ n) ↔ ((i : ℕ) → n ≤ i → get_or ws i 0 ≡ 0) }
+    ensures children { (n : ℕ) (ts : Trees) → (used_trees ts ≤ n) ↔ AreNullFrom n ts }
+    ensures data_width { (d : ℕ) (es : Elements) → (data_width es ≤ d)
+        ↔ ((ws : List ℕ) (ts : Trees) → HasElement es ws ts → (i : ℕ) → d ≤ i → get_or ws i 0 ≡ 0) }
+    ensures pointer_width { (q : ℕ) (es : Elements) → (pointer_width es ≤ q)
+        ↔ ((ws : List ℕ) (ts : Trees) → HasElement es ws ts → AreNullFrom q ts) }
 {}
 
 /// The words of a list are its bytes in order, the lowest first, and its elements are the bits of these in order.
 #[tactic(auto, using(crate::proofs::LawLemmas::element_is_bits))]
 pub fn elements_are_bits()
-    ensures bytes { WordsAreBytes }
-    ensures elements { ElementIsBits }
+    ensures bytes { (n : ℕ) (bytes : List ℕ) → length bytes ≡ 8 * n
+        → from_digits (2 ^ 64) (words_of bytes) ≡ from_digits (2 ^ 8) bytes }
+    ensures elements { (size n i : ℕ) (words : List ℕ) → i < n → get_or (unpacked size n words) i 0
+        ≡ from_digits (2 ^ 64) words / 2 ^ (element_bits size * i) % 2 ^ element_bits size }
 {}
 
 /// The words of a builder's arena hold at most one value.
 #[tactic(auto, using(crate::proofs::LawLemmas::one_arena_value))]
 pub fn one_arena_value()
-    ensures { OneArenaValue }
+    ensures { (S : Segments) (t u : Tree) → ArenaHolds S t → ArenaHolds S u → t ≡ u }
 {}
 
-/// The definitions on worked messages, values and words, as the check computes them.
-#[tactic(none)]
-pub fn worked_examples()
-    ensures messages { WorkedMessages }
-    ensures meanings { WorkedMeanings }
-    ensures words { WorkedWords }
-    ensures lists { WorkedLists }
-    ensures targets { WorkedTargets }
-    ensures values { WorkedValues }
-    ensures canonical { WorkedCanonical }
-    ensures covers { WorkedCovers }
-{}
-
-/// What is found canonical at a message's root is what a canonical copy makes of it: the canonical words of the root's value are a beginning of
-/// the first segment.
+/// What is found canonical at a message's root is what a canonical copy makes of it: where canonical words stand at the
+/// root with the head right behind it, whatever the root means within some levels has no capability, and its canonical
+/// words are a beginning of the first segment.
 #[tactic(auto, using(crate::proofs::Agreements::tested_is_copied))]
 pub fn tested_is_copied()
-    ensures { TestedIsCopied }
+    ensures { (S : Segments) (n c : ℕ) (t u : Tree) → Stands S 0 0 1 t → Means S n 0 0 u c
+        → (capabilities u ≡ 0) × (more : List ℕ) × (segment S 0 ≡ encoding (trim u) ++ more) }
 {}
 
-/// What a canonical copy writes is found canonical, at no more cost than its source and within no more levels, and a canonical copy of it is the
-/// same words.
+/// What a canonical copy writes of a value that is read within n levels at a cost of c is found canonical, whatever
+/// follows it, at no more cost and within no more levels (`found`); and a canonical copy of it is the same words, of a
+/// value without capabilities (`again`).
+#[tactic(auto, using(crate::proofs::Agreements::copied_again))]
 pub fn copied_is_tested()
-    ensures { CopiedIsTested }
+    ensures found { (S : Segments) (n s p c : ℕ) (t : Tree) (more : List ℕ) → AreWords S
+        → Means S n s p t c → capabilities t ≡ 0 → IsEncodable (trim t)
+        → Stands ((encoding (trim t) ++ more) ∷ []) 0 0 1 (trim t)
+        × Means ((encoding (trim t) ++ more) ∷ []) n 0 0 (trim t) (charge (trim t))
+        × (charge (trim t) ≤ c)
+        × (depth (trim t) ≤ n) }
+    ensures again { (S : Segments) (n s p c m e : ℕ) (t u : Tree) (more : List ℕ) → AreWords S
+        → Means S n s p t c → capabilities t ≡ 0 → IsEncodable (trim t)
+        → Means ((encoding (trim t) ++ more) ∷ []) m 0 0 u e
+        → (capabilities u ≡ 0) × (encoding (trim u) ≡ encoding (trim t)) }
 {}

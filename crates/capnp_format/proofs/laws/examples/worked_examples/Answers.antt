@@ -3,12 +3,13 @@ use Rattle.std.proofs.Common.{inr, get_or, ap, ◌≡◌, ℕ, zero, suc, length
 use Rattle.std.proofs.lemmas.Option.{some_pair_parts}
 use Rattle.std.proofs.lemmas.Bool.Decides.{nat_tests}
 use Rattle.capnp_format.specs.Segments.{Segments, segment, word_at}
-use Rattle.capnp_format.specs.Tree.{Tree, Struct, no_trees}
+use Rattle.capnp_format.specs.Tree.{Tree, Struct, no_trees, tree}
 use Rattle.capnp_format.specs.Means.{Means}
 use Rattle.capnp_format.specs.Decode.{decode}
 use Rattle.capnp_format.specs.Canonical.{trim, encoding}
 use Rattle.capnp_format.specs.Forest.{times, cover, root, IsForest}
-use Rattle.capnp_format.specs.Examples.{HasCanonicalWords, MeansNothing, WorkedMessages, WorkedMeanings, WorkedWords, WorkedLists, WorkedTargets, WorkedValues, WorkedCanonical, WorkedCovers, null_root, trimmed_struct, narrowed_struct_list, widest_element, empty_struct, empty_struct_elsewhere, bit_padding, far_pointer, far_to_zero_pad, double_far, double_far_outside, own_child, pointer_list, backward_pointer, claim_outside, three_segments, shared_child, crossed_children, inner_struct, two_children, one_word}
+use Rattle.capnp_format.specs.Examples.{HasCanonicalWords, MeansNothing, shared_child}
+use Rattle.capnp_format.proofs.laws.examples.worked_examples.Goals as goal
 use Rattle.capnp_format.proofs.Levels.{one_value}
 use Rattle.capnp_format.proofs.Sound.{decode_means, at_some}
 use Rattle.capnp_format.proofs.Nulls.{decode_none}
@@ -30,145 +31,12 @@ canonical_words S n c words h = from_read S n (decode S n 0 0) refl h
 means_nothing : (S : Segments) (n : ℕ) → decode S n 0 0 ≡ None → MeansNothing S n
 means_nothing S n e t c h = decode_none {S = S} {n = n} {s = 0} {p = 0} {c = c} {t = t} e (record { means = h })
 
-pub worked_messages : WorkedMessages
-unfolding decode
-worked_messages = record {
-  null_root_means = canonical_words null_root 0 _ _ refl;
-  trimmed_struct_means = canonical_words trimmed_struct 64 _ _ refl;
-  narrowed_struct_list_means = canonical_words narrowed_struct_list 64 _ _ refl;
-  widest_element_means = canonical_words widest_element 64 _ _ refl;
-  empty_struct_means = canonical_words empty_struct 64 _ _ refl;
-  empty_struct_elsewhere_means = canonical_words empty_struct_elsewhere 64 _ _ refl;
-  bit_padding_means = canonical_words bit_padding 64 _ _ refl;
-  far_pointer_means = canonical_words far_pointer 64 _ _ refl;
-  far_to_zero_pad_means = canonical_words far_to_zero_pad 64 _ _ refl;
-  double_far_means = canonical_words double_far 64 _ _ refl;
-  double_far_outside_means_nothing = means_nothing double_far_outside 64 refl;
-  own_child_means_nothing = means_nothing own_child 64 refl;
-  pointer_list_means = canonical_words pointer_list 2 _ _ refl;
-  pointer_list_needs_two_levels = means_nothing pointer_list 1 refl;
-  backward_pointer_means = canonical_words backward_pointer 64 _ _ refl;
-  claim_outside_means_nothing = means_nothing claim_outside 64 refl;
-  three_segments_means = canonical_words three_segments 64 _ _ refl;
-  shared_child_means = canonical_words shared_child 64 _ _ refl;
-  crossed_children_means = canonical_words crossed_children 64 _ _ refl;
-  inner_struct_means = canonical_words inner_struct 2 _ _ refl;
-  inner_struct_needs_two_levels = means_nothing inner_struct 1 refl;
-}
+-- two children alike, and the message of one struct, of one word
+abbrev two_children : Tree
+two_children = Struct [] (tree (Struct (9 ∷ []) no_trees) (tree (Struct (9 ∷ []) no_trees) no_trees))
 
-pub worked_meanings : WorkedMeanings
-worked_meanings = record {
-  capability = (record { word = 0x00000005_00000003; segment = 0; start = 1; pads = 0 }, (λ q. omega arith, refl), refl, refl);
-  many_structs = many_means 1073741823 refl;
-}
-
-pub worked_words : WorkedWords
-worked_words = record {
-  struct_kind = refl;
-  struct_offset = refl;
-  struct_data = refl;
-  struct_pointers = refl;
-  struct_made = refl;
-  negative_offset = refl;
-  list_kind = refl;
-  list_of_bits = refl;
-  eleven_elements = refl;
-  list_made = refl;
-  tag_elements = refl;
-  far_kind = refl;
-  far_segment = refl;
-  single = refl;
-  double = refl;
-  double_position = refl;
-  far_made = refl;
-  capability_kind = refl;
-  capability_made = refl;
-  lowest_byte_first = refl;
-  two_segments = refl;
-}
-
-pub worked_lists : WorkedLists
-worked_lists = record {
-  sizes = refl;
-  number_of_digits = refl;
-  digits_of_number = refl;
-  bits = refl;
-  bits_packed = refl;
-  bytes = refl;
-  two_bytes = refl;
-  four_bytes = refl;
-  eight_bytes = refl;
-  nothing = refl;
-  nothing_packed = refl;
-  sixty_five_bits = refl;
-  nine_bytes = refl;
-}
-
-pub worked_targets : WorkedTargets
-worked_targets = record {
-  second_segment = refl;
-  no_third_segment = refl;
-  second_word = refl;
-  no_second_word = refl;
-  last_words = refl;
-  has_words = refl;
-  place = omega arith;
-  no_place = λ h. absurd (omega (arith, h));
-  forward = refl;
-  backward = refl;
-  to_the_end = refl;
-  past_the_end = refl;
-  to_the_front = refl;
-  before_the_front = refl;
-  in_its_segment = refl;
-  by_one_pad = refl;
-  by_two_pads = refl;
-  far_to_far = refl;
-  no_such_segment = refl;
-  second_pad_outside = refl;
-}
-
-pub worked_values : WorkedValues
-worked_values = record {
-  two_elements = refl;
-  three_children = refl;
-  two_levels = refl;
-  one_capability = refl;
-  three_levels = refl;
-  is_value = (omega arith, omega arith, (omega arith, tt), tt);
-  too_large_a_byte = λ h. absurd (omega (arith, h.2.0));
-  another_width = λ h. absurd (omega (arith, h.4.0));
-}
-
-pub worked_canonical : WorkedCanonical
-worked_canonical = record {
-  inner_zero_stays = refl;
-  nulls_at_the_end = refl;
-  cut_at_the_ends = refl;
-  least_widths = refl;
-  no_elements_no_widths = refl;
-  pointer_list_keeps_nulls = refl;
-  words_of_struct = refl;
-  words_of_elements = refl;
-  cost_of_elements = refl;
-  cost_of_no_width = refl;
-  cost_of_void = refl;
-  null_pointer = refl;
-  empty_struct_pointer = refl;
-  struct_pointer = refl;
-  void_list_pointer = refl;
-  body_of_elements = refl;
-  canonical_words = refl;
-  offset_behind = refl;
-  offset_before = refl;
-  farthest_forward = (omega arith, omega arith);
-  too_far_forward = λ h. absurd (omega (arith, h.0));
-  farthest_back = (omega arith, omega arith);
-  too_far_back = λ h. absurd (omega (arith, h.1));
-  offsets_fit = ((tt, (omega arith, (tt, tt))), (tt, (tt, (tt, tt))));
-  stands = (omega arith, (omega arith, omega arith, (omega arith, tt), tt), refl, refl, (tt, tt), ((omega arith, omega arith), refl, refl));
-  stands_nowhere_else = λ h. absurd (let e : 0x00000001_00000000 ≡ 0x00000001_00000004 = h.5.1 in omega arith);
-}
+abbrev one_word : Segments
+one_word = (0x00000001_00000000 ∷ 9 ∷ 0 ∷ []) ∷ []
 
 twice_meant : Means shared_child 2 0 0 two_children 4
 unfolding decode
@@ -203,14 +71,123 @@ no_word : (u q : ℕ) → word_at ([] ∷ []) u q ≡ 0
 no_word zero q = refl
 no_word (suc u) q = refl
 
-pub worked_covers : WorkedCovers
-worked_covers = record {
+pub returns : goal.returns
+unfolding decode
+returns c = record {
+  null_root = canonical_words _ 0 _ _ refl;
+  trimmed_struct = canonical_words _ 64 _ _ refl;
+  narrowed_struct_list = canonical_words _ 64 _ _ refl;
+  widest_element = canonical_words _ 64 _ _ refl;
+  empty_struct = canonical_words _ 64 _ _ refl;
+  empty_struct_elsewhere = canonical_words _ 64 _ _ refl;
+  bit_padding = canonical_words _ 64 _ _ refl;
+  far_pointer = canonical_words _ 64 _ _ refl;
+  far_to_zero_pad = canonical_words _ 64 _ _ refl;
+  double_far = canonical_words _ 64 _ _ refl;
+  double_far_outside = means_nothing _ 64 refl;
+  own_child = means_nothing _ 64 refl;
+  pointer_list = (canonical_words _ 2 _ _ refl, means_nothing _ 1 refl);
+  backward_pointer = canonical_words _ 64 _ _ refl;
+  claim_outside = means_nothing _ 64 refl;
+  three_segments = canonical_words _ 64 _ _ refl;
+  shared_child = canonical_words _ 64 _ _ refl;
+  crossed_children = canonical_words _ 64 _ _ refl;
+  inner_struct = (canonical_words _ 2 _ _ refl, means_nothing _ 1 refl);
+  capability = (record { word = 0x00000005_00000003; segment = 0; start = 1; pads = 0 }, (λ q. omega arith, refl), refl, refl);
+  many_structs = many_means 1073741823 refl;
+  struct_kind = refl;
+  struct_offset = refl;
+  struct_data = refl;
+  struct_pointers = refl;
+  struct_made = refl;
+  negative_offset = refl;
+  list_kind = refl;
+  list_of_bits = refl;
+  eleven_elements = refl;
+  list_made = refl;
+  tag_elements = refl;
+  far_kind = refl;
+  far_segment = refl;
+  single = refl;
+  double = refl;
+  double_position = refl;
+  far_made = refl;
+  capability_kind = refl;
+  capability_made = refl;
+  lowest_byte_first = refl;
+  two_segments = refl;
+  sizes = refl;
+  number_of_digits = refl;
+  digits_of_number = refl;
+  bits = refl;
+  bits_packed = refl;
+  bytes = refl;
+  two_bytes = refl;
+  four_bytes = refl;
+  eight_bytes = refl;
+  nothing = refl;
+  nothing_packed = refl;
+  sixty_five_bits = refl;
+  nine_bytes = refl;
+  second_segment = refl;
+  no_third_segment = refl;
+  second_word = refl;
+  no_second_word = refl;
+  last_words = refl;
+  has_words = refl;
+  place = omega arith;
+  no_place = λ h. absurd (omega (arith, h));
+  forward = refl;
+  backward = refl;
+  to_the_end = refl;
+  past_the_end = refl;
+  to_the_front = refl;
+  before_the_front = refl;
+  in_its_segment = refl;
+  by_one_pad = refl;
+  by_two_pads = refl;
+  far_to_far = refl;
+  no_such_segment = refl;
+  second_pad_outside = refl;
+  two_elements = refl;
+  three_children = refl;
+  two_levels = refl;
+  one_capability = refl;
+  three_levels = refl;
+  is_value = (omega arith, omega arith, (omega arith, tt), tt);
+  too_large_a_byte = λ h. absurd (omega (arith, h.2.0));
+  another_width = λ h. absurd (omega (arith, h.4.0));
+  inner_zero_stays = refl;
+  nulls_at_the_end = refl;
+  cut_at_the_ends = refl;
+  least_widths = refl;
+  no_elements_no_widths = refl;
+  pointer_list_keeps_nulls = refl;
+  words_of_struct = refl;
+  words_of_elements = refl;
+  cost_of_elements = refl;
+  cost_of_no_width = refl;
+  cost_of_void = refl;
+  null_pointer = refl;
+  empty_struct_pointer = refl;
+  struct_pointer = refl;
+  void_list_pointer = refl;
+  body_of_elements = refl;
+  canonical_words = refl;
+  offset_behind = refl;
+  offset_before = refl;
+  farthest_forward = (omega arith, omega arith);
+  too_far_forward = λ h. absurd (omega (arith, h.0));
+  farthest_back = (omega arith, omega arith);
+  too_far_back = λ h. absurd (omega (arith, h.1));
+  offsets_fit = ((tt, (omega arith, (tt, tt))), (tt, (tt, (tt, tt))));
+  stands = (omega arith, (omega arith, omega arith, (omega arith, tt), tt), refl, refl, (tt, tt), ((omega arith, omega arith), refl, refl));
+  stands_nowhere_else = λ h. absurd (let e : 0x00000001_00000000 ≡ 0x00000001_00000004 = h.5.1 in omega arith);
   far_cover = refl;
-  held_once = refl;
-  held_twice = refl;
+  held_once_and_twice = (refl, refl);
   no_forest = not_apart;
   untidy_padding = λ h. absurd (let e : 0x00000000_00000fee ≡ 0x00000000_000007ee = ap (λ ws. get_or ws 0 0) h in omega arith);
   tidy_padding = refl;
-  no_words_yet = inr (refl, refl, no_word);
   forest = record { means = (1, 1, one_word_meant); apart = once; inside = held_inside; zero_elsewhere = zero_elsewhere; tidy = tt };
+  no_words_yet = inr (refl, refl, no_word);
 }
