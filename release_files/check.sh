@@ -14,7 +14,7 @@ compile() {
     output=$1 source=$2
     shift 2
     # shellcheck disable=SC2086
-    ${CC:-cc} -std=c11 -Ic ${FLAGS-} -o "$build/$output" "$source" "$@"
+    ${CC:-cc} -std=c11 -Ibindings/c ${FLAGS-} -o "$build/$output" "$source" "$@"
 }
 
 # Runs a command where the shared library is found.
@@ -23,8 +23,8 @@ run() {
     LD_LIBRARY_PATH="$build${LD_LIBRARY_PATH:+:$LD_LIBRARY_PATH}" ${RUNNER-} "$@"
 }
 
-compile example_static c/example.c "$build/libcapnp_canonical.a"
-compile example_shared c/example.c -L"$build" -lcapnp_canonical
+compile example_static bindings/c/example.c "$build/libcapnp_canonical.a"
+compile example_shared bindings/c/example.c -L"$build" -lcapnp_canonical
 for program in example_static example_shared; do
     run "$build/$program" <"$build/frame" | cmp - "$build/words"
 done

@@ -1,6 +1,6 @@
 #!/usr/bin/env python3
 """Whether what is said of capnp_canon's words is said alike: by `--help` (crates/capnp_canon/src/texts.rt), the completion for bash
-and zsh (c/completion), the man page and docs/PROGRAM.md. Where bash is there its completion is asked.
+and zsh (share/), the man page and docs/PROGRAM.md. Where bash is there its completion is asked.
 
     completion.py
 
@@ -37,7 +37,7 @@ def of_help():
 def offered(*line):
     """What bash offers at the end of a line."""
     script = 'source "$1"; shift; COMP_WORDS=(capnp_canon "$@"); COMP_CWORD=$#; _capnp_canon; printf "%s\\n" "${COMPREPLY[@]}"'
-    run = subprocess.run(['bash', '-c', script, 'bash', str(TOP / 'c/completion/capnp_canon.bash'), *line], stdout=subprocess.PIPE, text=True)
+    run = subprocess.run(['bash', '-c', script, 'bash', str(TOP / 'share/capnp_canon.bash'), *line], stdout=subprocess.PIPE, text=True)
     return set(run.stdout.split())
 
 
@@ -47,14 +47,14 @@ def facts():
     yield 'the commands of --help', commands == set(COMMANDS)
     yield 'the letters of --help', options - long == LETTERS
     yield 'the options of each command', set.union(*COMMANDS.values()) <= long
-    zsh = file('c/completion/_capnp_canon')
+    zsh = file('share/_capnp_canon')
     yield 'the options for zsh', words(zsh) == options
     yield 'the commands for zsh', set(re.findall(r'(\w+)\\:', zsh)) == commands
-    yield 'the options of the man page', words(file('c/man/capnp_canon.1').replace('\\-', '-')) == options
+    yield 'the options of the man page', words(file('share/capnp_canon.1').replace('\\-', '-')) == options
     page = file('docs/PROGRAM.md').partition('### At a shell')[0]
     yield 'the options of docs/PROGRAM.md', words(page) == options
     for command in commands:
-        yield f'{command} in the man page', re.search(rf'^\.B {command}$', file('c/man/capnp_canon.1'), re.M)
+        yield f'{command} in the man page', re.search(rf'^\.B {command}$', file('share/capnp_canon.1'), re.M)
     if not shutil.which('bash'):
         print('skipped: the completion for bash: no bash')
         return

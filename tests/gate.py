@@ -96,7 +96,7 @@ def main():
         remove(program)
     parts = [
         counted('names', [sys.executable, str(TOP / 'tests/names.py')]),
-        counted('pages', [sys.executable, str(TOP / 'tests/theorem.py'), '--check']),
+        counted('pages', [sys.executable, str(TOP / 'tools/theorem.py'), '--check']),
         counted('header', [sys.executable, str(TOP / 'tests/library/header.py')]),
         counted('rt ci', proving(sys.argv[1:]), RT_JOBS=str(side_by_side())),
         counted('edits', [sys.executable, str(TOP / 'tests/edits/run.py')]),

@@ -1,7 +1,8 @@
 #!/usr/bin/env python3
-"""Whether each name that a definition of `crates/*/specs/` has is that of one definition alone, in all crates; and whether
-what a proof or a definition imports of this repository stands where it imports it from. The checker says the second too,
-but only when it comes to that file, which in the gate is after many minutes.
+"""Whether each name that a definition of `crates/*/specs/` has is that of one definition alone, in all crates; whether what
+a proof or a definition imports of this repository stands where it imports it from; and whether each type of a library
+crate's `src/` has a name of its own among these crates. The checker says the second too, but only when it comes to that
+file, which in the gate is after many minutes.
 
     names.py
 
@@ -15,6 +16,16 @@ import sys
 TOP = pathlib.Path(__file__).resolve().parents[1]
 TYPE = re.compile(r'( *)(?:abbrev |unfoldable )?pub (record|data) (\S+)')
 FUNCTION = re.compile(r'( *)(?:abbrev |unfoldable )?pub (\S+) :')
+SOURCE_TYPE = re.compile(r'^(?:pub(?:\([a-z]+\))? )?(?:struct|enum|trait|type) (\w+)', re.MULTILINE)
+# Types of one name in several library crates: each is public in one of them at least, so it keeps its name.
+SHARED = {
+    'Fault': 'why a message isn\'t canonical, as C gets it; why a message of a stream isn\'t answered',
+    'Place': 'a word of a segment that is read; a position in a row of an arena; where a reader of packed bytes stands',
+    'PrimitiveElement': 'what an element of a list can be read as; what it can be read as and written from',
+    'Refusal': 'why a call of the library for C is refused; why a command of layout_tool is',
+    'Source': 'where a reader reads; another message, which an edit copies from',
+    'Task': 'what is asked of each message of a stream; an edit whose numbers are in range',
+}
 IMPORT = re.compile(r'^ *use Rattle\.(\w+)\.(specs|proofs)\.([\w.]+)\.\{([^}]*)\}', re.MULTILINE)
 
 
@@ -61,15 +72,31 @@ def twice(files):
             yield from found
 
 
+def types_twice(files):
+    """The files of library crates with a type whose name a type of another one has too, and isn't told above."""
+    places = collections.defaultdict(list)
+    for path in files:
+        for name in SOURCE_TYPE.findall(path.read_text(encoding='utf-8')):
+            places[name].append(path)
+    shared = {name: found for name, found in places.items() if len({it.relative_to(TOP).parts[1] for it in found}) > 1}
+    for name in sorted(SHARED.keys() - shared.keys()):
+        raise SystemExit(f'tests/names.py: {name} is no type of two library crates any more: take it out of SHARED')
+    for name, found in sorted(shared.items()):
+        if name not in SHARED:
+            print(f'{name} is a type of more than one library crate: {", ".join(str(it.relative_to(TOP)) for it in found)}')
+            yield from found
+
+
 def main():
     specs = [path for path in sorted(TOP.glob('crates/*/specs/*.antt')) if path.name != 'Lib.antt']
     proofs = sorted(TOP.glob('crates/*/proofs/**/*.antt'))
-    failed = set(twice(specs))
+    sources = sorted(TOP.glob('crates/capnp_*/src/**/*.rt'))
+    failed = {*twice(specs), *types_twice(sources)}
     for path in specs + proofs:
         for name in nowhere(path):
             print(f'{path.relative_to(TOP)} imports {name}, which is not there')
             failed.add(path)
-    files = {*specs, *proofs}
+    files = {*specs, *proofs, *sources}
     print(f'{len(files) - len(failed)} passed, {len(failed)} failed')
     return 1 if failed or not files else 0
 

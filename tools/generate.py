@@ -38,7 +38,7 @@ def in_c(room, crate):
     """The C of a crate. Its module says nothing of a processor: it is compiled for the first one of x86-64."""
     module = room.at / f'{crate}.ll'
     room.build(crate, room.at / f'{crate}.built', with_script(room.crates.kit, room.at / f'toolchain_of_{crate}', module), '--cpu', 'x86-64')
-    writer = [sys.executable, '-B', str(proved.TOP / 'tools/c_of_module'), str(module), str(proved.TOP / 'c/capnp_canonical.h')]
+    writer = [sys.executable, '-B', str(proved.TOP / 'tools/c_of_module'), str(module), str(proved.TOP / 'bindings/c/capnp_canonical.h')]
     run = subprocess.run(writer, stdout=subprocess.PIPE, stderr=subprocess.PIPE, encoding='utf-8')
     if run.returncode:
         raise proved.Stopped(run.stderr)

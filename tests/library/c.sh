@@ -86,7 +86,7 @@ mistakes() {
 
 # No name of the shared library is visible but those of the header.
 names() {
-    sed -n 's/^[a-z].* \(capnp_canonical_[a-z_]*\)(.*/\1/p' "$top/c/capnp_canonical.h" | sort >"$folder/declared"
+    sed -n 's/^[a-z].* \(capnp_canonical_[a-z_]*\)(.*/\1/p' "$top/bindings/c/capnp_canonical.h" | sort >"$folder/declared"
     nm -D --defined-only "$prefix/lib/libcapnp_canonical.so" | awk '$2 == "T" { sub("@.*", "", $3); print $3 }' | sort | cmp - "$folder/declared" \
         && nm -g --defined-only "$prefix/lib/libcapnp_canonical.a" | awk '$2 == "T" { print $3 }' | sort | cmp - "$folder/declared"
 }
@@ -94,7 +94,7 @@ names() {
 has "$CC" "all of it" && has pkg-config "all of it" || { echo "0 passed, 0 failed"; exit 0; }
 part "names" names
 for which in static shared; do
-    part "example, $which, built" build "example_$which" c/example.c "$which"
+    part "example, $which, built" build "example_$which" bindings/c/example.c "$which"
     has xxd "the examples' answers" && part "example, $which" example "example_$which"
     has xxd "the example's mistakes" && part "mistakes, $which" mistakes "example_$which"
     part "functions of the header, $which, built" build "inline_$which" tests/library/inline.c "$which"

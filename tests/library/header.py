@@ -1,6 +1,6 @@
 #!/usr/bin/env python3
-"""Whether c/capnp_canonical.h says what crates/capnp_canonical does: the numbers and names of answers and reasons, the
-functions, and the version; and whether the bindings have the header's numbers, texts and version.
+"""Whether bindings/c/capnp_canonical.h says what crates/capnp_canonical does: the numbers and names of answers and
+reasons, the functions, and the version; and whether the bindings have the header's numbers, texts and version.
 
     header.py
 
@@ -10,14 +10,14 @@ import re
 import sys
 
 TOP = pathlib.Path(__file__).resolve().parents[2]
-HEADER = (TOP / 'c/capnp_canonical.h').read_text(encoding='utf-8')
+HEADER = (TOP / 'bindings/c/capnp_canonical.h').read_text(encoding='utf-8')
 NUMBERS = (TOP / 'crates/capnp_canonical/specs/Numbers.antt').read_text(encoding='utf-8')
 EXPORTS = (TOP / 'crates/capnp_canonical/src/lib.rt').read_text(encoding='utf-8')
 PREFIX = 'CAPNP_CANONICAL_'
 # Where the header's version stands too.
 VERSIONS = {
-    'c/python/pyproject.toml': r'^version = "(.*)"$', 'c/rust/Cargo.toml': r'^version = "(.*)"$',
-    'c/rust/capnp/Cargo.toml': r'^version = "(.*)"$', 'c/man/capnp_canon.1': r'"capnp_canon (.*)"$',
+    'bindings/python/pyproject.toml': r'^version = "(.*)"$', 'bindings/rust/Cargo.toml': r'^version = "(.*)"$',
+    'bindings/rust/capnp/Cargo.toml': r'^version = "(.*)"$', 'share/capnp_canon.1': r'"capnp_canon (.*)"$',
 }
 # What the package for cargo has of the repository.
 PACKAGED = {'LICENSE': 'LICENSE', **{f'tests/{it}': f'tests/library/{it}' for it in ('messages.txt', 'packed.txt')}}
@@ -52,7 +52,7 @@ def file(name):
 
 def of_python():
     """The numbers and texts of the package for Python."""
-    answers = file('c/python/capnp_canonical/_answers.py')
+    answers = file('bindings/python/capnp_canonical/_answers.py')
     enums = {name: re.findall(r'^    ([A-Z_]+) = (\d+)$', body, re.M)
              for name, body in re.findall(r'^class (\w+)\(enum\.IntEnum\):\n(.*?)\n\n\n', answers, re.M | re.S)}
     texts = re.findall(r"""^    (\d+): ['"](.*)['"],$""", answers, re.M)
@@ -61,7 +61,7 @@ def of_python():
 
 def of_rust():
     """The numbers of the crate for Rust, and the names and texts."""
-    answers, texts = file('c/rust/src/answers.rs'), file('c/rust/src/texts.rs')
+    answers, texts = file('bindings/rust/src/answers.rs'), file('bindings/rust/src/texts.rs')
     errors = re.findall(r'pub const (\w+): Error = Error\((\d+)\);', answers)
     reasons = re.findall(r'pub const (\w+): Reason = Reason\((\d+)\);', answers)
     of_errors = re.findall(r'^ +(\d+) => \(\s*"(.*)",\s*"(.*)",?\s*\),$', texts, re.M)
@@ -106,7 +106,7 @@ def main():
     facts += list(facts_of_bindings())
     facts += [(f'{name} has the version', re.findall(pattern, file(name), re.M) == [version[1]]) for name, pattern in VERSIONS.items()]
     # what a package for cargo has of the repository stands in its folder, since the gate takes no links
-    facts += [(f'c/rust/{name} is {of}', file(f'c/rust/{name}') == file(of)) for name, of in PACKAGED.items()]
+    facts += [(f'bindings/rust/{name} is {of}', file(f'bindings/rust/{name}') == file(of)) for name, of in PACKAGED.items()]
     failed = [what for what, holds in facts if not holds]
     for what in failed:
         print(f'not so: {what}')

@@ -69,7 +69,7 @@ def command(text, environment, line):
 def main():
     prefix, folder = sys.argv[1:]
     os.chdir(folder)
-    for name in 'c', 'tests':
+    for name in 'bindings', 'tests':
         os.symlink(TOP / name, name)
     # what C++ Cap'n Proto reads of the current folder
     environment = {**os.environ, 'PREFIX': prefix, 'PKG_CONFIG_PATH': f'{prefix}/lib/pkgconfig', 'PWD': folder}

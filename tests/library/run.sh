@@ -95,21 +95,21 @@ example() {
 }
 
 example_c() {
-    cc -o example_c "$top/c/example.c" -I"$prefix/include" "$prefix/lib/libcapnp_canonical.a" && example ./example_c
+    cc -o example_c "$top/bindings/c/example.c" -I"$prefix/include" "$prefix/lib/libcapnp_canonical.a" && example ./example_c
 }
 
 example_cpp() {
-    "$cxx" -std=c++17 -o example_cpp "$top/c/cpp/example.cpp" -I"$prefix/include" "$prefix/lib/libcapnp_canonical.a" &&
+    "$cxx" -std=c++17 -o example_cpp "$top/bindings/cpp/example.cpp" -I"$prefix/include" "$prefix/lib/libcapnp_canonical.a" &&
         example ./example_cpp
 }
 
 example_rust() {
     CAPNP_CANONICAL_LIB_DIR=$prefix/lib cargo build --offline --locked --example canonical \
-        --manifest-path "$top/c/rust/Cargo.toml" && example target/debug/examples/canonical
+        --manifest-path "$top/bindings/rust/Cargo.toml" && example target/debug/examples/canonical
 }
 
 example_python() {
-    example env PYTHONPATH="$prefix/python" python3 -B "$top/c/python/examples/canonical.py"
+    example env PYTHONPATH="$prefix/python" python3 -B "$top/bindings/python/examples/canonical.py"
 }
 
 page() {
@@ -117,12 +117,12 @@ page() {
 }
 
 cargo_test() {
-    CAPNP_CANONICAL_LIB_DIR=$prefix/lib cargo test --offline --locked --manifest-path "$top/c/rust/Cargo.toml"
+    CAPNP_CANONICAL_LIB_DIR=$prefix/lib cargo test --offline --locked --manifest-path "$top/bindings/rust/Cargo.toml"
 }
 
 # With the library and without the features, as a package, and the documentation without a library.
 cargo_package() {
-    cd "$work" && cp -RL "$top/c/rust" crate && rm -rf crate/target && cd crate || return 1
+    cd "$work" && cp -RL "$top/bindings/rust" crate && rm -rf crate/target && cd crate || return 1
     # without a library: documentation, and a build that isn't linked
     env -u PKG_CONFIG_PATH PKG_CONFIG_LIBDIR="$work" cargo doc --offline --locked --no-deps && echo 'ok: cargo doc without the library'
     CAPNP_CANONICAL_LIB_DIR=$prefix/lib cargo build --offline --locked --no-default-features && echo 'ok: no_std'
@@ -136,16 +136,16 @@ cargo_package() {
 # The crate over the crate `capnp`, which has to be where Debian puts it.
 debian_crates=/usr/share/cargo/registry
 cargo_capnp() {
-    cd "$work" && mkdir -p capnp_crate/c capnp_crate/tests/library && cp -RL "$top/c/rust" capnp_crate/c/rust &&
-        cp "$here/messages.txt" capnp_crate/tests/library && cd capnp_crate/c/rust/capnp || return 1
+    cd "$work" && mkdir -p capnp_crate/bindings capnp_crate/tests/library && cp -RL "$top/bindings/rust" capnp_crate/bindings/rust &&
+        cp "$here/messages.txt" capnp_crate/tests/library && cd capnp_crate/bindings/rust/capnp || return 1
     CAPNP_CANONICAL_LIB_DIR=$prefix/lib cargo test --offline --config 'source.crates-io.replace-with="debian"' \
         --config "source.debian.directory='$debian_crates'"
 }
 
 # The package as pip installs it, in an environment of its own.
 wheel() {
-    python3 -m venv "$work/venv" && mkdir "$work/wheel_of" && cp -R "$top/c" "$top/LICENSE" "$work/wheel_of" || return 1
-    CAPNP_CANONICAL_LIBRARY=$prefix/lib/libcapnp_canonical.so "$work/venv/bin/pip" install --no-index "$work/wheel_of/c/python" || return 1
+    python3 -m venv "$work/venv" && mkdir "$work/wheel_of" && cp -R "$top/bindings" "$top/LICENSE" "$work/wheel_of" || return 1
+    CAPNP_CANONICAL_LIBRARY=$prefix/lib/libcapnp_canonical.so "$work/venv/bin/pip" install --no-index "$work/wheel_of/bindings/python" || return 1
     cd "$here" && env -u PYTHONPATH -u CAPNP_CANONICAL_LIBRARY "$work/venv/bin/python" -B -m unittest -v test_capnp_canonical test_commands
 }
 
@@ -156,7 +156,7 @@ types_of_python() {
 
 # A program that finds the library by CMake.
 by_cmake() {
-    mkdir "$work/cmake" && cp "$top/c/example.c" "$work/cmake" && cat >"$work/cmake/CMakeLists.txt" <<'END' || return 1
+    mkdir "$work/cmake" && cp "$top/bindings/c/example.c" "$work/cmake" && cat >"$work/cmake/CMakeLists.txt" <<'END' || return 1
 cmake_minimum_required(VERSION 3.13)
 project(example LANGUAGES C)
 find_package(capnp_canonical 1.0 REQUIRED)

@@ -1,5 +1,5 @@
-"""Tests of c/python/examples/cluster.py on a cluster of Dask on this machine, whose workers are processes: what it writes is what
-one process writes, and also where a worker is killed half way."""
+"""Tests of bindings/python/examples/cluster.py on a cluster of Dask on this machine, whose workers are processes: what it
+writes is what one process writes, and also where a worker is killed half way."""
 import contextlib
 import io
 import os
@@ -13,7 +13,7 @@ import time
 import unittest
 
 HERE = pathlib.Path(__file__).resolve().parent
-EXAMPLES = HERE.parents[1] / 'c/python/examples'
+EXAMPLES = HERE.parents[1] / 'bindings/python/examples'
 # the workers import it too
 os.environ['PYTHONPATH'] = os.pathsep.join([str(EXAMPLES), os.environ.get('PYTHONPATH', '')])
 sys.path.insert(0, str(EXAMPLES))

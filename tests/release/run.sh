@@ -167,7 +167,7 @@ found() {
 cmake_minimum_required(VERSION 3.13)
 project(user C)
 find_package(capnp_canonical 1.0 REQUIRED)
-add_executable(example $release/c/example.c)
+add_executable(example $release/bindings/c/example.c)
 target_link_libraries(example capnp_canonical::capnp_canonical)
 END
     cmake -S "$work/user_$2" -B "$work/user_$2/build" -DCMAKE_PREFIX_PATH="$1" && cmake --build "$work/user_$2/build" &&
@@ -176,11 +176,11 @@ END
 
 by_cargo() {
     unset CAPNP_CANONICAL_LIB_DIR
-    CARGO_TARGET_DIR="$work/target" cargo test --offline --locked --manifest-path "$release/c/rust/Cargo.toml"
+    CARGO_TARGET_DIR="$work/target" cargo test --offline --locked --manifest-path "$release/bindings/rust/Cargo.toml"
 }
 
 by_pip() {
-    python3 -m venv "$work/venv" && "$work/venv/bin/pip" wheel --no-index --no-deps -w "$work/wheels" "$release/c/python" &&
+    python3 -m venv "$work/venv" && "$work/venv/bin/pip" wheel --no-index --no-deps -w "$work/wheels" "$release/bindings/python" &&
         "$work/venv/bin/pip" install --no-index "$work/wheels"/*.whl && cd "$release/tests/library" && "$work/venv/bin/python" -B -m unittest test_capnp_canonical
 }
 
@@ -201,7 +201,7 @@ layout_tool() {
 versions() {
     version=$(basename "$release")
     version=${version##*-}
-    [ "$("$work/$first-O2/capnp_canon" --version)" = "capnp_canon $version" ] && grep -qx "version = \"$version\"" "$release/c/rust/Cargo.toml" &&
+    [ "$("$work/$first-O2/capnp_canon" --version)" = "capnp_canon $version" ] && grep -qx "version = \"$version\"" "$release/bindings/rust/Cargo.toml" &&
         grep -q "$version" "$release/ORIGIN"
 }
 

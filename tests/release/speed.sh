@@ -12,9 +12,9 @@ cd "$folder"
 cp "$release/tests/peer/people.capnp" .
 python3 "$release/tests/peer/people.py" 9 20000 0 | capnp encode people.capnp Person >flat
 python3 "$release/tests/peer/people.py" 1 2000 2 | capnp encode people.capnp Person >nested
-cc -std=gnu11 -O2 -I"$release/c" -o speed "$here/speed.c" -ldl
+cc -std=gnu11 -O2 -I"$release/bindings/c" -o speed "$here/speed.c" -ldl
 for compiler in "${@:-gcc}"; do
-    "$compiler" -std=c11 -O2 -fPIC -shared -I"$release/c" -o "$compiler.so" "$release/c/generated/capnp_canonical.c"
+    "$compiler" -std=c11 -O2 -fPIC -shared -I"$release/bindings/c" -o "$compiler.so" "$release/generated/capnp_canonical.c"
     for stream in flat nested; do
         ./speed "$prefix/lib/libcapnp_canonical.so" "./$compiler.so" "$stream" | sed "s/^/$compiler, $stream, /"
     done

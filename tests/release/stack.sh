@@ -9,6 +9,6 @@ folder=$(mktemp -d)
 trap 'rm -rf "$folder"' EXIT
 for level in -O2 -O0; do
     # shellcheck disable=SC2086
-    "$cc" -std=gnu11 $level -I"$release/c" -o "$folder/stack" "$here/stack.c" "$release/c/generated/capnp_canonical.c" -lpthread
+    "$cc" -std=gnu11 $level -I"$release/bindings/c" -o "$folder/stack" "$here/stack.c" "$release/generated/capnp_canonical.c" -lpthread
     "$folder/stack" | sed "s/^/$cc $level, /"
 done

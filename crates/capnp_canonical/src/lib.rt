@@ -1,7 +1,7 @@
 //! Canonical form for programs in C, and for what calls C ("Canonicalization"): a message, given as a
 //! frame in a buffer or by its segments, is copied, tested or measured. Nothing is kept between calls.
 //!
-//! `c/capnp_canonical.h` says how each is called. The answer is 0, or the number of a refusal.
+//! `bindings/c/capnp_canonical.h` says how each is called. The answer is 0, or the number of a refusal.
 #![tactic(auto)]
 
 ghost use Rattle.std.specs.Prelude.{◌≡◌, ◌≢◌, ◌⊎◌, ◌≤◌, ⊤, ◌+◌, ◌*◌, ◌++◌, ℕ, List, codes, false, length, take, drop};

@@ -13,7 +13,7 @@ import sys
 import tempfile
 
 HERE = pathlib.Path(__file__).resolve().parent
-TOP = HERE.parents[1]
+TOP = HERE.parent
 sys.path[:0] = [str(TOP / 'tests/streams'), str(TOP / 'tests/hostile')]
 
 from hostile import STREAM

@@ -195,9 +195,9 @@ def notation():
     told = {word for words, _, _ in WORDS for word in words.split()}
     signs = re.compile(r'[◌+\-*/%^<≤≡≢∷↔⊎&|=ℤ]+')
     if untold := sorted(word for word in used - told if not signs.fullmatch(word)):
-        raise SystemExit(f'tests/theorem.py: say in WORDS what these mean: {", ".join(untold)}')
+        raise SystemExit(f'tools/theorem.py: say in WORDS what these mean: {", ".join(untold)}')
     if unused := sorted(word for word in told - used if not signs.fullmatch(word) and word != 'if◌then◌else◌'):
-        raise SystemExit(f'tests/theorem.py: nothing uses these of WORDS: {", ".join(unused)}')
+        raise SystemExit(f'tools/theorem.py: nothing uses these of WORDS: {", ".join(unused)}')
     return ['| Written | Means |', '|---|---|', *(f'| {written} | {meaning} |' for _, written, meaning in WORDS)]
 
 
@@ -311,7 +311,7 @@ def main():
             continue
         failed += 1
         if sys.argv[1:] == ['--check']:
-            print(f'{page.relative_to(TOP)} differs from the sources: run python3 tests/theorem.py')
+            print(f'{page.relative_to(TOP)} differs from the sources: run python3 tools/theorem.py')
         else:
             page.write_text(new, encoding='utf-8')
             print(f'{page.relative_to(TOP)} is written anew')

@@ -1,14 +1,17 @@
 """Prints how long the program capnp_canon takes beside C++ Cap'n Proto, and the memory of both, as a table.
 
-    timeit.py [PROGRAM] [RUNS]
+    times.py [PROGRAM] [RUNS]
 
 PROGRAM is `crates/capnp_canon/out/capnp_canon` if left out, since the script at the top takes 13 milliseconds of its own.
 The peer is a program over the C++ library with buffers of the same size, and for packed messages the command `capnp
 convert` too. Times are processor seconds, the best of RUNS runs (5 if left out), memory is the greatest resident size."""
 import multiprocessing
 import os
+import pathlib
 import subprocess
 import sys
+
+sys.path.append(str(pathlib.Path(__file__).resolve().parents[1] / 'tests/peer'))
 
 from peer import BOOK, PERSON, TOP, Peer
 

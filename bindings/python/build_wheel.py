@@ -1,10 +1,10 @@
 """Builds the package for pip (PEP 517), with nothing beside Python.
 
-    pip install ./c/python
+    pip install ./bindings/python
 
 A wheel has the package and the library within. The library is the file that CAPNP_CANONICAL_LIBRARY names; else what the C
-compiler that CC names, or `cc`, makes of capnp_canonical.c, where that stands in `native` or in `../generated`, as in a
-release; else the one that `pkg-config` finds. The wheel is marked for the platform that it was built on; where it is to have
+compiler that CC names, or `cc`, makes of capnp_canonical.c, where that stands in `native`, or in `../../generated` as in
+a release; else the one that `pkg-config` finds. The wheel is marked for the platform that it was built on; where it is to have
 another mark, as `manylinux_2_17_x86_64`, that is the config setting `plat-name`.
 """
 import base64
@@ -35,7 +35,7 @@ def about(key):
 
 def native(name):
     """A file of the library in C: beside this one in a source archive, else in the repository. None where there is none."""
-    for folder in HERE / 'native', HERE.parent / 'generated', HERE.parent:
+    for folder in HERE / 'native', HERE.parents[1] / 'generated', HERE.parent / 'c':
         if (folder / name).is_file():
             return folder / name
     return None
