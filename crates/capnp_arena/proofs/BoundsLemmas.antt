@@ -6,7 +6,7 @@ use Rattle.capnp_format.specs.Bytes.{message}
 use Rattle.capnp_format.specs.Segments.{segment}
 use Rattle.capnp_arena_traits.specs.Allocations.{max_segment_words}
 use Rattle.capnp_arena.specs.Row.{capacity, capacity_at, shown}
-use Rattle.capnp_arena.specs.Lent.{each_same}
+use Rattle.capnp_arena.specs.LendingLemmas.{each_same}
 use Rattle.capnp_arena.specs.Bounds.{IsBoundAt, IsBounded, HasBounds, HaveNoRoom, room, rooms, bounds}
 use Rattle.capnp_arena.specs.declared.arena.allocator.Segment.{Ghosts}
 use Rattle.capnp_arena.specs.declared.arena.row.Row.{Row}

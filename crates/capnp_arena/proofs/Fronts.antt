@@ -20,7 +20,7 @@ use denote.Memory.{mem}
 use denote.Slice.{MutSlice, Room, slice_val}
 use borrow.Table.Elements.{at, cut_app, join_app, length-take-le}
 use Rattle.capnp_arena_traits.specs.Written.{with_front}
-use Rattle.capnp_arena.specs.Lent.{front_written}
+use Rattle.capnp_arena.specs.LendingLemmas.{front_written}
 
 module _ {M : Type 1} {𝓤 : Ura M} (𝓛 : Logic 𝓤) (κ : Lft) (q : Share) (b o : ℕ) (γ : GName) (n : ℕ) (xs : List ℕ) (le : n ≤ length xs) where
   open 𝓛 use {H, A}

@@ -3,9 +3,11 @@ use Rattle.std.proofs.Common.{◌≡◌, ℕ, ◌-◌, ◌<◌, ◌≤◌, List,
 use Rattle.std.proofs.Math.Bridge.{le_prop}
 use Rattle.std.specs.Global.{Vec}
 use Rattle.std.specs.Vec.{with_item}
-use Rattle.capnp_arena.specs.Bounds.{HasBounds, rooms, bounds, bounded_with_row}
+use Rattle.capnp_arena.specs.Bounds.{HasBounds, rooms, bounds}
+use Rattle.capnp_arena.specs.LendingLemmas.{bounded_with_row}
 use Rattle.capnp_arena.proofs.RangeLemmas.{bounded_once}
-use Rattle.capnp_arena.specs.Row.{most_others, with_allocated, with_found, with_row, few_with_row}
+use Rattle.capnp_arena.specs.Row.{most_others, with_allocated, with_found, with_row}
+use Rattle.capnp_arena.specs.LendingLemmas.{few_with_row}
 use Rattle.capnp_arena_traits.specs.Allocations.{max_segments}
 use Rattle.capnp_arena.specs.Rows.{with_bytes_apart}
 use Rattle.capnp_arena.specs.Listed.{with_bytes_listed}

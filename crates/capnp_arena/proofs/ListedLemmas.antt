@@ -8,7 +8,7 @@ use Rattle.capnp_arena_traits.specs.Taking.{IsFirstFit, IsFull}
 use Rattle.capnp_arena_traits.specs.Written.{extended, with_segment}
 use Rattle.capnp_arena.specs.declared.arena.allocator.Segment.{Ghosts}
 use Rattle.capnp_arena.specs.declared.arena.row.Row.{Row}
-pub use Rattle.capnp_arena.specs.Rows.{first_kept, other_kept}
+pub use Rattle.capnp_arena.specs.WithBytesLemmas.{first_kept, other_kept}
 use Rattle.std.specs.Global.{Vec}
 use Rattle.std.specs.Vec.{with_items}
 use Rattle.std.proofs.lemmas.List.{with_items_is, length-append}

@@ -5,9 +5,15 @@ use Rattle.std.proofs.Math.Bridge.{le_prop}
 use Rattle.std.proofs.lemmas.Nat.{pow_pos}
 use Rattle.std.proofs.lemmas.Bool.{cases_lt, cases_eq}
 use Rattle.std.proofs.lemmas.List.{length-append, get_or_append_left, get_or_at, get_or-set_same, get_or-set_other}
-use Rattle.capnp_arena.specs.Bounds.{IsPowerOfTwo, IsMultipleOf, IsRange, IsBoundAt, IsBounded}
+use Rattle.capnp_arena.specs.Bounds.{IsRange, IsBoundAt, IsBounded}
 
 -- ranges
+
+abbrev pub IsPowerOfTwo : ℕ → Type 0
+IsPowerOfTwo n = (e : ℕ) × (n ≡ 2 ^ e)
+
+abbrev pub IsMultipleOf : ℕ → ℕ → Type 0
+IsMultipleOf n m = (a : ℕ) × (m ≡ a * n)
 
 pub power_one : IsPowerOfTwo 1
 power_one = (0, refl)

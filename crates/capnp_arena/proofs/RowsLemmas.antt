@@ -9,7 +9,7 @@ use Rattle.capnp_arena_traits.specs.Limits.{IsSmall}
 use Rattle.capnp_arena_traits.specs.Checks.{total_words}
 use Rattle.capnp_arena_traits.proofs.MessageLemmas.{total-more, length-message}
 use Rattle.capnp_arena_traits.specs.Written.{with_segment}
-pub use Rattle.capnp_arena.specs.Lent.{allocated_whole, room_same}
+pub use Rattle.capnp_arena.specs.LendingLemmas.{allocated_whole, room_same}
 use Rattle.capnp_arena.specs.declared.arena.allocator.Segment.{Ghosts}
 use Rattle.capnp_arena.specs.declared.arena.row.Row.{Row}
 

@@ -1,26 +1,17 @@
 -- How many words more the rows of an arena can hold, and the bounds on that by which the first row
--- with room is found. The lemmas stand here since a law of a trait may cite nothing else.
+-- with room is found.
 use Rattle.std.specs.Prelude.{ℕ, List, false, ◌≡◌, ◌≤◌, ◌<◌, ◌+◌, ◌-◌, ◌*◌, ◌^◌, length, map}
-use Rattle.std.specs.Prelude.{slice_get, slice_index_or, Option, Some, None}
-use Rattle.std.specs.Global.{Vec}
-use Rattle.std.proofs.Common.{ap, refl, sym, subst}
+use Rattle.std.specs.Prelude.{slice_index_or}
 use Rattle.capnp_format.specs.Bytes.{message}
 use Rattle.capnp_arena_traits.specs.View.{View, view_of}
-use Rattle.capnp_arena.specs.Row.{capacity, capacity_at, shown, with_allocated, with_found, with_row}
-use Rattle.capnp_arena.specs.Lent.{each_same, found_at, same_capacity}
+use Rattle.capnp_arena.specs.Row.{capacity, capacity_at, shown}
 use Rattle.capnp_arena.specs.declared.arena.row.Row.{Row}
 use Rattle.capnp_arena.specs.declared.arena.allocator.Segment.{Ghosts}
-
-abbrev pub IsPowerOfTwo : ℕ → Type 0
-IsPowerOfTwo n = (e : ℕ) × (n ≡ 2 ^ e)
-
-abbrev pub IsMultipleOf : ℕ → ℕ → Type 0
-IsMultipleOf n m = (a : ℕ) × (m ≡ a * n)
 
 -- So many rows from `from` on are a range: they are a power of two, and `from` is a multiple of
 -- twice that. Each row is the last of one range.
 abbrev pub IsRange : ℕ → ℕ → Type 0
-IsRange from width = IsPowerOfTwo width × IsMultipleOf (2 * width) from
+IsRange from width = ((e : ℕ) × (width ≡ 2 ^ e)) × ((a : ℕ) × (from ≡ a * (2 * width)))
 
 -- no row of the range that ends with row `at` has more room than that
 abbrev pub IsBoundAt : List ℕ → ℕ → ℕ → Type 0
@@ -54,21 +45,3 @@ module _ {S : Type 0} (g : Ghosts S) where
   -- what rows alone hold and can still give
   abbrev pub view_of_rows : List (Row S g) → View
   view_of_rows rows = view_of (message (shown g rows)) (capacity_at g rows) 0 (λ _ _. false)
-
-  -- the bounds stay when the allocated words of a row are written over
-  pub bounded_with_row : (v : Vec (Row S g)) (id : ℕ) (ws : List ℕ) → HasBounds v.items →
-      HasBounds (with_row g v id ws).items
-  bounded_with_row v id ws h = go (slice_get v.items id) refl
-    where
-      go : (found : Option (Row S g)) → slice_get v.items id ≡ found →
-          HasBounds (with_found g v id ws found).items
-      go (Some r) is =
-          let at = found_at g v.items id r is in
-          let same_rooms =
-          each_same g room v.items id r (with_allocated g r ws) at
-          (ap (λ n. n - r.used) (same_capacity g r ws)) in
-          let same_bounds =
-          each_same g (λ (q : Row S g). q.bound) v.items id r (with_allocated g r ws) at refl in
-          subst (λ xs. IsBounded xs (bounds (with_found g v id ws (Some r)).items)) (sym same_rooms)
-          (subst (IsBounded (rooms v.items)) (sym same_bounds) h)
-      go None is = h

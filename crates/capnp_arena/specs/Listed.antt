@@ -1,8 +1,8 @@
 -- The rows of a builder arena that all stand in a list.
 use Rattle.std.specs.Prelude.{ℕ, List}
 use Rattle.capnp_arena_traits.specs.Allocations.{max_segments}
-use Rattle.capnp_arena.specs.Bounds.{bounded_with_row}
-use Rattle.capnp_arena.specs.Row.{few_with_row, with_row}
+use Rattle.capnp_arena.specs.LendingLemmas.{bounded_with_row, few_with_row}
+use Rattle.capnp_arena.specs.Row.{with_row}
 use Rattle.capnp_arena.specs.declared.arena.listed.Listed.{Listed}
 use Rattle.capnp_arena.specs.declared.arena.allocator.Segment.{Ghosts}
 

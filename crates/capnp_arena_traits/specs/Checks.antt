@@ -11,11 +11,6 @@ use Rattle.capnp_words.specs.declared.error.ErrorKind.TheVariants.{TriedToReadFr
 abbrev pub Holds : Segments → ℕ → ℕ → ℕ → Type 0
 Holds S id start size = (id < length S) × (start + size ≤ length (segment S id))
 
--- start and start + offset are positions within so many words, the end included
-abbrev pub StaysWithin : ℕ → ℕ → ℤ → Type 0
-StaysWithin length start offset =
-    (start ≤ length) × (pos 0 ≤ℤ (pos start +ℤ offset)) × ((pos start +ℤ offset) ≤ℤ pos length)
-
 -- segment id is there, and start and start + offset lie in it, its end included
 abbrev pub LeadsInside : Segments → ℕ → ℕ → ℤ → Type 0
 LeadsInside S id start offset =

@@ -1,7 +1,5 @@
--- What an arena that is built holds, and can still give. The lemmas stand here since a law of a
--- trait may cite nothing else.
+-- What an arena that is built holds, and can still give.
 use Rattle.std.specs.Prelude.{◌≡◌, ℕ, Bool}
-use Rattle.std.proofs.Common.{ap}
 use Rattle.capnp_format.specs.Segments.{Segments}
 
 -- The words of each segment; how many words each can hold, those allocated included; how often
@@ -20,8 +18,3 @@ view_of words room refusals offers =
 -- Nothing but words is changed.
 abbrev pub KeepsLimits : View → View → Type 0
 KeepsLimits old new = new ≡ record old { words = new.words }
-
--- the same, where no segment has more room
-pub same_room : (words : Segments) (new old : ℕ → ℕ) (refusals : ℕ) (offers : ℕ → ℕ → Bool) →
-    new ≡ old → view_of words new refusals offers ≡ view_of words old refusals offers
-same_room words new old refusals offers e = ap (λ (room : ℕ → ℕ). view_of words room refusals offers) e

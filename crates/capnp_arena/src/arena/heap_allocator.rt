@@ -13,7 +13,8 @@ pub struct HeapSegment {
 }
 
 impl Segment for HeapSegment {
-    ghost use Rattle.capnp_arena.specs.Heap.{with_bytes, with_bytes-as_long, with_bytes-holds, all_ready};
+    ghost use Rattle.capnp_arena.specs.Heap.{with_bytes};
+    ghost use Rattle.capnp_arena.specs.HeapLemmas.{with_bytes-as_long, with_bytes-holds, all_ready};
 
     ghost content = { λ s. s.bytes.items };
 

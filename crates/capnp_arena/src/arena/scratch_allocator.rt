@@ -10,7 +10,7 @@ use std::marker::Model;
 
 /// Borrowed bytes are a segment.
 impl Segment for &mut [u8] {
-    ghost use Rattle.capnp_arena.specs.Heap.{all_ready};
+    ghost use Rattle.capnp_arena.specs.HeapLemmas.{all_ready};
 
     ghost content = { λ s. s.now };
 
@@ -56,7 +56,8 @@ pub enum ScratchSegment<B: Segment + Drop> {
 }
 
 impl<B: Segment + Drop> Segment for ScratchSegment<B> {
-    ghost use Rattle.capnp_arena.specs.Scratch.{content_of, ready_of, with_ready_of, with_ready_of-as_long, with_ready_of-holds, zeros_behind_of};
+    ghost use Rattle.capnp_arena.specs.Scratch.{content_of, ready_of, with_ready_of};
+    ghost use Rattle.capnp_arena.specs.ScratchLemmas.{with_ready_of-as_long, with_ready_of-holds, zeros_behind_of};
 
     ghost content = { content_of B.Segment };
 
@@ -173,14 +174,14 @@ pub struct ScratchSpaceHeapAllocator<'a> {
 
 // No ghost field stands here: an arena over a type that holds a `&mut` and one would have no proof.
 impl<'a> Model for ScratchSpaceHeapAllocator<'a> {
-    ghost use Rattle.std.specs.Prelude.{◌≡◌, ◌≤◌, ◌/◌, min, is_some};
+    ghost use Rattle.std.specs.Prelude.{◌≡◌, ◌≤◌, ◌/◌, min, is_some, unwrap_or};
     ghost use Rattle.std.specs.Option.{ForSome};
     ghost use Rattle.capnp_arena_traits.specs.Allocations.{max_segment_words};
-    ghost use Rattle.capnp_arena.specs.Scratch.{Scratch, bytes_at_hand};
+    ghost use Rattle.capnp_arena.specs.Scratch.{Scratch};
 
     ghost Value = { Scratch };
 
-    ghost view = { λ a. record { here = is_some a.scratch; zeros = bytes_at_hand a.scratch; scratch_words = a.scratch_words; heap = a.heap } };
+    ghost view = { λ a. record { here = is_some a.scratch; zeros = unwrap_or a.scratch 0; scratch_words = a.scratch_words; heap = a.heap } };
 
     ghost invariant = { λ a. (a.scratch_words ≤ max_segment_words) × ForSome a.scratch (λ bytes. min (bytes / 8) max_segment_words ≡ a.scratch_words) };
 }

@@ -1,9 +1,9 @@
 //! Arenas that are read.
-ghost use Rattle.std.specs.Prelude.{IsTrue, IsSome, IfSome, ◌≡◌, ◌<◌, ◌≤◌, ◌+◌, ◌*◌, ◌/◌, ◌^◌, ◌↔◌, ◌⊎◌, ℕ, ℤ, pos, ◌+ℤ◌, List, Bool, length, IsOk, IfOk, OnOk, OnErr, IfErr, Some, slice_get};
+ghost use Rattle.std.specs.Prelude.{IsTrue, IsSome, IfSome, ◌≡◌, ◌<◌, ◌≤◌, ◌+◌, ◌*◌, ◌/◌, ◌^◌, ◌↔◌, ◌⊎◌, ℕ, ℤ, pos, ◌+ℤ◌, ◌≤ℤ◌, List, Bool, length, IsOk, IfOk, OnOk, OnErr, IfErr, Some, slice_get};
 ghost use Rattle.capnp_format.specs.Segments.{segment};
 ghost use Rattle.capnp_format.specs.Bytes.{words_of, message};
 ghost use Rattle.capnp_words.specs.Meter.{Affords, charged};
-ghost use Rattle.capnp_arena_traits.specs.Checks.{Holds, IsUnknown, LeadsInside, StaysWithin, misplaced, total_words};
+ghost use Rattle.capnp_arena_traits.specs.Checks.{Holds, IsUnknown, LeadsInside, misplaced, total_words};
 ghost use Rattle.capnp_words.specs.declared.error.ErrorKind.{ErrorKind};
 ghost use Rattle.capnp_words.specs.declared.error.ErrorKind.TheVariants.{ReadLimitExceeded};
 
@@ -121,7 +121,9 @@ pub trait ReaderArena {
 #[inline]
 fn position_within(length: usize, start: u32, offset: i32) -> Option<u32>
     requires { length < 2 ^ 32 }
-    ensures exactly { IsSome result ↔ StaysWithin length start offset }
+    ensures exactly { IsSome result
+        ↔ (start ≤ length) × (pos 0 ≤ℤ (pos start +ℤ offset))
+        × ((pos start +ℤ offset) ≤ℤ pos length) }
     ensures value { IfSome result (λ r. pos r ≡ pos start +ℤ offset) }
 {
     let at = start as i64 + offset as i64;

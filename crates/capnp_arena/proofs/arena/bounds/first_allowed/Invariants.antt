@@ -1,5 +1,6 @@
 use Rattle.std.proofs.Common.{◌≡◌, ◌+◌, ◌-◌, ◌*◌, ◌≤◌, length}
-use Rattle.capnp_arena.specs.Bounds.{IsPowerOfTwo, IsMultipleOf, HaveNoRoom, rooms}
+use Rattle.capnp_arena.specs.Bounds.{HaveNoRoom, rooms}
+use Rattle.capnp_arena.proofs.RangeLemmas.{IsPowerOfTwo, IsMultipleOf}
 use Rattle.capnp_arena.proofs.arena.bounds.first_allowed.Given as goal
 
 abbrev pub invariant-widen : goal.invariant-widen

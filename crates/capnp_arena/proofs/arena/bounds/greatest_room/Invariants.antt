@@ -1,5 +1,6 @@
 use Rattle.std.proofs.Common.{◌≡◌, ℕ, ◌+◌, ◌*◌, ◌<◌, ◌≤◌, get_or}
-use Rattle.capnp_arena.specs.Bounds.{IsPowerOfTwo, rooms}
+use Rattle.capnp_arena.specs.Bounds.{rooms}
+use Rattle.capnp_arena.proofs.RangeLemmas.{IsPowerOfTwo}
 use Rattle.capnp_arena.proofs.arena.bounds.greatest_room.Given as goal
 
 abbrev pub invariant-widen : goal.invariant-widen

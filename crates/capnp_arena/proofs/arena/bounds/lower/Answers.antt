@@ -1,7 +1,7 @@
 use Rattle.std.proofs.Common.{sym, ap}
 use Rattle.capnp_arena.specs.Row.{allocated, capacity}
 use Rattle.capnp_arena.specs.Bounds.{room}
-use Rattle.capnp_arena.specs.Lent.{each_same, room_same}
+use Rattle.capnp_arena.specs.LendingLemmas.{each_same, room_same}
 use Rattle.capnp_arena.proofs.BoundsLemmas.{bounded_lowered}
 use Rattle.capnp_arena.proofs.arena.bounds.lower.Goals as goal
 

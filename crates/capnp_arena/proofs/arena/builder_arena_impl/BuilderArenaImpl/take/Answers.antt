@@ -3,7 +3,7 @@ use Rattle.capnp_format.specs.Bytes.{message}
 use Rattle.capnp_format.specs.Segments.{segment}
 use Rattle.capnp_arena.specs.Kept.{arena_rows}
 use Rattle.capnp_arena.specs.Row.{shown}
-use Rattle.capnp_arena.specs.Room.{rows_small}
+use Rattle.capnp_arena.specs.RoomLemmas.{rows_small}
 use Rattle.capnp_arena.proofs.KeptLemmas.{kept_apart, kept_listed}
 use Rattle.capnp_arena.proofs.arena.builder_arena_impl.BuilderArenaImpl.take.Goals as goal
 

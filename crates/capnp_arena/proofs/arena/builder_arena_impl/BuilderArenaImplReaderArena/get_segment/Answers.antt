@@ -1,5 +1,5 @@
 use Rattle.std.proofs.Common.{arith}
-use Rattle.capnp_arena.specs.Room.{rows_within, rows_small}
+use Rattle.capnp_arena.specs.RoomLemmas.{rows_within, rows_small}
 use Rattle.capnp_arena.specs.Kept.{arena_rows}
 use Rattle.capnp_arena.proofs.RowsLemmas.{shown_whole}
 use Rattle.capnp_arena.proofs.arena.builder_arena_impl.BuilderArenaImplReaderArena.get_segment.Goals as goal

@@ -3,7 +3,7 @@ use Rattle.capnp_arena.proofs.RowsLemmas.{shown_at}
 use Rattle.capnp_arena.proofs.BoundsLemmas.{bounded_same}
 use Rattle.std.proofs.lemmas.List.{length-set}
 use Rattle.capnp_arena.specs.Row.{allocated, with_allocated}
-use Rattle.capnp_arena.specs.Lent.{same_capacity}
+use Rattle.capnp_arena.specs.LendingLemmas.{same_capacity}
 use Rattle.capnp_arena.proofs.LentLemmas.{lent_in_list}
 use Rattle.capnp_arena.proofs.arena.listed.Listed.allocated_mut.Goals as goal
 

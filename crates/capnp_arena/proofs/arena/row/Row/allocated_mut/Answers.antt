@@ -1,5 +1,5 @@
 use Rattle.std.proofs.Common.{refl}
-use Rattle.capnp_arena.specs.Row.{clear_behind}
+use Rattle.capnp_arena.specs.ClearLemmas.{clear_behind}
 use Rattle.capnp_arena.proofs.RowLemmas.{same_rows}
 use Rattle.capnp_arena.proofs.arena.row.Row.allocated_mut.Goals as goal
 

@@ -2,7 +2,7 @@ use Rattle.std.proofs.Common.{◌≡◌, ◌-◌, ◌<◌, ◌≤◌, length, ge
 use Rattle.std.proofs.lemmas.List.{length-set}
 use Rattle.std.specs.Vec.{with_item}
 use Rattle.capnp_arena.specs.Row.{allocated, most_others, with_allocated}
-use Rattle.capnp_arena.specs.Lent.{same_capacity}
+use Rattle.capnp_arena.specs.LendingLemmas.{same_capacity}
 use Rattle.capnp_arena.proofs.BoundsLemmas.{bounded_same}
 use Rattle.capnp_arena.proofs.RowsLemmas.{shown_at}
 use Rattle.capnp_arena.proofs.ListedLemmas.{other_there, other_shown}
