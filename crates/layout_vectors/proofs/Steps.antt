@@ -20,7 +20,7 @@ use Rattle.capnp_format.proofs.Padding.{packed-unpacked}
 use Rattle.capnp_format.proofs.ZeroWords.{zero_is_null}
 use Rattle.capnp_format.specs.Forest.{row, object_cover, PadsInside}
 use Rattle.layout_vectors.specs.Counts.{Counting, plus, Counts, MeansTidily, AreRead, IsTidyObject, ObjectCounts}
-use Rattle.layout_vectors.specs.Marks.{IsMarkedWithin, IsTakenAlready, TakesRow, TakesEach}
+use Rattle.layout_vectors.specs.Marks.{IsMarkedWithin, TakesRow, TakesEach}
 use Rattle.layout_vectors.specs.Spots.{spots, element_spots}
 use Rattle.layout_vectors.specs.Walks.{Walk, FitsRows, Proceeds, TakesTarget, HasNoObject, Goes, FailsWalk}
 use Rattle.layout_vectors.specs.declared.vectors.pending.Spot.{Spot}
@@ -29,6 +29,10 @@ use Rattle.layout_vectors.proofs.Taken.{keeps_itself, keeps_again}
 use Rattle.capnp_words.specs.declared.error.ErrorKind.{ErrorKind}
 use Rattle.std.specs.Prelude.{Result, Ok, Err, IfOk, Bool}
 use Rattle.layout_vectors.proofs.Leading.{there_is, object_of_read, read_of_object}
+
+-- one of the words is taken already
+abbrev pub IsTakenAlready : Segments → (ℕ → ℕ → ℕ) → Type 0
+IsTakenAlready M is = (u : ℕ) × (q : ℕ) × (0 < is u q) × (0 < word_at M u q)
 
 capability_kind : (w i : ℕ) → w ≡ capability_word i → kind w ≡ 3
 capability_kind w i e = ap kind e ∙ omega arith

@@ -21,7 +21,7 @@ use Rattle.capnp_format.proofs.Frame.{of_row}
 use Rattle.capnp_format.proofs.Slices.{there}
 use Rattle.capnp_arena_traits.proofs.WordsOver.{word_here, word_other, lengths_kept, length-over, over_within, over_beside}
 use Rattle.layout_vectors.specs.Counts.{IsOnce}
-use Rattle.layout_vectors.specs.Marks.{AreFreeWithin, free, KeepsRows, TakesRow, blank_rows}
+use Rattle.layout_vectors.specs.Marks.{AreFreeWithin, free, KeepsRows, TakesRow}
 use Rattle.layout_vectors.specs.Walks.{FitsRows}
 
 -- how many words of a row are free
@@ -140,6 +140,10 @@ keeps_itself M = record { segments = refl; words = λ u. refl; once = λ h. h }
 
 pub fits_kept : (S M N : Segments) → FitsRows S M → KeepsRows M N → FitsRows S N
 fits_kept S M N f k = record { segments = k.segments ∙ f.segments; words = λ u. k.words u ∙ f.words u; few = f.few; small = f.small }
+
+-- the rows of segments of which no word is taken
+abbrev blank_rows : List (Bor (List ℕ)) → Segments
+blank_rows segments = map (λ s. replicate (length s.now / 8) 0) segments
 
 -- rows without marks fit
 pub blank_fits : (segments : List (Bor (List ℕ))) → AreSmall segments → FitsRows (message (map (λ s. s.now) segments)) (blank_rows segments)

@@ -8,7 +8,7 @@ use Rattle.capnp_format.specs.Forest.{times, cover, root, IsForest}
 use Rattle.capnp_format.specs.Forest.{row}
 use Rattle.layout_vectors.specs.Counts.{Counts, IsOnce}
 use Rattle.layout_vectors.specs.Spots.{spots}
-use Rattle.layout_vectors.specs.Walks.{FitsRows, IsZeroWhereFree}
+use Rattle.layout_vectors.specs.Walks.{FitsRows}
 
 abbrev pub OnlyRoot : Segments → Type 0
 OnlyRoot M = (u q : ℕ) → word_at M u q ≡ times (row 0 0 1 ∷ []) u q
@@ -24,7 +24,7 @@ marked_inside S M u q fits l = elim (cases_lt q (length (segment M u))) [
 ]
 
 -- and where the words counted are those that are marked, and all others are zero, there is a forest
-pub counts_forest : (S M N : Segments) → OnlyRoot M → Counts S (word_at M) (spots 0 0 1) (word_at N) → FitsRows S N → IsOnce (word_at N) → IsZeroWhereFree S N → (t : Tree) × IsForest S t
+pub counts_forest : (S M N : Segments) → OnlyRoot M → Counts S (word_at M) (spots 0 0 1) (word_at N) → FitsRows S N → IsOnce (word_at N) → ((u q : ℕ) → word_at N u q ≡ 0 → word_at S u q ≡ 0) → (t : Tree) × IsForest S t
 counts_forest S M N only (t, k, h) fits marks zero =
     let same : (u q : ℕ) → times (root ∷ cover S 0 0 t) u q ≡ word_at N u q = λ u q. omega (arith, only u q, h u q) in (
       t,

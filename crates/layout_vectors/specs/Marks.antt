@@ -1,8 +1,7 @@
 -- Marks of words that are taken: for each segment a row of numbers, one for each word, of which
 -- those that aren't 0 are taken.
-use Rattle.std.specs.Prelude.{◌≡◌, ◌≢◌, ℕ, ◌+◌, ◌/◌, ◌<◌, ◌≤◌, count_by, nat_eq, sum_by, Bool, true}
-use Rattle.std.specs.Prelude.{false, List, [], ◌∷◌, length, map, replicate, slice_index, vec_items}
-use Rattle.std.specs.Borrow.{Bor}
+use Rattle.std.specs.Prelude.{◌≡◌, ◌≢◌, ℕ, ◌+◌, ◌<◌, ◌≤◌, count_by, nat_eq, sum_by, Bool, true}
+use Rattle.std.specs.Prelude.{false, List, [], ◌∷◌, length, map, slice_index, vec_items}
 use Rattle.capnp_format.specs.Segments.{Segments, segment, word_at}
 use Rattle.capnp_format.specs.Forest.{times, pads_of}
 use Rattle.capnp_format.specs.Forest.{row, PadsInside}
@@ -11,10 +10,6 @@ use Rattle.layout_vectors.specs.declared.vectors.marks.Marks.{Marks}
 
 abbrev pub rows_of : Marks → Segments
 rows_of m = map vec_items m.rows.items
-
--- The rows of segments of which no word is taken.
-abbrev pub blank_rows : List (Bor (List ℕ)) → Segments
-blank_rows segments = map (λ s. replicate (length s.now / 8) 0) segments
 
 -- None of the n words of a row from a position on is taken; or one is.
 abbrev pub AreFreeWithin : List ℕ → ℕ → ℕ → Type 0
@@ -46,12 +41,9 @@ pub record TakesEach (M N : Segments) (is : ℕ → ℕ → ℕ) : Type 0 where
   pub marks : (u q : ℕ) → word_at N u q ≡ word_at M u q + is u q
   pub fewer : free N ≤ free M
 
--- One of the words is taken already.
-abbrev pub IsTakenAlready : Segments → (ℕ → ℕ → ℕ) → Type 0
-IsTakenAlready M is = (u : ℕ) × (q : ℕ) × (0 < is u q) × (0 < word_at M u q)
-
 -- The landing pads of the word x are taken from M to N, if it is a far pointer; or they aren't
 -- there, or one of their words is taken already.
 abbrev pub TakesPads : Segments → Segments → ℕ → Bool → Type 0
 TakesPads M N x true = TakesEach M N (times (pads_of x))
-TakesPads M N x false = PadsInside M x → IsTakenAlready M (times (pads_of x))
+TakesPads M N x false =
+    PadsInside M x → (u : ℕ) × (q : ℕ) × (0 < times (pads_of x) u q) × (0 < word_at M u q)

@@ -1,5 +1,5 @@
 -- What a step of the walk over a message does: each word that is reached is marked once.
-use Rattle.std.specs.Prelude.{◌≡◌, ℕ, ◌+◌, ◌^◌, ◌<◌, ◌≤◌, ◌↔◌, List, ◌∷◌, length, slice_index}
+use Rattle.std.specs.Prelude.{◌≡◌, ℕ, ◌+◌, ◌^◌, ◌<◌, ◌≤◌, ◌↔◌, List, ◌∷◌, length}
 use Rattle.std.specs.Global.{Vec}
 use Rattle.capnp_format.specs.Segments.{Segments, segment, word_at, Target}
 use Rattle.layout_vectors.specs.Counts.{Counts, ObjectCounts, IsOnce, Counting}
@@ -47,10 +47,3 @@ pub record Goes (S : Segments) (j : Spot) (w v : Walk) : Type 0 where
 
 abbrev pub FailsWalk : Segments → Spot → Walk → Type 0
 FailsWalk S j w = (F : Counting) → Counts S (word_at w.marks) (j ∷ w.pending) F → IsOnce F → ⊥
-
--- Each word that isn't marked is zero; of one segment.
-abbrev pub IsZeroWhereFree : Segments → Segments → Type 0
-IsZeroWhereFree S M = (u q : ℕ) → word_at M u q ≡ 0 → word_at S u q ≡ 0
-
-abbrev pub IsZeroBehind : List ℕ → List ℕ → Type 0
-IsZeroBehind ws row = (q : ℕ) → slice_index row q ≡ 0 → slice_index ws q ≡ 0

@@ -34,11 +34,4 @@ impl ReaderSegments for OutputSegments<'_> {
             OutputSegments::MultiSegment(segments) => segments.len(),
         }
     }
-
-    fn is_empty(&self) -> bool {
-        match self {
-            OutputSegments::SingleSegment(_) => false,
-            OutputSegments::MultiSegment(segments) => segments.is_empty(),
-        }
-    }
 }

@@ -18,7 +18,10 @@ pub trait ReaderSegments {
 
     /// Whether there are none.
     fn is_empty(&self) -> bool
-        ensures { IsTrue result ↔ (length (segments self.now) ≡ 0) };
+        ensures { IsTrue result ↔ (length (segments self.now) ≡ 0) }
+    {
+        self.len() == 0
+    }
 }
 
 /// Borrowed segments, within the limits of a reader.
@@ -57,9 +60,5 @@ impl ReaderSegments for SegmentArray<'_> {
 
     fn len(&self) -> usize {
         self.segments.len()
-    }
-
-    fn is_empty(&self) -> bool {
-        self.segments.is_empty()
     }
 }

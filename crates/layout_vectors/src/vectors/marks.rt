@@ -1,10 +1,10 @@
 //! Which words of a message are taken.
-ghost use Rattle.std.specs.Prelude.{◌≡◌, ◌≢◌, ℕ, ◌+◌, ◌<◌, ◌≤◌, List, IsTrue, IfOk, IfErr, Bool, false, length, map, replicate, slice_index, slice_get, vec_items};
+ghost use Rattle.std.specs.Prelude.{◌≡◌, ◌≢◌, ℕ, ◌+◌, ◌/◌, ◌<◌, ◌≤◌, List, IsTrue, IfOk, IfErr, Bool, false, length, map, replicate, slice_index, slice_get, vec_items};
 ghost use borrow.Rule.Slice.PartMut.{put_mid};
 ghost use Rattle.capnp_format.specs.Segments.{segment, word_at};
 ghost use Rattle.capnp_arena.specs.declared.arena.reader_segments.ReaderSegments.{Ghosts};
 ghost use Rattle.capnp_words.specs.declared.error.ErrorKind.TheVariants.{AllocationFailed};
-ghost use Rattle.layout_vectors.specs.Marks.{rows_of, blank_rows, TakesRow, IsMarkedWithin, AreFreeWithin};
+ghost use Rattle.layout_vectors.specs.Marks.{rows_of, TakesRow, IsMarkedWithin, AreFreeWithin};
 
 use capnp_words::error::ErrorKind;
 use std::alloc::Global;
@@ -51,7 +51,7 @@ fn blank_row(alloc: Global, words: usize) -> Result<Vec<u8>, ErrorKind>
 impl Marks {
     /// No word of these segments is taken.
     pub(crate) fn new(alloc: Global, segments: &[&[u8]]) -> Result<Self, ErrorKind>
-        ensures blank { IfOk result (λ m. rows_of m ≡ blank_rows segments.now) }
+        ensures blank { IfOk result (λ m. rows_of m ≡ map (λ s. replicate (length s.now / 8) 0) segments.now) }
         ensures named { IfErr result (λ e. e ≡ AllocationFailed) }
     {
         let mut rows = Vec::new(alloc);

@@ -1,5 +1,5 @@
 //! The audit: a walk over a message from its root, with each word that is reached marked.
-ghost use Rattle.std.specs.Prelude.{◌≡◌, ℕ, ◌+◌, ◌<◌, ◌↔◌, ◌∷◌, [], IsTrue, IfOk, IfErr, false, length, map};
+ghost use Rattle.std.specs.Prelude.{◌≡◌, ℕ, ◌+◌, ◌<◌, ◌↔◌, ◌∷◌, [], IsTrue, IfOk, IfErr, false, length, map, slice_index};
 ghost use Rattle.capnp_arena_traits.specs.Limits.{AreSmall};
 ghost use Rattle.capnp_format.specs.Bytes.{words_of, message};
 ghost use Rattle.capnp_format.specs.Forest.{IsForest};
@@ -7,7 +7,7 @@ ghost use Rattle.capnp_format.specs.Segments.{IsPlace, segment, word_at};
 ghost use Rattle.capnp_format.specs.Tree.{Tree};
 ghost use Rattle.capnp_words.specs.declared.error.ErrorKind.TheVariants.{AllocationFailed};
 ghost use Rattle.layout_vectors.specs.Marks.{rows_of, TakesPads};
-ghost use Rattle.layout_vectors.specs.Walks.{walk, Goes, FailsWalk, FitsRows, IsZeroWhereFree, IsZeroBehind};
+ghost use Rattle.layout_vectors.specs.Walks.{walk, Goes, FailsWalk, FitsRows};
 
 use crate::vectors::landing::{follow, word_of};
 use crate::vectors::marks::Marks;
@@ -117,7 +117,8 @@ fn take_pads(marks: &mut Marks, word: WirePointer) -> bool
 /// Whether each word that isn't taken is zero.
 fn rest_is_zero<A: ReaderArena>(arena: &A, marks: &Marks) -> bool
     requires { FitsRows (message (A.segments arena.now)) (rows_of marks.now) }
-    ensures { IsTrue result ↔ IsZeroWhereFree (message (A.segments arena.now)) (rows_of marks.now) }
+    ensures { IsTrue result ↔ ((u q : ℕ) → word_at (rows_of marks.now) u q ≡ 0
+        → word_at (message (A.segments arena.now)) u q ≡ 0) }
 {
     for (id, row) in marks.rows.iter().enumerate() {
         let is_zero = match arena.get_segment(id as u32) {
@@ -134,7 +135,8 @@ fn rest_is_zero<A: ReaderArena>(arena: &A, marks: &Marks) -> bool
 /// Whether each word of a segment that isn't taken is zero, by its bytes and the marks of its words.
 fn is_zero_behind(bytes: &[u8], row: &[u8]) -> bool
     requires { length row.now ≡ length (words_of bytes.now) }
-    ensures { IsTrue result ↔ IsZeroBehind (words_of bytes.now) row.now }
+    ensures { IsTrue result
+        ↔ ((q : ℕ) → slice_index row.now q ≡ 0 → slice_index (words_of bytes.now) q ≡ 0) }
 {
     for (i, taken) in row.iter().enumerate() {
         if *taken == 0 && words::word_at(bytes, i) != 0 {

@@ -7,8 +7,8 @@ use Rattle.layout_vectors.specs.Landings.{target_at}
 use Rattle.layout_vectors.specs.Walks.{Walk, walk}
 use Rattle.capnp_format.specs.Forest.{times, pads_of}
 use Rattle.capnp_format.specs.Forest.{PadsInside}
-use Rattle.layout_vectors.specs.Marks.{rows_of, TakesEach, TakesPads, IsTakenAlready}
-use Rattle.layout_vectors.proofs.Steps.{null_walked, pointer_walked, pointer_unwalked, pads_refused, nowhere_fails, ok_map}
+use Rattle.layout_vectors.specs.Marks.{rows_of, TakesEach, TakesPads}
+use Rattle.layout_vectors.proofs.Steps.{IsTakenAlready, null_walked, pointer_walked, pointer_unwalked, pads_refused, nowhere_fails, ok_map}
 use Rattle.layout_vectors.proofs.vectors.walk.walk_pointer.Goals as goal
 
 pub returns-then-is_null-clause-goes : goal.returns-then-is_null-clause-goes
