@@ -6,13 +6,13 @@ use Rattle.std.proofs.lemmas.List.{take-append-le}
 use Rattle.std.proofs.lemmas.List.Elements.{All-head, All-tail}
 use Rattle.std.proofs.lemmas.Nat.{from_le_bytes-to_le_bytes_4, from_le_bytes-to_le_bytes_8}
 use borrow.Rule.Slice.PartMut.{put_mid}
-use Rattle.capnp_format.specs.Bytes.{words_of}
+use Rattle.capnp_format.specs.Bytes.{message, words_of}
 use Rattle.capnp_arena_traits.specs.Limits.{IsSmall}
-use Rattle.capnp_framing.specs.Bare.{NoBareWords, most_bare, word_cut, words_beyond}
+use Rattle.capnp_framing.specs.Bare.{AreBareWords, NoBareWords, most_bare, word_cut, words_beyond}
 use Rattle.capnp_framing.specs.Flat.{AreEnds, first_told, parts}
 use Rattle.capnp_framing.specs.Frames.{AreSegmentWords, bytes_of_words}
-use Rattle.capnp_framing.specs.Laws.{BareWordsAreRead, WordsAreBare}
 use Rattle.capnp_framing.specs.Reading.{words_told}
+use Rattle.capnp_framing.specs.declared.framing.frame_error.FrameError.{FrameError}
 use Rattle.capnp_framing.specs.declared.framing.frame_error.FrameError.TheVariants.{MessageTooLong, Truncated}
 use Rattle.capnp_framing.proofs.OwnedLemmas.{ends_more}
 use Rattle.capnp_framing.proofs.ReadingLemmas.{bytes-length, read_more}
@@ -88,7 +88,7 @@ only_small segments bytes only short = subst IsSmall (sym only) (omega arith, on
 
 -- whole words within the limit are refused for nothing that they hold
 
-pub bare_words_are_read : BareWordsAreRead
+pub bare_words_are_read : (bytes : List ℕ) (most : ℕ) (e : FrameError) → AreBareWords bytes most → NoBareWords bytes most e → ⊥
 bare_words_are_read bytes most e is (words_beyond long named) = let short = is.short in omega (arith, short, long)
 bare_words_are_read bytes most e is (word_cut less part named) = part is.whole
 
@@ -97,7 +97,7 @@ words-bytes [] small = refl
 words-bytes (w ∷ ws) small =
     ap₂ (λ x (xs : List ℕ). x ∷ xs) (from_le_bytes-to_le_bytes_8 w (All-head (λ x. x < 2 ^ 64) w ws small)) (words-bytes ws (All-tail (λ x. x < 2 ^ 64) w ws small))
 
-pub words_are_bare : WordsAreBare
+pub words_are_bare : (ws : List ℕ) (most : ℕ) → AreSegmentWords ws → length ws ≤ most_bare most → AreBareWords (bytes_of_words ws) most × (message (bytes_of_words ws ∷ []) ≡ ws ∷ [])
 words_are_bare ws most small short =
     let long = bytes-length ws in
     (record { whole = omega (arith, long); short = omega (arith, long, short) }, ap (λ (vs : List ℕ). vs ∷ []) (words-bytes ws small))

@@ -6,8 +6,7 @@ use Rattle.std.proofs.lemmas.List.{length-replicate}
 use Rattle.std.proofs.lemmas.List.Elements.{All-head, All-tail}
 use Rattle.std.proofs.lemmas.Nat.{from_le_bytes-to_le_bytes_4, from_le_bytes-to_le_bytes_8}
 use Rattle.capnp_format.specs.Segments.{Segments}
-use Rattle.capnp_framing.specs.Frames.{AreSegmentWords, bytes_of_words, lengths, contents, padding_size, IsFrameOf, frame_with, frame}
-use Rattle.capnp_framing.specs.Laws.{OneFrameBegins, OneMessage, WrittenIsFrame, SameFrames}
+use Rattle.capnp_framing.specs.Frames.{AreSegmentWords, CanBeFramed, bytes_of_words, lengths, contents, padding_size, IsFrameOf, frame_with, frame}
 
 -- two lists with the same front of one length
 same_front : (xs ys : List ℕ) {us vs : List ℕ} → length xs ≡ length ys → xs ++ us ≡ ys ++ vs → (xs ≡ ys) × (us ≡ vs)
@@ -72,7 +71,7 @@ behind p S rest =
     ∙ ap (λ (xs : List ℕ). to_le_bytes w32 (length S - 1) ++ xs)
     (append_assoc (lengths S) (p ++ contents S) rest ∙ ap (λ (xs : List ℕ). lengths S ++ xs) (append_assoc p (contents S) rest))
 
-pub one_frame_begins : OneFrameBegins
+pub one_frame_begins : (S R : Segments) (a b rest more : List ℕ) → IsFrameOf S a → IsFrameOf R b → a ++ rest ≡ b ++ more → (S ≡ R) × (a ≡ b) × (rest ≡ more)
 one_frame_begins S R a b rest more f g e =
     let p = f.padding in
     let q = g.padding in
@@ -84,11 +83,11 @@ one_frame_begins S R a b rest more f g e =
     let words = same_contents S R table.0 f.message.words g.message.words padding.1 in
     (words.0, f.is ∙ ap₂ frame_with padding.0 words.0 ∙ sym g.is, words.1)
 
-pub one_message : OneMessage
+pub one_message : (S R : Segments) (bytes : List ℕ) → IsFrameOf S bytes → IsFrameOf R bytes → S ≡ R
 one_message S R bytes f g = (one_frame_begins S R bytes bytes [] [] f g refl).0
 
-pub written_is_frame : WrittenIsFrame
+pub written_is_frame : (S : Segments) → CanBeFramed S → IsFrameOf S (frame S)
 written_is_frame S h = record { message = h; padding = replicate (padding_size (length S)) 0; padded = length-replicate (padding_size (length S)) 0; is = refl }
 
-pub same_frames : SameFrames
+pub same_frames : (S R : Segments) → CanBeFramed S → CanBeFramed R → frame S ≡ frame R → S ≡ R
 same_frames S R h k e = one_message S R (frame R) (subst (IsFrameOf S) e (written_is_frame S h)) (written_is_frame R k)

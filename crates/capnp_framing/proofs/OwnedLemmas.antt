@@ -1,14 +1,15 @@
 -- What is read into memory is a frame.
-use Rattle.std.proofs.Common.{◌≡◌, ℕ, ◌+◌, ◌*◌, ◌<◌, ◌≤◌, List, [], ◌∷◌, ◌++◌, length, get_or, take, drop, sym, ap, ◌∙◌, arith, length-take, take-append-drop, slice_index}
+use Rattle.std.proofs.Common.{◌≡◌, ℕ, ◌+◌, ◌*◌, ◌<◌, ◌≤◌, List, [], ◌∷◌, ◌++◌, length, get_or, take, drop, sym, ap, ◌∙◌, arith, length-take, take-append-drop, take_all, subst, Option, Some, None, slice_index}
 use Rattle.std.proofs.lemmas.List.{get_or_append_left}
 use Rattle.std.proofs.Math.Seq.{get_or-append_seam}
 use Rattle.std.specs.Int.{from_le_bytes, w32}
+use Rattle.std.specs.Prelude.{IfSome, OnSome}
 use borrow.Author.Count.{below_more}
 use Rattle.capnp_format.specs.Bytes.{message}
 use Rattle.capnp_arena_traits.specs.Limits.{IsSmall}
 use Rattle.capnp_framing.specs.Flat.{parts}
 use Rattle.capnp_framing.specs.Frames.{IsFrameOf, contents, padding_size}
-use Rattle.capnp_framing.specs.Reading.{words_told}
+use Rattle.capnp_framing.specs.Reading.{segments_told, words_told}
 use Rattle.capnp_framing.proofs.FlatLemmas.{AreParts, length-parts}
 use Rattle.capnp_framing.proofs.ReadingLemmas.{AtTable, frame_read, small_from_short}
 
@@ -26,6 +27,25 @@ pub record AtOwned (first : List ℕ) (n : ℕ) (table words : List ℕ) : Type 
   pub told : n ≡ from_le_bytes w32 first + 1
   pub few : n ≤ 512
   pub room : 4 * n + padding_size n ≤ length table
+
+-- what is so of a number that was read, and with it
+pub of_count : (P : ℕ → Type 0) (m : Option ℕ) {n : ℕ} → m ≡ Some n → IfSome m P → P n
+of_count P None same h = absurd (let wrong : ⊥ = cc in wrong)
+of_count P (Some k) {n} same h = subst P (let e : k ≡ n = cc in e) h
+
+pub with_count : (P : Type 0) (m : Option ℕ) {n : ℕ} → m ≡ Some n → OnSome m P → P
+with_count P None same h = absurd (let wrong : ⊥ = cc in wrong)
+with_count P (Some k) same h = h
+
+-- The number of segments was read, and then the table.
+pub at_owned : (first : List ℕ) {n : ℕ} {table : List ℕ} (words : List ℕ) (m : Option ℕ) → m ≡ Some n → length first ≡ 4 →
+    IfSome m (λ k. k ≡ segments_told first) → IfSome m (λ k. k ≤ 512) → 4 * n + padding_size n ≤ length table → AtOwned first n table words
+at_owned first {n} words m same four told few room = record {
+  four = four;
+  told = of_count (λ k. k ≡ segments_told first) m same told ∙ ap (λ (xs : List ℕ). from_le_bytes w32 xs + 1) (take_all 4 first (omega (arith, four)));
+  few = of_count (λ k. k ≤ 512) m same few;
+  room = room;
+}
 
 -- of which the lengths and the padding are read
 pub front : {first table words : List ℕ} {n : ℕ} → AtOwned first n table words → AtTable first (take (4 * n + padding_size n) table) n

@@ -8,12 +8,11 @@ use Rattle.std.proofs.lemmas.List.{take-append-le, drop-append-le, length-replic
 use Rattle.std.proofs.lemmas.Nat.{from_le_bytes-to_le_bytes_4, le_bytes_4}
 use Rattle.capnp_format.specs.Bytes.{message, words_of}
 use Rattle.capnp_framing.proofs.TableLemmas.{length-lengths}
-use Rattle.capnp_framing.specs.Laws.{FrameIsRead, FramesAreAsLong}
 use borrow.Rule.Slice.PartMut.{put_mid}
 use Rattle.capnp_format.specs.Segments.{Segments}
 use Rattle.capnp_format.proofs.WordsOf.{words}
 use Rattle.std.proofs.lemmas.List.Elements.{All-head, All-tail}
-use Rattle.capnp_framing.specs.Frames.{AreSegmentWords, IsFrameOf, bytes_of_words, contents, frame_with, lengths, padding_size}
+use Rattle.capnp_framing.specs.Frames.{AreSegmentWords, IsFrameOf, bytes_of_words, contents, frame, frame_with, lengths, padding_size}
 use Rattle.capnp_framing.specs.Reading.{HasTable, NoFrame, WhyUnread, words_in_table, segments_told, table_size, count_cut, table_cut, too_long, too_many, total, words_cut, words_told}
 use Rattle.capnp_framing.specs.declared.framing.frame_error.FrameError.TheVariants.{MessageTooLong, Truncated}
 use Rattle.capnp_framing.specs.declared.devices.Input.{Ghosts}
@@ -179,13 +178,13 @@ length-frame_with padding S padded =
       padded,
     )
 
-pub frames_as_long : FramesAreAsLong
+pub frames_as_long : (S : Segments) (bytes : List ℕ) → IsFrameOf S bytes → length bytes ≡ length (frame S)
 frames_as_long S bytes f =
     ap length f.is
     ∙ length-frame_with f.padding S f.padded
     ∙ sym (length-frame_with (replicate (padding_size (length S)) 0) S (length-replicate (padding_size (length S)) 0))
 
-pub frame_is_read : FrameIsRead
+pub frame_is_read : (S : Segments) (bytes rest : List ℕ) (most : ℕ) (e : FrameError) → IsFrameOf S bytes → total S ≤ most → NoFrame (bytes ++ rest) most e → ⊥
 frame_is_read S bytes rest most e f small wrong =
     let n : ℕ = length S in
     let first : List ℕ = to_le_bytes w32 (n - 1) in

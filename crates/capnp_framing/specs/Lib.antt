@@ -1,7 +1,6 @@
 pub mod Bare
 pub mod Flat
 pub mod Frames
-pub mod Laws
 pub mod Memory
 pub mod Names
 pub mod Reading

@@ -1,5 +1,5 @@
 -- How often memory was refused, where no message is read.
-use Rattle.std.specs.Prelude.{◌≡◌, ℕ}
+use Rattle.std.specs.Prelude.{ℕ}
 use Rattle.capnp_arena_traits.specs.Allocations.{one_more}
 use Rattle.capnp_framing.specs.declared.framing.frame_error.FrameError.{FrameError}
 use Rattle.capnp_framing.specs.declared.framing.frame_error.FrameError.TheVariants.{AllocationFailed}
@@ -9,7 +9,3 @@ use Rattle.capnp_framing.specs.declared.framing.frame_error.FrameError.TheVarian
 abbrev pub frame_refusals : FrameError → ℕ → ℕ
 frame_refusals AllocationFailed n = one_more n
 frame_refusals _ n = n
-
--- A refusal is none of memory.
-abbrev pub IsOfNoMemory : FrameError → Type 0
-IsOfNoMemory e = (n : ℕ) → frame_refusals e n ≡ n

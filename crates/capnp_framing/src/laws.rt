@@ -1,29 +1,43 @@
 //! What frames tell beyond one call. Each function does nothing: its contract is the law, proved for all messages
 //! ("Serialization Over a Stream").
 
-ghost use Rattle.capnp_framing.specs.Laws.{BareWordsAreRead, FrameIsRead, FramesAreAsLong, OneFrameBegins, OneMessage, WordsAreBare, WrittenIsFrame, SameFrames};
+ghost use Rattle.std.specs.Prelude.{◌≡◌, ℕ, ◌≤◌, List, [], ◌∷◌, ◌++◌, length};
+ghost use Rattle.capnp_format.specs.Bytes.{message};
+ghost use Rattle.capnp_format.specs.Segments.{Segments};
+ghost use Rattle.capnp_framing.specs.Bare.{AreBareWords, NoBareWords, most_bare};
+ghost use Rattle.capnp_framing.specs.Frames.{AreSegmentWords, CanBeFramed, IsFrameOf, bytes_of_words, frame};
+ghost use Rattle.capnp_framing.specs.Reading.{NoFrame, total};
+ghost use Rattle.capnp_framing.specs.declared.framing.frame_error.FrameError.{FrameError};
 
-/// Bytes are a frame of one message at most, and no frame begins another one.
+/// Where two frames begin the same bytes they are one, of one message: bytes are a frame of one message at most, and no
+/// frame begins another one.
 pub fn one_frame()
-    ensures begins { OneFrameBegins }
-    ensures message { OneMessage }
+    ensures begins { (S R : Segments) (a b rest more : List ℕ) → IsFrameOf S a → IsFrameOf R b
+        → a ++ rest ≡ b ++ more → (S ≡ R) × (a ≡ b) × (rest ≡ more) }
+    ensures message { (S R : Segments) (bytes : List ℕ) → IsFrameOf S bytes → IsFrameOf R bytes
+        → S ≡ R }
 {}
 
-/// What is written for a message is a frame of it, as long as any other frame of it, and a frame of no other message.
+/// What is written for a message is a frame of it, as long as any other frame of it, whatever that one's padding holds,
+/// and a frame of no other message.
 pub fn written_frames()
-    ensures framed { WrittenIsFrame }
-    ensures long { FramesAreAsLong }
-    ensures same { SameFrames }
+    ensures framed { (S : Segments) → CanBeFramed S → IsFrameOf S (frame S) }
+    ensures long { (S : Segments) (bytes : List ℕ) → IsFrameOf S bytes
+        → length bytes ≡ length (frame S) }
+    ensures same { (S R : Segments) → CanBeFramed S → CanBeFramed R → frame S ≡ frame R → S ≡ R }
 {}
 
 /// A frame of at most so many words is refused for nothing that it holds, whatever stands behind it.
 pub fn frame_is_read()
-    ensures { FrameIsRead }
+    ensures { (S : Segments) (bytes rest : List ℕ) (most : ℕ) (e : FrameError) → IsFrameOf S bytes
+        → total S ≤ most → NoFrame (bytes ++ rest) most e → ⊥ }
 {}
 
-/// The bytes of a segment's words are read as the message of that segment alone, and whole words within the limit on
-/// words are refused for nothing that they hold.
+/// The bytes of the words of a segment, of which so many may be, are its bare words: they mean the message of that
+/// segment alone. And whole words, of which so many may be, are refused for nothing that they hold.
 pub fn bare_words()
-    ensures same { WordsAreBare }
-    ensures read { BareWordsAreRead }
+    ensures same { (ws : List ℕ) (most : ℕ) → AreSegmentWords ws → length ws ≤ most_bare most
+        → AreBareWords (bytes_of_words ws) most × (message (bytes_of_words ws ∷ []) ≡ ws ∷ []) }
+    ensures read { (bytes : List ℕ) (most : ℕ) (e : FrameError) → AreBareWords bytes most
+        → NoBareWords bytes most e → ⊥ }
 {}

@@ -101,10 +101,6 @@ impl ReaderSegments for FrameSegments<'_> {
     fn len(&self) -> usize {
         self.count
     }
-
-    fn is_empty(&self) -> bool {
-        self.count == 0
-    }
 }
 
 /// Reads a message from the front of bytes, where they stand: nothing is copied, and no memory is taken. Bytes

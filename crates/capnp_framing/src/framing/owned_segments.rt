@@ -87,10 +87,6 @@ impl ReaderSegments for OwnedSegments {
     fn len(&self) -> usize {
         self.count
     }
-
-    fn is_empty(&self) -> bool {
-        self.count == 0
-    }
 }
 
 /// Those that are lent.
@@ -103,9 +99,5 @@ impl ReaderSegments for &OwnedSegments {
 
     fn len(&self) -> usize {
         (**self).len()
-    }
-
-    fn is_empty(&self) -> bool {
-        (**self).is_empty()
     }
 }

@@ -1,12 +1,13 @@
 //! A message read from a stream of bytes ("Serialization Over a Stream").
-ghost use Rattle.std.specs.Prelude.{◌≡◌, ◌⊎◌, ℕ, ◌<◌, ◌≤◌, ◌+◌, ◌-◌, ◌*◌, [], false, true, length, take, drop, slice_index, Ok, None, IfSome, IfOk, IfErr, OnOk, OnErr};
+ghost use Rattle.std.specs.Prelude.{◌≡◌, ◌⊎◌, ℕ, ◌<◌, ◌≤◌, ◌+◌, ◌-◌, ◌*◌, [], false, true, length, take, drop, slice_index, Ok, None, IfSome, OnSome, IfOk, IfErr, OnOk, OnErr};
 ghost use Rattle.std.specs.Int.{from_le_bytes, w32};
 ghost use Rattle.std.specs.Io.KnownBytes.{Consumes, IsAtEnd};
 ghost use Rattle.capnp_format.specs.Bytes.{message};
 ghost use Rattle.capnp_arena_traits.specs.Limits.{IsSmall};
 ghost use Rattle.capnp_framing.specs.Flat.{AreEnds};
-ghost use Rattle.capnp_framing.specs.Memory.{IsOfNoMemory, frame_refusals};
-ghost use Rattle.capnp_framing.specs.Reading.{HasTaken, IsFrameRead, NoFrame, WhyUnread, max_length, total, words_told};
+ghost use Rattle.capnp_framing.specs.Frames.{max_frame_segments};
+ghost use Rattle.capnp_framing.specs.Memory.{frame_refusals};
+ghost use Rattle.capnp_framing.specs.Reading.{HasTaken, IsFrameRead, NoFrame, WhyUnread, max_length, segments_told, total, words_told};
 ghost use Rattle.capnp_framing.specs.Wholeness.{KeepsWhole};
 ghost use Rattle.capnp_framing.specs.declared.framing.frame_error.FrameError.TheVariants.{AllocationFailed, ReadFailed, Truncated};
 
@@ -54,7 +55,7 @@ fn fill<R: Input>(input: &mut R, to: &mut [u8]) -> Result<(), FrameError>
     ensures refused { IfErr result (WhyUnread R.Input input.old input.new (length to.old)) }
     ensures failed { IfErr result (λ e. R.has_failed input.new ≡ true → e ≡ ReadFailed) }
     ensures cut { IfErr result (λ e. e ≡ Truncated → IsAtEnd (R.remaining input.new)) }
-    ensures uncounted { IfErr result IsOfNoMemory }
+    ensures uncounted { IfErr result (λ e. (n : ℕ) → frame_refusals e n ≡ n) }
 {
     match read_up_to(input, to) {
         Ok(n) if n == to.len() => Ok(()),
@@ -135,7 +136,7 @@ fn fill_between<R: Input>(
     ensures refused { IfErr result (WhyUnread R.Input input.old input.new (end - start)) }
     ensures failed { IfErr result (λ e. R.has_failed input.new ≡ true → e ≡ ReadFailed) }
     ensures cut { IfErr result (λ e. e ≡ Truncated → IsAtEnd (R.remaining input.new)) }
-    ensures uncounted { IfErr result IsOfNoMemory }
+    ensures uncounted { IfErr result (λ e. (n : ℕ) → frame_refusals e n ≡ n) }
 {
     fill(input, &mut to[start..end])
 }
@@ -228,6 +229,39 @@ fn are_bytes(bytes: &[u8])
     ensures { (i : ℕ) → slice_index bytes.now i < 256 }
 {}
 
+/// Reads the number of segments, which the first four bytes tell. `None` is an input that is at its end at once.
+#[inline(always)]
+fn read_count<R: Input>(input: &mut R, first: &mut [u8; 4]) -> Result<Option<usize>, FrameError>
+    requires { R.has_failed input.old ≡ false }
+    ensures end { result ≡ Ok None → IsAtEnd (R.remaining input.old) × IsAtEnd (R.remaining input.new) }
+    ensures bytes { IfOk result (λ m. OnSome m
+        (Consumes (R.remaining input.old) (R.remaining input.new) first.new)) }
+    ensures told { IfOk result (λ m. IfSome m (λ n. n ≡ segments_told first.new)) }
+    ensures few { IfOk result (λ m. IfSome m (λ n. n ≤ max_frame_segments)) }
+    ensures below { IfOk result (λ m. OnSome m ((i : ℕ) → slice_index first.new i < 256)) }
+    ensures whole { OnOk result (KeepsWhole (R.ends_whole input.old) (R.ends_whole input.new)) }
+    ensures works { OnOk result (R.has_failed input.new ≡ false) }
+    ensures refused { (most : ℕ) → IfErr result (λ e. (e ≡ AllocationFailed)
+        ⊎ ((e ≡ ReadFailed) × (R.has_failed input.new ≡ true))
+        ⊎ IfSome (R.remaining input.old) (λ bytes. NoFrame bytes most e)) }
+    ensures failed { IfErr result (λ e. R.has_failed input.new ≡ true → e ≡ ReadFailed) }
+    ensures taken { IfErr result (HasTaken R.Input input.old input.new) }
+    ensures uncounted { IfErr result (λ e. (n : ℕ) → frame_refusals e n ≡ n) }
+{
+    match read_up_to(input, first) {
+        Ok(0) => return Ok(None),
+        Ok(4) => {}
+        Ok(_) => return Err(FrameError::Truncated),
+        Err(DeviceFault) => return Err(FrameError::ReadFailed),
+    }
+    are_bytes(first);
+    let told = u64::from(u32::from_le_bytes(*first)) + 1;
+    if told > MAX_SEGMENTS as u64 {
+        return Err(FrameError::TooManySegments(told));
+    }
+    Ok(Some(told as usize))
+}
+
 /// Reads a message from the front of an input into segments that are used again, and leaves what stands behind it.
 /// `false` is an input that is at its end at once; there are no segments then.
 ///
@@ -269,18 +303,10 @@ pub fn read_into_with<A: Allocator, R: Input>(
 {
     into.count = 0;
     let mut first = [0u8; 4];
-    match read_up_to(input, &mut first) {
-        Ok(0) => return Ok(false),
-        Ok(4) => {}
-        Ok(_) => return Err(FrameError::Truncated),
-        Err(DeviceFault) => return Err(FrameError::ReadFailed),
-    }
-    are_bytes(&first);
-    let told = u64::from(u32::from_le_bytes(first)) + 1;
-    if told > MAX_SEGMENTS as u64 {
-        return Err(FrameError::TooManySegments(told));
-    }
-    let count = told as usize;
+    let count = match read_count(input, &mut first)? {
+        Some(count) => count,
+        None => return Ok(false),
+    };
     let size = 4 * count + 4 * ((count + 1) % 2);
     read_front(allocator, input, &mut into.table, size)?;
     let words = ends_of(allocator, into.table.as_slice(), count, &mut into.ends)?;

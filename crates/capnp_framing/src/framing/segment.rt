@@ -1,10 +1,10 @@
 //! A message of one segment read as its bare words, without a frame ("Messages").
-ghost use Rattle.std.specs.Prelude.{◌≡◌, ◌⊎◌, ◌<◌, ◌≤◌, ◌+◌, ◌++◌, [], false, true, length, take, drop, IfSome, IfOk, IfErr, OnOk, OnErr};
+ghost use Rattle.std.specs.Prelude.{◌≡◌, ◌⊎◌, ℕ, ◌<◌, ◌≤◌, ◌+◌, ◌++◌, [], false, true, length, take, drop, IfSome, IfOk, IfErr, OnOk, OnErr};
 ghost use Rattle.std.specs.Io.KnownBytes.{Consumes, IsAtEnd};
 ghost use Rattle.capnp_arena_traits.specs.Limits.{IsSmall};
 ghost use Rattle.capnp_framing.specs.Bare.{HasTakenBare, IsSegmentRead, NoBareWords};
 ghost use Rattle.capnp_framing.specs.Flat.{AreEnds};
-ghost use Rattle.capnp_framing.specs.Memory.{IsOfNoMemory, frame_refusals};
+ghost use Rattle.capnp_framing.specs.Memory.{frame_refusals};
 ghost use Rattle.capnp_framing.specs.Reading.{words_told};
 ghost use Rattle.capnp_framing.specs.Wholeness.{KeepsWhole};
 ghost use Rattle.capnp_framing.specs.declared.framing.frame_error.FrameError.TheVariants.{AllocationFailed, ReadFailed};
@@ -40,7 +40,7 @@ fn read_between<R: Input>(
     ensures whole { OnOk result (KeepsWhole (R.ends_whole input.old) (R.ends_whole input.new)) }
     ensures works { OnOk result (R.has_failed input.new ≡ false) }
     ensures refused { IfErr result (λ e. (e ≡ ReadFailed) × (R.has_failed input.new ≡ true)) }
-    ensures uncounted { IfErr result IsOfNoMemory }
+    ensures uncounted { IfErr result (λ e. (n : ℕ) → frame_refusals e n ≡ n) }
 {
     match read_up_to(input, &mut to[start..end]) {
         Ok(n) => Ok(n),

@@ -1,4 +1,4 @@
-use Rattle.std.proofs.Common.{◌≡◌, ◌+◌, ◌*◌, ◌%◌, ◌++◌, ◌<◌, ℕ, List, rules, inl, inr, get_or, take, drop, sym, ap, subst, arith, take_all, ◌∙◌, take-append-drop}
+use Rattle.std.proofs.Common.{◌≡◌, ◌+◌, ◌*◌, ◌%◌, ◌++◌, ◌<◌, ◌≤◌, ℕ, List, rules, inl, inr, get_or, take, drop, sym, ap, subst, arith, ◌∙◌, take-append-drop}
 use Rattle.std.specs.Io.KnownBytes.{Consumes}
 use Rattle.std.proofs.lemmas.Result.{err_from_is_err_and}
 use Rattle.capnp_format.specs.Bytes.{message}
@@ -8,59 +8,54 @@ use Rattle.capnp_framing.specs.Frames.{contents}
 use Rattle.capnp_framing.specs.Reading.{NoFrame, words_told}
 use Rattle.capnp_framing.specs.declared.framing.frame_error.FrameError.TheVariants.{MessageTooLong}
 use Rattle.capnp_framing.proofs.FlatLemmas.{AreParts, are_parts}
-use Rattle.capnp_framing.proofs.OwnedLemmas.{AtOwned, front, owned_frame, owned_small}
+use Rattle.capnp_framing.proofs.OwnedLemmas.{AtOwned, at_owned, front, of_count, owned_frame, owned_small, with_count}
 use Rattle.capnp_framing.proofs.ReadingLemmas.{consumes_both, cut_table, long_table, read_so, table_long, whatever}
 use Rattle.capnp_framing.proofs.WholenessLemmas.{keeps_whole_both}
 use Rattle.capnp_framing.proofs.framing.reading.read_into_with.Goals as goal
 
 pub returns-then-words-max_words-clause-refused : goal.returns-then-words-max_words-clause-refused
 returns-then-words-max_words-clause-refused g c =
-    let first : List ℕ = c.read_up_to.new.to in
-    let n : ℕ = c.from-told.result + 1 in
+    let first : List ℕ = c.read_count.new.first in
+    let n : ℕ = c.in-Some.count in
     let size : ℕ = 4 * n + 4 * ((n + 1) % 2) in
     let table : List ℕ = c.read_front.new.to.items in
-    let at : AtOwned first n table c.args.into.now.words.items = record {
-      four = omega (arith, c.read_up_to.auto.to);
-      told = omega (arith, c.from-told.ensures, c.from_le_bytes.ensures);
-      few = omega (arith, c.if-told.false);
-      room = c.in_ok-read_front.ensures.long;
-    } in
-    let f = subst (λ (xs : List ℕ). Consumes (g.R.Input.remaining c.args.input.now) (g.R.Input.remaining c.read_up_to.new.input) xs) (take_all c.in-Ok-eq4.field-0 first (omega (arith, c.in-Ok-eq4.field-0-is, c.read_up_to.auto.to))) c.in-Ok-eq4.ensures.bytes in
+    let at : AtOwned first n table c.args.into.now.words.items =
+    at_owned first c.args.into.now.words.items c.in_ok-count.field-0 c.in-Some.is (omega (arith, c.read_count.auto.first)) c.in_ok-count.ensures.told c.in_ok-count.ensures.few c.in_ok-read_front.ensures.long in
+    let f = with_count (Consumes (g.R.Input.remaining c.args.input.now) (g.R.Input.remaining c.read_count.new.input) first) c.in_ok-count.field-0 c.in-Some.is c.in_ok-count.ensures.bytes in
     let sum : c.in_ok-words.words ≡ words_told n (take size table ++ drop size table) = c.in_ok-words.ensures.sum ∙ ap (words_told n) (c.as_slice.ensures.value ∙ sym (take-append-drop size table)) in
     inr (inr (read_so _ _ _ first (take size table) (λ _. Unit {0}) (λ bytes. NoFrame bytes c.args.max_words (MessageTooLong c.in_ok-words.words)) f c.in_ok-read_front.ensures.bytes (whatever _)
     (λ rest _. long_table rest (drop size table) c.in_ok-words.words c.args.max_words (front at) sum c.if-words-max_words.true)))
 
 pub returns-then-words-max_words-clause-taken : goal.returns-then-words-max_words-clause-taken
 returns-then-words-max_words-clause-taken g c =
-    let first : List ℕ = c.read_up_to.new.to in
-    let n : ℕ = c.from-told.result + 1 in
+    let first : List ℕ = c.read_count.new.first in
+    let n : ℕ = c.in-Some.count in
     let size : ℕ = 4 * n + 4 * ((n + 1) % 2) in
     let table : List ℕ = c.read_front.new.to.items in
-    let at : AtOwned first n table c.args.into.now.words.items = record {
-      four = omega (arith, c.read_up_to.auto.to);
-      told = omega (arith, c.from-told.ensures, c.from_le_bytes.ensures);
-      few = omega (arith, c.if-told.false);
-      room = c.in_ok-read_front.ensures.long;
-    } in
-    let f = subst (λ (xs : List ℕ). Consumes (g.R.Input.remaining c.args.input.now) (g.R.Input.remaining c.read_up_to.new.input) xs) (take_all c.in-Ok-eq4.field-0 first (omega (arith, c.in-Ok-eq4.field-0-is, c.read_up_to.auto.to))) c.in-Ok-eq4.ensures.bytes in
+    let at : AtOwned first n table c.args.into.now.words.items =
+    at_owned first c.args.into.now.words.items c.in_ok-count.field-0 c.in-Some.is (omega (arith, c.read_count.auto.first)) c.in_ok-count.ensures.told c.in_ok-count.ensures.few c.in_ok-read_front.ensures.long in
+    let f = with_count (Consumes (g.R.Input.remaining c.args.input.now) (g.R.Input.remaining c.read_count.new.input) first) c.in_ok-count.field-0 c.in-Some.is c.in_ok-count.ensures.bytes in
     (first ++ take size table, table_long (front at), consumes_both _ _ _ first (take size table) f c.in_ok-read_front.ensures.bytes)
 
 pub overflow_mul-words : goal.overflow_mul-words
-overflow_mul-words g c = omega (arith, c.in_ok-words.ensures.small, c.if-told.false)
+overflow_mul-words g c =
+    let few : c.in-Some.count ≤ 512 = of_count (λ k. k ≤ 512) c.in_ok-count.field-0 c.in-Some.is c.in_ok-count.ensures.few in
+    omega (arith, c.in_ok-words.ensures.small, few)
+
+pub returns-in_err-count-clause-refused : goal.returns-in_err-count-clause-refused
+returns-in_err-count-clause-refused g c =
+    let p = err_from_is_err_and c.from_residual.result c.from_residual.ensures.1 in
+    rw (p.1, p.2) (c.in_err-count.ensures.refused c.args.max_words)
 
 pub returns-in_err-read_front-2-clause-refused : goal.returns-in_err-read_front-2-clause-refused
 returns-in_err-read_front-2-clause-refused g c =
-    let first : List ℕ = c.read_up_to.new.to in
-    let n : ℕ = c.from-told.result + 1 in
+    let first : List ℕ = c.read_count.new.first in
+    let n : ℕ = c.in-Some.count in
     let size : ℕ = 4 * n + 4 * ((n + 1) % 2) in
     let table : List ℕ = c.read_front.new.to.items in
-    let at : AtOwned first n table c.args.into.now.words.items = record {
-      four = omega (arith, c.read_up_to.auto.to);
-      told = omega (arith, c.from-told.ensures, c.from_le_bytes.ensures);
-      few = omega (arith, c.if-told.false);
-      room = c.in_ok-read_front.ensures.long;
-    } in
-    let f = subst (λ (xs : List ℕ). Consumes (g.R.Input.remaining c.args.input.now) (g.R.Input.remaining c.read_up_to.new.input) xs) (take_all c.in-Ok-eq4.field-0 first (omega (arith, c.in-Ok-eq4.field-0-is, c.read_up_to.auto.to))) c.in-Ok-eq4.ensures.bytes in
+    let at : AtOwned first n table c.args.into.now.words.items =
+    at_owned first c.args.into.now.words.items c.in_ok-count.field-0 c.in-Some.is (omega (arith, c.read_count.auto.first)) c.in_ok-count.ensures.told c.in_ok-count.ensures.few c.in_ok-read_front.ensures.long in
+    let f = with_count (Consumes (g.R.Input.remaining c.args.input.now) (g.R.Input.remaining c.read_count.new.input) first) c.in_ok-count.field-0 c.in-Some.is c.in_ok-count.ensures.bytes in
     let sum : c.in_ok-words.words ≡ words_told n (take size table ++ drop size table) = c.in_ok-words.ensures.sum ∙ ap (words_told n) (c.as_slice.ensures.value ∙ sym (take-append-drop size table)) in
     let p = err_from_is_err_and c.from_residual-in_err-read_front-2.result c.from_residual-in_err-read_front-2.ensures.1 in
     rw (p.1, p.2) (elim c.in_err-read_front-2.ensures.refused [
@@ -74,22 +69,19 @@ returns-in_err-read_front-2-clause-refused g c =
 
 pub returns : goal.returns
 returns g c =
-    let first : List ℕ = c.read_up_to.new.to in
-    let n : ℕ = c.from-told.result + 1 in
+    let first : List ℕ = c.read_count.new.first in
+    let n : ℕ = c.in-Some.count in
     let size : ℕ = 4 * n + 4 * ((n + 1) % 2) in
     let table : List ℕ = c.read_front.new.to.items in
     let words : List ℕ = c.read_front-2.new.to.items in
     let S : Segments = message (parts n table words) in
-    let at : AtOwned first n table words = record {
-      four = omega (arith, c.read_up_to.auto.to);
-      told = omega (arith, c.from-told.ensures, c.from_le_bytes.ensures);
-      few = omega (arith, c.if-told.false);
-      room = c.in_ok-read_front.ensures.long;
-    } in
-    let f = subst (λ (xs : List ℕ). Consumes (g.R.Input.remaining c.args.input.now) (g.R.Input.remaining c.read_up_to.new.input) xs) (take_all c.in-Ok-eq4.field-0 first (omega (arith, c.in-Ok-eq4.field-0-is, c.read_up_to.auto.to))) c.in-Ok-eq4.ensures.bytes in
+    let at : AtOwned first n table words =
+    at_owned first words c.in_ok-count.field-0 c.in-Some.is (omega (arith, c.read_count.auto.first)) c.in_ok-count.ensures.told c.in_ok-count.ensures.few c.in_ok-read_front.ensures.long in
+    let f = with_count (Consumes (g.R.Input.remaining c.args.input.now) (g.R.Input.remaining c.read_count.new.input) first) c.in_ok-count.field-0 c.in-Some.is c.in_ok-count.ensures.bytes in
     let sum : c.in_ok-words.words ≡ words_told n table = c.in_ok-words.ensures.sum ∙ ap (words_told n) c.as_slice.ensures.value in
-    let below = subst (λ (bs : List ℕ). (i : ℕ) → get_or bs i 0 < 256) c.as_slice-2.ensures.value c.are_bytes-2.ensures in
-    let behind = subst (λ (bs : List ℕ). (i : ℕ) → get_or bs i 0 < 256) c.as_slice-3.ensures.value c.are_bytes-3.ensures in
+    let first_below = with_count ((i : ℕ) → get_or first i 0 < 256) c.in_ok-count.field-0 c.in-Some.is c.in_ok-count.ensures.below in
+    let below = subst (λ (bs : List ℕ). (i : ℕ) → get_or bs i 0 < 256) c.as_slice-2.ensures.value c.are_bytes.ensures in
+    let behind = subst (λ (bs : List ℕ). (i : ℕ) → get_or bs i 0 < 256) c.as_slice-3.ensures.value c.are_bytes-2.ensures in
     let cut : AreParts n table words S = are_parts n table words below behind (omega (arith, c.in_ok-read_front.ensures.long)) (omega (arith, sum, c.in_ok-read_front-2.ensures.long)) in
     let whole : take (8 * c.in_ok-words.words) words ≡ contents S = ap (λ k. take (8 * k) words) sum ∙ sym cut.is in
     record {
@@ -99,15 +91,15 @@ returns g c =
         bytes = first ++ (take size table ++ contents S);
         consumed = consumes_both _ _ _ first (take size table ++ contents S) f (consumes_both _ _ _ (take size table) (contents S) c.in_ok-read_front.ensures.bytes
             (subst (λ (xs : List ℕ). Consumes (g.R.Input.remaining c.read_front.new.input) (g.R.Input.remaining c.read_front-2.new.input) xs) whole c.in_ok-read_front-2.ensures.bytes));
-        framed = owned_frame at c.are_bytes.ensures cut;
+        framed = owned_frame at first_below cut;
       };
       most = λ _. omega (arith, cut.sum, sum, c.if-words-max_words.false);
       small = owned_small at cut;
-      whole = keeps_whole_both _ _ _ (keeps_whole_both _ _ _ c.in-Ok-eq4.ensures.whole c.in_ok-read_front.ensures.whole) c.in_ok-read_front-2.ensures.whole;
-      works = search rules;
-      refused = search rules;
-      failed = search rules;
-      taken = search rules;
-      kept = search rules;
-      counted = search rules;
+      whole = keeps_whole_both _ _ _ (keeps_whole_both _ _ _ c.in_ok-count.ensures.whole c.in_ok-read_front.ensures.whole) c.in_ok-read_front-2.ensures.whole;
+      works = c.in_ok-read_front-2.ensures.works;
+      refused = tt;
+      failed = tt;
+      taken = tt;
+      kept = c.in_ok-read_front-2.ensures.kept ∙ c.in_ok-words.ensures.kept ∙ c.in_ok-read_front.ensures.kept;
+      counted = tt;
     }
