@@ -12,7 +12,6 @@ use Rattle.capnp_making.specs.Made.{LeadsToStart, zero_list}
 use Rattle.capnp_making.specs.Makes.{CallAt, MakesObject}
 use Rattle.capnp_making.specs.Stored.{IsStored, IsReplaced}
 use Rattle.capnp_contents.specs.declared.existing.ExistingBytes.{ExistingBytes}
-use Rattle.capnp_making.specs.declared.making.Start.{Start}
 
 -- The bytes at a place of the segments.
 abbrev pub bytes_there : List (List ℕ) → ExistingBytes → List ℕ
@@ -40,10 +39,6 @@ Overwrites S R b ws =
 abbrev pub AreZeroOnce : Segments → ℕ → ℕ → List ℕ → Type 0
 AreZeroOnce S s p ws = (t : Tree) → IsStored S s p t → ws ≡ replicate (length ws) 0
 
--- Where bytes start.
-abbrev pub start_of_bytes : ExistingBytes → Start
-start_of_bytes b = record { segment = b.segment; at = b.start }
-
 -- In an arena the bytes at a place are lent.
 abbrev pub LendsBytes : {A : Type 0} → (A → List (List ℕ)) → A → ExistingBytes → MutBor (List ℕ) →
     Type 0
@@ -54,5 +49,6 @@ LendsBytes segments now b lent = lent.now ≡ bytes_there (segments now) b
 pub record MakesBytes (result : Result ExistingBytes ErrorKind) (c : CallAt) (count size : ℕ)
     : Type 0 where
   pub object : MakesObject result c (zero_list 2 count) (words_for 2 count)
-  pub leads : IfOk result (λ b. LeadsToStart c.new.words c.segment c.at (start_of_bytes b))
+  pub leads : IfOk result
+      (λ b. LeadsToStart c.new.words c.segment c.at (record { segment = b.segment; at = b.start }))
   pub first : IfOk result (λ b. b.length ≡ size)

@@ -1,3 +1,2 @@
 pub mod Existing
 pub mod InPlace
-pub mod Laws

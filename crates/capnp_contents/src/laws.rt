@@ -2,49 +2,83 @@
 //! read a number or a bit. Each function does nothing: its contract is the law, proved for all
 //! messages.
 
-ghost use Rattle.capnp_contents.specs.Laws.{ForestAfter, OthersStay, LastStands, StructFieldWritten, ListElementWritten, ElementFieldWritten, FieldReadBack, OtherFieldsStay};
+ghost use Rattle.std.specs.Prelude.{◌≡◌, ◌⊎◌, ℕ, ◌+◌, ◌*◌, ◌/◌, ◌%◌, ◌^◌, ◌<◌, ◌≤◌, List, length, slice_set};
+ghost use Rattle.capnp_format.specs.Forest.{IsForest, times, target};
+ghost use Rattle.capnp_format.specs.Numbers.{element_bits};
+ghost use Rattle.capnp_format.specs.Segments.{Segments, segment, word_at};
+ghost use Rattle.capnp_format.specs.Tree.{Tree, Struct, Flat, Structs, Trees, Elements, element_count};
+ghost use Rattle.capnp_making.specs.Fields.{put_field, with_field, field_in};
+ghost use Rattle.capnp_making.specs.Path.{Step, PathLeads, update, extent, struct_at, put_struct};
+ghost use Rattle.capnp_making.specs.Stored.{IsStored, IsReplaced, Puts};
 
 /// Where a message is a forest (its value holds no word twice, and all other words are zero), it is
 /// one again when a call has put a value at the end of a path from the root; the message's value is
 /// as before but for that value.
 pub fn forest_after()
-    ensures { ForestAfter }
+    ensures { (S R : Segments) (t : Tree) (path : List Step) (u q : ℕ) (x y : Tree)
+        → IsForest S t → PathLeads S 0 0 t path u q x → Puts S R u q y
+        → IsForest R (update t path y) }
 {}
 
 /// Such a call leaves all words as they were but for its own place and what was reached from it.
 pub fn others_stay()
-    ensures { OthersStay }
+    ensures { (S R : Segments) (t : Tree) (path : List Step) (u q : ℕ) (x y : Tree)
+        → IsForest S t → PathLeads S 0 0 t path u q x → Puts S R u q y
+        → (v r : ℕ) → r < length (segment S v) → times (extent S u q x) v r ≡ 0
+        → word_at R v r ≡ word_at S v r }
 {}
 
 /// Of two calls at one place the last one counts.
 pub fn last_stands()
-    ensures { LastStands }
+    ensures { (S R Q : Segments) (u q : ℕ) (y z : Tree)
+        → Puts S R u q y → Puts R Q u q z → Puts S Q u q z }
 {}
 
 /// Where a number or a bit is written in the data section of a struct, the place holds the struct
-/// with that in it; nothing else of the message is changed ("Structs").
+/// with that in it; nothing else of the message is changed ("Structs"). Its place is in bits from the
+/// first data word on.
 pub fn struct_field_written()
-    ensures { StructFieldWritten }
+    ensures { (S R : Segments) (s p : ℕ) (ws : List ℕ) (ts : Trees) (b w v : ℕ)
+        → IsStored S s p (Struct ws ts) → b < 64 * length ws
+        → R ≡ with_field S (target S s p).segment (64 * (target S s p).start + b) w v
+        → IsReplaced S R s p (Struct ws ts) (Struct (put_field ws b w v) ts) }
 {}
 
 /// Where an element is written in a list of numbers or bits, the place holds the list with that
 /// element; nothing else of the message is changed ("Lists").
 pub fn list_element_written()
-    ensures { ListElementWritten }
+    ensures { (S R : Segments) (s p size : ℕ) (ns : List ℕ) (i v : ℕ)
+        → IsStored S s p (Flat size ns) → 0 < size → i < length ns → v < 2 ^ element_bits size
+        → R ≡ with_field S (target S s p).segment
+        (64 * (target S s p).start + i * element_bits size) (element_bits size) v
+        → IsReplaced S R s p (Flat size ns) (Flat size (slice_set ns i v)) }
 {}
 
 /// Where a number or a bit is written in the data section of an element, the place holds the list of
-/// structs with that in the element; nothing else of the message is changed ("Lists").
+/// structs with that in the element; nothing else of the message is changed ("Lists"). Its place is in
+/// bits from the element's first word on.
 pub fn element_field_written()
-    ensures { ElementFieldWritten }
+    ensures { (S R : Segments) (s p d q : ℕ) (es : Elements) (i : ℕ)
+        (ws : List ℕ) (ts : Trees) (b w v : ℕ)
+        → IsStored S s p (Structs d q es) → i < element_count es → struct_at es i ≡ Struct ws ts
+        → b < 64 * length ws
+        → R ≡ with_field S (target S s p).segment
+        (64 * ((target S s p).start + 1 + i * (d + q)) + b) w v
+        → IsReplaced S R s p (Structs d q es)
+        (Structs d q (put_struct es i (Struct (put_field ws b w v) ts))) }
 {}
 
 /// A number or a bit that is written is read back.
 pub fn field_read_back()
-    ensures { FieldReadBack }
+    ensures { (ws : List ℕ) (b w v : ℕ)
+        → b / 64 < length ws → b % 64 + w ≤ 64 → v < 2 ^ w
+        → field_in (put_field ws b w v) b w ≡ v }
 {}
 
-/// A number or a bit stays as it was where one is written that has no bit in common with it.
+/// A number or a bit stays as it was where one is written before or behind it.
 pub fn other_fields_stay()
-    ensures { OtherFieldsStay }
+    ensures { (ws : List ℕ) (b w v c x : ℕ)
+        → b / 64 < length ws → b % 64 + w ≤ 64 → v < 2 ^ w
+        → c % 64 + x ≤ 64 → (b + w ≤ c) ⊎ (c + x ≤ b)
+        → field_in (put_field ws b w v) c x ≡ field_in ws c x }
 {}
