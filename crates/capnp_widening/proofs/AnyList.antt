@@ -12,12 +12,13 @@ use Rattle.capnp_contents.specs.declared.existing.ExistingList.{ExistingList}
 use Rattle.capnp_contents.specs.Existing.{list_in, plain_list, struct_list, size_of, unless}
 use Rattle.capnp_making.specs.Stored.{IsStored}
 use Rattle.capnp_making.proofs.Filling.{unchanged}
-use Rattle.capnp_widening.specs.RowsRemade.{ListLiesIn, BecomesList, IsList, WidensTo, WidensList, LeadsToWiderList}
-use Rattle.capnp_widening.specs.Widened.{list_widened, rewriting}
+use Rattle.capnp_widening.specs.RowsRemade.{BecomesList, IsList, WidensTo}
+use Rattle.capnp_widening.specs.Widened.{list_widened}
 use Rattle.capnp_widening.proofs.ListSteps.{structs_stored}
 use Rattle.capnp_widening.proofs.Listed.{same_list, same_tree, no_list, not_a_list, flat_found, void_fits}
 use Rattle.capnp_widening.proofs.PlainLists.{are_numbers}
 use Rattle.capnp_widening.proofs.PointerSteps.{flat_stored, pointers_stored}
+use Rattle.capnp_widening.proofs.Statements.{ListLiesIn, WidensList, LeadsToWiderList, rewriting}
 
 -- a list of bits
 pub bits_refused : (S : Segments) (s p : ℕ) (t : Tree) (l : ExistingList) (d q : ℕ) → size_number l.size ≡ 1 → IsList S s p l t → list_widened d q t ≡ Err FoundBitListWhereStructListWasExpected
@@ -70,11 +71,11 @@ list_inside R s p (Structs d q es) m x e = subst (ListLiesIn R) (same_list (stru
 pub list_widens : (S R : Segments) (s p : ℕ) (size : StructSize) (l m : ExistingList) → ((t : Tree) → IsStored S s p t → Ok (Some l) ≡ list_in (target S s p) Void t) → WidensTo l size (rewriting s p S R) m → WidensList size (rewriting s p S R)
 list_widens S R s p size l m found w = λ t x.
     (let (u, e, b) = w t (x, sym (found t x)) in
-    (u, e, b.replaced))
+    (u, e, b.0))
 
 pub list_leads : (S R : Segments) (s p : ℕ) (size : StructSize) (l m : ExistingList) → ((t : Tree) → IsStored S s p t → Ok (Some l) ≡ list_in (target S s p) Void t) → WidensTo l size (rewriting s p S R) m → LeadsToWiderList size (rewriting s p S R) (Some m)
 list_leads S R s p size l m found w = λ t u x e.
     (let (v, f, b) = w t (x, sym (found t x)) in
     let same : v ≡ u = same_tree v u (sym f ∙ e) in
     let there : BecomesList (rewriting s p S R) m t u = subst (λ z. BecomesList (rewriting s p S R) m t z) same b in
-    (there.found, list_inside R s p u m there.replaced.stored there.found))
+    (there.1, list_inside R s p u m there.0.stored there.1))

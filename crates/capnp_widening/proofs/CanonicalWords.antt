@@ -5,17 +5,19 @@ use Rattle.capnp_format.specs.Tree.{Tree, Struct, Pointers, Structs, Trees, no_t
 use Rattle.capnp_format.specs.Means.{Means, MeansElements}
 use Rattle.capnp_format.specs.Canonical.{trim, encoding}
 use Rattle.capnp_format.specs.Forest.{target}
+use Rattle.capnp_words.specs.declared.wire_pointer.StructSize.{StructSize}
 use Rattle.capnp_words.specs.declared.error.ErrorKind.{ErrorKind}
 use Rattle.capnp_making.specs.Path.{Step, Child, Element, tree_at, put_tree, struct_at, put_struct, next, put, update, PathLeads}
-use Rattle.capnp_making.proofs.Replaced.{stored_within, replaced_within, forest_stored, forest_updated}
-use Rattle.capnp_widening.specs.Laws.{SameCanonicalForm, HaveSize, WiderStruct, WiderList, StructWithin, ListWithin, StructOfMessage, ListOfMessage}
-use Rattle.capnp_widening.specs.Widened.{fill_words, fill_trees, fill_elements, limited}
+use Rattle.capnp_making.proofs.Replaced.{stored_within}
+use Rattle.capnp_making.specs.Stored.{IsStored}
+use Rattle.capnp_widening.specs.Laws.{SameCanonicalForm, HaveSize}
+use Rattle.capnp_widening.specs.Widened.{fill_words, fill_trees, fill_elements, limited, list_widened, widened}
 use Rattle.capnp_widening.proofs.Filling.{trim-filled, trim-filled_list, trim-update}
 
 same_words : (t u : Tree) → trim u ≡ trim t → SameCanonicalForm t u
 same_words t u e = (e, ap encoding e)
 
-pub wider_struct : WiderStruct
+pub wider_struct : (d q : ℕ) (ws : List ℕ) (ts : Trees) → SameCanonicalForm (Struct ws ts) (Struct (fill_words d ws) (fill_trees q ts))
 wider_struct d q ws ts = same_words (Struct ws ts) (Struct (fill_words d ws) (fill_trees q ts)) (trim-filled d q ws ts)
 
 granted : (b : Bool) (t u : Tree) (k : ErrorKind) → cond b (Ok t) (Err k) ≡ Ok u → t ≡ u
@@ -27,7 +29,7 @@ one_or_other : (b : Bool) (d q e k n : ℕ) (es : Elements) (u : Tree) → HaveS
 one_or_other true d q e k n es u v w = let same : Structs e k es ≡ u = cc in ap trim (sym same)
 one_or_other false d q e k n es u v w = ap trim (sym (granted _ (Structs (max e d) (max k q) (fill_elements d q es)) u _ w)) ∙ trim-filled_list d q e k es v
 
-pub wider_list : WiderList
+pub wider_list : (d q e k : ℕ) (es : Elements) (u : Tree) → HaveSize e k es → list_widened d q (Structs e k es) ≡ Ok u → SameCanonicalForm (Structs e k es) u
 wider_list d q e k es u v w = same_words (Structs e k es) u (one_or_other (nat_le d e && nat_le q k) d q e k (element_count es * (max e d + max k q)) es u v w)
 
 -- the elements of a list that a place means
@@ -65,32 +67,12 @@ update_same S s p t (step ∷ path) u q x h = absurd h
 same_at : (S : Segments) (s p : ℕ) (t : Tree) (path : List Step) (u q : ℕ) (x y : Tree) → PathLeads S s p t path u q x → trim y ≡ trim x → SameCanonicalForm t (update t path y)
 same_at S s p t path u q x y h e = same_words t (update t path y) (trim-update S s p t path u q x y x h e ∙ ap trim (update_same S s p t path u q x h))
 
-pub struct_within : StructWithin
-struct_within S R s p t path u q ws ts size a h w =
-    let x = Struct ws ts in
-    let y = Struct (fill_words size.data_words ws) (fill_trees size.pointers ts) in
-    let b = w ws ts (stored_within S s p t path u q x h a) in
-    (update t path y, replaced_within S R s p t path u q x y h a b, same_at S s p t path u q x y h (trim-filled size.data_words size.pointers ws ts))
+-- what it becomes: a struct, and a list of structs, which has elements of one size since it is stored
+pub struct_within : (S : Segments) (s p : ℕ) (t : Tree) (path : List Step) (u q : ℕ) (ws : List ℕ) (ts : Trees) (size : StructSize) → PathLeads S s p t path u q (Struct ws ts) → SameCanonicalForm t (update t path (widened size ws ts))
+struct_within S s p t path u q ws ts size h = same_at S s p t path u q (Struct ws ts) (widened size ws ts) h (trim-filled size.data_words size.pointers ws ts)
 
-pub list_within : ListWithin
-list_within S R s p t path u q d k es size a h w =
-    let x = Structs d k es in
-    let stored = stored_within S s p t path u q x h a in
-    let (y, made, b) = w x stored in
-    let same = wider_list size.data_words size.pointers d k es y (list_sizes S stored.means.0 u q d k es stored.means.1 stored.means.2) made in
-    (update t path y, replaced_within S R s p t path u q x y h a b, same_at S s p t path u q x y h same.0)
-
-pub struct_of_message : StructOfMessage
-struct_of_message S R t path u q ws ts size a h w =
-    let x = Struct ws ts in
-    let y = Struct (fill_words size.data_words ws) (fill_trees size.pointers ts) in
-    let b = w ws ts (stored_within S 0 0 t path u q x h (forest_stored S t a)) in
-    (update t path y, forest_updated S R t path u q x y a h b, same_at S 0 0 t path u q x y h (trim-filled size.data_words size.pointers ws ts))
-
-pub list_of_message : ListOfMessage
-list_of_message S R t path u q d k es size a h w =
-    let x = Structs d k es in
-    let stored = stored_within S 0 0 t path u q x h (forest_stored S t a) in
-    let (y, made, b) = w x stored in
-    let same = wider_list size.data_words size.pointers d k es y (list_sizes S stored.means.0 u q d k es stored.means.1 stored.means.2) made in
-    (update t path y, forest_updated S R t path u q x y a h b, same_at S 0 0 t path u q x y h same.0)
+pub list_within : (S : Segments) (s p : ℕ) (t : Tree) (path : List Step) (u q d k : ℕ) (es : Elements) (size : StructSize) (v : Tree) → IsStored S s p t → PathLeads S s p t path u q (Structs d k es) →
+    list_widened size.data_words size.pointers (Structs d k es) ≡ Ok v → SameCanonicalForm t (update t path v)
+list_within S s p t path u q d k es size v a h made =
+    let stored = stored_within S s p t path u q (Structs d k es) h a in
+    same_at S s p t path u q (Structs d k es) v h (wider_list size.data_words size.pointers d k es v (list_sizes S stored.means.0 u q d k es stored.means.1 stored.means.2) made).0

@@ -35,6 +35,7 @@ pub mod RowsCopied
 pub mod SameObjects
 pub mod Settled
 pub mod Single
+pub mod Statements
 pub mod StructLists
 pub mod StructRemade
 pub mod StructRooms

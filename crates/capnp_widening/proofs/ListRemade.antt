@@ -15,7 +15,7 @@ use Rattle.capnp_making.specs.Made.{IsGrown}
 use Rattle.capnp_making.proofs.Below.{split_row}
 use Rattle.capnp_making.proofs.Extents.{times-first, times-object}
 use Rattle.capnp_widening.proofs.Basics.{once_row}
-use Rattle.capnp_widening.specs.Moved.{row_of_moves, rows_of_moves, new_places, fresh_pads, IsMoved, HaveValuesInside}
+use Rattle.capnp_widening.specs.Moved.{row_of_moves, rows_of_moves, new_places, fresh_pads, IsMoved}
 use Rattle.capnp_widening.specs.Widened.{fill_words, fill_elements}
 use Rattle.capnp_widening.proofs.Movings.{new_places-append, row_new_places, same_old, same_new}
 use Rattle.capnp_widening.proofs.Remade.{IsRemade, before_last, is_rehoused, all_moved, moves_same, object_word, leads_last, IsBegun}
@@ -23,6 +23,7 @@ use Rattle.capnp_widening.proofs.Rows.{rows_moved, rows_old_pads, rows_new_pads,
 use Rattle.capnp_widening.proofs.StructRemade.{word_of_words, words_by_each, filled_at, filled_past}
 use Rattle.capnp_widening.proofs.Widenings.{structs_widened, length-fill_words}
 use Rattle.capnp_widening.proofs.NewObjects.{IsRehoused, pads_in_rows, struct_data_words, old_pads, new_pads}
+use Rattle.capnp_widening.proofs.Statements.{HaveValuesInside}
 
 -- what the elements of a list are, as words
 pub element_words : (S : Segments) (n s p d q : ℕ) (es : Elements) (c i : ℕ) → MeansElements S n s p d q es c → i < element_count es → HasWords S s (p + i * (d + q)) (struct_data_words (struct_at es i)) × (length (struct_data_words (struct_at es i)) ≡ d)
@@ -178,10 +179,8 @@ structs_begun S T D u q d k es e f v at pads x g segments words kept c =
       words = words;
       written = kept;
       can = record {
-        extends = record {
-          grows = record { segments = omega (arith, g.grows.segments, segments); words = λ y. omega (arith, g.grows.words y, words y) };
-          kept = λ y w l. kept y w (new_row y w l) ∙ g.kept y w l;
-        };
+        grows = record { segments = omega (arith, g.grows.segments, segments); words = λ y. omega (arith, g.grows.words y, words y) };
+        kept = λ y w l. kept y w (new_row y w l) ∙ g.kept y w l;
         stand = rows_stand v to z;
         behind = λ y w l.
             (let (i, j, li, lj, ey, ew) = rows_place a.segment (a.start + 1 + d) (d + k) v to z k n y w l in

@@ -25,14 +25,15 @@ use Rattle.capnp_making.proofs.Zeros.{zeroed_again}
 use Rattle.capnp_widening.specs.declared.remaking.ElementRows.{ElementRows}
 use Rattle.capnp_widening.specs.declared.widening.Room.{Room}
 use Rattle.capnp_widening.specs.Anew.{BecomesAnew, OnlyWrites, StandsAnew, WritesAnew}
-use Rattle.capnp_widening.specs.Housed.{IsRoom, IsSettled, Settles, object_start}
+use Rattle.capnp_widening.specs.Housed.{IsRoom, object_start}
 use Rattle.capnp_widening.specs.Moved.{Move, Moves, MovesSome, Unmoves, rows_of_moves}
 use Rattle.capnp_widening.specs.RowsRemade.{IsTagWritten, CopiesData, element_moves, as_structs, BecomesList}
-use Rattle.capnp_widening.specs.Widened.{fill_elements, GrowsByZeros, rewriting}
+use Rattle.capnp_widening.specs.Widened.{fill_elements, GrowsByZeros}
 use Rattle.capnp_widening.proofs.ListRemade.{structs_begun, structs_remade}
 use Rattle.capnp_widening.proofs.Remade.{IsBegun, IsRemade, longer, leads_last, object_anew, undone}
 use Rattle.capnp_widening.proofs.RowsCopied.{data_copied, tag_copied, list_written}
 use Rattle.capnp_widening.proofs.Widenings.{count-fill_elements}
+use Rattle.capnp_widening.proofs.Statements.{IsSettled, SettlesRoom, rewriting}
 
 -- where the first of some structs starts, behind its tag, and the list of them
 abbrev pub first_of : Room → Start
@@ -44,10 +45,10 @@ list_at h size n = record { segment = h.segment; start = h.at + h.pads + 1; size
 pub record ListSteps (S T B D P R Z Q : Segments) (id at : ℕ) (old : ElementRows) (size : StructSize) (h : Room) : Type 0 where
   pub place : IsPlace S id at
   pub room : IsRoom S T id (1 + old.count * (size.data_words + size.pointers)) h
-  pub tagged : IsTagWritten (rewriting h.segment (h.at + h.pads) T B) old.count size
+  pub tagged : IsTagWritten T B (record { segment = h.segment; at = h.at + h.pads }) old.count size
   pub copied : CopiesData B D old (first_of h) size
   pub moves : Moves D P (element_moves old (first_of h) size)
-  pub settled : Settles (rewriting id at P R) h (ListShape InlineComposite (old.count * (size.data_words + size.pointers)))
+  pub settled : SettlesRoom (rewriting id at P R) h (ListShape InlineComposite (old.count * (size.data_words + size.pointers)))
   pub object_zeroed : old.at + (old.tag + old.count * (old.size.data_words + old.size.pointers)) ≤ length (segment R old.segment) →
       IsZeroed R Z (row old.segment old.at (old.tag + old.count * (old.size.data_words + old.size.pointers)) ∷ [])
   pub pads_zeroed : PadsInside Z (word_at S id at) → IsZeroed Z Q (pads_of (word_at S id at))
@@ -147,12 +148,11 @@ wider_structs S T B D P R Z Q id at d k es e f h x s =
     let stored = structs_stored S id at d k es x in
     let rows = data_copied S T B D a.segment (a.start + 1) d k n h.segment h.at h.pads size grown s.tagged s.copied (omega (arith, stored.fits)) in
     let tag = tag_copied T B D a.segment (a.start + 1) (d + k) d n h.segment (h.at + h.pads) (wd + wk) size s.tagged s.copied in
-    let made = structs_made S T B D P R Z Q id at d k es e f h x s in
-    record {
-      replaced = structs_remade S T D P R Q id at d k es e f b h.segment h.at h.pads x rows tag made shaped.0 shaped.1 shaped.2;
-      found = found_there (target Q id at) b wd wk (element_count (fill_elements e f es)) n h.segment (h.at + h.pads) (ap target_in (leads_last S T D P R Q id at a (1 + n * (d + k)) b h.segment h.at h.pads wide ms made).1) segment_of start_of
-          (count-fill_elements e f es);
-    }
+    let made = structs_made S T B D P R Z Q id at d k es e f h x s in (
+      structs_remade S T D P R Q id at d k es e f b h.segment h.at h.pads x rows tag made shaped.0 shaped.1 shaped.2,
+      found_there (target Q id at) b wd wk (element_count (fill_elements e f es)) n h.segment (h.at + h.pads) (ap target_in (leads_last S T D P R Q id at a (1 + n * (d + k)) b h.segment h.at h.pads wide ms made).1) segment_of start_of
+          (count-fill_elements e f es),
+    )
 
 -- the greater of a size and a larger one
 pub same_size : (d k : ℕ) (size : StructSize) → d ≤ size.data_words → k ≤ size.pointers → ◌≡◌ {A = StructSize} (record { data_words = max d size.data_words; pointers = max k size.pointers }) size
@@ -206,7 +206,7 @@ structs_anew s b d p r z q T id at e k es size h x steps t =
 -- a growth is refused on the way
 pub record ListUndone (S T B D P U Z : Segments) (id : ℕ) (old : ElementRows) (size : StructSize) (h : Room) : Type 0 where
   pub room : IsRoom S T id (1 + old.count * (size.data_words + size.pointers)) h
-  pub tagged : IsTagWritten (rewriting h.segment (h.at + h.pads) T B) old.count size
+  pub tagged : IsTagWritten T B (record { segment = h.segment; at = h.at + h.pads }) old.count size
   pub copied : CopiesData B D old (first_of h) size
   pub some : MovesSome D P (element_moves old (first_of h) size)
   pub unmoves : Unmoves P U (element_moves old (first_of h) size)

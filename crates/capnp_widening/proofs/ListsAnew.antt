@@ -9,13 +9,14 @@ use Rattle.capnp_words.specs.declared.wire_pointer.StructSize.{StructSize}
 use Rattle.capnp_contents.specs.declared.existing.ExistingList.{ExistingList}
 use Rattle.capnp_making.specs.Makes.{call_at}
 use Rattle.capnp_making.specs.Stored.{IsStored}
-use Rattle.capnp_widening.specs.Anew.{BecomesAnew, WidensListAnew}
-use Rattle.capnp_widening.specs.RowsRemade.{as_structs, StoresRows, IsList, RemakesListAnew}
+use Rattle.capnp_widening.specs.Anew.{BecomesAnew}
+use Rattle.capnp_widening.specs.RowsRemade.{as_structs, StoresRows, IsList}
 use Rattle.capnp_widening.specs.Widened.{HasSections, fill_elements, struct_for_each, struct_for_each_tree, list_widened}
 use Rattle.capnp_widening.proofs.Listed.{filled_to_greater, structs_widen}
 use Rattle.capnp_widening.proofs.ListRooms.{limited_to}
 use Rattle.capnp_widening.proofs.PlainLists.{are_pointers, are_void, are_numbers, first_pointers, first_numbers, has_pointers, numbers_as_structs, numbers_limited, pointers_of, void_of}
 use Rattle.capnp_widening.proofs.StructLists.{are_structs, has_rows, rows_of}
+use Rattle.capnp_widening.proofs.Statements.{WidensListAnew, RemakesListAnew}
 
 pub pointers_anew_to : (a b : View) (s p : ℕ) (l : ExistingList) (size wide : StructSize) → size_number l.size ≡ 6 → wide.data_words ≡ size.data_words → wide.pointers ≡ max 1 size.pointers →
     RemakesListAnew (StoresRows a.words s p (pointers_of l)) wide (call_at s p a b) → WidensListAnew (IsList a.words s p l) size (call_at s p a b)

@@ -13,17 +13,16 @@ use Rattle.capnp_arena_traits.specs.View.{View}
 use Rattle.capnp_contents.specs.declared.existing.ExistingList.{ExistingList}
 use Rattle.capnp_contents.specs.Existing.{list_in}
 use Rattle.capnp_making.specs.Memory.{KeepsMemory}
-use Rattle.capnp_making.specs.Stored.{IsStored}
+use Rattle.capnp_making.specs.Stored.{IsStored, IsReplaced}
 use Rattle.capnp_making.specs.Makes.{call_at, CallAt}
-use Rattle.capnp_widening.specs.Anew.{WidensListAnew}
 use Rattle.capnp_widening.specs.Opening.{Opens, OpensExistingList, LeadsToAll, refusal_of_words, refusal_of_elements}
-use Rattle.capnp_widening.specs.Rooms.{GrowsForList}
-use Rattle.capnp_widening.specs.RowsRemade.{WidensList, LeadsToWiderList, RefusesWider}
-use Rattle.capnp_widening.specs.Widened.{HasSections, fill_elements, LeavesAll, limited, list_widened, rewriting}
+use Rattle.capnp_widening.specs.RowsRemade.{RefusesWider}
+use Rattle.capnp_widening.specs.Widened.{HasSections, fill_elements, LeavesAll, limited, list_widened}
 use Rattle.capnp_widening.proofs.Listed.{same_list, no_list, not_a_list, structs_widen}
 use Rattle.capnp_widening.proofs.PlainLists.{are_numbers, are_pointers}
 use Rattle.capnp_widening.proofs.StructLists.{are_structs}
 use Rattle.capnp_widening.proofs.StructsOpened.{stands_grown}
+use Rattle.capnp_widening.proofs.Statements.{WidensListAnew, GrowsForList}
 
 -- A list that is found is one of structs with sections of at least a size.
 abbrev pub HasWideStructs : StructSize → ExistingList → Type 0
@@ -106,8 +105,7 @@ same_result k u e = cc
 
 -- What the call that makes it so says.
 pub record Widens (a b : View) (s p : ℕ) (size : StructSize) (r : Result (Option ExistingList) ErrorKind) : Type 0 where
-  pub widened : OnOk r (WidensList size (rewriting s p a.words b.words))
-  pub leads : IfOk r (LeadsToWiderList size (rewriting s p a.words b.words))
+  pub widened : IfOk r (λ m. (t : Tree) → IsStored a.words s p t → (u : Tree) × (list_widened size.data_words size.pointers t ≡ Ok u) × IsReplaced a.words b.words s p t u × LeadsToAll b.words s p u m)
   pub anew : OnOk r (WidensListAnew (IsStored a.words s p) size (call_at s p a b))
   pub granted : OnOk r (KeepsMemory a b)
   pub refused : OnErr r (LeavesAll (IsStored a.words s p) a.words b.words)
@@ -117,11 +115,11 @@ pub record Widens (a b : View) (s p : ℕ) (size : StructSize) (r : Result (Opti
 pub list_made : (a b : View) (s p : ℕ) (t : Tree) (l : ExistingList) (size : StructSize) (r : Result (Option ExistingList) ErrorKind) → IsStored a.words s p t → list_in (target a.words s p) Void t ≡ Ok (Some l) → (HasWideStructs size l → ⊥) →
     None ≡ refusal_of_elements size l.size l.struct_size l.count → Widens a b s p size r → OpensExistingList size r (call_at s p a b) t
 list_made a b s p t l size (Ok m) stored found narrow none w =
-    let (u, e, made) = w.widened t stored in
+    let (u, e, made, leads) = w.widened t stored in
     opens size (Ok m) (call_at s p a b) t (not_null l a.words s p t found)
     (subst (λ x. Opens size LeadsToAll (call_at s p a b) t x (Ok m)) (sym e) (record {
       replaced = made;
-      leads = w.leads t u stored e;
+      leads = leads;
       memory = w.granted;
       unchanged = λ h. absurd (narrow (sections_wide a.words s p t l size found h));
       anew = λ h. w.anew t u stored (not_null l a.words s p t found) e h;

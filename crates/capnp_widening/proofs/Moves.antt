@@ -4,12 +4,13 @@ use Rattle.capnp_format.specs.Segments.{Segments, segment, word_at, Target, Grow
 use Rattle.capnp_format.specs.Means.{Leads}
 use Rattle.capnp_format.specs.Forest.{pads_of}
 use Rattle.capnp_format.proofs.Frame.{Agree, leads_agree}
-use Rattle.capnp_widening.specs.Moved.{SameStart, same_place, of_no_words, of_capability, IsMoved}
+use Rattle.capnp_widening.specs.Moved.{IsMoved}
 use Rattle.capnp_widening.proofs.SameObjects.{near_leads, near_found, copied_far_leads}
+use Rattle.capnp_widening.proofs.Statements.{SameStart}
 
 -- a far word copied as it is
 pub moved_far : (S : Segments) (s p v r : ℕ) (a : Target) → Leads S s p a → kind (word_at S s p) ≡ 2 → word_at S v r ≡ word_at S s p → IsMoved S s p v r
-moved_far S s p v r a l far e = inr (a, a, l, copied_far_leads S s p v r a e far l, record { same_kind = refl; same_sizes = refl; capability = λ low. low; same_start = same_place refl refl })
+moved_far S s p v r a l far e = inr (a, a, l, copied_far_leads S s p v r a e far l, record { same_kind = refl; same_sizes = refl; capability = λ low. low; same_start = inl (refl, refl) })
 
 no_offset : (x : ℕ) → x % 2 ^ 32 ≡ 3 → (kind x ≡ 3) × (offset_bits x ≡ 0)
 no_offset x low = (omega arith, omega arith)
@@ -23,7 +24,7 @@ moved_capability S s p v r a l near low e place =
     let its : x % 2 ^ 32 ≡ 3 = ap (λ y. y % 2 ^ 32) same ∙ low in
     let f = no_offset x its in
     let there = near_leads S v r (r + 1) (λ z. l.0 (sym e ∙ z)) (λ z. omega (arith, f.0)) (omega arith) (inl (omega (arith, f.1), omega (arith, f.1))) in
-    inr (a, record { word = x; segment = v; start = r + 1; pads = 0 }, l, there, record { same_kind = ap kind same; same_sizes = ap upper_half same; capability = λ z. its; same_start = of_capability low })
+    inr (a, record { word = x; segment = v; start = r + 1; pads = 0 }, l, there, record { same_kind = ap kind same; same_sizes = ap upper_half same; capability = λ z. its; same_start = inr (inr low) })
 
 -- later writes elsewhere keep it
 pub moved_kept : (S R : Segments) (s p v r : ℕ) → Grows S R → word_at R s p ≡ word_at S s p → word_at R v r ≡ word_at S v r → Agree S R (pads_of (word_at S s p)) → Agree S R (pads_of (word_at S v r)) → IsMoved S s p v r → IsMoved R s p v r
@@ -43,6 +44,6 @@ moved_kept S R s p v r grows e f here there (inr (a, b, l, k, same)) =
     )
   where
     start : SameStart S a b → SameStart R a b
-    start (same_place y z) = same_place y z
-    start (of_no_words y z w) = of_no_words y z (le_trans w (grows.words b.segment))
-    start (of_capability y) = of_capability y
+    start (inl same) = inl same
+    start (inr (inl (y, z, w))) = inr (inl (y, z, le_trans w (grows.words b.segment)))
+    start (inr (inr y)) = inr (inr y)

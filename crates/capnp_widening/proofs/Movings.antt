@@ -13,10 +13,11 @@ use Rattle.capnp_making.specs.Path.{word_interval}
 use Rattle.capnp_making.specs.Zeroed.{row}
 use Rattle.capnp_making.proofs.Zeros.{in_row}
 use Rattle.capnp_making.proofs.Extents.{once_held, times-first}
-use Rattle.capnp_widening.specs.Moved.{Move, a_move, row_of_moves, old_places, new_places, fresh_pads, IsMoved, Extends, HasValueInside, HaveValuesInside, AllMoved, CanMove, AreMoved, Moves, MovesSome}
+use Rattle.capnp_widening.specs.Moved.{Move, a_move, row_of_moves, new_places, fresh_pads, IsMoved, HasValueInside, CanMove, AreMoved, Moves, MovesSome}
 use Rattle.capnp_widening.proofs.Moves.{moved_kept}
 use Rattle.capnp_widening.proofs.Single.{old_pads_inside}
 use Rattle.capnp_widening.proofs.NewObjects.{pads_from, old_pads, new_pads, own_pads}
+use Rattle.capnp_widening.proofs.Statements.{old_places, Extends, HaveValuesInside, AllMoved}
 
 -- lists of moves, one behind the other
 
@@ -132,7 +133,8 @@ none_moved S = λ B c. record {
 -- what CanMove says of the first moves
 pub can_left : (B S : Segments) (ms ns : List Move) → CanMove B S (ms ++ ns) → CanMove B S ms
 can_left B S ms ns c = record {
-  extends = c.extends;
+  grows = c.grows;
+  kept = c.kept;
   stand = stand_left B ms ns c.stand;
   behind = λ x y l. c.behind x y (omega (arith, new_places-append ms ns x y));
   once = λ x y. omega (arith, new_places-append ms ns x y, c.once x y);
@@ -149,15 +151,17 @@ no_place B S os x y c l = elim (cases_eq (times (new_places os) x y) 0) [
 
 moved_extends : (B S M : Segments) (ms ns : List Move) → CanMove B S (ms ++ ns) → AreMoved S M ms → Extends B M
 moved_extends B S M ms ns c a = record {
-  grows = record { segments = le_trans c.extends.grows.segments a.grows.segments; words = λ x. le_trans (c.extends.grows.words x) (a.grows.words x) };
-  kept = λ x y l. a.kept x y (omega (arith, no_place B S (ms ++ ns) x y c l, new_places-append ms ns x y)) (omega (arith, c.extends.grows.words x)) ∙ c.extends.kept x y l;
+  grows = record { segments = le_trans c.grows.segments a.grows.segments; words = λ x. le_trans (c.grows.words x) (a.grows.words x) };
+  kept = λ x y l. a.kept x y (omega (arith, no_place B S (ms ++ ns) x y c l, new_places-append ms ns x y)) (omega (arith, c.grows.words x)) ∙ c.kept x y l;
 }
 
 pub can_right : (B S M : Segments) (ms ns : List Move) → CanMove B S (ms ++ ns) → AreMoved S M ms → CanMove B M ns
 can_right B S M ms ns c a =
     let split = new_places-append ms ns in
+    let extends = moved_extends B S M ms ns c a in
     record {
-      extends = moved_extends B S M ms ns c a;
+      grows = extends.grows;
+      kept = extends.kept;
       stand = stand_right B ms ns c.stand;
       behind = λ x y l. (let (low, high, none) = c.behind x y (omega (arith, split x y)) in
           (low, omega (arith, high, a.grows.words x), a.kept x y (omega (arith, split x y, c.once x y)) high ∙ none));

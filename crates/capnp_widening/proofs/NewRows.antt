@@ -8,7 +8,7 @@ use Rattle.capnp_making.specs.Made.{IsGrown, words_of_zero}
 use Rattle.capnp_making.specs.Zeroed.{row}
 use Rattle.capnp_making.proofs.BelowElements.{element_within}
 use Rattle.capnp_making.proofs.Zeros.{of_row}
-use Rattle.capnp_widening.specs.Moved.{row_of_moves, rows_of_moves, new_places, fresh_pads, IsMoved, HaveValuesInside}
+use Rattle.capnp_widening.specs.Moved.{row_of_moves, rows_of_moves, new_places, fresh_pads, IsMoved}
 use Rattle.capnp_widening.proofs.Basics.{once_row}
 use Rattle.capnp_widening.proofs.ListRemade.{rows_place, beside_rows}
 use Rattle.capnp_widening.proofs.Movings.{same_old, same_new}
@@ -17,6 +17,7 @@ use Rattle.capnp_widening.proofs.Rows.{rows_moved, rows_old_pads, rows_new_pads,
 use Rattle.capnp_widening.proofs.RowsCopied.{beside_row}
 use Rattle.capnp_widening.proofs.StructRemade.{words_by_each, zeros_at}
 use Rattle.capnp_widening.proofs.NewObjects.{IsRehoused, pads_from, pads_in_rows, old_pads, new_pads}
+use Rattle.capnp_widening.proofs.Statements.{HaveValuesInside}
 
 -- words are taken for a list, and its tag and the data of its rows are written into them
 pub list_begun : (S T D : Segments) (s p w k n wd wk v at pads : ℕ) → HaveValuesInside S (rows_of_moves s p w v (at + pads + 1 + wd) (wd + wk) k n) → k ≤ wk → IsGrown S T v at (pads + (1 + n * (wd + wk))) →
@@ -32,10 +33,8 @@ list_begun S T D s p w k n wd wk v at pads stand narrow g segments words kept em
       words = words;
       written = kept;
       can = record {
-        extends = record {
-          grows = record { segments = omega (arith, g.grows.segments, segments); words = λ y. omega (arith, g.grows.words y, words y) };
-          kept = λ y x l. kept y x (beside_row v (at + pads) (1 + n * z) y x (λ e f h. omega (arith, l, f, g.behind, ap (λ u. length (segment S u)) e))) ∙ g.kept y x l;
-        };
+        grows = record { segments = omega (arith, g.grows.segments, segments); words = λ y. omega (arith, g.grows.words y, words y) };
+        kept = λ y x l. kept y x (beside_row v (at + pads) (1 + n * z) y x (λ e f h. omega (arith, l, f, g.behind, ap (λ u. length (segment S u)) e))) ∙ g.kept y x l;
         stand = stand;
         behind = λ y x l.
             (let (i, j, li, lj, ey, ex) = rows_place s p w v to z k n y x l in

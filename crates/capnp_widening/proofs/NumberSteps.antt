@@ -24,10 +24,10 @@ use Rattle.capnp_making.proofs.MadeWords.{word_put, outside}
 use Rattle.capnp_making.proofs.Zeros.{of_row}
 use Rattle.capnp_widening.specs.declared.widening.Room.{Room}
 use Rattle.capnp_widening.specs.Anew.{BecomesAnew, OnlyWrites, StandsAnew, WritesAnew}
-use Rattle.capnp_widening.specs.Housed.{IsRoom, Settles, object_start}
+use Rattle.capnp_widening.specs.Housed.{IsRoom, object_start}
 use Rattle.capnp_widening.specs.Moved.{Move, rows_of_moves, fresh_pads, Moves}
 use Rattle.capnp_widening.specs.RowsRemade.{IsTagWritten, BecomesList, AreNumbersCopied}
-use Rattle.capnp_widening.specs.Widened.{fill_words, struct_for_each, rewriting}
+use Rattle.capnp_widening.specs.Widened.{fill_words, struct_for_each}
 use Rattle.capnp_widening.proofs.ListSteps.{object_remade, found_there, list_at}
 use Rattle.capnp_widening.proofs.ListsWidened.{numbers_widened, count-struct_for_each}
 use Rattle.capnp_widening.proofs.Movings.{none_moved}
@@ -41,6 +41,7 @@ use Rattle.capnp_widening.proofs.StructRemade.{words_by_each, filled_at, filled_
 use Rattle.capnp_widening.proofs.Widenings.{length-fill_words}
 use Rattle.capnp_widening.proofs.NewObjects.{IsRehoused, pads_in_rows}
 use Rattle.capnp_widening.proofs.WrittenAnew.{writes_none}
+use Rattle.capnp_widening.proofs.Statements.{SettlesRoom, rewriting}
 
 pub no_numbers_copied : (S : Segments) (s p width v r z : ℕ) → AreNumbersCopied S S s p width v r z 0
 no_numbers_copied S s p width v r z = record { segments = refl; words = λ x. refl; here = λ i l. absurd (omega arith); behind = λ i j l m o. refl; kept = λ x y e. refl }
@@ -73,9 +74,9 @@ numbers_copied_next S M R s p width v r z i x b apart some place e f =
 pub record NumberSteps (S T B D R Z Q : Segments) (id at width n : ℕ) (size : StructSize) (h : Room) : Type 0 where
   pub place : IsPlace S id at
   pub room : IsRoom S T id (1 + n * (size.data_words + size.pointers)) h
-  pub tagged : IsTagWritten (rewriting h.segment (h.at + h.pads) T B) n size
+  pub tagged : IsTagWritten T B (record { segment = h.segment; at = h.at + h.pads }) n size
   pub copied : AreNumbersCopied B D (target S id at).segment (target S id at).start (element_bits width) h.segment (h.at + h.pads + 1) (size.data_words + size.pointers) n
-  pub settled : Settles (rewriting id at D R) h (ListShape InlineComposite (n * (size.data_words + size.pointers)))
+  pub settled : SettlesRoom (rewriting id at D R) h (ListShape InlineComposite (n * (size.data_words + size.pointers)))
   pub object_zeroed : (target S id at).start + words_for width n ≤ length (segment R (target S id at).segment) → IsZeroed R Z (row (target S id at).segment (target S id at).start (words_for width n) ∷ [])
   pub pads_zeroed : PadsInside Z (word_at S id at) → IsZeroed Z Q (pads_of (word_at S id at))
 
@@ -85,7 +86,7 @@ record NumbersStand (S D : Segments) (ns : List ℕ) (v r wd wk : ℕ) : Type 0 
   zero : (i j : ℕ) → i < length ns → 0 < j → j < wd + wk → word_at D v (r + i * (wd + wk) + j) ≡ 0
 
 numbers_stand : (S T B D : Segments) (id at width : ℕ) (ns : List ℕ) (v p pads : ℕ) (size : StructSize) → IsStored S id at (Flat width ns) → 2 ≤ width → width ≤ 5 → IsGrown S T v p (pads + (1 + length ns * (size.data_words + size.pointers))) →
-    IsTagWritten (rewriting v (p + pads) T B) (length ns) size →
+    IsTagWritten T B (record { segment = v; at = p + pads }) (length ns) size →
     AreNumbersCopied B D (target S id at).segment (target S id at).start (element_bits width) v (p + pads + 1) (size.data_words + size.pointers) (length ns) → NumbersStand S D ns v (p + pads + 1) size.data_words size.pointers
 numbers_stand S T B D id at width ns v p pads size x two five g t c =
     let a = target S id at in
@@ -158,18 +159,17 @@ numbers_become S T B D R Z Q id at width ns d k h x two five s =
     ∙ elim (cases_lt j 1) [
       | inl o ↦ (let none : j ≡ 0 = omega arith in rw none (ap (word_at D v) (let f : first + i * z + 0 ≡ first + i * z = omega arith in f) ∙ stand.first i l ∙ sym (filled_at d 0 (get_or ns i 0 ∷ []) (omega arith))))
       | inr o ↦ stand.zero i j l (omega arith) (omega (arith, m, length-fill_words d (get_or ns i 0 ∷ []))) ∙ sym (filled_past d j (get_or ns i 0 ∷ []) (omega arith))
-    ]) in e) in
-    record {
-      replaced = numbers_widened S M Q id at width ns d k b fresh x r (record {
+    ]) in e) in (
+      numbers_widened S M Q id at width ns d k b fresh x r (record {
         words = word;
         nulls_behind = λ i j l m. ap (word_at M b.segment) (let e : b.start + 1 + i * z + wd + j ≡ b.start + 1 + i * z + (wd + j) = omega arith in e)
             ∙ new.word i (wd + j) l (omega (arith, m)) (inr (omega arith)) ∙ stand.zero i (wd + j) l (omega arith) (omega (arith, m));
       }) (record {
         tag = subst (λ w. IsTag w n wd k) (sym new.tag) tag;
         leads_there = record { leads_to = last; is_list = shaped.0; is_size = shaped.1; counts = shaped.2 };
-      });
-      found = found_there (target Q id at) b wd k (element_count (struct_for_each d k ns)) n v (h.at + h.pads) (ap target_in last.1) segment_of start_of (count-struct_for_each d k ns);
-    }
+      }),
+      found_there (target Q id at) b wd k (element_count (struct_for_each d k ns)) n v (h.at + h.pads) (ap target_in last.1) segment_of start_of (count-struct_for_each d k ns),
+    )
 
 -- where it stands, and what words were taken for it
 pub record NumbersTaken (s b d q : View) (id n : ℕ) (size : StructSize) (h : Room) : Type 0 where

@@ -13,11 +13,12 @@ use Rattle.capnp_contents.specs.Existing.{list_in, plain_list}
 use Rattle.capnp_making.specs.Made.{words_of_zero, nulls, zero_elements}
 use Rattle.capnp_making.specs.Stored.{IsStored}
 use Rattle.capnp_widening.specs.declared.remaking.ElementRows.{ElementRows}
-use Rattle.capnp_widening.specs.RowsRemade.{rows_in, as_structs, StoresRows, BecomesList, RemakesList, IsList, WidensTo}
-use Rattle.capnp_widening.specs.Widened.{struct_for_each, struct_for_each_tree, limited, list_widened, LeavesAll, rewriting}
+use Rattle.capnp_widening.specs.RowsRemade.{rows_in, as_structs, StoresRows, BecomesList, IsList, WidensTo}
+use Rattle.capnp_widening.specs.Widened.{struct_for_each, struct_for_each_tree, limited, list_widened, LeavesAll}
 use Rattle.capnp_widening.proofs.Described.{counted}
 use Rattle.capnp_widening.proofs.Filled.{greater_words, greater_trees}
 use Rattle.capnp_widening.proofs.Listed.{same_list, flat_width, flat_found, number_of_size, listed_size, tree_size, few_enough, refused_for_any}
+use Rattle.capnp_widening.proofs.Statements.{RemakesList, rewriting}
 
 -- a list of pointers
 

@@ -17,8 +17,9 @@ use Rattle.capnp_making.proofs.Leading.{single_far_leads}
 use Rattle.capnp_making.proofs.MadeWords.{word_put, not_far, outside}
 use Rattle.capnp_widening.proofs.Basics.{is_far}
 use Rattle.capnp_making.proofs.Zeros.{in_row}
-use Rattle.capnp_widening.specs.Pointed.{ArePlainPads, HasPlainPads, IsPointed}
+use Rattle.capnp_widening.specs.Pointed.{HasPlainPads}
 use Rattle.capnp_widening.proofs.SameObjects.{double_far_leads}
+use Rattle.capnp_widening.proofs.Statements.{IsPointed}
 
 -- a near pointer
 pub pointed_near : (S R : Segments) (s p b x : ℕ) → p < length (segment S s) → b ≤ length (segment S s) → R ≡ with_word S s p x → x ≢ 0 → kind x ≢ 2 → IsOffsetTo p (offset_bits x) b →
@@ -110,7 +111,7 @@ pub no_two_pads : (R : Segments) (x y : ℕ) → y ≡ x → (kind x ≡ 2 → i
 no_two_pads R x y e none = λ far double. absurd (none (ap kind (sym e) ∙ far) (ap is_double (sym e) ∙ double))
 
 -- a word that leads to two pads, which are these
-pub two_pads : (R : Segments) (y h k q f x : ℕ) → y ≡ h → upper_half h ≡ k → far_position h ≡ q → word_at R k q ≡ f → word_at R k (q + 1) ≡ x → ArePlainPads f x → HasPlainPads R y
+pub two_pads : (R : Segments) (y h k q f x : ℕ) → y ≡ h → upper_half h ≡ k → far_position h ≡ q → word_at R k q ≡ f → word_at R k (q + 1) ≡ x → (kind f ≡ 2) × (is_double f ≡ 0) × (offset_bits x ≡ 0) → HasPlainPads R y
 two_pads R y h k q f x e at to first second plain = λ far double.
-    subst (λ z. ArePlainPads (word_at R (upper_half z) (far_position z)) (word_at R (upper_half z) (far_position z + 1))) (sym e)
+    subst (λ z. (kind (word_at R (upper_half z) (far_position z)) ≡ 2) × (is_double (word_at R (upper_half z) (far_position z)) ≡ 0) × (offset_bits (word_at R (upper_half z) (far_position z + 1)) ≡ 0)) (sym e)
     (rw (at, to) (rw (first, second) plain))

@@ -20,9 +20,9 @@ use Rattle.capnp_making.proofs.PlacedStructs.{count-zero_elements}
 use Rattle.capnp_widening.specs.declared.remaking.ElementRows.{ElementRows}
 use Rattle.capnp_widening.specs.declared.widening.Room.{Room}
 use Rattle.capnp_widening.specs.Anew.{BecomesAnew, StandsAnew, WritesAnew}
-use Rattle.capnp_widening.specs.Moved.{Move, rows_of_moves, fresh_pads, IsMoved, HaveValuesInside, Moves, MovesSome, Unmoves}
+use Rattle.capnp_widening.specs.Moved.{Move, rows_of_moves, fresh_pads, IsMoved, Moves, MovesSome, Unmoves}
 use Rattle.capnp_widening.specs.RowsRemade.{AreRowsCopied, BecomesList, as_structs}
-use Rattle.capnp_widening.specs.Widened.{struct_for_each_tree, GrowsByZeros, rewriting}
+use Rattle.capnp_widening.specs.Widened.{struct_for_each_tree, GrowsByZeros}
 use Rattle.capnp_widening.proofs.ListSteps.{ListSteps, ListTaken, ListUndone, ObjectStored, object_remade, found_there, list_at}
 use Rattle.capnp_widening.proofs.ListsWidened.{pointers_widened, void_widened, count-struct_for_each_tree}
 use Rattle.capnp_widening.proofs.Movings.{children_stand}
@@ -31,6 +31,7 @@ use Rattle.capnp_widening.proofs.Remade.{IsRemade, leads_last, object_anew, undo
 use Rattle.capnp_widening.proofs.Rows.{no_moves}
 use Rattle.capnp_widening.proofs.RowsCopied.{data_copied, tag_copied, list_written}
 use Rattle.capnp_widening.proofs.NewObjects.{IsRehoused, pads_in_rows}
+use Rattle.capnp_widening.proofs.Statements.{HaveValuesInside, rewriting}
 
 abbrev pub pointer_rows : Segments → ℕ → ℕ → Trees → ElementRows
 pointer_rows S id at ts = record { segment = (target S id at).segment; at = (target S id at).start; tag = 0; size = record { data_words = 0; pointers = 1 }; count = count ts }
@@ -111,9 +112,8 @@ wider_pointers S T B D P R Z Q id at ts d k h x s =
     let fresh = row v h.at (h.pads + wide) ∷ fresh_pads P ms in
     let r = subst (λ is. IsRehoused S M Q id at a n b wide is (pads_in_rows M b.segment (b.start + 1 + d) z 1 n) fresh) (pads_in_words M a.segment a.start n)
     (rows_rehoused S T D P R Q id at a n b a.segment a.start 1 1 n d wk v h.at h.pads made) in
-    let last = leads_last S T D P R Q id at a n b v h.at h.pads wide ms made in
-    record {
-      replaced = pointers_widened S M Q id at ts d k b fresh x r (record {
+    let last = leads_last S T D P R Q id at a n b v h.at h.pads wide ms made in (
+      pointers_widened S M Q id at ts d k b fresh x r (record {
         words = λ i l. zeros_there M b.segment (b.start + 1 + i * z) d (omega (arith, r.claim, element_within z n i l)) (λ j m. new.word i j l (omega (arith, m)) (inl m) ∙ rows.zero i j l (omega arith) (omega (arith, m)));
         moved = λ i l. subst (λ p. IsMoved M a.segment p b.segment (b.start + 1 + i * z + d)) (let e : a.start + i * 1 + 0 ≡ a.start + i = omega arith in e)
             (subst (λ p. IsMoved M a.segment (a.start + i * 1 + 0) b.segment p) (let e : b.start + 1 + i * z + d + 0 ≡ b.start + 1 + i * z + d = omega arith in e) (new.moved i 0 l (omega arith)));
@@ -122,9 +122,9 @@ wider_pointers S T B D P R Z Q id at ts d k h x s =
       }) (record {
         tag = subst (λ w. IsTag w n d wk) (sym new.tag) tag;
         leads_there = record { leads_to = last; is_list = shaped.0; is_size = shaped.1; counts = shaped.2 };
-      });
-      found = found_there (target Q id at) b d wk (element_count (struct_for_each_tree d k ts)) n v (h.at + h.pads) (ap target_in last.1) segment_of start_of (count-struct_for_each_tree d k ts);
-    }
+      }),
+      found_there (target Q id at) b d wk (element_count (struct_for_each_tree d k ts)) n v (h.at + h.pads) (ap target_in last.1) segment_of start_of (count-struct_for_each_tree d k ts),
+    )
 
 pub pointers_become : (S T B D P R Z Q : Segments) (id at : ℕ) (ts : Trees) (size : StructSize) (h : Room) → IsStored S id at (Pointers ts) →
     ListSteps S T B D P R Z Q id at (pointer_rows S id at ts) size h → BecomesList (rewriting id at S Q) (list_at h size (count ts)) (Pointers ts) (as_structs size (Pointers ts))
@@ -241,18 +241,17 @@ void_become S T B D P R Z Q id at ns size h x s =
     let fresh = row v h.at (h.pads + wide) ∷ fresh_pads P ms in
     let r = subst (λ is. IsRehoused S M Q id at a 0 b wide [] is fresh) (no_pads M b.segment (b.start + 1 + d) z n)
     (subst (λ is. IsRehoused S M Q id at a 0 b wide is (pads_in_rows M b.segment (b.start + 1 + d) z 0 n) fresh) (no_pads M a.segment p 0 n) (rows_rehoused S T D P R Q id at a 0 b a.segment p 0 0 n d k v h.at h.pads made)) in
-    let last = leads_last S T D P R Q id at a 0 b v h.at h.pads wide ms made in
-    record {
-      replaced = void_widened S M Q id at ns d k b fresh x r (record {
+    let last = leads_last S T D P R Q id at a 0 b v h.at h.pads wide ms made in (
+      void_widened S M Q id at ns d k b fresh x r (record {
         words = λ i l. zeros_there M b.segment (b.start + 1 + i * z) d (omega (arith, r.claim, element_within z n i l)) (λ j m. new.word i j l (omega (arith, m)) (inl m) ∙ rows.zero i j l (omega arith) (omega (arith, m)));
         nulls_behind = λ i j l m. ap (word_at M b.segment) (let e : b.start + 1 + i * z + d + j ≡ b.start + 1 + i * z + (d + j) = omega arith in e)
             ∙ new.word i (d + j) l (omega (arith, m)) (inr (omega arith)) ∙ rows.zero i (d + j) l (omega arith) (omega (arith, m));
       }) (record {
         tag = subst (λ w. IsTag w n d k) (sym new.tag) tag;
         leads_there = record { leads_to = last; is_list = shaped.0; is_size = shaped.1; counts = shaped.2 };
-      });
-      found = found_there (target Q id at) b d k (element_count (zero_elements d k n)) n v (h.at + h.pads) (ap target_in last.1) segment_of start_of (count-zero_elements d k n);
-    }
+      }),
+      found_there (target Q id at) b d k (element_count (zero_elements d k n)) n v (h.at + h.pads) (ap target_in last.1) segment_of start_of (count-zero_elements d k n),
+    )
 
 pub void_anew : (s b d p r z q : View) (T : Segments) (id at : ℕ) (ns : List ℕ) (size : StructSize) (h : Room) → IsStored s.words id at (Flat 0 ns) →
     ListSteps s.words T b.words d.words p.words r.words z.words q.words id at (void_rows s.words id at ns) size h → ListTaken s b d p q id (void_rows s.words id at ns) size h →

@@ -18,13 +18,13 @@ use Rattle.capnp_making.proofs.Extents.{times-first}
 use Rattle.capnp_making.proofs.MadeWords.{IsPut, word_put, outside}
 use Rattle.capnp_widening.proofs.Basics.{once_row}
 use Rattle.capnp_making.proofs.Zeros.{in_row, of_row}
-use Rattle.capnp_widening.specs.Moved.{Move, AllMoved, CanMove, AreMoved, Moves, MovesSome, Unmoves, new_places, fresh_pads}
+use Rattle.capnp_widening.specs.Moved.{Move, CanMove, AreMoved, Moves, MovesSome, Unmoves, new_places, fresh_pads}
 use Rattle.capnp_widening.specs.Anew.{OnlyWrites, StandsAnew, WritesAnew}
-use Rattle.capnp_widening.specs.Housed.{IsSettled}
 use Rattle.capnp_widening.specs.Widened.{GrowsByZeros}
 use Rattle.capnp_widening.proofs.Movings.{SameMoves, StaysMoved, same_moves, moved_still, all_old_inside, fresh_pads-append, can_left, old_place_inside, unwritten, left_null}
 use Rattle.capnp_widening.proofs.NewObjects.{IsRehoused, old_pads, new_pads}
 use Rattle.capnp_widening.proofs.WrittenAnew.{pads_after, pads_before, written_later}
+use Rattle.capnp_widening.proofs.Statements.{AllMoved, IsSettled}
 
 -- Words are taken in segment v from position at on, for pads and an object of wide words, which is then written; its new pointers are to be moved there.
 pub record IsBegun (S T D : Segments) (v at pads wide : ℕ) (ms : List Move) : Type 0 where
@@ -255,17 +255,15 @@ undone S T D P U Z v at pads wide ms h some f g =
     let none_left = λ (x y : ℕ). (let e : times (fresh_pads P left) x y ≡ 0 = unwritten P left (left_null S D P done left whole a) x y in e) in
     let fresh = λ (x y : ℕ). (let e : times (fresh_pads P ms) x y ≡ times (fresh_pads P done) x y = omega (arith, fresh_all x y, none_left x y) in e) in
     let begun = taken_once S T D v at pads wide ms h in
-    let undo = f (record {
-      inside = λ x y l. (a.fresh x y (omega (arith, fresh x y))).1;
-      old_apart = λ x y l. elim (cases_eq (times (fresh_pads P done) x y) 0) [
-        | inl e ↦ omega (arith, fresh x y)
-        | inr e ↦ absurd (omega (arith, (a.fresh x y (omega arith)).0, old_place_inside S ms h.can.stand x y l, longer S T D v at pads wide ms h x))
-      ];
-      new_apart = λ x y l. elim (cases_eq (times (fresh_pads P done) x y) 0) [
-        | inl e ↦ omega (arith, fresh x y)
-        | inr e ↦ absurd (omega (arith, (a.fresh x y (omega arith)).0, (h.can.behind x y l).1))
-      ];
-    }) in
+    let undo = f (λ x y l. (a.fresh x y (omega (arith, fresh x y))).1)
+    (λ x y l. elim (cases_eq (times (fresh_pads P done) x y) 0) [
+      | inl e ↦ omega (arith, fresh x y)
+      | inr e ↦ absurd (omega (arith, (a.fresh x y (omega arith)).0, old_place_inside S ms h.can.stand x y l, longer S T D v at pads wide ms h x))
+    ])
+    (λ x y l. elim (cases_eq (times (fresh_pads P done) x y) 0) [
+      | inl e ↦ omega (arith, fresh x y)
+      | inr e ↦ absurd (omega (arith, (a.fresh x y (omega arith)).0, (h.can.behind x y l).1))
+    ]) in
     let z = g (omega (arith, h.grown.room, h.words v, a.grows.words v, undo.words v)) in
     let sp = split S T D v at pads wide ms h in
     let places = λ (x y : ℕ) (e : times (row v (at + pads) wide ∷ []) x y ≡ 0). (let w : times (new_places done) x y ≡ 0 = fewer_places done left x y (ap (λ ns. times (new_places ns) x y) (sym some.all) ∙ not_new S T D v at pads wide ms h x y e) in w) in

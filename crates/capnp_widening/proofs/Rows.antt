@@ -9,10 +9,11 @@ use Rattle.capnp_format.proofs.Frame.{times-append}
 use Rattle.capnp_making.specs.Zeroed.{row}
 use Rattle.capnp_making.proofs.Below.{split_row}
 use Rattle.capnp_making.proofs.Extents.{times-first}
-use Rattle.capnp_widening.specs.Moved.{Move, row_of_moves, rows_of_moves, new_places, HaveValuesInside, AllMoved, IsMoved, Moves, Unmoves, MovesSome}
+use Rattle.capnp_widening.specs.Moved.{Move, row_of_moves, rows_of_moves, new_places, IsMoved, Moves, Unmoves, MovesSome}
 use Rattle.capnp_widening.proofs.Movings.{children_stand, new_places-append, moves_both, row_moved, row_old_pads, row_new_pads, row_new_places}
 use Rattle.capnp_widening.proofs.Unmoving.{unmoves_both}
 use Rattle.capnp_widening.proofs.NewObjects.{pads_in_rows, old_pads, new_pads}
+use Rattle.capnp_widening.proofs.Statements.{HaveValuesInside, AllMoved}
 
 -- rows, from the front on
 pub rows_next : (s p w v r z k n : ℕ) → rows_of_moves s p w v r z k (suc n) ≡ rows_of_moves s p w v r z k n ++ row_of_moves s (p + n * w) v (r + n * z) k

@@ -14,7 +14,6 @@ use Rattle.capnp_making.proofs.Zeros.{in_row, of_row}
 use Rattle.capnp_widening.specs.Housed.{AreWordsCopied}
 use Rattle.capnp_widening.specs.RowsRemade.{AreRowsCopied, IsTagWritten}
 use Rattle.capnp_widening.proofs.ListRemade.{RowsCopied}
-use Rattle.capnp_widening.specs.Widened.{rewriting}
 
 pub no_words_copied : (S : Segments) (s p w v r z n : ℕ) → AreRowsCopied S S s p w v r z 0 n
 no_words_copied S s p w v r z n = record { segments = refl; words = λ x. refl; here = λ i j l m. absurd (omega arith); behind = λ i j l m o. refl; kept = λ x y e. refl }
@@ -58,7 +57,7 @@ rows_copied_next S M R s p w v r z d i n b apart narrow narrower l c =
     within x y e f g h = omega (arith, subst (λ u. times (row v r ((i + 1) * z) ∷ []) u y ≡ 0) f e, of_row v r ((i + 1) * z) y g h)
 
 -- what stands in new words behind a tag: copies of rows of S, and zeros
-pub data_copied : (S T B D : Segments) (s p d k n v at pads : ℕ) (size : StructSize) → IsGrown S T v at (pads + (1 + n * (size.data_words + size.pointers))) → IsTagWritten (rewriting v (at + pads) T B) n size →
+pub data_copied : (S T B D : Segments) (s p d k n v at pads : ℕ) (size : StructSize) → IsGrown S T v at (pads + (1 + n * (size.data_words + size.pointers))) → IsTagWritten T B (record { segment = v; at = (at + pads) }) n size →
     AreRowsCopied B D s p (d + k) v (at + pads + 1) (size.data_words + size.pointers) d n → p + n * (d + k) ≤ length (segment S s) → RowsCopied S D d k n s p v (at + pads + 1) size.data_words size.pointers
 data_copied S T B D s p d k n v at pads size g t c fits =
     let z = size.data_words + size.pointers in
@@ -71,10 +70,10 @@ data_copied S T B D s p d k n v at pads size g t c fits =
           ∙ g.zero v (at + pads + 1 + i * z + j) (omega (arith, g.behind));
     }
 
-pub tag_copied : (T B D : Segments) (s p w d n v at z : ℕ) (size : StructSize) → IsTagWritten (rewriting v at T B) n size → AreRowsCopied B D s p w v (at + 1) z d n → IsTag (word_at D v at) n size.data_words size.pointers
+pub tag_copied : (T B D : Segments) (s p w d n v at z : ℕ) (size : StructSize) → IsTagWritten T B (record { segment = v; at = at }) n size → AreRowsCopied B D s p w v (at + 1) z d n → IsTag (word_at D v at) n size.data_words size.pointers
 tag_copied T B D s p w d n v at z size t c =
     subst (λ x. IsTag x n size.data_words size.pointers) (sym (c.kept v at (beside_row v (at + 1) (n * z) v at (λ e f g. omega arith)))) t.tag
 
-pub list_written : (T B D : Segments) (s p w d n v at z : ℕ) (size : StructSize) → IsTagWritten (rewriting v at T B) n size → AreRowsCopied B D s p w v (at + 1) z d n →
+pub list_written : (T B D : Segments) (s p w d n v at z : ℕ) (size : StructSize) → IsTagWritten T B (record { segment = v; at = at }) n size → AreRowsCopied B D s p w v (at + 1) z d n →
     (x y : ℕ) → times (row v at (1 + n * z) ∷ []) x y ≡ 0 → word_at D x y ≡ word_at T x y
 list_written T B D s p w d n v at z size t c x y e = c.kept x y (omega (arith, e, split_row v at 1 (n * z) x y)) ∙ t.kept x y (omega (arith, e, split_row v at 1 (n * z) x y))

@@ -7,11 +7,12 @@ use Rattle.capnp_format.specs.Segments.{Segments, segment, word_at, words_at, Ha
 use Rattle.capnp_format.specs.Tree.{Tree, Null, Capability, Struct, Flat, Pointers, Structs, Trees, no_trees, tree, count, element_count}
 use Rattle.capnp_format.specs.Means.{Leads, StructAt, count_cost, Means, MeansAll}
 use Rattle.capnp_format.specs.Forest.{Interval, times, pads_of, object_of, target, target_in, cover, cover_all, cover_elements, IsTidy, AreTidy, AreTidyElements}
-use Rattle.capnp_widening.specs.Moved.{SameObject, SameStart, same_place, of_no_words, of_capability, IsMoved}
+use Rattle.capnp_widening.specs.Moved.{SameObject, IsMoved}
 use Rattle.capnp_format.proofs.Following.{IsOffsetTo, offset_at}
 use Rattle.capnp_format.proofs.Frame.{times-append}
 use Rattle.capnp_making.proofs.Extents.{times-object}
 use Rattle.capnp_widening.proofs.NewObjects.{pads_from}
+use Rattle.capnp_widening.proofs.Statements.{SameStart}
 
 -- where a near word leads, a far word by one pad, and a far word by two
 pub near_leads : (S : Segments) (s p b : ℕ) → word_at S s p ≢ 0 → kind (word_at S s p) ≢ 2 → b ≤ length (segment S s) → IsOffsetTo p (offset_bits (word_at S s p)) b →
@@ -103,7 +104,7 @@ struct_moved : (S : Segments) (n s p v r : ℕ) (ws : List ℕ) (ts : Trees) (c 
     HasWords S a.segment a.start ws → MeansAll S (pred n) a.segment (a.start + length ws) ts k →
     c ≡ a.pads + (length ws + count ts) + k →
     SameStart S a b → MeansToo S n s p v r (Struct ws ts) c
-struct_moved S n s p v r ws ts c b a k l same some o claim e all g (same_place seg start) = record {
+struct_moved S n s p v r ws ts c b a k l same some o claim e all g (inl (seg, start)) = record {
   cost = b.pads + (length ws + count ts) + k;
   means = (
     b,
@@ -120,7 +121,7 @@ struct_moved S n s p v r ws ts c b a k l same some o claim e all g (same_place s
       (omega (arith, same_object_times a b (length ws + count ts) x y seg start, ap₂ (λ z w. times (cover_all S z (w + length ws) ts) x y) seg start));
   tidy = λ h. subst (λ z. AreTidy S z.segment (z.start + length ws) ts) (sym (ap target_in l.1)) (rw (seg, start) (subst (λ z. AreTidy S z.segment (z.start + length ws) ts) (ap target_in o.leads_to.1) h));
 }
-struct_moved S n s p v r [] no_trees c b a k l same some o claim e all g (of_no_words is_struct empty fits) = record {
+struct_moved S n s p v r [] no_trees c b a k l same some o claim e all g (inr (inl (is_struct, empty, fits))) = record {
   cost = b.pads + 0 + 0;
   means = (
     b,
@@ -136,14 +137,14 @@ struct_moved S n s p v r [] no_trees c b a k l same some o claim e all g (of_no_
   covers = λ x y. object_moved S s p v r 0 0 a b (λ z. []) x y o.leads_to.1 l.1 (omega (arith, no_words a x y, no_words b x y));
   tidy = λ h. tt;
 }
-struct_moved S n s p v r ws ts c b a k l same some o claim e all g (of_capability low) = absurd (let x = o.is_struct in omega arith)
-struct_moved S n s p v r (w ∷ ws) ts c b a k l same some o claim e all g (of_no_words is_struct empty fits) = absurd (let d = o.data_of in omega arith)
-struct_moved S n s p v r [] (tree t ts) c b a k l same some o claim e all g (of_no_words is_struct empty fits) = absurd (let d = o.pointers in omega arith)
+struct_moved S n s p v r ws ts c b a k l same some o claim e all g (inr (inr low)) = absurd (let x = o.is_struct in omega arith)
+struct_moved S n s p v r (w ∷ ws) ts c b a k l same some o claim e all g (inr (inl (is_struct, empty, fits))) = absurd (let d = o.data_of in omega arith)
+struct_moved S n s p v r [] (tree t ts) c b a k l same some o claim e all g (inr (inl (is_struct, empty, fits))) = absurd (let d = o.pointers in omega arith)
 
 not_empty : (a b : Target) (S : Segments) → SameStart S a b → kind a.word ≡ 1 → (b.segment ≡ a.segment) × (b.start ≡ a.start)
-not_empty a b S (same_place e f) list = (e, f)
-not_empty a b S (of_no_words e f g) list = absurd (omega arith)
-not_empty a b S (of_capability e) list = absurd (omega arith)
+not_empty a b S (inl (e, f)) list = (e, f)
+not_empty a b S (inr (inl (e, f, g))) list = absurd (omega arith)
+not_empty a b S (inr (inr e)) list = absurd (omega arith)
 
 -- one target
 leads_once : (S : Segments) (s p : ℕ) (a b c : Target) → leads S s p ≡ Some a → leads S s p ≡ Some b → SameObject S a c → SameObject S b c

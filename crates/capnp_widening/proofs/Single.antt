@@ -19,11 +19,12 @@ use Rattle.capnp_making.specs.declared.making.Start.{Start}
 use Rattle.capnp_making.proofs.Extents.{once_held, times-first}
 use Rattle.capnp_making.proofs.MadeWords.{word_put, not_far}
 use Rattle.capnp_widening.proofs.Basics.{is_far, once_row}
-use Rattle.capnp_widening.specs.Moved.{SameObject, same_place, of_no_words, IsMoved, Extends, HasValueInside, a_move, fresh_pads, CanMove, AreMoved}
-use Rattle.capnp_widening.specs.Pointed.{IsPointed, PointsTo}
+use Rattle.capnp_widening.specs.Moved.{SameObject, IsMoved, HasValueInside, a_move, fresh_pads, CanMove, AreMoved}
+use Rattle.capnp_widening.specs.Pointed.{PointsTo}
 use Rattle.capnp_widening.proofs.SameObjects.{near_leads, near_found}
 use Rattle.capnp_widening.proofs.Moves.{moved_far, moved_capability}
 use Rattle.capnp_widening.proofs.NewObjects.{own_pads}
+use Rattle.capnp_widening.proofs.Statements.{Extends, IsPointed, points_at}
 
 -- what stands in B stands in what extends it
 pub stands_later : (B R : Segments) (s p : ℕ) → Extends B R → HasValueInside B s p → (t : Tree) × (n : ℕ) × (c : ℕ) × Means R n s p t c × (word_at R s p ≡ word_at B s p)
@@ -100,7 +101,7 @@ copied_moves B S R s p v r some other e c =
     let here = place_there B S s p v r c in
     let put = word_put S R v r x here.1 e in
     let old : word_at R s p ≡ x = put.kept s p (apart_places B S s p v r c) in
-    let (t, n, k, m, stays) = stands_later B S s p c.extends c.stand.0 in
+    let (t, n, k, m, stays) = stands_later B S s p (record { grows = c.grows; kept = c.kept }) c.stand.0 in
     let (a, l, what) = means_leads S n s p t k some m in
     let grows : Grows S R = record { segments = le_of_eq (sym put.segments); words = λ y. le_of_eq (sym (put.words y)) } in
     let untouched = λ (y z : ℕ) (w : z < length (segment B y)). (let f : word_at R y z ≡ word_at S y z = put.kept y z (not_behind y z w) in f) in
@@ -135,12 +136,13 @@ copied_moves B S R s p v r some other e c =
     ]
 
     pads_inside : (y z : ℕ) → 0 < times (pads_of (word_at S s p)) y z → z < length (segment B y)
-    pads_inside y z h = old_pads_inside B S s p c.extends c.stand.0 y z h
+    pads_inside y z h = old_pads_inside B S s p (record { grows = c.grows; kept = c.kept }) c.stand.0 y z h
 
 -- a near pointer, written anew to where it leads
 pub near_moves : (B S R : Segments) (s p v r start : ℕ) (shape : Shape) (h at : Start) → word_at S s p ≢ 0 → IsShape shape (word_at S s p) → offset_leads (length (segment S s)) p (offset_bits (word_at S s p)) ≡ Some start →
     h.segment ≡ s → h.at ≡ start → at.segment ≡ v → at.at ≡ r → PointsTo S R shape h at → CanMove B S (a_move s p v r ∷ []) → AreMoved S R (a_move s p v r ∷ [])
-near_moves B S R s p v r start shape h at some shaped goes hs ha vs rs (b, w, kind_of, lies) c =
+near_moves B S R s p v r start shape h at some shaped goes hs ha vs rs points c =
+    let (b, w, kind_of, lies) = points_at points in
     let x = word_at S s p in
     let here = place_there B S s p v r c in
     let w' : IsPointed S R v r b = subst (λ z. IsPointed S R z r b) vs (subst (λ z. IsPointed S R at.segment z b) rs w) in
@@ -149,7 +151,7 @@ near_moves B S R s p v r start shape h at some shaped goes hs ha vs rs (b, w, ki
     let o = offset_is (length (segment S s)) p (offset_bits x) start goes in
     let a : Target = record { word = x; segment = s; start = start; pads = 0 } in
     let l : Leads S s p a = near_leads S s p start some near o.0 o.1 in
-    let long : p < length (segment S s) = omega (arith, here.0, c.extends.grows.words s) in
+    let long : p < length (segment S s) = omega (arith, here.0, c.grows.words s) in
     let old : word_at R s p ≡ x = w'.kept s p (apart_places B S s p v r c) long in
     let l' : Leads R s p a = leads_agree (record { grows = w'.grows; same = old }) (λ y z m. absurd (omega (arith, ap (λ js. times js y z) (not_far x near)))) l in
     let not_two : kind (word_at R s p) ≢ 2 = λ f. near (ap kind (sym old) ∙ f) in
@@ -161,8 +163,8 @@ near_moves B S R s p v r start shape h at some shaped goes hs ha vs rs (b, w, ki
       same_sizes = same.1;
       capability = λ low. absurd (omega (arith, same.2));
       same_start = elim lies [
-        | inl (i, j) ↦ same_place (i ∙ hs) (j ∙ ha)
-        | inr (i, j) ↦ of_no_words (sym same.0 ∙ i) (sym same.1 ∙ j) w'.inside
+        | inl (i, j) ↦ inl (i ∙ hs, j ∙ ha)
+        | inr (i, j) ↦ inr (inl (sym same.0 ∙ i, sym same.1 ∙ j, w'.inside))
       ];
     } in
     record {
@@ -178,7 +180,7 @@ near_moves B S R s p v r start shape h at some shaped goes hs ha vs rs (b, w, ki
 -- a near pointer that leads nowhere means nothing
 pub means_nothing : (B S : Segments) (s p v r : ℕ) → word_at S s p ≢ 0 → kind (word_at S s p) ≢ 2 → offset_leads (length (segment S s)) p (offset_bits (word_at S s p)) ≡ None → CanMove B S (a_move s p v r ∷ []) → ⊥
 means_nothing B S s p v r some near goes c =
-    let (t, n, k, m, stays) = stands_later B S s p c.extends c.stand.0 in
+    let (t, n, k, m, stays) = stands_later B S s p (record { grows = c.grows; kept = c.kept }) c.stand.0 in
     let (a, l, what) = means_leads S n s p t k some m in
     let found = near_found S s p a near l.1 in
     let e = goes in

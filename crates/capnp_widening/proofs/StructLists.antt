@@ -12,9 +12,10 @@ use Rattle.capnp_contents.specs.Existing.{list_in, struct_list}
 use Rattle.capnp_making.specs.Stored.{IsStored}
 use Rattle.capnp_making.proofs.Filling.{unchanged}
 use Rattle.capnp_widening.specs.declared.remaking.ElementRows.{ElementRows}
-use Rattle.capnp_widening.specs.RowsRemade.{rows_in, as_structs, StoresRows, BecomesList, IsList, WidensTo, RemakesList}
-use Rattle.capnp_widening.specs.Widened.{fill_elements, limited, list_widened, LeavesAll, rewriting}
+use Rattle.capnp_widening.specs.RowsRemade.{rows_in, as_structs, StoresRows, BecomesList, IsList, WidensTo}
+use Rattle.capnp_widening.specs.Widened.{fill_elements, limited, list_widened, LeavesAll}
 use Rattle.capnp_widening.proofs.Listed.{same_list, flat_width, listed_size, tree_size, few_enough, refused_for_any, filled_to_greater, structs_stay, structs_widen}
+use Rattle.capnp_widening.proofs.Statements.{RemakesList, rewriting}
 
 -- what a list of structs is, by what is found
 pub record AreStructs (S : Segments) (s p : ℕ) (t : Tree) (l : ExistingList) : Type 0 where
@@ -42,7 +43,7 @@ are_structs S s p t l is (x, e) = go t x e
 pub structs_kept : (S : Segments) (s p : ℕ) (l : ExistingList) (size : StructSize) → size_number l.size ≡ 7 → size.data_words ≤ l.struct_size.data_words → size.pointers ≤ l.struct_size.pointers → WidensTo l size (rewriting s p S S) l
 structs_kept S s p l size is wide many = λ t i.
     (let k = are_structs S s p t l is i in
-    (t, ap (list_widened size.data_words size.pointers) k.tree ∙ structs_stay size.data_words size.pointers l.struct_size.data_words l.struct_size.pointers k.elements wide many ∙ ap Ok (sym k.tree), record { replaced = unchanged S s p t i.0; found = i.1 }))
+    (t, ap (list_widened size.data_words size.pointers) k.tree ∙ structs_stay size.data_words size.pointers l.struct_size.data_words l.struct_size.pointers k.elements wide many ∙ ap Ok (sym k.tree), (unchanged S s p t i.0, i.1)))
 
 -- the rows that it is
 abbrev pub rows_of : ExistingList → ElementRows

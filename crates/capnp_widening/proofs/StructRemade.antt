@@ -15,13 +15,14 @@ use Rattle.capnp_making.proofs.Extents.{times-first, times-object}
 use Rattle.capnp_widening.proofs.Basics.{once_row}
 use Rattle.capnp_making.proofs.Below.{split_row}
 use Rattle.capnp_making.proofs.Zeros.{in_row}
-use Rattle.capnp_widening.specs.Moved.{IsMoved, row_of_moves, new_places, fresh_pads, HaveValuesInside}
+use Rattle.capnp_widening.specs.Moved.{IsMoved, row_of_moves, new_places, fresh_pads}
 use Rattle.capnp_widening.specs.Housed.{AreWordsCopied}
 use Rattle.capnp_widening.specs.Widened.{fill_words, fill_trees}
 use Rattle.capnp_widening.proofs.Movings.{children_stand, row_moved, row_old_pads, row_new_pads, row_new_places, same_old, same_new}
 use Rattle.capnp_widening.proofs.Remade.{IsBegun, IsRemade, before_last, is_rehoused, all_moved, moves_same, object_word, leads_last}
 use Rattle.capnp_widening.proofs.Widenings.{struct_widened, length-fill_words, count-fill_trees}
 use Rattle.capnp_widening.proofs.NewObjects.{IsRehoused, pads_from, old_pads, new_pads}
+use Rattle.capnp_widening.proofs.Statements.{HaveValuesInside}
 
 -- words, one by one
 
@@ -102,10 +103,8 @@ struct_begun S T D u q ws ts d k v at pads x ld lk g c =
       words = c.words;
       written = λ y z e. c.kept y z (omega (arith, e, object y z, front y z, within_d y z));
       can = record {
-        extends = record {
-          grows = record { segments = omega (arith, g.grows.segments, c.segments); words = λ y. omega (arith, g.grows.words y, c.words y) };
-          kept = λ y z l. c.kept y z (new_row y z l) ∙ g.kept y z l;
-        };
+        grows = record { segments = omega (arith, g.grows.segments, c.segments); words = λ y. omega (arith, g.grows.words y, c.words y) };
+        kept = λ y z l. c.kept y z (new_row y z l) ∙ g.kept y z l;
         stand = parts.stand v (at + pads + d);
         behind = λ y z l.
             (let held : 0 < times (row v (at + pads + d) (count ts) ∷ []) y z = omega (arith, l, places y z) in

@@ -23,19 +23,20 @@ use Rattle.capnp_making.proofs.Extents.{times-first, once_held}
 use Rattle.capnp_making.proofs.Zeros.{zeroed_again}
 use Rattle.capnp_widening.specs.declared.widening.Room.{Room}
 use Rattle.capnp_widening.specs.Moved.{Move, Moves, MovesSome, Unmoves, row_of_moves}
-use Rattle.capnp_widening.specs.Anew.{BecomesAnew, OnlyWrites, StandsAnew, WidensStructAnew, WritesAnew}
-use Rattle.capnp_widening.specs.Housed.{IsRoom, AreWordsCopied, Settles, object_start}
-use Rattle.capnp_widening.specs.Widened.{fill_words, fill_trees, GrowsByZeros, IsStruct, LeadsToWiderStruct, LeavesAll, WidensStruct, rewriting, widened}
+use Rattle.capnp_widening.specs.Anew.{BecomesAnew, OnlyWrites, StandsAnew, WritesAnew}
+use Rattle.capnp_widening.specs.Housed.{IsRoom, AreWordsCopied, object_start}
+use Rattle.capnp_widening.specs.Widened.{fill_words, fill_trees, GrowsByZeros, IsStruct, LeavesAll, widened}
 use Rattle.capnp_widening.proofs.Remade.{IsRemade, leads_last, object_anew, undone}
 use Rattle.capnp_widening.proofs.StructRemade.{struct_parts, struct_begun, struct_remade}
 use Rattle.capnp_widening.proofs.Widenings.{length-fill_words, count-fill_trees}
+use Rattle.capnp_widening.proofs.Statements.{WidensStructAnew, SettlesRoom, LeadsToWiderStruct, WidensStruct, rewriting}
 
 pub record StructSteps (S T D P R Z Q : Segments) (id at : ℕ) (old : ExistingStruct) (size : StructSize) (h : Room) : Type 0 where
   pub place : IsPlace S id at
   pub room : IsRoom S T id (size.data_words + size.pointers) h
   pub copied : AreWordsCopied T D (record { segment = old.segment; at = old.start }) (record { segment = h.segment; at = (h.at + h.pads) }) old.size.data_words
   pub moves : Moves D P (row_of_moves old.segment (old.start + old.size.data_words) h.segment (h.at + h.pads + size.data_words) old.size.pointers)
-  pub settled : Settles (rewriting id at P R) h (StructShape size)
+  pub settled : SettlesRoom (rewriting id at P R) h (StructShape size)
   pub object_zeroed : old.start + (old.size.data_words + old.size.pointers) ≤ length (segment R old.segment) → IsZeroed R Z (row old.segment old.start (old.size.data_words + old.size.pointers) ∷ [])
   pub pads_zeroed : PadsInside Z (word_at S id at) → IsZeroed Z Q (pads_of (word_at S id at))
   pub wider : (old.size.data_words ≤ size.data_words) × (old.size.pointers ≤ size.pointers)

@@ -8,10 +8,11 @@ use Rattle.capnp_making.specs.Memory.{KeepsMemory, IsNextRoom, Lengthens, TakesW
 use Rattle.capnp_making.proofs.Extents.{once_held}
 use Rattle.capnp_making.proofs.Memory.{keeps_both}
 use Rattle.capnp_widening.specs.Moved.{Move, a_move, row_of_moves, rows_of_moves, new_places, Moves}
-use Rattle.capnp_widening.specs.Anew.{IsWrittenAnew, pad_words, WritesPointer, OnlyWrites, AreWrittenAnew, TakesPadsInTurn, WritesAnew}
+use Rattle.capnp_widening.specs.Anew.{IsWrittenAnew, pad_words, OnlyWrites, AreWrittenAnew, TakesPadsInTurn, WritesAnew}
 use Rattle.capnp_widening.proofs.Movings.{can_left, can_right, new_places-append, row_next}
 use Rattle.capnp_widening.proofs.Rows.{rows_next}
 use Rattle.capnp_widening.proofs.Single.{place_there}
+use Rattle.capnp_widening.proofs.Statements.{WritesPointer}
 
 -- nothing is written, and one write after another
 
@@ -130,7 +131,7 @@ writes_none v = λ S k. (tt, writes_nothing v)
 pub writes_one : (a b : View) (s p v r : ℕ) → KeepsMemory a b → (word_at a.words v r ≡ 0 → WritesPointer s (word_at a.words s p) (call_at v r a b)) → WritesAnew a b (a_move s p v r ∷ [])
 writes_one a b s p v r kept w = λ S k.
     (let here = place_there S a.words s p v r k in
-    let old : word_at a.words s p ≡ word_at S s p = k.extends.kept s p here.0 in
+    let old : word_at a.words s p ≡ word_at S s p = k.kept s p here.0 in
     let one = subst (λ x. WritesPointer s x (call_at v r a b)) old (w here.2) in
     ((one.form, tt), (b, kept, one.taken, writes_nothing b)))
 

@@ -1,21 +1,22 @@
 -- How pointers are written anew, and the words that this takes ("Inter-Segment Pointers").
 use Rattle.std.specs.Prelude.{◌≡◌, ◌≢◌, ◌⊎◌, ℕ, ◌+◌, ◌-◌, ◌^◌, ◌<◌, ◌≤◌, if◌then◌else◌, nat_eq, nat_lt}
-use Rattle.std.specs.Prelude.{◌*◌, IfErr, IfOk, IsOk, List, [], ◌∷◌, length, Ok, OnErr, OnOk, Result, ⊤}
+use Rattle.std.specs.Prelude.{◌*◌, IfErr, IfOk, IsOk, List, [], ◌∷◌, length, OnErr, OnOk, Result, ⊤}
 use Rattle.capnp_words.specs.declared.error.ErrorKind.{ErrorKind}
 use Rattle.capnp_format.specs.Forest.{target}
 use Rattle.capnp_format.specs.Segments.{Segments, Grows, segment, word_at}
-use Rattle.capnp_format.specs.Tree.{Tree, Null, Struct, Trees}
+use Rattle.capnp_format.specs.Tree.{Tree, Struct, Trees}
 use Rattle.capnp_words.specs.declared.wire_pointer.StructSize.{StructSize}
 use Rattle.capnp_format.specs.Word.{kind, is_double, struct_word, upper_half}
 use Rattle.capnp_arena_traits.specs.View.{View, KeepsLimits}
 use Rattle.capnp_contents.specs.declared.existing.ExistingStruct.{ExistingStruct}
+use Rattle.capnp_contents.specs.Existing.{StructLiesIn}
 use Rattle.capnp_making.specs.Makes.{CallAt}
 use Rattle.capnp_making.specs.Memory.{KeepsMemory, SpendsMemory, RefusesWords}
 use Rattle.capnp_making.specs.Memory.{StandsBehind, TakesWords, start_of}
+use Rattle.capnp_making.specs.Stored.{IsReplaced}
 use Rattle.capnp_widening.specs.Moved.{CanMove, Move, Moves, MovesSome, moves_into, near_pointers}
 use Rattle.capnp_widening.specs.Rooms.{GrowsByAtMost, HasPadRoom, widened_words}
-use Rattle.capnp_widening.specs.Widened.{HasSections, LeadsToWiderStruct, LeavesAll, WidensStruct}
-use Rattle.capnp_widening.specs.Widened.{list_widened, rewriting, widened}
+use Rattle.capnp_widening.specs.Widened.{LeavesAll, widened}
 
 -- The pointer x, whose object lies in segment s if it is near, is written anew in segment v as y:
 -- null, a far pointer and a capability as they are; a near one near in its object's segment, where
@@ -32,12 +33,6 @@ pub record IsWrittenAnew (s v x y : ℕ) : Type 0 where
 abbrev pub pad_words : ℕ → ℕ → ℕ → ℕ
 pad_words s v x =
     if nat_eq s v then 0 else if nat_eq x 0 then 0 else if nat_lt (kind x) 2 then 1 else 0
-
--- A call writes the pointer x, whose object lies in segment s, anew at its place. A landing pad is
--- one word in that segment where it has room, and else two where the arena has room next.
-pub record WritesPointer (s x : ℕ) (c : CallAt) : Type 0 where
-  pub form : IsWrittenAnew s c.segment x (word_at c.new.words c.segment c.at)
-  pub taken : TakesWords c.old c.new s (pad_words s c.segment x)
 
 -- Words are written over others, and nothing else is changed.
 pub record OnlyWrites (old new : View) : Type 0 where
@@ -107,24 +102,23 @@ BecomesAnew c t u =
     (moves_into (start_of (target c.old.words c.segment c.at))
     (start_of (target c.new.words c.segment c.at)) t u)
 
--- The struct that stands at a place is made anew, as what it becomes where sections of a size are
--- wanted; or the list is, where these are larger than those of its elements.
-abbrev pub WidensStructAnew : (Tree → Type 0) → StructSize → CallAt → Type 0
-WidensStructAnew Stands size c =
-    (ws : List ℕ) (ts : Trees) → Stands (Struct ws ts) → BecomesAnew c (Struct ws ts) (widened size ws ts)
-
-abbrev pub WidensListAnew : (Tree → Type 0) → StructSize → CallAt → Type 0
-WidensListAnew Stands size c =
-    (t u : Tree) → Stands t → t ≢ Null → list_widened size.data_words size.pointers t ≡ Ok u →
-    (HasSections size t → ⊥) → BecomesAnew c t u
-
--- A call makes the struct that stands at a place wider, so that it has sections of at least a size;
--- or memory is refused, and the struct stands as it stood.
+-- A call makes the struct that stands at a place anew, so that it has sections of at least a size,
+-- and gives where it lies; or memory is refused, and the struct stands as it stood.
 pub record MakesStructWider (result : Result ExistingStruct ErrorKind) (Stands : Tree → Type 0)
     (size : StructSize) (c : CallAt) : Type 0 where
-  pub widened : OnOk result (WidensStruct Stands size (rewriting c.segment c.at c.old.words c.new.words))
-  pub leads : IfOk result (LeadsToWiderStruct Stands c.new.words c.segment c.at)
-  pub anew : OnOk result (WidensStructAnew Stands size c)
+  pub replaced :
+      OnOk result
+      ((ws : List ℕ) (ts : Trees) → Stands (Struct ws ts) →
+      IsReplaced c.old.words c.new.words c.segment c.at (Struct ws ts) (widened size ws ts))
+  pub leads :
+      IfOk result
+      (λ e. (ws : List ℕ) (ts : Trees) → Stands (Struct ws ts) →
+      (e.segment ≡ (target c.new.words c.segment c.at).segment) ×
+      (e.start ≡ (target c.new.words c.segment c.at).start) × StructLiesIn c.new.words e)
+  pub anew :
+      OnOk result
+      ((ws : List ℕ) (ts : Trees) → Stands (Struct ws ts) →
+      BecomesAnew c (Struct ws ts) (widened size ws ts))
   pub granted : OnOk result (KeepsMemory c.old c.new)
   pub memory : IfErr result (SpendsMemory c.old c.new)
   pub refused : OnErr result (LeavesAll Stands c.old.words c.new.words)

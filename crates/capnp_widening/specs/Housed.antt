@@ -9,7 +9,6 @@ use Rattle.capnp_making.specs.Made.{IsShape, IsGrown}
 use Rattle.capnp_making.specs.declared.making.Shape.{Shape}
 use Rattle.capnp_making.specs.declared.making.Start.{Start}
 use Rattle.capnp_widening.specs.declared.widening.Room.{Room}
-use Rattle.capnp_widening.specs.Widened.{Rewriting}
 
 -- From S to T the words of a room for n words are new, all zero: in segment id, or behind a landing pad.
 abbrev pub IsRoom : Segments → Segments → ℕ → ℕ → Room → Type 0
@@ -27,16 +26,17 @@ pub record AreWordsCopied (S R : Segments) (from to : Start) (n : ℕ) : Type 0 
   pub here : (i : ℕ) → i < n → word_at R to.segment (to.at + i) ≡ word_at S from.segment (from.at + i)
   pub kept : (x y : ℕ) → times (row to.segment to.at n ∷ []) x y ≡ 0 → word_at R x y ≡ word_at S x y
 
--- From S to R the pointer at (u, q) is overwritten, and leads to b behind pads from (v, at) on.
-pub record IsSettled (S R : Segments) (u q : ℕ) (b : Target) (v at pads : ℕ) : Type 0 where
+-- From S to R the pointer at a place is overwritten, and leads to the object of this shape that
+-- stands in a room, behind the room's pads.
+pub record Settles (S R : Segments) (place : Start) (h : Room) (shape : Shape) : Type 0 where
+  pub object : Target
   pub segments : length R ≡ length S
   pub words : (x : ℕ) → length (segment R x) ≡ length (segment S x)
-  pub leads_there : Leads R u q b
-  pub pads_there : (x y : ℕ) → times (pads_of (word_at R u q)) x y ≡ times (row v at pads ∷ []) x y
-  pub kept : (x y : ℕ) → times (word_interval u q ∷ []) x y ≡ 0 →
-      times (row v at pads ∷ []) x y ≡ 0 → word_at R x y ≡ word_at S x y
-
--- The pointer at the place is overwritten, and leads to the object of this shape that stands in a room.
-abbrev pub Settles : Rewriting → Room → Shape → Type 0
-Settles c h shape = (b : Target) × IsSettled c.old c.new c.segment c.at b h.segment h.at h.pads ×
-    IsShape shape b.word × (b.segment ≡ h.segment) × (b.start ≡ h.at + h.pads)
+  pub leads_there : Leads R place.segment place.at object
+  pub pads_there : (x y : ℕ) → times (pads_of (word_at R place.segment place.at)) x y
+      ≡ times (row h.segment h.at h.pads ∷ []) x y
+  pub kept : (x y : ℕ) → times (word_interval place.segment place.at ∷ []) x y ≡ 0 →
+      times (row h.segment h.at h.pads ∷ []) x y ≡ 0 → word_at R x y ≡ word_at S x y
+  pub is_shape : IsShape shape object.word
+  pub in_segment : object.segment ≡ h.segment
+  pub starts : object.start ≡ h.at + h.pads

@@ -1,6 +1,7 @@
 -- Pointers written anew at other places, to what the old ones lead to ("Inter-Segment Pointers").
-use Rattle.std.specs.Prelude.{flat_map, ◌≡◌, ℕ, zero, suc, ◌+◌, ◌%◌, ◌^◌, ◌<◌, ◌≤◌, ◌⊎◌}
-use Rattle.std.specs.Prelude.{if◌then◌else◌, nat_eq, nat_lt, List, [], ◌∷◌, ◌++◌, length, ⊤}
+use Rattle.std.specs.List.{AllByRecursion}
+use Rattle.std.specs.Prelude.{flat_map, map, ◌≡◌, ℕ, zero, suc, ◌+◌, ◌%◌, ◌^◌, ◌<◌, ◌≤◌, ◌⊎◌}
+use Rattle.std.specs.Prelude.{if◌then◌else◌, nat_eq, nat_lt, List, [], ◌∷◌, ◌++◌, length}
 use Rattle.capnp_format.specs.Word.{kind, upper_half}
 use Rattle.capnp_format.specs.Segments.{Segments, Grows, segment, word_at, Target}
 use Rattle.capnp_format.specs.Tree.{Tree, Struct, Pointers, Structs, count, element_count}
@@ -10,30 +11,20 @@ use Rattle.capnp_making.specs.Path.{word_interval, extent}
 use Rattle.capnp_making.specs.Zeroed.{IsZeroed}
 use Rattle.capnp_making.specs.declared.making.Start.{Start}
 
--- Where the objects of two targets start: at one place, or they have no words, being structs of
--- none or capabilities.
-pub data SameStart (S : Segments) (a b : Target) : Type 0 where
-  same_place : b.segment ≡ a.segment → b.start ≡ a.start → SameStart S a b
-  of_no_words : kind a.word ≡ 0 → upper_half a.word ≡ 0 → b.start ≤ length (segment S b.segment) →
-      SameStart S a b
-  of_capability : a.word % 2 ^ 32 ≡ 3 → SameStart S a b
-
--- Two targets are one object.
+-- Two targets are one object. It starts at one place, or has no words, being a struct of none or a
+-- capability.
 pub record SameObject (S : Segments) (a b : Target) : Type 0 where
   pub same_kind : kind b.word ≡ kind a.word
   pub same_sizes : upper_half b.word ≡ upper_half a.word
   pub capability : a.word % 2 ^ 32 ≡ 3 → b.word % 2 ^ 32 ≡ 3
-  pub same_start : SameStart S a b
+  pub same_start : ((b.segment ≡ a.segment) × (b.start ≡ a.start))
+      ⊎ (((kind a.word ≡ 0) × (upper_half a.word ≡ 0) × (b.start ≤ length (segment S b.segment)))
+      ⊎ (a.word % 2 ^ 32 ≡ 3))
 
 -- The place (v, r) leads to what the place (s, p) leads to, or both are null.
 abbrev pub IsMoved : Segments → ℕ → ℕ → ℕ → ℕ → Type 0
 IsMoved S s p v r = ((word_at S s p ≡ 0) × (word_at S v r ≡ 0)) ⊎
     ((a : Target) × (b : Target) × Leads S s p a × Leads S v r b × SameObject S a b)
-
--- R has the words of B, and more behind them.
-pub record Extends (B R : Segments) : Type 0 where
-  pub grows : Grows B R
-  pub kept : (x y : ℕ) → y < length (segment B x) → word_at R x y ≡ word_at B x y
 
 -- A pointer that is written anew at another place.
 pub record Move : Type 0 where
@@ -73,11 +64,7 @@ near_pointers S (m ∷ ms) =
     (if nat_eq (word_at S m.segment m.at) 0 then 0
     else if nat_lt (kind (word_at S m.segment m.at)) 2 then 1 else 0) + near_pointers S ms
 
--- The old places and the new ones.
-abbrev pub old_places : List Move → List Interval
-old_places [] = []
-old_places (m ∷ ms) = word_interval m.segment m.at ∷ old_places ms
-
+-- The new places.
 abbrev pub new_places : List Move → List Interval
 new_places [] = []
 new_places (m ∷ ms) = word_interval m.to_segment m.to_at ∷ new_places ms
@@ -89,34 +76,26 @@ fresh_pads R ms =
     flat_map (λ m. if nat_eq (kind (word_at R m.segment m.at)) 2 then []
     else pads_of (word_at R m.to_segment m.to_at)) ms
 
--- Each old pointer means a value in B, whose words lie in B.
+-- The pointer at a place means a value, whose words lie in their segments.
 abbrev pub HasValueInside : Segments → ℕ → ℕ → Type 0
 HasValueInside B s p = (t : Tree) × (n : ℕ) × (c : ℕ) × Means B n s p t c ×
     ((x y : ℕ) → 0 < times (extent B s p t) x y → y < length (segment B x))
 
-abbrev pub HaveValuesInside : Segments → List Move → Type 0
-HaveValuesInside B [] = ⊤
-HaveValuesInside B (m ∷ ms) = HasValueInside B m.segment m.at × HaveValuesInside B ms
-
--- Each new pointer leads to what the old one leads to.
-abbrev pub AllMoved : Segments → List Move → Type 0
-AllMoved R [] = ⊤
-AllMoved R (m ∷ ms) = IsMoved R m.segment m.at m.to_segment m.to_at × AllMoved R ms
-
 -- S has the words of B, where the old pointers mean values, and behind them the new places, each
 -- once, all zero.
 pub record CanMove (B S : Segments) (ms : List Move) : Type 0 where
-  pub extends : Extends B S
-  pub stand : HaveValuesInside B ms
+  pub grows : Grows B S
+  pub kept : (x y : ℕ) → y < length (segment B x) → word_at S x y ≡ word_at B x y
+  pub stand : AllByRecursion (λ (m : Move). HasValueInside B m.segment m.at) ms
   pub behind : (x y : ℕ) → 0 < times (new_places ms) x y → (length (segment B x) ≤ y) ×
       (y < length (segment S x)) × (word_at S x y ≡ 0)
   pub once : (x y : ℕ) → times (new_places ms) x y ≤ 1
 
--- From S to R the new pointers are written, and their own landing pads into new words, each once;
--- nothing else is written. The pads of the new pointers are these and those of the old ones.
+-- From S to R the new pointers are written, each to what the old one leads to, and their own landing
+-- pads into new words, each once; nothing else is written. The pads of the new pointers are these and those of the old ones.
 pub record AreMoved (S R : Segments) (ms : List Move) : Type 0 where
   pub grows : Grows S R
-  pub moved : AllMoved R ms
+  pub moved : AllByRecursion (λ (m : Move). IsMoved R m.segment m.at m.to_segment m.to_at) ms
   pub kept : (x y : ℕ) → times (new_places ms) x y ≡ 0 → y < length (segment S x) →
       word_at R x y ≡ word_at S x y
   pub sums :
@@ -139,12 +118,12 @@ pub record MovesSome (S R : Segments) (ms : List Move) : Type 0 where
   pub all : ms ≡ done ++ left
   pub moves : Moves S R done
 
--- The pads written for moved pointers lie in S, and none of these pointers stands in them.
-pub record CanUnmove (S : Segments) (ms : List Move) : Type 0 where
-  pub inside : (x y : ℕ) → 0 < times (fresh_pads S ms) x y → y < length (segment S x)
-  pub old_apart : (x y : ℕ) → 0 < times (old_places ms) x y → times (fresh_pads S ms) x y ≡ 0
-  pub new_apart : (x y : ℕ) → 0 < times (new_places ms) x y → times (fresh_pads S ms) x y ≡ 0
-
--- From S to R the pads that were written for these pointers become zero.
+-- From S to R the pads that were written for these pointers become zero, where they lie in S and none
+-- of these pointers stands in them, neither an old nor a new one.
 abbrev pub Unmoves : Segments → Segments → List Move → Type 0
-Unmoves S R ms = CanUnmove S ms → IsZeroed S R (fresh_pads S ms)
+Unmoves S R ms =
+    ((x y : ℕ) → 0 < times (fresh_pads S ms) x y → y < length (segment S x))
+    → ((x y : ℕ) → 0 < times (map (λ (m : Move). word_interval m.segment m.at) ms) x y →
+    times (fresh_pads S ms) x y ≡ 0)
+    → ((x y : ℕ) → 0 < times (new_places ms) x y → times (fresh_pads S ms) x y ≡ 0)
+    → IsZeroed S R (fresh_pads S ms)

@@ -1,13 +1,13 @@
 -- Structs and lists of structs that are opened for writing, at least as large as asked for
 -- ("Structs", "Lists").
-use Rattle.std.specs.Prelude.{◌≡◌, ◌⊎◌, ℕ, ◌+◌, ◌*◌, ◌^◌, max, if◌then◌else◌, nat_lt, Option}
+use Rattle.std.specs.Prelude.{◌≡◌, ◌⊎◌, ℕ, ◌+◌, ◌*◌, ◌^◌, ◌≤◌, length, max, if◌then◌else◌, nat_lt, Option}
 use Rattle.std.specs.Prelude.{Some, None, IfSome, Result, Ok, Err}
 use Rattle.capnp_words.specs.declared.error.ErrorKind.{ErrorKind}
 use Rattle.capnp_words.specs.declared.error.ErrorKind.TheVariants.{FoundBitListWhereStructListWasExpected}
 use Rattle.capnp_words.specs.declared.error.ErrorKind.TheVariants.{MessageContainsNonStructPointerWhereStructPointerWasExpected}
 use Rattle.capnp_words.specs.declared.error.ErrorKind.TheVariants.{MessageTooLarge}
 use Rattle.capnp_format.specs.Forest.{target}
-use Rattle.capnp_format.specs.Segments.{Segments}
+use Rattle.capnp_format.specs.Segments.{Segments, segment}
 use Rattle.capnp_format.specs.Tree.{Tree, Null, Struct}
 use Rattle.capnp_words.specs.declared.wire_pointer.ElementSize.{ElementSize}
 use Rattle.capnp_words.specs.declared.wire_pointer.ElementSize.TheVariants.{Void, Bit, Pointer}
@@ -24,7 +24,6 @@ use Rattle.capnp_making.specs.Stored.{IsStored, IsReplaced}
 use Rattle.capnp_widening.specs.Anew.{BecomesAnew}
 use Rattle.capnp_widening.specs.Rooms.{GrowsByAtMost, RefusesGrowth, RefusesToBecome, widened_words}
 use Rattle.capnp_widening.specs.Rooms.{direct_pointers}
-use Rattle.capnp_widening.specs.RowsRemade.{ListLiesIn}
 use Rattle.capnp_widening.specs.Widened.{HasSections, widened, list_widened}
 
 -- The struct whose sections start at a place.
@@ -66,12 +65,15 @@ Opens size Given c t (Ok u) (Err k) = Unopened size c t u k
 Opens size Given c t (Err k) result = (result ≡ Err k) × (c.new ≡ c.old)
 
 -- The pointer at a place leads to the struct u, which is e; or to the list u, which is l, or none
--- where u is null.
+-- where u is null. All its structs lie in their segment.
 abbrev pub LeadsToOne : Segments → ℕ → ℕ → Tree → ExistingStruct → Type 0
 LeadsToOne S s p u e = (struct_in (target S s p) u ≡ Some e) × StructLiesIn S e
 
 abbrev pub LeadsToAll : Segments → ℕ → ℕ → Tree → Option ExistingList → Type 0
-LeadsToAll S s p u l = (list_in (target S s p) Void u ≡ Ok l) × IfSome l (ListLiesIn S)
+LeadsToAll S s p u l =
+    (list_in (target S s p) Void u ≡ Ok l)
+    × IfSome l (λ m. m.start + m.count * (m.struct_size.data_words + m.struct_size.pointers)
+    ≤ length (segment S m.segment))
 
 -- The struct that stands is opened, or a new one in place of null.
 abbrev pub OpensStruct : {B : Type 0} → (Segments → ℕ → ℕ → Tree → B → Type 0) → StructSize →

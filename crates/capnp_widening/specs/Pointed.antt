@@ -9,35 +9,29 @@ use Rattle.capnp_making.specs.Made.{IsShape}
 use Rattle.capnp_making.specs.declared.making.Shape.{Shape}
 use Rattle.capnp_making.specs.declared.making.Start.{Start}
 
--- From S to R the pointer at a place is written, and leads to a; its pads are written into new
--- words, and nothing else is.
-pub record IsPointed (S R : Segments) (s p : ℕ) (a : Target) : Type 0 where
+-- From S to R the pointer at a place is written to the object of this shape that starts at h; its
+-- pads are written into new words, and nothing else is. A struct without sections may be meant to
+-- start anywhere.
+pub record PointsTo (S R : Segments) (shape : Shape) (h at : Start) : Type 0 where
+  pub object : Target
   pub grows : Grows S R
-  pub leads_there : Leads R s p a
-  pub inside : a.start ≤ length (segment R a.segment)
-  pub kept : (x y : ℕ) → times (word_interval s p ∷ []) x y ≡ 0 → y < length (segment S x) →
-      word_at R x y ≡ word_at S x y
-  pub fresh : (x y : ℕ) → 0 < times (pads_of (word_at R s p)) x y → (length (segment S x) ≤ y) ×
-      (y < length (segment R x))
-  pub zero : (x y : ℕ) → times (pads_of (word_at R s p)) x y ≡ 0 → length (segment S x) ≤ y →
-      word_at R x y ≡ 0
-
--- From S to R the pointer at a place is written to the object of this shape that starts at h; a
--- struct without sections may be meant to start anywhere.
-abbrev pub PointsTo : Segments → Segments → Shape → Start → Start → Type 0
-PointsTo S R shape h at =
-    (a : Target) × IsPointed S R at.segment at.at a × IsShape shape a.word
-    × (((a.segment ≡ h.segment) × (a.start ≡ h.at)) ⊎ ((kind a.word ≡ 0) × (upper_half a.word ≡ 0)))
+  pub leads_there : Leads R at.segment at.at object
+  pub inside : object.start ≤ length (segment R object.segment)
+  pub kept : (x y : ℕ) → times (word_interval at.segment at.at ∷ []) x y ≡ 0 →
+      y < length (segment S x) → word_at R x y ≡ word_at S x y
+  pub fresh : (x y : ℕ) → 0 < times (pads_of (word_at R at.segment at.at)) x y →
+      (length (segment S x) ≤ y) × (y < length (segment R x))
+  pub zero : (x y : ℕ) → times (pads_of (word_at R at.segment at.at)) x y ≡ 0 →
+      length (segment S x) ≤ y → word_at R x y ≡ 0
+  pub is_shape : IsShape shape object.word
+  pub starts : ((object.segment ≡ h.segment) × (object.start ≡ h.at)) ⊎
+      ((kind object.word ≡ 0) × (upper_half object.word ≡ 0))
 
 -- Where a word is a far pointer to two landing pads, the first is a far pointer to one, and the
 -- second a tag with the offset 0 ("Inter-Segment Pointers").
-pub record ArePlainPads (start tag : ℕ) : Type 0 where
-  pub far : kind start ≡ 2
-  pub single : is_double start ≡ 0
-  pub no_offset : offset_bits tag ≡ 0
-
 abbrev pub HasPlainPads : Segments → ℕ → Type 0
 HasPlainPads S x =
     kind x ≡ 2 → is_double x ≡ 1 →
-    ArePlainPads (word_at S (upper_half x) (far_position x))
-    (word_at S (upper_half x) (far_position x + 1))
+    let first : ℕ = word_at S (upper_half x) (far_position x) in
+    let second : ℕ = word_at S (upper_half x) (far_position x + 1) in
+    (kind first ≡ 2) × (is_double first ≡ 0) × (offset_bits second ≡ 0)

@@ -85,23 +85,9 @@ OpeningFits v s p size =
     ((word_at v.words s p ≡ 0) × HasRoom v s (size.data_words + size.pointers)) ⊎
     WiderStructFits v s p size
 
--- From S to R no more words are taken than what a struct at the place becomes, a pad, and two words
--- for each of its pointers.
-abbrev pub GrowsForStruct : Segments → Segments → ℕ → ℕ → StructSize → Type 0
-GrowsForStruct S R s p size =
-    (ws : List ℕ) (ts : Trees) → IsStored S s p (Struct ws ts) →
-    GrowsByAtMost S R (widened_words (widened size ws ts) + 1 + 2 * count ts)
-
 -- A value stands at the place that becomes a list of structs where these are wanted, and there is
 -- room for what it becomes.
 abbrev pub WiderListFits : (Tree → Type 0) → View → ℕ → ℕ → StructSize → Type 0
 WiderListFits Stands v s p size =
     (t : Tree) × (u : Tree) × Stands t × (list_widened size.data_words size.pointers t ≡ Ok u) ×
     HasRoomFor v s p t u
-
--- From S to R no more words are taken than what a list that stands there becomes, a pad, and two
--- words for each of its pointers.
-abbrev pub GrowsForList : (Tree → Type 0) → Segments → Segments → StructSize → Type 0
-GrowsForList Stands S R size =
-    (t u : Tree) → Stands t → list_widened size.data_words size.pointers t ≡ Ok u →
-    GrowsByAtMost S R (widened_words u + 1 + 2 * direct_pointers t)

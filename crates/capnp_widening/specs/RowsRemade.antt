@@ -1,12 +1,12 @@
 -- Lists of structs made anew of the elements of other lists, as rows of words ("Lists").
-use Rattle.std.specs.Prelude.{◌≡◌, ◌⊎◌, ℕ, zero, suc, ◌+◌, ◌*◌, ◌<◌, ◌≤◌, Option, Some, None}
-use Rattle.std.specs.Prelude.{IfErr, IfOk, IfSome, IsOk, Ok, Err, List, OnErr, OnOk, Result, [], ◌∷◌, length}
+use Rattle.std.specs.Prelude.{◌≡◌, ◌≢◌, ◌⊎◌, ℕ, zero, suc, ◌+◌, ◌*◌, ◌<◌, ◌≤◌, Option, Some, None}
+use Rattle.std.specs.Prelude.{IfErr, IfOk, IsOk, Ok, Err, List, OnErr, OnOk, Result, [], ◌∷◌, length}
 use Rattle.capnp_words.specs.Sizes.{size_number}
 use Rattle.capnp_words.specs.declared.error.ErrorKind.{ErrorKind}
 use Rattle.capnp_arena_traits.specs.View.{View}
 use Rattle.capnp_format.specs.Numbers.{words_for}
 use Rattle.capnp_format.specs.Segments.{Segments, segment, word_at, Target}
-use Rattle.capnp_format.specs.Tree.{Tree, Flat, Pointers, Structs, count, element_count}
+use Rattle.capnp_format.specs.Tree.{Tree, Null, Flat, Pointers, Structs, count, element_count}
 use Rattle.capnp_format.specs.Means.{IsTag}
 use Rattle.capnp_format.specs.Forest.{times, target}
 use Rattle.capnp_words.specs.declared.wire_pointer.StructSize.{StructSize}
@@ -22,10 +22,11 @@ use Rattle.capnp_making.specs.Path.{word_interval}
 use Rattle.capnp_making.specs.Stored.{IsStored, IsReplaced}
 use Rattle.capnp_making.specs.Zeroed.{row}
 use Rattle.capnp_widening.specs.declared.remaking.ElementRows.{ElementRows}
-use Rattle.capnp_widening.specs.Anew.{BecomesAnew, OnlyWrites, WidensListAnew, WritesAnew}
+use Rattle.capnp_widening.specs.Anew.{BecomesAnew, OnlyWrites, WritesAnew}
 use Rattle.capnp_widening.specs.Moved.{Move, Moves, rows_of_moves}
-use Rattle.capnp_widening.specs.Rooms.{GrowsForList, RefusesGrowth, RefusesToBecome, WiderListFits}
-use Rattle.capnp_widening.specs.Widened.{LeavesAll, Rewriting, rewriting, fill_elements, struct_for_each}
+use Rattle.capnp_widening.specs.Rooms.{GrowsByAtMost, RefusesGrowth, RefusesToBecome, WiderListFits}
+use Rattle.capnp_widening.specs.Rooms.{direct_pointers, widened_words}
+use Rattle.capnp_widening.specs.Widened.{HasSections, LeavesAll, fill_elements, struct_for_each}
 use Rattle.capnp_widening.specs.Widened.{struct_for_each_tree, limited, list_widened}
 
 -- From S to R the first d words of each of n rows are copied over those of other rows, and nothing
@@ -38,13 +39,12 @@ pub record AreRowsCopied (S R : Segments) (s p w v r z d n : ℕ) : Type 0 where
   pub behind : (i j : ℕ) → i < n → d ≤ j → j < z → word_at R v (r + i * z + j) ≡ word_at S v (r + i * z + j)
   pub kept : (x y : ℕ) → times (row v r (n * z) ∷ []) x y ≡ 0 → word_at R x y ≡ word_at S x y
 
--- The tag of a list of n structs is written at the place, and nothing else.
-pub record IsTagWritten (c : Rewriting) (n : ℕ) (size : StructSize) : Type 0 where
-  pub segments : length c.new ≡ length c.old
-  pub words : (x : ℕ) → length (segment c.new x) ≡ length (segment c.old x)
-  pub tag : IsTag (word_at c.new c.segment c.at) n size.data_words size.pointers
-  pub kept : (x y : ℕ) → times (word_interval c.segment c.at ∷ []) x y ≡ 0 →
-      word_at c.new x y ≡ word_at c.old x y
+-- From S to R the tag of a list of n structs is written at h, and nothing else.
+pub record IsTagWritten (S R : Segments) (h : Start) (n : ℕ) (size : StructSize) : Type 0 where
+  pub segments : length R ≡ length S
+  pub words : (x : ℕ) → length (segment R x) ≡ length (segment S x)
+  pub tag : IsTag (word_at R h.segment h.at) n size.data_words size.pointers
+  pub kept : (x y : ℕ) → times (word_interval h.segment h.at ∷ []) x y ≡ 0 → word_at R x y ≡ word_at S x y
 
 -- The words of a list lie in their segment, its tag included.
 abbrev pub RowsInside : Segments → ElementRows → Type 0
@@ -135,24 +135,10 @@ as_structs size t = t
 abbrev pub StoresRows : Segments → ℕ → ℕ → ElementRows → Tree → Type 0
 StoresRows S s p rows t = IsStored S s p t × (rows_in (target S s p) t ≡ Some rows)
 
--- The structs of a list lie in their segment.
-abbrev pub ListLiesIn : Segments → ExistingList → Type 0
-ListLiesIn S l =
-    l.start + l.count * (l.struct_size.data_words + l.struct_size.pointers)
-    ≤ length (segment S l.segment)
-
 -- The place gets the list u in place of t, and the pointer leads to l.
-pub record BecomesList (c : Rewriting) (l : ExistingList) (t u : Tree) : Type 0 where
-  pub replaced : IsReplaced c.old c.new c.segment c.at t u
-  pub found : list_in (target c.new c.segment c.at) Void u ≡ Ok (Some l)
-
--- The place gets, in place of a list that stands there, structs of a size made of its elements, which are l.
-abbrev pub RemakesList : (Tree → Type 0) → StructSize → Rewriting → ExistingList → Type 0
-RemakesList Stands size c l = (t : Tree) → Stands t → BecomesList c l t (as_structs size t)
-
--- The list that stands at a place is made anew, as structs of a size made of its elements.
-abbrev pub RemakesListAnew : (Tree → Type 0) → StructSize → CallAt → Type 0
-RemakesListAnew Stands size c = (t : Tree) → Stands t → BecomesAnew c t (as_structs size t)
+abbrev pub BecomesList : CallAt → ExistingList → Tree → Tree → Type 0
+BecomesList c l t u = IsReplaced c.old.words c.new.words c.segment c.at t u
+    × (list_in (target c.new.words c.segment c.at) Void u ≡ Ok (Some l))
 
 -- A call is refused by the name k: the elements would take too many words, and nothing is changed;
 -- or memory is refused for their list, or for a landing pad of one of their pointers.
@@ -168,23 +154,9 @@ abbrev pub IsList : Segments → ℕ → ℕ → ExistingList → Tree → Type 
 IsList S s p l t = IsStored S s p t × (list_in (target S s p) Void t ≡ Ok (Some l))
 
 -- The place gets, in place of the list l, what it becomes where structs of a size are wanted, which is m.
-abbrev pub WidensTo : ExistingList → StructSize → Rewriting → ExistingList → Type 0
-WidensTo l size c m = (t : Tree) → IsList c.old c.segment c.at l t → (u : Tree) ×
+abbrev pub WidensTo : ExistingList → StructSize → CallAt → ExistingList → Type 0
+WidensTo l size c m = (t : Tree) → IsList c.old.words c.segment c.at l t → (u : Tree) ×
     (list_widened size.data_words size.pointers t ≡ Ok u) × BecomesList c m t u
-
--- The place gets, in place of the value that it stores, the list that this becomes where structs of
--- a size are wanted; null stays.
-abbrev pub WidensList : StructSize → Rewriting → Type 0
-WidensList size c =
-    (t : Tree) → IsStored c.old c.segment c.at t → (u : Tree) ×
-    (list_widened size.data_words size.pointers t ≡ Ok u) ×
-    IsReplaced c.old c.new c.segment c.at t u
-
--- That list is l, and all its structs lie in the new message.
-abbrev pub LeadsToWiderList : StructSize → Rewriting → Option ExistingList → Type 0
-LeadsToWiderList size c l =
-    (t u : Tree) → IsStored c.old c.segment c.at t → list_widened size.data_words size.pointers t ≡ Ok u
-    → (list_in (target c.new c.segment c.at) Void u ≡ Ok l) × IfSome l (ListLiesIn c.new)
 
 -- A call is refused by the name k: by what stands there and what is wanted, and nothing is changed;
 -- or for memory.
@@ -197,20 +169,25 @@ RefusesWider Stands size old new k =
 -- that is refused, and the list stands as it stood.
 pub record MakesListAnew (result : Result ExistingList ErrorKind) (Stands : Tree → Type 0)
     (size : StructSize) (c : CallAt) : Type 0 where
-  pub remade : IfOk result (RemakesList Stands size (rewriting c.segment c.at c.old.words c.new.words))
-  pub anew : OnOk result (RemakesListAnew Stands size c)
+  pub remade : IfOk result (λ l. (t : Tree) → Stands t → BecomesList c l t (as_structs size t))
+  pub anew : OnOk result ((t : Tree) → Stands t → BecomesAnew c t (as_structs size t))
   pub granted : OnOk result (KeepsMemory c.old c.new)
   pub memory : IfErr result (SpendsMemory c.old c.new)
   pub refused : OnErr result (LeavesAll Stands c.old.words c.new.words)
 
--- A call makes the list that stands at a place one of structs of at least a size, where it isn't;
--- or that is refused, and the list stands as it stood. It never is where there is room.
+-- A call makes the list that stands at a place one of structs of at least a size, anew where it
+-- isn't; or that is refused, and the list stands as it stood. It never is where there is room. No
+-- more words are taken than the new list has, a pad, and two for each pointer of the old one.
 pub record MakesListWider {B : Type 0} (result : Result B ErrorKind) (Stands : Tree → Type 0)
     (size : StructSize) (c : CallAt) : Type 0 where
-  pub anew : OnOk result (WidensListAnew Stands size c)
+  pub anew :
+      OnOk result
+      ((t u : Tree) → Stands t → t ≢ Null → list_widened size.data_words size.pointers t ≡ Ok u →
+      (HasSections size t → ⊥) → BecomesAnew c t u)
   pub granted : OnOk result (KeepsMemory c.old c.new)
   pub memory : IfErr result (SpendsMemory c.old c.new)
   pub refused : OnErr result (LeavesAll Stands c.old.words c.new.words)
   pub named : IfErr result (RefusesWider Stands size c.old c.new)
   pub fits : WiderListFits Stands c.old c.segment c.at size → IsOk result
-  pub few : GrowsForList Stands c.old.words c.new.words size
+  pub few : (t u : Tree) → Stands t → list_widened size.data_words size.pointers t ≡ Ok u →
+      GrowsByAtMost c.old.words c.new.words (widened_words u + 1 + 2 * direct_pointers t)

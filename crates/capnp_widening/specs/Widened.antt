@@ -14,8 +14,8 @@ use Rattle.capnp_words.specs.declared.error.ErrorKind.{ErrorKind}
 use Rattle.capnp_words.specs.declared.error.ErrorKind.TheVariants.{ExistingPointerIsNotAList}
 use Rattle.capnp_words.specs.declared.error.ErrorKind.TheVariants.{FoundBitListWhereStructListWasExpected}
 use Rattle.capnp_words.specs.declared.error.ErrorKind.TheVariants.{MessageTooLarge}
-use Rattle.capnp_contents.specs.Existing.{struct_in, StructLiesIn}
-use Rattle.capnp_making.specs.Stored.{IsStored, IsReplaced}
+use Rattle.capnp_contents.specs.Existing.{struct_in}
+use Rattle.capnp_making.specs.Stored.{IsStored}
 
 -- Filled up to n words, or n children, and never cut.
 abbrev pub fill_words : ℕ → List ℕ → List ℕ
@@ -57,32 +57,10 @@ IsStruct S s p e t = IsStored S s p t × (struct_in (target S s p) t ≡ Some e)
 abbrev pub widened : StructSize → List ℕ → Trees → Tree
 widened size ws ts = Struct (fill_words size.data_words ws) (fill_trees size.pointers ts)
 
--- A place, and the segments of its message before what it stores is rewritten and after that.
-pub record Rewriting : Type 0 where
-  pub segment : ℕ
-  pub at : ℕ
-  pub old : Segments
-  pub new : Segments
-
-abbrev pub rewriting : ℕ → ℕ → Segments → Segments → Rewriting
-rewriting s p S R = record { segment = s; at = p; old = S; new = R }
-
--- The place gets, in place of a struct that stands there, what it becomes where sections of a size
--- are wanted. What stands there is said by Stands, here and below: as that it is stored.
-abbrev pub WidensStruct : (Tree → Type 0) → StructSize → Rewriting → Type 0
-WidensStruct Stands size c =
-    (ws : List ℕ) (ts : Trees) → Stands (Struct ws ts)
-    → IsReplaced c.old c.new c.segment c.at (Struct ws ts) (widened size ws ts)
-
--- Whatever value stands there, R has nothing but zeros more than S.
+-- Whatever value stands there, R has nothing but zeros more than S. What stands there is said by
+-- Stands, here and below: as that it is stored.
 abbrev pub LeavesAll : (Tree → Type 0) → Segments → Segments → Type 0
 LeavesAll Stands S R = (t : Tree) → Stands t → GrowsByZeros S R
-
--- Where a struct stood there, the place leads to e in R, all of which lies there.
-abbrev pub LeadsToWiderStruct : (Tree → Type 0) → Segments → ℕ → ℕ → ExistingStruct → Type 0
-LeadsToWiderStruct Stands R s p e =
-    (ws : List ℕ) (ts : Trees) → Stands (Struct ws ts) → (e.segment ≡ (target R s p).segment) ×
-    (e.start ≡ (target R s p).start) × StructLiesIn R e
 
 -- A struct, or each struct of a list, has sections of at least a size. Null is a list of none,
 -- which needs none.

@@ -1,29 +1,60 @@
 //! What follows of the calls that make structs and lists of structs wider: canonical words stay. Each
 //! function does nothing: its contract is the law, proved for all values and messages.
-ghost use Rattle.capnp_widening.specs.Laws.{WiderStruct, WiderList, StructWithin, ListWithin, StructOfMessage, ListOfMessage};
+ghost use Rattle.std.specs.Prelude.{◌≡◌, ℕ, List, Ok};
+ghost use Rattle.capnp_format.specs.Forest.{IsForest};
+ghost use Rattle.capnp_format.specs.Segments.{Segments};
+ghost use Rattle.capnp_format.specs.Tree.{Tree, Trees, Struct, Elements, Structs};
+ghost use Rattle.capnp_making.specs.Path.{Step, PathLeads};
+ghost use Rattle.capnp_making.specs.Stored.{IsStored, IsReplaced};
+ghost use Rattle.capnp_widening.specs.Laws.{HaveSize, SameCanonicalForm};
+ghost use Rattle.capnp_widening.specs.Widened.{fill_words, fill_trees, list_widened, widened};
+ghost use Rattle.capnp_words.specs.declared.wire_pointer.StructSize.{StructSize};
 
 /// A struct whose sections are filled up with zeros and null pointers has the canonical words of the
 /// struct ("Canonicalization").
 pub fn wider_struct()
-    ensures { WiderStruct }
+    ensures { (d q : ℕ) (ws : List ℕ) (ts : Trees)
+        → SameCanonicalForm (Struct ws ts) (Struct (fill_words d ws) (fill_trees q ts)) }
 {}
 
 /// A list of structs has the canonical words that it had, whatever size of structs it is widened for:
-/// what is added to each element is beyond the last word and pointer that any of them uses.
+/// what is added to each element is beyond the last word and pointer that any of them uses. It may have
+/// no elements, and these no words.
 pub fn wider_list()
-    ensures { WiderList }
+    ensures { (d q e k : ℕ) (es : Elements) (u : Tree)
+        → HaveSize e k es → list_widened d q (Structs e k es) ≡ Ok u
+        → SameCanonicalForm (Structs e k es) u }
 {}
 
-/// Where a struct or a list of structs is made wider anywhere inside a value that a place stores, a
-/// canonical copy from that place is the same words as before.
+/// Where a struct or a list of structs is made wider anywhere inside a value that a place stores, the
+/// place stores a value of the same canonical form: a canonical copy from that place is the same words
+/// as before.
 pub fn widened_within()
-    ensures structs { StructWithin }
-    ensures lists { ListWithin }
+    ensures structs { (S R : Segments) (s p : ℕ) (t : Tree) (path : List Step)
+        (u q : ℕ) (ws : List ℕ) (ts : Trees) (size : StructSize)
+        → IsStored S s p t → PathLeads S s p t path u q (Struct ws ts)
+        → IsReplaced S R u q (Struct ws ts) (widened size ws ts)
+        → (w : Tree) × IsReplaced S R s p t w × SameCanonicalForm t w }
+    ensures lists { (S R : Segments) (s p : ℕ) (t : Tree) (path : List Step)
+        (u q d k : ℕ) (es : Elements) (size : StructSize) (v : Tree)
+        → IsStored S s p t → PathLeads S s p t path u q (Structs d k es)
+        → list_widened size.data_words size.pointers (Structs d k es) ≡ Ok v
+        → IsReplaced S R u q (Structs d k es) v
+        → (w : Tree) × IsReplaced S R s p t w × SameCanonicalForm t w }
 {}
 
 /// So the whole message has the canonical words that it had, and no word that isn't zero stands outside
 /// of its value.
 pub fn message_widened()
-    ensures structs { StructOfMessage }
-    ensures lists { ListOfMessage }
+    ensures structs { (S R : Segments) (t : Tree) (path : List Step)
+        (u q : ℕ) (ws : List ℕ) (ts : Trees) (size : StructSize)
+        → IsForest S t → PathLeads S 0 0 t path u q (Struct ws ts)
+        → IsReplaced S R u q (Struct ws ts) (widened size ws ts)
+        → (w : Tree) × IsForest R w × SameCanonicalForm t w }
+    ensures lists { (S R : Segments) (t : Tree) (path : List Step)
+        (u q d k : ℕ) (es : Elements) (size : StructSize) (v : Tree)
+        → IsForest S t → PathLeads S 0 0 t path u q (Structs d k es)
+        → list_widened size.data_words size.pointers (Structs d k es) ≡ Ok v
+        → IsReplaced S R u q (Structs d k es) v
+        → (w : Tree) × IsForest R w × SameCanonicalForm t w }
 {}

@@ -1,12 +1,13 @@
 //! Lists made lists of structs of at least a wanted size.
-ghost use Rattle.std.specs.Prelude.{ℕ, ◌⊎◌, ◌≡◌, ◌≤◌, ◌+◌, Some, IsOk, IfOk, OnOk};
+ghost use Rattle.std.specs.Prelude.{ℕ, ◌⊎◌, ◌≡◌, ◌≤◌, ◌+◌, Some, IsOk, IfOk};
 ghost use Rattle.capnp_format.specs.Segments.{IsPlace, leads, Target};
-ghost use Rattle.capnp_format.specs.Tree.{Elements, Null, Structs};
+ghost use Rattle.capnp_format.specs.Tree.{Tree, Elements, Null, Structs};
 ghost use Rattle.capnp_words.specs.Sizes.{size_number};
 ghost use Rattle.capnp_making.specs.Makes.{call_at};
-ghost use Rattle.capnp_making.specs.Stored.{IsStored};
-ghost use Rattle.capnp_widening.specs.RowsRemade.{IsList, MakesListWider, WidensList, LeadsToWiderList, WidensTo};
-ghost use Rattle.capnp_widening.specs.Widened.{rewriting};
+ghost use Rattle.capnp_making.specs.Stored.{IsStored, IsReplaced};
+ghost use Rattle.capnp_widening.specs.Opening.{LeadsToAll};
+ghost use Rattle.capnp_widening.specs.RowsRemade.{IsList, MakesListWider, WidensTo};
+ghost use Rattle.capnp_widening.specs.Widened.{list_widened};
 
 use crate::numbers::widen_numbers;
 use crate::remaking::{ElementRows, widen_rows};
@@ -33,10 +34,11 @@ pub fn get_struct_list<A: BuilderArena>(
     size: StructSize,
 ) -> Result<Option<ExistingList>, ErrorKind>
     requires place { IsPlace (A.view arena.old).words id at }
-    ensures widened { OnOk result (WidensList size
-        (rewriting id at (A.view arena.old).words (A.view arena.new).words)) }
-    ensures leads { IfOk result (LeadsToWiderList size
-        (rewriting id at (A.view arena.old).words (A.view arena.new).words)) }
+    ensures widened { IfOk result (λ list. (t : Tree)
+        → IsStored (A.view arena.old).words id at t → (u : Tree)
+        × (list_widened size.data_words size.pointers t ≡ Ok u)
+        × IsReplaced (A.view arena.old).words (A.view arena.new).words id at t u
+        × LeadsToAll (A.view arena.new).words id at u list) }
     ensures wider { MakesListWider result (IsStored (A.view arena.old).words id at) size
         (call_at id at (A.view arena.old) (A.view arena.new)) }
     ensures stays { IsStored (A.view arena.old).words id at Null
@@ -64,7 +66,7 @@ fn widen_list<A: BuilderArena>(
 ) -> Result<ExistingList, ErrorKind>
     requires place { IsPlace (A.view arena.old).words id at }
     ensures widened { IfOk result (WidensTo old size
-        (rewriting id at (A.view arena.old).words (A.view arena.new).words)) }
+        (call_at id at (A.view arena.old) (A.view arena.new))) }
     ensures wider { MakesListWider result (IsList (A.view arena.old).words id at old) size
         (call_at id at (A.view arena.old) (A.view arena.new)) }
     ensures stays { size_number old.size ≡ 7 → size.data_words ≤ old.struct_size.data_words
@@ -99,7 +101,7 @@ fn widen_structs<A: BuilderArena>(
     requires place { IsPlace (A.view arena.old).words id at }
     requires kind { size_number old.size ≡ 7 }
     ensures widened { IfOk result (WidensTo old size
-        (rewriting id at (A.view arena.old).words (A.view arena.new).words)) }
+        (call_at id at (A.view arena.old) (A.view arena.new))) }
     ensures wider { MakesListWider result (IsList (A.view arena.old).words id at old) size
         (call_at id at (A.view arena.old) (A.view arena.new)) }
     ensures stays { size.data_words ≤ old.struct_size.data_words
@@ -136,7 +138,7 @@ fn widen_pointers<A: BuilderArena>(
     requires place { IsPlace (A.view arena.old).words id at }
     requires kind { size_number old.size ≡ 6 }
     ensures widened { IfOk result (WidensTo old size
-        (rewriting id at (A.view arena.old).words (A.view arena.new).words)) }
+        (call_at id at (A.view arena.old) (A.view arena.new))) }
     ensures wider { MakesListWider result (IsList (A.view arena.old).words id at old) size
         (call_at id at (A.view arena.old) (A.view arena.new)) }
 {
@@ -169,7 +171,7 @@ fn widen_void<A: BuilderArena>(
     requires place { IsPlace (A.view arena.old).words id at }
     requires kind { size_number old.size ≡ 0 }
     ensures widened { IfOk result (WidensTo old size
-        (rewriting id at (A.view arena.old).words (A.view arena.new).words)) }
+        (call_at id at (A.view arena.old) (A.view arena.new))) }
     ensures wider { MakesListWider result (IsList (A.view arena.old).words id at old) size
         (call_at id at (A.view arena.old) (A.view arena.new)) }
 {

@@ -11,11 +11,10 @@ ghost use Rattle.capnp_format.specs.Segments.{segment, word_at, IsPlace, Grows};
 ghost use Rattle.capnp_format.specs.Word.{kind, offset_bits, struct_word, upper_half};
 ghost use Rattle.capnp_format.specs.Forest.{times};
 ghost use Rattle.capnp_making.specs.Made.{IsShape, CountFits, AsksWords};
-ghost use Rattle.capnp_making.specs.Makes.{call_at};
-ghost use Rattle.capnp_making.specs.Memory.{KeepsMemory, SpendsMemory, RefusesWords};
+ghost use Rattle.capnp_making.specs.Memory.{KeepsMemory, SpendsMemory, RefusesWords, TakesWords};
 ghost use Rattle.capnp_making.specs.Path.{word_interval};
 ghost use Rattle.capnp_making.specs.Zeroed.{IsPruned};
-ghost use Rattle.capnp_widening.specs.Anew.{MovesApart, MovesInTurn, WritesAnew, WritesPointer};
+ghost use Rattle.capnp_widening.specs.Anew.{IsWrittenAnew, MovesApart, MovesInTurn, WritesAnew, pad_words};
 ghost use Rattle.capnp_widening.specs.Moved.{a_move, row_of_moves, Moves, Unmoves, rows_of_moves};
 ghost use Rattle.capnp_widening.specs.Pointed.{HasPlainPads, PointsTo};
 ghost use Rattle.capnp_widening.specs.Rooms.{GrowsByAtMost, HasPadRoom};
@@ -99,8 +98,11 @@ fn point_to<A: BuilderArena>(
     ensures points { OnOk result (PointsTo (A.view arena.old).words
         (A.view arena.new).words shape object to) }
     ensures written { OnOk result ((x : ℕ) → IsShape shape x → x ≢ 0
-        → WritesPointer object.segment x
-        (call_at to.segment to.at (A.view arena.old) (A.view arena.new))) }
+        → IsWrittenAnew object.segment to.segment x
+        (word_at (A.view arena.new).words to.segment to.at)) }
+    ensures taken { OnOk result ((x : ℕ) → IsShape shape x → x ≢ 0
+        → TakesWords (A.view arena.old) (A.view arena.new) object.segment
+        (pad_words object.segment to.segment x)) }
     ensures granted { OnOk result (KeepsMemory (A.view arena.old) (A.view arena.new)) }
     ensures longer { Grows (A.view arena.old).words (A.view arena.new).words }
     ensures memory { IfErr result (SpendsMemory (A.view arena.old) (A.view arena.new)) }

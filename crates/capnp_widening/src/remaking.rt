@@ -9,7 +9,6 @@ ghost use Rattle.capnp_widening.specs.Rooms.{GrowsByAtMost, HasPadRoom, HasRoomA
 ghost use Rattle.capnp_widening.specs.Housed.{IsRoom, object_start};
 ghost use Rattle.capnp_widening.specs.Moved.{MovesSome, Unmoves, near_pointers};
 ghost use Rattle.capnp_widening.specs.RowsRemade.{AreRowsCopied, CopiesData, FillsRows, IsTagWritten, MakesListAnew, RowsInside, RefusesRows, StoresRows, element_moves};
-ghost use Rattle.capnp_widening.specs.Widened.{rewriting};
 ghost use Rattle.capnp_making.specs.Makes.{call_at};
 ghost use Rattle.capnp_making.specs.declared.making.Start.{Start};
 
@@ -88,8 +87,7 @@ pub(crate) fn begin_list<A: BuilderArena>(
     requires small { count * (size.data_words + size.pointers) < 2 ^ 29 }
     ensures begun { IfOk result (λ room. (T : Segments)
         × IsRoom (A.view arena.old).words T id (structs_words count size) room
-        × IsTagWritten (rewriting room.segment (room.at + room.pads) T
-        (A.view arena.new).words) count size) }
+        × IsTagWritten T (A.view arena.new).words (object_start room) count size) }
     ensures words { OnOk result
         (TakesWords (A.view arena.old) (A.view arena.new) id (structs_words count size)) }
     ensures behind { IfOk result (λ room.

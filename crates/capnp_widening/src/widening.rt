@@ -1,11 +1,11 @@
 //! Structs and lists made wider where they are too small: the object stands anew in more words, its
 //! pointers are moved there, and at last its pointer is overwritten. Until then the old object stands
 //! as it was, and a refusal leaves nothing but zeros.
-ghost use Rattle.std.specs.Prelude.{ℕ, Some, ◌≡◌, ◌≢◌, ◌<◌, ◌≤◌, ◌+◌, ◌*◌, ◌^◌, max, length, IsOk, IfOk, OnOk, IfErr, OnErr};
+ghost use Rattle.std.specs.Prelude.{ℕ, Some, ◌≡◌, ◌≢◌, ◌<◌, ◌≤◌, ◌+◌, ◌*◌, ◌^◌, max, List, length, IsOk, IfOk, OnOk, IfErr, OnErr};
 ghost use Rattle.capnp_arena_traits.specs.View.{KeepsLimits};
 ghost use Rattle.capnp_format.specs.Segments.{segment, word_at, IsPlace, Grows};
 ghost use Rattle.capnp_format.specs.Forest.{target};
-ghost use Rattle.capnp_format.specs.Tree.{Tree};
+ghost use Rattle.capnp_format.specs.Tree.{Tree, Trees, Struct, count};
 ghost use Rattle.capnp_contents.specs.Existing.{StructLiesIn, struct_in};
 ghost use Rattle.capnp_making.specs.Made.{CountFits, AsksWords};
 ghost use Rattle.capnp_making.specs.Memory.{KeepsMemory, SpendsMemory, RefusesWords, StandsBehind, TakesWords};
@@ -16,8 +16,8 @@ ghost use Rattle.capnp_making.specs.Zeroed.{IsPruned};
 ghost use Rattle.capnp_widening.specs.Anew.{MakesStructWider};
 ghost use Rattle.capnp_widening.specs.Housed.{IsRoom, AreWordsCopied, Settles, object_start};
 ghost use Rattle.capnp_widening.specs.Moved.{near_pointers, row_of_moves};
-ghost use Rattle.capnp_widening.specs.Rooms.{GrowsByAtMost, HasPadRoom, HasRoomAndPads, RefusesGrowth, WiderStructFits, GrowsForStruct};
-ghost use Rattle.capnp_widening.specs.Widened.{IsStruct, rewriting};
+ghost use Rattle.capnp_widening.specs.Rooms.{GrowsByAtMost, HasPadRoom, HasRoomAndPads, RefusesGrowth, WiderStructFits, widened_words};
+ghost use Rattle.capnp_widening.specs.Widened.{IsStruct, widened};
 
 use crate::moving::{move_row, unmove_row};
 use capnp_arena_traits::arena::BuilderArena;
@@ -116,8 +116,8 @@ pub(crate) fn settle<A: BuilderArena>(arena: &mut A, id: u32, at: u32, room: Roo
     requires near { (room.pads ≡ 0 → room.segment ≡ id) × (room.pads ≤ 1) }
     requires few { CountFits shape }
     requires some { AsksWords shape }
-    ensures settled { Settles
-        (rewriting id at (A.view arena.old).words (A.view arena.new).words) room shape }
+    ensures settled { Settles (A.view arena.old).words (A.view arena.new).words
+        (record { segment = id; at = at }) room shape }
     ensures limits { KeepsLimits (A.view arena.old) (A.view arena.new) }
 {
     if room.pads == 0 {
@@ -156,7 +156,10 @@ pub(crate) fn widen_known<A: BuilderArena>(
         (max old.size.data_words size.data_words + max old.size.pointers size.pointers)
         old.size.pointers) }
     ensures fits { WiderStructFits (A.view arena.old) id at size → IsOk result }
-    ensures few { GrowsForStruct (A.view arena.old).words (A.view arena.new).words id at size }
+    ensures few { (ws : List ℕ) (ts : Trees)
+        → IsStored (A.view arena.old).words id at (Struct ws ts)
+        → GrowsByAtMost (A.view arena.old).words (A.view arena.new).words
+        (widened_words (widened size ws ts) + 1 + 2 * count ts) }
 {
     let wide = StructSize {
         data_words: greater(old.size.data_words, size.data_words),

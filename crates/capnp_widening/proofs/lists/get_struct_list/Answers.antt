@@ -1,12 +1,13 @@
 use Rattle.std.proofs.lemmas.Result.{err_from_is_err_and}
 use Rattle.std.proofs.Common.{◌≡◌, inl, inr, refl, sym, ap, ◌∙◌, Ok, arith}
-use Rattle.capnp_format.specs.Tree.{Null, Structs, element_count}
+use Rattle.capnp_format.specs.Tree.{Tree, Null, Structs, element_count}
 use Rattle.capnp_words.specs.Sizes.{size_number}
 use Rattle.capnp_contents.specs.declared.existing.ExistingList.{ExistingList}
 use Rattle.capnp_contents.specs.Existing.{struct_list}
 use Rattle.capnp_format.specs.Segments.{Segments}
 use Rattle.capnp_format.specs.Forest.{target}
 use Rattle.capnp_arena_traits.specs.View.{View}
+use Rattle.capnp_making.specs.Stored.{IsStored}
 use Rattle.capnp_making.proofs.Memory.{keeps_itself}
 use Rattle.capnp_widening.proofs.AnyList.{none_is_null, null_stays, null_leads, list_widens, list_leads, unfound_refused}
 use Rattle.capnp_widening.proofs.Listed.{same_list, not_a_list}
@@ -18,19 +19,23 @@ use Rattle.capnp_widening.proofs.lists.get_struct_list.Goals as goal
 
 -- Null stays.
 pub returns-in-None-clause-widened : goal.returns-in-None-clause-widened
-returns-in-None-clause-widened g c = null_stays (g.A.BuilderArena.view c.args.arena.now).words c.args.id c.args.at c.args.size (λ t x. sym (ap Ok c.in-None.is) ∙ c.in_ok-old.ensures.found t x)
-
-pub returns-in-None-clause-leads : goal.returns-in-None-clause-leads
-returns-in-None-clause-leads g c = null_leads (g.A.BuilderArena.view c.args.arena.now).words c.args.id c.args.at c.args.size (λ t x. sym (ap Ok c.in-None.is) ∙ c.in_ok-old.ensures.found t x)
+returns-in-None-clause-widened g c =
+    let S : Segments = (g.A.BuilderArena.view c.args.arena.now).words in
+    let found = λ (t : Tree) (x : IsStored S c.args.id c.args.at t). sym (ap Ok c.in-None.is) ∙ c.in_ok-old.ensures.found t x in
+    λ t x.
+    (let (u, e, same) = null_stays S c.args.id c.args.at c.args.size found t x in
+    (u, e, same, null_leads S c.args.id c.args.at c.args.size found t u x e))
 
 -- One is found, and made anew or given as it stands.
 pub returns-in_ok-list-in-Some-clause-widened : goal.returns-in_ok-list-in-Some-clause-widened
 returns-in_ok-list-in-Some-clause-widened g c =
-    list_widens (g.A.BuilderArena.view c.args.arena.now).words (g.A.BuilderArena.view c.widen_list.new.arena).words c.args.id c.args.at c.args.size c.in-Some.old c.in_ok-list-in-Some.list (λ t x. sym (ap Ok c.in-Some.is) ∙ c.in_ok-old.ensures.found t x) c.in_ok-list-in-Some.ensures.widened
-
-pub returns-in_ok-list-in-Some-clause-leads : goal.returns-in_ok-list-in-Some-clause-leads
-returns-in_ok-list-in-Some-clause-leads g c =
-    list_leads (g.A.BuilderArena.view c.args.arena.now).words (g.A.BuilderArena.view c.widen_list.new.arena).words c.args.id c.args.at c.args.size c.in-Some.old c.in_ok-list-in-Some.list (λ t x. sym (ap Ok c.in-Some.is) ∙ c.in_ok-old.ensures.found t x) c.in_ok-list-in-Some.ensures.widened
+    let S : Segments = (g.A.BuilderArena.view c.args.arena.now).words in
+    let R : Segments = (g.A.BuilderArena.view c.widen_list.new.arena).words in
+    let found = λ (t : Tree) (x : IsStored S c.args.id c.args.at t). sym (ap Ok c.in-Some.is) ∙ c.in_ok-old.ensures.found t x in
+    let widens = c.in_ok-list-in-Some.ensures.widened in
+    λ t x.
+    (let (u, e, made) = list_widens S R c.args.id c.args.at c.args.size c.in-Some.old c.in_ok-list-in-Some.list found widens t x in
+    (u, e, made, list_leads S R c.args.id c.args.at c.args.size c.in-Some.old c.in_ok-list-in-Some.list found widens t u x e))
 
 -- No list is found.
 pub returns-in_err-old-clause-wider : goal.returns-in_err-old-clause-wider

@@ -12,7 +12,6 @@ use Rattle.capnp_making.proofs.MadeWords.{word_put}
 use Rattle.capnp_making.proofs.Memory.{words_in}
 use Rattle.capnp_making.proofs.Zeros.{there}
 use Rattle.capnp_making.specs.Memory.{TakesWords}
-use Rattle.capnp_widening.specs.Anew.{WritesPointer}
 use Rattle.capnp_widening.specs.Moved.{a_move, near_pointers}
 use Rattle.capnp_widening.specs.Rooms.{HasPadRoom}
 use Rattle.capnp_widening.proofs.Basics.{on_both_so}
@@ -22,6 +21,7 @@ use Rattle.capnp_widening.proofs.TakingWords.{put_writes}
 use Rattle.capnp_widening.proofs.WrittenAnew.{writes_one}
 use Rattle.capnp_widening.proofs.Rooms.{words_put}
 use Rattle.capnp_widening.proofs.Single.{copied_moves, near_moves, means_nothing}
+use Rattle.capnp_widening.proofs.Statements.{WritesPointer}
 use Rattle.capnp_widening.proofs.moving.move_pointer.Goals as goal
 
 -- A far pointer or a capability is copied as it is.
@@ -69,7 +69,7 @@ returns-then-not-is_positional-clause-only g c = λ x y e l.
     (word_put (g.A.BuilderArena.view c.args.arena.now).words (g.A.BuilderArena.view c.set_word.new.self).words c.args.to.segment c.args.to.at c.word_of-word.result.0 c.requires.to (ap words_in c.set_word.ensures)).kept x y e
 
 pub returns-in-Some-clause-only : goal.returns-in-Some-clause-only
-returns-in-Some-clause-only g c = on_made_so c.point_to.result _ _ c.point_to.ensures.points (λ w. λ x y e l. (let (a, p, shaped, lies) = w in p.kept x y e l))
+returns-in-Some-clause-only g c = on_made_so c.point_to.result _ _ c.point_to.ensures.points (λ w. λ x y e l. w.kept x y e l)
 
 pub returns-then-not-is_positional-clause-few : goal.returns-then-not-is_positional-clause-few
 returns-then-not-is_positional-clause-few g c =
@@ -104,7 +104,8 @@ returns-in-Some-clause-written g c =
     let is : x ≡ word_at a.words c.args.from.segment c.args.from.at = c.word_of-word.ensures in
     let some : x ≢ 0 = λ e. search rules in
     let near : kind x < 2 = search rules in
-    on_both_so c.point_to.result _ _ _ c.point_to.ensures.written c.point_to.ensures.granted
+    on_both_so c.point_to.result ((y : ℕ) → IsShape c.shape_of.result y → y ≢ 0 → WritesPointer c.args.from.segment y (call_at c.args.to.segment c.args.to.at a b)) _ _
+    (on_both_so c.point_to.result _ _ _ c.point_to.ensures.written c.point_to.ensures.taken (λ form taken. λ y its none. record { form = form y its none; taken = taken y its none })) c.point_to.ensures.granted
     (λ w kept. writes_one a b c.args.from.segment c.args.from.at c.args.to.segment c.args.to.at kept (λ none. subst (λ y. WritesPointer c.args.from.segment y (call_at c.args.to.segment c.args.to.at a b)) is (w x (c.shape_of.ensures.shape near) some)))
 
 -- One that leads nowhere means nothing.
@@ -155,12 +156,12 @@ returns-in-Some-clause-apart g c =
           (let room : HasPadRoom a k (1 + n) = subst (λ i. HasPadRoom a k (i + n)) one h in
           let goes = c.point_to.ensures.fits (fewer_pads a k 1 (1 + n) (omega arith) room) in (
             goes,
-            granted_so c.point_to.result (HasPadRoom b k n) goes (on_both_so c.point_to.result _ _ _ c.point_to.ensures.written c.point_to.ensures.granted
+            granted_so c.point_to.result (HasPadRoom b k n) goes (on_both_so c.point_to.result _ _ _ c.point_to.ensures.taken c.point_to.ensures.granted
                 (λ w kept. pad_taken a b k n (there a.words k c.args.from.at c.requires.from) kept
-                (subst (λ i. TakesWords a b k i) (pad_far k c.args.to.segment x other some near) (w x shaped some).taken) room)),
+                (subst (λ i. TakesWords a b k i) (pad_far k c.args.to.segment x other some near) (w x shaped some)) room)),
           ));
       kept = on_made_so c.point_to.result _ _ c.point_to.ensures.points
-          (λ w. λ y l. (let (o, p, shaped, lies) = w in p.kept k y (none_elsewhere c.args.to.segment c.args.to.at 1 k y other) l));
+          (λ w. λ y l. w.kept k y (none_elsewhere c.args.to.segment c.args.to.at 1 k y other) l);
     }
 
 pub returns-in-None-clause-apart : goal.returns-in-None-clause-apart

@@ -20,6 +20,7 @@ use Rattle.capnp_widening.proofs.PointersWritten.{near_written, far_written}
 use Rattle.capnp_widening.proofs.Single.{same_shape}
 use Rattle.capnp_widening.proofs.TakingWords.{put_writes, took_near, took_far}
 use Rattle.capnp_widening.proofs.WrittenAnew.{writes_both}
+use Rattle.capnp_widening.proofs.Statements.{points_to}
 use Rattle.capnp_widening.proofs.moving.point_to.Goals as goal
 
 -- A near pointer.
@@ -37,14 +38,14 @@ returns-then-object-to-clause-points g c =
     let shaped : IsShape c.args.shape x = c.near_word-word.ensures.shape in
     let near : kind x ≢ 2 = shape_near c.args.shape x shaped in
     elim c.near_word-word.ensures.lands [
-      | inl off ↦ (
+      | inl off ↦ points_to S R c.args.shape c.args.object c.args.to (
         record { word = x; segment = v; start = b; pads = 0 },
         pointed_near S R v q b x c.requires.to inside (ap words_in c.set_word.ensures) c.near_word-word.ensures.some near
             (subst (λ o. IsOffsetTo q o b) (sym off) (reaches_offset q b (omega (arith, inside, small), omega (arith, c.requires.to, small)))),
         shaped,
         inl (sym here, refl),
       )
-      | inr (struct, empty, off) ↦ (
+      | inr (struct, empty, off) ↦ points_to S R c.args.shape c.args.object c.args.to (
         record { word = x; segment = v; start = q; pads = 0 },
         pointed_near S R v q q x c.requires.to (omega (arith, c.requires.to)) (ap words_in c.set_word.ensures) c.near_word-word.ensures.some near (inr (omega (arith, off), omega (arith, off))),
         shaped,
@@ -68,7 +69,8 @@ returns-in-Some-clause-points g c =
     let first : IsGrown S T v (length (segment S v)) 1 = rw made (extended_grown S v 1 c.requires.there) in
     let grown : IsGrown S T v q 1 = subst (λ z. IsGrown S T v z 1) (sym at) first in
     let small : length (segment S v) + 1 < 2 ^ 29 = omega (arith, c.in-Some.ensures.exactly.0 refl, g.met.A.BuilderArena.small c.args.arena.now v) in
-    let offset : IsOffsetTo q (offset_bits x) b = subst (λ o. IsOffsetTo q o b) (sym c.pointer_to-word.ensures.offset) (reaches_offset q b (omega (arith, at, small, c.requires.inside), omega (arith, at, small))) in (
+    let offset : IsOffsetTo q (offset_bits x) b = subst (λ o. IsOffsetTo q o b) (sym c.pointer_to-word.ensures.offset) (reaches_offset q b (omega (arith, at, small, c.requires.inside), omega (arith, at, small))) in
+    points_to S R c.args.shape c.args.object c.args.to (
       record { word = x; segment = v; start = b; pads = 1 },
       pointed_single S T U R c.args.to.segment c.args.to.at v q b x c.new_far-far.result.0 c.requires.to c.requires.inside grown (ap words_in c.set_word-in-Some.ensures) (ap words_in c.set_word-in-Some-2.ensures)
           (shape_near c.args.shape x shaped) offset c.new_far-far.ensures.kind_of c.new_far-far.ensures.pads c.new_far-far.ensures.position_of c.new_far-far.ensures.segment_of,
@@ -121,7 +123,8 @@ returns-in_ok-segment-in-None-clause-points g c =
     let x : ℕ = c.tag_of-tag.result.0 in
     let shaped : IsShape c.args.shape x = c.tag_of-tag.ensures.shape in
     let same : (g.A.BuilderArena.view c.allocate.new.self).words ≡ S = ap words_in (c.in-None.ensures.none refl) in
-    let grown : IsGrown S T k q 2 = taken_grown S T 2 k q (rw same at c.in_ok-segment-in-None.ensures.taken) in (
+    let grown : IsGrown S T k q 2 = taken_grown S T 2 k q (rw same at c.in_ok-segment-in-None.ensures.taken) in
+    points_to S R c.args.shape c.args.object c.args.to (
       record { word = x; segment = v; start = b; pads = 2 },
       pointed_double S T U V R c.args.to.segment c.args.to.at v b k q c.new_far-start.result.0 x c.new_double_far-far.result.0 c.requires.to c.requires.there c.requires.inside grown (ap words_in c.set_word-in-None.ensures)
           (ap words_in c.set_word-in-None-2.ensures) (ap words_in c.set_word-in-None-3.ensures) c.new_far-start.ensures.segment_of c.new_far-start.ensures.position_of (shape_near c.args.shape x shaped)
@@ -131,7 +134,7 @@ returns-in_ok-segment-in-None-clause-points g c =
     )
 
 pub returns-in_ok-segment-in-None-clause-longer : goal.returns-in_ok-segment-in-None-clause-longer
-returns-in_ok-segment-in-None-clause-longer g c = let (a, w, shaped, lies) = returns-in_ok-segment-in-None-clause-points g c in w.grows
+returns-in_ok-segment-in-None-clause-longer g c = (returns-in_ok-segment-in-None-clause-points g c).grows
 
 -- No segment has room for two words more.
 pub returns-in_err-segment-in-None-clause-full : goal.returns-in_err-segment-in-None-clause-full
@@ -197,8 +200,14 @@ returns-in_err-segment-in-None-clause-fits g c = λ h.
 pub returns-then-object-to-clause-written : goal.returns-then-object-to-clause-written
 returns-then-object-to-clause-written g c =
     let here : c.args.object.segment ≡ c.args.to.segment = search rules in
-    near_written (g.A.BuilderArena.view c.args.arena.now) (g.A.BuilderArena.view c.set_word.new.self) c.args.shape c.args.object.segment c.args.to.segment c.args.to.at c.near_word-word.result.0 here c.requires.there
-    (g.met.A.BuilderArena.within c.args.arena.now c.args.object.segment) c.requires.to c.set_word.ensures c.near_word-word.ensures.shape c.near_word-word.ensures.empty
+    λ x its some. (near_written (g.A.BuilderArena.view c.args.arena.now) (g.A.BuilderArena.view c.set_word.new.self) c.args.shape c.args.object.segment c.args.to.segment c.args.to.at c.near_word-word.result.0 here c.requires.there
+    (g.met.A.BuilderArena.within c.args.arena.now c.args.object.segment) c.requires.to c.set_word.ensures c.near_word-word.ensures.shape c.near_word-word.ensures.empty x its some).form
+
+pub returns-then-object-to-clause-taken : goal.returns-then-object-to-clause-taken
+returns-then-object-to-clause-taken g c =
+    let here : c.args.object.segment ≡ c.args.to.segment = search rules in
+    λ x its some. (near_written (g.A.BuilderArena.view c.args.arena.now) (g.A.BuilderArena.view c.set_word.new.self) c.args.shape c.args.object.segment c.args.to.segment c.args.to.at c.near_word-word.result.0 here c.requires.there
+    (g.met.A.BuilderArena.within c.args.arena.now c.args.object.segment) c.requires.to c.set_word.ensures c.near_word-word.ensures.shape c.near_word-word.ensures.empty x its some).taken
 
 -- By a pad behind the words of that segment.
 pub returns-in-Some-clause-written : goal.returns-in-Some-clause-written
@@ -216,7 +225,24 @@ returns-in-Some-clause-written g c = λ x its some.
     let second = put_writes u b c.args.to.segment c.args.to.at c.new_far-far.result.0 place c.set_word-in-Some-2.ensures in
     let put = word_put u.words b.words c.args.to.segment c.args.to.at c.new_far-far.result.0 place (ap words_in c.set_word-in-Some-2.ensures) in
     far_written a t b v c.args.to.segment c.args.to.at c.new_far-far.result.0 x other (took_near a t v 1 c.in-Some.pad c.requires.there (c.in-Some.ensures.exactly.0 refl) c.in-Some.ensures.taken) (writes_both t u b first second) put.here
-    c.new_far-far.ensures.kind_of (inl (c.new_far-far.ensures.pads, c.new_far-far.ensures.segment_of)) some (same_shape c.args.shape x x its its).2)
+    c.new_far-far.ensures.kind_of (inl (c.new_far-far.ensures.pads, c.new_far-far.ensures.segment_of)) some (same_shape c.args.shape x x its its).2).form
+
+pub returns-in-Some-clause-taken : goal.returns-in-Some-clause-taken
+returns-in-Some-clause-taken g c = λ x its some.
+    (let a : View = g.A.BuilderArena.view c.args.arena.now in
+    let t : View = g.A.BuilderArena.view c.allocate.new.self in
+    let u : View = g.A.BuilderArena.view c.set_word-in-Some.new.self in
+    let b : View = g.A.BuilderArena.view c.set_word-in-Some-2.new.self in
+    let v : ℕ = c.args.object.segment in
+    let other : v ≢ c.args.to.segment = λ e. search rules in
+    let (at, made) = c.in-Some.ensures.taken in
+    let grown : IsGrown a.words t.words v (length (segment a.words v)) 1 = rw made (extended_grown a.words v 1 c.requires.there) in
+    let first = put_writes t u v c.in-Some.pad c.pointer_to-word.result.0 (omega (arith, grown.room, at)) c.set_word-in-Some.ensures in
+    let place : c.args.to.at < length (segment u.words c.args.to.segment) = omega (arith, c.requires.to, grown.grows.words c.args.to.segment, first.words c.args.to.segment) in
+    let second = put_writes u b c.args.to.segment c.args.to.at c.new_far-far.result.0 place c.set_word-in-Some-2.ensures in
+    let put = word_put u.words b.words c.args.to.segment c.args.to.at c.new_far-far.result.0 place (ap words_in c.set_word-in-Some-2.ensures) in
+    far_written a t b v c.args.to.segment c.args.to.at c.new_far-far.result.0 x other (took_near a t v 1 c.in-Some.pad c.requires.there (c.in-Some.ensures.exactly.0 refl) c.in-Some.ensures.taken) (writes_both t u b first second) put.here
+    c.new_far-far.ensures.kind_of (inl (c.new_far-far.ensures.pads, c.new_far-far.ensures.segment_of)) some (same_shape c.args.shape x x its its).2).taken
 
 -- By two.
 pub returns-in_ok-segment-in-None-clause-written : goal.returns-in_ok-segment-in-None-clause-written
@@ -238,7 +264,28 @@ returns-in_ok-segment-in-None-clause-written g c = λ x its some.
     let put = word_put w.words b.words c.args.to.segment c.args.to.at c.new_double_far-far.result.0 place (ap words_in c.set_word-in-None-3.ensures) in
     let took = took_far a (g.A.BuilderArena.view c.allocate.new.self) t c.args.object.segment 1 k q before (λ l. not_true (c.in-None.ensures.exactly.1 l)) c.in_ok-segment-in-None.ensures.first c.in_ok-segment-in-None.ensures.another in
     far_written a t b c.args.object.segment c.args.to.segment c.args.to.at c.new_double_far-far.result.0 x other took.0 (writes_both t w b (writes_both t u w first second) third) put.here
-    c.new_double_far-far.ensures.kind_of (inr c.new_double_far-far.ensures.pads) some (same_shape c.args.shape x x its its).2)
+    c.new_double_far-far.ensures.kind_of (inr c.new_double_far-far.ensures.pads) some (same_shape c.args.shape x x its its).2).form
+
+pub returns-in_ok-segment-in-None-clause-taken : goal.returns-in_ok-segment-in-None-clause-taken
+returns-in_ok-segment-in-None-clause-taken g c = λ x its some.
+    (let a : View = g.A.BuilderArena.view c.args.arena.now in
+    let t : View = g.A.BuilderArena.view c.allocate_anywhere.new.self in
+    let u : View = g.A.BuilderArena.view c.set_word-in-None.new.self in
+    let w : View = g.A.BuilderArena.view c.set_word-in-None-2.new.self in
+    let b : View = g.A.BuilderArena.view c.set_word-in-None-3.new.self in
+    let k : ℕ = c.in_ok-segment-in-None.segment in
+    let q : ℕ = c.in_ok-segment-in-None.pad in
+    let other : c.args.object.segment ≢ c.args.to.segment = λ e. search rules in
+    let before : g.A.BuilderArena.view c.allocate.new.self ≡ a = c.in-None.ensures.none refl in
+    let grown : IsGrown a.words t.words k q 2 = taken_grown a.words t.words 2 k q (rw before at c.in_ok-segment-in-None.ensures.taken) in
+    let first = put_writes t u k q c.new_far-start.result.0 (omega (arith, grown.room)) c.set_word-in-None.ensures in
+    let second = put_writes u w k (q + 1) c.tag_of-tag.result.0 (omega (arith, grown.room, first.words k)) c.set_word-in-None-2.ensures in
+    let place : c.args.to.at < length (segment w.words c.args.to.segment) = omega (arith, c.requires.to, grown.grows.words c.args.to.segment, first.words c.args.to.segment, second.words c.args.to.segment) in
+    let third = put_writes w b c.args.to.segment c.args.to.at c.new_double_far-far.result.0 place c.set_word-in-None-3.ensures in
+    let put = word_put w.words b.words c.args.to.segment c.args.to.at c.new_double_far-far.result.0 place (ap words_in c.set_word-in-None-3.ensures) in
+    let took = took_far a (g.A.BuilderArena.view c.allocate.new.self) t c.args.object.segment 1 k q before (λ l. not_true (c.in-None.ensures.exactly.1 l)) c.in_ok-segment-in-None.ensures.first c.in_ok-segment-in-None.ensures.another in
+    far_written a t b c.args.object.segment c.args.to.segment c.args.to.at c.new_double_far-far.result.0 x other took.0 (writes_both t w b (writes_both t u w first second) third) put.here
+    c.new_double_far-far.ensures.kind_of (inr c.new_double_far-far.ensures.pads) some (same_shape c.args.shape x x its its).2).taken
 
 -- What the landing pads are.
 pub returns-then-object-to-clause-pads : goal.returns-then-object-to-clause-pads
@@ -281,7 +328,7 @@ returns-in_ok-segment-in-None-clause-pads g c =
     let grown : IsGrown S T k q 2 = taken_grown S T 2 k q (rw same at c.in_ok-segment-in-None.ensures.taken) in
     let stand = pads_stand S T U V R c.args.to.segment c.args.to.at k q f x h c.requires.to grown (ap words_in c.set_word-in-None.ensures) (ap words_in c.set_word-in-None-2.ensures) (ap words_in c.set_word-in-None-3.ensures) in
     two_pads R _ h k q f x stand.0 c.new_double_far-far.ensures.segment_of c.new_double_far-far.ensures.position_of stand.1 stand.2
-    (record { far = c.new_far-start.ensures.kind_of; single = c.new_far-start.ensures.pads; no_offset = c.tag_of-tag.ensures.offset })
+    (c.new_far-start.ensures.kind_of, c.new_far-start.ensures.pads, c.tag_of-tag.ensures.offset)
 
 -- Nothing but words is changed beside the room that is taken.
 pub returns-then-object-to-clause-granted : goal.returns-then-object-to-clause-granted
@@ -309,11 +356,11 @@ returns-in-Some-clause-granted g c =
 -- No segment has become shorter.
 pub returns-then-object-to-clause-longer : goal.returns-then-object-to-clause-longer
 returns-then-object-to-clause-longer g c =
-    let (a, w, shaped, lies) = returns-then-object-to-clause-points g c in w.grows
+    (returns-then-object-to-clause-points g c).grows
 
 pub returns-in-Some-clause-longer : goal.returns-in-Some-clause-longer
 returns-in-Some-clause-longer g c =
-    let (a, w, shaped, lies) = returns-in-Some-clause-points g c in w.grows
+    (returns-in-Some-clause-points g c).grows
 
 pub returns-in_err-segment-in-None-clause-refused : goal.returns-in_err-segment-in-None-clause-refused
 returns-in_err-segment-in-None-clause-refused g c =

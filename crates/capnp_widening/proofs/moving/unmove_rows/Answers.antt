@@ -48,7 +48,7 @@ pub loop-i-init : goal.loop-i-init
 loop-i-init g c =
     let S : Segments = (g.A.BuilderArena.view c.args.arena.now).words in
     record {
-      zeroed = λ _. nothing_zeroed S;
+      zeroed = λ inside old_apart new_apart. nothing_zeroed S;
       source_at = first_row c.args.from.at c.args.from.step;
       place_at = first_row c.args.to.at c.args.to.step;
       pruned = nothing_pruned S;

@@ -15,6 +15,7 @@ use Rattle.capnp_widening.specs.Anew.{OnlyWrites}
 use Rattle.capnp_widening.proofs.StructSteps.{nothing_grown}
 use Rattle.capnp_widening.proofs.TakingWords.{pruned_writes}
 use Rattle.capnp_widening.proofs.WrittenAnew.{keeps_writes, writes_both}
+use Rattle.capnp_widening.proofs.Statements.{settled_room}
 use Rattle.capnp_widening.proofs.numbers.remake_numbers.Goals as goal
 
 -- The room lies in its segment, which has fewer than 2^29 words.
@@ -129,7 +130,7 @@ returns-clause-made g c =
     let z : View = g.A.BuilderArena.view c.zero_part.new.arena in
     let q : View = g.A.BuilderArena.view c.zero_pads.new.arena in
     let (T, room, tagged) = c.in_ok-room.ensures.begun in
-    let (o, settled, shaped, segment_of, start_of) = c.settle.ensures.settled in
+    let (o, settled, shaped, segment_of, start_of) = settled_room c.settle.ensures.settled in
     let first : OnlyWrites b d = record { limits = c.copy_numbers.ensures.limits; segments = c.copy_numbers.ensures.copied.segments; words = c.copy_numbers.ensures.copied.words } in
     let set : OnlyWrites d r = record { limits = c.settle.ensures.limits; segments = settled.segments; words = settled.words } in
     let zeroed = pruned_writes r z c.zero_part.ensures.limits c.zero_part.ensures.pruned in
@@ -140,7 +141,7 @@ returns-clause-made g c =
       room = room;
       tagged = tagged;
       copied = rw c.total.ensures at c.copy_numbers.ensures.copied;
-      settled = rw c.total-2.ensures at c.settle.ensures.settled;
+      settled = rw c.total-2.ensures at (settled_room c.settle.ensures.settled);
       object_zeroed = rw c.words_of_numbers.ensures.value at c.zero_part.ensures.zeroed;
       pads_zeroed = rw c.word_of-pointer.ensures at c.zero_pads.ensures.zeroed;
     } in
@@ -179,7 +180,7 @@ returns-clause-few g c =
     let R : Segments = (g.A.BuilderArena.view c.settle.new.arena).words in
     let Z : Segments = (g.A.BuilderArena.view c.zero_part.new.arena).words in
     let Q : Segments = (g.A.BuilderArena.view c.zero_pads.new.arena).words in
-    let (b, settled, shaped, segment_of, start_of) = c.settle.ensures.settled in
+    let (b, settled, shaped, segment_of, start_of) = settled_room c.settle.ensures.settled in
     let copied = same_words B D c.copy_numbers.ensures.copied.segments c.copy_numbers.ensures.copied.words in
     let set = same_words D R settled.segments settled.words in
     let zeroed = same_words R Z c.zero_part.ensures.pruned.segments c.zero_part.ensures.pruned.words in

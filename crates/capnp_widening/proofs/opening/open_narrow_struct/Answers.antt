@@ -7,7 +7,7 @@ use Rattle.capnp_widening.proofs.opening.open_narrow_struct.Goals as goal
 pub returns-clause-opened : goal.returns-clause-opened
 returns-clause-opened g c = λ t stored found.
     struct_wider (g.A.BuilderArena.view c.args.arena.now) (g.A.BuilderArena.view c.widen_known.new.arena) c.args.id c.args.at t (existing_struct c.args.start c.args.narrow) c.in_ok-wide.wide c.args.size c.greater_size.result stored found
-    (record { widened = c.in_ok-wide.ensures.wider.widened; leads = c.in_ok-wide.ensures.wider.leads; memory = c.in_ok-wide.ensures.wider.granted; anew = c.in_ok-wide.ensures.wider.anew; narrow = c.requires.narrow }) c.greater_size.ensures.data_words c.greater_size.ensures.pointers
+    (record { widened = c.in_ok-wide.ensures.wider.replaced; leads = c.in_ok-wide.ensures.wider.leads; memory = c.in_ok-wide.ensures.wider.granted; anew = c.in_ok-wide.ensures.wider.anew; narrow = c.requires.narrow }) c.greater_size.ensures.data_words c.greater_size.ensures.pointers
 
 pub returns-in_err-wide-clause-named : goal.returns-in_err-wide-clause-named
 returns-in_err-wide-clause-named g c =

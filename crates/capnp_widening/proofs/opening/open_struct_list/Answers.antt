@@ -15,7 +15,6 @@ returns-in-None-refusal_of_list-clause-opened g c = λ t stored.
     (sym (c.in_ok-old.ensures.found t stored) ∙ ap Ok c.in-Some.is) narrow c.in-None-refusal_of_list.ensures.found
     (record {
       widened = c.get_struct_list.ensures.widened;
-      leads = c.get_struct_list.ensures.leads;
       anew = c.get_struct_list.ensures.wider.anew;
       granted = c.get_struct_list.ensures.wider.granted;
       refused = c.get_struct_list.ensures.wider.refused;

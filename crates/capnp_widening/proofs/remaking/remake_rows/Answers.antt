@@ -23,6 +23,7 @@ use Rattle.capnp_widening.proofs.StructSteps.{nothing_grown}
 use Rattle.capnp_widening.specs.Anew.{OnlyWrites}
 use Rattle.capnp_widening.proofs.TakingWords.{pruned_writes}
 use Rattle.capnp_widening.proofs.WrittenAnew.{keeps_writes, writes_both}
+use Rattle.capnp_widening.proofs.Statements.{settled_room}
 use Rattle.capnp_widening.proofs.remaking.remake_rows.Goals as goal
 
 -- The room lies in its segment, which has fewer than 2^29 words.
@@ -145,7 +146,7 @@ returns-in-Ok-clause-made g c =
     let (T, room, tagged) = c.in_ok-room.ensures.begun in
     let filled = c.in-Ok.ensures.filled in
     let d : View = filled.between in
-    let (o, settled, shaped, segment_of, start_of) = c.settle.ensures.settled in
+    let (o, settled, shaped, segment_of, start_of) = settled_room c.settle.ensures.settled in
     let set : OnlyWrites p r = record { limits = c.settle.ensures.limits; segments = settled.segments; words = settled.words } in
     let zeroed = pruned_writes r z c.zero_part.ensures.limits c.zero_part.ensures.pruned in
     let cleared = pruned_writes z q c.zero_pads.ensures.limits c.zero_pads.ensures.pruned in
@@ -158,7 +159,7 @@ returns-in-Ok-clause-made g c =
       tagged = tagged;
       copied = filled.copied;
       moves = filled.moved;
-      settled = rw c.total.ensures at c.settle.ensures.settled;
+      settled = rw c.total.ensures at (settled_room c.settle.ensures.settled);
       object_zeroed = rw (c.from.ensures, c.from-in-Ok.ensures, c.from-step.ensures, c.total-in-Ok.ensures) at c.zero_part.ensures.zeroed;
       pads_zeroed = rw c.word_of-pointer.ensures at c.zero_pads.ensures.zeroed;
       wider = (c.requires.data, c.requires.pointers);
@@ -241,7 +242,7 @@ returns-in-Ok-clause-few g c =
     let R : Segments = (g.A.BuilderArena.view c.settle.new.arena).words in
     let Z : Segments = (g.A.BuilderArena.view c.zero_part.new.arena).words in
     let Q : Segments = (g.A.BuilderArena.view c.zero_pads.new.arena).words in
-    let (b, settled, shaped, segment_of, start_of) = c.settle.ensures.settled in
+    let (b, settled, shaped, segment_of, start_of) = settled_room c.settle.ensures.settled in
     let set = same_words P R settled.segments settled.words in
     let zeroed = same_words R Z c.zero_part.ensures.pruned.segments c.zero_part.ensures.pruned.words in
     let cleared = same_words Z Q c.zero_pads.ensures.pruned.segments c.zero_pads.ensures.pruned.words in

@@ -6,8 +6,8 @@ use Rattle.capnp_format.proofs.Lies.{reaches_offset}
 use Rattle.capnp_format.proofs.Following.{IsOffsetTo}
 use Rattle.capnp_making.proofs.Memory.{words_in}
 use Rattle.capnp_making.proofs.Shapes.{shape_some, shape_near}
-use Rattle.capnp_widening.specs.Housed.{IsSettled}
 use Rattle.capnp_widening.proofs.Settled.{settled_near, settled_far}
+use Rattle.capnp_widening.proofs.Statements.{IsSettled, settles_room}
 use Rattle.capnp_widening.proofs.widening.settle.Goals as goal
 
 -- In the segment of the pointer.
@@ -27,7 +27,8 @@ returns-then-room-eq0-clause-settled g c =
     let offset : IsOffsetTo at (offset_bits x) b = subst (λ o. IsOffsetTo at o b) (sym c.pointer_to-word.ensures.offset) (reaches_offset at b reaches) in
     let shaped = c.pointer_to-word.ensures.shape in
     let t : Target = record { word = x; segment = id; start = b; pads = 0 } in
-    let whole = settled_near S R id at b x c.requires.place (omega (arith, inside)) (ap words_in c.set_word.ensures) (shape_some c.args.shape x shaped c.requires.some) (shape_near c.args.shape x shaped) offset in (
+    let whole = settled_near S R id at b x c.requires.place (omega (arith, inside)) (ap words_in c.set_word.ensures) (shape_some c.args.shape x shaped c.requires.some) (shape_near c.args.shape x shaped) offset in
+    settles_room S R (record { segment = id; at = at }) c.args.room c.args.shape (
       t,
       subst (λ s. IsSettled S R id at t s b c.args.room.pads) (sym here) (subst (λ n. IsSettled S R id at t id b n) (sym none) whole),
       shaped,
@@ -50,4 +51,5 @@ returns-clause-settled g c =
     let t : Target = record { word = x; segment = v; start = r + 1; pads = 1 } in
     let whole = settled_far S U R c.args.id c.args.at v r x c.new_far-far.result.0 c.requires.place (omega (arith, c.requires.inside)) c.requires.apart (ap words_in c.set_word-2.ensures) (ap words_in c.set_word-3.ensures)
     (shape_near c.args.shape x shaped) offset c.new_far-far.ensures.kind_of c.new_far-far.ensures.pads c.new_far-far.ensures.position_of c.new_far-far.ensures.segment_of in
+    settles_room S R (record { segment = c.args.id; at = c.args.at }) c.args.room c.args.shape
     (t, subst (λ n. IsSettled S R c.args.id c.args.at t v r n) (sym one) whole, shaped, refl, omega (arith, one))

@@ -22,7 +22,7 @@ returns-clause-wider g c =
     let b : View = g.A.BuilderArena.view c.widen_struct.new.arena in
     let e = c.widen_struct.ensures.wider in
     record {
-      widened = on_made_so c.widen_struct.result _ _ e.widened (λ w. λ ws ts x.
+      replaced = on_made_so c.widen_struct.result _ _ e.replaced (λ w. λ ws ts x.
           (let found = c.requires.known (Struct ws ts) x in
           let same = same_struct (the_struct a.words c.args.id c.args.at ws ts) c.args.old found in
           let d = ap (λ e. e.size.data_words) same in

@@ -17,6 +17,7 @@ use Rattle.capnp_widening.proofs.StructSteps.{StructSteps, struct_rehoused, stru
 use Rattle.capnp_widening.specs.Anew.{OnlyWrites}
 use Rattle.capnp_widening.proofs.TakingWords.{pruned_writes}
 use Rattle.capnp_widening.proofs.WrittenAnew.{keeps_writes, writes_both}
+use Rattle.capnp_widening.proofs.Statements.{settled_room}
 use Rattle.capnp_widening.proofs.widening.widen_struct.Goals as goal
 
 data_inside : (start d q : ℕ) {length : ℕ} → start + d + q ≤ length → start + d ≤ length
@@ -167,7 +168,7 @@ returns-in-Ok-clause-wider g c =
     let r : View = g.A.BuilderArena.view c.settle.new.arena in
     let z : View = g.A.BuilderArena.view c.zero_part.new.arena in
     let q : View = g.A.BuilderArena.view c.zero_pads.new.arena in
-    let (b, settled, shaped, segment_of, start_of) = c.settle.ensures.settled in
+    let (b, settled, shaped, segment_of, start_of) = settled_room c.settle.ensures.settled in
     let (grown, near) = c.in_ok-room.ensures.taken in
     let moves = c.in-Ok.ensures.moves in
     let first : OnlyWrites t d = record { limits = c.copy_words.ensures.limits; segments = c.copy_words.ensures.copied.segments; words = c.copy_words.ensures.copied.words } in
@@ -183,13 +184,13 @@ returns-in-Ok-clause-wider g c =
       room = rw c.total.ensures at c.in_ok-room.ensures.taken;
       copied = rw (c.data_of.ensures, c.data_of-2.ensures, c.from.ensures) at c.copy_words.ensures.copied;
       moves = rw (c.pointers_of-from.ensures, c.pointers_of-to.ensures, c.from-count.ensures) at moves.moved;
-      settled = c.settle.ensures.settled;
+      settled = settled_room c.settle.ensures.settled;
       object_zeroed = rw (c.from-in-Ok.ensures ∙ c.total-in-Ok.ensures) at c.zero_part.ensures.zeroed;
       pads_zeroed = rw c.word_of-pointer.ensures at c.zero_pads.ensures.zeroed;
       wider = (c.requires.data, c.requires.pointers);
     } in
     record {
-      widened = struct_rehoused s.words t.words d.words p.words r.words z.words q.words c.args.id c.args.at c.args.old c.args.size c.in_ok-room.room steps;
+      replaced = struct_rehoused s.words t.words d.words p.words r.words z.words q.words c.args.id c.args.at c.args.old c.args.size c.in_ok-room.room steps;
       leads = struct_leads s.words t.words d.words p.words r.words z.words q.words c.args.id c.args.at c.args.old c.args.size c.in_ok-room.room steps;
       anew = struct_anew s t d p r z q c.args.id c.args.at c.args.old c.args.size c.in_ok-room.room steps (record {
         kept = c.in_ok-room.ensures.granted;
@@ -228,7 +229,7 @@ returns-in-Err-clause-wider g c =
       wider = (c.requires.data, c.requires.pointers);
     } in
     record {
-      widened = tt;
+      replaced = tt;
       leads = tt;
       anew = tt;
       granted = tt;
@@ -241,7 +242,7 @@ returns-in_err-room-clause-wider g c =
     let p = err_from_is_err_and c.from_residual.result c.from_residual.ensures.1 in
     let e = c.in_err-room.ensures in
     rw (p.1, p.2) (record {
-      widened = tt;
+      replaced = tt;
       leads = tt;
       anew = tt;
       granted = tt;
@@ -277,7 +278,7 @@ returns-in-Ok-clause-few g c =
     let R : Segments = (g.A.BuilderArena.view c.settle.new.arena).words in
     let Z : Segments = (g.A.BuilderArena.view c.zero_part.new.arena).words in
     let Q : Segments = (g.A.BuilderArena.view c.zero_pads.new.arena).words in
-    let (b, settled, shaped, segment_of, start_of) = c.settle.ensures.settled in
+    let (b, settled, shaped, segment_of, start_of) = settled_room c.settle.ensures.settled in
     let taken = rw c.total.ensures at c.take.ensures.few in
     let moved = rw c.from-count.ensures at c.move_row.ensures.moves.few in
     let copied = same_words T D c.copy_words.ensures.copied.segments c.copy_words.ensures.copied.words in

@@ -1,0 +1,164 @@
+-- What lemmas take of calls and of moved pointers, by name: parts of what contracts say.
+use Rattle.std.specs.List.{AllByRecursion}
+use Rattle.std.proofs.Common.{◌≡◌, ◌≢◌, ◌⊎◌, ℕ, ◌+◌, ◌*◌, ◌<◌, ◌≤◌, ◌%◌, ◌^◌, true, Option, Ok, IfSome, List, [], ◌∷◌, map, length}
+use Rattle.capnp_format.specs.Word.{kind, upper_half}
+use Rattle.capnp_format.specs.Segments.{Segments, Grows, segment, word_at, Target}
+use Rattle.capnp_format.specs.Tree.{Tree, Null, Struct, Trees, count}
+use Rattle.capnp_format.specs.Means.{Leads}
+use Rattle.capnp_format.specs.Forest.{Interval, times, pads_of, target}
+use Rattle.capnp_words.specs.declared.wire_pointer.ElementSize.TheVariants.{Void}
+use Rattle.capnp_words.specs.declared.wire_pointer.StructSize.{StructSize}
+use Rattle.capnp_arena_traits.specs.View.{view_of}
+use Rattle.capnp_making.specs.Made.{IsShape}
+use Rattle.capnp_making.specs.Makes.{CallAt, call_at}
+use Rattle.capnp_making.specs.Memory.{TakesWords}
+use Rattle.capnp_making.specs.Path.{word_interval}
+use Rattle.capnp_making.specs.Stored.{IsStored, IsReplaced}
+use Rattle.capnp_making.specs.Zeroed.{row}
+use Rattle.capnp_making.specs.declared.making.Shape.{Shape}
+use Rattle.capnp_making.specs.declared.making.Start.{Start}
+use Rattle.capnp_contents.specs.Existing.{StructLiesIn, list_in}
+use Rattle.capnp_contents.specs.declared.existing.ExistingList.{ExistingList}
+use Rattle.capnp_contents.specs.declared.existing.ExistingStruct.{ExistingStruct}
+use Rattle.capnp_widening.specs.declared.widening.Room.{Room}
+use Rattle.capnp_widening.specs.Anew.{BecomesAnew, IsWrittenAnew, pad_words}
+use Rattle.capnp_widening.specs.Housed.{Settles}
+use Rattle.capnp_widening.specs.Moved.{Move, HasValueInside, IsMoved}
+use Rattle.capnp_widening.specs.Opening.{LeadsToAll}
+use Rattle.capnp_widening.specs.Pointed.{PointsTo}
+use Rattle.capnp_widening.specs.Rooms.{GrowsByAtMost, direct_pointers, widened_words}
+use Rattle.capnp_widening.specs.RowsRemade.{BecomesList, as_structs}
+use Rattle.capnp_widening.specs.Widened.{HasSections, list_widened, widened}
+
+-- a call of which the words alone matter
+abbrev pub rewriting : ℕ → ℕ → Segments → Segments → CallAt
+rewriting s p S R = call_at s p (view_of S (λ v. 0) 0 (λ n m. true)) (view_of R (λ v. 0) 0 (λ n m. true))
+
+-- a struct made wider
+
+abbrev pub WidensStruct : (Tree → Type 0) → StructSize → CallAt → Type 0
+WidensStruct Stands size c = (ws : List ℕ) (ts : Trees) → Stands (Struct ws ts) → IsReplaced c.old.words c.new.words c.segment c.at (Struct ws ts) (widened size ws ts)
+
+abbrev pub WidensStructAnew : (Tree → Type 0) → StructSize → CallAt → Type 0
+WidensStructAnew Stands size c = (ws : List ℕ) (ts : Trees) → Stands (Struct ws ts) → BecomesAnew c (Struct ws ts) (widened size ws ts)
+
+abbrev pub LeadsToWiderStruct : (Tree → Type 0) → Segments → ℕ → ℕ → ExistingStruct → Type 0
+LeadsToWiderStruct Stands R s p e = (ws : List ℕ) (ts : Trees) → Stands (Struct ws ts) → (e.segment ≡ (target R s p).segment) × (e.start ≡ (target R s p).start) × StructLiesIn R e
+
+abbrev pub GrowsForStruct : Segments → Segments → ℕ → ℕ → StructSize → Type 0
+GrowsForStruct S R s p size = (ws : List ℕ) (ts : Trees) → IsStored S s p (Struct ws ts) → GrowsByAtMost S R (widened_words (widened size ws ts) + 1 + 2 * count ts)
+
+-- a list made wider
+
+abbrev pub RemakesList : (Tree → Type 0) → StructSize → CallAt → ExistingList → Type 0
+RemakesList Stands size c l = (t : Tree) → Stands t → BecomesList c l t (as_structs size t)
+
+abbrev pub RemakesListAnew : (Tree → Type 0) → StructSize → CallAt → Type 0
+RemakesListAnew Stands size c = (t : Tree) → Stands t → BecomesAnew c t (as_structs size t)
+
+abbrev pub WidensListAnew : (Tree → Type 0) → StructSize → CallAt → Type 0
+WidensListAnew Stands size c = (t u : Tree) → Stands t → t ≢ Null → list_widened size.data_words size.pointers t ≡ Ok u → (HasSections size t → ⊥) → BecomesAnew c t u
+
+abbrev pub WidensList : StructSize → CallAt → Type 0
+WidensList size c = (t : Tree) → IsStored c.old.words c.segment c.at t → (u : Tree) × (list_widened size.data_words size.pointers t ≡ Ok u) × IsReplaced c.old.words c.new.words c.segment c.at t u
+
+abbrev pub LeadsToWiderList : StructSize → CallAt → Option ExistingList → Type 0
+LeadsToWiderList size c l = (t u : Tree) → IsStored c.old.words c.segment c.at t → list_widened size.data_words size.pointers t ≡ Ok u → LeadsToAll c.new.words c.segment c.at u l
+
+abbrev pub ListLiesIn : Segments → ExistingList → Type 0
+ListLiesIn S l = l.start + l.count * (l.struct_size.data_words + l.struct_size.pointers) ≤ length (segment S l.segment)
+
+abbrev pub GrowsForList : (Tree → Type 0) → Segments → Segments → StructSize → Type 0
+GrowsForList Stands S R size = (t u : Tree) → Stands t → list_widened size.data_words size.pointers t ≡ Ok u → GrowsByAtMost S R (widened_words u + 1 + 2 * direct_pointers t)
+
+-- a pointer overwritten, which leads to b behind pads from (v, at) on
+pub record IsSettled (S R : Segments) (u q : ℕ) (b : Target) (v at pads : ℕ) : Type 0 where
+  pub segments : length R ≡ length S
+  pub words : (x : ℕ) → length (segment R x) ≡ length (segment S x)
+  pub leads_there : Leads R u q b
+  pub pads_there : (x y : ℕ) → times (pads_of (word_at R u q)) x y ≡ times (row v at pads ∷ []) x y
+  pub kept : (x y : ℕ) → times (word_interval u q ∷ []) x y ≡ 0 → times (row v at pads ∷ []) x y ≡ 0 → word_at R x y ≡ word_at S x y
+
+abbrev pub SettlesRoom : CallAt → Room → Shape → Type 0
+SettlesRoom c h shape = (b : Target) × IsSettled c.old.words c.new.words c.segment c.at b h.segment h.at h.pads × IsShape shape b.word × (b.segment ≡ h.segment) × (b.start ≡ h.at + h.pads)
+
+pub settled_room : {S R : Segments} {place : Start} {h : Room} {shape : Shape} → Settles S R place h shape → SettlesRoom (rewriting place.segment place.at S R) h shape
+settled_room s = (
+  s.object,
+  record { segments = s.segments; words = s.words; leads_there = s.leads_there; pads_there = s.pads_there; kept = s.kept },
+  s.is_shape,
+  s.in_segment,
+  s.starts,
+)
+
+pub settles_room : (S R : Segments) (place : Start) (h : Room) (shape : Shape) → SettlesRoom (rewriting place.segment place.at S R) h shape → Settles S R place h shape
+settles_room S R place h shape (b, s, shaped, there, start) = record {
+  object = b;
+  segments = s.segments;
+  words = s.words;
+  leads_there = s.leads_there;
+  pads_there = s.pads_there;
+  kept = s.kept;
+  is_shape = shaped;
+  in_segment = there;
+  starts = start;
+}
+
+-- a pointer written, which leads to a
+pub record IsPointed (S R : Segments) (s p : ℕ) (a : Target) : Type 0 where
+  pub grows : Grows S R
+  pub leads_there : Leads R s p a
+  pub inside : a.start ≤ length (segment R a.segment)
+  pub kept : (x y : ℕ) → times (word_interval s p ∷ []) x y ≡ 0 → y < length (segment S x) → word_at R x y ≡ word_at S x y
+  pub fresh : (x y : ℕ) → 0 < times (pads_of (word_at R s p)) x y → (length (segment S x) ≤ y) × (y < length (segment R x))
+  pub zero : (x y : ℕ) → times (pads_of (word_at R s p)) x y ≡ 0 → length (segment S x) ≤ y → word_at R x y ≡ 0
+
+abbrev pub PointsAt : Segments → Segments → Shape → Start → Start → Type 0
+PointsAt S R shape h at =
+    (a : Target) × IsPointed S R at.segment at.at a × IsShape shape a.word
+    × (((a.segment ≡ h.segment) × (a.start ≡ h.at)) ⊎ ((kind a.word ≡ 0) × (upper_half a.word ≡ 0)))
+
+pub points_at : {S R : Segments} {shape : Shape} {h at : Start} → PointsTo S R shape h at → PointsAt S R shape h at
+points_at p = (
+  p.object,
+  record { grows = p.grows; leads_there = p.leads_there; inside = p.inside; kept = p.kept; fresh = p.fresh; zero = p.zero },
+  p.is_shape,
+  p.starts,
+)
+
+pub points_to : (S R : Segments) (shape : Shape) (h at : Start) → PointsAt S R shape h at → PointsTo S R shape h at
+points_to S R shape h at (a, p, shaped, start) = record {
+  object = a;
+  grows = p.grows;
+  leads_there = p.leads_there;
+  inside = p.inside;
+  kept = p.kept;
+  fresh = p.fresh;
+  zero = p.zero;
+  is_shape = shaped;
+  starts = start;
+}
+
+-- a pointer x, whose object lies in segment s, written anew
+pub record WritesPointer (s x : ℕ) (c : CallAt) : Type 0 where
+  pub form : IsWrittenAnew s c.segment x (word_at c.new.words c.segment c.at)
+  pub taken : TakesWords c.old c.new s (pad_words s c.segment x)
+
+-- moved pointers
+
+abbrev pub SameStart : Segments → Target → Target → Type 0
+SameStart S a b =
+    ((b.segment ≡ a.segment) × (b.start ≡ a.start)) ⊎ (((kind a.word ≡ 0) × (upper_half a.word ≡ 0) × (b.start ≤ length (segment S b.segment))) ⊎ (a.word % 2 ^ 32 ≡ 3))
+
+pub record Extends (B R : Segments) : Type 0 where
+  pub grows : Grows B R
+  pub kept : (x y : ℕ) → y < length (segment B x) → word_at R x y ≡ word_at B x y
+
+abbrev pub old_places : List Move → List Interval
+old_places ms = map (λ (m : Move). word_interval m.segment m.at) ms
+
+abbrev pub HaveValuesInside : Segments → List Move → Type 0
+HaveValuesInside B ms = AllByRecursion (λ (m : Move). HasValueInside B m.segment m.at) ms
+
+abbrev pub AllMoved : Segments → List Move → Type 0
+AllMoved R ms = AllByRecursion (λ (m : Move). IsMoved R m.segment m.at m.to_segment m.to_at) ms
