@@ -15,7 +15,7 @@ use Rattle.capnp_making.specs.Made.{IsGrown}
 use Rattle.capnp_making.proofs.Below.{split_row}
 use Rattle.capnp_making.proofs.Extents.{times-first, times-object}
 use Rattle.capnp_widening.proofs.Basics.{once_row}
-use Rattle.capnp_widening.specs.Moved.{row_of_moves, rows_of_moves, new_places, fresh_pads, IsMoved}
+use Rattle.capnp_widening.specs.Moved.{new_places, fresh_pads, IsMoved}
 use Rattle.capnp_widening.specs.Widened.{fill_words, fill_elements}
 use Rattle.capnp_widening.proofs.Movings.{new_places-append, row_new_places, same_old, same_new}
 use Rattle.capnp_widening.proofs.Remade.{IsRemade, before_last, is_rehoused, all_moved, moves_same, object_word, leads_last, IsBegun}
@@ -23,7 +23,7 @@ use Rattle.capnp_widening.proofs.Rows.{rows_moved, rows_old_pads, rows_new_pads,
 use Rattle.capnp_widening.proofs.StructRemade.{word_of_words, words_by_each, filled_at, filled_past}
 use Rattle.capnp_widening.proofs.Widenings.{structs_widened, length-fill_words}
 use Rattle.capnp_widening.proofs.NewObjects.{IsRehoused, pads_in_rows, struct_data_words, old_pads, new_pads}
-use Rattle.capnp_widening.proofs.Statements.{HaveValuesInside}
+use Rattle.capnp_widening.proofs.Statements.{HaveValuesInside, row_moves, rows_moves}
 
 -- what the elements of a list are, as words
 pub element_words : (S : Segments) (n s p d q : ℕ) (es : Elements) (c i : ℕ) → MeansElements S n s p d q es c → i < element_count es → HasWords S s (p + i * (d + q)) (struct_data_words (struct_at es i)) × (length (struct_data_words (struct_at es i)) ≡ d)
@@ -45,11 +45,11 @@ same_row w i j a b l m e = elim (cases_lt i j) [
 ]
 
 -- where the new pointers of rows stand
-pub rows_place : (s p w v r z k n x y : ℕ) → 0 < times (new_places (rows_of_moves s p w v r z k n)) x y → (i : ℕ) × (j : ℕ) × (i < n) × (j < k) × (x ≡ v) × (y ≡ r + i * z + j)
+pub rows_place : (s p w v r z k n x y : ℕ) → 0 < times (new_places (rows_moves s p w v r z k n)) x y → (i : ℕ) × (j : ℕ) × (i < n) × (j < k) × (x ≡ v) × (y ≡ r + i * z + j)
 rows_place s p w v r z k zero x y l = absurd (omega arith)
 rows_place s p w v r z k (suc n) x y l =
-    let split = new_places-append (row_of_moves s p v r k) (rows_of_moves s (p + w) w v (r + z) z k n) x y in
-    elim (cases_eq (times (new_places (row_of_moves s p v r k)) x y) 0) [
+    let split = new_places-append (row_moves s p v r k) (rows_moves s (p + w) w v (r + z) z k n) x y in
+    elim (cases_eq (times (new_places (row_moves s p v r k)) x y) 0) [
       | inr some ↦ (
           let h = in_row v r k x y (omega (arith, some, row_new_places s p v r k x y)) in
           (0, y - r, omega arith, omega (arith, h.1, h.2), h.0, omega (arith, h.1))
@@ -61,8 +61,8 @@ rows_place s p w v r z k (suc n) x y l =
     ]
 
 -- no pointer is written beside them
-pub beside_rows : (s p w v r z d k n i j : ℕ) → d + k ≤ z → i < n → j < z → (j < d) ⊎ (d + k ≤ j) → times (new_places (rows_of_moves s p w v (r + d) z k n)) v (r + i * z + j) ≡ 0
-beside_rows s p w v r z d k n i j fits li lj o = elim (cases_eq (times (new_places (rows_of_moves s p w v (r + d) z k n)) v (r + i * z + j)) 0) [
+pub beside_rows : (s p w v r z d k n i j : ℕ) → d + k ≤ z → i < n → j < z → (j < d) ⊎ (d + k ≤ j) → times (new_places (rows_moves s p w v (r + d) z k n)) v (r + i * z + j) ≡ 0
+beside_rows s p w v r z d k n i j fits li lj o = elim (cases_eq (times (new_places (rows_moves s p w v (r + d) z k n)) v (r + i * z + j)) 0) [
   | inl none ↦ none
   | inr some ↦ (
       let (a, b, la, lb, ex, ey) = rows_place s p w v (r + d) z k n v (r + i * z + j) (omega arith) in
@@ -94,7 +94,7 @@ pub record RowsCopied (S D : Segments) (d k n : ℕ) (s p v r wd wk : ℕ) : Typ
 pub structs_remade : (S T D P R Q : Segments) (u q d k : ℕ) (es : Elements) (e f : ℕ) (b : Target) (v at pads : ℕ) → IsStored S u q (Structs d k es) →
     RowsCopied S D d k (element_count es) (target S u q).segment ((target S u q).start + 1) v (at + pads + 1) (max d e) (max k f) → IsTag (word_at D v (at + pads)) (element_count es) (max d e) (max k f) →
     IsRemade S T D P R Q u q (target S u q) (1 + element_count es * (d + k)) b v at pads (1 + element_count es * (max d e + max k f))
-    (rows_of_moves (target S u q).segment ((target S u q).start + 1 + d) (d + k) v (at + pads + 1 + max d e) (max d e + max k f) k (element_count es)) →
+    (rows_moves (target S u q).segment ((target S u q).start + 1 + d) (d + k) v (at + pads + 1 + max d e) (max d e + max k f) k (element_count es)) →
     kind b.word ≡ 1 → element_size b.word ≡ 7 → list_count b.word ≡ element_count es * (max d e + max k f) → IsReplaced S Q u q (Structs d k es) (Structs (max d e) (max k f) (fill_elements e f es))
 structs_remade S T D P R Q u q d k es e f b v at pads x c tag h is_list is_size counts =
     let a = target S u q in
@@ -106,7 +106,7 @@ structs_remade S T D P R Q u q d k es e f b v at pads x c tag h is_list is_size 
     let size = 1 + n * (d + k) in
     let from = a.start + 1 + d in
     let to = at + pads + 1 + wd in
-    let ms = rows_of_moves a.segment from (d + k) v to z k n in
+    let ms = rows_moves a.segment from (d + k) v to z k n in
     let M = before_last S T D P R Q u q a size b v at pads wide ms h in
     let parts = list_parts S u q d k es x in
     let same = moves_same S T D P R Q u q a size b v at pads wide ms h in
@@ -149,9 +149,9 @@ structs_remade S T D P R Q u q d k es e f b v at pads x c tag h is_list is_size 
     })
   where
     no_tag : (y : ℕ) → y < at + pads + 1 →
-        times (new_places (rows_of_moves (target S u q).segment ((target S u q).start + 1 + d) (d + k) v (at + pads + 1 + max d e) (max d e + max k f) k (element_count es))) v y ≡ 0
+        times (new_places (rows_moves (target S u q).segment ((target S u q).start + 1 + d) (d + k) v (at + pads + 1 + max d e) (max d e + max k f) k (element_count es))) v y ≡ 0
     no_tag y l =
-        let ms = rows_of_moves (target S u q).segment ((target S u q).start + 1 + d) (d + k) v (at + pads + 1 + max d e) (max d e + max k f) k (element_count es) in
+        let ms = rows_moves (target S u q).segment ((target S u q).start + 1 + d) (d + k) v (at + pads + 1 + max d e) (max d e + max k f) k (element_count es) in
         elim (cases_eq (times (new_places ms) v y) 0) [
           | inl none ↦ none
           | inr some ↦ (
@@ -165,14 +165,14 @@ pub structs_begun : (S T D : Segments) (u q d k : ℕ) (es : Elements) (e f v at
     length D ≡ length T → ((x : ℕ) → length (segment D x) ≡ length (segment T x)) → ((x y : ℕ) → times (row v (at + pads) (1 + element_count es * (max d e + max k f)) ∷ []) x y ≡ 0 → word_at D x y ≡ word_at T x y) →
     RowsCopied S D d k (element_count es) (target S u q).segment ((target S u q).start + 1) v (at + pads + 1) (max d e) (max k f) →
     IsBegun S T D v at pads (1 + element_count es * (max d e + max k f))
-    (rows_of_moves (target S u q).segment ((target S u q).start + 1 + d) (d + k) v (at + pads + 1 + max d e) (max d e + max k f) k (element_count es))
+    (rows_moves (target S u q).segment ((target S u q).start + 1 + d) (d + k) v (at + pads + 1 + max d e) (max d e + max k f) k (element_count es))
 structs_begun S T D u q d k es e f v at pads x g segments words kept c =
     let a = target S u q in
     let n = element_count es in
     let wd = max d e in
     let z = wd + max k f in
     let to = at + pads + 1 + wd in
-    let ms = rows_of_moves a.segment (a.start + 1 + d) (d + k) v to z k n in
+    let ms = rows_moves a.segment (a.start + 1 + d) (d + k) v to z k n in
     record {
       grown = g;
       segments = segments;
@@ -202,11 +202,11 @@ structs_begun S T D u q d k es e f v at pads x g segments words kept c =
       | inr o ↦ (let i = in_row v (at + pads) (1 + element_count es * (max d e + max k f)) y w (omega arith) in absurd (omega (arith, l, i.1, g.behind, ap (λ s. length (segment S s)) i.0)))
     ]
 
-    at_level : (m o : ℕ) → Means S m u q (Structs d k es) o → (y r z : ℕ) → HaveValuesInside S (rows_of_moves (target S u q).segment ((target S u q).start + 1 + d) (d + k) y r z k (element_count es))
+    at_level : (m o : ℕ) → Means S m u q (Structs d k es) o → (y r z : ℕ) → HaveValuesInside S (rows_moves (target S u q).segment ((target S u q).start + 1 + d) (d + k) y r z k (element_count es))
     at_level m o (a, i, l, some, at_a, claim, tag, fits, all, h) = λ y r z.
         (let parts = λ (b w : ℕ). times-first (word_interval u q) (cover S u q (Structs d k es)) b w in
         let object = λ (b w : ℕ). times-object S u q (1 + element_count es * (d + k)) a (λ t. cover_elements S t.segment (t.start + 1) d k es) b w at_a.leads_to.1 in
-        subst (λ t. HaveValuesInside S (rows_of_moves t.segment (t.start + 1 + d) (d + k) y r z k (element_count es))) (sym (ap target_in at_a.leads_to.1))
+        subst (λ t. HaveValuesInside S (rows_moves t.segment (t.start + 1 + d) (d + k) y r z k (element_count es))) (sym (ap target_in at_a.leads_to.1))
         (elements_stand S (pred m) a.segment (a.start + 1) d k y r z es l all
         (λ b w held. x.inside b w (omega (
           arith,
@@ -217,5 +217,5 @@ structs_begun S T D u q d k es e f v at pads x g segments words kept c =
           times-first (row a.segment (a.start + 1) (element_count es * (d + k))) (cover_elements S a.segment (a.start + 1) d k es) b w,
         )))))
 
-    rows_stand : (y r z : ℕ) → HaveValuesInside S (rows_of_moves (target S u q).segment ((target S u q).start + 1 + d) (d + k) y r z k (element_count es))
+    rows_stand : (y r z : ℕ) → HaveValuesInside S (rows_moves (target S u q).segment ((target S u q).start + 1 + d) (d + k) y r z k (element_count es))
     rows_stand = at_level x.means.0 x.means.1 x.means.2

@@ -15,7 +15,7 @@ use Rattle.capnp_making.specs.Made.{structs_words, zero_elements}
 use Rattle.capnp_making.proofs.PlacedStructs.{count-zero_elements}
 use Rattle.capnp_making.specs.declared.making.Start.{Start}
 use Rattle.capnp_widening.specs.declared.remaking.ElementRows.{ElementRows}
-use Rattle.capnp_widening.specs.Moved.{moves_into, near_pointers, rows_of_moves}
+use Rattle.capnp_widening.specs.Moved.{moves_into, near_pointers}
 use Rattle.capnp_widening.specs.Rooms.{GrowsByAtMost, RefusesGrowth, RefusesToBecome, widened_words, direct_pointers, HasRoomAndPads, HasRoomFor}
 use Rattle.capnp_widening.specs.RowsRemade.{StoresRows, IsList, element_moves}
 use Rattle.capnp_widening.specs.Widened.{fill_elements, struct_for_each, struct_for_each_tree, limited, list_widened}
@@ -27,6 +27,7 @@ use Rattle.capnp_widening.proofs.Rows.{no_moves}
 use Rattle.capnp_widening.proofs.PlainLists.{are_pointers, pointers_of, has_pointers, are_numbers, void_of, are_void, numbers_limited}
 use Rattle.capnp_widening.proofs.StructLists.{are_structs, rows_of, has_rows}
 use Rattle.capnp_widening.proofs.Widenings.{count-fill_elements}
+use Rattle.capnp_widening.proofs.Statements.{rows_moves}
 
 pub limited_to : (n : ℕ) (t u : Tree) → limited n t ≡ Ok u → u ≡ t
 limited_to n t u e = by_test (nat_lt n (2 ^ 29)) e
@@ -45,9 +46,9 @@ pub record AreRows (S : Segments) (s p : ℕ) (t u : Tree) (rows : ElementRows) 
 
 -- the pointers of elements, from a place on
 near_of_rows : (S : Segments) (a h : Start) (p w k n r z : ℕ) (rows : ElementRows) (size : StructSize) → rows.segment ≡ a.segment → rows.at + rows.tag + rows.size.data_words ≡ p → rows.size.data_words + rows.size.pointers ≡ w → rows.size.pointers ≡ k → rows.count ≡ n →
-    near_pointers S (rows_of_moves a.segment p w a.segment r z k n) ≡ near_pointers S (element_moves rows h size)
+    near_pointers S (rows_moves a.segment p w a.segment r z k n) ≡ near_pointers S (element_moves rows h size)
 near_of_rows S a h p w k n r z rows size segment at step pointers count =
-    let near : ℕ → ℕ → ℕ → ℕ → ℕ → ℕ = λ b c d e f. near_pointers S (rows_of_moves b c d h.segment (h.at + size.data_words) (size.data_words + size.pointers) e f) in
+    let near : ℕ → ℕ → ℕ → ℕ → ℕ → ℕ = λ b c d e f. near_pointers S (rows_moves b c d h.segment (h.at + size.data_words) (size.data_words + size.pointers) e f) in
     near_same_rows S S a.segment p w a.segment r z h.segment (h.at + size.data_words) (size.data_words + size.pointers) k n (p + n * w + k) (omega arith) (λ y l. refl)
     ∙ sym (ap₂ (λ b c. near b c (rows.size.data_words + rows.size.pointers) rows.size.pointers rows.count) segment at ∙ ap₂ (λ d e. near a.segment p d e rows.count) step pointers ∙ ap (near a.segment p w k) count)
 

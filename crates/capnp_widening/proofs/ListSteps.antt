@@ -26,14 +26,14 @@ use Rattle.capnp_widening.specs.declared.remaking.ElementRows.{ElementRows}
 use Rattle.capnp_widening.specs.declared.widening.Room.{Room}
 use Rattle.capnp_widening.specs.Anew.{BecomesAnew, OnlyWrites, StandsAnew, WritesAnew}
 use Rattle.capnp_widening.specs.Housed.{IsRoom, object_start}
-use Rattle.capnp_widening.specs.Moved.{Move, Moves, MovesSome, Unmoves, rows_of_moves}
+use Rattle.capnp_widening.specs.Moved.{Move, Moves, MovesSome, Unmoves}
 use Rattle.capnp_widening.specs.RowsRemade.{IsTagWritten, CopiesData, element_moves, as_structs, BecomesList}
 use Rattle.capnp_widening.specs.Widened.{fill_elements, GrowsByZeros}
 use Rattle.capnp_widening.proofs.ListRemade.{structs_begun, structs_remade}
 use Rattle.capnp_widening.proofs.Remade.{IsBegun, IsRemade, longer, leads_last, object_anew, undone}
 use Rattle.capnp_widening.proofs.RowsCopied.{data_copied, tag_copied, list_written}
 use Rattle.capnp_widening.proofs.Widenings.{count-fill_elements}
-use Rattle.capnp_widening.proofs.Statements.{IsSettled, SettlesRoom, rewriting}
+use Rattle.capnp_widening.proofs.Statements.{IsSettled, SettlesRoom, rewriting, rows_moves}
 
 -- where the first of some structs starts, behind its tag, and the list of them
 abbrev pub first_of : Room → Start
@@ -187,7 +187,7 @@ structs_anew_at s b d p r z q T id at e k es f g h x steps t =
     let a = target s.words id at in
     let n = element_count es in
     let wide = max e f + max k g in
-    let moves : Start → List Move = λ y. rows_of_moves a.segment (a.start + 1 + e) (e + k) y.segment (y.at + 1 + max e f) wide k n in
+    let moves : Start → List Move = λ y. rows_moves a.segment (a.start + 1 + e) (e + k) y.segment (y.at + 1 + max e f) wide k n in
     let made = structs_made s.words T b.words d.words p.words r.words z.words q.words id at e k es f g h x steps in
     subst (λ m. StandsAnew (call_at id at s q) (1 + m * wide) (moves (start_of (target q.words id at)))) (sym (count-fill_elements f g es))
     (object_anew s b d p r q T id at a (1 + n * (e + k)) steps.settled.0 h.segment h.at h.pads (1 + n * wide) moves made t.kept t.taken t.behind t.first t.written t.last)

@@ -13,11 +13,11 @@ use Rattle.capnp_making.specs.Path.{word_interval}
 use Rattle.capnp_making.specs.Zeroed.{row}
 use Rattle.capnp_making.proofs.Zeros.{in_row}
 use Rattle.capnp_making.proofs.Extents.{once_held, times-first}
-use Rattle.capnp_widening.specs.Moved.{Move, a_move, row_of_moves, new_places, fresh_pads, IsMoved, HasValueInside, CanMove, AreMoved, Moves, MovesSome}
+use Rattle.capnp_widening.specs.Moved.{Move, new_places, fresh_pads, IsMoved, HasValueInside, CanMove, AreMoved, Moves, MovesSome}
 use Rattle.capnp_widening.proofs.Moves.{moved_kept}
 use Rattle.capnp_widening.proofs.Single.{old_pads_inside}
 use Rattle.capnp_widening.proofs.NewObjects.{pads_from, old_pads, new_pads, own_pads}
-use Rattle.capnp_widening.proofs.Statements.{old_places, Extends, HaveValuesInside, AllMoved}
+use Rattle.capnp_widening.proofs.Statements.{old_places, Extends, HaveValuesInside, AllMoved, a_move, row_moves}
 
 -- lists of moves, one behind the other
 
@@ -28,13 +28,13 @@ new_places-append (m ∷ ms) ns x y = omega (arith, new_places-append ms ns x y)
 old_pads-append : (R : Segments) (ms ns : List Move) (x y : ℕ) → times (old_pads R (ms ++ ns)) x y ≡ times (old_pads R ms) x y + times (old_pads R ns) x y
 old_pads-append R [] ns x y = omega arith
 old_pads-append R (m ∷ ms) ns x y =
-    let p = pads_of (word_at R m.segment m.at) in
+    let p = pads_of (word_at R m.from.segment m.from.at) in
     omega (arith, old_pads-append R ms ns x y, times-append p (old_pads R (ms ++ ns)) x y, times-append p (old_pads R ms) x y)
 
 new_pads-append : (R : Segments) (ms ns : List Move) (x y : ℕ) → times (new_pads R (ms ++ ns)) x y ≡ times (new_pads R ms) x y + times (new_pads R ns) x y
 new_pads-append R [] ns x y = omega arith
 new_pads-append R (m ∷ ms) ns x y =
-    let p = pads_of (word_at R m.to_segment m.to_at) in
+    let p = pads_of (word_at R m.to.segment m.to.at) in
     omega (arith, new_pads-append R ms ns x y, times-append p (new_pads R (ms ++ ns)) x y, times-append p (new_pads R ms) x y)
 
 pub fresh_pads-append : (R : Segments) (ms ns : List Move) (x y : ℕ) → times (fresh_pads R (ms ++ ns)) x y ≡ times (fresh_pads R ms) x y + times (fresh_pads R ns) x y
@@ -58,7 +58,7 @@ moved_append R (m ∷ ms) ns a b = (a.0, moved_append R ms ns a.1 b)
 -- the words of each move are the same
 abbrev pub SameMoves : Segments → Segments → List Move → Type 0
 SameMoves M R [] = Unit {0}
-SameMoves M R (m ∷ ms) = (word_at R m.segment m.at ≡ word_at M m.segment m.at) × (word_at R m.to_segment m.to_at ≡ word_at M m.to_segment m.to_at) × SameMoves M R ms
+SameMoves M R (m ∷ ms) = (word_at R m.from.segment m.from.at ≡ word_at M m.from.segment m.from.at) × (word_at R m.to.segment m.to.at ≡ word_at M m.to.segment m.to.at) × SameMoves M R ms
 
 pub same_old : (M R : Segments) (ms : List Move) → SameMoves M R ms → old_pads R ms ≡ old_pads M ms
 same_old M R [] h = refl
@@ -87,7 +87,7 @@ stays_next B M R m ms h = record {
   extends = h.extends;
   in_base = h.in_base;
   places = λ x y l. h.places x y (omega arith);
-  pads = λ x y l. h.pads x y (omega (arith, times-append (pads_of (word_at M m.to_segment m.to_at)) (new_pads M ms) x y));
+  pads = λ x y l. h.pads x y (omega (arith, times-append (pads_of (word_at M m.to.segment m.to.at)) (new_pads M ms) x y));
 }
 
 old_word_in : (B : Segments) (s p : ℕ) → HasValueInside B s p → p < length (segment B s)
@@ -96,26 +96,26 @@ old_word_in B s p (t, n, c, m, inside) = inside s p (omega (arith, times-first (
 pub same_moves : (B M R : Segments) (ms : List Move) → HaveValuesInside B ms → StaysMoved B M R ms → SameMoves M R ms
 same_moves B M R [] a h = tt
 same_moves B M R (m ∷ ms) a h = (
-  h.in_base m.segment m.at (old_word_in B m.segment m.at a.0),
-  h.places m.to_segment m.to_at (omega (arith, once_held m.to_segment m.to_at)),
+  h.in_base m.from.segment m.from.at (old_word_in B m.from.segment m.from.at a.0),
+  h.places m.to.segment m.to.at (omega (arith, once_held m.to.segment m.to.at)),
   same_moves B M R ms a.1 (stays_next B M R m ms h),
 )
 
 pub moved_still : (B M R : Segments) (ms : List Move) → HaveValuesInside B ms → StaysMoved B M R ms → AllMoved M ms → AllMoved R ms
 moved_still B M R [] a h d = tt
 moved_still B M R (m ∷ ms) a h d = (
-  moved_kept M R m.segment m.at m.to_segment m.to_at h.grows (h.in_base m.segment m.at (old_word_in B m.segment m.at a.0)) (h.places m.to_segment m.to_at (omega (arith, once_held m.to_segment m.to_at)))
-      (λ x y l. h.in_base x y (old_pads_inside B M m.segment m.at h.extends a.0 x y l))
-      (λ x y l. h.pads x y (omega (arith, times-append (pads_of (word_at M m.to_segment m.to_at)) (new_pads M ms) x y))) d.0,
+  moved_kept M R m.from.segment m.from.at m.to.segment m.to.at h.grows (h.in_base m.from.segment m.from.at (old_word_in B m.from.segment m.from.at a.0)) (h.places m.to.segment m.to.at (omega (arith, once_held m.to.segment m.to.at)))
+      (λ x y l. h.in_base x y (old_pads_inside B M m.from.segment m.from.at h.extends a.0 x y l))
+      (λ x y l. h.pads x y (omega (arith, times-append (pads_of (word_at M m.to.segment m.to.at)) (new_pads M ms) x y))) d.0,
   moved_still B M R ms a.1 (stays_next B M R m ms h) d.1,
 )
 
 -- the pads of old pointers lie in B
 pub all_old_inside : (B M : Segments) (ms : List Move) → Extends B M → HaveValuesInside B ms → (x y : ℕ) → 0 < times (old_pads M ms) x y → y < length (segment B x)
 all_old_inside B M [] e a x y l = absurd (omega arith)
-all_old_inside B M (m ∷ ms) e a x y l = elim (cases_eq (times (pads_of (word_at M m.segment m.at)) x y) 0) [
-  | inl none ↦ all_old_inside B M ms e a.1 x y (omega (arith, times-append (pads_of (word_at M m.segment m.at)) (old_pads M ms) x y))
-  | inr some ↦ old_pads_inside B M m.segment m.at e a.0 x y (omega arith)
+all_old_inside B M (m ∷ ms) e a x y l = elim (cases_eq (times (pads_of (word_at M m.from.segment m.from.at)) x y) 0) [
+  | inl none ↦ all_old_inside B M ms e a.1 x y (omega (arith, times-append (pads_of (word_at M m.from.segment m.from.at)) (old_pads M ms) x y))
+  | inr some ↦ old_pads_inside B M m.from.segment m.from.at e a.0 x y (omega arith)
 ]
 
 -- no pointer is moved
@@ -229,39 +229,39 @@ moves_both S M R ms ns f g = λ B c.
 
 -- rows, from the front on
 
-pub row_next : (s p v r k : ℕ) → row_of_moves s p v r (suc k) ≡ row_of_moves s p v r k ++ a_move s (p + k) v (r + k) ∷ []
+pub row_next : (s p v r k : ℕ) → row_moves s p v r (suc k) ≡ row_moves s p v r k ++ a_move s (p + k) v (r + k) ∷ []
 row_next s p v r zero = ap₂ (λ a b. a_move s a v b ∷ []) (let e : p ≡ p + 0 = omega arith in e) (let e : r ≡ r + 0 = omega arith in e)
 row_next s p v r (suc k) =
-    ap (λ ms. a_move s p v r ∷ ms) (row_next s (p + 1) v (r + 1) k ∙ ap₂ (λ a b. row_of_moves s (p + 1) v (r + 1) k ++ a_move s a v b ∷ [])
+    ap (λ ms. a_move s p v r ∷ ms) (row_next s (p + 1) v (r + 1) k ∙ ap₂ (λ a b. row_moves s (p + 1) v (r + 1) k ++ a_move s a v b ∷ [])
     (let e : p + 1 + k ≡ p + suc k = omega arith in e) (let e : r + 1 + k ≡ r + suc k = omega arith in e))
 
-pub row_split : (s p v r i k n : ℕ) → n ≡ i + k → row_of_moves s p v r n ≡ row_of_moves s p v r i ++ row_of_moves s (p + i) v (r + i) k
+pub row_split : (s p v r i k n : ℕ) → n ≡ i + k → row_moves s p v r n ≡ row_moves s p v r i ++ row_moves s (p + i) v (r + i) k
 row_split s p v r zero k n e =
-    ap (row_of_moves s p v r) (let f : n ≡ k = omega arith in f) ∙ ap₂ (λ a b. row_of_moves s a v b k) (let f : p ≡ p + 0 = omega arith in f) (let f : r ≡ r + 0 = omega arith in f)
+    ap (row_moves s p v r) (let f : n ≡ k = omega arith in f) ∙ ap₂ (λ a b. row_moves s a v b k) (let f : p ≡ p + 0 = omega arith in f) (let f : r ≡ r + 0 = omega arith in f)
 row_split s p v r (suc i) k zero e = absurd (omega arith)
 row_split s p v r (suc i) k (suc n) e =
-    ap (λ ms. a_move s p v r ∷ ms) (row_split s (p + 1) v (r + 1) i k n (omega arith) ∙ ap₂ (λ a b. row_of_moves s (p + 1) v (r + 1) i ++ row_of_moves s a v b k)
+    ap (λ ms. a_move s p v r ∷ ms) (row_split s (p + 1) v (r + 1) i k n (omega arith) ∙ ap₂ (λ a b. row_moves s (p + 1) v (r + 1) i ++ row_moves s a v b k)
     (let f : p + 1 + i ≡ p + suc i = omega arith in f) (let f : r + 1 + i ≡ r + suc i = omega arith in f))
 
 -- one move more
-pub moves_next : (S M R : Segments) (s p v r k : ℕ) → Moves S M (row_of_moves s p v r k) → Moves M R (a_move s (p + k) v (r + k) ∷ []) → Moves S R (row_of_moves s p v r (k + 1))
+pub moves_next : (S M R : Segments) (s p v r k : ℕ) → Moves S M (row_moves s p v r k) → Moves M R (a_move s (p + k) v (r + k) ∷ []) → Moves S R (row_moves s p v r (k + 1))
 moves_next S M R s p v r k f g =
-    subst (λ n. Moves S R (row_of_moves s p v r n)) (let e : suc k ≡ k + 1 = omega arith in e)
-    (subst (λ ms. Moves S R ms) (sym (row_next s p v r k)) (moves_both S M R (row_of_moves s p v r k) (a_move s (p + k) v (r + k) ∷ []) f g))
+    subst (λ n. Moves S R (row_moves s p v r n)) (let e : suc k ≡ k + 1 = omega arith in e)
+    (subst (λ ms. Moves S R ms) (sym (row_next s p v r k)) (moves_both S M R (row_moves s p v r k) (a_move s (p + k) v (r + k) ∷ []) f g))
 
 -- some of the first of a row
-pub moves_some : (S M : Segments) (s p v r i k : ℕ) → i ≤ k → Moves S M (row_of_moves s p v r i) → MovesSome S M (row_of_moves s p v r k)
+pub moves_some : (S M : Segments) (s p v r i k : ℕ) → i ≤ k → Moves S M (row_moves s p v r i) → MovesSome S M (row_moves s p v r k)
 moves_some S M s p v r i k l f =
     let n = k - i in
     record {
-      done = row_of_moves s p v r i;
-      left = row_of_moves s (p + i) v (r + i) n;
+      done = row_moves s p v r i;
+      left = row_moves s (p + i) v (r + i) n;
       all = row_split s p v r i n k (omega arith);
       moves = f;
     }
 
 -- children one behind the other that lie in B
-pub children_stand : (B : Segments) (n s p v r : ℕ) (ts : Trees) (c : ℕ) → MeansAll B n s p ts c → ((x y : ℕ) → 0 < times (row s p (count ts) ∷ cover_all B s p ts) x y → y < length (segment B x)) → HaveValuesInside B (row_of_moves s p v r (count ts))
+pub children_stand : (B : Segments) (n s p v r : ℕ) (ts : Trees) (c : ℕ) → MeansAll B n s p ts c → ((x y : ℕ) → 0 < times (row s p (count ts) ∷ cover_all B s p ts) x y → y < length (segment B x)) → HaveValuesInside B (row_moves s p v r (count ts))
 children_stand B n s p v r no_trees c m inside = tt
 children_stand B n s p v r (tree t ts) c (a, b, one, rest, g) inside =
     let parts = λ (x y : ℕ). (let e : times (row s p (suc (count ts)) ∷ []) x y ≡ times (word_interval s p ∷ []) x y + times (row s (p + 1) (count ts) ∷ []) x y = first_word s p (count ts) x y in e) in
@@ -276,22 +276,22 @@ children_stand B n s p v r (tree t ts) c (a, b, one, rest, g) inside =
 
 -- what a row of moves says of each
 
-pub row_moved : (M : Segments) (s p v r k i : ℕ) → AllMoved M (row_of_moves s p v r k) → i < k → IsMoved M s (p + i) v (r + i)
+pub row_moved : (M : Segments) (s p v r k i : ℕ) → AllMoved M (row_moves s p v r k) → i < k → IsMoved M s (p + i) v (r + i)
 row_moved M s p v r zero i h l = absurd (omega arith)
 row_moved M s p v r (suc k) zero h l = subst (λ z. IsMoved M s z v (r + 0)) (let e : p ≡ p + 0 = omega arith in e) (subst (λ z. IsMoved M s p v z) (let e : r ≡ r + 0 = omega arith in e) h.0)
 row_moved M s p v r (suc k) (suc i) h l =
     subst (λ z. IsMoved M s z v (r + suc i)) (let e : p + 1 + i ≡ p + suc i = omega arith in e)
     (subst (λ z. IsMoved M s (p + 1 + i) v z) (let e : r + 1 + i ≡ r + suc i = omega arith in e) (row_moved M s (p + 1) v (r + 1) k i h.1 (omega arith)))
 
-pub row_old_pads : (M : Segments) (s p v r k : ℕ) → old_pads M (row_of_moves s p v r k) ≡ pads_from M s p k
+pub row_old_pads : (M : Segments) (s p v r k : ℕ) → old_pads M (row_moves s p v r k) ≡ pads_from M s p k
 row_old_pads M s p v r zero = refl
 row_old_pads M s p v r (suc k) = ap (λ is. pads_of (word_at M s p) ++ is) (row_old_pads M s (p + 1) v (r + 1) k)
 
-pub row_new_pads : (M : Segments) (s p v r k : ℕ) → new_pads M (row_of_moves s p v r k) ≡ pads_from M v r k
+pub row_new_pads : (M : Segments) (s p v r k : ℕ) → new_pads M (row_moves s p v r k) ≡ pads_from M v r k
 row_new_pads M s p v r zero = refl
 row_new_pads M s p v r (suc k) = ap (λ is. pads_of (word_at M v r) ++ is) (row_new_pads M s (p + 1) v (r + 1) k)
 
-pub row_new_places : (s p v r k x y : ℕ) → times (new_places (row_of_moves s p v r k)) x y ≡ times (row v r k ∷ []) x y
+pub row_new_places : (s p v r k x y : ℕ) → times (new_places (row_moves s p v r k)) x y ≡ times (row v r k ∷ []) x y
 row_new_places s p v r zero x y = empty v r x y
   where
     empty : (v r x y : ℕ) → 0 ≡ times (row v r 0 ∷ []) x y
@@ -304,31 +304,31 @@ row_new_places s p v r (suc k) x y = omega (arith, row_new_places s (p + 1) v (r
 -- old places lie in B
 pub old_place_inside : (B : Segments) (ms : List Move) → HaveValuesInside B ms → (x y : ℕ) → 0 < times (old_places ms) x y → y < length (segment B x)
 old_place_inside B [] a x y l = absurd (omega arith)
-old_place_inside B (m ∷ ms) a x y l = elim (cases_eq (times (word_interval m.segment m.at ∷ []) x y) 0) [
+old_place_inside B (m ∷ ms) a x y l = elim (cases_eq (times (word_interval m.from.segment m.from.at ∷ []) x y) 0) [
   | inl none ↦ old_place_inside B ms a.1 x y (omega arith)
-  | inr some ↦ (let i = in_row m.segment m.at 1 x y (omega arith) in
-      let e : y ≡ m.at = omega (arith, i.1, i.2) in
-      omega (arith, old_word_in B m.segment m.at a.0, ap (λ z. length (segment B z)) i.0))
+  | inr some ↦ (let i = in_row m.from.segment m.from.at 1 x y (omega arith) in
+      let e : y ≡ m.from.at = omega (arith, i.1, i.2) in
+      omega (arith, old_word_in B m.from.segment m.from.at a.0, ap (λ z. length (segment B z)) i.0))
 ]
 
 -- pointers that are not moved yet are null, and have no pads
 abbrev pub AllNull : Segments → List Move → Type 0
 AllNull P [] = Unit {0}
-AllNull P (m ∷ ms) = (word_at P m.to_segment m.to_at ≡ 0) × AllNull P ms
+AllNull P (m ∷ ms) = (word_at P m.to.segment m.to.at ≡ 0) × AllNull P ms
 
 pub unwritten : (P : Segments) (ms : List Move) → AllNull P ms → (x y : ℕ) → times (fresh_pads P ms) x y ≡ 0
 unwritten P [] h x y = omega arith
 unwritten P (m ∷ ms) h x y = omega (arith, times-append (own_pads P m) (fresh_pads P ms) x y, unwritten P ms h.1 x y, none)
   where
     none : times (own_pads P m) x y ≡ 0
-    none = elim (cases_eq (kind (word_at P m.segment m.at)) 2) [
-      | inl e ↦ ap (λ b. times (cond b [] (pads_of (word_at P m.to_segment m.to_at))) x y) (eq-eqb (kind (word_at P m.segment m.at)) 2 e)
-      | inr e ↦ ap (λ b. times (cond b [] (pads_of (word_at P m.to_segment m.to_at))) x y) (ne_eqb (kind (word_at P m.segment m.at)) 2 e) ∙ ap (λ w. times (pads_of w) x y) h.0
+    none = elim (cases_eq (kind (word_at P m.from.segment m.from.at)) 2) [
+      | inl e ↦ ap (λ b. times (cond b [] (pads_of (word_at P m.to.segment m.to.at))) x y) (eq-eqb (kind (word_at P m.from.segment m.from.at)) 2 e)
+      | inr e ↦ ap (λ b. times (cond b [] (pads_of (word_at P m.to.segment m.to.at))) x y) (ne_eqb (kind (word_at P m.from.segment m.from.at)) 2 e) ∙ ap (λ w. times (pads_of w) x y) h.0
     ]
 
 places_null : (P : Segments) (ms : List Move) → ((x y : ℕ) → 0 < times (new_places ms) x y → word_at P x y ≡ 0) → AllNull P ms
 places_null P [] h = tt
-places_null P (m ∷ ms) h = (h m.to_segment m.to_at (omega (arith, once_held m.to_segment m.to_at)), places_null P ms (λ x y l. h x y (omega arith)))
+places_null P (m ∷ ms) h = (h m.to.segment m.to.at (omega (arith, once_held m.to.segment m.to.at)), places_null P ms (λ x y l. h x y (omega arith)))
 
 pub left_null : (B S P : Segments) (ms ns : List Move) → CanMove B S (ms ++ ns) → AreMoved S P ms → AllNull P ns
 left_null B S P ms ns c a = places_null P ns (λ x y l.

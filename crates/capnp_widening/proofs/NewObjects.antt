@@ -41,10 +41,10 @@ pub record IsRehoused (S M Q : Segments) (u q : ℕ) (a : Target) (size : ℕ) (
 
 -- The landing pads of moved pointers at their old places, and at the new ones; and the own ones of one pointer.
 abbrev pub old_pads : Segments → List Move → List Interval
-old_pads R ms = flat_map (λ (m : Move). pads_of (word_at R m.segment m.at)) ms
+old_pads R ms = flat_map (λ (m : Move). pads_of (word_at R m.from.segment m.from.at)) ms
 
 abbrev pub new_pads : Segments → List Move → List Interval
-new_pads R ms = flat_map (λ (m : Move). pads_of (word_at R m.to_segment m.to_at)) ms
+new_pads R ms = flat_map (λ (m : Move). pads_of (word_at R m.to.segment m.to.at)) ms
 
 abbrev pub own_pads : Segments → Move → List Interval
-own_pads R m = cond (nat_eq (kind (word_at R m.segment m.at)) 2) [] (pads_of (word_at R m.to_segment m.to_at))
+own_pads R m = cond (nat_eq (kind (word_at R m.from.segment m.from.at)) 2) [] (pads_of (word_at R m.to.segment m.to.at))

@@ -8,7 +8,7 @@ use Rattle.capnp_making.specs.Made.{IsGrown, words_of_zero}
 use Rattle.capnp_making.specs.Zeroed.{row}
 use Rattle.capnp_making.proofs.BelowElements.{element_within}
 use Rattle.capnp_making.proofs.Zeros.{of_row}
-use Rattle.capnp_widening.specs.Moved.{row_of_moves, rows_of_moves, new_places, fresh_pads, IsMoved}
+use Rattle.capnp_widening.specs.Moved.{new_places, fresh_pads, IsMoved}
 use Rattle.capnp_widening.proofs.Basics.{once_row}
 use Rattle.capnp_widening.proofs.ListRemade.{rows_place, beside_rows}
 use Rattle.capnp_widening.proofs.Movings.{same_old, same_new}
@@ -17,13 +17,13 @@ use Rattle.capnp_widening.proofs.Rows.{rows_moved, rows_old_pads, rows_new_pads,
 use Rattle.capnp_widening.proofs.RowsCopied.{beside_row}
 use Rattle.capnp_widening.proofs.StructRemade.{words_by_each, zeros_at}
 use Rattle.capnp_widening.proofs.NewObjects.{IsRehoused, pads_from, pads_in_rows, old_pads, new_pads}
-use Rattle.capnp_widening.proofs.Statements.{HaveValuesInside}
+use Rattle.capnp_widening.proofs.Statements.{HaveValuesInside, row_moves, rows_moves}
 
 -- words are taken for a list, and its tag and the data of its rows are written into them
-pub list_begun : (S T D : Segments) (s p w k n wd wk v at pads : ℕ) → HaveValuesInside S (rows_of_moves s p w v (at + pads + 1 + wd) (wd + wk) k n) → k ≤ wk → IsGrown S T v at (pads + (1 + n * (wd + wk))) →
+pub list_begun : (S T D : Segments) (s p w k n wd wk v at pads : ℕ) → HaveValuesInside S (rows_moves s p w v (at + pads + 1 + wd) (wd + wk) k n) → k ≤ wk → IsGrown S T v at (pads + (1 + n * (wd + wk))) →
     length D ≡ length T → ((x : ℕ) → length (segment D x) ≡ length (segment T x)) → ((x y : ℕ) → times (row v (at + pads) (1 + n * (wd + wk)) ∷ []) x y ≡ 0 → word_at D x y ≡ word_at T x y) →
     ((i j : ℕ) → i < n → wd ≤ j → j < wd + wk → word_at D v (at + pads + 1 + i * (wd + wk) + j) ≡ 0) →
-    IsBegun S T D v at pads (1 + n * (wd + wk)) (rows_of_moves s p w v (at + pads + 1 + wd) (wd + wk) k n)
+    IsBegun S T D v at pads (1 + n * (wd + wk)) (rows_moves s p w v (at + pads + 1 + wd) (wd + wk) k n)
 list_begun S T D s p w k n wd wk v at pads stand narrow g segments words kept empty =
     let z = wd + wk in
     let to = at + pads + 1 + wd in
@@ -57,16 +57,16 @@ pub record NewRows (M D : Segments) (s p w k n wd wk v at : ℕ) (b : Target) : 
   pub moved : (i j : ℕ) → i < n → j < k → IsMoved M s (p + i * w + j) b.segment (b.start + 1 + i * (wd + wk) + wd + j)
 
 module _ (S T D P R Q : Segments) (u q : ℕ) (a : Target) (size : ℕ) (b : Target) (s p w k n wd wk v at pads : ℕ)
-    (h : IsRemade S T D P R Q u q a size b v at pads (1 + n * (wd + wk)) (rows_of_moves s p w v (at + pads + 1 + wd) (wd + wk) k n)) where
+    (h : IsRemade S T D P R Q u q a size b v at pads (1 + n * (wd + wk)) (rows_moves s p w v (at + pads + 1 + wd) (wd + wk) k n)) where
   abbrev pub rows_last : Segments
-  rows_last = before_last S T D P R Q u q a size b v at pads (1 + n * (wd + wk)) (rows_of_moves s p w v (at + pads + 1 + wd) (wd + wk) k n) h
+  rows_last = before_last S T D P R Q u q a size b v at pads (1 + n * (wd + wk)) (rows_moves s p w v (at + pads + 1 + wd) (wd + wk) k n) h
 
   pub new_rows : k ≤ wk → NewRows rows_last D s p w k n wd wk v (at + pads) b
   new_rows narrow =
       let z = wd + wk in
       let wide = 1 + n * z in
       let to = at + pads + 1 + wd in
-      let ms = rows_of_moves s p w v to z k n in
+      let ms = rows_moves s p w v to z k n in
       let M = rows_last in
       let last = object_word S T D P R Q u q a size b v at pads wide ms h in
       let moved = all_moved S T D P R Q u q a size b v at pads wide ms h in
@@ -78,19 +78,19 @@ module _ (S T D P R Q : Segments) (u q : ℕ) (a : Target) (size : ℕ) (b : Tar
             (subst (λ y. IsMoved M s (p + i * w + j) v y) (let e : to + i * z + j ≡ b.start + 1 + i * z + wd + j = omega (arith, h.start_of) in e) (rows_moved M s p w v to z k n i j moved l m));
       }
     where
-      no_tag : times (new_places (rows_of_moves s p w v (at + pads + 1 + wd) (wd + wk) k n)) v (at + pads) ≡ 0
-      no_tag = elim (cases_eq (times (new_places (rows_of_moves s p w v (at + pads + 1 + wd) (wd + wk) k n)) v (at + pads)) 0) [
+      no_tag : times (new_places (rows_moves s p w v (at + pads + 1 + wd) (wd + wk) k n)) v (at + pads) ≡ 0
+      no_tag = elim (cases_eq (times (new_places (rows_moves s p w v (at + pads + 1 + wd) (wd + wk) k n)) v (at + pads)) 0) [
         | inl none ↦ none
         | inr some ↦ (let (i, j, li, lj, ex, ey) = rows_place s p w v (at + pads + 1 + wd) (wd + wk) k n v (at + pads) (omega arith) in absurd (omega (arith, ey)))
       ]
 
   pub rows_rehoused : IsRehoused S rows_last Q u q a size b (1 + n * (wd + wk)) (pads_in_rows rows_last s p w k n) (pads_in_rows rows_last b.segment (b.start + 1 + wd) (wd + wk) k n)
-      (row v at (pads + (1 + n * (wd + wk))) ∷ fresh_pads P (rows_of_moves s p w v (at + pads + 1 + wd) (wd + wk) k n))
+      (row v at (pads + (1 + n * (wd + wk))) ∷ fresh_pads P (rows_moves s p w v (at + pads + 1 + wd) (wd + wk) k n))
   rows_rehoused =
       let z = wd + wk in
       let wide = 1 + n * z in
       let to = at + pads + 1 + wd in
-      let ms = rows_of_moves s p w v to z k n in
+      let ms = rows_moves s p w v to z k n in
       let M = rows_last in
       let same = moves_same S T D P R Q u q a size b v at pads wide ms h in
       let fresh = row v at (pads + wide) ∷ fresh_pads P ms in
@@ -116,11 +116,11 @@ no_pads M s p w zero = refl
 no_pads M s p w (suc n) = no_pads M s (p + w) w n
 
 -- old pointers one behind the other, which are to stand in rows
-pub stand_in_rows : (B : Segments) (s p v r x y z n : ℕ) → HaveValuesInside B (row_of_moves s p v r n) → HaveValuesInside B (rows_of_moves s p 1 x y z 1 n)
+pub stand_in_rows : (B : Segments) (s p v r x y z n : ℕ) → HaveValuesInside B (row_moves s p v r n) → HaveValuesInside B (rows_moves s p 1 x y z 1 n)
 stand_in_rows B s p v r x y z zero h = tt
 stand_in_rows B s p v r x y z (suc n) h = (h.0, stand_in_rows B s (p + 1) v (r + 1) x (y + z) z n h.1)
 
 -- no pointers
-pub none_stand : (B : Segments) (s p w x y z n : ℕ) → HaveValuesInside B (rows_of_moves s p w x y z 0 n)
+pub none_stand : (B : Segments) (s p w x y z n : ℕ) → HaveValuesInside B (rows_moves s p w x y z 0 n)
 none_stand B s p w x y z zero = tt
 none_stand B s p w x y z (suc n) = none_stand B s (p + w) w x (y + z) z n

@@ -17,19 +17,19 @@ use Rattle.capnp_making.specs.Stored.{IsStored}
 use Rattle.capnp_making.specs.Zeroed.{row, IsZeroed, PadsInside}
 use Rattle.capnp_widening.specs.declared.widening.Room.{Room}
 use Rattle.capnp_widening.specs.Housed.{IsRoom}
-use Rattle.capnp_widening.specs.RowsRemade.{IsTagWritten, AreNumbersCopied, BecomesList, as_structs, IsList, NumbersInside}
+use Rattle.capnp_widening.specs.RowsRemade.{IsTagWritten, BecomesList, as_structs, IsList, NumbersInside}
 use Rattle.capnp_widening.specs.Widened.{struct_for_each}
 use Rattle.capnp_widening.proofs.ListSteps.{list_at}
 use Rattle.capnp_widening.proofs.NumberSteps.{NumberSteps, NumbersTaken, numbers_anew, numbers_become}
 use Rattle.capnp_widening.proofs.PointerSteps.{flat_stored}
 use Rattle.capnp_widening.proofs.PlainLists.{are_numbers, numbers_as_structs}
-use Rattle.capnp_widening.proofs.Statements.{SettlesRoom, RemakesList, RemakesListAnew, rewriting}
+use Rattle.capnp_widening.proofs.Statements.{SettlesRoom, RemakesList, RemakesListAnew, rewriting, CopiedNumbers}
 
 pub record NumbersMade (S T B D R Z Q : Segments) (id at : ℕ) (old : ExistingList) (size : StructSize) (h : Room) : Type 0 where
   pub place : IsPlace S id at
   pub room : IsRoom S T id (1 + old.count * (size.data_words + size.pointers)) h
   pub tagged : IsTagWritten T B (record { segment = h.segment; at = h.at + h.pads }) old.count size
-  pub copied : AreNumbersCopied B D old.segment old.start (element_bits (size_number old.size)) h.segment (h.at + h.pads + 1) (size.data_words + size.pointers) old.count
+  pub copied : CopiedNumbers B D old.segment old.start (element_bits (size_number old.size)) h.segment (h.at + h.pads + 1) (size.data_words + size.pointers) old.count
   pub settled : SettlesRoom (rewriting id at D R) h (ListShape InlineComposite (old.count * (size.data_words + size.pointers)))
   pub object_zeroed : old.start + words_for (size_number old.size) old.count ≤ length (segment R old.segment) → IsZeroed R Z (row old.segment old.start (words_for (size_number old.size) old.count) ∷ [])
   pub pads_zeroed : PadsInside Z (word_at S id at) → IsZeroed Z Q (pads_of (word_at S id at))

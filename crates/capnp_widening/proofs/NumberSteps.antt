@@ -25,8 +25,8 @@ use Rattle.capnp_making.proofs.Zeros.{of_row}
 use Rattle.capnp_widening.specs.declared.widening.Room.{Room}
 use Rattle.capnp_widening.specs.Anew.{BecomesAnew, OnlyWrites, StandsAnew, WritesAnew}
 use Rattle.capnp_widening.specs.Housed.{IsRoom, object_start}
-use Rattle.capnp_widening.specs.Moved.{Move, rows_of_moves, fresh_pads, Moves}
-use Rattle.capnp_widening.specs.RowsRemade.{IsTagWritten, BecomesList, AreNumbersCopied}
+use Rattle.capnp_widening.specs.Moved.{Move, fresh_pads, Moves}
+use Rattle.capnp_widening.specs.RowsRemade.{IsTagWritten, BecomesList}
 use Rattle.capnp_widening.specs.Widened.{fill_words, struct_for_each}
 use Rattle.capnp_widening.proofs.ListSteps.{object_remade, found_there, list_at}
 use Rattle.capnp_widening.proofs.ListsWidened.{numbers_widened, count-struct_for_each}
@@ -41,14 +41,14 @@ use Rattle.capnp_widening.proofs.StructRemade.{words_by_each, filled_at, filled_
 use Rattle.capnp_widening.proofs.Widenings.{length-fill_words}
 use Rattle.capnp_widening.proofs.NewObjects.{IsRehoused, pads_in_rows}
 use Rattle.capnp_widening.proofs.WrittenAnew.{writes_none}
-use Rattle.capnp_widening.proofs.Statements.{SettlesRoom, rewriting}
+use Rattle.capnp_widening.proofs.Statements.{SettlesRoom, rewriting, rows_moves, CopiedNumbers}
 
-pub no_numbers_copied : (S : Segments) (s p width v r z : ℕ) → AreNumbersCopied S S s p width v r z 0
+pub no_numbers_copied : (S : Segments) (s p width v r z : ℕ) → CopiedNumbers S S s p width v r z 0
 no_numbers_copied S s p width v r z = record { segments = refl; words = λ x. refl; here = λ i l. absurd (omega arith); behind = λ i j l m o. refl; kept = λ x y e. refl }
 
 -- one number more, where the old ones lie before the new rows
-pub numbers_copied_next : (S M R : Segments) (s p width v r z i x : ℕ) → AreNumbersCopied S M s p width v r z i → (s ≡ v → (64 * p + width * i) / 64 < r) → 0 < z → r + i * z < length (segment M v) → R ≡ with_word M v (r + i * z) x →
-    x ≡ field_in (segment M s) (64 * p + width * i) width → AreNumbersCopied S R s p width v r z (i + 1)
+pub numbers_copied_next : (S M R : Segments) (s p width v r z i x : ℕ) → CopiedNumbers S M s p width v r z i → (s ≡ v → (64 * p + width * i) / 64 < r) → 0 < z → r + i * z < length (segment M v) → R ≡ with_word M v (r + i * z) x →
+    x ≡ field_in (segment M s) (64 * p + width * i) width → CopiedNumbers S R s p width v r z (i + 1)
 numbers_copied_next S M R s p width v r z i x b apart some place e f =
     let put = word_put M R v (r + i * z) x place e in
     let q = (64 * p + width * i) / 64 in
@@ -75,7 +75,7 @@ pub record NumberSteps (S T B D R Z Q : Segments) (id at width n : ℕ) (size : 
   pub place : IsPlace S id at
   pub room : IsRoom S T id (1 + n * (size.data_words + size.pointers)) h
   pub tagged : IsTagWritten T B (record { segment = h.segment; at = h.at + h.pads }) n size
-  pub copied : AreNumbersCopied B D (target S id at).segment (target S id at).start (element_bits width) h.segment (h.at + h.pads + 1) (size.data_words + size.pointers) n
+  pub copied : CopiedNumbers B D (target S id at).segment (target S id at).start (element_bits width) h.segment (h.at + h.pads + 1) (size.data_words + size.pointers) n
   pub settled : SettlesRoom (rewriting id at D R) h (ListShape InlineComposite (n * (size.data_words + size.pointers)))
   pub object_zeroed : (target S id at).start + words_for width n ≤ length (segment R (target S id at).segment) → IsZeroed R Z (row (target S id at).segment (target S id at).start (words_for width n) ∷ [])
   pub pads_zeroed : PadsInside Z (word_at S id at) → IsZeroed Z Q (pads_of (word_at S id at))
@@ -87,7 +87,7 @@ record NumbersStand (S D : Segments) (ns : List ℕ) (v r wd wk : ℕ) : Type 0 
 
 numbers_stand : (S T B D : Segments) (id at width : ℕ) (ns : List ℕ) (v p pads : ℕ) (size : StructSize) → IsStored S id at (Flat width ns) → 2 ≤ width → width ≤ 5 → IsGrown S T v p (pads + (1 + length ns * (size.data_words + size.pointers))) →
     IsTagWritten T B (record { segment = v; at = p + pads }) (length ns) size →
-    AreNumbersCopied B D (target S id at).segment (target S id at).start (element_bits width) v (p + pads + 1) (size.data_words + size.pointers) (length ns) → NumbersStand S D ns v (p + pads + 1) size.data_words size.pointers
+    CopiedNumbers B D (target S id at).segment (target S id at).start (element_bits width) v (p + pads + 1) (size.data_words + size.pointers) (length ns) → NumbersStand S D ns v (p + pads + 1) size.data_words size.pointers
 numbers_stand S T B D id at width ns v p pads size x two five g t c =
     let a = target S id at in
     let z = size.data_words + size.pointers in
@@ -105,7 +105,7 @@ numbers_stand S T B D id at width ns v p pads size x two five g t c =
 numbers_made_at : (S T B D R Z Q : Segments) (id at width : ℕ) (ns : List ℕ) (d k : ℕ) (h : Room) → IsStored S id at (Flat width ns) → 2 ≤ width → width ≤ 5 →
     (s : NumberSteps S T B D R Z Q id at width (length ns) (record { data_words = max 1 d; pointers = k }) h) →
     IsRemade S T D D R Q id at (target S id at) (words_for width (length ns)) s.settled.0 h.segment h.at h.pads (1 + length ns * (max 1 d + k))
-    (rows_of_moves (target S id at).segment (target S id at).start 0 h.segment (h.at + h.pads + 1 + max 1 d) (max 1 d + k) 0 (length ns))
+    (rows_moves (target S id at).segment (target S id at).start 0 h.segment (h.at + h.pads + 1 + max 1 d) (max 1 d + k) 0 (length ns))
 numbers_made_at S T B D R Z Q id at width ns d k h x two five s =
     let a = target S id at in
     let n = length ns in
@@ -120,7 +120,7 @@ numbers_made_at S T B D R Z Q id at width ns d k h x two five s =
     let (b, settled, shaped, segment_of, start_of) = s.settled in
     let stored = flat_stored S id at width ns x in
     let stand = numbers_stand S T B D id at width ns v h.at h.pads size x two five grown s.tagged s.copied in
-    let ms = rows_of_moves a.segment a.start 0 v (first + wd) z 0 n in
+    let ms = rows_moves a.segment a.start 0 v (first + wd) z 0 n in
     let written = λ (y w : ℕ) (e : times (row v (h.at + h.pads) (1 + n * z) ∷ []) y w ≡ 0). s.copied.kept y w (omega (arith, e, split_row v (h.at + h.pads) 1 (n * z) y w)) ∙ s.tagged.kept y w (omega (arith, e, split_row v (h.at + h.pads) 1 (n * z) y w)) in
     let begun = list_begun S T D a.segment a.start 0 0 n wd k v h.at h.pads (none_stand S a.segment a.start 0 v (first + wd) z n) (omega arith) grown (s.copied.segments ∙ s.tagged.segments) (λ y. s.copied.words y ∙ s.tagged.words y) written
     (λ i j l m o. stand.zero i j l (omega arith) o) in
@@ -144,7 +144,7 @@ numbers_become S T B D R Z Q id at width ns d k h x two five s =
     let (b, settled, shaped, segment_of, start_of) = s.settled in
     let stored = flat_stored S id at width ns x in
     let stand = numbers_stand S T B D id at width ns v h.at h.pads size x two five grown s.tagged s.copied in
-    let ms = rows_of_moves a.segment a.start 0 v (first + wd) z 0 n in
+    let ms = rows_moves a.segment a.start 0 v (first + wd) z 0 n in
     let tag : IsTag (word_at D v (h.at + h.pads)) n wd k = subst (λ y. IsTag y n wd k) (sym (s.copied.kept v (h.at + h.pads) (beside_row v first (n * z) v (h.at + h.pads) (λ e f g. omega arith)))) s.tagged.tag in
     let made = numbers_made_at S T B D R Z Q id at width ns d k h x two five s in
     let M = rows_last S T D D R Q id at a long b a.segment a.start 0 0 n wd k v h.at h.pads made in
@@ -186,7 +186,7 @@ numbers_anew s b d r z q T id at width ns e k h x two five steps t =
     let a = target s.words id at in
     let n = length ns in
     let wide = max 1 e + k in
-    let moves : Start → List Move = λ y. rows_of_moves a.segment a.start 0 y.segment (y.at + 1 + max 1 e) wide 0 n in
+    let moves : Start → List Move = λ y. rows_moves a.segment a.start 0 y.segment (y.at + 1 + max 1 e) wide 0 n in
     let here : Start = object_start h in
     let y = start_of (target q.words id at) in
     let made = numbers_made_at s.words T b.words d.words r.words z.words q.words id at width ns e k h x two five steps in

@@ -14,11 +14,12 @@ use Rattle.capnp_making.specs.Memory.{HasRoom, KeepsMemory, IsNextRoom, Lengthen
 use Rattle.capnp_making.specs.Zeroed.{row}
 use Rattle.capnp_making.specs.declared.making.Start.{Start}
 use Rattle.capnp_widening.specs.Anew.{MovesApart, OnlyWrites}
-use Rattle.capnp_widening.specs.Moved.{Move, a_move, moves_into, near_pointers, row_of_moves, rows_of_moves}
+use Rattle.capnp_widening.specs.Moved.{Move, moves_into, near_pointers}
 use Rattle.capnp_widening.specs.Rooms.{HasPadRoom, HasRoomAndPads, direct_pointers}
 use Rattle.capnp_widening.proofs.Movings.{row_next}
 use Rattle.capnp_widening.proofs.Rooms.{HasSomeRoom, not_true}
 use Rattle.capnp_widening.proofs.Rows.{rows_next}
+use Rattle.capnp_widening.proofs.Statements.{a_move, row_moves, rows_moves}
 
 -- the landing pads that a pointer needs in another segment
 abbrev near_word : ℕ → ℕ
@@ -54,28 +55,28 @@ near-append : (S : Segments) (ms ns : List Move) → near_pointers S (ms ++ ns) 
 near-append S [] ns = omega arith
 near-append S (m ∷ ms) ns = omega (arith, near-append S ms ns)
 
-near_row_more : (S : Segments) (s p v r i n : ℕ) → i ≤ n → near_pointers S (row_of_moves s p v r i) ≤ near_pointers S (row_of_moves s p v r n)
+near_row_more : (S : Segments) (s p v r i n : ℕ) → i ≤ n → near_pointers S (row_moves s p v r i) ≤ near_pointers S (row_moves s p v r n)
 near_row_more S s p v r zero n l = omega arith
 near_row_more S s p v r (suc i) zero l = absurd (omega arith)
 near_row_more S s p v r (suc i) (suc n) l = omega (arith, near_row_more S s (p + 1) v (r + 1) i n (omega arith))
 
-near_rows_more : (S : Segments) (s p w v r z k i n : ℕ) → i ≤ n → near_pointers S (rows_of_moves s p w v r z k i) ≤ near_pointers S (rows_of_moves s p w v r z k n)
+near_rows_more : (S : Segments) (s p w v r z k i n : ℕ) → i ≤ n → near_pointers S (rows_moves s p w v r z k i) ≤ near_pointers S (rows_moves s p w v r z k n)
 near_rows_more S s p w v r z k zero n l = omega arith
 near_rows_more S s p w v r z k (suc i) zero l = absurd (omega arith)
 near_rows_more S s p w v r z k (suc i) (suc n) l =
-    let first = row_of_moves s p v r k in
-    omega (arith, near-append S first (rows_of_moves s (p + w) w v (r + z) z k i), near-append S first (rows_of_moves s (p + w) w v (r + z) z k n), near_rows_more S s (p + w) w v (r + z) z k i n (omega arith))
+    let first = row_moves s p v r k in
+    omega (arith, near-append S first (rows_moves s (p + w) w v (r + z) z k i), near-append S first (rows_moves s (p + w) w v (r + z) z k n), near_rows_more S s (p + w) w v (r + z) z k i n (omega arith))
 
 -- there are no more than pointers
 
-pub near_row_few : (S : Segments) (s p v r k : ℕ) → near_pointers S (row_of_moves s p v r k) ≤ k
+pub near_row_few : (S : Segments) (s p v r k : ℕ) → near_pointers S (row_moves s p v r k) ≤ k
 near_row_few S s p v r zero = omega arith
 near_row_few S s p v r (suc k) = omega (arith, one_word (word_at S s p), near_row_few S s (p + 1) v (r + 1) k)
 
-pub near_rows_few : (S : Segments) (s p w v r z k n : ℕ) → near_pointers S (rows_of_moves s p w v r z k n) ≤ n * k
+pub near_rows_few : (S : Segments) (s p w v r z k n : ℕ) → near_pointers S (rows_moves s p w v r z k n) ≤ n * k
 near_rows_few S s p w v r z k zero = omega arith
 near_rows_few S s p w v r z k (suc n) =
-    omega (arith, near-append S (row_of_moves s p v r k) (rows_of_moves s (p + w) w v (r + z) z k n), near_row_few S s p v r k, near_rows_few S s (p + w) w v (r + z) z k n)
+    omega (arith, near-append S (row_moves s p v r k) (rows_moves s (p + w) w v (r + z) z k n), near_row_few S s p v r k, near_rows_few S s (p + w) w v (r + z) z k n)
 
 pub near_few : (S : Segments) (a b : Start) (t u : Tree) → near_pointers S (moves_into a b t u) ≤ direct_pointers t
 near_few S a b (Struct ws ts) (Struct vs us) = near_row_few S a.segment (a.at + length ws) b.segment (b.at + length vs) (count ts)
@@ -87,18 +88,18 @@ near_few S a b t u = omega arith
 
 -- the same pointers, wherever they go
 
-pub near_same_row : (S R : Segments) (s p v r v' r' k : ℕ) → ((y : ℕ) → y < p + k → word_at R s y ≡ word_at S s y) → near_pointers R (row_of_moves s p v r k) ≡ near_pointers S (row_of_moves s p v' r' k)
+pub near_same_row : (S R : Segments) (s p v r v' r' k : ℕ) → ((y : ℕ) → y < p + k → word_at R s y ≡ word_at S s y) → near_pointers R (row_moves s p v r k) ≡ near_pointers S (row_moves s p v' r' k)
 near_same_row S R s p v r v' r' zero same = refl
 near_same_row S R s p v r v' r' (suc k) same =
     ap₂ (λ x n. near_word x + n) (same p (omega arith)) (near_same_row S R s (p + 1) v (r + 1) v' (r' + 1) k (λ y l. same y (omega arith)))
 
 pub near_same_rows : (S R : Segments) (s p w v r z v' r' z' k n m : ℕ) → p + n * w + k ≤ m + w → ((y : ℕ) → y < m → word_at R s y ≡ word_at S s y) →
-    near_pointers R (rows_of_moves s p w v r z k n) ≡ near_pointers S (rows_of_moves s p w v' r' z' k n)
+    near_pointers R (rows_moves s p w v r z k n) ≡ near_pointers S (rows_moves s p w v' r' z' k n)
 near_same_rows S R s p w v r z v' r' z' k zero m inside same = refl
 near_same_rows S R s p w v r z v' r' z' k (suc n) m inside same =
-    near-append R (row_of_moves s p v r k) (rows_of_moves s (p + w) w v (r + z) z k n)
+    near-append R (row_moves s p v r k) (rows_moves s (p + w) w v (r + z) z k n)
     ∙ ap₂ (λ a b. a + b) (near_same_row S R s p v r v' r' k (λ y l. same y (omega (arith, inside, l)))) (near_same_rows S R s (p + w) w v (r + z) z v' (r' + z') z' k n m (omega (arith, inside)) same)
-    ∙ sym (near-append S (row_of_moves s p v' r' k) (rows_of_moves s (p + w) w v' (r' + z') z' k n))
+    ∙ sym (near-append S (row_moves s p v' r' k) (rows_moves s (p + w) w v' (r' + z') z' k n))
 
 pub none_elsewhere : (s p n x y : ℕ) → x ≢ s → times (row s p n ∷ []) x y ≡ 0
 none_elsewhere s p n x y other = grind (arith, nat_tests)
@@ -174,39 +175,39 @@ apart_both a m b k ms ns longer same f g = record {
 }
 
 -- one pointer more
-same_pointer : (a m : View) (s p v r n i : ℕ) → p + n ≤ length (segment a.words s) → i < n → Apart a m s (row_of_moves s p v r i) → near_pointers m.words (a_move s (p + i) v (r + i) ∷ []) ≡ near_pointers a.words (a_move s (p + i) v (r + i) ∷ [])
+same_pointer : (a m : View) (s p v r n i : ℕ) → p + n ≤ length (segment a.words s) → i < n → Apart a m s (row_moves s p v r i) → near_pointers m.words (a_move s (p + i) v (r + i) ∷ []) ≡ near_pointers a.words (a_move s (p + i) v (r + i) ∷ [])
 same_pointer a m s p v r n i inside less f = ap (λ x. near_word x + 0) (f.kept (p + i) (omega (arith, inside, less)))
 
-pub apart_next : (a m b : View) (s p v r n i : ℕ) → p + n ≤ length (segment a.words s) → i < n → Grows a.words m.words → Apart a m s (row_of_moves s p v r i) → Apart m b s (a_move s (p + i) v (r + i) ∷ []) → Apart a b s (row_of_moves s p v r (i + 1))
+pub apart_next : (a m b : View) (s p v r n i : ℕ) → p + n ≤ length (segment a.words s) → i < n → Grows a.words m.words → Apart a m s (row_moves s p v r i) → Apart m b s (a_move s (p + i) v (r + i) ∷ []) → Apart a b s (row_moves s p v r (i + 1))
 apart_next a m b s p v r n i inside less longer f g =
-    subst (λ j. Apart a b s (row_of_moves s p v r j)) (let e : suc i ≡ i + 1 = omega arith in e)
-    (subst (λ ms. Apart a b s ms) (sym (row_next s p v r i)) (apart_both a m b s (row_of_moves s p v r i) (a_move s (p + i) v (r + i) ∷ []) longer (same_pointer a m s p v r n i inside less f) f g))
+    subst (λ j. Apart a b s (row_moves s p v r j)) (let e : suc i ≡ i + 1 = omega arith in e)
+    (subst (λ ms. Apart a b s ms) (sym (row_next s p v r i)) (apart_both a m b s (row_moves s p v r i) (a_move s (p + i) v (r + i) ∷ []) longer (same_pointer a m s p v r n i inside less f) f g))
 
-pub pads_at : (a m : View) (s p v r n i x : ℕ) → p + n ≤ length (segment a.words s) → i < n → Apart a m s (row_of_moves s p v r i) → HasPadRoom a s (near_pointers a.words (row_of_moves s p v r n) + x) → HasPadRoom m s (near_pointers m.words (a_move s (p + i) v (r + i) ∷ []) + x)
+pub pads_at : (a m : View) (s p v r n i x : ℕ) → p + n ≤ length (segment a.words s) → i < n → Apart a m s (row_moves s p v r i) → HasPadRoom a s (near_pointers a.words (row_moves s p v r n) + x) → HasPadRoom m s (near_pointers m.words (a_move s (p + i) v (r + i) ∷ []) + x)
 pads_at a m s p v r n i x inside less f h =
     let same = same_pointer a m s p v r n i inside less f in
     let more = near_row_more a.words s p v r (suc i) n (omega (arith, less)) in
-    let whole = ap (near_pointers a.words) (row_next s p v r i) ∙ near-append a.words (row_of_moves s p v r i) (a_move s (p + i) v (r + i) ∷ []) in
+    let whole = ap (near_pointers a.words) (row_next s p v r i) ∙ near-append a.words (row_moves s p v r i) (a_move s (p + i) v (r + i) ∷ []) in
     let next = near_pointers m.words (a_move s (p + i) v (r + i) ∷ []) in
-    f.left (next + x) (fewer_pads a s (near_pointers a.words (row_of_moves s p v r i) + (next + x)) (near_pointers a.words (row_of_moves s p v r n) + x) (omega (arith, same, more, whole)) h)
+    f.left (next + x) (fewer_pads a s (near_pointers a.words (row_moves s p v r i) + (next + x)) (near_pointers a.words (row_moves s p v r n) + x) (omega (arith, same, more, whole)) h)
 
 -- one row more
-same_row : (a m : View) (s p w v r z k i : ℕ) → p + i * w + k ≤ length (segment a.words s) → Apart a m s (rows_of_moves s p w v r z k i) → near_pointers m.words (row_of_moves s (p + i * w) v (r + i * z) k) ≡ near_pointers a.words (row_of_moves s (p + i * w) v (r + i * z) k)
+same_row : (a m : View) (s p w v r z k i : ℕ) → p + i * w + k ≤ length (segment a.words s) → Apart a m s (rows_moves s p w v r z k i) → near_pointers m.words (row_moves s (p + i * w) v (r + i * z) k) ≡ near_pointers a.words (row_moves s (p + i * w) v (r + i * z) k)
 same_row a m s p w v r z k i inside f =
     near_same_row a.words m.words s (p + i * w) v (r + i * z) v (r + i * z) k (λ y l. f.kept y (lt_of_lt_of_le l inside))
 
-pub apart_rows : (a m b : View) (s p w v r z k i : ℕ) → p + i * w + k ≤ length (segment a.words s) → Grows a.words m.words → Apart a m s (rows_of_moves s p w v r z k i) → Apart m b s (row_of_moves s (p + i * w) v (r + i * z) k) → Apart a b s (rows_of_moves s p w v r z k (i + 1))
+pub apart_rows : (a m b : View) (s p w v r z k i : ℕ) → p + i * w + k ≤ length (segment a.words s) → Grows a.words m.words → Apart a m s (rows_moves s p w v r z k i) → Apart m b s (row_moves s (p + i * w) v (r + i * z) k) → Apart a b s (rows_moves s p w v r z k (i + 1))
 apart_rows a m b s p w v r z k i inside longer f g =
-    subst (λ j. Apart a b s (rows_of_moves s p w v r z k j)) (let e : suc i ≡ i + 1 = omega arith in e)
-    (subst (λ ms. Apart a b s ms) (sym (rows_next s p w v r z k i)) (apart_both a m b s (rows_of_moves s p w v r z k i) (row_of_moves s (p + i * w) v (r + i * z) k) longer (same_row a m s p w v r z k i inside f) f g))
+    subst (λ j. Apart a b s (rows_moves s p w v r z k j)) (let e : suc i ≡ i + 1 = omega arith in e)
+    (subst (λ ms. Apart a b s ms) (sym (rows_next s p w v r z k i)) (apart_both a m b s (rows_moves s p w v r z k i) (row_moves s (p + i * w) v (r + i * z) k) longer (same_row a m s p w v r z k i inside f) f g))
 
-pub row_pads_at : (a m : View) (s p w v r z k n i x : ℕ) → p + i * w + k ≤ length (segment a.words s) → i < n → Apart a m s (rows_of_moves s p w v r z k i) → HasPadRoom a s (near_pointers a.words (rows_of_moves s p w v r z k n) + x) → HasPadRoom m s (near_pointers m.words (row_of_moves s (p + i * w) v (r + i * z) k) + x)
+pub row_pads_at : (a m : View) (s p w v r z k n i x : ℕ) → p + i * w + k ≤ length (segment a.words s) → i < n → Apart a m s (rows_moves s p w v r z k i) → HasPadRoom a s (near_pointers a.words (rows_moves s p w v r z k n) + x) → HasPadRoom m s (near_pointers m.words (row_moves s (p + i * w) v (r + i * z) k) + x)
 row_pads_at a m s p w v r z k n i x inside less f h =
     let same = same_row a m s p w v r z k i inside f in
     let more = near_rows_more a.words s p w v r z k (suc i) n (omega (arith, less)) in
-    let whole = ap (near_pointers a.words) (rows_next s p w v r z k i) ∙ near-append a.words (rows_of_moves s p w v r z k i) (row_of_moves s (p + i * w) v (r + i * z) k) in
-    let next = near_pointers m.words (row_of_moves s (p + i * w) v (r + i * z) k) in
-    f.left (next + x) (fewer_pads a s (near_pointers a.words (rows_of_moves s p w v r z k i) + (next + x)) (near_pointers a.words (rows_of_moves s p w v r z k n) + x) (omega (arith, same, more, whole)) h)
+    let whole = ap (near_pointers a.words) (rows_next s p w v r z k i) ∙ near-append a.words (rows_moves s p w v r z k i) (row_moves s (p + i * w) v (r + i * z) k) in
+    let next = near_pointers m.words (row_moves s (p + i * w) v (r + i * z) k) in
+    f.left (next + x) (fewer_pads a s (near_pointers a.words (rows_moves s p w v r z k i) + (next + x)) (near_pointers a.words (rows_moves s p w v r z k n) + x) (omega (arith, same, more, whole)) h)
 
 -- where a call isn't refused, what holds then
 pub granted_so : {A E : Type 0} (r : Result A E) (P : Type 0) → IsOk r → OnOk r P → P

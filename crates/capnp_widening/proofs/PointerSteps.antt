@@ -20,8 +20,8 @@ use Rattle.capnp_making.proofs.PlacedStructs.{count-zero_elements}
 use Rattle.capnp_widening.specs.declared.remaking.ElementRows.{ElementRows}
 use Rattle.capnp_widening.specs.declared.widening.Room.{Room}
 use Rattle.capnp_widening.specs.Anew.{BecomesAnew, StandsAnew, WritesAnew}
-use Rattle.capnp_widening.specs.Moved.{Move, rows_of_moves, fresh_pads, IsMoved, Moves, MovesSome, Unmoves}
-use Rattle.capnp_widening.specs.RowsRemade.{AreRowsCopied, BecomesList, as_structs}
+use Rattle.capnp_widening.specs.Moved.{Move, fresh_pads, IsMoved, Moves, MovesSome, Unmoves}
+use Rattle.capnp_widening.specs.RowsRemade.{BecomesList, as_structs}
 use Rattle.capnp_widening.specs.Widened.{struct_for_each_tree, GrowsByZeros}
 use Rattle.capnp_widening.proofs.ListSteps.{ListSteps, ListTaken, ListUndone, ObjectStored, object_remade, found_there, list_at}
 use Rattle.capnp_widening.proofs.ListsWidened.{pointers_widened, void_widened, count-struct_for_each_tree}
@@ -31,7 +31,7 @@ use Rattle.capnp_widening.proofs.Remade.{IsRemade, leads_last, object_anew, undo
 use Rattle.capnp_widening.proofs.Rows.{no_moves}
 use Rattle.capnp_widening.proofs.RowsCopied.{data_copied, tag_copied, list_written}
 use Rattle.capnp_widening.proofs.NewObjects.{IsRehoused, pads_in_rows}
-use Rattle.capnp_widening.proofs.Statements.{HaveValuesInside, rewriting}
+use Rattle.capnp_widening.proofs.Statements.{HaveValuesInside, rewriting, rows_moves, CopiedRows}
 
 abbrev pub pointer_rows : Segments → ℕ → ℕ → Trees → ElementRows
 pointer_rows S id at ts = record { segment = (target S id at).segment; at = (target S id at).start; tag = 0; size = record { data_words = 0; pointers = 1 }; count = count ts }
@@ -40,7 +40,7 @@ pointer_rows S id at ts = record { segment = (target S id at).segment; at = (tar
 pub record PointersStored (S : Segments) (id at : ℕ) (ts : Trees) (a : Target) : Type 0 where
   pub leads_to : Leads S id at a
   pub fits : a.start + count ts ≤ length (segment S a.segment)
-  pub stand : (v r z : ℕ) → HaveValuesInside S (rows_of_moves a.segment a.start 1 v r z 1 (count ts))
+  pub stand : (v r z : ℕ) → HaveValuesInside S (rows_moves a.segment a.start 1 v r z 1 (count ts))
 
 pub pointers_stored : (S : Segments) (id at : ℕ) (ts : Trees) → IsStored S id at (Pointers ts) → PointersStored S id at ts (target S id at)
 pointers_stored S id at ts x = at_level x.means.0 x.means.1 x.means.2
@@ -60,7 +60,7 @@ pointers_stored S id at ts x = at_level x.means.0 x.means.1 x.means.2
 pointers_made : (S T B D P R Z Q : Segments) (id at : ℕ) (ts : Trees) (d k : ℕ) (h : Room) → IsStored S id at (Pointers ts) →
     (s : ListSteps S T B D P R Z Q id at (pointer_rows S id at ts) (record { data_words = d; pointers = max 1 k }) h) →
     IsRemade S T D P R Q id at (target S id at) (count ts) s.settled.0 h.segment h.at h.pads (1 + count ts * (d + max 1 k))
-    (rows_of_moves (target S id at).segment (target S id at).start 1 h.segment (h.at + h.pads + 1 + d) (d + max 1 k) 1 (count ts))
+    (rows_moves (target S id at).segment (target S id at).start 1 h.segment (h.at + h.pads + 1 + d) (d + max 1 k) 1 (count ts))
 pointers_made S T B D P R Z Q id at ts d k h x s =
     let a = target S id at in
     let n = count ts in
@@ -74,15 +74,15 @@ pointers_made S T B D P R Z Q id at ts d k h x s =
     let (b, settled, shaped, segment_of, start_of) = s.settled in
     let parts = pointers_stored S id at ts x in
     let same_from : a.start + 0 ≡ a.start = omega arith in
-    let copied : AreRowsCopied B D a.segment a.start 1 v first z 0 n = subst (λ p. AreRowsCopied B D a.segment p 1 v first z 0 n) same_from s.copied in
+    let copied : CopiedRows B D a.segment a.start 1 v first z 0 n = subst (λ p. CopiedRows B D a.segment p 1 v first z 0 n) same_from s.copied in
     let from_zero : a.start + 0 + 0 ≡ a.start = omega arith in
-    let ms = rows_of_moves a.segment a.start 1 v (first + d) z 1 n in
+    let ms = rows_moves a.segment a.start 1 v (first + d) z 1 n in
     let whole : 0 + n * (0 + 1) ≡ n = omega arith in
     let rows = data_copied S T B D a.segment a.start 0 1 n v h.at h.pads size grown s.tagged copied (omega (arith, parts.fits)) in
     let begun = list_begun S T D a.segment a.start 1 1 n d wk v h.at h.pads (parts.stand v (first + d) z) (omega arith) grown (copied.segments ∙ s.tagged.segments) (λ y. copied.words y ∙ s.tagged.words y)
     (list_written T B D a.segment a.start 1 0 n v (h.at + h.pads) z size s.tagged copied) (λ i j l m o. rows.zero i j l (omega arith) o) in
     let stored : ObjectStored S id at (Pointers ts) n (cover_all S a.segment a.start ts) = record { stored = x; whole = refl; leads_to = parts.leads_to; fits = parts.fits } in
-    let moves = subst (λ p. Moves D P (rows_of_moves a.segment p 1 v (first + d) z 1 n)) from_zero s.moves in
+    let moves = subst (λ p. Moves D P (rows_moves a.segment p 1 v (first + d) z 1 n)) from_zero s.moves in
     object_remade S T D P R Z Q id at (Pointers ts) n (cover_all S a.segment a.start ts) b v h.at h.pads wide ms stored begun moves settled segment_of start_of s.place
     (subst (λ m. a.start + m ≤ length (segment R a.segment) → IsZeroed R Z (row a.segment a.start m ∷ [])) whole s.object_zeroed) s.pads_zeroed
 
@@ -102,8 +102,8 @@ wider_pointers S T B D P R Z Q id at ts d k h x s =
     let (b, settled, shaped, segment_of, start_of) = s.settled in
     let parts = pointers_stored S id at ts x in
     let same_from : a.start + 0 ≡ a.start = omega arith in
-    let copied : AreRowsCopied B D a.segment a.start 1 v first z 0 n = subst (λ p. AreRowsCopied B D a.segment p 1 v first z 0 n) same_from s.copied in
-    let ms = rows_of_moves a.segment a.start 1 v (first + d) z 1 n in
+    let copied : CopiedRows B D a.segment a.start 1 v first z 0 n = subst (λ p. CopiedRows B D a.segment p 1 v first z 0 n) same_from s.copied in
+    let ms = rows_moves a.segment a.start 1 v (first + d) z 1 n in
     let rows = data_copied S T B D a.segment a.start 0 1 n v h.at h.pads size grown s.tagged copied (omega (arith, parts.fits)) in
     let tag = tag_copied T B D a.segment a.start 1 0 n v (h.at + h.pads) z size s.tagged copied in
     let made = pointers_made S T B D P R Z Q id at ts d k h x s in
@@ -141,10 +141,10 @@ pointers_anew_at s b d p r z q T id at ts e k h x steps t =
     let a = target s.words id at in
     let n = count ts in
     let wide = e + max 1 k in
-    let moves : Start → List Move = λ y. rows_of_moves a.segment a.start 1 y.segment (y.at + 1 + e) wide 1 n in
+    let moves : Start → List Move = λ y. rows_moves a.segment a.start 1 y.segment (y.at + 1 + e) wide 1 n in
     let made = pointers_made s.words T b.words d.words p.words r.words z.words q.words id at ts e k h x steps in
     let from_zero : a.start + 0 + 0 ≡ a.start = omega arith in
-    let written = subst (λ m. WritesAnew d p (rows_of_moves a.segment m 1 h.segment (h.at + h.pads + 1 + e) wide 1 n)) from_zero t.written in
+    let written = subst (λ m. WritesAnew d p (rows_moves a.segment m 1 h.segment (h.at + h.pads + 1 + e) wide 1 n)) from_zero t.written in
     subst (λ m. StandsAnew (call_at id at s q) (1 + m * wide) (moves (start_of (target q.words id at)))) (sym (count-struct_for_each_tree e k ts))
     (object_anew s b d p r q T id at a n steps.settled.0 h.segment h.at h.pads (1 + n * wide) moves made t.kept t.taken t.behind t.first written t.last)
 
@@ -170,13 +170,13 @@ pointers_left S T B D P U Z id at ts size h x s =
     let (grown, near) = s.room in
     let parts = pointers_stored S id at ts x in
     let from_zero : a.start + 0 + 0 ≡ a.start = omega arith in
-    let copied : AreRowsCopied B D a.segment a.start 1 v first z 0 n = subst (λ p. AreRowsCopied B D a.segment p 1 v first z 0 n) (let e : a.start + 0 ≡ a.start = omega arith in e) s.copied in
-    let ms = rows_of_moves a.segment a.start 1 v (first + wd) z 1 n in
+    let copied : CopiedRows B D a.segment a.start 1 v first z 0 n = subst (λ p. CopiedRows B D a.segment p 1 v first z 0 n) (let e : a.start + 0 ≡ a.start = omega arith in e) s.copied in
+    let ms = rows_moves a.segment a.start 1 v (first + wd) z 1 n in
     let rows = data_copied S T B D a.segment a.start 0 1 n v h.at h.pads size grown s.tagged copied (omega (arith, parts.fits)) in
     let begun = list_begun S T D a.segment a.start 1 1 n wd wk v h.at h.pads (parts.stand v (first + wd) z) s.wider.1 grown (copied.segments ∙ s.tagged.segments) (λ y. copied.words y ∙ s.tagged.words y)
     (list_written T B D a.segment a.start 1 0 n v (h.at + h.pads) z size s.tagged copied) (λ i j l m o. rows.zero i j l (omega arith) o) in
-    undone S T D P U Z v h.at h.pads (1 + n * z) ms begun (subst (λ p. MovesSome D P (rows_of_moves a.segment p 1 v (first + wd) z 1 n)) from_zero s.some)
-    (subst (λ p. Unmoves P U (rows_of_moves a.segment p 1 v (first + wd) z 1 n)) from_zero s.unmoves) s.zeroed
+    undone S T D P U Z v h.at h.pads (1 + n * z) ms begun (subst (λ p. MovesSome D P (rows_moves a.segment p 1 v (first + wd) z 1 n)) from_zero s.some)
+    (subst (λ p. Unmoves P U (rows_moves a.segment p 1 v (first + wd) z 1 n)) from_zero s.unmoves) s.zeroed
 
 -- a list of void
 
@@ -196,7 +196,7 @@ void_stored S id at ns x = subst (λ m. ObjectStored S id at (Flat 0 ns) m []) (
 
 void_made : (S T B D P R Z Q : Segments) (id at : ℕ) (ns : List ℕ) (size : StructSize) (h : Room) → IsStored S id at (Flat 0 ns) → (s : ListSteps S T B D P R Z Q id at (void_rows S id at ns) size h) →
     IsRemade S T D P R Q id at (target S id at) 0 s.settled.0 h.segment h.at h.pads (1 + length ns * (size.data_words + size.pointers))
-    (rows_of_moves (target S id at).segment ((target S id at).start + 0 + 0) 0 h.segment (h.at + h.pads + 1 + size.data_words) (size.data_words + size.pointers) 0 (length ns))
+    (rows_moves (target S id at).segment ((target S id at).start + 0 + 0) 0 h.segment (h.at + h.pads + 1 + size.data_words) (size.data_words + size.pointers) 0 (length ns))
 void_made S T B D P R Z Q id at ns size h x s =
     let a = target S id at in
     let n = length ns in
@@ -210,7 +210,7 @@ void_made S T B D P R Z Q id at ns size h x s =
     let (grown, near) = s.room in
     let (b, settled, shaped, segment_of, start_of) = s.settled in
     let stored = void_stored S id at ns x in
-    let ms = rows_of_moves a.segment p 0 v (first + d) z 0 n in
+    let ms = rows_moves a.segment p 0 v (first + d) z 0 n in
     let rows = data_copied S T B D a.segment (a.start + 0) 0 0 n v h.at h.pads size grown s.tagged s.copied (omega (arith, stored.fits)) in
     let begun = list_begun S T D a.segment p 0 0 n d k v h.at h.pads (none_stand S a.segment p 0 v (first + d) z n) (omega arith) grown (s.copied.segments ∙ s.tagged.segments) (λ y. s.copied.words y ∙ s.tagged.words y)
     (list_written T B D a.segment (a.start + 0) 0 0 n v (h.at + h.pads) z size s.tagged s.copied) (λ i j l m o. rows.zero i j l (omega arith) o) in
@@ -232,7 +232,7 @@ void_become S T B D P R Z Q id at ns size h x s =
     let (grown, near) = s.room in
     let (b, settled, shaped, segment_of, start_of) = s.settled in
     let stored = void_stored S id at ns x in
-    let ms = rows_of_moves a.segment p 0 v (first + d) z 0 n in
+    let ms = rows_moves a.segment p 0 v (first + d) z 0 n in
     let rows = data_copied S T B D a.segment (a.start + 0) 0 0 n v h.at h.pads size grown s.tagged s.copied (omega (arith, stored.fits)) in
     let tag = tag_copied T B D a.segment (a.start + 0) 0 0 n v (h.at + h.pads) z size s.tagged s.copied in
     let made = void_made S T B D P R Z Q id at ns size h x s in
@@ -261,7 +261,7 @@ void_anew s b d p r z q T id at ns size h x steps t =
     let n = length ns in
     let wide = size.data_words + size.pointers in
     let from = a.start + 0 + 0 in
-    let moves : Start → List Move = λ y. rows_of_moves a.segment from 0 y.segment (y.at + 1 + size.data_words) wide 0 n in
+    let moves : Start → List Move = λ y. rows_moves a.segment from 0 y.segment (y.at + 1 + size.data_words) wide 0 n in
     let y = start_of (target q.words id at) in
     let made = void_made s.words T b.words d.words p.words r.words z.words q.words id at ns size h x steps in
     subst (λ ms. StandsAnew (call_at id at s q) (1 + element_count (zero_elements size.data_words size.pointers n) * wide) ms) (no_moves a.segment from 0 y.segment (y.at + 1 + size.data_words) wide n)
@@ -281,4 +281,4 @@ void_left S T B D P U Z id at ns size h x s =
     let rows = data_copied S T B D a.segment (a.start + 0) 0 0 n v h.at h.pads size grown s.tagged s.copied (omega (arith, stored.fits)) in
     let begun = list_begun S T D a.segment p 0 0 n size.data_words size.pointers v h.at h.pads (none_stand S a.segment p 0 v (first + size.data_words) z n) (omega arith) grown (s.copied.segments ∙ s.tagged.segments) (λ y. s.copied.words y ∙ s.tagged.words y)
     (list_written T B D a.segment (a.start + 0) 0 0 n v (h.at + h.pads) z size s.tagged s.copied) (λ i j l m o. rows.zero i j l (omega arith) o) in
-    undone S T D P U Z v h.at h.pads (1 + n * z) (rows_of_moves a.segment p 0 v (first + size.data_words) z 0 n) begun s.some s.unmoves s.zeroed
+    undone S T D P U Z v h.at h.pads (1 + n * z) (rows_moves a.segment p 0 v (first + size.data_words) z 0 n) begun s.some s.unmoves s.zeroed

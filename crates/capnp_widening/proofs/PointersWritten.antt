@@ -12,12 +12,11 @@ use Rattle.capnp_making.specs.declared.making.Shape.{Shape}
 use Rattle.capnp_making.specs.declared.making.Shape.TheVariants.{Struct as StructShape, List as ListShape}
 use Rattle.capnp_making.proofs.Memory.{keeps_itself, words_in}
 use Rattle.capnp_making.proofs.MadeWords.{word_put}
-use Rattle.capnp_widening.specs.Moved.{a_move}
 use Rattle.capnp_widening.specs.Anew.{IsWrittenAnew, pad_words, OnlyWrites, WritesAnew}
 use Rattle.capnp_widening.proofs.Single.{same_shape}
 use Rattle.capnp_widening.proofs.TakingWords.{put_writes}
 use Rattle.capnp_widening.proofs.WrittenAnew.{keeps_writes, takes_none, taken_after, writes_nothing, writes_one}
-use Rattle.capnp_widening.proofs.Statements.{WritesPointer}
+use Rattle.capnp_widening.proofs.Statements.{WritesPointer, a_move}
 
 -- the words of its landing pad
 

@@ -12,13 +12,14 @@ use Rattle.capnp_making.proofs.BelowElements.{element_within, next_place}
 use Rattle.capnp_making.proofs.MadeWords.{outside}
 use Rattle.capnp_making.proofs.Zeros.{in_row, of_row}
 use Rattle.capnp_widening.specs.Housed.{AreWordsCopied}
-use Rattle.capnp_widening.specs.RowsRemade.{AreRowsCopied, IsTagWritten}
+use Rattle.capnp_widening.specs.RowsRemade.{IsTagWritten}
 use Rattle.capnp_widening.proofs.ListRemade.{RowsCopied}
+use Rattle.capnp_widening.proofs.Statements.{CopiedRows}
 
-pub no_words_copied : (S : Segments) (s p w v r z n : ℕ) → AreRowsCopied S S s p w v r z 0 n
+pub no_words_copied : (S : Segments) (s p w v r z n : ℕ) → CopiedRows S S s p w v r z 0 n
 no_words_copied S s p w v r z n = record { segments = refl; words = λ x. refl; here = λ i j l m. absurd (omega arith); behind = λ i j l m o. refl; kept = λ x y e. refl }
 
-pub no_rows_copied : (S : Segments) (s p w v r z d : ℕ) → AreRowsCopied S S s p w v r z d 0
+pub no_rows_copied : (S : Segments) (s p w v r z d : ℕ) → CopiedRows S S s p w v r z d 0
 no_rows_copied S s p w v r z d = record { segments = refl; words = λ x. refl; here = λ i j l m. absurd (omega arith); behind = λ i j l m o. refl; kept = λ x y e. refl }
 
 -- beside n words from a place on
@@ -29,8 +30,8 @@ beside_row v r n x y h = elim (cases_eq (times (row v r n ∷ []) x y) 0) [
 ]
 
 -- one row more, where the old rows lie before the new ones
-pub rows_copied_next : (S M R : Segments) (s p w v r z d i n : ℕ) → AreRowsCopied S M s p w v r z d i → (s ≡ v → p + n * w ≤ r) → d ≤ w → d ≤ z → i < n → AreWordsCopied M R (record { segment = s; at = (p + i * w) }) (record { segment = v; at = (r + i * z) }) d →
-    AreRowsCopied S R s p w v r z d (i + 1)
+pub rows_copied_next : (S M R : Segments) (s p w v r z d i n : ℕ) → CopiedRows S M s p w v r z d i → (s ≡ v → p + n * w ≤ r) → d ≤ w → d ≤ z → i < n → AreWordsCopied M R (record { segment = s; at = (p + i * w) }) (record { segment = v; at = (r + i * z) }) d →
+    CopiedRows S R s p w v r z d (i + 1)
 rows_copied_next S M R s p w v r z d i n b apart narrow narrower l c =
     record {
       segments = c.segments ∙ b.segments;
@@ -58,7 +59,7 @@ rows_copied_next S M R s p w v r z d i n b apart narrow narrower l c =
 
 -- what stands in new words behind a tag: copies of rows of S, and zeros
 pub data_copied : (S T B D : Segments) (s p d k n v at pads : ℕ) (size : StructSize) → IsGrown S T v at (pads + (1 + n * (size.data_words + size.pointers))) → IsTagWritten T B (record { segment = v; at = (at + pads) }) n size →
-    AreRowsCopied B D s p (d + k) v (at + pads + 1) (size.data_words + size.pointers) d n → p + n * (d + k) ≤ length (segment S s) → RowsCopied S D d k n s p v (at + pads + 1) size.data_words size.pointers
+    CopiedRows B D s p (d + k) v (at + pads + 1) (size.data_words + size.pointers) d n → p + n * (d + k) ≤ length (segment S s) → RowsCopied S D d k n s p v (at + pads + 1) size.data_words size.pointers
 data_copied S T B D s p d k n v at pads size g t c fits =
     let z = size.data_words + size.pointers in
     record {
@@ -70,10 +71,10 @@ data_copied S T B D s p d k n v at pads size g t c fits =
           ∙ g.zero v (at + pads + 1 + i * z + j) (omega (arith, g.behind));
     }
 
-pub tag_copied : (T B D : Segments) (s p w d n v at z : ℕ) (size : StructSize) → IsTagWritten T B (record { segment = v; at = at }) n size → AreRowsCopied B D s p w v (at + 1) z d n → IsTag (word_at D v at) n size.data_words size.pointers
+pub tag_copied : (T B D : Segments) (s p w d n v at z : ℕ) (size : StructSize) → IsTagWritten T B (record { segment = v; at = at }) n size → CopiedRows B D s p w v (at + 1) z d n → IsTag (word_at D v at) n size.data_words size.pointers
 tag_copied T B D s p w d n v at z size t c =
     subst (λ x. IsTag x n size.data_words size.pointers) (sym (c.kept v at (beside_row v (at + 1) (n * z) v at (λ e f g. omega arith)))) t.tag
 
-pub list_written : (T B D : Segments) (s p w d n v at z : ℕ) (size : StructSize) → IsTagWritten T B (record { segment = v; at = at }) n size → AreRowsCopied B D s p w v (at + 1) z d n →
+pub list_written : (T B D : Segments) (s p w d n v at z : ℕ) (size : StructSize) → IsTagWritten T B (record { segment = v; at = at }) n size → CopiedRows B D s p w v (at + 1) z d n →
     (x y : ℕ) → times (row v at (1 + n * z) ∷ []) x y ≡ 0 → word_at D x y ≡ word_at T x y
 list_written T B D s p w d n v at z size t c x y e = c.kept x y (omega (arith, e, split_row v at 1 (n * z) x y)) ∙ t.kept x y (omega (arith, e, split_row v at 1 (n * z) x y))

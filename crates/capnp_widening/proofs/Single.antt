@@ -19,12 +19,12 @@ use Rattle.capnp_making.specs.declared.making.Start.{Start}
 use Rattle.capnp_making.proofs.Extents.{once_held, times-first}
 use Rattle.capnp_making.proofs.MadeWords.{word_put, not_far}
 use Rattle.capnp_widening.proofs.Basics.{is_far, once_row}
-use Rattle.capnp_widening.specs.Moved.{SameObject, IsMoved, HasValueInside, a_move, fresh_pads, CanMove, AreMoved}
+use Rattle.capnp_widening.specs.Moved.{SameObject, IsMoved, HasValueInside, fresh_pads, CanMove, AreMoved}
 use Rattle.capnp_widening.specs.Pointed.{PointsTo}
 use Rattle.capnp_widening.proofs.SameObjects.{near_leads, near_found}
 use Rattle.capnp_widening.proofs.Moves.{moved_far, moved_capability}
 use Rattle.capnp_widening.proofs.NewObjects.{own_pads}
-use Rattle.capnp_widening.proofs.Statements.{Extends, IsPointed, points_at}
+use Rattle.capnp_widening.proofs.Statements.{Extends, IsPointed, points_at, a_move}
 
 -- what stands in B stands in what extends it
 pub stands_later : (B R : Segments) (s p : ℕ) → Extends B R → HasValueInside B s p → (t : Tree) × (n : ℕ) × (c : ℕ) × Means R n s p t c × (word_at R s p ≡ word_at B s p)

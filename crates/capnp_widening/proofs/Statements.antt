@@ -1,12 +1,14 @@
 -- What lemmas take of calls and of moved pointers, by name: parts of what contracts say.
 use Rattle.std.specs.List.{AllByRecursion}
-use Rattle.std.proofs.Common.{◌≡◌, ◌≢◌, ◌⊎◌, ℕ, ◌+◌, ◌*◌, ◌<◌, ◌≤◌, ◌%◌, ◌^◌, true, Option, Ok, IfSome, List, [], ◌∷◌, map, length}
+use Rattle.std.proofs.Common.{◌≡◌, ◌≢◌, ◌⊎◌, ℕ, ◌+◌, ◌*◌, ◌<◌, ◌≤◌, ◌%◌, ◌^◌, true, Option, Ok, List, [], ◌∷◌, map, length}
+use Rattle.capnp_format.specs.Numbers.{element_bits}
+use Rattle.capnp_words.specs.Sizes.{size_number}
+use Rattle.capnp_making.specs.Fields.{field_in}
 use Rattle.capnp_format.specs.Word.{kind, upper_half}
 use Rattle.capnp_format.specs.Segments.{Segments, Grows, segment, word_at, Target}
 use Rattle.capnp_format.specs.Tree.{Tree, Null, Struct, Trees, count}
 use Rattle.capnp_format.specs.Means.{Leads}
 use Rattle.capnp_format.specs.Forest.{Interval, times, pads_of, target}
-use Rattle.capnp_words.specs.declared.wire_pointer.ElementSize.TheVariants.{Void}
 use Rattle.capnp_words.specs.declared.wire_pointer.StructSize.{StructSize}
 use Rattle.capnp_arena_traits.specs.View.{view_of}
 use Rattle.capnp_making.specs.Made.{IsShape}
@@ -17,17 +19,18 @@ use Rattle.capnp_making.specs.Stored.{IsStored, IsReplaced}
 use Rattle.capnp_making.specs.Zeroed.{row}
 use Rattle.capnp_making.specs.declared.making.Shape.{Shape}
 use Rattle.capnp_making.specs.declared.making.Start.{Start}
-use Rattle.capnp_contents.specs.Existing.{StructLiesIn, list_in}
+use Rattle.capnp_contents.specs.Existing.{StructLiesIn}
 use Rattle.capnp_contents.specs.declared.existing.ExistingList.{ExistingList}
 use Rattle.capnp_contents.specs.declared.existing.ExistingStruct.{ExistingStruct}
 use Rattle.capnp_widening.specs.declared.widening.Room.{Room}
 use Rattle.capnp_widening.specs.Anew.{BecomesAnew, IsWrittenAnew, pad_words}
 use Rattle.capnp_widening.specs.Housed.{Settles}
-use Rattle.capnp_widening.specs.Moved.{Move, HasValueInside, IsMoved}
+use Rattle.capnp_widening.specs.declared.moving.PointerRows.{PointerRows}
+use Rattle.capnp_widening.specs.Moved.{Move, HasValueInside, IsMoved, row_of_moves, rows_of_moves}
 use Rattle.capnp_widening.specs.Opening.{LeadsToAll}
 use Rattle.capnp_widening.specs.Pointed.{PointsTo}
 use Rattle.capnp_widening.specs.Rooms.{GrowsByAtMost, direct_pointers, widened_words}
-use Rattle.capnp_widening.specs.RowsRemade.{BecomesList, as_structs}
+use Rattle.capnp_widening.specs.RowsRemade.{AreNumbersCopied, AreRowsCopied, BecomesList, as_structs}
 use Rattle.capnp_widening.specs.Widened.{HasSections, list_widened, widened}
 
 -- a call of which the words alone matter
@@ -155,10 +158,38 @@ pub record Extends (B R : Segments) : Type 0 where
   pub kept : (x y : ℕ) → y < length (segment B x) → word_at R x y ≡ word_at B x y
 
 abbrev pub old_places : List Move → List Interval
-old_places ms = map (λ (m : Move). word_interval m.segment m.at) ms
+old_places ms = map (λ (m : Move). word_interval m.from.segment m.from.at) ms
 
 abbrev pub HaveValuesInside : Segments → List Move → Type 0
-HaveValuesInside B ms = AllByRecursion (λ (m : Move). HasValueInside B m.segment m.at) ms
+HaveValuesInside B ms = AllByRecursion (λ (m : Move). HasValueInside B m.from.segment m.from.at) ms
 
 abbrev pub AllMoved : Segments → List Move → Type 0
-AllMoved R ms = AllByRecursion (λ (m : Move). IsMoved R m.segment m.at m.to_segment m.to_at) ms
+AllMoved R ms = AllByRecursion (λ (m : Move). IsMoved R m.from.segment m.from.at m.to.segment m.to.at) ms
+
+-- the same by their numbers
+
+abbrev pub a_move : ℕ → ℕ → ℕ → ℕ → Move
+a_move s p v r = record { from = record { segment = s; at = p }; to = record { segment = v; at = r } }
+
+abbrev pub row_moves : ℕ → ℕ → ℕ → ℕ → ℕ → List Move
+row_moves s p v r k = row_of_moves (record { segment = s; at = p }) (record { segment = v; at = r }) k
+
+abbrev pub rows_moves : ℕ → ℕ → ℕ → ℕ → ℕ → ℕ → ℕ → ℕ → List Move
+rows_moves s p w v r z k n = rows_of_moves (record { segment = s; at = p; step = w }) (record { segment = v; at = r; step = z }) k n
+
+abbrev pub CopiedRows : Segments → Segments → ℕ → ℕ → ℕ → ℕ → ℕ → ℕ → ℕ → ℕ → Type 0
+CopiedRows S R s p w v r z d n = AreRowsCopied S R (record { segment = s; at = p; step = w }) (record { segment = v; at = r; step = z }) d n
+
+-- numbers copied, of which so many are
+pub record CopiedNumbers (S R : Segments) (s p width v r z n : ℕ) : Type 0 where
+  pub segments : length R ≡ length S
+  pub words : (x : ℕ) → length (segment R x) ≡ length (segment S x)
+  pub here : (i : ℕ) → i < n → word_at R v (r + i * z) ≡ field_in (segment S s) (64 * p + width * i) width
+  pub behind : (i j : ℕ) → i < n → 0 < j → j < z → word_at R v (r + i * z + j) ≡ word_at S v (r + i * z + j)
+  pub kept : (x y : ℕ) → times (row v r (n * z) ∷ []) x y ≡ 0 → word_at R x y ≡ word_at S x y
+
+pub copied_numbers : {S R : Segments} {l : ExistingList} {to : PointerRows} → AreNumbersCopied S R l to → CopiedNumbers S R l.segment l.start (element_bits (size_number l.size)) to.segment to.at to.step l.count
+copied_numbers c = record { segments = c.segments; words = c.words; here = c.here; behind = c.behind; kept = c.kept }
+
+pub numbers_copied : (S R : Segments) (l : ExistingList) (to : PointerRows) → CopiedNumbers S R l.segment l.start (element_bits (size_number l.size)) to.segment to.at to.step l.count → AreNumbersCopied S R l to
+numbers_copied S R l to c = record { segments = c.segments; words = c.words; here = c.here; behind = c.behind; kept = c.kept }

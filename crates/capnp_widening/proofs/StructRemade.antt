@@ -15,14 +15,14 @@ use Rattle.capnp_making.proofs.Extents.{times-first, times-object}
 use Rattle.capnp_widening.proofs.Basics.{once_row}
 use Rattle.capnp_making.proofs.Below.{split_row}
 use Rattle.capnp_making.proofs.Zeros.{in_row}
-use Rattle.capnp_widening.specs.Moved.{IsMoved, row_of_moves, new_places, fresh_pads}
+use Rattle.capnp_widening.specs.Moved.{IsMoved, new_places, fresh_pads}
 use Rattle.capnp_widening.specs.Housed.{AreWordsCopied}
 use Rattle.capnp_widening.specs.Widened.{fill_words, fill_trees}
 use Rattle.capnp_widening.proofs.Movings.{children_stand, row_moved, row_old_pads, row_new_pads, row_new_places, same_old, same_new}
 use Rattle.capnp_widening.proofs.Remade.{IsBegun, IsRemade, before_last, is_rehoused, all_moved, moves_same, object_word, leads_last}
 use Rattle.capnp_widening.proofs.Widenings.{struct_widened, length-fill_words, count-fill_trees}
 use Rattle.capnp_widening.proofs.NewObjects.{IsRehoused, pads_from, old_pads, new_pads}
-use Rattle.capnp_widening.proofs.Statements.{HaveValuesInside}
+use Rattle.capnp_widening.proofs.Statements.{HaveValuesInside, row_moves}
 
 -- words, one by one
 
@@ -56,7 +56,7 @@ pub record StructParts (S : Segments) (u q : ℕ) (ws : List ℕ) (ts : Trees) (
   pub leads_to : Leads S u q a
   pub words : HasWords S a.segment a.start ws
   pub fits : a.start + (length ws + count ts) ≤ length (segment S a.segment)
-  pub stand : (v r : ℕ) → HaveValuesInside S (row_of_moves a.segment (a.start + length ws) v r (count ts))
+  pub stand : (v r : ℕ) → HaveValuesInside S (row_moves a.segment (a.start + length ws) v r (count ts))
 
 pub struct_parts : (S : Segments) (u q : ℕ) (ws : List ℕ) (ts : Trees) → IsStored S u q (Struct ws ts) → StructParts S u q ws ts (target S u q)
 struct_parts S u q ws ts x = at_level x.means.0 x.means.1 x.means.2
@@ -83,11 +83,11 @@ struct_parts S u q ws ts x = at_level x.means.0 x.means.1 x.means.2
 -- words are taken, and the data section is copied into them
 pub struct_begun : (S T D : Segments) (u q : ℕ) (ws : List ℕ) (ts : Trees) (d k v at pads : ℕ) → IsStored S u q (Struct ws ts) → length ws ≤ d → count ts ≤ k → IsGrown S T v at (pads + (d + k)) →
     AreWordsCopied T D (record { segment = (target S u q).segment; at = (target S u q).start }) (record { segment = v; at = (at + pads) }) (length ws) →
-    IsBegun S T D v at pads (d + k) (row_of_moves (target S u q).segment ((target S u q).start + length ws) v (at + pads + d) (count ts))
+    IsBegun S T D v at pads (d + k) (row_moves (target S u q).segment ((target S u q).start + length ws) v (at + pads + d) (count ts))
 struct_begun S T D u q ws ts d k v at pads x ld lk g c =
     let a = target S u q in
     let parts = struct_parts S u q ws ts x in
-    let ms = row_of_moves a.segment (a.start + length ws) v (at + pads + d) (count ts) in
+    let ms = row_moves a.segment (a.start + length ws) v (at + pads + d) (count ts) in
     let places = row_new_places a.segment (a.start + length ws) v (at + pads + d) (count ts) in
     let object = λ (y z : ℕ). split_row v (at + pads) d k y z in
     let pointers = λ (y z : ℕ). split_row v (at + pads + d) (count ts) (k - count ts) y z in
@@ -128,14 +128,14 @@ struct_begun S T D u q ws ts d k v at pads x ld lk g c =
 -- and then its place means it filled up
 pub struct_remade : (S T D P R Q : Segments) (u q : ℕ) (ws : List ℕ) (ts : Trees) (d k : ℕ) (b : Target) (v at pads : ℕ) → IsStored S u q (Struct ws ts) → length ws ≤ d → count ts ≤ k →
     AreWordsCopied T D (record { segment = (target S u q).segment; at = (target S u q).start }) (record { segment = v; at = (at + pads) }) (length ws) →
-    IsRemade S T D P R Q u q (target S u q) (length ws + count ts) b v at pads (d + k) (row_of_moves (target S u q).segment ((target S u q).start + length ws) v (at + pads + d) (count ts)) →
+    IsRemade S T D P R Q u q (target S u q) (length ws + count ts) b v at pads (d + k) (row_moves (target S u q).segment ((target S u q).start + length ws) v (at + pads + d) (count ts)) →
     kind b.word ≡ 0 → data_words b.word ≡ d → pointer_count b.word ≡ k → IsReplaced S Q u q (Struct ws ts) (Struct (fill_words d ws) (fill_trees k ts))
 struct_remade S T D P R Q u q ws ts d k b v at pads x ld lk c h is_struct is_d is_k =
     let a = target S u q in
     let n = count ts in
     let from = a.start + length ws in
     let to = at + pads + d in
-    let ms = row_of_moves a.segment from v to n in
+    let ms = row_moves a.segment from v to n in
     let size = length ws + n in
     let M = before_last S T D P R Q u q a size b v at pads (d + k) ms h in
     let vs = fill_words d ws in
@@ -179,7 +179,7 @@ struct_remade S T D P R Q u q ws ts d k b v at pads x ld lk c h is_struct is_d i
       | inr e ↦ (let j = in_row v (at + pads + d) (count ts) v (at + pads + i) (omega arith) in elim o [ inl l ↦ absurd (omega (arith, j.1, j.2)) | inr l ↦ absurd (omega (arith, j.1, j.2)) ])
     ]
 
-    no_place : (i : ℕ) → (i < d) ⊎ (d + count ts ≤ i) → times (new_places (row_of_moves (target S u q).segment ((target S u q).start + length ws) v (at + pads + d) (count ts))) v (at + pads + i) ≡ 0
+    no_place : (i : ℕ) → (i < d) ⊎ (d + count ts ≤ i) → times (new_places (row_moves (target S u q).segment ((target S u q).start + length ws) v (at + pads + d) (count ts))) v (at + pads + i) ≡ 0
     no_place i o = row_new_places (target S u q).segment ((target S u q).start + length ws) v (at + pads + d) (count ts) v (at + pads + i) ∙ beside i o
 
     past : (i : ℕ) → length ws ≤ i → times (row v (at + pads) (length ws) ∷ []) v (at + pads + i) ≡ 0

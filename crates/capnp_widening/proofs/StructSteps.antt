@@ -22,20 +22,20 @@ use Rattle.capnp_making.proofs.Below.{pads_inside}
 use Rattle.capnp_making.proofs.Extents.{times-first, once_held}
 use Rattle.capnp_making.proofs.Zeros.{zeroed_again}
 use Rattle.capnp_widening.specs.declared.widening.Room.{Room}
-use Rattle.capnp_widening.specs.Moved.{Move, Moves, MovesSome, Unmoves, row_of_moves}
+use Rattle.capnp_widening.specs.Moved.{Move, Moves, MovesSome, Unmoves}
 use Rattle.capnp_widening.specs.Anew.{BecomesAnew, OnlyWrites, StandsAnew, WritesAnew}
 use Rattle.capnp_widening.specs.Housed.{IsRoom, AreWordsCopied, object_start}
 use Rattle.capnp_widening.specs.Widened.{fill_words, fill_trees, GrowsByZeros, IsStruct, LeavesAll, widened}
 use Rattle.capnp_widening.proofs.Remade.{IsRemade, leads_last, object_anew, undone}
 use Rattle.capnp_widening.proofs.StructRemade.{struct_parts, struct_begun, struct_remade}
 use Rattle.capnp_widening.proofs.Widenings.{length-fill_words, count-fill_trees}
-use Rattle.capnp_widening.proofs.Statements.{WidensStructAnew, SettlesRoom, LeadsToWiderStruct, WidensStruct, rewriting}
+use Rattle.capnp_widening.proofs.Statements.{WidensStructAnew, SettlesRoom, LeadsToWiderStruct, WidensStruct, rewriting, row_moves}
 
 pub record StructSteps (S T D P R Z Q : Segments) (id at : ℕ) (old : ExistingStruct) (size : StructSize) (h : Room) : Type 0 where
   pub place : IsPlace S id at
   pub room : IsRoom S T id (size.data_words + size.pointers) h
   pub copied : AreWordsCopied T D (record { segment = old.segment; at = old.start }) (record { segment = h.segment; at = (h.at + h.pads) }) old.size.data_words
-  pub moves : Moves D P (row_of_moves old.segment (old.start + old.size.data_words) h.segment (h.at + h.pads + size.data_words) old.size.pointers)
+  pub moves : Moves D P (row_moves old.segment (old.start + old.size.data_words) h.segment (h.at + h.pads + size.data_words) old.size.pointers)
   pub settled : SettlesRoom (rewriting id at P R) h (StructShape size)
   pub object_zeroed : old.start + (old.size.data_words + old.size.pointers) ≤ length (segment R old.segment) → IsZeroed R Z (row old.segment old.start (old.size.data_words + old.size.pointers) ∷ [])
   pub pads_zeroed : PadsInside Z (word_at S id at) → IsZeroed Z Q (pads_of (word_at S id at))
@@ -61,7 +61,7 @@ record RemadeBy (S T D P R Z Q : Segments) (id at : ℕ) (size : StructSize) (h 
   shaped : IsShape (StructShape size) object.word
   made :
       IsRemade S T D P R Q id at (target S id at) (length ws + count ts) object h.segment h.at h.pads (size.data_words + size.pointers)
-      (row_of_moves (target S id at).segment ((target S id at).start + length ws) h.segment (h.at + h.pads + size.data_words) (count ts))
+      (row_moves (target S id at).segment ((target S id at).start + length ws) h.segment (h.at + h.pads + size.data_words) (count ts))
   claim : h.at + h.pads + (size.data_words + size.pointers) ≤ length (segment Q h.segment)
 
 remade_by : (S T D P R Z Q : Segments) (id at : ℕ) (size : StructSize) (h : Room) (ws : List ℕ) (ts : Trees) → IsStored S id at (Struct ws ts) → StructSteps S T D P R Z Q id at (the_struct S id at ws ts) size h → RemadeBy S T D P R Z Q id at size h ws ts
@@ -109,7 +109,7 @@ is_widened S T D P R Z Q id at size h ws ts x s =
     let b = r.object in
     let (ld, lk) = s.wider in
     let leads_there = leads_last S T D P R Q id at a (length ws + count ts) b h.segment h.at h.pads (size.data_words + size.pointers)
-    (row_of_moves a.segment (a.start + length ws) h.segment (h.at + h.pads + size.data_words) (count ts)) r.made in
+    (row_moves a.segment (a.start + length ws) h.segment (h.at + h.pads + size.data_words) (count ts)) r.made in
     let goes : target Q id at ≡ b = ap target_in leads_there.1 in
     record {
       replaced = struct_remade S T D P R Q id at ws ts size.data_words size.pointers b h.segment h.at h.pads x ld lk s.copied r.made r.shaped.0 r.shaped.1 r.shaped.2;
@@ -124,7 +124,7 @@ pub record StructTaken (s t d p q : View) (id : ℕ) (old : ExistingStruct) (siz
   pub taken : TakesWords s t id (size.data_words + size.pointers)
   pub behind : StandsBehind s id (size.data_words + size.pointers) (object_start h)
   pub first : OnlyWrites t d
-  pub written : WritesAnew d p (row_of_moves old.segment (old.start + old.size.data_words) h.segment (h.at + h.pads + size.data_words) old.size.pointers)
+  pub written : WritesAnew d p (row_moves old.segment (old.start + old.size.data_words) h.segment (h.at + h.pads + size.data_words) old.size.pointers)
   pub last : OnlyWrites p q
 
 anew_at : (s t d p r z q : View) (id at : ℕ) (size : StructSize) (h : Room) (ws : List ℕ) (ts : Trees) → IsStored s.words id at (Struct ws ts) → StructSteps s.words t.words d.words p.words r.words z.words q.words id at (the_struct s.words id at ws ts) size h →
@@ -138,7 +138,7 @@ anew_at s t d p r z q id at size h ws ts x steps k =
     let full : count (fill_trees size.pointers ts) ≡ size.pointers = omega (arith, count-fill_trees size.pointers ts) in
     let words : n ≡ length (fill_words size.data_words ws) + count (fill_trees size.pointers ts) = omega (arith, long, full) in
     let b = start_of (target q.words id at) in
-    let moves : ℕ → Start → List Move = λ n x. row_of_moves a.segment (a.start + length ws) x.segment (x.at + n) (count ts) in
+    let moves : ℕ → Start → List Move = λ n x. row_moves a.segment (a.start + length ws) x.segment (x.at + n) (count ts) in
     let made = object_anew s t d p r q t.words id at a (length ws + count ts) m.object h.segment h.at h.pads n (moves size.data_words) m.made k.kept k.taken k.behind k.first k.written k.last in
     subst (λ i. StandsAnew (call_at id at s q) i (moves (length (fill_words size.data_words ws)) b)) words (subst (λ i. StandsAnew (call_at id at s q) n (moves i b)) (sym long) made)
 
@@ -162,8 +162,8 @@ struct_leads S T D P R Z Q id at old size h s = λ ws ts i.
 pub record StructUndone (S T D P U Z : Segments) (id : ℕ) (old : ExistingStruct) (size : StructSize) (h : Room) : Type 0 where
   pub room : IsRoom S T id (size.data_words + size.pointers) h
   pub copied : AreWordsCopied T D (record { segment = old.segment; at = old.start }) (record { segment = h.segment; at = (h.at + h.pads) }) old.size.data_words
-  pub some : MovesSome D P (row_of_moves old.segment (old.start + old.size.data_words) h.segment (h.at + h.pads + size.data_words) old.size.pointers)
-  pub unmoves : Unmoves P U (row_of_moves old.segment (old.start + old.size.data_words) h.segment (h.at + h.pads + size.data_words) old.size.pointers)
+  pub some : MovesSome D P (row_moves old.segment (old.start + old.size.data_words) h.segment (h.at + h.pads + size.data_words) old.size.pointers)
+  pub unmoves : Unmoves P U (row_moves old.segment (old.start + old.size.data_words) h.segment (h.at + h.pads + size.data_words) old.size.pointers)
   pub zeroed : h.at + h.pads + (size.data_words + size.pointers) ≤ length (segment U h.segment) → IsZeroed U Z (row h.segment (h.at + h.pads) (size.data_words + size.pointers) ∷ [])
   pub wider : (old.size.data_words ≤ size.data_words) × (old.size.pointers ≤ size.pointers)
 
@@ -176,7 +176,7 @@ struct_left S T D P U Z id at old size h s = λ t i. each t i.0 i.1
         let (grown, near) = s.room in
         let (ld, lk) = s.wider in
         let begun = struct_begun S T D id at ws ts size.data_words size.pointers h.segment h.at h.pads x ld lk grown s.copied in
-        undone S T D P U Z h.segment h.at h.pads (size.data_words + size.pointers) (row_of_moves a.segment (a.start + length ws) h.segment (h.at + h.pads + size.data_words) (count ts)) begun s.some s.unmoves s.zeroed
+        undone S T D P U Z h.segment h.at h.pads (size.data_words + size.pointers) (row_moves a.segment (a.start + length ws) h.segment (h.at + h.pads + size.data_words) (count ts)) begun s.some s.unmoves s.zeroed
 
     each : (t : Tree) → IsStored S id at t → struct_in (target S id at) t ≡ Some old → GrowsByZeros S Z
     each (Struct ws ts) x e = go ws ts x (subst (λ o. StructUndone S T D P U Z id o size h) (sym (same_struct (the_struct S id at ws ts) old e)) s)

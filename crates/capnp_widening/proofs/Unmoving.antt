@@ -8,10 +8,10 @@ use Rattle.capnp_making.specs.Zeroed.{IsZeroed, PadsInside}
 use Rattle.capnp_widening.proofs.Basics.{is_far}
 use Rattle.capnp_making.proofs.Zeros.{of_row, zeroed_again}
 use Rattle.capnp_making.proofs.Extents.{once_held}
-use Rattle.capnp_widening.specs.Moved.{Move, a_move, row_of_moves, new_places, fresh_pads, Unmoves}
+use Rattle.capnp_widening.specs.Moved.{Move, new_places, fresh_pads, Unmoves}
 use Rattle.capnp_widening.proofs.Movings.{SameMoves, same_fresh, fresh_pads-append, new_places-append, row_next}
 use Rattle.capnp_widening.proofs.NewObjects.{own_pads}
-use Rattle.capnp_widening.proofs.Statements.{old_places}
+use Rattle.capnp_widening.proofs.Statements.{old_places, a_move, row_moves}
 
 old_places-append : (ms ns : List Move) (x y : ℕ) → times (old_places (ms ++ ns)) x y ≡ times (old_places ms) x y + times (old_places ns) x y
 old_places-append [] ns x y = omega arith
@@ -21,8 +21,8 @@ old_places-append (m ∷ ms) ns x y = omega (arith, old_places-append ms ns x y)
 same_left : (S M : Segments) (ms : List Move) → ((x y : ℕ) → (0 < times (old_places ms) x y) ⊎ (0 < times (new_places ms) x y) → word_at M x y ≡ word_at S x y) → SameMoves S M ms
 same_left S M [] h = tt
 same_left S M (m ∷ ms) h = (
-  h m.segment m.at (inl (omega (arith, once_held m.segment m.at))),
-  h m.to_segment m.to_at (inr (omega (arith, once_held m.to_segment m.to_at))),
+  h m.from.segment m.from.at (inl (omega (arith, once_held m.from.segment m.from.at))),
+  h m.to.segment m.to.at (inr (omega (arith, once_held m.to.segment m.to.at))),
   same_left S M ms (λ x y e. elim e [ inl l ↦ h x y (inl (omega arith)) | inr l ↦ h x y (inr (omega arith)) ]),
 )
 
@@ -47,10 +47,10 @@ unmoves_both S M R ms ns f g = λ inside old_apart new_apart.
     (λ x y l. omega (arith, pads x y, all x y, new_apart x y (omega (arith, news x y)))) in
     zeroed_again S M R (fresh_pads S ms) (fresh_pads M ns) (fresh_pads S (ms ++ ns)) (λ x y. (λ l. omega (arith, all x y, pads x y), λ e. omega (arith, all x y, pads x y))) a b)
 
-pub unmoves_next : (S M R : Segments) (s p v r k : ℕ) → Unmoves S M (row_of_moves s p v r k) → Unmoves M R (a_move s (p + k) v (r + k) ∷ []) → Unmoves S R (row_of_moves s p v r (k + 1))
+pub unmoves_next : (S M R : Segments) (s p v r k : ℕ) → Unmoves S M (row_moves s p v r k) → Unmoves M R (a_move s (p + k) v (r + k) ∷ []) → Unmoves S R (row_moves s p v r (k + 1))
 unmoves_next S M R s p v r k f g =
-    subst (λ n. Unmoves S R (row_of_moves s p v r n)) (let e : suc k ≡ k + 1 = omega arith in e)
-    (subst (λ ms. Unmoves S R ms) (sym (row_next s p v r k)) (unmoves_both S M R (row_of_moves s p v r k) (a_move s (p + k) v (r + k) ∷ []) f g))
+    subst (λ n. Unmoves S R (row_moves s p v r n)) (let e : suc k ≡ k + 1 = omega arith in e)
+    (subst (λ ms. Unmoves S R ms) (sym (row_next s p v r k)) (unmoves_both S M R (row_moves s p v r k) (a_move s (p + k) v (r + k) ∷ []) f g))
 
 -- the pads of one pointer
 pub near_unmoved : (S R : Segments) (s p v r : ℕ) → kind (word_at S s p) ≢ 2 → (PadsInside S (word_at S v r) → IsZeroed S R (pads_of (word_at S v r))) → Unmoves S R (a_move s p v r ∷ [])

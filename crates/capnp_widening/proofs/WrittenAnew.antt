@@ -7,12 +7,12 @@ use Rattle.capnp_making.specs.Makes.{call_at}
 use Rattle.capnp_making.specs.Memory.{KeepsMemory, IsNextRoom, Lengthens, TakesWords}
 use Rattle.capnp_making.proofs.Extents.{once_held}
 use Rattle.capnp_making.proofs.Memory.{keeps_both}
-use Rattle.capnp_widening.specs.Moved.{Move, a_move, row_of_moves, rows_of_moves, new_places, Moves}
+use Rattle.capnp_widening.specs.Moved.{Move, new_places, Moves}
 use Rattle.capnp_widening.specs.Anew.{IsWrittenAnew, pad_words, OnlyWrites, AreWrittenAnew, TakesPadsInTurn, WritesAnew}
 use Rattle.capnp_widening.proofs.Movings.{can_left, can_right, new_places-append, row_next}
 use Rattle.capnp_widening.proofs.Rows.{rows_next}
 use Rattle.capnp_widening.proofs.Single.{place_there}
-use Rattle.capnp_widening.proofs.Statements.{WritesPointer}
+use Rattle.capnp_widening.proofs.Statements.{WritesPointer, a_move, row_moves, rows_moves}
 
 -- nothing is written, and one write after another
 
@@ -88,7 +88,7 @@ pads_before S a b c [] w x = writes_both a b c w x
 pads_before S a b c (m ∷ ms) w (next, kept, taken, rest) = (
   next,
   keeps_both a b next (omega (arith, w.segments)) (keeps_writes a b w) kept,
-  taken_before a b next m.segment (pad_words m.segment m.to_segment (word_at S m.segment m.at)) w taken,
+  taken_before a b next m.from.segment (pad_words m.from.segment m.to.segment (word_at S m.from.segment m.from.at)) w taken,
   rest,
 )
 
@@ -101,7 +101,7 @@ pads_both S a b c (m ∷ ms) ns (next, kept, taken, rest) y = (next, kept, taken
 pub written_later : (S M R : Segments) (ms : List Move) → ((x y : ℕ) → 0 < times (new_places ms) x y → word_at R x y ≡ word_at M x y) → AreWrittenAnew S M ms → AreWrittenAnew S R ms
 written_later S M R [] same h = tt
 written_later S M R (m ∷ ms) same (one, rest) = (
-  subst (IsWrittenAnew m.segment m.to_segment (word_at S m.segment m.at)) (sym (same m.to_segment m.to_at (omega (arith, once_held m.to_segment m.to_at)))) one,
+  subst (IsWrittenAnew m.from.segment m.to.segment (word_at S m.from.segment m.from.at)) (sym (same m.to.segment m.to.at (omega (arith, once_held m.to.segment m.to.at)))) one,
   written_later S M R ms (λ x y l. same x y (omega arith)) rest,
 )
 
@@ -137,14 +137,14 @@ writes_one a b s p v r kept w = λ S k.
 
 -- a row of pointers, and rows of them
 
-pub writes_next : (a b c : View) (s p v r k : ℕ) → Moves a.words b.words (row_of_moves s p v r k) → Moves b.words c.words (a_move s (p + k) v (r + k) ∷ []) → WritesAnew a b (row_of_moves s p v r k) →
-    WritesAnew b c (a_move s (p + k) v (r + k) ∷ []) → WritesAnew a c (row_of_moves s p v r (k + 1))
+pub writes_next : (a b c : View) (s p v r k : ℕ) → Moves a.words b.words (row_moves s p v r k) → Moves b.words c.words (a_move s (p + k) v (r + k) ∷ []) → WritesAnew a b (row_moves s p v r k) →
+    WritesAnew b c (a_move s (p + k) v (r + k) ∷ []) → WritesAnew a c (row_moves s p v r (k + 1))
 writes_next a b c s p v r k f g x y =
-    subst (λ n. WritesAnew a c (row_of_moves s p v r n)) (let e : suc k ≡ k + 1 = omega arith in e)
-    (subst (λ ms. WritesAnew a c ms) (sym (row_next s p v r k)) (writes_more a b c (row_of_moves s p v r k) (a_move s (p + k) v (r + k) ∷ []) f g x y))
+    subst (λ n. WritesAnew a c (row_moves s p v r n)) (let e : suc k ≡ k + 1 = omega arith in e)
+    (subst (λ ms. WritesAnew a c ms) (sym (row_next s p v r k)) (writes_more a b c (row_moves s p v r k) (a_move s (p + k) v (r + k) ∷ []) f g x y))
 
-pub rows_writes_next : (a b c : View) (s p w v r z k n : ℕ) → Moves a.words b.words (rows_of_moves s p w v r z k n) → Moves b.words c.words (row_of_moves s (p + n * w) v (r + n * z) k) → WritesAnew a b (rows_of_moves s p w v r z k n) →
-    WritesAnew b c (row_of_moves s (p + n * w) v (r + n * z) k) → WritesAnew a c (rows_of_moves s p w v r z k (n + 1))
+pub rows_writes_next : (a b c : View) (s p w v r z k n : ℕ) → Moves a.words b.words (rows_moves s p w v r z k n) → Moves b.words c.words (row_moves s (p + n * w) v (r + n * z) k) → WritesAnew a b (rows_moves s p w v r z k n) →
+    WritesAnew b c (row_moves s (p + n * w) v (r + n * z) k) → WritesAnew a c (rows_moves s p w v r z k (n + 1))
 rows_writes_next a b c s p w v r z k n f g x y =
-    subst (λ i. WritesAnew a c (rows_of_moves s p w v r z k i)) (let e : suc n ≡ n + 1 = omega arith in e)
-    (subst (λ ms. WritesAnew a c ms) (sym (rows_next s p w v r z k n)) (writes_more a b c (rows_of_moves s p w v r z k n) (row_of_moves s (p + n * w) v (r + n * z) k) f g x y))
+    subst (λ i. WritesAnew a c (rows_moves s p w v r z k i)) (let e : suc n ≡ n + 1 = omega arith in e)
+    (subst (λ ms. WritesAnew a c ms) (sym (rows_next s p w v r z k n)) (writes_more a b c (rows_moves s p w v r z k n) (row_moves s (p + n * w) v (r + n * z) k) f g x y))

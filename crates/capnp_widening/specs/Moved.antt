@@ -10,6 +10,7 @@ use Rattle.capnp_format.specs.Forest.{Interval, times, pads_of}
 use Rattle.capnp_making.specs.Path.{word_interval, extent}
 use Rattle.capnp_making.specs.Zeroed.{IsZeroed}
 use Rattle.capnp_making.specs.declared.making.Start.{Start}
+use Rattle.capnp_widening.specs.declared.moving.PointerRows.{PointerRows}
 
 -- Two targets are one object. It starts at one place, or has no words, being a struct of none or a
 -- capability.
@@ -28,32 +29,34 @@ IsMoved S s p v r = ((word_at S s p ≡ 0) × (word_at S v r ≡ 0)) ⊎
 
 -- A pointer that is written anew at another place.
 pub record Move : Type 0 where
-  pub segment : ℕ
-  pub at : ℕ
-  pub to_segment : ℕ
-  pub to_at : ℕ
-
-abbrev pub a_move : ℕ → ℕ → ℕ → ℕ → Move
-a_move s p v r = record { segment = s; at = p; to_segment = v; to_at = r }
+  pub from : Start
+  pub to : Start
 
 -- k pointers one behind the other, written anew one behind the other.
-abbrev pub row_of_moves : ℕ → ℕ → ℕ → ℕ → ℕ → List Move
-row_of_moves s p v r zero = []
-row_of_moves s p v r (suc k) = a_move s p v r ∷ row_of_moves s (p + 1) v (r + 1) k
+abbrev pub row_of_moves : Start → Start → ℕ → List Move
+row_of_moves from to zero = []
+row_of_moves from to (suc k) =
+    record { from = from; to = to }
+    ∷ row_of_moves (record from { at = from.at + 1 }) (record to { at = to.at + 1 }) k
 
--- Rows of k pointers, n of them, one every w words, written anew one every z words.
-abbrev pub rows_of_moves : ℕ → ℕ → ℕ → ℕ → ℕ → ℕ → ℕ → ℕ → List Move
-rows_of_moves s p w v r z k zero = []
-rows_of_moves s p w v r z k (suc n) = row_of_moves s p v r k ++ rows_of_moves s (p + w) w v (r + z) z k n
+-- n rows of k pointers, written anew in other rows.
+abbrev pub rows_of_moves : PointerRows → PointerRows → ℕ → ℕ → List Move
+rows_of_moves from to k zero = []
+rows_of_moves from to k (suc n) =
+    row_of_moves (record { segment = from.segment; at = from.at })
+    (record { segment = to.segment; at = to.at }) k
+    ++ rows_of_moves (record from { at = from.at + from.step }) (record to { at = to.at + to.step }) k n
 
 -- The pointers of an object t at a, as they go into the object at b that it becomes, which is u.
 abbrev pub moves_into : Start → Start → Tree → Tree → List Move
 moves_into a b (Struct ws ts) (Struct vs us) =
-    row_of_moves a.segment (a.at + length ws) b.segment (b.at + length vs) (count ts)
+    row_of_moves (record a { at = a.at + length ws }) (record b { at = b.at + length vs }) (count ts)
 moves_into a b (Pointers ts) (Structs d q es) =
-    rows_of_moves a.segment a.at 1 b.segment (b.at + 1 + d) (d + q) 1 (count ts)
+    rows_of_moves (record { segment = a.segment; at = a.at; step = 1 })
+    (record { segment = b.segment; at = b.at + 1 + d; step = d + q }) 1 (count ts)
 moves_into a b (Structs e k es) (Structs d q fs) =
-    rows_of_moves a.segment (a.at + 1 + e) (e + k) b.segment (b.at + 1 + d) (d + q) k (element_count es)
+    rows_of_moves (record { segment = a.segment; at = a.at + 1 + e; step = e + k })
+    (record { segment = b.segment; at = b.at + 1 + d; step = d + q }) k (element_count es)
 moves_into a b t u = []
 
 -- How many of the old pointers are near, null apart: in another segment each of these needs a
@@ -61,20 +64,20 @@ moves_into a b t u = []
 abbrev pub near_pointers : Segments → List Move → ℕ
 near_pointers S [] = 0
 near_pointers S (m ∷ ms) =
-    (if nat_eq (word_at S m.segment m.at) 0 then 0
-    else if nat_lt (kind (word_at S m.segment m.at)) 2 then 1 else 0) + near_pointers S ms
+    (if nat_eq (word_at S m.from.segment m.from.at) 0 then 0
+    else if nat_lt (kind (word_at S m.from.segment m.from.at)) 2 then 1 else 0) + near_pointers S ms
 
 -- The new places.
 abbrev pub new_places : List Move → List Interval
 new_places [] = []
-new_places (m ∷ ms) = word_interval m.to_segment m.to_at ∷ new_places ms
+new_places (m ∷ ms) = word_interval m.to.segment m.to.at ∷ new_places ms
 
 -- The landing pads that were written for the new pointers: a far pointer is copied as it is, and
 -- has none of its own.
 abbrev pub fresh_pads : Segments → List Move → List Interval
 fresh_pads R ms =
-    flat_map (λ m. if nat_eq (kind (word_at R m.segment m.at)) 2 then []
-    else pads_of (word_at R m.to_segment m.to_at)) ms
+    flat_map (λ m. if nat_eq (kind (word_at R m.from.segment m.from.at)) 2 then []
+    else pads_of (word_at R m.to.segment m.to.at)) ms
 
 -- The pointer at a place means a value, whose words lie in their segments.
 abbrev pub HasValueInside : Segments → ℕ → ℕ → Type 0
@@ -86,22 +89,23 @@ HasValueInside B s p = (t : Tree) × (n : ℕ) × (c : ℕ) × Means B n s p t c
 pub record CanMove (B S : Segments) (ms : List Move) : Type 0 where
   pub grows : Grows B S
   pub kept : (x y : ℕ) → y < length (segment B x) → word_at S x y ≡ word_at B x y
-  pub stand : AllByRecursion (λ (m : Move). HasValueInside B m.segment m.at) ms
+  pub stand : AllByRecursion (λ (m : Move). HasValueInside B m.from.segment m.from.at) ms
   pub behind : (x y : ℕ) → 0 < times (new_places ms) x y → (length (segment B x) ≤ y) ×
       (y < length (segment S x)) × (word_at S x y ≡ 0)
   pub once : (x y : ℕ) → times (new_places ms) x y ≤ 1
 
 -- From S to R the new pointers are written, each to what the old one leads to, and their own landing
--- pads into new words, each once; nothing else is written. The pads of the new pointers are these and those of the old ones.
+-- pads into new words, each once; nothing else is written. The pads of the new pointers are these
+-- and those of the old ones.
 pub record AreMoved (S R : Segments) (ms : List Move) : Type 0 where
   pub grows : Grows S R
-  pub moved : AllByRecursion (λ (m : Move). IsMoved R m.segment m.at m.to_segment m.to_at) ms
+  pub moved : AllByRecursion (λ (m : Move). IsMoved R m.from.segment m.from.at m.to.segment m.to.at) ms
   pub kept : (x y : ℕ) → times (new_places ms) x y ≡ 0 → y < length (segment S x) →
       word_at R x y ≡ word_at S x y
   pub sums :
-      (x y : ℕ) → times (flat_map (λ (m : Move). pads_of (word_at R m.to_segment m.to_at)) ms) x y
+      (x y : ℕ) → times (flat_map (λ (m : Move). pads_of (word_at R m.to.segment m.to.at)) ms) x y
       ≡ times (fresh_pads R ms) x y + times
-      (flat_map (λ (m : Move). pads_of (word_at R m.segment m.at)) ms) x y
+      (flat_map (λ (m : Move). pads_of (word_at R m.from.segment m.from.at)) ms) x y
   pub fresh : (x y : ℕ) → 0 < times (fresh_pads R ms) x y → (length (segment S x) ≤ y) ×
       (y < length (segment R x))
   pub once : (x y : ℕ) → times (fresh_pads R ms) x y ≤ 1
@@ -123,7 +127,7 @@ pub record MovesSome (S R : Segments) (ms : List Move) : Type 0 where
 abbrev pub Unmoves : Segments → Segments → List Move → Type 0
 Unmoves S R ms =
     ((x y : ℕ) → 0 < times (fresh_pads S ms) x y → y < length (segment S x))
-    → ((x y : ℕ) → 0 < times (map (λ (m : Move). word_interval m.segment m.at) ms) x y →
+    → ((x y : ℕ) → 0 < times (map (λ (m : Move). word_interval m.from.segment m.from.at) ms) x y →
     times (fresh_pads S ms) x y ≡ 0)
     → ((x y : ℕ) → 0 < times (new_places ms) x y → times (fresh_pads S ms) x y ≡ 0)
     → IsZeroed S R (fresh_pads S ms)

@@ -4,7 +4,7 @@ use Rattle.std.specs.Prelude.{IfErr, IfOk, IsOk, Ok, Err, List, OnErr, OnOk, Res
 use Rattle.capnp_words.specs.Sizes.{size_number}
 use Rattle.capnp_words.specs.declared.error.ErrorKind.{ErrorKind}
 use Rattle.capnp_arena_traits.specs.View.{View}
-use Rattle.capnp_format.specs.Numbers.{words_for}
+use Rattle.capnp_format.specs.Numbers.{element_bits, words_for}
 use Rattle.capnp_format.specs.Segments.{Segments, segment, word_at, Target}
 use Rattle.capnp_format.specs.Tree.{Tree, Null, Flat, Pointers, Structs, count, element_count}
 use Rattle.capnp_format.specs.Means.{IsTag}
@@ -21,6 +21,7 @@ use Rattle.capnp_making.specs.Memory.{KeepsMemory, SpendsMemory}
 use Rattle.capnp_making.specs.Path.{word_interval}
 use Rattle.capnp_making.specs.Stored.{IsStored, IsReplaced}
 use Rattle.capnp_making.specs.Zeroed.{row}
+use Rattle.capnp_widening.specs.declared.moving.PointerRows.{PointerRows}
 use Rattle.capnp_widening.specs.declared.remaking.ElementRows.{ElementRows}
 use Rattle.capnp_widening.specs.Anew.{BecomesAnew, OnlyWrites, WritesAnew}
 use Rattle.capnp_widening.specs.Moved.{Move, Moves, rows_of_moves}
@@ -30,21 +31,24 @@ use Rattle.capnp_widening.specs.Widened.{HasSections, LeavesAll, fill_elements, 
 use Rattle.capnp_widening.specs.Widened.{struct_for_each_tree, limited, list_widened}
 
 -- From S to R the first d words of each of n rows are copied over those of other rows, and nothing
--- else is written. The old rows start every w words from (s, p) on, and the new ones, of z words
--- each, from (v, r) on.
-pub record AreRowsCopied (S R : Segments) (s p w v r z d n : ℕ) : Type 0 where
+-- else is written.
+pub record AreRowsCopied (S R : Segments) (from to : PointerRows) (d n : ℕ) : Type 0 where
   pub segments : length R ≡ length S
   pub words : (x : ℕ) → length (segment R x) ≡ length (segment S x)
-  pub here : (i j : ℕ) → i < n → j < d → word_at R v (r + i * z + j) ≡ word_at S s (p + i * w + j)
-  pub behind : (i j : ℕ) → i < n → d ≤ j → j < z → word_at R v (r + i * z + j) ≡ word_at S v (r + i * z + j)
-  pub kept : (x y : ℕ) → times (row v r (n * z) ∷ []) x y ≡ 0 → word_at R x y ≡ word_at S x y
+  pub here : (i j : ℕ) → i < n → j < d →
+      word_at R to.segment (to.at + i * to.step + j) ≡ word_at S from.segment (from.at + i * from.step + j)
+  pub behind : (i j : ℕ) → i < n → d ≤ j → j < to.step →
+      word_at R to.segment (to.at + i * to.step + j) ≡ word_at S to.segment (to.at + i * to.step + j)
+  pub kept : (x y : ℕ) → times (row to.segment to.at (n * to.step) ∷ []) x y ≡ 0 →
+      word_at R x y ≡ word_at S x y
 
 -- From S to R the tag of a list of n structs is written at h, and nothing else.
 pub record IsTagWritten (S R : Segments) (h : Start) (n : ℕ) (size : StructSize) : Type 0 where
   pub segments : length R ≡ length S
   pub words : (x : ℕ) → length (segment R x) ≡ length (segment S x)
   pub tag : IsTag (word_at R h.segment h.at) n size.data_words size.pointers
-  pub kept : (x y : ℕ) → times (word_interval h.segment h.at ∷ []) x y ≡ 0 → word_at R x y ≡ word_at S x y
+  pub kept : (x y : ℕ) → times (word_interval h.segment h.at ∷ []) x y ≡ 0 →
+      word_at R x y ≡ word_at S x y
 
 -- The words of a list lie in their segment, its tag included.
 abbrev pub RowsInside : Segments → ElementRows → Type 0
@@ -55,16 +59,29 @@ RowsInside S rows =
 -- From S to R the data words of elements are copied into structs of a size, the first of which starts at h.
 abbrev pub CopiesData : Segments → Segments → ElementRows → Start → StructSize → Type 0
 CopiesData S R old h size =
-    AreRowsCopied S R old.segment (old.at + old.tag)
-    (old.size.data_words + old.size.pointers) h.segment h.at
-    (size.data_words + size.pointers) old.size.data_words old.count
+    AreRowsCopied S R
+    (record {
+      segment = old.segment;
+      at = old.at + old.tag;
+      step = old.size.data_words + old.size.pointers;
+    })
+    (record { segment = h.segment; at = h.at; step = size.data_words + size.pointers })
+    old.size.data_words old.count
 
 -- The pointers of elements, written anew in these structs.
 abbrev pub element_moves : ElementRows → Start → StructSize → List Move
 element_moves old h size =
-    rows_of_moves old.segment (old.at + old.tag + old.size.data_words)
-    (old.size.data_words + old.size.pointers) h.segment (h.at + size.data_words)
-    (size.data_words + size.pointers)
+    rows_of_moves
+    (record {
+      segment = old.segment;
+      at = old.at + old.tag + old.size.data_words;
+      step = old.size.data_words + old.size.pointers;
+    })
+    (record {
+      segment = h.segment;
+      at = h.at + size.data_words;
+      step = size.data_words + size.pointers;
+    })
     old.size.pointers old.count
 
 -- From old to new the data words of elements are copied into structs of a size, the first of which
@@ -76,15 +93,19 @@ pub record FillsRows (old new : View) (rows : ElementRows) (h : Start) (size : S
   pub moved : Moves between.words new.words (element_moves rows h size)
   pub written : WritesAnew between new (element_moves rows h size)
 
--- From S to R each of n numbers of so many bits, one behind the other from the word (s, p) on, is
--- copied into the first word of a row; the rows are of z words, from (v, r) on. Nothing else is
+-- From S to R each number of the list l is copied into the first word of a row, and nothing else is
 -- written.
-pub record AreNumbersCopied (S R : Segments) (s p width v r z n : ℕ) : Type 0 where
+pub record AreNumbersCopied (S R : Segments) (l : ExistingList) (to : PointerRows) : Type 0 where
   pub segments : length R ≡ length S
   pub words : (x : ℕ) → length (segment R x) ≡ length (segment S x)
-  pub here : (i : ℕ) → i < n → word_at R v (r + i * z) ≡ field_in (segment S s) (64 * p + width * i) width
-  pub behind : (i j : ℕ) → i < n → 0 < j → j < z → word_at R v (r + i * z + j) ≡ word_at S v (r + i * z + j)
-  pub kept : (x y : ℕ) → times (row v r (n * z) ∷ []) x y ≡ 0 → word_at R x y ≡ word_at S x y
+  pub here : (i : ℕ) → i < l.count →
+      word_at R to.segment (to.at + i * to.step)
+      ≡ field_in (segment S l.segment) (64 * l.start + element_bits (size_number l.size) * i)
+      (element_bits (size_number l.size))
+  pub behind : (i j : ℕ) → i < l.count → 0 < j → j < to.step →
+      word_at R to.segment (to.at + i * to.step + j) ≡ word_at S to.segment (to.at + i * to.step + j)
+  pub kept : (x y : ℕ) → times (row to.segment to.at (l.count * to.step) ∷ []) x y ≡ 0 →
+      word_at R x y ≡ word_at S x y
 
 -- The words of a list of numbers lie in their segment.
 abbrev pub NumbersInside : Segments → ExistingList → Type 0

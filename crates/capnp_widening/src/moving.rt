@@ -15,7 +15,7 @@ ghost use Rattle.capnp_making.specs.Memory.{KeepsMemory, SpendsMemory, RefusesWo
 ghost use Rattle.capnp_making.specs.Path.{word_interval};
 ghost use Rattle.capnp_making.specs.Zeroed.{IsPruned};
 ghost use Rattle.capnp_widening.specs.Anew.{IsWrittenAnew, MovesApart, MovesInTurn, WritesAnew, pad_words};
-ghost use Rattle.capnp_widening.specs.Moved.{a_move, row_of_moves, Moves, Unmoves, rows_of_moves};
+ghost use Rattle.capnp_widening.specs.Moved.{row_of_moves, Moves, Unmoves, rows_of_moves};
 ghost use Rattle.capnp_widening.specs.Pointed.{HasPlainPads, PointsTo};
 ghost use Rattle.capnp_widening.specs.Rooms.{GrowsByAtMost, HasPadRoom};
 
@@ -34,9 +34,9 @@ pub fn move_pointer<A: BuilderArena>(arena: &mut A, from: Start, to: Start) -> R
     requires from { IsPlace (A.view arena.old).words from.segment from.at }
     requires to { IsPlace (A.view arena.old).words to.segment to.at }
     ensures moved { OnOk result (Moves (A.view arena.old).words (A.view arena.new).words
-        (a_move from.segment from.at to.segment to.at ∷ [])) }
+        (row_of_moves from to 1)) }
     ensures written { OnOk result (WritesAnew (A.view arena.old) (A.view arena.new)
-        (a_move from.segment from.at to.segment to.at ∷ [])) }
+        (row_of_moves from to 1)) }
     ensures granted { OnOk result (KeepsMemory (A.view arena.old) (A.view arena.new)) }
     ensures only { OnOk result ((x y : ℕ) → times (word_interval to.segment to.at ∷ []) x y ≡ 0
         → y < length (segment (A.view arena.old).words x)
@@ -49,7 +49,7 @@ pub fn move_pointer<A: BuilderArena>(arena: &mut A, from: Start, to: Start) -> R
     ensures near { from.segment ≡ to.segment → IsOk result }
     ensures apart { from.segment ≢ to.segment
         → MovesApart result (A.view arena.old) (A.view arena.new) from.segment
-        (a_move from.segment from.at to.segment to.at ∷ []) }
+        (row_of_moves from to 1) }
 {
     let word = word_of(arena, from.segment, from.at);
     if word.is_null() {
@@ -196,11 +196,11 @@ pub fn move_row<A: BuilderArena>(
     requires from { from.at + count ≤ length (segment (A.view arena.old).words from.segment) }
     requires to { to.at + count ≤ length (segment (A.view arena.old).words to.segment) }
     ensures moves { MovesInTurn result (A.view arena.old) (A.view arena.new)
-        (row_of_moves from.segment from.at to.segment to.at count) count }
+        (row_of_moves from to count) count }
     ensures near { from.segment ≡ to.segment → IsOk result }
     ensures apart { from.segment ≢ to.segment
         → MovesApart result (A.view arena.old) (A.view arena.new) from.segment
-        (row_of_moves from.segment from.at to.segment to.at count) }
+        (row_of_moves from to count) }
 {
     if from.segment == to.segment {
         move_each(arena, from, to, count)
@@ -221,11 +221,11 @@ fn move_row_apart<A: BuilderArena>(
     requires from { from.at + count ≤ length (segment (A.view arena.old).words from.segment) }
     requires to { to.at + count ≤ length (segment (A.view arena.old).words to.segment) }
     ensures moves { MovesInTurn result (A.view arena.old) (A.view arena.new)
-        (row_of_moves from.segment from.at to.segment to.at count) count }
+        (row_of_moves from to count) count }
     ensures near { from.segment ≡ to.segment → IsOk result }
     ensures apart { from.segment ≢ to.segment
         → MovesApart result (A.view arena.old) (A.view arena.new) from.segment
-        (row_of_moves from.segment from.at to.segment to.at count) }
+        (row_of_moves from to count) }
 {
     move_each(arena, from, to, count)
 }
@@ -241,11 +241,11 @@ fn move_each<A: BuilderArena>(
     requires from { from.at + count ≤ length (segment (A.view arena.old).words from.segment) }
     requires to { to.at + count ≤ length (segment (A.view arena.old).words to.segment) }
     ensures moves { MovesInTurn result (A.view arena.old) (A.view arena.new)
-        (row_of_moves from.segment from.at to.segment to.at count) count }
+        (row_of_moves from to count) count }
     ensures near { from.segment ≡ to.segment → IsOk result }
     ensures apart { from.segment ≢ to.segment
         → MovesApart result (A.view arena.old) (A.view arena.new) from.segment
-        (row_of_moves from.segment from.at to.segment to.at count) }
+        (row_of_moves from to count) }
 {
     for i in 0..count {
         let source = Start {
@@ -268,7 +268,7 @@ pub fn unmove_row<A: BuilderArena>(arena: &mut A, from: Start, to: Start, count:
     requires from { from.at + count ≤ length (segment (A.view arena.old).words from.segment) }
     requires to { to.at + count ≤ length (segment (A.view arena.old).words to.segment) }
     ensures zeroed { Unmoves (A.view arena.old).words (A.view arena.new).words
-        (row_of_moves from.segment from.at to.segment to.at count) }
+        (row_of_moves from to count) }
     ensures pruned { IsPruned (A.view arena.old).words (A.view arena.new).words }
     ensures limits { KeepsLimits (A.view arena.old) (A.view arena.new) }
 {
@@ -281,7 +281,8 @@ pub fn unmove_row<A: BuilderArena>(arena: &mut A, from: Start, to: Start, count:
 /// they are the old pointer's still.
 fn unmove_pointer<A: BuilderArena>(arena: &mut A, id: u32, at: u32, to_id: u32, to_at: u32)
     ensures zeroed { Unmoves (A.view arena.old).words (A.view arena.new).words
-        (a_move id at to_id to_at ∷ []) }
+        (row_of_moves (record { segment = id; at = at }) (record { segment = to_id; at = to_at })
+        1) }
     ensures pruned { IsPruned (A.view arena.old).words (A.view arena.new).words }
     ensures limits { KeepsLimits (A.view arena.old) (A.view arena.new) }
 {
@@ -318,12 +319,12 @@ pub fn move_rows<A: BuilderArena>(
         ≤ length (segment (A.view arena.old).words to.segment) + to.step }
     requires small { (from.step < 2 ^ 18) × (to.step < 2 ^ 18) }
     ensures moves { MovesInTurn result (A.view arena.old) (A.view arena.new)
-        (rows_of_moves from.segment from.at from.step to.segment to.at to.step pointers count)
+        (rows_of_moves from to pointers count)
         (count * pointers) }
     ensures near { from.segment ≡ to.segment → IsOk result }
     ensures apart { from.segment ≢ to.segment
         → MovesApart result (A.view arena.old) (A.view arena.new) from.segment
-        (rows_of_moves from.segment from.at from.step to.segment to.at to.step pointers count) }
+        (rows_of_moves from to pointers count) }
 {
     let mut source = from.at;
     let mut place = to.at;
@@ -357,7 +358,7 @@ pub fn unmove_rows<A: BuilderArena>(
         ≤ length (segment (A.view arena.old).words to.segment) + to.step }
     requires small { (from.step < 2 ^ 18) × (to.step < 2 ^ 18) }
     ensures zeroed { Unmoves (A.view arena.old).words (A.view arena.new).words
-        (rows_of_moves from.segment from.at from.step to.segment to.at to.step pointers count) }
+        (rows_of_moves from to pointers count) }
     ensures pruned { IsPruned (A.view arena.old).words (A.view arena.new).words }
     ensures limits { KeepsLimits (A.view arena.old) (A.view arena.new) }
 {

@@ -117,9 +117,8 @@ fn copy_numbers<A: BuilderArena>(arena: &mut A, old: ExistingList, to: Start, st
     requires apart { old.segment ≡ to.segment
         → old.start + words_for (size_number old.size) old.count ≤ to.at }
     requires some { 0 < step }
-    ensures copied { AreNumbersCopied (A.view arena.old).words
-        (A.view arena.new).words old.segment old.start
-        (element_bits (size_number old.size)) to.segment to.at step old.count }
+    ensures copied { AreNumbersCopied (A.view arena.old).words (A.view arena.new).words old
+        (record { segment = to.segment; at = to.at; step = step }) }
     ensures limits { KeepsLimits (A.view arena.old) (A.view arena.new) }
 {
     let mut place = to.at;

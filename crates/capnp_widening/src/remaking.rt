@@ -50,9 +50,8 @@ fn copy_rows<A: BuilderArena>(
     requires to { to.at + count * to.step ≤ length (segment (A.view arena.old).words to.segment) }
     requires apart { from.segment ≡ to.segment → from.at + count * from.step ≤ to.at }
     requires within { (words ≤ from.step) × (words ≤ to.step) }
-    ensures copied { AreRowsCopied (A.view arena.old).words
-        (A.view arena.new).words from.segment from.at from.step to.segment to.at
-        to.step words count }
+    ensures copied { AreRowsCopied (A.view arena.old).words (A.view arena.new).words
+        from to words count }
     ensures limits { KeepsLimits (A.view arena.old) (A.view arena.new) }
 {
     if words == 0 {

@@ -220,8 +220,9 @@ fn widen_struct<A: BuilderArena>(
         (size.data_words + size.pointers + 1 + 2 * old.size.pointers) }
     ensures fits { (to : Start) → HasRoomAndPads (A.view arena.old) id
         (size.data_words + size.pointers) old.segment
-        (near_pointers (A.view arena.old).words (row_of_moves old.segment
-        (old.start + old.size.data_words) to.segment to.at old.size.pointers)) → IsOk result }
+        (near_pointers (A.view arena.old).words (row_of_moves
+        (record { segment = old.segment; at = old.start + old.size.data_words }) to
+        old.size.pointers)) → IsOk result }
 {
     let pointer = word_of(arena, id, at);
     let room = take(arena, id, size.total())?;

@@ -2,11 +2,12 @@ use Rattle.std.proofs.lemmas.Result.{err_from_is_err_and}
 use Rattle.std.proofs.Common.{◌≡◌, ap, subst, le_antisymm, le_trans, sym, arith}
 use Rattle.capnp_format.specs.Segments.{Segments}
 use Rattle.capnp_making.proofs.Memory.{keeps_both, keeps_itself, keeps_then_spends, words_refused_after}
-use Rattle.capnp_widening.specs.Moved.{row_of_moves, Moves}
+use Rattle.capnp_widening.specs.Moved.{Moves}
 use Rattle.capnp_widening.proofs.Movings.{none_moved, moves_next, moves_some}
 use Rattle.capnp_widening.proofs.PadRooms.{Apart, apart_next, apart_none, apart_of, made_apart, pads_at, refused_apart}
 use Rattle.capnp_widening.proofs.Rooms.{all_words}
 use Rattle.capnp_widening.proofs.WrittenAnew.{writes_none, writes_next}
+use Rattle.capnp_widening.proofs.Statements.{row_moves}
 use Rattle.capnp_widening.proofs.moving.move_each.Goals as goal
 
 pub loop-i-init : goal.loop-i-init
@@ -39,7 +40,7 @@ returns-in_err-move_pointer-clause-moves g c =
     let a = g.A.BuilderArena.view c.args.arena.now in
     let m = g.A.BuilderArena.view c.loop-i.arena in
     let b = g.A.BuilderArena.view c.move_pointer.new.arena in
-    let ms = row_of_moves c.args.from.segment c.args.from.at c.args.to.segment c.args.to.at c.loop-i.i in
+    let ms = row_moves c.args.from.segment c.args.from.at c.args.to.segment c.args.to.at c.loop-i.i in
     let before = c.loop-i.invariant in
     let e = c.in_err-move_pointer.ensures in
     let less = c.loop-i-test.true in
@@ -70,4 +71,4 @@ returns-clause-apart g c =
     let b = g.A.BuilderArena.view c.loop-i.arena in
     let all : c.loop-i.i ≡ c.args.count = le_antisymm c.loop-i.auto.i-end c.loop-i-test.false in
     λ other. made_apart _ a b c.args.from.segment _
-    (subst (λ n. Apart a b c.args.from.segment (row_of_moves c.args.from.segment c.args.from.at c.args.to.segment c.args.to.at n)) all (c.loop-i.invariant.apart other))
+    (subst (λ n. Apart a b c.args.from.segment (row_moves c.args.from.segment c.args.from.at c.args.to.segment c.args.to.at n)) all (c.loop-i.invariant.apart other))

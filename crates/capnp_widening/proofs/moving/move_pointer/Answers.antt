@@ -12,7 +12,7 @@ use Rattle.capnp_making.proofs.MadeWords.{word_put}
 use Rattle.capnp_making.proofs.Memory.{words_in}
 use Rattle.capnp_making.proofs.Zeros.{there}
 use Rattle.capnp_making.specs.Memory.{TakesWords}
-use Rattle.capnp_widening.specs.Moved.{a_move, near_pointers}
+use Rattle.capnp_widening.specs.Moved.{near_pointers}
 use Rattle.capnp_widening.specs.Rooms.{HasPadRoom}
 use Rattle.capnp_widening.proofs.Basics.{on_both_so}
 use Rattle.capnp_widening.proofs.PadRooms.{fewer_pads, granted_so, made_apart, near_far, none_elsewhere, pad_taken, pads_written}
@@ -21,7 +21,7 @@ use Rattle.capnp_widening.proofs.TakingWords.{put_writes}
 use Rattle.capnp_widening.proofs.WrittenAnew.{writes_one}
 use Rattle.capnp_widening.proofs.Rooms.{words_put}
 use Rattle.capnp_widening.proofs.Single.{copied_moves, near_moves, means_nothing}
-use Rattle.capnp_widening.proofs.Statements.{WritesPointer}
+use Rattle.capnp_widening.proofs.Statements.{WritesPointer, a_move}
 use Rattle.capnp_widening.proofs.moving.move_pointer.Goals as goal
 
 -- A far pointer or a capability is copied as it is.

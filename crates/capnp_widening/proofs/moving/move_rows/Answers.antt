@@ -4,7 +4,7 @@ use Rattle.capnp_arena_traits.specs.View.{View}
 use Rattle.capnp_format.specs.Segments.{Segments}
 use Rattle.capnp_making.proofs.Memory.{keeps_both, keeps_itself, keeps_then_spends, words_refused_after}
 use Rattle.capnp_widening.specs.Anew.{WritesAnew}
-use Rattle.capnp_widening.specs.Moved.{Move, rows_of_moves, Moves}
+use Rattle.capnp_widening.specs.Moved.{Move, Moves}
 use Rattle.capnp_widening.specs.Rooms.{GrowsByAtMost}
 use Rattle.capnp_widening.proofs.Kept.{grows_again, grows_itself, lt_next, rows_few, some_in_rows}
 use Rattle.capnp_widening.proofs.Movings.{none_moved}
@@ -12,6 +12,7 @@ use Rattle.capnp_widening.proofs.PadRooms.{Apart, apart_none, apart_of, apart_ro
 use Rattle.capnp_widening.proofs.RowPlaces.{first_row, next_row, row_inside, row_behind_fits, row_there}
 use Rattle.capnp_widening.proofs.Rows.{rows_moves_next, rows_some}
 use Rattle.capnp_widening.proofs.WrittenAnew.{writes_none, rows_writes_next}
+use Rattle.capnp_widening.proofs.Statements.{rows_moves}
 use Rattle.capnp_widening.proofs.moving.move_rows.Goals as goal
 
 -- A row starts within the words of its segment, and the next one a step behind it.
@@ -93,7 +94,7 @@ returns-clause-moves g c =
     let a : View = g.A.BuilderArena.view c.args.arena.now in
     let b : View = g.A.BuilderArena.view c.loop-i.arena in
     let all : c.loop-i.i ≡ c.args.count = le_antisymm c.loop-i.auto.i-end c.loop-i-test.false in
-    let moves : ℕ → List Move = λ n. rows_of_moves c.args.from.segment c.args.from.at c.args.from.step c.args.to.segment c.args.to.at c.args.to.step c.args.pointers n in
+    let moves : ℕ → List Move = λ n. rows_moves c.args.from.segment c.args.from.at c.args.from.step c.args.to.segment c.args.to.at c.args.to.step c.args.pointers n in
     record {
       moved = subst (λ n. Moves a.words b.words (moves n)) all c.loop-i.invariant.moves;
       written = subst (λ n. WritesAnew a b (moves n)) all c.loop-i.invariant.written;
@@ -153,4 +154,4 @@ returns-clause-apart g c =
     let to = c.args.to in
     let all : c.loop-i.i ≡ c.args.count = le_antisymm c.loop-i.auto.i-end c.loop-i-test.false in
     λ other. made_apart _ a b from.segment _
-    (subst (λ n. Apart a b from.segment (rows_of_moves from.segment from.at from.step to.segment to.at to.step c.args.pointers n)) all (c.loop-i.invariant.apart other))
+    (subst (λ n. Apart a b from.segment (rows_moves from.segment from.at from.step to.segment to.at to.step c.args.pointers n)) all (c.loop-i.invariant.apart other))

@@ -1,10 +1,11 @@
 use Rattle.std.proofs.Common.{◌≡◌, refl, subst, le_antisymm, le_of_eq, sym}
 use Rattle.capnp_format.specs.Segments.{Segments}
 use Rattle.capnp_making.proofs.Zeros.{nothing_zeroed, pruned_again}
-use Rattle.capnp_widening.specs.Moved.{rows_of_moves, Unmoves}
+use Rattle.capnp_widening.specs.Moved.{Unmoves}
 use Rattle.capnp_widening.proofs.Kept.{limits_again, nothing_pruned}
 use Rattle.capnp_widening.proofs.RowPlaces.{first_row, next_row, row_inside, row_behind_fits}
 use Rattle.capnp_widening.proofs.Rows.{rows_unmoves_next}
+use Rattle.capnp_widening.proofs.Statements.{rows_moves}
 use Rattle.capnp_widening.proofs.moving.unmove_rows.Goals as goal
 
 -- A row starts within the words of its segment, and the next one a step behind it.
@@ -79,6 +80,6 @@ returns-clause-zeroed g c =
     let all : c.loop-i.i ≡ c.args.count = le_antisymm c.loop-i.auto.i-end c.loop-i-test.false in
     subst (λ n. Unmoves (g.A.BuilderArena.view c.args.arena.now).words
     (g.A.BuilderArena.view c.loop-i.arena).words
-    (rows_of_moves c.args.from.segment c.args.from.at c.args.from.step c.args.to.segment c.args.to.at
+    (rows_moves c.args.from.segment c.args.from.at c.args.from.step c.args.to.segment c.args.to.at
     c.args.to.step
     c.args.pointers n)) all c.loop-i.invariant.zeroed

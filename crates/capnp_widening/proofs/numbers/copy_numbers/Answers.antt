@@ -3,11 +3,11 @@ use Rattle.capnp_format.specs.Numbers.{element_bits}
 use Rattle.capnp_format.specs.Segments.{Segments, segment}
 use Rattle.capnp_words.specs.Sizes.{size_number}
 use Rattle.capnp_making.proofs.Memory.{words_in}
-use Rattle.capnp_widening.specs.RowsRemade.{AreNumbersCopied}
 use Rattle.capnp_widening.proofs.Kept.{limits_again, written_keeps}
 use Rattle.capnp_widening.proofs.NumbersRead.{in_words}
 use Rattle.capnp_widening.proofs.NumberSteps.{no_numbers_copied, numbers_copied_next}
 use Rattle.capnp_widening.proofs.RowPlaces.{first_row, next_row, start_inside, step_fits}
+use Rattle.capnp_widening.proofs.Statements.{CopiedNumbers, numbers_copied}
 use Rattle.capnp_widening.proofs.numbers.copy_numbers.Goals as goal
 
 -- A row starts within the words of its segment, and the next one a step behind it.
@@ -62,5 +62,6 @@ loop-i-preserved g c =
 pub returns-clause-copied : goal.returns-clause-copied
 returns-clause-copied g c =
     let all : c.loop-i.i ≡ c.args.old.count = le_antisymm c.loop-i.auto.i-end c.loop-i-test.false in
-    subst (λ n. AreNumbersCopied (g.A.BuilderArena.view c.args.arena.now).words (g.A.BuilderArena.view c.loop-i.arena).words c.args.old.segment c.args.old.start (element_bits (size_number c.args.old.size)) c.args.to.segment c.args.to.at c.args.step n) all
-    c.loop-i.invariant.copied
+    numbers_copied (g.A.BuilderArena.view c.args.arena.now).words (g.A.BuilderArena.view c.loop-i.arena).words c.args.old (record { segment = c.args.to.segment; at = c.args.to.at; step = c.args.step })
+    (subst (λ n. CopiedNumbers (g.A.BuilderArena.view c.args.arena.now).words (g.A.BuilderArena.view c.loop-i.arena).words c.args.old.segment c.args.old.start (element_bits (size_number c.args.old.size)) c.args.to.segment c.args.to.at c.args.step n) all
+    c.loop-i.invariant.copied)

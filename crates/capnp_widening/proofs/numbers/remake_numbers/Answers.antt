@@ -15,7 +15,7 @@ use Rattle.capnp_widening.specs.Anew.{OnlyWrites}
 use Rattle.capnp_widening.proofs.StructSteps.{nothing_grown}
 use Rattle.capnp_widening.proofs.TakingWords.{pruned_writes}
 use Rattle.capnp_widening.proofs.WrittenAnew.{keeps_writes, writes_both}
-use Rattle.capnp_widening.proofs.Statements.{settled_room}
+use Rattle.capnp_widening.proofs.Statements.{copied_numbers, settled_room}
 use Rattle.capnp_widening.proofs.numbers.remake_numbers.Goals as goal
 
 -- The room lies in its segment, which has fewer than 2^29 words.
@@ -140,7 +140,7 @@ returns-clause-made g c =
       place = c.requires.place;
       room = room;
       tagged = tagged;
-      copied = rw c.total.ensures at c.copy_numbers.ensures.copied;
+      copied = rw c.total.ensures at (copied_numbers c.copy_numbers.ensures.copied);
       settled = rw c.total-2.ensures at (settled_room c.settle.ensures.settled);
       object_zeroed = rw c.words_of_numbers.ensures.value at c.zero_part.ensures.zeroed;
       pads_zeroed = rw c.word_of-pointer.ensures at c.zero_pads.ensures.zeroed;

@@ -1,16 +1,16 @@
 use Rattle.std.proofs.Common.{◌≡◌, refl, sym, subst, le_antisymm, le_of_eq}
 use Rattle.capnp_format.specs.Segments.{Segments}
-use Rattle.capnp_widening.specs.RowsRemade.{AreRowsCopied}
 use Rattle.capnp_widening.proofs.Kept.{limits_again}
 use Rattle.capnp_widening.proofs.RowPlaces.{first_row, next_row, step_inside, step_fits, steps_apart}
 use Rattle.capnp_widening.proofs.RowsCopied.{no_words_copied, no_rows_copied, rows_copied_next}
+use Rattle.capnp_widening.proofs.Statements.{CopiedRows}
 use Rattle.capnp_widening.proofs.remaking.copy_rows.Goals as goal
 
 pub returns-then-words-eq0-clause-copied : goal.returns-then-words-eq0-clause-copied
 returns-then-words-eq0-clause-copied g c =
     let S : Segments = (g.A.BuilderArena.view c.args.arena.now).words in
     let none : c.args.words ≡ 0 = c.if-words-eq0.true in
-    subst (λ d. AreRowsCopied S S c.args.from.segment c.args.from.at c.args.from.step c.args.to.segment c.args.to.at c.args.to.step d c.args.count) (sym none)
+    subst (λ d. CopiedRows S S c.args.from.segment c.args.from.at c.args.from.step c.args.to.segment c.args.to.at c.args.to.step d c.args.count) (sym none)
     (no_words_copied S c.args.from.segment c.args.from.at c.args.from.step c.args.to.segment c.args.to.at c.args.to.step c.args.count)
 
 -- A row starts within the words of its segment, and the next one a step behind it.
@@ -84,5 +84,5 @@ loop-i-preserved g c =
 pub returns-clause-copied : goal.returns-clause-copied
 returns-clause-copied g c =
     let all : c.loop-i.i ≡ c.args.count = le_antisymm c.loop-i.auto.i-end c.loop-i-test.false in
-    subst (λ n. AreRowsCopied (g.A.BuilderArena.view c.args.arena.now).words (g.A.BuilderArena.view c.loop-i.arena).words c.args.from.segment c.args.from.at c.args.from.step c.args.to.segment c.args.to.at c.args.to.step c.args.words n) all
+    subst (λ n. CopiedRows (g.A.BuilderArena.view c.args.arena.now).words (g.A.BuilderArena.view c.loop-i.arena).words c.args.from.segment c.args.from.at c.args.from.step c.args.to.segment c.args.to.at c.args.to.step c.args.words n) all
     c.loop-i.invariant.copied

@@ -6,13 +6,14 @@ use Rattle.capnp_contents.specs.declared.existing.ExistingStruct.{ExistingStruct
 use Rattle.capnp_making.specs.Memory.{start_of}
 use Rattle.capnp_making.specs.declared.making.Start.{Start}
 use Rattle.capnp_making.proofs.Outcomes.{on_err_so, on_made_so, if_ok_so}
-use Rattle.capnp_widening.specs.Moved.{near_pointers, row_of_moves}
+use Rattle.capnp_widening.specs.Moved.{near_pointers}
 use Rattle.capnp_widening.specs.Rooms.{HasRoomAndPads}
 use Rattle.capnp_widening.proofs.Filled.{greater_size, same_wide}
 use Rattle.capnp_widening.proofs.StructRooms.{wider_words}
 use Rattle.capnp_widening.proofs.StructSteps.{the_struct, same_struct}
 use Rattle.capnp_making.specs.Makes.{call_at}
 use Rattle.capnp_widening.specs.Anew.{BecomesAnew}
+use Rattle.capnp_widening.proofs.Statements.{row_moves}
 use Rattle.capnp_widening.proofs.widening.widen_known.Goals as goal
 use Rattle.capnp_widening.specs.Widened.{fill_words}
 
@@ -52,7 +53,7 @@ returns-clause-fits g c = λ h.
     let n = wider_words c.args.size ws ts c.greater.result c.greater-2.result (omega (arith, c.greater.ensures, d)) (omega (arith, c.greater-2.ensures, k)) in
     let a : Start = start_of (target v.words c.args.id c.args.at) in
     let to : Start = record { segment = a.segment; at = a.at + length (fill_words c.args.size.data_words ws) } in
-    let asks : ℕ → ExistingStruct → Type 0 = λ m e. HasRoomAndPads v c.args.id m e.segment (near_pointers v.words (row_of_moves e.segment (e.start + e.size.data_words) to.segment to.at e.size.pointers)) in
+    let asks : ℕ → ExistingStruct → Type 0 = λ m e. HasRoomAndPads v c.args.id m e.segment (near_pointers v.words (row_moves e.segment (e.start + e.size.data_words) to.segment to.at e.size.pointers)) in
     c.widen_struct.ensures.fits to (subst (λ e. asks (c.greater.result + c.greater-2.result) e) same (subst (λ m. asks m (the_struct v.words c.args.id c.args.at ws ts)) n room)))
 
 pub returns-clause-few : goal.returns-clause-few

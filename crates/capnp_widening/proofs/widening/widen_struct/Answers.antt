@@ -7,7 +7,7 @@ use Rattle.capnp_format.specs.Segments.{Segments, segment}
 use Rattle.capnp_format.proofs.Slices.{there}
 use Rattle.capnp_making.specs.declared.making.Start.{Start}
 use Rattle.capnp_making.proofs.Memory.{keeps_both, keeps_then_spends, keeps_written, spends_then_limits, words_refused_after, words_refused_before}
-use Rattle.capnp_widening.specs.Moved.{near_pointers, row_of_moves}
+use Rattle.capnp_widening.specs.Moved.{near_pointers}
 use Rattle.capnp_widening.specs.Rooms.{HasPadRoom, HasRoomAndPads}
 use Rattle.capnp_widening.proofs.Kept.{few_after, few_again, few_at_most, few_before}
 use Rattle.capnp_widening.proofs.RowPlaces.{near_or_behind}
@@ -17,7 +17,7 @@ use Rattle.capnp_widening.proofs.StructSteps.{StructSteps, struct_rehoused, stru
 use Rattle.capnp_widening.specs.Anew.{OnlyWrites}
 use Rattle.capnp_widening.proofs.TakingWords.{pruned_writes}
 use Rattle.capnp_widening.proofs.WrittenAnew.{keeps_writes, writes_both}
-use Rattle.capnp_widening.proofs.Statements.{settled_room}
+use Rattle.capnp_widening.proofs.Statements.{settled_room, row_moves}
 use Rattle.capnp_widening.proofs.widening.widen_struct.Goals as goal
 
 data_inside : (start d q : ℕ) {length : ℕ} → start + d + q ≤ length → start + d ≤ length
@@ -313,7 +313,7 @@ returns-in_err-room-clause-fits g c =
     let v : View = g.A.BuilderArena.view c.args.arena.now in
     let p = err_from_is_err_and c.from_residual.result c.from_residual.ensures.1 in rw p.1 (λ to h.
     (let old = c.args.old in
-    let n : ℕ = near_pointers v.words (row_of_moves old.segment (old.start + old.size.data_words) to.segment to.at old.size.pointers) in
+    let n : ℕ = near_pointers v.words (row_moves old.segment (old.start + old.size.data_words) to.segment to.at old.size.pointers) in
     (c.in_err-room.ensures.fits old.segment n (subst (λ m. HasRoomAndPads v c.args.id m old.segment n) (sym c.total.ensures) h)).0))
 
 pub returns-in-Err-clause-fits : goal.returns-in-Err-clause-fits
@@ -328,7 +328,7 @@ returns-in-Err-clause-fits g c = λ to h.
     let v : ℕ = c.in_ok-room.room.segment in
     let p : ℕ = old.start + old.size.data_words in
     let r : ℕ = c.in_ok-room.room.at + c.in_ok-room.room.pads + c.args.size.data_words in
-    let n : ℕ = near_pointers S.words (row_of_moves k p to.segment to.at old.size.pointers) in
+    let n : ℕ = near_pointers S.words (row_moves k p to.segment to.at old.size.pointers) in
     let (more, refused) = c.in-Err.ensures.moves.full in
     let some : 0 < old.size.pointers = rw c.from-count.ensures at more in
     let exists = there S.words k p (omega (arith, some, c.requires.inside)) in
@@ -340,6 +340,6 @@ returns-in-Err-clause-fits g c = λ to h.
           let first = pads_written T D k n (record { limits = c.copy_words.ensures.limits; segments = copied.segments; words = copied.words }) left in
           let same = near_same_row S.words D.words k p v r to.segment to.at old.size.pointers
           (λ y l. copied.kept k y (none_elsewhere v _ _ k y other) ∙ grown.kept k y (lt_of_lt_of_le l c.requires.inside)) in
-          let e : n ≡ near_pointers D.words (row_of_moves k p v r old.size.pointers) + 0 = omega (arith, same) in
+          let e : n ≡ near_pointers D.words (row_moves k p v r old.size.pointers) + 0 = omega (arith, same) in
           ((moved other).fits 0 (subst (λ i. HasPadRoom D k i) e first)).0)
     ])
