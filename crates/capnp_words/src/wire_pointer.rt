@@ -1,8 +1,8 @@
 //! Pointer words: their bits, as the encoding specification's sections "Structs", "Lists",
 //! "Inter-Segment Pointers" and "Capabilities (Interfaces)" lay them out.
-ghost use Rattle.std.specs.Prelude.{◌≡◌, ◌<◌, ◌+◌, ◌*◌, ◌-◌, ◌^◌, ◌↔◌, ◌+ℤ◌, pos, IsTrue};
+ghost use Rattle.std.specs.Prelude.{◌≡◌, ◌<◌, ◌≤◌, ◌+◌, ◌*◌, ◌-◌, ◌^◌, ◌↔◌, ◌+ℤ◌, pos, IsTrue};
 ghost use Rattle.capnp_format.specs.Canonical.{offset_to, Reaches};
-ghost use Rattle.capnp_format.specs.Numbers.{element_bits};
+ghost use Rattle.capnp_format.specs.Numbers.{element_bits, words_for};
 ghost use Rattle.capnp_format.specs.Segments.{offset_leads};
 ghost use Rattle.capnp_words.specs.Sizes.{size_number, pointers_per_element, kind_number};
 ghost use Rattle.capnp_format.specs.Word.{kind, offset_bits, signed, offset_field, IsOffset, lower_half, upper_half, data_words, pointer_count, element_size, list_count, is_double, far_position, struct_word, list_word, far_word, capability_word};
@@ -47,6 +47,27 @@ pub fn data_bits_per_element(size: ElementSize) -> BitCount32
         ElementSize::FourBytes => 32,
         ElementSize::EightBytes => 64,
     }
+}
+
+/// How many words so many elements take together, which are no structs and no pointers ("Lists").
+#[inline]
+pub fn flat_words(size: ElementSize, count: ElementCount32) -> WordCount32
+    requires { count < 2 ^ 29 }
+    ensures { result ≡ words_for (size_number size) count }
+{
+    ((u64::from(count) * u64::from(data_bits_per_element(size)) + 63) / 64) as u32
+}
+
+/// Whether the elements of the list that a word describes are of bits or bytes: no pointers, no structs, and not
+/// void.
+#[inline]
+pub fn is_of_bits(word: WirePointer) -> bool
+    ensures { IsTrue result ↔ (0 < element_size word.0) × (element_size word.0 ≤ 5) }
+{
+    !matches!(
+        word.list_element_size(),
+        ElementSize::Void | ElementSize::Pointer | ElementSize::InlineComposite
+    )
 }
 
 /// How many pointers an element is: 1 for a pointer, else 0.
