@@ -79,7 +79,7 @@ below_each limit (x ∷ xs) h = (h 0, below_each limit xs (λ i. h (suc i)))
 pub words_below : (S : Segments) (s p n : ℕ) → HasSmallWords S s → AreBelow (2 ^ 64) (words_at S s p n)
 words_below S s p n w = below_take (2 ^ 64) n (drop p (segment S s)) (below_each (2 ^ 64) (drop p (segment S s)) (λ i. rw (get_or-drop p (segment S s) i 0) (w (p + i))))
 
--- So are words that stand in it.
+-- words that stand in a segment of small words are small
 pub words_small : (S : Segments) (s p : ℕ) (ws : List ℕ) → HasSmallWords S s → HasWords S s p ws → AreBelow (2 ^ 64) ws
 words_small S s p ws w e = rw e at (words_below S s p (length ws) w)
 

@@ -29,7 +29,7 @@ too_much A P x R l h = omega (arith, mul-le-mul_left P l)
 little : (A P x R : ℕ) → A < P → suc x ≤ R → A + P * x < P * R
 little A P x R a l = omega (arith, mul-le-mul_left P l)
 
--- So a number is below a limit of whole high parts exactly where its high part is below it.
+-- A number is below a limit of whole high parts exactly where its high part is below the limit's.
 high_part : (A P x R : ℕ) → A < P → (A + P * x < P * R) ↔ (x < R)
 high_part A P x R a = (
   (λ h. elim (cases_lt x R) [

@@ -210,7 +210,7 @@ IsFree t = capabilities t ≡ 0
 abbrev pub offset_to : ℕ → ℕ → ℕ
 offset_to p h = (h + 2 ^ 30 - (p + 1)) % 2 ^ 30
 
--- That offset fits: it is from -2^29 to 2^29 - 1.
+-- The offset from the word after position p to position h fits: it is from -2^29 to 2^29 - 1.
 abbrev pub Reaches : ℕ → ℕ → Type 0
 Reaches p h = (h < p + 1 + 2 ^ 29) × (p + 1 ≤ h + 2 ^ 29)
 

@@ -1,4 +1,4 @@
--- The same as a function: reads what a place means, level by level. `Means` is the definition; the law
+-- What a place means, as a function that reads it level by level. `Means` is the definition; the law
 -- `decode_agrees` says that both give the same, so that worked messages can be computed.
 use Rattle.std.specs.Prelude.{ℕ, zero, suc, ◌+◌, ◌*◌, ◌%◌, ◌^◌, Bool, if◌then◌else◌, nat_eq, nat_le}
 use Rattle.std.specs.Prelude.{length, Option, Some, None}

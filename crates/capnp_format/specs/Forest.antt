@@ -10,13 +10,13 @@ use Rattle.capnp_format.specs.Tree.{no_trees, tree, Elements, no_elements, eleme
 use Rattle.capnp_format.specs.Tree.{element_count}
 use Rattle.capnp_format.specs.Means.{Means}
 
--- So many words of a segment, one behind the other.
+-- Words of a segment that stand one behind the other.
 pub record Interval : Type 0 where
   pub segment : ℕ
   pub start : ℕ
   pub words : ℕ
 
--- So many words from a place on.
+-- The n words from a place on.
 abbrev pub row : ℕ → ℕ → ℕ → Interval
 row s p n = record { segment = s; start = p; words = n }
 

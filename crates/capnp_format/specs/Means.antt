@@ -47,16 +47,15 @@ pub record IsTag (g n d q : ℕ) : Type 0 where
 abbrev pub count_cost : ℕ → ℕ → ℕ
 count_cost width n = if nat_eq width 0 then n else 0
 
--- The six cases, for each kind of value: Null is the zero word, free of charge. A capability is a
--- word whose lower half is exactly 3, and costs the pads alone. A struct: its data section, then
--- its children from the pointer section on, within one level less. It costs the pads, its own
--- words, and what the children cost. A list of numbers: its elements stand packed in the least
--- number of words. It costs the pads and these words, and for a list of void the number of
--- elements. A list of pointers: its children, within one level less; the cost is as for a struct. A
--- list of structs: m words are claimed behind a tag; the elements take no more than these. It costs
--- the pads, the tag and the m words, one for each element where elements have no width, and what
--- the children cost. Every case but the first two wants a level, and that the claimed words lie in
--- their segment ("Structs", "Lists", "Capabilities (Interfaces)").
+-- A case for each kind of value. Null is the zero word, and costs nothing. A capability is a word
+-- whose lower half is exactly 3, and costs the landing pads alone. Every other case wants a level,
+-- and that the claimed words lie in their segment; its children are read within one level less, and
+-- what they cost is added to the pads and to what follows. A struct is its data section, and its
+-- children from the pointer section on; it costs its own words. A list of numbers has its elements
+-- packed in the least number of words; it costs these words, and a list of void also the number of
+-- elements. A list of pointers costs one word for each. A list of structs claims m words behind a
+-- tag, and its elements take no more than these; it costs the tag and the m words, and one for each
+-- element where elements have no width ("Structs", "Lists", "Capabilities (Interfaces)").
 abbrev mutual
   pub Means : Segments → ℕ → ℕ → ℕ → Tree → ℕ → Type 0
   Means S n s p Null c = (word_at S s p ≡ 0) × (c ≡ 0)

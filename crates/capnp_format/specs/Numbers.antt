@@ -1,7 +1,7 @@
 -- How the elements of a list are packed into words ("Lists"): a list's words, read as one number
 -- whose lowest digits come first, hold its elements as the digits of that number, 1, 8, 16, 32 or
--- 64 bits each. So the first element is in the lowest bits of the first word, and what is left of
--- the last word is padding.
+-- 64 bits each. The first element is in the lowest bits of the first word, and what is left of the
+-- last word is padding.
 use Rattle.std.specs.Prelude.{ℕ, zero, suc, ◌+◌, ◌*◌, ◌/◌, ◌%◌, ◌^◌, List, [], ◌∷◌, get_or, length}
 
 -- The number with these digits, the lowest first ("Lists").

@@ -77,7 +77,7 @@ abbrev mutual
   capabilities_elements no_elements = 0
   capabilities_elements (element ws ts es) = capabilities_all ts + capabilities_elements es
 
--- So many elements without data words and pointers.
+-- n elements without data words and pointers.
 abbrev pub blank : ℕ → Elements
 blank zero = no_elements
 blank (suc n) = element [] no_trees (blank n)
