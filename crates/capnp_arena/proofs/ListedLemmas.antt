@@ -143,6 +143,11 @@ module _ {S : Type 0} (g : Ghosts S) where
   full_others true first others amount none full zero l = let less : capacity g first < first.used + amount = omega (arith, none) in omega (arith, less, row_words g first)
   full_others true first others amount none full (suc k) l = full k (omega (arith, l))
 
+  -- where there is no first row there is none
+  pub full_none : (t : Bool) (first : Row S g) (others : List (Row S g)) (amount : ℕ) → t ≡ false → IsFull (view_of_rows g (with_first g t first others)) amount
+  full_none false first others amount e k l = absurd (omega (arith, l))
+  full_none true first others amount e k l = cc
+
   -- how many rows there are
   pub listed_few : (t : Bool) (first : Row S g) (others : List (Row S g)) → length others ≤ most_others t → length (with_first g t first others) ≤ max_segments
   listed_few false first others few = omega arith

@@ -52,6 +52,15 @@ words-wholes (b ∷ B) (suc id) s e = words-wholes B id s e
 pub length-wholes : (B : List (List ℕ)) (id : ℕ) (s : List ℕ) → slice_get B id ≡ Some s → length (whole s) ≡ 8 * length (segment (message (map whole B)) id)
 length-wholes B id s e = length-whole s ∙ ap (λ n. 8 * n) (sym (ap length (sym (words-wholes B id s e) ∙ words_of-whole s) ∙ words s))
 
+pub count-wholes : (B : List (List ℕ)) → length (map whole B) ≡ length B
+count-wholes [] = refl
+count-wholes (b ∷ B) = ap suc (count-wholes B)
+
+pub get-wholes : (B : List (List ℕ)) (id : ℕ) (s : List ℕ) → slice_get B id ≡ Some s → slice_get (map whole B) id ≡ Some (whole s)
+get-wholes [] id s e = cc
+get-wholes (b ∷ B) zero s e = let same : b ≡ s = cc in ap (λ x. Some (whole x)) same
+get-wholes (b ∷ B) (suc id) s e = get-wholes B id s e
+
 pub ruleset wholes = (words-wholes, length-wholes)
 
 pub total-cons : (b : List ℕ) (B : List (List ℕ)) → total_words (b ∷ B) ≡ length b / 8 + total_words B

@@ -123,3 +123,9 @@ bounds-back-0-else-from-to g c =
     let back = c.split_at_mut-front-else-from-to.result.1.now in
     let cut : IsCut rows front back c.args.from.row = record { parts = c.split_at_mut-front-else-from-to.ensures.value; long = c.split_at_mut-front-else-from-to.ensures.front_len; there = c.requires.rows.0 } in
     back_there rows front back c.args.from.row cut
+
+pub bounds-front-from : goal.bounds-front-from
+bounds-front-from g c = omega (arith, c.split_at_mut-front.ensures.front_len, c.if-from-to.true)
+
+pub bounds-front-to : goal.bounds-front-to
+bounds-front-to g c = omega (arith, c.split_at_mut-front-else-from-to.ensures.front_len, c.requires.apart, c.if-from-to.false)

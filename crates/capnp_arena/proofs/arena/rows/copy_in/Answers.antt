@@ -1,7 +1,7 @@
 use Rattle.capnp_format.specs.Bytes.{words_of}
 use Rattle.capnp_arena_traits.specs.Written.{with_copied}
 use Rattle.capnp_arena.specs.Row.{allocated, capacity}
-use Rattle.std.proofs.Common.{ap, arith, sym, ◌∙◌}
+use Rattle.std.proofs.Common.{ap, arith, sym, ◌∙◌, length-set}
 use Rattle.capnp_arena.proofs.RowsLemmas.{row_old, row_over, room_same}
 use Rattle.capnp_arena.proofs.BoundsLemmas.{bounded_over}
 use Rattle.capnp_arena.proofs.arena.rows.copy_in.Goals as goal
@@ -24,3 +24,6 @@ returns-clause-words g c =
 pub returns-clause-room : goal.returns-clause-room
 returns-clause-room g c =
     room_same g.S.Segment c.args.rows.now c.args.id c.index-rows-id.result c.copy_from.new.self c.index-rows-id.is (c.copy_from.ensures.capacity ∙ ap (capacity g.S.Segment) (sym c.index-rows-id.is))
+
+pub returns-clause-many : goal.returns-clause-many
+returns-clause-many g c = length-set c.args.rows.now c.args.id _

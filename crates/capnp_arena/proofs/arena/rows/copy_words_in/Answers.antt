@@ -1,4 +1,4 @@
-use Rattle.std.proofs.Common.{sym, ap, ◌∙◌, arith}
+use Rattle.std.proofs.Common.{sym, ap, ◌∙◌, arith, length-set}
 use Rattle.capnp_format.specs.Bytes.{words_of, message}
 use Rattle.capnp_arena.specs.Row.{capacity, shown}
 use Rattle.capnp_arena_traits.specs.Written.{overwritten, with_segment}
@@ -28,3 +28,6 @@ returns-clause-words g c =
 pub returns-clause-room : goal.returns-clause-room
 returns-clause-room g c =
     room_same g.S.Segment c.args.rows.now c.args.id c.index-rows-id.result c.copy_words.new.self c.index-rows-id.is (c.copy_words.ensures.capacity ∙ ap (capacity g.S.Segment) (sym c.index-rows-id.is))
+
+pub returns-clause-many : goal.returns-clause-many
+returns-clause-many g c = length-set c.args.rows.now c.args.id _

@@ -1,6 +1,6 @@
 use Rattle.capnp_arena.specs.Row.{capacity}
 use Rattle.capnp_arena_traits.specs.Written.{overwritten}
-use Rattle.std.proofs.Common.{ap, arith, take, drop, sym, ◌∙◌}
+use Rattle.std.proofs.Common.{ap, arith, take, drop, sym, ◌∙◌, length-set}
 use Rattle.capnp_arena.proofs.RowsLemmas.{row_old, row_over, room_same}
 use Rattle.capnp_arena.proofs.BoundsLemmas.{bounded_over}
 use Rattle.capnp_arena.proofs.arena.rows.move_words_in.Goals as goal
@@ -30,3 +30,6 @@ returns-clause-words g c =
 pub returns-clause-room : goal.returns-clause-room
 returns-clause-room g c =
     room_same g.S.Segment c.args.rows.now c.args.id c.index-rows-id.result c.move_words.new.self c.index-rows-id.is (c.move_words.ensures.capacity ∙ ap (capacity g.S.Segment) (sym c.index-rows-id.is))
+
+pub returns-clause-many : goal.returns-clause-many
+returns-clause-many g c = length-set c.args.rows.now c.args.id _

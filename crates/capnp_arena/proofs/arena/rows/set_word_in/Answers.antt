@@ -1,4 +1,4 @@
-use Rattle.std.proofs.Common.{◌<◌, length, sym, ap, ◌∙◌, arith}
+use Rattle.std.proofs.Common.{◌<◌, length, sym, ap, ◌∙◌, arith, length-set}
 use Rattle.std.specs.Prelude.{slice_set}
 use Rattle.capnp_format.specs.Bytes.{message}
 use Rattle.capnp_arena.specs.Row.{capacity, shown}
@@ -35,3 +35,6 @@ returns-clause-room g c =
 pub bounds-rows-id : goal.bounds-rows-id
 bounds-rows-id g c =
     row_there g.S.Segment c.args.rows.now c.args.id c.args.at c.requires
+
+pub returns-clause-many : goal.returns-clause-many
+returns-clause-many g c = length-set c.args.rows.now c.args.id _

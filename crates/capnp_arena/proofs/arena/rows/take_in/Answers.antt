@@ -1,4 +1,4 @@
-use Rattle.std.proofs.Common.{ap, arith, ◌++◌, replicate, sym, ◌∙◌}
+use Rattle.std.proofs.Common.{ap, arith, ◌++◌, replicate, sym, ◌∙◌, length-set}
 use Rattle.capnp_arena.specs.Row.{capacity}
 use Rattle.capnp_arena.proofs.RowsLemmas.{row_old, room_is, row_over, room_same}
 use Rattle.capnp_arena.proofs.BoundsLemmas.{bounded_grown}
@@ -22,3 +22,11 @@ returns-clause-taken g c =
 pub returns-clause-room : goal.returns-clause-room
 returns-clause-room g c =
     room_same g.S.Segment c.args.rows.now c.args.id c.index-rows-id.result c.take.new.self c.index-rows-id.is (c.take.ensures.capacity ∙ ap (capacity g.S.Segment) (sym c.index-rows-id.is))
+
+pub returns-clause-at : goal.returns-clause-at
+returns-clause-at g c =
+    let row = c.index-rows-id.result in
+    omega (arith, c.take.ensures.at, ap (λ q. q.used) c.index-rows-id.is, row_old g.S.Segment c.args.rows.now c.args.id row c.requires.there c.index-rows-id.is)
+
+pub returns-clause-many : goal.returns-clause-many
+returns-clause-many g c = length-set c.args.rows.now c.args.id _

@@ -125,3 +125,10 @@ pub returns-in_err-id-in-None-clause-refused : goal.returns-in_err-id-in-None-cl
 returns-in_err-id-in-None-clause-refused g c =
     let p = err_from_is_err_and c.from_residual.result c.from_residual.ensures.1 in
     rw p.1 (refused_as_before c.first_fit.ensures.same (ap message c.in_err-id-in-None.ensures.refused) c.in_err-id-in-None.ensures.refused_room c.take_another.ensures.offers)
+
+pub returns-in_err-id-in-None-clause-large : goal.returns-in_err-id-in-None-clause-large
+returns-in_err-id-in-None-clause-large g c more few =
+    let found = shown g.A.Segment.Segment (arena_rows g.A.Segment.Segment g.A.Allocator.first_in_arena c.first_fit.new.self.listed c.first_fit.new.self.apart) in
+    let words : View → Segments = λ v. v.words in
+    let p = err_from_is_err_and c.from_residual.result c.from_residual.ensures.1 in
+    let e = c.in_err-id-in-None.ensures.large (subst (λ n. n < max_segments) (sym (as_many found (ap words c.first_fit.ensures.same))) few) more in cc

@@ -21,3 +21,7 @@ returns-clause-taken g c =
 pub returns-clause-room : goal.returns-clause-room
 returns-clause-room g c =
     room_same g.S.Segment c.args.self.now.rows.items c.args.id c.index_mut-row.result.now c.take.new.self c.index_mut-row.ensures.value c.take.ensures.capacity
+
+pub returns-clause-at : goal.returns-clause-at
+returns-clause-at g c =
+    omega (arith, c.take.ensures.at, row_old g.S.Segment c.args.self.now.rows.items c.args.id c.index_mut-row.result.now c.requires.there c.index_mut-row.ensures.value)

@@ -113,3 +113,17 @@ copy_across_in-requires-clause-inside g c =
     let b = c.args.self.now in
     let some : 0 < c.args.to.row = omega (arith, c.if-to-eq0.false) in
     subst (λ rows. c.args.to.at + c.args.n ≤ length (segment (message (shown seg rows)) (c.args.to.row - 1))) (sym c.deref_mut-else-to-eq0.ensures.value) (other_inside seg b.there b.first b.others.items c.args.to.row (c.args.to.at + c.args.n) b.few some c.requires.inside)
+
+pub index-requires : goal.index-requires
+index-requires g c =
+    let b = c.args.self.now in
+    let there = other_there g.S.Segment b.there b.first b.others.items c.args.from.row (omega (arith, c.if-from-eq0.false)) c.requires.rows.0 in
+    omega (arith, there, b.others.ok.0)
+
+pub copy_across_in-requires-clause-rows : goal.copy_across_in-requires-clause-rows
+copy_across_in-requires-clause-rows g c =
+    let seg = g.S.Segment in
+    let b = c.args.self.now in (
+      subst (λ rows. c.args.from.row - 1 < length rows) (sym c.deref_mut-else-to-eq0.ensures.value) (other_there seg b.there b.first b.others.items c.args.from.row (omega (arith, c.if-from-eq0.false)) c.requires.rows.0),
+      subst (λ rows. c.args.to.row - 1 < length rows) (sym c.deref_mut-else-to-eq0.ensures.value) (other_there seg b.there b.first b.others.items c.args.to.row (omega (arith, c.if-to-eq0.false)) c.requires.rows.1),
+    )

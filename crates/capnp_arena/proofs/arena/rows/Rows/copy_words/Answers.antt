@@ -1,9 +1,9 @@
-use Rattle.std.proofs.Common.{ap, sym, ◌∙◌, arith}
+use Rattle.std.proofs.Common.{◌+◌, length, ap, sym, ◌∙◌, arith}
 use Rattle.capnp_format.specs.Bytes.{words_of, message}
 use Rattle.capnp_arena.specs.Row.{shown}
 use Rattle.capnp_arena.specs.Rows.{all}
 use Rattle.capnp_arena_traits.specs.Written.{overwritten, with_segment}
-use Rattle.capnp_arena.proofs.ListedLemmas.{first_changed, first_kept, first_words, others_bounded, others_few, others_kept, others_written}
+use Rattle.capnp_arena.proofs.ListedLemmas.{first_changed, first_inside, first_kept, first_words, others_bounded, others_few, others_kept, others_written}
 use Rattle.capnp_arena.proofs.arena.rows.Rows.copy_words.Goals as goal
 
 pub returns-else-id-eq0-clause-words : goal.returns-else-id-eq0-clause-words
@@ -34,3 +34,9 @@ invariant_of-self-else-id-eq0-clause-few g c =
 pub invariant_of-self-else-id-eq0-clause-bounded : goal.invariant_of-self-else-id-eq0-clause-bounded
 invariant_of-self-else-id-eq0-clause-bounded g c =
     others_bounded g.S.Segment c.args.self.now.others _ _ c.deref_mut.ensures.value c.copy_words_in.ensures.many c.copy_words_in.ensures.bounded c.args.self.now.bounded
+
+pub copy_words-requires-clause-inside : goal.copy_words-requires-clause-inside
+copy_words-requires-clause-inside g c =
+    let seg = g.S.Segment in
+    let b = c.args.self.now in
+    first_inside seg b.there b.first b.others.items c.args.id (c.args.at + length (words_of c.args.from.now)) c.if-id-eq0.true c.requires.there c.requires.inside

@@ -5,7 +5,7 @@ use Rattle.capnp_arena.specs.Bounds.{view_of_rows}
 use Rattle.capnp_arena.specs.Row.{capacity}
 use Rattle.capnp_arena_traits.specs.Taking.{IsFirstFit, IsFull}
 use Rattle.capnp_arena.proofs.RowsLemmas.{length_shown}
-use Rattle.capnp_arena.proofs.ListedLemmas.{fit_first, fit_other, full_others, others_kept}
+use Rattle.capnp_arena.proofs.ListedLemmas.{fit_first, fit_other, full_none, full_others, others_kept}
 use Rattle.capnp_arena.proofs.arena.rows.Rows.first_fit.Goals as goal
 
 pub returns-then-has_room-clause-fit : goal.returns-then-has_room-clause-fit
@@ -50,3 +50,6 @@ returns-in-None-clause-segments g c =
     let seg = g.S.Segment in
     let b = c.args.self.now in
     others_shown seg b.there b.first b.others c.deref_mut.result.now c.first_by_bounds.new.rows c.deref_mut.ensures.value (as_many_shown seg c.deref_mut.result.now c.first_by_bounds.new.rows c.first_by_bounds.ensures.segments) c.first_by_bounds.ensures.segments
+
+pub returns-else-self-clause-full : goal.returns-else-self-clause-full
+returns-else-self-clause-full g c = λ _. full_none g.S.Segment c.args.self.now.there c.args.self.now.first c.args.self.now.others.items c.args.amount c.if-self.false

@@ -1,6 +1,6 @@
-use Rattle.std.proofs.Common.{take, drop, arith}
+use Rattle.std.proofs.Common.{◌+◌, take, drop, arith}
 use Rattle.capnp_arena_traits.specs.Written.{overwritten}
-use Rattle.capnp_arena.proofs.ListedLemmas.{others_kept, others_written, first_written, first_kept, others_few, others_bounded}
+use Rattle.capnp_arena.proofs.ListedLemmas.{others_kept, others_written, first_inside, first_written, first_kept, others_few, others_bounded}
 use Rattle.capnp_arena.proofs.arena.rows.Rows.move_words.Goals as goal
 
 pub returns-else-id-eq0-clause-words : goal.returns-else-id-eq0-clause-words
@@ -27,3 +27,15 @@ invariant_of-self-else-id-eq0-clause-few g c =
 pub invariant_of-self-else-id-eq0-clause-bounded : goal.invariant_of-self-else-id-eq0-clause-bounded
 invariant_of-self-else-id-eq0-clause-bounded g c =
     others_bounded g.S.Segment c.args.self.now.others _ _ c.deref_mut.ensures.value c.move_words_in.ensures.many c.move_words_in.ensures.bounded c.args.self.now.bounded
+
+pub move_words-requires-clause-there : goal.move_words-requires-clause-there
+move_words-requires-clause-there g c =
+    let seg = g.S.Segment in
+    let b = c.args.self.now in
+    first_inside seg b.there b.first b.others.items c.args.id (c.args.from + c.args.n) c.if-id-eq0.true c.requires.row c.requires.there
+
+pub move_words-requires-clause-inside : goal.move_words-requires-clause-inside
+move_words-requires-clause-inside g c =
+    let seg = g.S.Segment in
+    let b = c.args.self.now in
+    first_inside seg b.there b.first b.others.items c.args.id (c.args.to + c.args.n) c.if-id-eq0.true c.requires.row c.requires.inside

@@ -1,6 +1,6 @@
 use Rattle.std.proofs.Common.{arith}
 use Rattle.std.specs.Prelude.{slice_set}
-use Rattle.capnp_arena.proofs.ListedLemmas.{others_kept, first_written, first_there, first_kept, others_written, others_few, others_bounded}
+use Rattle.capnp_arena.proofs.ListedLemmas.{others_kept, first_written, first_there, first_used, first_kept, others_written, others_few, others_bounded}
 use Rattle.capnp_arena.proofs.arena.rows.Rows.set_word.Goals as goal
 
 pub returns-else-id-eq0-clause-room : goal.returns-else-id-eq0-clause-room
@@ -26,3 +26,9 @@ invariant_of-self-else-id-eq0-clause-few g c =
 pub invariant_of-self-else-id-eq0-clause-bounded : goal.invariant_of-self-else-id-eq0-clause-bounded
 invariant_of-self-else-id-eq0-clause-bounded g c =
     others_bounded g.S.Segment c.args.self.now.others _ _ c.deref_mut.ensures.value c.set_word_in.ensures.many c.set_word_in.ensures.bounded c.args.self.now.bounded
+
+pub set_word-requires : goal.set_word-requires
+set_word-requires g c =
+    let seg = g.S.Segment in
+    let b = c.args.self.now in
+    omega (arith, c.requires, first_used seg b.there b.first b.others.items c.args.id c.if-id-eq0.true (first_there seg b.there b.first b.others.items c.args.id c.args.at c.requires))

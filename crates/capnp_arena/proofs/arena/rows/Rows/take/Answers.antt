@@ -1,5 +1,8 @@
-use Rattle.std.proofs.Common.{◌++◌, replicate, arith}
-use Rattle.capnp_arena.proofs.ListedLemmas.{others_kept, first_written, first_kept, others_written, others_few, others_bounded}
+use Rattle.std.proofs.Common.{◌++◌, ◌<◌, ◌-◌, replicate, length, sym, ap, ◌∙◌, arith}
+use Rattle.capnp_format.specs.Bytes.{message}
+use Rattle.capnp_format.specs.Segments.{segment}
+use Rattle.capnp_arena.specs.Row.{shown}
+use Rattle.capnp_arena.proofs.ListedLemmas.{others_kept, other_words, first_written, first_kept, first_room, first_used, others_written, others_few, others_bounded}
 use Rattle.capnp_arena.proofs.arena.rows.Rows.take.Goals as goal
 
 pub returns-else-id-eq0-clause-room : goal.returns-else-id-eq0-clause-room
@@ -25,3 +28,22 @@ invariant_of-self-else-id-eq0-clause-few g c =
 pub invariant_of-self-else-id-eq0-clause-bounded : goal.invariant_of-self-else-id-eq0-clause-bounded
 invariant_of-self-else-id-eq0-clause-bounded g c =
     others_bounded g.S.Segment c.args.self.now.others _ _ c.deref_mut.ensures.value c.take_in.ensures.many c.take_in.ensures.bounded c.args.self.now.bounded
+
+pub take-requires : goal.take-requires
+take-requires g c =
+    let seg = g.S.Segment in
+    let b = c.args.self.now in
+    omega (arith, c.requires.fits, first_used seg b.there b.first b.others.items c.args.id c.if-id-eq0.true c.requires.there, first_room seg b.there b.first b.others.items c.args.id c.if-id-eq0.true c.requires.there)
+
+pub returns-then-id-eq0-clause-at : goal.returns-then-id-eq0-clause-at
+returns-then-id-eq0-clause-at g c =
+    let seg = g.S.Segment in
+    let b = c.args.self.now in
+    c.take.ensures.at ∙ sym (first_used seg b.there b.first b.others.items c.args.id c.if-id-eq0.true c.requires.there)
+
+pub returns-else-id-eq0-clause-at : goal.returns-else-id-eq0-clause-at
+returns-else-id-eq0-clause-at g c =
+    let seg = g.S.Segment in
+    let b = c.args.self.now in
+    let some : 0 < c.args.id = omega (arith, c.if-id-eq0.false) in
+    c.take_in.ensures.at ∙ ap (λ rows. length (segment (message (shown seg rows)) (c.args.id - 1))) c.deref_mut.ensures.value ∙ sym (ap length (other_words seg b.there b.first b.others.items c.args.id b.few some))
