@@ -1,6 +1,6 @@
 //! What a pointer leads to already ("Lists", "Capabilities (Interfaces)"): nothing is written, and
 //! nothing made.
-ghost use Rattle.std.specs.Prelude.{◌≡◌, ◌≢◌, ◌↔◌, ◌<◌, ◌≤◌, ◌+◌, ◌^◌, IsTrue, IsSome, IfSome, IfErr, true, length};
+ghost use Rattle.std.specs.Prelude.{◌≡◌, ◌≢◌, ◌↔◌, ◌<◌, ◌≤◌, ◌+◌, ◌^◌, IsTrue, IsSome, IfSome, IfOk, IfErr, true, length};
 ghost use Rattle.capnp_format.specs.Bytes.{words_of};
 ghost use Rattle.capnp_format.specs.Forest.{target};
 ghost use Rattle.capnp_format.specs.Numbers.{words_for};
@@ -171,6 +171,7 @@ pub fn get_list<A: BuilderArena>(
     ensures found { (t : Tree) → IsStored (A.view arena.now).words id at t
         → result ≡ list_in (target (A.view arena.now).words id at) expected t }
     ensures named { IfErr result (λ k. is_unfound k ≡ true) }
+    ensures few { IfOk result (λ found. IfSome found (λ list. list.count < 2 ^ 30)) }
 {
     match follow_list(arena, id, at)? {
         Some(landing) => {
@@ -219,6 +220,7 @@ fn plain_list_at(
     ensures found { result ≡ unless (plain_misfit expected size)
         (plain_list (target_of landing) size (list_count landing.word.0)) }
     ensures named { IfErr result (λ k. is_unfound k ≡ true) }
+    ensures few { IfOk result (λ found. IfSome found (λ list. list.count < 2 ^ 30)) }
 {
     if data_bits_per_element(size) < data_bits_per_element(expected)
         || pointers_per_element(size) < pointers_per_element(expected)
@@ -249,6 +251,7 @@ fn struct_list_at<A: BuilderArena>(
         (struct_list (target_of landing) (data_words tag) (pointer_count tag)
         (offset_bits tag)) }
     ensures named { IfErr result (λ k. is_unfound k ≡ true) }
+    ensures few { IfOk result (λ found. IfSome found (λ list. list.count < 2 ^ 30)) }
 {
     match tag_at(arena, landing) {
         Some(tag) => {

@@ -11,10 +11,10 @@ use Rattle.capnp_widening.specs.Anew.{BecomesAnew}
 use Rattle.capnp_widening.specs.declared.remaking.ElementRows.{ElementRows}
 use Rattle.capnp_widening.specs.declared.widening.Room.{Room}
 use Rattle.capnp_widening.specs.RowsRemade.{RowsInside, rows_in, as_structs, StoresRows, BecomesList}
-use Rattle.capnp_widening.specs.Widened.{GrowsByZeros, LeavesAll}
+use Rattle.capnp_widening.specs.Widened.{GrowsByZeros}
 use Rattle.capnp_widening.proofs.ListSteps.{ListSteps, ListTaken, ListUndone, list_at, same_size, struct_rows, structs_anew, structs_stored, structs_become, structs_left}
 use Rattle.capnp_widening.proofs.PointerSteps.{pointer_rows, pointers_stored, pointers_anew, pointers_become, pointers_left, void_rows, void_stored, void_anew, void_become, void_left}
-use Rattle.capnp_widening.proofs.Statements.{RemakesList, RemakesListAnew, rewriting}
+use Rattle.capnp_widening.proofs.Statements.{LeavesAll, RemakesList, RemakesListAnew, rewriting}
 
 pub same_rows : (x y : ElementRows) → Some x ≡ Some y → x ≡ y
 same_rows x y e = cc

@@ -3,7 +3,6 @@ pub mod AnyRows
 pub mod Basics
 pub mod CanonicalWords
 pub mod Copying
-pub mod Described
 pub mod Filled
 pub mod Filling
 pub mod Kept

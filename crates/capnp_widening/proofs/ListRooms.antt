@@ -70,10 +70,10 @@ pointers_are S s p t u l size wide is wd wp i e =
           ∙ near_of_rows S a to a.at 1 1 (count k.children) (a.at + 1 + d) (d + max 1 q) (pointers_of l) wide (ap (λ (o : ExistingList). o.segment) k.list) (omega (arith, ap (λ (o : ExistingList). o.start) k.list)) refl refl n);
     }
 
-pub void_are : (S : Segments) (s p n : ℕ) (t u : Tree) (l : ExistingList) (size : StructSize) → size_number l.size ≡ 0 → ((a : Target) → leads S s p ≡ Some a → n ≡ list_count a.word) → IsList S s p l t →
-    list_widened size.data_words size.pointers t ≡ Ok u → AreRows S s p t u (void_of l n) size
-void_are S s p n t u l size is counts i e =
-    let k = are_void S s p n t l is counts i in
+pub void_are : (S : Segments) (s p : ℕ) (t u : Tree) (l : ExistingList) (size : StructSize) → size_number l.size ≡ 0 → IsList S s p l t →
+    list_widened size.data_words size.pointers t ≡ Ok u → AreRows S s p t u (void_of l) size
+void_are S s p t u l size is i e =
+    let k = are_void S s p t l is i in
     let d = size.data_words in
     let q = size.pointers in
     let same : u ≡ Structs d q (zero_elements d q (length k.numbers)) = limited_to _ _ u (sym (ap (list_widened d q) k.tree_of) ∙ e) in
@@ -83,7 +83,7 @@ void_are S s p n t u l size is counts i e =
       words = ap widened_words same ∙ ap (λ x. 1 + x * (d + q)) (count-zero_elements d q (length k.numbers) ∙ sym k.counts);
       pointers = ap direct_pointers k.tree_of ∙ omega arith;
       near = λ to. ap (λ x. near_pointers S (moves_into (start_of (target S s p)) (start_of (target S s p)) x u)) k.tree_of
-          ∙ sym (ap (near_pointers S) (no_moves l.segment (l.start + 0 + 0) (0 + 0) to.segment (to.at + size.data_words) (size.data_words + size.pointers) n));
+          ∙ sym (ap (near_pointers S) (no_moves l.segment (l.start + 0 + 0) (0 + 0) to.segment (to.at + size.data_words) (size.data_words + size.pointers) l.count));
     }
 
 pub structs_are : (S : Segments) (s p : ℕ) (t u : Tree) (l : ExistingList) (size wide : StructSize) → size_number l.size ≡ 7 → (size.data_words ≤ l.struct_size.data_words → size.pointers ≤ l.struct_size.pointers → ⊥) →

@@ -29,10 +29,10 @@ pointers_anew_to a b s p l size wide is wd wp made = λ t u i some e narrow.
     let goal : u ≡ Structs d (max 1 q) (struct_for_each_tree d q k.children) = limited_to _ _ u (sym (ap (list_widened d q) k.tree_of) ∙ e) in
     subst (λ z. BecomesAnew (call_at s p a b) t z) (same ∙ sym goal) (made t (has_pointers a.words s p t l k i.0)))
 
-pub void_anew_to : (a b : View) (s p n : ℕ) (l : ExistingList) (size : StructSize) → size_number l.size ≡ 0 → ((o : Target) → leads a.words s p ≡ Some o → n ≡ list_count o.word) →
-    RemakesListAnew (StoresRows a.words s p (void_of l n)) size (call_at s p a b) → WidensListAnew (IsList a.words s p l) size (call_at s p a b)
-void_anew_to a b s p n l size is count made = λ t u i some e narrow.
-    (let k = are_void a.words s p n t l is count i in
+pub void_anew_to : (a b : View) (s p : ℕ) (l : ExistingList) (size : StructSize) → size_number l.size ≡ 0 →
+    RemakesListAnew (StoresRows a.words s p (void_of l)) size (call_at s p a b) → WidensListAnew (IsList a.words s p l) size (call_at s p a b)
+void_anew_to a b s p l size is made = λ t u i some e narrow.
+    (let k = are_void a.words s p t l is i in
     let d = size.data_words in
     let q = size.pointers in
     let goal : u ≡ as_structs size t = limited_to _ _ u (sym (ap (list_widened d q) k.tree_of) ∙ e) ∙ sym (ap (as_structs size) k.tree_of) in

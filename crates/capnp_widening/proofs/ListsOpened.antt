@@ -17,12 +17,12 @@ use Rattle.capnp_making.specs.Stored.{IsStored, IsReplaced}
 use Rattle.capnp_making.specs.Makes.{call_at, CallAt}
 use Rattle.capnp_widening.specs.Opening.{Opens, OpensExistingList, LeadsToAll, refusal_of_words, refusal_of_elements}
 use Rattle.capnp_widening.specs.RowsRemade.{RefusesWider}
-use Rattle.capnp_widening.specs.Widened.{HasSections, fill_elements, LeavesAll, limited, list_widened}
+use Rattle.capnp_widening.specs.Widened.{HasSections, fill_elements, limited, list_widened}
 use Rattle.capnp_widening.proofs.Listed.{same_list, no_list, not_a_list, structs_widen}
 use Rattle.capnp_widening.proofs.PlainLists.{are_numbers, are_pointers}
 use Rattle.capnp_widening.proofs.StructLists.{are_structs}
 use Rattle.capnp_widening.proofs.StructsOpened.{stands_grown}
-use Rattle.capnp_widening.proofs.Statements.{WidensListAnew, GrowsForList}
+use Rattle.capnp_widening.proofs.Statements.{GrowsForList, LeavesAll, WidensListAnew}
 
 -- A list that is found is one of structs with sections of at least a size.
 abbrev pub HasWideStructs : StructSize → ExistingList → Type 0

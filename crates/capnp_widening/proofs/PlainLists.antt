@@ -14,11 +14,10 @@ use Rattle.capnp_making.specs.Made.{words_of_zero, nulls, zero_elements}
 use Rattle.capnp_making.specs.Stored.{IsStored}
 use Rattle.capnp_widening.specs.declared.remaking.ElementRows.{ElementRows}
 use Rattle.capnp_widening.specs.RowsRemade.{rows_in, as_structs, StoresRows, BecomesList, IsList, WidensTo}
-use Rattle.capnp_widening.specs.Widened.{struct_for_each, struct_for_each_tree, limited, list_widened, LeavesAll}
-use Rattle.capnp_widening.proofs.Described.{counted}
+use Rattle.capnp_widening.specs.Widened.{struct_for_each, struct_for_each_tree, limited, list_widened}
 use Rattle.capnp_widening.proofs.Filled.{greater_words, greater_trees}
 use Rattle.capnp_widening.proofs.Listed.{same_list, flat_width, flat_found, number_of_size, listed_size, tree_size, few_enough, refused_for_any}
-use Rattle.capnp_widening.proofs.Statements.{RemakesList, rewriting}
+use Rattle.capnp_widening.proofs.Statements.{LeavesAll, RemakesList, rewriting}
 
 -- a list of pointers
 
@@ -105,32 +104,31 @@ are_numbers S s p t l is (x, e) = go t x e
     go (Capability i) y f = other (Capability i) y f (λ g. omega (arith, g))
     go (Struct ws ts) y f = other (Struct ws ts) y f (λ g. omega (arith, g))
 
-abbrev pub void_of : ExistingList → ℕ → ElementRows
-void_of l n = record { segment = l.segment; at = l.start; tag = 0; size = record { data_words = 0; pointers = 0 }; count = n }
+abbrev pub void_of : ExistingList → ElementRows
+void_of l = record { segment = l.segment; at = l.start; tag = 0; size = record { data_words = 0; pointers = 0 }; count = l.count }
 
 -- a list of void, by its numbers
-pub record AreVoid (S : Segments) (s p : ℕ) (t : Tree) (l : ExistingList) (n : ℕ) : Type 0 where
+pub record AreVoid (S : Segments) (s p : ℕ) (t : Tree) (l : ExistingList) : Type 0 where
   pub numbers : List ℕ
   pub tree_of : t ≡ Flat 0 numbers
-  pub counts : n ≡ length numbers
-  pub has : StoresRows S s p (void_of l n) t
+  pub counts : l.count ≡ length numbers
+  pub has : StoresRows S s p (void_of l) t
 
-pub are_void : (S : Segments) (s p n : ℕ) (t : Tree) (l : ExistingList) → size_number l.size ≡ 0 → ((a : Target) → leads S s p ≡ Some a → n ≡ list_count a.word) → IsList S s p l t → AreVoid S s p t l n
-are_void S s p n t l is count i =
+pub are_void : (S : Segments) (s p : ℕ) (t : Tree) (l : ExistingList) → size_number l.size ≡ 0 → IsList S s p l t → AreVoid S s p t l
+are_void S s p t l is i =
     let k = are_numbers S s p t l (omega (arith, is)) i in
     let is_tree : t ≡ Flat 0 k.numbers = k.tree_of ∙ ap (λ w. Flat w k.numbers) is in
-    let counts : n ≡ length k.numbers = counted S s p 0 n k.numbers count (subst (IsStored S s p) is_tree i.0) in
     record {
       numbers = k.numbers;
       tree_of = is_tree;
-      counts = counts;
-      has = (i.0, ap (rows_in (target S s p)) is_tree ∙ ap Some (ap (void_of (plain_list (target S s p) l.size (length k.numbers))) (sym counts) ∙ ap (λ m. void_of m n) (sym k.list)));
+      counts = ap (λ (o : ExistingList). o.count) k.list;
+      has = (i.0, ap (rows_in (target S s p)) is_tree ∙ ap Some (ap void_of (sym k.list)));
     }
 
-pub void_widened_to : (S R : Segments) (s p n : ℕ) (l m : ExistingList) (size : StructSize) → size_number l.size ≡ 0 → ((a : Target) → leads S s p ≡ Some a → n ≡ list_count a.word) →
-    n * (size.data_words + size.pointers) < 2 ^ 29 → RemakesList (StoresRows S s p (void_of l n)) size (rewriting s p S R) m → WidensTo l size (rewriting s p S R) m
-void_widened_to S R s p n l m size is count few made = λ t i.
-    (let k = are_void S s p n t l is count i in
+pub void_widened_to : (S R : Segments) (s p : ℕ) (l m : ExistingList) (size : StructSize) → size_number l.size ≡ 0 →
+    l.count * (size.data_words + size.pointers) < 2 ^ 29 → RemakesList (StoresRows S s p (void_of l)) size (rewriting s p S R) m → WidensTo l size (rewriting s p S R) m
+void_widened_to S R s p l m size is few made = λ t i.
+    (let k = are_void S s p t l is i in
     let d = size.data_words in
     let q = size.pointers in
     let u = Structs d q (zero_elements d q (length k.numbers)) in (
@@ -139,13 +137,13 @@ void_widened_to S R s p n l m size is count few made = λ t i.
       subst (λ z. BecomesList (rewriting s p S R) m t z) (ap (as_structs size) k.tree_of) (made t k.has),
     ))
 
-pub void_left_as : (S R : Segments) (s p n : ℕ) (l : ExistingList) → size_number l.size ≡ 0 → ((a : Target) → leads S s p ≡ Some a → n ≡ list_count a.word) → LeavesAll (StoresRows S s p (void_of l n)) S R → LeavesAll (IsList S s p l) S R
-void_left_as S R s p n l is count left = λ t i. left t (are_void S s p n t l is count i).has
+pub void_left_as : (S R : Segments) (s p : ℕ) (l : ExistingList) → size_number l.size ≡ 0 → LeavesAll (StoresRows S s p (void_of l)) S R → LeavesAll (IsList S s p l) S R
+void_left_as S R s p l is left = λ t i. left t (are_void S s p t l is i).has
 
-pub void_refused : (S : Segments) (s p n : ℕ) (l : ExistingList) (size : StructSize) (k : ErrorKind) → size_number l.size ≡ 0 → ((a : Target) → leads S s p ≡ Some a → n ≡ list_count a.word) →
-    ((t : Tree) → StoresRows S s p (void_of l n) t → limited (n * (size.data_words + size.pointers)) (as_structs size t) ≡ Err k) → (t : Tree) → IsList S s p l t → list_widened size.data_words size.pointers t ≡ Err k
-void_refused S s p n l size k is count refused = λ t i.
-    (let c = are_void S s p n t l is count i in
+pub void_refused : (S : Segments) (s p : ℕ) (l : ExistingList) (size : StructSize) (k : ErrorKind) → size_number l.size ≡ 0 →
+    ((t : Tree) → StoresRows S s p (void_of l) t → limited (l.count * (size.data_words + size.pointers)) (as_structs size t) ≡ Err k) → (t : Tree) → IsList S s p l t → list_widened size.data_words size.pointers t ≡ Err k
+void_refused S s p l size k is refused = λ t i.
+    (let c = are_void S s p t l is i in
     ap (list_widened size.data_words size.pointers) c.tree_of
     ∙ refused_for_any _ (as_structs size t) _ k (subst (λ j. limited (j * (size.data_words + size.pointers)) (as_structs size t) ≡ Err k) c.counts (refused t c.has)))
 

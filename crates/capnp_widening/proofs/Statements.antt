@@ -31,7 +31,7 @@ use Rattle.capnp_widening.specs.Opening.{LeadsToAll}
 use Rattle.capnp_widening.specs.Pointed.{PointsTo}
 use Rattle.capnp_widening.specs.Rooms.{GrowsByAtMost, direct_pointers, widened_words}
 use Rattle.capnp_widening.specs.RowsRemade.{AreNumbersCopied, AreRowsCopied, BecomesList, as_structs}
-use Rattle.capnp_widening.specs.Widened.{HasSections, list_widened, widened}
+use Rattle.capnp_widening.specs.Widened.{GrowsByZeros, HasSections, list_widened, widened}
 
 -- a call of which the words alone matter
 abbrev pub rewriting : ℕ → ℕ → Segments → Segments → CallAt
@@ -50,6 +50,9 @@ LeadsToWiderStruct Stands R s p e = (ws : List ℕ) (ts : Trees) → Stands (Str
 
 abbrev pub GrowsForStruct : Segments → Segments → ℕ → ℕ → StructSize → Type 0
 GrowsForStruct S R s p size = (ws : List ℕ) (ts : Trees) → IsStored S s p (Struct ws ts) → GrowsByAtMost S R (widened_words (widened size ws ts) + 1 + 2 * count ts)
+
+abbrev pub LeavesAll : (Tree → Type 0) → Segments → Segments → Type 0
+LeavesAll Stands S R = (t : Tree) → Stands t → GrowsByZeros S R
 
 -- a list made wider
 

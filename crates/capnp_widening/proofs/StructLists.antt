@@ -13,9 +13,9 @@ use Rattle.capnp_making.specs.Stored.{IsStored}
 use Rattle.capnp_making.proofs.Filling.{unchanged}
 use Rattle.capnp_widening.specs.declared.remaking.ElementRows.{ElementRows}
 use Rattle.capnp_widening.specs.RowsRemade.{rows_in, as_structs, StoresRows, BecomesList, IsList, WidensTo}
-use Rattle.capnp_widening.specs.Widened.{fill_elements, limited, list_widened, LeavesAll}
+use Rattle.capnp_widening.specs.Widened.{fill_elements, limited, list_widened}
 use Rattle.capnp_widening.proofs.Listed.{same_list, flat_width, listed_size, tree_size, few_enough, refused_for_any, filled_to_greater, structs_stay, structs_widen}
-use Rattle.capnp_widening.proofs.Statements.{RemakesList, rewriting}
+use Rattle.capnp_widening.proofs.Statements.{LeavesAll, RemakesList, rewriting}
 
 -- what a list of structs is, by what is found
 pub record AreStructs (S : Segments) (s p : ℕ) (t : Tree) (l : ExistingList) : Type 0 where

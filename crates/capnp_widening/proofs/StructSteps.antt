@@ -25,11 +25,11 @@ use Rattle.capnp_widening.specs.declared.widening.Room.{Room}
 use Rattle.capnp_widening.specs.Moved.{Move, Moves, MovesSome, Unmoves}
 use Rattle.capnp_widening.specs.Anew.{BecomesAnew, OnlyWrites, StandsAnew, WritesAnew}
 use Rattle.capnp_widening.specs.Housed.{IsRoom, AreWordsCopied, object_start}
-use Rattle.capnp_widening.specs.Widened.{fill_words, fill_trees, GrowsByZeros, IsStruct, LeavesAll, widened}
+use Rattle.capnp_widening.specs.Widened.{fill_words, fill_trees, GrowsByZeros, IsStruct, widened}
 use Rattle.capnp_widening.proofs.Remade.{IsRemade, leads_last, object_anew, undone}
 use Rattle.capnp_widening.proofs.StructRemade.{struct_parts, struct_begun, struct_remade}
 use Rattle.capnp_widening.proofs.Widenings.{length-fill_words, count-fill_trees}
-use Rattle.capnp_widening.proofs.Statements.{WidensStructAnew, SettlesRoom, LeadsToWiderStruct, WidensStruct, rewriting, row_moves}
+use Rattle.capnp_widening.proofs.Statements.{LeadsToWiderStruct, LeavesAll, SettlesRoom, WidensStruct, WidensStructAnew, rewriting, row_moves}
 
 pub record StructSteps (S T D P R Z Q : Segments) (id at : ℕ) (old : ExistingStruct) (size : StructSize) (h : Room) : Type 0 where
   pub place : IsPlace S id at

@@ -24,7 +24,7 @@ use Rattle.capnp_making.specs.Makes.{call_at}
 use Rattle.capnp_widening.specs.Anew.{StandsAnew}
 use Rattle.capnp_widening.specs.Opening.{LeadsToOne, OpensStruct, struct_opened}
 use Rattle.capnp_widening.specs.Rooms.{direct_pointers, RefusesGrowth, RefusesToBecome, widened_words}
-use Rattle.capnp_widening.specs.Widened.{fill_words, fill_trees, GrowsByZeros, LeavesAll, widened}
+use Rattle.capnp_widening.specs.Widened.{fill_words, fill_trees, GrowsByZeros, widened}
 use Rattle.capnp_widening.proofs.Filled.{already_wide, wide_words, wide_trees}
 use Rattle.capnp_widening.proofs.Listed.{same_tree}
 use Rattle.capnp_widening.proofs.Refusing.{growth_named}
@@ -33,7 +33,7 @@ use Rattle.capnp_widening.proofs.StructRooms.{no_struct}
 use Rattle.capnp_widening.proofs.StructSteps.{the_struct, same_struct}
 use Rattle.capnp_widening.proofs.Widenings.{length-fill_words, count-fill_trees}
 use Rattle.capnp_widening.proofs.WrittenAnew.{writes_nothing}
-use Rattle.capnp_widening.proofs.Statements.{WidensStructAnew, GrowsForStruct, WidensStruct, LeadsToWiderStruct, rewriting}
+use Rattle.capnp_widening.proofs.Statements.{GrowsForStruct, LeadsToWiderStruct, LeavesAll, WidensStruct, WidensStructAnew, rewriting}
 
 -- a refusal that spends nothing
 pub nothing_spent : (v : View) (k : ErrorKind) → (k ≡ AllocationFailed → ⊥) → SpendsMemory v v k

@@ -16,7 +16,7 @@ use Rattle.capnp_making.specs.Memory.{StandsBehind, TakesWords, start_of}
 use Rattle.capnp_making.specs.Stored.{IsReplaced}
 use Rattle.capnp_widening.specs.Moved.{CanMove, Move, Moves, MovesSome, moves_into, near_pointers}
 use Rattle.capnp_widening.specs.Rooms.{GrowsByAtMost, HasPadRoom, widened_words}
-use Rattle.capnp_widening.specs.Widened.{LeavesAll, widened}
+use Rattle.capnp_widening.specs.Widened.{GrowsByZeros, widened}
 
 -- The pointer x, whose object lies in segment s if it is near, is written anew in segment v as y:
 -- null, a far pointer and a capability as they are; a near one near in its object's segment, where
@@ -103,7 +103,8 @@ BecomesAnew c t u =
     (start_of (target c.new.words c.segment c.at)) t u)
 
 -- A call makes the struct that stands at a place anew, so that it has sections of at least a size,
--- and gives where it lies; or memory is refused, and the struct stands as it stood.
+-- and gives where it lies; or memory is refused, and nothing but zeros is new. What stands there is
+-- said by Stands, here and below: as that it is stored.
 pub record MakesStructWider (result : Result ExistingStruct ErrorKind) (Stands : Tree → Type 0)
     (size : StructSize) (c : CallAt) : Type 0 where
   pub replaced :
@@ -121,4 +122,4 @@ pub record MakesStructWider (result : Result ExistingStruct ErrorKind) (Stands :
       BecomesAnew c (Struct ws ts) (widened size ws ts))
   pub granted : OnOk result (KeepsMemory c.old c.new)
   pub memory : IfErr result (SpendsMemory c.old c.new)
-  pub refused : OnErr result (LeavesAll Stands c.old.words c.new.words)
+  pub refused : OnErr result ((t : Tree) → Stands t → GrowsByZeros c.old.words c.new.words)

@@ -27,7 +27,7 @@ use Rattle.capnp_widening.specs.Anew.{BecomesAnew, OnlyWrites, WritesAnew}
 use Rattle.capnp_widening.specs.Moved.{Move, Moves, rows_of_moves}
 use Rattle.capnp_widening.specs.Rooms.{GrowsByAtMost, RefusesGrowth, RefusesToBecome, WiderListFits}
 use Rattle.capnp_widening.specs.Rooms.{direct_pointers, widened_words}
-use Rattle.capnp_widening.specs.Widened.{HasSections, LeavesAll, fill_elements, struct_for_each}
+use Rattle.capnp_widening.specs.Widened.{GrowsByZeros, HasSections, fill_elements, struct_for_each}
 use Rattle.capnp_widening.specs.Widened.{struct_for_each_tree, limited, list_widened}
 
 -- From S to R the first d words of each of n rows are copied over those of other rows, and nothing
@@ -194,7 +194,7 @@ pub record MakesListAnew (result : Result ExistingList ErrorKind) (Stands : Tree
   pub anew : OnOk result ((t : Tree) → Stands t → BecomesAnew c t (as_structs size t))
   pub granted : OnOk result (KeepsMemory c.old c.new)
   pub memory : IfErr result (SpendsMemory c.old c.new)
-  pub refused : OnErr result (LeavesAll Stands c.old.words c.new.words)
+  pub refused : OnErr result ((t : Tree) → Stands t → GrowsByZeros c.old.words c.new.words)
 
 -- A call makes the list that stands at a place one of structs of at least a size, anew where it
 -- isn't; or that is refused, and the list stands as it stood. It never is where there is room. No
@@ -207,7 +207,7 @@ pub record MakesListWider {B : Type 0} (result : Result B ErrorKind) (Stands : T
       (HasSections size t → ⊥) → BecomesAnew c t u)
   pub granted : OnOk result (KeepsMemory c.old c.new)
   pub memory : IfErr result (SpendsMemory c.old c.new)
-  pub refused : OnErr result (LeavesAll Stands c.old.words c.new.words)
+  pub refused : OnErr result ((t : Tree) → Stands t → GrowsByZeros c.old.words c.new.words)
   pub named : IfErr result (RefusesWider Stands size c.old c.new)
   pub fits : WiderListFits Stands c.old c.segment c.at size → IsOk result
   pub few : (t u : Tree) → Stands t → list_widened size.data_words size.pointers t ≡ Ok u →

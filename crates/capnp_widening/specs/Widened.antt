@@ -57,11 +57,6 @@ IsStruct S s p e t = IsStored S s p t × (struct_in (target S s p) t ≡ Some e)
 abbrev pub widened : StructSize → List ℕ → Trees → Tree
 widened size ws ts = Struct (fill_words size.data_words ws) (fill_trees size.pointers ts)
 
--- Whatever value stands there, R has nothing but zeros more than S. What stands there is said by
--- Stands, here and below: as that it is stored.
-abbrev pub LeavesAll : (Tree → Type 0) → Segments → Segments → Type 0
-LeavesAll Stands S R = (t : Tree) → Stands t → GrowsByZeros S R
-
 -- A struct, or each struct of a list, has sections of at least a size. Null is a list of none,
 -- which needs none.
 abbrev pub HasSections : StructSize → Tree → Type 0

@@ -1,6 +1,6 @@
 //! Lists made lists of structs of at least a wanted size.
-ghost use Rattle.std.specs.Prelude.{ℕ, ◌⊎◌, ◌≡◌, ◌≤◌, ◌+◌, Some, IsOk, IfOk};
-ghost use Rattle.capnp_format.specs.Segments.{IsPlace, leads, Target};
+ghost use Rattle.std.specs.Prelude.{ℕ, ◌⊎◌, ◌≡◌, ◌<◌, ◌≤◌, ◌^◌, IsOk, IfOk};
+ghost use Rattle.capnp_format.specs.Segments.{IsPlace};
 ghost use Rattle.capnp_format.specs.Tree.{Tree, Elements, Null, Structs};
 ghost use Rattle.capnp_words.specs.Sizes.{size_number};
 ghost use Rattle.capnp_making.specs.Makes.{call_at};
@@ -14,9 +14,8 @@ use crate::remaking::{ElementRows, widen_rows};
 use crate::widening::greater;
 use capnp_arena_traits::arena::BuilderArena;
 use capnp_contents::existing::{self, ExistingList};
-use capnp_making::landing::word_of;
 use capnp_words::error::ErrorKind;
-use capnp_words::wire_pointer::{ElementSize, StructSize, WirePointer, WirePointerKind};
+use capnp_words::wire_pointer::{ElementSize, StructSize};
 
 /// The list that the pointer at a place leads to, as a list of structs with both sections at least as
 /// large as asked for; `None` where the pointer is null. Elements that are no structs, and structs of
@@ -65,6 +64,7 @@ fn widen_list<A: BuilderArena>(
     size: StructSize,
 ) -> Result<ExistingList, ErrorKind>
     requires place { IsPlace (A.view arena.old).words id at }
+    requires few { old.count < 2 ^ 30 }
     ensures widened { IfOk result (WidensTo old size
         (call_at id at (A.view arena.old) (A.view arena.new))) }
     ensures wider { MakesListWider result (IsList (A.view arena.old).words id at old) size
@@ -170,6 +170,7 @@ fn widen_void<A: BuilderArena>(
 ) -> Result<ExistingList, ErrorKind>
     requires place { IsPlace (A.view arena.old).words id at }
     requires kind { size_number old.size ≡ 0 }
+    requires few { old.count < 2 ^ 30 }
     ensures widened { IfOk result (WidensTo old size
         (call_at id at (A.view arena.old) (A.view arena.new))) }
     ensures wider { MakesListWider result (IsList (A.view arena.old).words id at old) size
@@ -183,23 +184,7 @@ fn widen_void<A: BuilderArena>(
             data_words: 0,
             pointers: 0,
         },
-        count: description(arena, id, at).list_element_count(),
+        count: old.count,
     };
     widen_rows(arena, id, at, rows, size)
-}
-
-/// The word that describes what the pointer at a place leads to: the pointer itself, its landing pad, or
-/// the second word of its landing pad.
-fn description<A: BuilderArena>(arena: &A, id: u32, at: u32) -> WirePointer
-    ensures { (a : Target) → leads (A.view arena.now).words id at ≡ Some a → a.word ≡ result.0 }
-{
-    let word = word_of(arena, id, at);
-    if word.kind() != WirePointerKind::Far {
-        return word;
-    }
-    let pad = word.far_position_in_segment();
-    if word.is_double_far() {
-        return word_of(arena, word.far_segment_id(), pad + 1);
-    }
-    word_of(arena, word.far_segment_id(), pad)
 }

@@ -3,7 +3,7 @@
 //! as it was, and a refusal leaves nothing but zeros.
 ghost use Rattle.std.specs.Prelude.{ℕ, Some, ◌≡◌, ◌≢◌, ◌<◌, ◌≤◌, ◌+◌, ◌*◌, ◌^◌, max, List, length, IsOk, IfOk, OnOk, IfErr, OnErr};
 ghost use Rattle.capnp_arena_traits.specs.View.{KeepsLimits};
-ghost use Rattle.capnp_format.specs.Segments.{segment, word_at, IsPlace, Grows};
+ghost use Rattle.capnp_format.specs.Segments.{segment, IsPlace};
 ghost use Rattle.capnp_format.specs.Forest.{target};
 ghost use Rattle.capnp_format.specs.Tree.{Tree, Trees, Struct, count};
 ghost use Rattle.capnp_contents.specs.Existing.{StructLiesIn, struct_in};
@@ -12,7 +12,6 @@ ghost use Rattle.capnp_making.specs.Memory.{KeepsMemory, SpendsMemory, RefusesWo
 ghost use Rattle.capnp_making.specs.Makes.{call_at};
 ghost use Rattle.capnp_making.specs.declared.making.Start.{Start};
 ghost use Rattle.capnp_making.specs.Stored.{IsStored};
-ghost use Rattle.capnp_making.specs.Zeroed.{IsPruned};
 ghost use Rattle.capnp_widening.specs.Anew.{MakesStructWider};
 ghost use Rattle.capnp_widening.specs.Housed.{IsRoom, AreWordsCopied, Settles, object_start};
 ghost use Rattle.capnp_widening.specs.Moved.{near_pointers, row_of_moves};

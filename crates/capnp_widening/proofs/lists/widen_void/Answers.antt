@@ -1,6 +1,5 @@
-use Rattle.std.proofs.Common.{◌≡◌, ℕ, inl, inr, Some, ap, sym, ◌∙◌}
-use Rattle.capnp_format.specs.Word.{list_count}
-use Rattle.capnp_format.specs.Segments.{Segments, Target, leads}
+use Rattle.std.proofs.Common.{inl, inr}
+use Rattle.capnp_format.specs.Segments.{Segments}
 use Rattle.capnp_arena_traits.specs.View.{View}
 use Rattle.capnp_making.proofs.Outcomes.{on_err_so, on_made_so}
 use Rattle.capnp_making.specs.declared.making.Start.{Start}
@@ -16,29 +15,27 @@ returns-clause-widened g c =
     let S : Segments = (g.A.BuilderArena.view c.args.arena.now).words in
     let R : Segments = (g.A.BuilderArena.view c.widen_rows.new.arena).words in
     if_ok_both c.widen_rows.result _ _ _ c.widen_rows.ensures.made.remade c.widen_rows.ensures.small
-    (λ m made few. void_widened_to S R c.args.id c.args.at c.list_element_count.result c.args.old m c.args.size c.requires.kind (λ a l. c.list_element_count.ensures.value ∙ ap list_count (sym (c.description.ensures a l))) few made)
+    (λ m made few. void_widened_to S R c.args.id c.args.at c.args.old m c.args.size c.requires.kind few made)
 
 pub returns-clause-wider : goal.returns-clause-wider
 returns-clause-wider g c =
     let a : View = g.A.BuilderArena.view c.args.arena.now in
     let b : View = g.A.BuilderArena.view c.widen_rows.new.arena in
     let l = c.args.old in
-    let n : ℕ = c.list_element_count.result in
-    let counts : (o : Target) → leads a.words c.args.id c.args.at ≡ Some o → n ≡ list_count o.word = λ o found. c.list_element_count.ensures.value ∙ ap list_count (sym (c.description.ensures o found)) in
     let e = c.widen_rows.ensures in
     record {
-      anew = on_made_so c.widen_rows.result _ _ e.made.anew (λ made. void_anew_to a b c.args.id c.args.at n l c.args.size c.requires.kind counts made);
+      anew = on_made_so c.widen_rows.result _ _ e.made.anew (λ made. void_anew_to a b c.args.id c.args.at l c.args.size c.requires.kind made);
       granted = e.made.granted;
       memory = e.made.memory;
-      refused = on_err_so c.widen_rows.result _ _ e.made.refused (λ left. void_left_as a.words b.words c.args.id c.args.at n l c.requires.kind counts left);
+      refused = on_err_so c.widen_rows.result _ _ e.made.refused (λ left. void_left_as a.words b.words c.args.id c.args.at l c.requires.kind left);
       named = if_err_so c.widen_rows.result _ _ e.named (λ k why. elim why [
-        | inl (same, refused) ↦ inl (same, void_refused a.words c.args.id c.args.at n l c.args.size k c.requires.kind counts refused)
-        | inr (memory, full) ↦ inr (rows_refused a b c.args.id c.args.at l (void_of l n) c.args.size c.args.size k memory full (λ t u i e. void_are a.words c.args.id c.args.at n t u l c.args.size c.requires.kind counts i e))
+        | inl (same, refused) ↦ inl (same, void_refused a.words c.args.id c.args.at l c.args.size k c.requires.kind refused)
+        | inr (memory, full) ↦ inr (rows_refused a b c.args.id c.args.at l (void_of l) c.args.size c.args.size k memory full (λ t u i e. void_are a.words c.args.id c.args.at t u l c.args.size c.requires.kind i e))
       ]);
       fits = λ h.
           (let (t, u, i, becomes, fits) = h in
           let to : Start = record { segment = 0; at = 0 } in
-          let rows = void_are a.words c.args.id c.args.at n t u l c.args.size c.requires.kind counts i becomes in
+          let rows = void_are a.words c.args.id c.args.at t u l c.args.size c.requires.kind i becomes in
           e.fits (rows_inside a.words c.args.id c.args.at t _ rows.has) to (rows_fit a c.args.id c.args.at t u _ c.args.size to rows fits));
-      few = λ t u i becomes. rows_few a.words b.words c.args.id c.args.at t u _ c.args.size (void_are a.words c.args.id c.args.at n t u l c.args.size c.requires.kind counts i becomes) e.few;
+      few = λ t u i becomes. rows_few a.words b.words c.args.id c.args.at t u _ c.args.size (void_are a.words c.args.id c.args.at t u l c.args.size c.requires.kind i becomes) e.few;
     }
