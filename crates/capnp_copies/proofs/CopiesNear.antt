@@ -10,7 +10,8 @@ use Rattle.capnp_objects.specs.Reading.{Reading, behind, words_from}
 use Rattle.capnp_objects.specs.Wanted.{Form}
 use Rattle.capnp_format.specs.Canonical.{cut_to}
 use Rattle.capnp_copies.specs.Forms.{kept, kept_each, kept_elements}
-use Rattle.capnp_copies.specs.Copied.{with_children, rows_laid}
+use Rattle.capnp_copies.specs.Copied.{with_children}
+use Rattle.capnp_copies.proofs.Shapes.{rows_laid}
 use Rattle.capnp_copies.proofs.InPlace.{IsCopied, AreCopied}
 use Rattle.capnp_copies.specs.declared.widths.ElementSizes.{ElementSizes}
 

@@ -12,7 +12,7 @@ use Rattle.capnp_objects.specs.Reading.{Reading, behind, segment_read, words_fro
 use Rattle.capnp_objects.specs.Wanted.{Form}
 use Rattle.capnp_objects.proofs.Copies.{with_last_element}
 use Rattle.capnp_copies.specs.Forms.{kept_each, kept_elements}
-use Rattle.capnp_copies.specs.Copied.{with_children, rows_laid}
+use Rattle.capnp_copies.specs.Copied.{with_children}
 use Rattle.capnp_copies.proofs.CopiesNear.{Call, call_of, CopiesChildren, CopiesElement}
 use Rattle.capnp_copies.specs.declared.widths.ElementSizes.{ElementSizes}
 use Rattle.capnp_copies.proofs.Copying.{there}
@@ -20,7 +20,7 @@ use Rattle.capnp_copies.proofs.ElementsCopied.{element_put}
 use Rattle.capnp_copies.proofs.ElementsLaid.{Laid, length_laid, row_null}
 use Rattle.capnp_copies.proofs.KeptChildren.{kept_each-count, cut_kept, cut_kept-count, kept_elements-shaped}
 use Rattle.capnp_copies.proofs.SegmentsWritten.{then_written, words_written}
-use Rattle.capnp_copies.proofs.Shapes.{AreShapedElements, elements_shaped, cut_to-shaped}
+use Rattle.capnp_copies.proofs.Shapes.{rows_laid, AreShapedElements, elements_shaped, cut_to-shaped}
 
 -- one element
 

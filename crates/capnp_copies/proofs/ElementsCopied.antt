@@ -8,9 +8,9 @@ use Rattle.capnp_format.specs.Canonical.{used_words, take_trees, cut_to, trim_ea
 use Rattle.capnp_words.specs.Meter.{Meter}
 use Rattle.capnp_arena_traits.specs.Written.{overwritten}
 use Rattle.capnp_objects.proofs.Walked.{row_within}
-use Rattle.capnp_copies.specs.Copied.{with_children, rows_laid}
+use Rattle.capnp_copies.specs.Copied.{with_children}
 use Rattle.capnp_copies.proofs.Scanning.{pointers_used, next_used}
-use Rattle.capnp_copies.proofs.Shapes.{AreShapedElements, length-rows, length-element_bodies}
+use Rattle.capnp_copies.proofs.Shapes.{rows_laid, AreShapedElements, length-rows, length-element_bodies}
 use Rattle.capnp_copies.proofs.ElementsLaid.{Laid, rows_end}
 use Rattle.capnp_copies.proofs.UsedChildren.{take_trees-trim, fill_nulls, null_behind}
 use Rattle.capnp_objects.specs.Outcomes.{ReadsAll, ReadsElements}

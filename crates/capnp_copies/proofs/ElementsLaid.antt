@@ -11,10 +11,9 @@ use Rattle.capnp_objects.specs.Wanted.{Form}
 use Rattle.capnp_copies.specs.declared.widths.ElementSizes.{ElementSizes}
 use Rattle.capnp_format.specs.Canonical.{take_trees, cut_to, word_count_all, word_count_elements, rows, element_bodies}
 use Rattle.capnp_format.proofs.Levels.{one_value}
-use Rattle.capnp_copies.specs.Copied.{rows_laid}
 use Rattle.capnp_copies.specs.Forms.{kept_each}
 use Rattle.capnp_copies.proofs.KeptChildren.{cut_kept, kept_no_elements, words_of_first}
-use Rattle.capnp_copies.proofs.Shapes.{AreShapedElements, length-rows, length-element_bodies}
+use Rattle.capnp_copies.proofs.Shapes.{rows_laid, AreShapedElements, length-rows, length-element_bodies}
 
 -- the beginning
 

@@ -9,6 +9,7 @@ use Rattle.capnp_format.proofs.Slices.{length_words}
 use Rattle.capnp_arena_traits.specs.View.{View}
 use Rattle.capnp_arena_traits.specs.Written.{with_segment, with_words}
 use Rattle.capnp_making.specs.Filled.{AreFilled, IsElementFilled, AreElementsFilled}
+use Rattle.capnp_making.specs.Memory.{SpendsMemory}
 use Rattle.capnp_making.proofs.FillingChains.{element_grows, elements_grow, elements_ahead}
 use Rattle.capnp_making.proofs.Memory.{keeps_itself, keeps_both, keeps_written, keeps_then_spends, words_refused_after}
 use Rattle.capnp_making.proofs.WordsPut.{words_put}
@@ -18,22 +19,30 @@ use Rattle.capnp_objects.specs.Reading.{Reading, behind, segment_read, words_fro
 use Rattle.capnp_objects.specs.Wanted.{Form, canonical}
 use Rattle.capnp_objects.proofs.Copies.{read_no_element, with_last_element}
 use Rattle.capnp_objects.proofs.Walked.{row_within}
-use Rattle.capnp_copies.specs.Changes.{change, CopiesChildren, StopsAtChildren, CopiesElement, StopsAtElement, CopiesRows, StopsAtElements}
+use Rattle.capnp_copies.specs.Changes.{Change, change, CopiesChildren, StopsAtChildren, CopiesRows, StopsAtElements, RefusesToCopy}
 use Rattle.capnp_copies.specs.Forms.{kept_each, kept_elements}
 use Rattle.capnp_copies.specs.declared.widths.ElementSizes.{ElementSizes}
-use Rattle.capnp_copies.proofs.TightElements.{element_tight, no_row_tight, no_width_tight, row_tight}
+use Rattle.capnp_copies.proofs.TightElements.{CopiesElement, element_tight, no_row_tight, no_width_tight, row_tight}
 use Rattle.capnp_copies.proofs.SegmentsWritten.{length-with_words}
 use Rattle.capnp_copies.proofs.Originals.{AreTooLarge, children_refused, refuses_children, elements_large}
 use Rattle.capnp_copies.proofs.Copying.{there}
 use Rattle.capnp_copies.proofs.NoRoom.{row_comes}
 use Rattle.capnp_copies.proofs.ObjectsMade.{TakesForCopy}
-use Rattle.capnp_copies.specs.Originals.{elements_original}
+use Rattle.capnp_copies.specs.Originals.{children_original, elements_original}
 use Rattle.capnp_copies.proofs.TooLarge.{row_too_large}
-use Rattle.capnp_copies.specs.Copied.{rows_laid}
+use Rattle.capnp_copies.proofs.Shapes.{rows_laid}
 use Rattle.capnp_copies.proofs.KeptChildren.{kept_each-count, kept_no_elements, cut_kept-count}
 use Rattle.capnp_copies.proofs.KeptForms.{SourceKept, one_more, stops_sooner, blank_elements, nothing_filled}
 
 -- one element
+
+-- A call that copies its kept sections is refused.
+pub record StopsAtElement (r : Reading) (sizes : ElementSizes) (c : Change) (k : ErrorKind) : Type 0 where
+  pub why : RefusesToCopy (children_original (behind r sizes.source.data_words) sizes.kept.pointers) c k
+  pub left : Trees
+  pub few : count left ≤ sizes.kept.pointers
+  pub made : IsElementFilled c.old.words c.new.words c.segment c.at (words_from r sizes.kept.data_words) left
+  pub memory : SpendsMemory c.old c.new k
 
 -- The data words that are kept of an element are written at a place.
 pub record DataWritten (r : Reading) (sizes : ElementSizes) (old mid : View) (s p : ℕ) : Type 0 where
@@ -183,6 +192,11 @@ module _ {r : Reading} {sizes : ElementSizes} {n i : ℕ} {b : Form} {s p : ℕ}
 
   next_long : length next_words ≡ d
   next_long = length_words r.segments r.segment (r.at + i * (sizes.source.data_words + sizes.source.pointers)) d (omega (arith, next_inside, here.fits.less_data))
+
+  -- its data words are written
+  pub row_written : {put : View} → put ≡ record mid { words = with_words mid.words s (p + i * (d + q)) next_words } →
+      DataWritten (behind r (i * (sizes.source.data_words + sizes.source.pointers))) sizes mid put s (p + i * (d + q))
+  row_written writes = record { inside = omega (arith, next_inside, here.fits.less_data); room = omega (arith, next_room); writes = writes }
 
   pub row_copied : {new : View} {m'' : Meter} → CopiesElement (behind r (i * (sizes.source.data_words + sizes.source.pointers))) sizes (change b s (p + i * (d + q)) mid new m' m'') → CopiesRows r sizes (i + 1) (n - (i + 1)) (change b s p old new m m'')
   row_copied {new} {m''} next =

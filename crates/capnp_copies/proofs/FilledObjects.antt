@@ -20,7 +20,6 @@ use Rattle.capnp_objects.specs.Wanted.{Form, canonical}
 use Rattle.capnp_copies.specs.Changes.{change, MakesCopy, StopsHalfway, CopiesChildren, StopsAtChildren, CopiesRows, StopsAtElements}
 use Rattle.capnp_copies.specs.Forms.{kept_each, kept_elements}
 use Rattle.capnp_copies.specs.Originals.{pointers_original, structs_original}
-use Rattle.capnp_copies.specs.Widths.{KeepsPointers}
 use Rattle.capnp_copies.specs.declared.widths.ElementSizes.{ElementSizes}
 use Rattle.capnp_copies.proofs.FilledChildren.{children_grow}
 use Rattle.capnp_copies.proofs.Originals.{LeavesSomeValue, children_refused, elements_beyond, halfway, pointers_large, structs_large}
@@ -30,7 +29,7 @@ use Rattle.capnp_copies.proofs.ObjectsMade.{Begins}
 use Rattle.capnp_copies.proofs.TooLarge.{ObjectMade, pointers_too_large, structs_too_large}
 use Rattle.capnp_copies.proofs.TightObjects.{PointersMade, pointers_tight, StructsMade, ends_in_zeros, structs_tight}
 use Rattle.capnp_copies.proofs.KeptChildren.{kept_each-count, cut_kept-count, kept_pointers}
-use Rattle.capnp_copies.proofs.KeptForms.{KeepsWidths, list_kept}
+use Rattle.capnp_copies.proofs.KeptForms.{KeepsPointers, KeepsWidths, list_kept}
 
 -- an object that the arena refuses leaves the pointer null
 

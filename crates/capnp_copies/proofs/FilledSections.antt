@@ -12,7 +12,7 @@ use Rattle.capnp_arena_traits.specs.View.{View}
 use Rattle.capnp_arena_traits.specs.Written.{with_word, with_words}
 use Rattle.capnp_making.specs.Made.{zero_struct, words_of_zero, nulls}
 use Rattle.capnp_making.specs.Memory.{KeepsMemory, StandsBehind, TakesWords}
-use Rattle.capnp_making.specs.Near.{HasStructRoom, with_struct}
+use Rattle.capnp_making.proofs.NearMade.{HasStructRoom, with_struct}
 use Rattle.capnp_making.specs.Stored.{IsReplaced}
 use Rattle.capnp_making.specs.declared.making.Start.{Start}
 use Rattle.capnp_making.proofs.FillingMade.{IsBegun, struct_ready, struct_done, struct_whole}

@@ -1,5 +1,6 @@
 -- How many words a message gains where objects are made, and where they are copied one after another.
-use Rattle.std.proofs.Common.{◌≡◌, ◌≢◌, inl, inr, ℕ, zero, suc, pred, ◌+◌, ◌*◌, ◌<◌, ◌≤◌, Bool, true, Some, Result, Ok, Err, MatchResult, List, [], ◌∷◌, length, length-take, drop, set, refl, sym, ap, ◌∙◌, subst, arith, mul-le-mul_left}
+use Rattle.std.proofs.Common.{◌≡◌, ◌≢◌, inl, inr, ℕ, zero, suc, pred, ◌+◌, ◌*◌, ◌<◌, ◌≤◌, Bool, true, Some, Result, Ok, Err, MatchResult, List, [], ◌∷◌, length, sum_by, length-take, drop, set, refl, sym, ap, ◌∙◌, subst, arith, mul-le-mul_left}
+use Rattle.std.specs.Prelude.{⊤}
 use Rattle.std.proofs.lemmas.Bool.{cases_lt}
 use Rattle.std.proofs.lemmas.List.{length-set}
 use Rattle.std.proofs.lemmas.List.Sums.{sum_by-cons}
@@ -39,10 +40,10 @@ use Rattle.capnp_objects.proofs.Copies.{read_none, read_more, read_no_element, p
 use Rattle.capnp_objects.proofs.Objects.{own_struct, own_flat, own_pointers, own_structs, read_null, read_flat, read_struct, read_pointers, read_structs}
 use Rattle.capnp_objects.proofs.Refusals.{breaks_off_spends, stops_struct, stops_pointers, stops_structs}
 use Rattle.capnp_objects.proofs.Truths.{few_followed, reading_spends}
-use Rattle.capnp_copies.specs.Changes.{Change, change}
+use Rattle.capnp_copies.specs.Changes.{Change, change, StayInSegment}
 use Rattle.capnp_copies.specs.Costs.{spent_before, spent_until, spent_among, spent_among_elements}
 use Rattle.capnp_copies.specs.Originals.{value_original, children_original, elements_original, sections_original, numbers_original, pointers_original, structs_original, list_original, kept_count}
-use Rattle.capnp_copies.specs.Growth.{message_words, TakesNone, Makes, no_object, near, far, both, MakesAtMost, TakesAtMost, PadsApart, TakesFew, FewTaken}
+use Rattle.capnp_copies.specs.Growth.{TakesNone, Makes, no_object, near, far, both, MakesAtMost, TakesAtMost}
 use Rattle.capnp_copies.specs.declared.widths.ElementSizes.{ElementSizes}
 use Rattle.capnp_copies.proofs.Copying.{there}
 use Rattle.capnp_copies.proofs.FilledSections.{sections_kept}
@@ -54,6 +55,10 @@ use Rattle.capnp_copies.proofs.StayingNear.{stay_fewer}
 use Rattle.capnp_objects.proofs.Unreadable.{Spends}
 
 -- The words of all segments.
+
+-- The words of all segments of a message.
+abbrev message_words : Segments → ℕ
+message_words S = sum_by length S
 
 one_more : (s : List ℕ) (S : Segments) → message_words (s ∷ S) ≡ length s + message_words S
 one_more s S = sum_by-cons length s S
@@ -447,7 +452,8 @@ made_words {id = id} {old = old} (near n mid room takes rest) = omega (arith, le
 made_words {old = old} (far n k mid elsewhere full next takes rest) = omega (arith, lengthened old.words mid.words k (n + 1) takes.0, made_words rest)
 made_words (both mid first rest) = omega (arith, made_words first, made_words rest)
 
-pub pads_apart : PadsApart
+pub pads_apart : (id words pads : ℕ) (old new : View) → Makes id old new words pads →
+    (message_words new.words ≡ message_words old.words + (words + pads)) × (id < length old.words → StayInSegment old new id words → pads ≡ 0)
 pads_apart id words pads old new made = (made_words made, λ there stays. no_pad made there stays)
 
 -- The law of what a budget covers. Before the object where reading breaks off at most one pointer more is followed than words were
@@ -487,12 +493,17 @@ covered_until (below a q o before rest) = covered_below (spent_until rest).words
 pub covered_by : (charging : Bool) (m : Meter) (g x : ℕ) → charging ≡ true → m.left ≡ Some x → Affords charging m g → g ≤ x
 covered_by charging m g x charged budget covers = let all : Affords true m g = subst (λ b. Affords b m g) charged covers in rw budget at all
 
+-- Of an original x words are granted at most.
+abbrev pub TakesFew : Change → ℕ → Type 0
+TakesFew c x = (made : MakesAtMost c.segment c.old c.new x (x + 1)) × (message_words c.new.words ≤ message_words c.old.words + x + made.pads) ×
+    (c.segment < length c.old.words → StayInSegment c.old c.new c.segment x → made.pads ≡ 0) × (c.after.followed ≤ c.before.followed + (x + 1))
+
 few_of : (c : Change) (x : ℕ) → MakesAtMost c.segment c.old c.new x (x + 1) → c.after.followed ≤ c.before.followed + (x + 1) → TakesFew c x
 few_of c x made followed =
     let apart = pads_apart c.segment made.words made.pads c.old c.new made.made in
-    record { made = made; words = omega (arith, apart.0, made.less); alone = λ there fits. apart.1 there (stay_fewer c.old c.new c.segment x made.words made.less fits); followed = followed }
+    (made, omega (arith, apart.0, made.less), λ there fits. apart.1 there (stay_fewer c.old c.new c.segment x made.words made.less fits), followed)
 
-pub few_taken : FewTaken
+pub few_taken : (r : Reading) (c : Change) (x : ℕ) (result : Result ⊤ ErrorKind) → r.charging ≡ true → c.before.left ≡ Some x → TakesAtMost result (value_original r) c → TakesFew c x
 few_taken r c x (Ok done) charged budget whole =
     let paid = covered_by r.charging c.before whole.1.cost x charged budget whole.1.covers in
     let few = pointers_within r.segments r.levels r.segment r.at whole.0 (whole.1.cost, whole.1.means) in

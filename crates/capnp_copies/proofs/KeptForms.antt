@@ -18,7 +18,7 @@ use Rattle.capnp_objects.specs.Spending.{pointers_in_all, pointers_in_elements}
 use Rattle.capnp_objects.specs.Wanted.{Form, canonical}
 use Rattle.capnp_objects.proofs.Copies.{with_last_element, count-with_last_element, pointers_in-with_last_element, read_element, read_none, read_no_element}
 use Rattle.capnp_objects.proofs.Walked.{row_within}
-use Rattle.capnp_copies.specs.Widths.{KeepsPointers, widths_kept}
+use Rattle.capnp_copies.specs.Widths.{most_used, widths_kept}
 use Rattle.capnp_copies.specs.Forms.{kept, kept_each, kept_elements}
 use Rattle.capnp_copies.specs.Originals.{kept_count}
 use Rattle.capnp_copies.specs.declared.widths.ElementSizes.{ElementSizes}
@@ -90,6 +90,13 @@ pub words_of_kept_list : (b : Form) (r : Reading) (size least : StructSize) (i :
 words_of_kept_list b r size least i es c inside widths len all =
     ap word_count (list_kept b r size least es c (subst (λ k. r.at + k * (size.data_words + size.pointers) ≤ length (segment_read r)) (sym len) inside) (subst (λ k. KeepsWidths b r size k least) (sym len) widths) all)
     ∙ ap (λ j. 1 + j * (least.data_words + least.pointers) + word_count_elements (cut_to least.data_words least.pointers (kept_elements b es))) (cut_kept-count b least.data_words least.pointers es ∙ len)
+
+-- No pointer that is used of i elements is cut.
+abbrev pub KeepsPointers : Form → Reading → ElementSizes → ℕ → Type 0
+KeepsPointers canonical r sizes i =
+    most_used (segment_read r) (r.at + sizes.source.data_words) sizes.source.pointers
+    (sizes.source.data_words + sizes.source.pointers) i ≤ sizes.kept.pointers
+KeepsPointers _ r sizes i = sizes.kept ≡ sizes.source
 
 -- The n elements lie in the source, and no section that is used is cut.
 pub record SourceKept (b : Form) (r : Reading) (sizes : ElementSizes) (n : ℕ) : Type 0 where

@@ -13,7 +13,7 @@ use Rattle.capnp_objects.specs.Outcomes.{ElementsMean}
 use Rattle.capnp_objects.specs.Reading.{Reading, segment_read}
 use Rattle.capnp_objects.specs.Wanted.{Form}
 use Rattle.capnp_copies.specs.Forms.{kept_elements}
-use Rattle.capnp_copies.specs.Copied.{rows_laid}
+use Rattle.capnp_copies.proofs.Shapes.{rows_laid}
 use Rattle.capnp_copies.proofs.InPlace.{IsCopied}
 use Rattle.capnp_copies.proofs.CopiesNear.{TakesWords}
 use Rattle.capnp_copies.proofs.CopiesNear.{call_of, CopiesElements}
@@ -48,7 +48,7 @@ pub record ListBegun (least : StructSize) (i : ℕ) (old mid : View) (id at head
   pub taken : TakesWords old mid id head (struct_word i least.data_words least.pointers ∷ replicate (i * (least.data_words + least.pointers)) 0)
 
 -- the tag of a list of structs, and its elements, once they are put, and the list's pointer
-pub list_put : {b : Form} {r : Reading} {size least : StructSize} {i : ℕ} {old mid last new : View} {id at head x : ℕ} {m m' : Meter} → ListBegun least i old mid id at head → (elements : CopiesElements r (record { source = size; kept = least }) i (call_of b mid last id m m') (head + 1)) →
+pub list_put : {b : Form} {r : Reading} {size least : StructSize} {i count : ℕ} {old mid last new : View} {id at head x : ℕ} {m m' : Meter} → ListBegun least i old mid id at head → (elements : CopiesElements r (record { count = count; source = size; kept = least }) i (call_of b mid last id m m') (head + 1)) →
     x ≡ list_word (offset_to at (length (segment old.words id))) 7 (i * (least.data_words + least.pointers)) → new ≡ record last { words = with_word last.words id at x } → IsCopied old.words new.words id at (Structs least.data_words least.pointers (cut_to least.data_words least.pointers (kept_elements b elements.elements)))
 list_put {b} {r} {size} {least} {i} {old} {mid} {last} {new} {id} {at} {head} {x} begun elements word writes =
     let M : Segments = old.words in

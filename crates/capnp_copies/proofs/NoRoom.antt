@@ -20,13 +20,17 @@ use Rattle.capnp_objects.specs.declared.object.Object.TheVariants.{Struct as Obj
 use Rattle.capnp_objects.specs.declared.object.Purpose.TheVariants.{Value}
 use Rattle.capnp_objects.proofs.Objects.{own_struct, own_pointers, own_structs}
 use Rattle.capnp_objects.proofs.Refusals.{stops_struct, stops_pointers, stops_structs}
-use Rattle.capnp_copies.specs.Changes.{Change, change, IsMadeOf, as_struct, as_pointers, as_structs, WantsWords, ComesToObject, FindsNoRoom, LacksRoom}
+use Rattle.capnp_copies.specs.Changes.{Change, change, IsMadeOf, as_struct, as_pointers, as_structs, ComesToObject, FindsNoRoom, LacksRoom}
 use Rattle.capnp_copies.specs.Costs.{spent_until, spent_among, spent_among_elements}
 use Rattle.capnp_copies.specs.Originals.{value_original, children_original, elements_original, sections_original, pointers_original, structs_original}
 use Rattle.capnp_copies.specs.declared.widths.ElementSizes.{ElementSizes}
 use Rattle.capnp_copies.proofs.KeptForms.{SourceKept, stops_sooner}
 use Rattle.capnp_copies.proofs.ObjectsMade.{TakesForCopy, Begins, full_before, full_behind}
 use Rattle.capnp_copies.proofs.ObjectsRead.{inside}
+
+-- An object was read, and n words are to be made of it.
+abbrev pub WantsWords : Form → ℕ → Reading → Meter → Meter → Type 0
+WantsWords form n r m m' = (a : Target) × Entered Value r m m' a × IsMadeOf form r a n
 
 -- A child, where those before it are copied.
 pub child_comes : {r : Reading} {b : Form} {s i n : ℕ} {old mid : View} (new : View) {m m' m'' : Meter} {k : ErrorKind} → s < length old.words → i < n → KeepsMemory old mid → TakesForCopy (children_original r i) (change b s 0 old mid m m') →

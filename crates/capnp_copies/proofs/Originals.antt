@@ -18,7 +18,7 @@ use Rattle.capnp_objects.specs.Refusals.{Stopped, RefusedAll}
 use Rattle.capnp_objects.specs.Spending.{after, pointers_in, pointers_in_all, pointers_in_elements}
 use Rattle.capnp_objects.specs.Wanted.{Form, plain}
 use Rattle.capnp_objects.specs.declared.object.Purpose.TheVariants.{Value}
-use Rattle.capnp_copies.specs.Changes.{Change, ComesToObject, FindsNoRoom, LacksRoom, WantsWords, RefusesToCopy, MakesCopy, StopsCopy, StopsHalfway}
+use Rattle.capnp_copies.specs.Changes.{Change, ComesToObject, FindsNoRoom, LacksRoom, RefusesToCopy, MakesCopy, StopsCopy, StopsHalfway}
 use Rattle.capnp_copies.specs.Forms.{kept, kept_each, kept_elements}
 use Rattle.capnp_copies.specs.Originals.{Original, value_original, children_original, elements_original, sections_original, numbers_original, pointers_original, structs_original, list_original, FitsListPointer}
 use Rattle.capnp_copies.specs.Rooms.{CanBeCopied}
@@ -80,7 +80,7 @@ refused_words o c k (inr (n, stops, (refused, full))) = (n, refused)
 -- what finds no room in a message finds none in the one before
 pub lacks_before : {V : Type 0} (o : Original V) (c : Change) (v : View) (k : ErrorKind) → ((n all : ℕ) → FindsNoRoom c k n all → FindsNoRoom (record c { old = v }) k n all) → LacksRoom o c k → LacksRoom o (record c { old = v }) k
 lacks_before o c v k f (inl (n, same, makes, found)) = inl (n, same, makes, f n n found)
-lacks_before o c v k f (inr (n, stops, found)) = inr (n, stops, f n ((o.spent c.form (WantsWords c.form n) c.before c.after stops).words + n) found)
+lacks_before o c v k f (inr (n, stops, found)) = inr (n, stops, f n ((o.spent stops).words + n) found)
 
 -- and none in the one behind, where the same words are refused
 pub lacks_after : {V : Type 0} (o : Original V) (c : Change) (v : View) (k : ErrorKind) → ((n : ℕ) → RefusesWords c.old c.new n k → RefusesWords c.old v n k) → LacksRoom o c k → LacksRoom o (record c { new = v }) k

@@ -1,5 +1,5 @@
 -- Trees whose lists of structs have elements of one size each, which is all that lengths ask of a value; what a place means is of this shape.
-use Rattle.std.proofs.Common.{◌≡◌, ℕ, zero, suc, pred, ◌+◌, ◌*◌, ◌≤◌, ◌++◌, length, refl, ◌∙◌, arith, length-append, length-take}
+use Rattle.std.proofs.Common.{◌≡◌, ℕ, zero, suc, pred, ◌+◌, ◌*◌, ◌≤◌, List, ◌++◌, length, replicate, refl, ◌∙◌, arith, length-append, length-take}
 use Rattle.capnp_format.specs.Numbers.{words_for}
 use Rattle.capnp_format.specs.Tree.{Tree, Null, Capability, Struct, Flat, Pointers, Structs, Trees, no_trees, tree, Elements, no_elements, element, count, element_count}
 use Rattle.capnp_words.specs.declared.wire_pointer.StructSize.{StructSize}
@@ -10,6 +10,10 @@ use Rattle.capnp_format.specs.Canonical.{used_trees, take_trees, data_width, poi
 use Rattle.capnp_format.proofs.Digits.{length-digits}
 use Rattle.capnp_format.proofs.Lengths.{length-pointers}
 use Rattle.capnp_format.proofs.Trimming.{used_words-le, used_trees-le, take_trees-count, trim_each-count}
+
+-- while elements are copied, some of them being there and n still to come
+abbrev pub rows_laid : List ℕ → ℕ → ℕ → Elements → ℕ → List ℕ
+rows_laid front d q es n = front ++ rows d q (n * (d + q)) es ++ replicate (n * (d + q)) 0 ++ element_bodies es
 
 abbrev mutual
   pub IsShaped : Tree → Type 0

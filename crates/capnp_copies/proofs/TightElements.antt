@@ -3,17 +3,21 @@ use Rattle.std.proofs.Common.{◌≡◌, ℕ, ◌+◌, ◌-◌, ◌*◌, ◌<◌
 use Rattle.std.proofs.lemmas.List.{take_all}
 use Rattle.capnp_words.specs.Meter.{Meter}
 use Rattle.capnp_format.specs.Segments.{segment, IsPlace}
-use Rattle.capnp_format.specs.Tree.{Trees, Elements, no_elements}
+use Rattle.capnp_format.specs.Tree.{Trees, Elements, no_elements, count}
 use Rattle.capnp_format.specs.Canonical.{cut_to, word_count_all, word_count_elements}
 use Rattle.capnp_arena_traits.specs.View.{View}
 use Rattle.capnp_arena_traits.specs.Written.{with_segment, with_words, overwritten}
+use Rattle.capnp_making.specs.Filled.{IsElementFilled}
+use Rattle.capnp_making.specs.Memory.{KeepsMemory}
+use Rattle.capnp_objects.specs.Outcomes.{ReadsAll}
 use Rattle.capnp_objects.specs.Reading.{Reading, behind, words_from}
 use Rattle.capnp_objects.specs.Wanted.{Form}
 use Rattle.capnp_objects.proofs.Copies.{with_last_element}
 use Rattle.capnp_objects.proofs.Walked.{words-with_last_element}
-use Rattle.capnp_copies.specs.Changes.{change, StayInSegment, EndsInZeros, CopiesChildren, CopiesElement, CopiesRows}
+use Rattle.capnp_copies.specs.Changes.{Change, change, StayInSegment, EndsInZeros, CopiesChildren, CopiesRows}
 use Rattle.capnp_copies.specs.Forms.{kept_each, kept_elements}
-use Rattle.capnp_copies.specs.Copied.{with_children, rows_laid}
+use Rattle.capnp_copies.specs.Copied.{with_children}
+use Rattle.capnp_copies.proofs.Shapes.{rows_laid}
 use Rattle.capnp_copies.proofs.CopiesNear.{call_of, CopiesChildren as ChildrenCopied, CopiesElement as ElementCopied}
 use Rattle.capnp_copies.specs.declared.widths.ElementSizes.{ElementSizes}
 use Rattle.capnp_copies.proofs.ElementsLaid.{blank_rows, rows_begun}
@@ -24,6 +28,23 @@ use Rattle.capnp_copies.proofs.SegmentsWritten.{not_written, length-with_words}
 use Rattle.capnp_copies.proofs.StayingNear.{stay_first, stay_later}
 
 -- one element
+
+-- A call copies the kept sections of one element of a list of structs.
+pub record CopiesElement (r : Reading) (sizes : ElementSizes) (c : Change) : Type 0 where
+  pub children : Trees
+  pub counts : count children ≡ sizes.kept.pointers
+  pub are_read : ReadsAll c.form (behind r sizes.source.data_words) c.before c.after children
+  pub made : IsElementFilled c.old.words c.new.words c.segment c.at
+      (words_from r sizes.kept.data_words) (kept_each c.form children)
+  pub memory : KeepsMemory c.old c.new
+  pub stands :
+      IsPlace c.old.words c.segment c.at →
+      StayInSegment c.old c.new c.segment (word_count_all (kept_each c.form children))
+      → c.new.words
+      ≡ with_segment c.old.words c.segment
+      (with_children (overwritten (segment c.old.words c.segment) c.at
+      (words_from r sizes.kept.data_words)) (c.at
+      + sizes.kept.data_words) (kept_each c.form children))
 
 -- The data words us of an element are written at a place.
 pub record IsPut (r : Reading) (sizes : ElementSizes) (old mid : View) (s p : ℕ) : Type 0 where

@@ -10,7 +10,8 @@ use Rattle.capnp_format.specs.Canonical.{word_count, word_count_all, word_count_
 use Rattle.capnp_arena_traits.specs.View.{View}
 use Rattle.capnp_arena_traits.specs.Written.{with_segment, with_word, with_words, extended}
 use Rattle.capnp_making.specs.Memory.{KeepsMemory, StandsBehind, TakesWords as TakesRoom}
-use Rattle.capnp_making.specs.Near.{HasOwnRoom, HasStructRoom, HasStructsRoom, StartsBehind, offset_behind, with_struct, with_list, with_struct_list}
+use Rattle.capnp_making.specs.Near.{HasOwnRoom, StartsBehind, offset_behind}
+use Rattle.capnp_making.proofs.NearMade.{HasStructRoom, HasStructsRoom, with_struct, with_list, with_struct_list}
 use Rattle.capnp_making.specs.declared.making.Start.{Start}
 use Rattle.capnp_objects.specs.Reading.{Reading, segment_read}
 use Rattle.capnp_objects.specs.Wanted.{Form}
@@ -19,7 +20,8 @@ use Rattle.capnp_making.proofs.NearMade.{long_as}
 use Rattle.capnp_making.proofs.WordsPut.{none_over}
 use Rattle.capnp_copies.specs.Changes.{change, StayInSegment, IsCopiedInRoom, EndsInZeros, CopiesChildren, CopiesRows}
 use Rattle.capnp_copies.specs.Forms.{kept, kept_each}
-use Rattle.capnp_copies.specs.Copied.{copied, with_children, rows_laid}
+use Rattle.capnp_copies.specs.Copied.{copied, with_children}
+use Rattle.capnp_copies.proofs.Shapes.{rows_laid}
 use Rattle.capnp_copies.proofs.InPlace.{AreCopied}
 use Rattle.capnp_copies.proofs.CopiesNear.{TakesWords}
 use Rattle.capnp_copies.proofs.CopiesNear.{call_of, CopiesChildren as ChildrenCopied, CopiesElements as ElementsCopied}

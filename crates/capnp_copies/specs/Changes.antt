@@ -1,15 +1,15 @@
 -- What a copy into a message of any number of segments leaves, and why it stops.
-use Rattle.std.specs.Prelude.{◌≡◌, ◌⊎◌, ℕ, pred, ◌+◌, ◌*◌, ◌<◌, ◌≤◌, take, length}
+use Rattle.std.specs.Prelude.{◌≡◌, ◌⊎◌, ℕ, pred, ◌+◌, ◌*◌, ◌<◌, ◌≤◌, ◌++◌, take, length, replicate}
 use Rattle.capnp_words.specs.declared.error.ErrorKind.{ErrorKind}
 use Rattle.capnp_words.specs.Meter.{Meter}
 use Rattle.capnp_format.specs.Numbers.{words_for}
-use Rattle.capnp_format.specs.Segments.{Segments, Target, segment, words_at, word_at, IsPlace}
+use Rattle.capnp_format.specs.Segments.{Segments, Target, segment, words_at, word_at}
 use Rattle.capnp_format.specs.Word.{kind, offset_bits, data_words, pointer_count, element_size, list_count}
 use Rattle.capnp_format.specs.Tree.{Tree, Null, Trees, Elements, count, element_count}
-use Rattle.capnp_format.specs.Canonical.{cut_to, word_count, word_count_all, word_count_elements}
+use Rattle.capnp_format.specs.Canonical.{cut_to, rows, element_bodies, word_count, word_count_all, word_count_elements}
 use Rattle.capnp_arena_traits.specs.View.{View}
-use Rattle.capnp_arena_traits.specs.Written.{with_segment, overwritten}
-use Rattle.capnp_making.specs.Filled.{AreFilled, IsElementFilled, AreElementsFilled, ArePartlyFilled}
+use Rattle.capnp_arena_traits.specs.Written.{with_segment}
+use Rattle.capnp_making.specs.Filled.{AreFilled, AreElementsFilled, ArePartlyFilled}
 use Rattle.capnp_making.specs.Made.{structs_words}
 use Rattle.capnp_making.specs.Memory.{KeepsMemory, SpendsMemory, RefusesWords}
 use Rattle.capnp_making.specs.Near.{HasOwnRoom}
@@ -18,14 +18,15 @@ use Rattle.capnp_objects.specs.Demands.{IsStructList, tag}
 use Rattle.capnp_objects.specs.Faults.{child_at}
 use Rattle.capnp_objects.specs.Outcomes.{Entered, ReadsAll, ReadsElements}
 use Rattle.capnp_objects.specs.Refusals.{Stopped, Refused, RefusedElements}
-use Rattle.capnp_objects.specs.Reading.{Reading, behind, tag_size, words_from}
+use Rattle.capnp_objects.specs.Reading.{Reading, behind, tag_size}
 use Rattle.capnp_objects.specs.Wanted.{Form}
 use Rattle.capnp_objects.specs.declared.object.Purpose.TheVariants.{Value}
-use Rattle.capnp_copies.specs.Forms.{kept, kept_each, kept_elements}
-use Rattle.capnp_copies.specs.Copied.{copied, with_children, rows_laid}
+use Rattle.capnp_copies.specs.Forms.{form_in, kept, kept_each, kept_elements}
+use Rattle.capnp_copies.specs.Copied.{copied, with_children}
 use Rattle.capnp_copies.specs.Originals.{Original, value_original, children_original}
 use Rattle.capnp_copies.specs.Originals.{elements_original, kept_count}
 use Rattle.capnp_copies.specs.Widths.{widths_kept}
+use Rattle.capnp_copies.specs.declared.form.Destination.{Destination}
 use Rattle.capnp_copies.specs.declared.widths.ElementSizes.{ElementSizes}
 
 -- A call that copies to a place, or from a place of a segment on: the arena and the read limiter,
@@ -50,6 +51,11 @@ change form s p old new before after =
       before = before;
       after = after;
     }
+
+-- A call that copies to a destination.
+abbrev pub change_to : Destination → View → View → Meter → Meter → Change
+change_to to old new before after =
+    change (form_in to.form) to.place.segment to.place.at old new before after
 
 -- n null pointers stand from position p of segment id on.
 pub record HasNulls (S : Segments) (id p n : ℕ) : Type 0 where
@@ -87,24 +93,18 @@ pub data IsMadeOf (form : Form) (r : Reading) (a : Target) (n : ℕ) : Type 0 wh
       (offset_bits (tag r.segments a))) →
       IsMadeOf form r a n
 
--- An object was read, and n words are to be made of it.
-abbrev pub WantsWords : Form → ℕ → Reading → Meter → Meter → Type 0
-WantsWords form n r m m' = (a : Target) × Entered Value r m m' a × IsMadeOf form r a n
-
--- So many words more are more than the segment of the place has room for.
-abbrev pub Overflows : Change → ℕ → Type 0
-Overflows c n = c.old.room c.segment < length (segment c.old.words c.segment) + n
-
--- Reading comes to an object of which words are to be made: P says of how many, and of how many
--- they are with all those that were spent before.
+-- Reading comes to an object of which words are to be made, once it was read: P says of how many, and
+-- of how many they are with all those that were spent before.
 abbrev pub ComesToObject : {V : Type 0} → Original V → Form → Meter → Meter → (ℕ → ℕ → Type 0) → Type 0
 ComesToObject o form m m' P =
-    (n : ℕ) × (x : o.stops form (WantsWords form n) m m') ×
-    P n ((o.spent form (WantsWords form n) m m' x).words + n)
+    (n : ℕ) × (x : o.stops form
+    (λ r i j. (a : Target) × Entered Value r i j a × IsMadeOf form r a n) m m') ×
+    P n ((o.spent x).words + n)
 
 -- The arena refuses n words by the name k, and the segment of the place has no room for so many in all.
 abbrev pub FindsNoRoom : Change → ErrorKind → ℕ → ℕ → Type 0
-FindsNoRoom c k n all = RefusesWords c.old c.new n k × Overflows c all
+FindsNoRoom c k n all = RefusesWords c.old c.new n k ×
+    (c.old.room c.segment < length (segment c.old.words c.segment) + all)
 
 -- The arena has no room, by the name k, for an object of words that are at hand, before anything is
 -- read, or for one that reading leads to: with what was spent until then it is more than the segment
@@ -118,7 +118,7 @@ LacksRoom o c k =
 abbrev pub IsTooLarge : {V : Type 0} → Original V → Change → Type 0
 IsTooLarge {V} o c =
     (any : Form) (m m' : Meter) (value : V) → o.reads any m m' value →
-    Overflows c (o.words c.form value)
+    c.old.room c.segment < length (segment c.old.words c.segment) + o.words c.form value
 
 -- Why a copy is refused by the name k: the arena has no room for an object, and what is copied is
 -- too large; reading is refused; or what is copied is larger than an object can be.
@@ -186,7 +186,8 @@ pub record CopiesFirst (r : Reading) (i : ℕ) (c : Change) (k : ErrorKind) : Ty
   pub memory : SpendsMemory c.old c.new k
 
 -- A call copies i elements of a list of structs, cut to the sections that are kept, where the rows
--- of so many others are still to come.
+-- of so many others are still to come: those stand between the rows that are copied and what their
+-- pointers lead to.
 pub record CopiesRows (r : Reading) (sizes : ElementSizes) (i left : ℕ) (c : Change) : Type 0 where
   pub elements : Elements
   pub counts : element_count elements ≡ i
@@ -202,9 +203,13 @@ pub record CopiesRows (r : Reading) (sizes : ElementSizes) (i left : ℕ) (c : C
       (kept_elements c.form elements)))
       → c.new.words
       ≡ with_segment c.old.words c.segment
-      (rows_laid (take c.at (segment c.old.words c.segment)) sizes.kept.data_words
-      sizes.kept.pointers (cut_to sizes.kept.data_words sizes.kept.pointers
-      (kept_elements c.form elements)) left)
+      (take c.at (segment c.old.words c.segment)
+      ++ rows sizes.kept.data_words sizes.kept.pointers
+      (left * (sizes.kept.data_words + sizes.kept.pointers))
+      (cut_to sizes.kept.data_words sizes.kept.pointers (kept_elements c.form elements))
+      ++ replicate (left * (sizes.kept.data_words + sizes.kept.pointers)) 0
+      ++ element_bodies
+      (cut_to sizes.kept.data_words sizes.kept.pointers (kept_elements c.form elements)))
 
 pub record StopsAtElements (r : Reading) (sizes : ElementSizes) (i : ℕ) (c : Change) (k : ErrorKind)
     : Type 0 where
@@ -215,28 +220,4 @@ pub record StopsAtElements (r : Reading) (sizes : ElementSizes) (i : ℕ) (c : C
       ⊎ RefusedElements c.form r sizes.source i c.before c.after k
   pub left : ArePartlyFilled c.old.words c.new.words c.segment c.at sizes.kept.data_words
       sizes.kept.pointers i
-  pub memory : SpendsMemory c.old c.new k
-
--- A call copies the kept sections of one element of a list of structs.
-pub record CopiesElement (r : Reading) (sizes : ElementSizes) (c : Change) : Type 0 where
-  pub children : Trees
-  pub counts : count children ≡ sizes.kept.pointers
-  pub are_read : ReadsAll c.form (behind r sizes.source.data_words) c.before c.after children
-  pub made : IsElementFilled c.old.words c.new.words c.segment c.at
-      (words_from r sizes.kept.data_words) (kept_each c.form children)
-  pub memory : KeepsMemory c.old c.new
-  pub stands :
-      IsPlace c.old.words c.segment c.at →
-      StayInSegment c.old c.new c.segment (word_count_all (kept_each c.form children))
-      → c.new.words
-      ≡ with_segment c.old.words c.segment
-      (with_children (overwritten (segment c.old.words c.segment) c.at
-      (words_from r sizes.kept.data_words)) (c.at
-      + sizes.kept.data_words) (kept_each c.form children))
-
-pub record StopsAtElement (r : Reading) (sizes : ElementSizes) (c : Change) (k : ErrorKind) : Type 0 where
-  pub why : RefusesToCopy (children_original (behind r sizes.source.data_words) sizes.kept.pointers) c k
-  pub left : Trees
-  pub few : count left ≤ sizes.kept.pointers
-  pub made : IsElementFilled c.old.words c.new.words c.segment c.at (words_from r sizes.kept.data_words) left
   pub memory : SpendsMemory c.old c.new k

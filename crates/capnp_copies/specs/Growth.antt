@@ -1,20 +1,16 @@
 -- How many words a copy takes of a message, whether it ends or is refused: those of its objects,
 -- and its landing pads.
-use Rattle.std.specs.Prelude.{◌≡◌, ◌≢◌, ℕ, ◌+◌, ◌<◌, ◌≤◌, true, length, sum_by, Some, ⊤}
+use Rattle.std.specs.Prelude.{◌≡◌, ◌≢◌, ℕ, ◌+◌, ◌<◌, ◌≤◌, length}
 use Rattle.std.specs.Prelude.{Result, IfOk, IfErr, MatchResult}
 use Rattle.capnp_words.specs.declared.error.ErrorKind.{ErrorKind}
-use Rattle.capnp_format.specs.Segments.{Segments, segment}
+use Rattle.capnp_format.specs.Segments.{segment}
 use Rattle.capnp_arena_traits.specs.Taking.{SameRoomBelow}
 use Rattle.capnp_arena_traits.specs.View.{View}
 use Rattle.capnp_making.specs.Memory.{Lengthens, IsNextRoom}
 use Rattle.capnp_making.specs.Near.{HasOwnRoom}
 use Rattle.capnp_objects.specs.Reading.{Reading}
-use Rattle.capnp_copies.specs.Changes.{Change, StayInSegment, CopiesChildren, StopsAtChildren}
-use Rattle.capnp_copies.specs.Originals.{Original, value_original, children_original}
-
--- The words of all segments of a message.
-abbrev pub message_words : Segments → ℕ
-message_words S = sum_by length S
+use Rattle.capnp_copies.specs.Changes.{Change, CopiesChildren, StopsAtChildren}
+use Rattle.capnp_copies.specs.Originals.{Original, children_original}
 
 -- No words are taken: each segment has as many as before, and the room that it had.
 pub record TakesNone (old new : View) : Type 0 where
@@ -71,26 +67,3 @@ pub record CopiesOrStops {A : Type 0} (result : Result A ErrorKind) (r : Reading
   pub copied : IfOk result (λ _. CopiesChildren r n c)
   pub refused : IfErr result (StopsAtChildren r n c)
   pub taken : TakesAtMost result (children_original r n) c
-
--- What is made takes just its words and its landing pads. There is no pad where all the words have
--- room in the segment of the pointers, and none where the message has but one segment afterwards.
-abbrev pub PadsApart : Type 0
-PadsApart =
-    (id words pads : ℕ) (old new : View) → Makes id old new words pads →
-    (message_words new.words ≡ message_words old.words + (words + pads)) ×
-    (id < length old.words → StayInSegment old new id words → pads ≡ 0)
-
--- Under a budget of x words a copy makes objects of at most x words in all, with at most x + 1
--- landing pads, and follows at most x + 1 pointers. It takes at most x words, its pads apart, and
--- has no pad where x words have room in the place's segment, nor in a message of one segment.
-pub record TakesFew (c : Change) (x : ℕ) : Type 0 where
-  pub made : MakesAtMost c.segment c.old c.new x (x + 1)
-  pub words : message_words c.new.words ≤ message_words c.old.words + x + made.pads
-  pub alone : c.segment < length c.old.words → StayInSegment c.old c.new c.segment x → made.pads ≡ 0
-  pub followed : c.after.followed ≤ c.before.followed + (x + 1)
-
-abbrev pub FewTaken : Type 0
-FewTaken =
-    (r : Reading) (c : Change) (x : ℕ) (result : Result ⊤ ErrorKind) → r.charging ≡ true →
-    c.before.left ≡ Some x →
-    TakesAtMost result (value_original r) c → TakesFew c x

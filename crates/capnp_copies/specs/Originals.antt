@@ -33,7 +33,7 @@ pub record Original (V : Type 0) : Type 1 where
   -- From one meter to another reading it in a form stops, at an object of which a predicate says so.
   pub stops : Form → (Reading → Meter → Meter → Type 0) → Meter → Meter → Type 0
   -- What was spent before that object.
-  pub spent : (form : Form) (P : Reading → Meter → Meter → Type 0) (m m' : Meter) → stops form P m m' → Spent
+  pub spent : {form : Form} {P : Reading → Meter → Meter → Type 0} {m m' : Meter} → stops form P m m' → Spent
   -- Of words that are at hand a copy in a form makes an object of so many words.
   pub makes : Form → ℕ → Type 0
   -- A copy in a form has no pointer for so large an object, and is refused by this name.
@@ -53,7 +53,7 @@ abbrev pub value_original : Reading → Original Tree
 value_original r = record {
   reads = λ form m m' t. Reads form r m m' t;
   stops = λ form P m m'. StopsWithin form P r m m';
-  spent = λ form P m m' x. spent_until x;
+  spent = λ x. spent_until x;
   makes = λ form n. ⊥;
   exceeds = λ form k. ⊥;
   words = λ form t. word_count (kept form t);
@@ -66,7 +66,7 @@ abbrev pub children_original : Reading → ℕ → Original Trees
 children_original r n = record {
   reads = λ form m m' ts. (count ts ≡ n) × ReadsAll form r m m' ts;
   stops = λ form P m m'. StopsAmong form P r n m m';
-  spent = λ form P m m' x. spent_among x;
+  spent = λ x. spent_among x;
   makes = λ form i. ⊥;
   exceeds = λ form k. ⊥;
   words = λ form ts. word_count_all (kept_each form ts);
@@ -82,7 +82,7 @@ abbrev pub elements_original : Reading → ElementSizes → ℕ → Original Ele
 elements_original r sizes n = record {
   reads = λ form m m' es. (element_count es ≡ n) × ReadsElements form r sizes.source m m' es;
   stops = λ form P m m'. StopsAmongElements form P r sizes.source n m m';
-  spent = λ form P m m' x. spent_among_elements x;
+  spent = λ x. spent_among_elements x;
   makes = λ form i. ⊥;
   exceeds = λ form k. ⊥;
   words = λ form es. word_count_elements
@@ -98,19 +98,16 @@ abbrev pub kept_count : Form → List ℕ → ℕ
 kept_count canonical ws = used_words ws
 kept_count _ ws = length ws
 
--- So many data words are more than a struct can have, and the error says how many.
-abbrev pub IsTooWide : ℕ → ErrorKind → Type 0
-IsTooWide n k = (2 ^ 16 - 1 < n) × (k ≡ MessageTooLarge n)
-
 -- The struct of these data words, whose pointers are so many from a place on. Its own words cost
--- nothing: they come on top, and its pad.
+-- nothing: they come on top, and its pad. Where more data words are kept than a struct can have, the
+-- error says how many.
 abbrev pub sections_original : List ℕ → Reading → ℕ → Original Tree
 sections_original ws r q = record {
   reads = λ form m m' t. (ts : Trees) × (t ≡ Struct ws ts) × (count ts ≡ q) × ReadsAll form r m m' ts;
   stops = λ form P m m'. StopsAmong form P r q m m';
-  spent = λ form P m m' x. spent_behind (length ws + q) (spent_among x);
+  spent = λ x. spent_behind (length ws + q) (spent_among x);
   makes = λ form n. n ≡ kept_count form ws + kept_count form (words_from r q);
-  exceeds = λ form k. IsTooWide (kept_count form ws) k;
+  exceeds = λ form k. (2 ^ 16 - 1 < kept_count form ws) × (k ≡ MessageTooLarge (kept_count form ws));
   words = λ form t. word_count (kept form t);
   takes = λ form m m' P. (ts : Trees) × (count ts ≡ q) × (x : ReadsAll form r m m' ts) ×
       P (length ws + q + x.cost) (1 + pointers_in_all ts);
@@ -136,7 +133,7 @@ numbers_original size n r = record {
   reads = λ form m m' t. (t ≡ Flat (size_number size)
       (unpacked (size_number size) n (words_from r (words_for (size_number size) n)))) × (m' ≡ m);
   stops = λ form P m m'. ⊥;
-  spent = λ form P m m' none. absurd none;
+  spent = λ none. absurd none;
   makes = λ form i. i ≡ words_for (size_number size) n;
   exceeds = λ form k. IsTooLong size n 0 k;
   words = λ form t. word_count (kept form t);
@@ -148,7 +145,7 @@ abbrev pub pointers_original : ℕ → Reading → Original Tree
 pointers_original n r = record {
   reads = λ form m m' t. (ts : Trees) × (t ≡ Pointers ts) × (count ts ≡ n) × ReadsAll form r m m' ts;
   stops = λ form P m m'. StopsAmong form P r n m m';
-  spent = λ form P m m' x. spent_behind n (spent_among x);
+  spent = λ x. spent_behind n (spent_among x);
   makes = λ form i. i ≡ n;
   exceeds = λ form k. IsTooLong Pointer n 0 k;
   words = λ form t. word_count (kept form t);
@@ -164,7 +161,7 @@ structs_original size n r = record {
   reads = λ form m m' t. (es : Elements) × (t ≡ Structs size.data_words size.pointers es) ×
       (element_count es ≡ n) × ReadsElements form r size m m' es;
   stops = λ form P m m'. StopsAmongElements form P r size n m m';
-  spent = λ form P m m' x. spent_behind (structs_words n size) (spent_among_elements x);
+  spent = λ x. spent_behind (structs_words n size) (spent_among_elements x);
   makes = λ form i. i ≡ structs_words n (widths_kept form r size n);
   exceeds = λ form k. IsTooLong InlineComposite n (size.data_words + size.pointers) k;
   words = λ form t. word_count (kept form t);

@@ -1,6 +1,6 @@
 -- The copy of a struct that is read, whose data section may end inside a word and may stand apart
 -- from its pointers.
-use Rattle.std.specs.Prelude.{◌≡◌, ℕ, zero, suc, ◌*◌, ◌/◌, ◌%◌, ◌^◌, List, [], ◌∷◌, ◌++◌, length, take, drop}
+use Rattle.std.specs.Prelude.{ℕ, zero, suc, ◌*◌, ◌/◌, ◌%◌, ◌^◌, List, [], ◌∷◌, ◌++◌, take, drop}
 use Rattle.capnp_format.specs.Bytes.{words_of}
 use Rattle.capnp_format.specs.Numbers.{from_digits}
 use Rattle.capnp_format.specs.Tree.{Tree}
@@ -18,11 +18,6 @@ bits_left (suc n) bytes = from_digits 256 bytes % 2 ^ suc n ∷ []
 abbrev pub section_words : ℕ → List ℕ → List ℕ
 section_words bits bytes =
     take (bits / 64) (words_of bytes) ++ bits_left (bits % 64) (drop (8 * (bits / 64)) bytes)
-
--- Where a section is whole words, these are its words.
-abbrev pub WholeSections : Type 0
-WholeSections =
-    (d : ℕ) (bytes : List ℕ) → length bytes ≡ 8 * d → section_words (64 * d) bytes ≡ words_of bytes
 
 module _ {A : Type 0} (g : Ghosts A) where
   -- The data words of a struct that is read.

@@ -1,10 +1,9 @@
 -- How many words of each section the elements of a list of structs use, and which sections a copy keeps.
-use Rattle.std.specs.Prelude.{ℕ, zero, suc, ◌≡◌, ◌+◌, ◌≤◌, List, take, drop, max}
+use Rattle.std.specs.Prelude.{ℕ, zero, suc, ◌+◌, List, take, drop, max}
 use Rattle.capnp_words.specs.declared.wire_pointer.StructSize.{StructSize}
 use Rattle.capnp_format.specs.Canonical.{used_words}
 use Rattle.capnp_objects.specs.Reading.{Reading, segment_read, sized}
 use Rattle.capnp_objects.specs.Wanted.{Form, canonical}
-use Rattle.capnp_copies.specs.declared.widths.ElementSizes.{ElementSizes}
 
 -- The most words that are used, up to the last that isn't zero, of n sections of so many words: the
 -- first stands at position p, and each so many words behind the one before it.
@@ -20,10 +19,3 @@ widths_kept canonical r size i =
     sized (most_used (segment_read r) r.at size.data_words (size.data_words + size.pointers) i)
     (most_used (segment_read r) (r.at + size.data_words) size.pointers (size.data_words + size.pointers) i)
 widths_kept _ r size i = size
-
--- No pointer that is used of i elements is cut.
-abbrev pub KeepsPointers : Form → Reading → ElementSizes → ℕ → Type 0
-KeepsPointers canonical r sizes i =
-    most_used (segment_read r) (r.at + sizes.source.data_words) sizes.source.pointers
-    (sizes.source.data_words + sizes.source.pointers) i ≤ sizes.kept.pointers
-KeepsPointers _ r sizes i = sizes.kept ≡ sizes.source

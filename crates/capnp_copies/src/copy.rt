@@ -23,9 +23,10 @@ mod flat;
 mod lists;
 mod structs;
 
-use crate::form::CopyForm;
+use crate::form::{CopyForm, Destination};
+use crate::widths::StructList;
 use capnp_arena_traits::arena::{BuilderArena, ReaderArena};
-use capnp_making::making::clear;
+use capnp_making::making::{Start, clear};
 use capnp_objects::object::Object;
 use capnp_readers::readers::PointerReader;
 use capnp_words::error::ErrorKind;
@@ -108,7 +109,8 @@ pub fn copy_in_form<A: BuilderArena, B: ReaderArena>(
         (value_original (reading B.ReaderArena from.entry))
         (change (form_in form) id at (A.view arena.old) (A.view arena.new) lim.old lim.new) }
 {
-    match copy_object(arena, id, at, from, lim, form) {
+    let to = Start { segment: id, at };
+    match copy_object(arena, to, from, lim, form) {
         Ok(()) => Ok(()),
         Err(k) => {
             clear(arena, id, at);
@@ -122,41 +124,44 @@ pub fn copy_in_form<A: BuilderArena, B: ReaderArena>(
 #[inline(never)]
 fn copy_object<A: BuilderArena, B: ReaderArena>(
     arena: &mut A,
-    id: u32,
-    at: u32,
+    to: Start,
     from: PointerReader<'_, B>,
     lim: &mut ReadLimiter,
     form: CopyForm,
 ) -> Result<(), ErrorKind>
-    requires place { IsPlace (A.view arena.old).words id at }
-    requires null { word_at (A.view arena.old).words id at ≡ 0 }
+    requires place { IsPlace (A.view arena.old).words to.segment to.at }
+    requires null { word_at (A.view arena.old).words to.segment to.at ≡ 0 }
     ensures copied { IfOk result
         (λ _. MakesCopy (value_original (reading B.ReaderArena from.entry))
-        (change (form_in form) id at (A.view arena.old) (A.view arena.new) lim.old lim.new)) }
+        (change (form_in form) to.segment to.at (A.view arena.old)
+        (A.view arena.new) lim.old lim.new)) }
     ensures refused { IfErr result
         (StopsHalfway (value_original (reading B.ReaderArena from.entry))
-        (change (form_in form) id at (A.view arena.old) (A.view arena.new) lim.old lim.new)) }
+        (change (form_in form) to.segment to.at (A.view arena.old)
+        (A.view arena.new) lim.old lim.new)) }
     ensures taken { TakesAtMost result
         (value_original (reading B.ReaderArena from.entry))
-        (change (form_in form) id at (A.view arena.old) (A.view arena.new) lim.old lim.new) }
+        (change (form_in form) to.segment to.at (A.view arena.old)
+        (A.view arena.new) lim.old lim.new) }
 {
     let source = from.source;
     let object = source.read_object(from.place, from.nesting_limit, lim)?;
+    let destination = Destination { place: to, form };
     match object {
         Object::Null => Ok(()),
-        Object::Capability(index) => copy_capability(arena, id, at, index, form),
+        Object::Capability(index) => copy_capability(arena, destination, index),
         Object::Struct { start, size } => {
             let inner = PointerReader {
                 source,
                 place: start,
                 nesting_limit: from.nesting_limit - 1,
             };
-            structs::copy_struct(arena, id, at, inner, size, lim, form)
+            structs::copy_struct(arena, destination, inner, size, lim)
         }
         Object::Flat { start, size, count } => {
             let words = flat::flat_words(size, count);
             let elements = part(start.bytes, start.at as usize, words as usize);
-            flat::copy_flat(arena, id, at, size, count, elements)
+            flat::copy_flat(arena, to, size, count, elements)
         }
         Object::Pointers { start, count } => {
             let inner = PointerReader {
@@ -164,7 +169,7 @@ fn copy_object<A: BuilderArena, B: ReaderArena>(
                 place: start,
                 nesting_limit: from.nesting_limit - 1,
             };
-            lists::copy_pointers(arena, id, at, inner, count, lim, form)
+            lists::copy_pointers(arena, destination, inner, count, lim)
         }
         Object::Structs { start, size, count } => {
             let inner = PointerReader {
@@ -172,7 +177,7 @@ fn copy_object<A: BuilderArena, B: ReaderArena>(
                 place: start,
                 nesting_limit: from.nesting_limit - 1,
             };
-            lists::copy_structs(arena, id, at, inner, size, count, lim, form)
+            lists::copy_structs(arena, destination, inner, StructList { size, count }, lim)
         }
     }
 }
@@ -181,23 +186,24 @@ fn copy_object<A: BuilderArena, B: ReaderArena>(
 #[inline(always)]
 fn copy_capability<A: BuilderArena>(
     arena: &mut A,
-    id: u32,
-    at: u32,
+    to: Destination,
     index: u32,
-    form: CopyForm,
 ) -> Result<(), ErrorKind>
-    requires { IsPlace (A.view arena.old).words id at }
-    ensures as_it_stands { OnOk result (form_in form ≡ plain) }
-    ensures copied { OnOk result (A.view arena.new ≡ record (A.view arena.old)
-        { words = with_word (A.view arena.old).words id at (capability_word index) }) }
+    requires { IsPlace (A.view arena.old).words to.place.segment to.place.at }
+    ensures as_it_stands { OnOk result (form_in to.form ≡ plain) }
+    ensures copied { OnOk result (A.view arena.new ≡ record (A.view arena.old) {
+      words = with_word (A.view arena.old).words to.place.segment to.place.at
+          (capability_word index);
+    }) }
     ensures refused { IfErr result (λ k.
-        ((form_in form ≡ canonical) × (k ≡ CannotCreateACanonicalMessageWithACapability))
-        ⊎ ((form_in form ≡ of_default) × (k ≡ UnknownPointerType))) }
+        ((form_in to.form ≡ canonical) × (k ≡ CannotCreateACanonicalMessageWithACapability))
+        ⊎ ((form_in to.form ≡ of_default) × (k ≡ UnknownPointerType))) }
     ensures unchanged { OnErr result (A.view arena.new ≡ A.view arena.old) }
 {
-    match form {
+    match to.form {
         CopyForm::Plain => {
-            arena.set_word(id, at, WirePointer::new_capability(index).0);
+            let Start { segment, at } = to.place;
+            arena.set_word(segment, at, WirePointer::new_capability(index).0);
             Ok(())
         }
         CopyForm::Canonical => Err(ErrorKind::CannotCreateACanonicalMessageWithACapability),

@@ -2,6 +2,8 @@
 ghost use Rattle.std.specs.Prelude.{◌≡◌};
 ghost use Rattle.capnp_copies.specs.Forms.{form_of, form_in};
 
+use capnp_making::making::Start;
+
 /// What a copy keeps of a value, and whether it takes capabilities.
 #[derive(Clone, Copy)]
 pub enum CopyForm {
@@ -11,6 +13,15 @@ pub enum CopyForm {
     Canonical,
     /// The value of a default, as it stands; a capability is `UnknownPointerType`.
     OfDefault,
+}
+
+/// Where a copy goes, and in which form.
+#[derive(Clone, Copy)]
+pub struct Destination {
+    /// The place of its pointer; of several, of the first.
+    pub place: Start,
+    /// What it keeps.
+    pub form: CopyForm,
 }
 
 impl CopyForm {

@@ -3,4 +3,4 @@
 
 pub mod copy;
 pub mod form;
-pub(crate) mod widths;
+pub mod widths;

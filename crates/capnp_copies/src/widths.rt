@@ -7,10 +7,21 @@ ghost use Rattle.capnp_copies.specs.Widths.{most_used};
 use capnp_words::wire_pointer::StructSize;
 use capnp_words::words;
 
-/// The sizes of the elements of a list of structs: in the source, and in the copy, where no section
-/// is longer.
+/// A list of structs: how many there are, and the sections of each.
+#[derive(Clone, Copy)]
+pub struct StructList {
+    /// How many structs there are.
+    pub count: u32,
+    /// The sections of each.
+    pub size: StructSize,
+}
+
+/// How many elements a list of structs has, and their sizes: in the source, and in the copy, where no
+/// section is longer.
 #[derive(Clone, Copy)]
 pub(crate) struct ElementSizes {
+    /// How many elements of these sizes there are.
+    pub count: u32,
     /// Those in the source.
     pub source: StructSize,
     /// Those in the copy.

@@ -12,7 +12,7 @@ use Rattle.capnp_format.specs.Forest.{times, target, target_in}
 use Rattle.capnp_format.proofs.Digits.{length-digits}
 use Rattle.capnp_arena_traits.specs.Written.{with_words}
 use Rattle.capnp_making.specs.Filled.{AreFilled, AreElementsFilled, ArePartlyFilled}
-use Rattle.capnp_making.specs.Made.{LeadsToStart, WordsLieFrom, words_of_zero, nulls, zero_elements}
+use Rattle.capnp_making.specs.Made.{LeadsToStart, words_of_zero, nulls, zero_elements}
 use Rattle.capnp_making.specs.Path.{Child, Element, word_interval}
 use Rattle.capnp_making.specs.Stored.{IsStored, IsReplaced}
 use Rattle.capnp_making.specs.Zeroed.{row}
@@ -40,7 +40,7 @@ null_stored S s p place none = record {
 pub record IsBegun (S M : Segments) (s p n : ℕ) (h : Start) (t : Tree) : Type 0 where
   pub made : IsReplaced S M s p Null t
   pub start : LeadsToStart M s p h
-  pub inside : WordsLieFrom M n h
+  pub inside : (h.segment < length M) × (h.at + n ≤ length (segment M h.segment))
 
 leads_of : (S : Segments) (s p : ℕ) (a : Target) → Leads S s p a → Leads S s p (target S s p)
 leads_of S s p a l = subst (Leads S s p) (sym (ap target_in l.1)) l

@@ -1,10 +1,39 @@
 -- Objects made in the segment of their pointer.
-use Rattle.std.proofs.Common.{◌≡◌, ℕ, zero, suc, ◌+◌, List, [], ◌∷◌, ◌++◌, length, set, replicate, refl, ap, ap₂, ◌∙◌, arith}
+use Rattle.std.proofs.Common.{◌≡◌, ℕ, zero, suc, ◌+◌, ◌*◌, ◌<◌, List, [], ◌∷◌, ◌++◌, length, set, replicate, refl, ap, ap₂, ◌∙◌, arith}
 use Rattle.std.proofs.lemmas.List.{set-append_left, length-set}
 use Rattle.std.proofs.Math.Seq.{set-append_seam}
 use Rattle.capnp_format.specs.Segments.{Segments, segment, IsPlace}
+use Rattle.capnp_format.specs.Word.{struct_word, list_word}
+use Rattle.capnp_words.specs.declared.wire_pointer.StructSize.{StructSize}
+use Rattle.capnp_arena_traits.specs.View.{View}
 use Rattle.capnp_arena_traits.specs.Written.{with_word, extended}
-use Rattle.capnp_making.specs.Near.{with_object}
+use Rattle.capnp_making.specs.Made.{words_of_zero, list_words}
+use Rattle.capnp_making.specs.Near.{HasOwnRoom, offset_behind, with_object}
+
+-- Segment id has room for a struct that has a word; or for a list of n structs.
+abbrev pub HasStructRoom : View → ℕ → StructSize → Type 0
+HasStructRoom v id size =
+    (0 < size.data_words + size.pointers) × HasOwnRoom v id (size.data_words + size.pointers)
+
+abbrev pub HasStructsRoom : View → ℕ → ℕ → StructSize → Type 0
+HasStructsRoom v id n size = HasOwnRoom v id (1 + n * (size.data_words + size.pointers))
+
+-- a struct, a list of n elements that are no structs, and a list of n structs, all zero, each with
+-- its pointer
+abbrev pub with_struct : Segments → ℕ → ℕ → StructSize → Segments
+with_struct S id p size =
+    with_object S id p (struct_word (offset_behind S id p) size.data_words size.pointers)
+    (words_of_zero (size.data_words + size.pointers))
+
+abbrev pub with_list : Segments → ℕ → ℕ → ℕ → ℕ → Segments
+with_list S id p size n =
+    with_object S id p (list_word (offset_behind S id p) size n) (words_of_zero (list_words size n))
+
+abbrev pub with_struct_list : Segments → ℕ → ℕ → ℕ → StructSize → Segments
+with_struct_list S id p n size =
+    with_object S id p (list_word (offset_behind S id p) 7 (n * (size.data_words + size.pointers)))
+    (struct_word n size.data_words size.pointers
+    ∷ words_of_zero (n * (size.data_words + size.pointers)))
 
 -- a word of a segment is written before or after more words are taken behind its own
 pub object_put : (S : Segments) (s p x : ℕ) (ws : List ℕ) → IsPlace S s p → with_word (extended S s ws) s p x ≡ with_object S s p x ws

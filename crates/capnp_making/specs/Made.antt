@@ -90,16 +90,6 @@ pub record IsMade (S R : Segments) (s p : ℕ) (a : Target) (n : ℕ) : Type 0 w
   pub zero : (v r : ℕ) → times (pads_of (word_at R s p)) v r ≡ 0 → length (segment S v) ≤ r →
       word_at R v r ≡ 0
 
--- From S to R the pointer at a place is written, and leads to a new object of n words of a shape,
--- which starts at h.
-abbrev pub IsMadeAt : Segments → Segments → ℕ → ℕ → Shape → ℕ → Start → Type 0
-IsMadeAt S R s p shape n h = (a : Target) × IsMade S R s p a n × IsShape shape a.word ×
-    (h.segment ≡ a.segment) × (h.at ≡ a.start)
-
 -- The pointer at a place leads to what starts at h.
 abbrev pub LeadsToStart : Segments → ℕ → ℕ → Start → Type 0
 LeadsToStart S s p h = (h.segment ≡ (target S s p).segment) × (h.at ≡ (target S s p).start)
-
--- n words from h on lie in a segment that is there.
-abbrev pub WordsLieFrom : Segments → ℕ → Start → Type 0
-WordsLieFrom S n h = (h.segment < length S) × (h.at + n ≤ length (segment S h.segment))

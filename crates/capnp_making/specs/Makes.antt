@@ -1,14 +1,16 @@
 -- A call that makes an object at the place of a pointer.
-use Rattle.std.specs.Prelude.{◌≡◌, ◌<◌, ℕ, Result, Ok, Err, IsOk, IfErr, OnOk, OnErr}
+use Rattle.std.specs.Prelude.{◌≡◌, ◌+◌, ◌<◌, ◌≤◌, ℕ, length, Result, Err, IsOk, IsOkAnd, IfErr, OnOk}
+use Rattle.std.specs.Prelude.{OnErr, MatchResult}
 use Rattle.capnp_words.specs.declared.error.ErrorKind.{ErrorKind}
 use Rattle.capnp_format.specs.Forest.{cover, target, times}
-use Rattle.capnp_format.specs.Segments.{word_at}
+use Rattle.capnp_format.specs.Segments.{segment, word_at, Target}
 use Rattle.capnp_format.specs.Tree.{Tree, Null}
 use Rattle.capnp_arena_traits.specs.View.{View}
-use Rattle.capnp_making.specs.Made.{LeadsToStart, WordsLieFrom}
+use Rattle.capnp_making.specs.Made.{LeadsToStart, IsMade, IsShape}
 use Rattle.capnp_making.specs.Memory.{HasRoom, KeepsMemory, TakesWords, StandsBehind, start_of, IsRefusedFor}
 use Rattle.capnp_making.specs.Stored.{IsStored, Puts}
 use Rattle.capnp_making.specs.Zeroed.{IsPruned}
+use Rattle.capnp_making.specs.declared.making.Shape.{Shape}
 use Rattle.capnp_making.specs.declared.making.Start.{Start}
 
 -- A call at a place of a message: the place, and the message before the call and after it.
@@ -44,19 +46,18 @@ pub record MakesObject {A : Type 0} (result : Result A ErrorKind) (c : CallAt) (
   pub refused : OnErr result (Puts c.old.words c.new.words c.segment c.at Null)
   pub only : OnErr result (IsPruned c.old.words c.new.words)
 
+-- The pointer is written, and leads to a new object of n words of a shape, which starts at h.
+abbrev pub IsMadeAt : CallAt → Shape → ℕ → Start → Type 0
+IsMadeAt c shape n h = (a : Target) × IsMade c.old.words c.new.words c.segment c.at a n ×
+    IsShape shape a.word × (h.segment ≡ a.segment) × (h.at ≡ a.start)
+
 -- The object of n words that a call made starts at h: its pointer leads there, its words are there,
 -- and they stand behind all that were there.
 pub record ObjectStartsAt (c : CallAt) (n : ℕ) (h : Start) : Type 0 where
   pub leads : LeadsToStart c.new.words c.segment c.at h
-  pub inside : WordsLieFrom c.new.words n h
+  pub inside : (h.segment < length c.new.words) ×
+      (h.at + n ≤ length (segment c.new.words h.segment))
   pub behind : StandsBehind c.old c.segment n h
-
--- A result gives what was found, by what Gives says of both; or it is refused by the same name.
-abbrev pub GivesAs : {B C : Type 0} → (C → B → Type 0) → Result C ErrorKind → Result B ErrorKind →
-    Type 0
-GivesAs Gives (Ok x) (Ok y) = Gives x y
-GivesAs Gives (Err k) (Err l) = l ≡ k
-GivesAs Gives found result = ⊥
 
 -- A call that keeps no arena is said to do what it does in one that it reached: there it found what
 -- Does says, and its result gives just that, by what Gives says; or it is refused by the same name.
@@ -65,4 +66,4 @@ pub record ReachesArena {A B C : Type 0} (Gives : A → C → B → Type 0)
   pub now : A
   pub found : Result C ErrorKind
   pub does : Does now found
-  pub gives : GivesAs (Gives now) found result
+  pub gives : MatchResult found (λ x. IsOkAnd result (Gives now x)) (λ k. result ≡ Err k)

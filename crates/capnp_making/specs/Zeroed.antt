@@ -8,9 +8,7 @@ use Rattle.capnp_format.specs.Tree.{Elements, no_elements, element, count, eleme
 use Rattle.capnp_format.specs.Means.{Means, MeansAll, MeansElements, Claims, IsTag}
 pub use Rattle.capnp_format.specs.Forest.{row, PadsInside, object_cover}
 use Rattle.capnp_format.specs.Forest.{Interval, times, cover_all, cover_elements}
-use Rattle.capnp_words.specs.declared.wire_pointer.StructSize.{StructSize}
 use Rattle.capnp_making.specs.Path.{word_interval, extent}
-use Rattle.capnp_making.specs.declared.making.Start.{Start}
 
 -- From S to R the words in these intervals become zero; all others stay.
 pub record IsZeroed (S R : Segments) (is : List Interval) : Type 0 where
@@ -48,29 +46,6 @@ pub record AreApartElements (S : Segments) (s p d q : ℕ) (es : Elements) : Typ
   pub mean : (n : ℕ) × (c : ℕ) × MeansElements S n s p d q es c
   pub apart : (v r : ℕ) → times (row s p (element_count es * (d + q)) ∷ cover_elements S s p d q es) v r ≤ 1
 
--- From S to R a struct of this size from a place on becomes zero, with all below it, if its
--- pointers mean values.
-abbrev pub IsStructZeroed : Segments → Segments → ℕ → ℕ → StructSize → Type 0
-IsStructZeroed S R s p size =
-    (ts : Trees) → count ts ≡ size.pointers →
-    p + (size.data_words + size.pointers) ≤ length (segment S s) →
-    AreApart S s (p + size.data_words) ts
-    → IsZeroed S R (row s p (size.data_words + size.pointers) ∷ cover_all S s (p + size.data_words) ts)
-
--- From S to R n pointers from a place on become zero, with all below them, if they mean values.
-abbrev pub ArePointersZeroed : Segments → Segments → ℕ → ℕ → ℕ → Type 0
-ArePointersZeroed S R s p n =
-    (ts : Trees) → count ts ≡ n → p + n ≤ length (segment S s) → AreApart S s p ts →
-    IsZeroed S R (row s p n ∷ cover_all S s p ts)
-
--- From S to R a list of structs becomes zero from its tag on, with all below it, if its pointers mean values.
-abbrev pub IsStructListZeroed : Segments → Segments → ℕ → ℕ → Type 0
-IsStructListZeroed S R s p =
-    (d q : ℕ) (es : Elements) → IsTag (word_at S s p) (element_count es) d q →
-    p + (1 + element_count es * (d + q)) ≤ length (segment S s)
-    → AreApartElements S s (p + 1) d q es →
-    IsZeroed S R (row s p (1 + element_count es * (d + q)) ∷ cover_elements S s (p + 1) d q es)
-
 -- Where the target a leads, a value stands.
 abbrev pub IsObjectAt : Segments → ℕ → Target → Tree → Type 0
 IsObjectAt S n a Null = ⊥
@@ -95,21 +70,8 @@ pub record IsObjectApart (S : Segments) (a : Target) (t : Tree) : Type 0 where
   pub stands : (n : ℕ) × IsObjectAt S n a t
   pub apart : (v r : ℕ) → times (object_cover S a t) v r ≤ 1
 
--- From S to R the object that a target leads to becomes zero, with all below it, if it is a value
--- that holds no word twice.
-abbrev pub IsObjectZeroed : Segments → Segments → Target → Type 0
-IsObjectZeroed S R a = (t : Tree) → IsObjectApart S a t → IsZeroed S R (object_cover S a t)
-
 -- The pointers of elements one behind the other, with what is reached from them.
 abbrev pub element_extents : Segments → ℕ → ℕ → ℕ → ℕ → Elements → List Interval
 element_extents S s p d q no_elements = []
 element_extents S s p d q (element ws ts es) =
     (row s (p + d) q ∷ cover_all S s (p + d) ts) ++ element_extents S s (p + d + q) d q es
-
--- From S to R the pointers of n elements of a size, one behind the other from h on, become zero,
--- with all below them, if they mean values.
-abbrev pub AreElementsZeroed : Segments → Segments → Start → StructSize → ℕ → Type 0
-AreElementsZeroed S R h size n =
-    (es : Elements) → element_count es ≡ n →
-    AreApartElements S h.segment h.at size.data_words size.pointers es
-    → IsZeroed S R (element_extents S h.segment h.at size.data_words size.pointers es)

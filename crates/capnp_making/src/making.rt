@@ -3,18 +3,19 @@
 //! An object goes behind the words of its pointer's segment where it fits, with a near pointer. Else
 //! it goes behind a landing pad of one word, where the arena finds room. What a pointer held before
 //! becomes zero first, with all below it and its landing pads; these words stay allocated.
-ghost use Rattle.std.specs.Prelude.{◌≡◌, ℕ, length, ◌<◌, ◌≤◌, ◌+◌, ◌-◌, ◌*◌, ◌^◌, IfOk, IsOk, OnOk, OnErr, IfErr};
+ghost use Rattle.std.specs.Prelude.{◌≡◌, ℕ, length, ◌∷◌, ◌<◌, ◌≤◌, ◌+◌, ◌-◌, ◌*◌, ◌^◌, IfOk, IsOk, OnOk, OnErr, IfErr};
 ghost use Rattle.capnp_format.specs.Canonical.{offset_to, Reaches};
 ghost use Rattle.capnp_format.specs.Segments.{segment, word_at, IsPlace};
 ghost use Rattle.capnp_format.specs.Tree.{Null};
-ghost use Rattle.capnp_format.specs.Word.{offset_bits, struct_word};
+ghost use Rattle.capnp_format.specs.Word.{offset_bits, struct_word, list_word};
 ghost use Rattle.capnp_words.specs.Sizes.{size_number};
 ghost use Rattle.capnp_arena_traits.specs.Taking.{IsFirstFit};
 ghost use Rattle.capnp_arena_traits.specs.View.{KeepsLimits};
-ghost use Rattle.capnp_making.specs.Made.{IsShape, CountFits, AsksWords, zero_struct, zero_structs, zero_list, list_words, words_of_zero, IsMadeAt};
-ghost use Rattle.capnp_making.specs.Makes.{Allocates, ObjectStartsAt, call_at};
+ghost use Rattle.capnp_making.specs.Made.{IsShape, CountFits, AsksWords, zero_struct, zero_structs, zero_list, list_words, words_of_zero};
+ghost use Rattle.capnp_making.specs.Makes.{Allocates, IsMadeAt, ObjectStartsAt, call_at};
 ghost use Rattle.capnp_making.specs.Memory.{KeepsMemory, IsNextRoom, Lengthens, StandsBehind, IsRefusedFor};
-ghost use Rattle.capnp_making.specs.Near.{HasOwnRoom, HasStructRoom, HasStructsRoom, StartsBehind, offset_behind, shape_word, with_object, with_struct, with_list, with_struct_list};
+ghost use Rattle.capnp_making.specs.Near.{HasOwnRoom, StartsBehind, offset_behind, shape_word, with_object};
+ghost use Rattle.capnp_making.specs.declared.making.Shape.TheVariants.{Struct as StructShape, List as ListShape};
 ghost use Rattle.capnp_making.specs.Stored.{IsReplaced, Puts};
 ghost use Rattle.capnp_making.specs.Zeroed.{IsPruned};
 ghost use Rattle.capnp_arena_traits.specs.Written.{with_word};
@@ -77,8 +78,8 @@ fn put_object<A: BuilderArena>(
     requires few { CountFits shape }
     requires some { AsksWords shape }
     requires small { amount < 2 ^ 31 }
-    ensures made { IfOk result (IsMadeAt (A.view arena.old).words
-        (A.view arena.new).words id at shape amount) }
+    ensures made { IfOk result
+        (IsMadeAt (call_at id at (A.view arena.old) (A.view arena.new)) shape amount) }
     ensures memory { Allocates result (call_at id at (A.view arena.old) (A.view arena.new))
         amount }
     ensures behind { IfOk result (StandsBehind (A.view arena.old) id amount) }
@@ -120,8 +121,8 @@ fn put_far<A: BuilderArena>(
     requires place { IsPlace (A.view arena.old).words id at }
     requires few { CountFits shape }
     requires small { amount < 2 ^ 31 }
-    ensures made { IfOk result (IsMadeAt (A.view arena.old).words
-        (A.view arena.new).words id at shape amount) }
+    ensures made { IfOk result
+        (IsMadeAt (call_at id at (A.view arena.old) (A.view arena.new)) shape amount) }
     ensures fits { (k : ℕ) → IsFirstFit (A.view arena.old) (amount + 1) k → IsOk result }
     ensures granted { OnOk result (KeepsMemory (A.view arena.old) (A.view arena.new)) }
     ensures taken { IfOk result (λ h. IsNextRoom (A.view arena.old) (amount + 1) h.segment
@@ -176,8 +177,12 @@ pub fn make_struct<A: BuilderArena>(
         (size.data_words + size.pointers)) }
     ensures memory { Allocates result (call_at id at (A.view arena.old) (A.view arena.new))
         (size.data_words + size.pointers) }
-    ensures near { HasStructRoom (A.view arena.old) id size
-        → OnOk result ((A.view arena.new).words ≡ with_struct (A.view arena.old).words id at size) }
+    ensures near { (0 < size.data_words + size.pointers)
+        × HasOwnRoom (A.view arena.old) id (size.data_words + size.pointers)
+        → OnOk result
+        ((A.view arena.new).words ≡ with_object (A.view arena.old).words id at
+        (shape_word (StructShape size) (offset_behind (A.view arena.old).words id at))
+        (words_of_zero (size.data_words + size.pointers))) }
     ensures empty { size.data_words + size.pointers ≡ 0
         → OnOk result
         ((A.view arena.new).words ≡ with_word (A.view arena.old).words id at
@@ -216,8 +221,9 @@ pub fn make_list<A: BuilderArena>(
         (list_words (size_number size) count) }
     ensures near { HasOwnRoom (A.view arena.old) id (list_words (size_number size) count)
         → OnOk result
-        ((A.view arena.new).words ≡ with_list (A.view arena.old).words id at
-        (size_number size) count) }
+        ((A.view arena.new).words ≡ with_object (A.view arena.old).words id at
+        (shape_word (ListShape size count) (offset_behind (A.view arena.old).words id at))
+        (words_of_zero (list_words (size_number size) count))) }
     ensures at_end { HasOwnRoom (A.view arena.old) id (list_words (size_number size) count)
         → IfOk result (StartsBehind (A.view arena.old).words id) }
     ensures refused { OnErr result ((A.view arena.new).words ≡ (A.view arena.old).words) }
@@ -260,9 +266,14 @@ pub fn make_struct_list<A: BuilderArena>(
         (1 + count * (size.data_words + size.pointers))) }
     ensures memory { Allocates result (call_at id at (A.view arena.old) (A.view arena.new))
         (1 + count * (size.data_words + size.pointers)) }
-    ensures near { HasStructsRoom (A.view arena.old) id count size
+    ensures near { HasOwnRoom (A.view arena.old) id
+        (1 + count * (size.data_words + size.pointers))
         → OnOk result
-        ((A.view arena.new).words ≡ with_struct_list (A.view arena.old).words id at count size) }
+        ((A.view arena.new).words ≡ with_object (A.view arena.old).words id at
+        (list_word (offset_behind (A.view arena.old).words id at) 7
+        (count * (size.data_words + size.pointers)))
+        (struct_word count size.data_words size.pointers
+        ∷ words_of_zero (count * (size.data_words + size.pointers)))) }
     ensures refused { OnErr result ((A.view arena.new).words ≡ (A.view arena.old).words) }
 {
     let words = count * size.total();

@@ -2,12 +2,14 @@
 ghost use Rattle.std.specs.Prelude.{◌≡◌, ℕ, ◌<◌, ◌≤◌, ◌+◌, ◌*◌, ◌^◌, ◌∷◌, [], length, IsTrue, ◌↔◌};
 ghost use Rattle.capnp_arena_traits.specs.View.{KeepsLimits};
 ghost use Rattle.capnp_format.specs.Segments.{segment, word_at, IsPlace};
-ghost use Rattle.capnp_format.specs.Tree.{Tree};
+ghost use Rattle.capnp_format.specs.Means.{IsTag};
+ghost use Rattle.capnp_format.specs.Tree.{Tree, Trees, Elements, element_count};
+ghost use Rattle.capnp_format.specs.Tree.{count as number};
 ghost use Rattle.capnp_format.specs.Word.{far_position, is_double, kind, upper_half};
-ghost use Rattle.capnp_format.specs.Forest.{pads_of, row, PadsInside};
+ghost use Rattle.capnp_format.specs.Forest.{pads_of, row, PadsInside, object_cover, cover_all, cover_elements};
 ghost use Rattle.capnp_making.specs.Path.{extent};
 ghost use Rattle.capnp_making.specs.Landings.{target_of};
-ghost use Rattle.capnp_making.specs.Zeroed.{IsZeroed, IsPruned, IsApart, IsObjectZeroed, IsStructZeroed, ArePointersZeroed, IsStructListZeroed, AreElementsZeroed};
+ghost use Rattle.capnp_making.specs.Zeroed.{IsZeroed, IsPruned, IsApart, IsObjectApart, AreApart, AreApartElements, element_extents};
 
 use crate::landing::{Landing, follow, length_of, word_of};
 use capnp_arena_traits::arena::BuilderArena;
@@ -106,13 +108,15 @@ pub fn zero_object<A: BuilderArena>(arena: &mut A, id: u32, at: u32)
     }
 }
 
-/// Makes zero the object that a pointer leads to, and all below it.
+/// Makes zero the object that a pointer leads to, and all below it, if it is a value that holds no word
+/// twice.
 #[cycle(zeroing)]
 #[cold]
 #[inline(never)]
 fn zero_landed<A: BuilderArena>(arena: &mut A, landing: Landing)
-    ensures zeroed { IsObjectZeroed (A.view arena.old).words (A.view arena.new).words
-        (target_of landing) }
+    ensures zeroed { (t : Tree) → IsObjectApart (A.view arena.old).words (target_of landing) t
+        → IsZeroed (A.view arena.old).words (A.view arena.new).words
+        (object_cover (A.view arena.old).words (target_of landing) t) }
     ensures pruned { IsPruned (A.view arena.old).words (A.view arena.new).words }
     ensures limits { KeepsLimits (A.view arena.old) (A.view arena.new) }
 {
@@ -139,11 +143,15 @@ fn zero_landed<A: BuilderArena>(arena: &mut A, landing: Landing)
     }
 }
 
-/// Makes a struct zero, and all below it.
+/// Makes a struct zero, and all below it, if its pointers mean values.
 #[cycle(zeroing)]
 fn zero_struct<A: BuilderArena>(arena: &mut A, id: u32, start: u32, size: StructSize)
-    ensures zeroed { IsStructZeroed (A.view arena.old).words
-        (A.view arena.new).words id start size }
+    ensures zeroed { (ts : Trees) → number ts ≡ size.pointers
+        → start + (size.data_words + size.pointers) ≤ length (segment (A.view arena.old).words id)
+        → AreApart (A.view arena.old).words id (start + size.data_words) ts
+        → IsZeroed (A.view arena.old).words (A.view arena.new).words
+        (row id start (size.data_words + size.pointers)
+        ∷ cover_all (A.view arena.old).words id (start + size.data_words) ts) }
     ensures pruned { IsPruned (A.view arena.old).words (A.view arena.new).words }
     ensures limits { KeepsLimits (A.view arena.old) (A.view arena.new) }
 {
@@ -154,12 +162,15 @@ fn zero_struct<A: BuilderArena>(arena: &mut A, id: u32, start: u32, size: Struct
     }
 }
 
-/// Makes so many pointers one behind the other zero, and all below them.
+/// Makes so many pointers one behind the other zero, and all below them, if they mean values.
 #[cycle(zeroing)]
 #[tactic(auto, using(crate::proofs::Zeros::fewer))]
 fn zero_pointers<A: BuilderArena>(arena: &mut A, id: u32, start: u32, count: u32)
-    ensures zeroed { ArePointersZeroed (A.view arena.old).words
-        (A.view arena.new).words id start count }
+    ensures zeroed { (ts : Trees) → number ts ≡ count
+        → start + count ≤ length (segment (A.view arena.old).words id)
+        → AreApart (A.view arena.old).words id start ts
+        → IsZeroed (A.view arena.old).words (A.view arena.new).words
+        (row id start count ∷ cover_all (A.view arena.old).words id start ts) }
     ensures pruned { IsPruned (A.view arena.old).words (A.view arena.new).words }
     ensures limits { KeepsLimits (A.view arena.old) (A.view arena.new) }
 {
@@ -170,10 +181,16 @@ fn zero_pointers<A: BuilderArena>(arena: &mut A, id: u32, start: u32, count: u32
     }
 }
 
-/// Makes a list of structs zero, its tag, and all below it.
+/// Makes a list of structs zero, its tag, and all below it, if its pointers mean values.
 #[cycle(zeroing)]
 fn zero_structs<A: BuilderArena>(arena: &mut A, id: u32, start: u32)
-    ensures zeroed { IsStructListZeroed (A.view arena.old).words (A.view arena.new).words id start }
+    ensures zeroed { (d q : ℕ) (es : Elements)
+        → IsTag (word_at (A.view arena.old).words id start) (element_count es) d q
+        → start + (1 + element_count es * (d + q)) ≤ length (segment (A.view arena.old).words id)
+        → AreApartElements (A.view arena.old).words id (start + 1) d q es
+        → IsZeroed (A.view arena.old).words (A.view arena.new).words
+        (row id start (1 + element_count es * (d + q))
+        ∷ cover_elements (A.view arena.old).words id (start + 1) d q es) }
     ensures pruned { IsPruned (A.view arena.old).words (A.view arena.new).words }
     ensures limits { KeepsLimits (A.view arena.old) (A.view arena.new) }
 {
@@ -187,14 +204,16 @@ fn zero_structs<A: BuilderArena>(arena: &mut A, id: u32, start: u32)
     }
 }
 
-/// Makes the pointers of elements one behind the other zero, and all below them.
+/// Makes the pointers of elements one behind the other zero, and all below them, if they mean values.
 #[cycle(zeroing)]
 #[tactic(auto, using(crate::proofs::Zeros::fewer))]
 fn zero_elements<A: BuilderArena>(arena: &mut A, id: u32, start: u32, size: StructSize, count: u32)
     requires { start + count * (size.data_words + size.pointers)
         ≤ length (segment (A.view arena.old).words id) }
-    ensures zeroed { AreElementsZeroed (A.view arena.old).words (A.view arena.new).words
-        (record { segment = id; at = start }) size count }
+    ensures zeroed { (es : Elements) → element_count es ≡ count
+        → AreApartElements (A.view arena.old).words id start size.data_words size.pointers es
+        → IsZeroed (A.view arena.old).words (A.view arena.new).words
+        (element_extents (A.view arena.old).words id start size.data_words size.pointers es) }
     ensures pruned { IsPruned (A.view arena.old).words (A.view arena.new).words }
     ensures limits { KeepsLimits (A.view arena.old) (A.view arena.new) }
 {

@@ -1,5 +1,5 @@
 -- Under a budget for which the segment of the place has room, a copy comes to no object for which there is none.
-use Rattle.std.proofs.Common.{◌≡◌, inl, inr, ℕ, zero, suc, pred, ◌+◌, ◌≤◌, List, take, drop, length-take, subst, arith}
+use Rattle.std.proofs.Common.{◌≡◌, inl, inr, true, Some, ℕ, zero, suc, pred, ◌+◌, ◌≤◌, List, take, drop, length-take, subst, arith}
 use Rattle.capnp_words.specs.declared.wire_pointer.StructSize.{StructSize}
 use Rattle.capnp_words.specs.Meter.{Meter, Affords}
 use Rattle.capnp_format.specs.Segments.{Target, segment, words_at}
@@ -9,14 +9,17 @@ use Rattle.capnp_objects.specs.Demands.{own, tag}
 use Rattle.capnp_objects.specs.Faults.{child_at}
 use Rattle.capnp_objects.specs.Outcomes.{Entered}
 use Rattle.capnp_objects.specs.Reading.{Reading, segment_read, tag_size}
-use Rattle.capnp_objects.specs.Refusals.{StopsWithin, here, below}
+use Rattle.capnp_objects.specs.Refusals.{Refused, StopsWithin, here, below}
 use Rattle.capnp_objects.specs.Wanted.{Form, canonical}
 use Rattle.capnp_objects.specs.declared.object.Purpose.TheVariants.{Value}
 use Rattle.capnp_objects.proofs.Objects.{own_struct, own_flat, own_pointers, own_structs}
 use Rattle.capnp_objects.proofs.Refusals.{affords_less}
-use Rattle.capnp_copies.specs.Changes.{IsMadeOf, as_struct, as_numbers, as_pointers, as_structs, WantsWords}
+use Rattle.capnp_words.specs.declared.error.ErrorKind.{ErrorKind}
+use Rattle.capnp_making.specs.Near.{HasOwnRoom}
+use Rattle.capnp_copies.specs.Changes.{Change, RefusesToCopy, IsMadeOf, as_struct, as_numbers, as_pointers, as_structs}
+use Rattle.capnp_copies.specs.Originals.{value_original}
+use Rattle.capnp_copies.proofs.NoRoom.{WantsWords}
 use Rattle.capnp_copies.specs.Costs.{spent_before, spent_until}
-use Rattle.capnp_copies.specs.Rooms.{BudgetHasRoom}
 use Rattle.capnp_copies.specs.Widths.{most_used, widths_kept}
 use Rattle.capnp_copies.proofs.DataSections.{kept_count-le}
 use Rattle.capnp_copies.proofs.Growth.{covered_below, covered_by, no_wider}
@@ -59,7 +62,7 @@ covered_wanted n {r = r} {m} (below a q o before rest) =
     let sum : own Value r.segments a + ((spent_before before).words + ((spent_until rest).words + n)) ≡ own Value r.segments a + ((spent_before before).words + (spent_until rest).words) + n = omega arith in
     subst (Affords r.charging m) sum x.0
 
-pub budget_has_room : BudgetHasRoom
+pub budget_has_room : (r : Reading) (c : Change) (x : ℕ) (k : ErrorKind) → r.charging ≡ true → c.before.left ≡ Some x → HasOwnRoom c.old c.segment x → RefusesToCopy (value_original r) c k → Refused c.form r c.before c.after k
 budget_has_room r c x k charged budget room why = elim why [
   | inl (lacks, large) ↦ absurd (elim lacks [
     | inl none ↦ none.2

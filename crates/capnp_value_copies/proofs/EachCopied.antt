@@ -12,7 +12,8 @@ use Rattle.capnp_objects.specs.Reading.{Reading, behind}
 use Rattle.capnp_objects.specs.Wanted.{plain}
 use Rattle.capnp_objects.proofs.Copies.{read_stop}
 use Rattle.capnp_objects.proofs.Refusals.{unreadable}
-use Rattle.capnp_copies.specs.Changes.{change, WantsWords, CopiesChildren, StopsCopy, CopiesFirst}
+use Rattle.capnp_copies.specs.Changes.{change, CopiesChildren, StopsCopy, CopiesFirst}
+use Rattle.capnp_copies.proofs.NoRoom.{WantsWords}
 use Rattle.capnp_copies.specs.Rooms.{CanBeCopied}
 use Rattle.capnp_copies.specs.Originals.{value_original, children_original}
 use Rattle.capnp_copies.proofs.FilledChildren.{children_grow}

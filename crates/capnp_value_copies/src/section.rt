@@ -11,6 +11,7 @@ ghost use Rattle.capnp_copies.specs.Originals.{kept_count};
 
 use capnp_arena_traits::arena::BuilderArena;
 use capnp_copies::copy::put_words;
+use capnp_making::making::Start;
 use capnp_words::words::{part, used_part};
 
 /// How many words of a data section a copy keeps: in canonical form those up to the last that is not
@@ -32,21 +33,21 @@ pub(crate) fn kept_words(bytes: &[u8], bits: u32, canonicalize: bool) -> usize
 /// Writes the first words of a data section over words of a segment.
 pub(crate) fn put_section<A: BuilderArena>(
     arena: &mut A,
-    id: u32,
-    at: u32,
+    to: Start,
     bytes: &[u8],
     bits: u32,
     kept: u16,
 )
     requires long { length bytes.now ≡ bytes_for bits }
     requires few { kept ≤ length (section_words bits bytes.now) }
-    requires inside { at + kept ≤ length (segment (A.view arena.old).words id) }
+    requires inside { to.at + kept ≤ length (segment (A.view arena.old).words to.segment) }
     ensures { A.view arena.new
         ≡ record (A.view arena.old) {
-          words = with_words (A.view arena.old).words id at
+          words = with_words (A.view arena.old).words to.segment to.at
               (take kept (section_words bits bytes.now));
         } }
 {
+    let Start { segment: id, at } = to;
     let whole = bits / 64;
     let kept = u32::from(kept);
     if kept <= whole {

@@ -6,14 +6,15 @@ ghost use Rattle.capnp_objects.specs.Reading.{segment_read, word_of};
 ghost use Rattle.capnp_objects.specs.Wanted.{Form};
 ghost use Rattle.capnp_readers.specs.Readers.{reading};
 ghost use Rattle.capnp_copies.specs.Growth.{TakesAtMost, CopiesOrStops};
-ghost use Rattle.capnp_copies.specs.Changes.{change, HasNulls, MakesCopy, StopsHalfway};
+ghost use Rattle.capnp_copies.specs.Changes.{change, change_to, HasNulls, MakesCopy, StopsHalfway};
 ghost use Rattle.capnp_copies.specs.Forms.{form_in};
 ghost use Rattle.capnp_copies.specs.Originals.{value_original};
 
 use super::flat::{copy_flat, flat_words};
 use super::structs::copy_struct;
-use crate::form::CopyForm;
+use crate::form::{CopyForm, Destination};
 use capnp_arena_traits::arena::{BuilderArena, ReaderArena};
+use capnp_making::making::Start;
 use capnp_objects::object::Place;
 use capnp_readers::readers::PointerReader;
 use capnp_words::error::ErrorKind;
@@ -21,28 +22,26 @@ use capnp_words::read_limiter::ReadLimiter;
 use capnp_words::wire_pointer::{ElementSize, WirePointer, WirePointerKind};
 use capnp_words::words::part;
 
-/// Copies what so many pointers mean, from that of `from` on, to as many null pointers of a segment
-/// from position `at` on.
+/// Copies what so many pointers mean, from that of `from` on, to as many null pointers from the
+/// destination's on.
 #[cycle(copies)]
 #[inline(always)]
 pub fn copy_children<A: BuilderArena, B: ReaderArena>(
     arena: &mut A,
-    id: u32,
-    at: u32,
+    to: Destination,
     from: PointerReader<'_, B>,
     count: u32,
     lim: &mut ReadLimiter,
-    form: CopyForm,
 ) -> Result<(), ErrorKind>
-    requires nulls { HasNulls (A.view arena.old).words id at count }
+    requires nulls { HasNulls (A.view arena.old).words to.place.segment to.place.at count }
     requires inside { from.place.at + count ≤ length (segment_read (reading B.ReaderArena from)) }
     ensures { CopiesOrStops result (reading B.ReaderArena from.entry) count
-        (change (form_in form) id at (A.view arena.old) (A.view arena.new) lim.old lim.new) }
+        (change_to to (A.view arena.old) (A.view arena.new) lim.old lim.new) }
 {
     if count == 0 {
         return Ok(());
     }
-    copy_row(arena, id, at, from, count, lim, form)
+    copy_row(arena, to.place, from, count, lim, to.form)
 }
 
 /// Does what `copy_children` does, out of line: each level of structs is a call of it.
@@ -50,19 +49,20 @@ pub fn copy_children<A: BuilderArena, B: ReaderArena>(
 #[inline(never)]
 fn copy_row<A: BuilderArena, B: ReaderArena>(
     arena: &mut A,
-    id: u32,
-    at: u32,
+    to: Start,
     from: PointerReader<'_, B>,
     count: u32,
     lim: &mut ReadLimiter,
     form: CopyForm,
 ) -> Result<(), ErrorKind>
-    requires nulls { HasNulls (A.view arena.old).words id at count }
+    requires nulls { HasNulls (A.view arena.old).words to.segment to.at count }
     requires inside { from.place.at + count ≤ length (segment_read (reading B.ReaderArena from)) }
     ensures { CopiesOrStops result (reading B.ReaderArena from.entry) count
-        (change (form_in form) id at (A.view arena.old) (A.view arena.new) lim.old lim.new) }
+        (change (form_in form) to.segment to.at (A.view arena.old)
+        (A.view arena.new) lim.old lim.new) }
 {
-    copy_in_line(arena, id, at, from, count, lim, form)
+    let to = Destination { place: to, form };
+    copy_in_line(arena, to, from, count, lim)
 }
 
 /// Does what `copy_children` does, in line: the loop over a list calls nothing for pointers that are
@@ -71,17 +71,15 @@ fn copy_row<A: BuilderArena, B: ReaderArena>(
 #[inline(always)]
 pub(crate) fn copy_in_line<A: BuilderArena, B: ReaderArena>(
     arena: &mut A,
-    id: u32,
-    at: u32,
+    to: Destination,
     from: PointerReader<'_, B>,
     count: u32,
     lim: &mut ReadLimiter,
-    form: CopyForm,
 ) -> Result<(), ErrorKind>
-    requires nulls { HasNulls (A.view arena.old).words id at count }
+    requires nulls { HasNulls (A.view arena.old).words to.place.segment to.place.at count }
     requires inside { from.place.at + count ≤ length (segment_read (reading B.ReaderArena from)) }
     ensures { CopiesOrStops result (reading B.ReaderArena from.entry) count
-        (change (form_in form) id at (A.view arena.old) (A.view arena.new) lim.old lim.new) }
+        (change_to to (A.view arena.old) (A.view arena.new) lim.old lim.new) }
 {
     for i in 0..count {
         let child = PointerReader {
@@ -93,7 +91,12 @@ pub(crate) fn copy_in_line<A: BuilderArena, B: ReaderArena>(
             },
             nesting_limit: from.nesting_limit,
         };
-        copy_child(arena, id, at + i, child, lim, form)?;
+        let place = Start {
+            segment: to.place.segment,
+            at: to.place.at + i,
+        };
+        let form = to.form;
+        copy_child(arena, Destination { place, form }, child, lim)?;
     }
     Ok(())
 }
@@ -104,35 +107,33 @@ pub(crate) fn copy_in_line<A: BuilderArena, B: ReaderArena>(
 #[inline(always)]
 fn copy_child<A: BuilderArena, B: ReaderArena>(
     arena: &mut A,
-    id: u32,
-    at: u32,
+    to: Destination,
     from: PointerReader<'_, B>,
     lim: &mut ReadLimiter,
-    form: CopyForm,
 ) -> Result<(), ErrorKind>
-    requires place { IsPlace (A.view arena.old).words id at }
-    requires null { word_at (A.view arena.old).words id at ≡ 0 }
+    requires place { IsPlace (A.view arena.old).words to.place.segment to.place.at }
+    requires null { word_at (A.view arena.old).words to.place.segment to.place.at ≡ 0 }
     ensures copied { IfOk result
         (λ _. MakesCopy (value_original (reading B.ReaderArena from.entry))
-        (change (form_in form) id at (A.view arena.old) (A.view arena.new) lim.old lim.new)) }
+        (change_to to (A.view arena.old) (A.view arena.new) lim.old lim.new)) }
     ensures refused { IfErr result
         (StopsHalfway (value_original (reading B.ReaderArena from.entry))
-        (change (form_in form) id at (A.view arena.old) (A.view arena.new) lim.old lim.new)) }
+        (change_to to (A.view arena.old) (A.view arena.new) lim.old lim.new)) }
     ensures taken { TakesAtMost result
         (value_original (reading B.ReaderArena from.entry))
-        (change (form_in form) id at (A.view arena.old) (A.view arena.new) lim.old lim.new) }
+        (change_to to (A.view arena.old) (A.view arena.new) lim.old lim.new) }
 {
     let word = from.place.word();
     if word.is_null() {
         return Ok(());
     }
     if is_of_bits(word) {
-        return copy_near_flat(arena, id, at, from, word, lim);
+        return copy_near_flat(arena, to.place, from, word, lim);
     }
     if word.kind() == WirePointerKind::Struct {
-        copy_near_struct(arena, id, at, from, word, lim, form)
+        copy_near_struct(arena, to, from, word, lim)
     } else {
-        super::copy_object(arena, id, at, from, lim, form)
+        super::copy_object(arena, to.place, from, lim, to.form)
     }
 }
 
@@ -141,28 +142,26 @@ fn copy_child<A: BuilderArena, B: ReaderArena>(
 #[inline(always)]
 fn copy_near_struct<A: BuilderArena, B: ReaderArena>(
     arena: &mut A,
-    id: u32,
-    at: u32,
+    to: Destination,
     from: PointerReader<'_, B>,
     word: WirePointer,
     lim: &mut ReadLimiter,
-    form: CopyForm,
 ) -> Result<(), ErrorKind>
-    requires place { IsPlace (A.view arena.old).words id at }
-    requires null { word_at (A.view arena.old).words id at ≡ 0 }
+    requires place { IsPlace (A.view arena.old).words to.place.segment to.place.at }
+    requires null { word_at (A.view arena.old).words to.place.segment to.place.at ≡ 0 }
     requires there { word.0 ≡ word_of (reading B.ReaderArena from) }
     requires small { word.0 < 2 ^ 64 }
     requires some { word.0 ≢ 0 }
     requires is_struct { kind word.0 ≡ 0 }
     ensures copied { IfOk result
         (λ _. MakesCopy (value_original (reading B.ReaderArena from.entry))
-        (change (form_in form) id at (A.view arena.old) (A.view arena.new) lim.old lim.new)) }
+        (change_to to (A.view arena.old) (A.view arena.new) lim.old lim.new)) }
     ensures refused { IfErr result
         (StopsHalfway (value_original (reading B.ReaderArena from.entry))
-        (change (form_in form) id at (A.view arena.old) (A.view arena.new) lim.old lim.new)) }
+        (change_to to (A.view arena.old) (A.view arena.new) lim.old lim.new)) }
     ensures taken { TakesAtMost result
         (value_original (reading B.ReaderArena from.entry))
-        (change (form_in form) id at (A.view arena.old) (A.view arena.new) lim.old lim.new) }
+        (change_to to (A.view arena.old) (A.view arena.new) lim.old lim.new) }
 {
     let source = from.source;
     let start = source.read_near_struct(from.place, word, from.nesting_limit, lim)?;
@@ -175,21 +174,20 @@ fn copy_near_struct<A: BuilderArena, B: ReaderArena>(
         },
         nesting_limit: from.nesting_limit - 1,
     };
-    copy_struct(arena, id, at, inner, word.struct_size(), lim, form)
+    copy_struct(arena, to, inner, word.struct_size(), lim)
 }
 
 /// Copies the list of bits or bytes that a near pointer leads to, which is the same in every form.
 #[inline(always)]
 fn copy_near_flat<A: BuilderArena, B: ReaderArena>(
     arena: &mut A,
-    id: u32,
-    at: u32,
+    to: Start,
     from: PointerReader<'_, B>,
     word: WirePointer,
     lim: &mut ReadLimiter,
 ) -> Result<(), ErrorKind>
-    requires place { IsPlace (A.view arena.old).words id at }
-    requires null { word_at (A.view arena.old).words id at ≡ 0 }
+    requires place { IsPlace (A.view arena.old).words to.segment to.at }
+    requires null { word_at (A.view arena.old).words to.segment to.at ≡ 0 }
     requires there { word.0 ≡ word_of (reading B.ReaderArena from) }
     requires small { word.0 < 2 ^ 64 }
     requires some { word.0 ≢ 0 }
@@ -197,13 +195,13 @@ fn copy_near_flat<A: BuilderArena, B: ReaderArena>(
     requires of_bits { (0 < element_size word.0) × (element_size word.0 ≤ 5) }
     ensures copied { (form : Form) → IfOk result
         (λ _. MakesCopy (value_original (reading B.ReaderArena from.entry))
-        (change form id at (A.view arena.old) (A.view arena.new) lim.old lim.new)) }
+        (change form to.segment to.at (A.view arena.old) (A.view arena.new) lim.old lim.new)) }
     ensures refused { (form : Form) → IfErr result
         (StopsHalfway (value_original (reading B.ReaderArena from.entry))
-        (change form id at (A.view arena.old) (A.view arena.new) lim.old lim.new)) }
+        (change form to.segment to.at (A.view arena.old) (A.view arena.new) lim.old lim.new)) }
     ensures taken { (form : Form) → TakesAtMost result
         (value_original (reading B.ReaderArena from.entry))
-        (change form id at (A.view arena.old) (A.view arena.new) lim.old lim.new) }
+        (change form to.segment to.at (A.view arena.old) (A.view arena.new) lim.old lim.new) }
 {
     let size = word.list_element_size();
     let count = word.list_element_count();
@@ -211,7 +209,7 @@ fn copy_near_flat<A: BuilderArena, B: ReaderArena>(
     let source = from.source;
     let start = source.read_near_flat(from.place, word, words, from.nesting_limit, lim)?;
     let elements = part(from.place.bytes, start as usize, words as usize);
-    copy_flat(arena, id, at, size, count, elements)
+    copy_flat(arena, to, size, count, elements)
 }
 
 /// Whether a word is the pointer to a list of bits or bytes in its own segment.

@@ -3,16 +3,16 @@ ghost use Rattle.std.specs.Prelude.{◌≡◌, ℕ, ◌+◌, ◌*◌, ◌<◌, �
 ghost use Rattle.capnp_format.specs.Bytes.{words_of};
 ghost use Rattle.capnp_format.specs.Segments.{segment, word_at};
 ghost use Rattle.capnp_arena_traits.specs.Written.{with_words};
-ghost use Rattle.capnp_objects.specs.Reading.{behind, segment_read};
+ghost use Rattle.capnp_objects.specs.Reading.{segment_read};
 ghost use Rattle.capnp_readers.specs.Readers.{reading};
 ghost use Rattle.capnp_copies.specs.Growth.{TakesNone, TakesAtMost};
-ghost use Rattle.capnp_copies.specs.Changes.{change, CopiesElement, StopsAtElement, CopiesRows, StopsAtElements};
+ghost use Rattle.capnp_copies.specs.Changes.{change_to, CopiesRows, StopsAtElements};
 ghost use Rattle.capnp_copies.specs.Forms.{form_in};
-ghost use Rattle.capnp_copies.specs.Originals.{children_original, elements_original};
-ghost use Rattle.capnp_copies.specs.Widths.{KeepsPointers};
+ghost use Rattle.capnp_copies.specs.Originals.{elements_original};
+ghost use Rattle.capnp_copies.specs.Widths.{widths_kept};
 
 use super::children::copy_in_line;
-use crate::form::CopyForm;
+use crate::form::Destination;
 use crate::widths::ElementSizes;
 use capnp_arena_traits::arena::{BuilderArena, ReaderArena};
 use capnp_making::making::Start;
@@ -22,110 +22,68 @@ use capnp_words::error::ErrorKind;
 use capnp_words::read_limiter::ReadLimiter;
 use capnp_words::words::{count, part};
 
-/// Copies so many elements, of which `from` is the first word, over words of zero, each cut to the
-/// sections that are kept.
+/// Copies elements, of which `from` is the first word, over words of zero, each cut to the sections that
+/// are kept.
 #[cycle(copies)]
 #[inline(always)]
 pub(crate) fn copy_elements<A: BuilderArena, B: ReaderArena>(
     arena: &mut A,
-    to: Start,
+    to: Destination,
     from: PointerReader<'_, B>,
     sizes: ElementSizes,
-    count: u32,
     lim: &mut ReadLimiter,
-    form: CopyForm,
 ) -> Result<(), ErrorKind>
-    requires room { to.at + count * (sizes.kept.data_words + sizes.kept.pointers)
-        ≤ length (segment (A.view arena.old).words to.segment) }
-    requires zero { (i : ℕ) → i < count * (sizes.kept.data_words + sizes.kept.pointers)
-        → word_at (A.view arena.old).words to.segment (to.at + i) ≡ 0 }
-    requires inside { from.place.at + count * (sizes.source.data_words + sizes.source.pointers)
+    requires room { to.place.at + sizes.count * (sizes.kept.data_words + sizes.kept.pointers)
+        ≤ length (segment (A.view arena.old).words to.place.segment) }
+    requires zero { (i : ℕ) → i < sizes.count * (sizes.kept.data_words + sizes.kept.pointers)
+        → word_at (A.view arena.old).words to.place.segment (to.place.at + i) ≡ 0 }
+    requires inside { from.place.at
+        + sizes.count * (sizes.source.data_words + sizes.source.pointers)
         ≤ length (segment_read (reading B.ReaderArena from)) }
     requires less_data { sizes.kept.data_words ≤ sizes.source.data_words }
     requires less_pointers { sizes.kept.pointers ≤ sizes.source.pointers }
-    requires pointers { KeepsPointers (form_in form) (reading B.ReaderArena from) sizes count }
-    ensures copied { IfOk result (λ _. CopiesRows (reading B.ReaderArena from.entry) sizes count 0
-        (change (form_in form) to.segment to.at (A.view arena.old)
-        (A.view arena.new) lim.old lim.new)) }
+    requires kept { sizes.kept ≡ widths_kept (form_in to.form) (reading B.ReaderArena from)
+        sizes.source sizes.count }
+    ensures copied { IfOk result
+        (λ _. CopiesRows (reading B.ReaderArena from.entry) sizes sizes.count 0
+        (change_to to (A.view arena.old) (A.view arena.new) lim.old lim.new)) }
     ensures refused { IfErr result
-        (StopsAtElements (reading B.ReaderArena from.entry) sizes count
-        (change (form_in form) to.segment to.at (A.view arena.old)
-        (A.view arena.new) lim.old lim.new)) }
+        (StopsAtElements (reading B.ReaderArena from.entry) sizes sizes.count
+        (change_to to (A.view arena.old) (A.view arena.new) lim.old lim.new)) }
     ensures taken { TakesAtMost result
-        (elements_original (reading B.ReaderArena from.entry) sizes count)
-        (change (form_in form) to.segment to.at (A.view arena.old)
-        (A.view arena.new) lim.old lim.new) }
+        (elements_original (reading B.ReaderArena from.entry) sizes sizes.count)
+        (change_to to (A.view arena.old) (A.view arena.new) lim.old lim.new) }
 {
     let source_words = sizes.source.total();
     let kept_words = sizes.kept.total();
     if kept_words == 0 {
         return Ok(());
     }
-    for i in 0..count {
-        let element = PointerReader {
+    let segment = to.place.segment;
+    let data_words = usize::from(sizes.kept.data_words);
+    let pointers = u32::from(sizes.kept.pointers);
+    for i in 0..sizes.count {
+        let element = from.place.at + i * source_words;
+        let row = to.place.at + i * kept_words;
+        let data = part(from.place.bytes, element as usize, data_words);
+        put_words(arena, segment, row, data);
+        let children = PointerReader {
             source: from.source,
             place: Place {
                 segment: from.place.segment,
                 bytes: from.place.bytes,
-                at: from.place.at + i * source_words,
+                at: element + u32::from(sizes.source.data_words),
             },
             nesting_limit: from.nesting_limit,
         };
-        let row = Start {
-            segment: to.segment,
-            at: to.at + i * kept_words,
+        let place = Start {
+            segment,
+            at: row + u32::from(sizes.kept.data_words),
         };
-        copy_element(arena, row, element, sizes, lim, form)?;
+        let form = to.form;
+        copy_in_line(arena, Destination { place, form }, children, pointers, lim)?;
     }
     Ok(())
-}
-
-/// Copies one element so.
-#[cycle(copies)]
-#[inline(always)]
-fn copy_element<A: BuilderArena, B: ReaderArena>(
-    arena: &mut A,
-    to: Start,
-    from: PointerReader<'_, B>,
-    sizes: ElementSizes,
-    lim: &mut ReadLimiter,
-    form: CopyForm,
-) -> Result<(), ErrorKind>
-    requires room { to.at + (sizes.kept.data_words + sizes.kept.pointers)
-        ≤ length (segment (A.view arena.old).words to.segment) }
-    requires null { (i : ℕ) → i < sizes.kept.pointers
-        → word_at (A.view arena.old).words to.segment (to.at + sizes.kept.data_words + i) ≡ 0 }
-    requires inside { from.place.at + (sizes.source.data_words + sizes.source.pointers)
-        ≤ length (segment_read (reading B.ReaderArena from)) }
-    requires less_data { sizes.kept.data_words ≤ sizes.source.data_words }
-    requires less_pointers { sizes.kept.pointers ≤ sizes.source.pointers }
-    ensures copied { IfOk result (λ _. CopiesElement (reading B.ReaderArena from.entry) sizes
-        (change (form_in form) to.segment to.at (A.view arena.old)
-        (A.view arena.new) lim.old lim.new)) }
-    ensures refused { IfErr result
-        (StopsAtElement (reading B.ReaderArena from.entry) sizes
-        (change (form_in form) to.segment to.at (A.view arena.old)
-        (A.view arena.new) lim.old lim.new)) }
-    ensures taken { TakesAtMost result (children_original
-        (behind (reading B.ReaderArena from.entry) sizes.source.data_words) sizes.kept.pointers)
-        (change (form_in form) to.segment to.at (A.view arena.old)
-        (A.view arena.new) lim.old lim.new) }
-{
-    let data_words = usize::from(sizes.kept.data_words);
-    let data = part(from.place.bytes, from.place.at as usize, data_words);
-    put_words(arena, to.segment, to.at, data);
-    let children = PointerReader {
-        source: from.source,
-        place: Place {
-            segment: from.place.segment,
-            bytes: from.place.bytes,
-            at: from.place.at + u32::from(sizes.source.data_words),
-        },
-        nesting_limit: from.nesting_limit,
-    };
-    let first = to.at + u32::from(sizes.kept.data_words);
-    let pointers = u32::from(sizes.kept.pointers);
-    copy_in_line(arena, to.segment, first, children, pointers, lim, form)
 }
 
 /// Writes words over others, if there are any to write.

@@ -1,11 +1,10 @@
 //! The copy of a list of numbers: its words, with padding of zero ("Lists", "Canonicalization").
-ghost use Rattle.std.specs.Prelude.{◌≡◌, ◌+◌, ◌*◌, ◌/◌, ◌<◌, ◌≤◌, ◌^◌, length, IsOk, OnOk, OnErr, IfErr, MatchResult};
+ghost use Rattle.std.specs.Prelude.{◌≡◌, ◌+◌, ◌*◌, ◌/◌, ◌%◌, ◌<◌, ◌≤◌, ◌^◌, length, IsOk, OnOk, OnErr, IfErr, MatchResult};
 ghost use Rattle.capnp_format.specs.Bytes.{words_of};
-ghost use Rattle.capnp_format.specs.Numbers.{words_for, unpacked};
+ghost use Rattle.capnp_format.specs.Numbers.{words_for, unpacked, digits, from_digits};
 ghost use Rattle.capnp_format.specs.Segments.{segment, IsPlace};
 ghost use Rattle.capnp_arena_traits.specs.Written.{with_words};
 ghost use Rattle.capnp_copies.specs.Growth.{MakesAtMost, TakesNone};
-ghost use Rattle.capnp_copies.specs.Copied.{low_bits};
 ghost use Rattle.capnp_format.specs.Tree.{Null, Flat};
 ghost use Rattle.capnp_making.specs.Memory.{KeepsMemory, SpendsMemory, RefusesWords};
 ghost use Rattle.capnp_making.specs.Near.{HasOwnRoom};
@@ -14,7 +13,7 @@ ghost use Rattle.capnp_words.specs.Sizes.{size_number};
 ghost use Rattle.capnp_copies.specs.Changes.{IsCopiedInRoom};
 
 use capnp_arena_traits::arena::BuilderArena;
-use capnp_making::making::make_list;
+use capnp_making::making::{Start, make_list};
 use capnp_words::error::ErrorKind;
 use capnp_words::wire_pointer::{ElementSize, data_bits_per_element};
 use capnp_words::words;
@@ -24,26 +23,26 @@ use capnp_words::words;
 #[inline(always)]
 pub fn copy_flat<A: BuilderArena>(
     arena: &mut A,
-    id: u32,
-    at: u32,
+    to: Start,
     size: ElementSize,
     count: u32,
     elements: &[u8],
 ) -> Result<(), ErrorKind>
-    requires place { IsPlace (A.view arena.old).words id at }
+    requires place { IsPlace (A.view arena.old).words to.segment to.at }
     requires flat { size_number size ≤ 5 }
     requires few { count < 2 ^ 29 }
     requires whole { length elements.now ≡ 8 * length (words_of elements.now) }
     requires all { length (words_of elements.now) ≡ words_for (size_number size) count }
     ensures copied { OnOk result (IsReplaced (A.view arena.old).words
-        (A.view arena.new).words id at Null
+        (A.view arena.new).words to.segment to.at Null
         (Flat (size_number size) (unpacked (size_number size) count (words_of elements.now)))) }
-    ensures stands { OnOk result (IsCopiedInRoom (A.view arena.old) (A.view arena.new) id at
+    ensures stands { OnOk result (IsCopiedInRoom (A.view arena.old) (A.view arena.new)
+        to.segment to.at
         (Flat (size_number size) (unpacked (size_number size) count (words_of elements.now)))) }
-    ensures fits { HasOwnRoom (A.view arena.old) id (words_for (size_number size) count)
+    ensures fits { HasOwnRoom (A.view arena.old) to.segment (words_for (size_number size) count)
         → IsOk result }
     ensures taken { MatchResult result
-        (λ _. MakesAtMost id (A.view arena.old) (A.view arena.new)
+        (λ _. MakesAtMost to.segment (A.view arena.old) (A.view arena.new)
         (words_for (size_number size) count) 1)
         (λ _. TakesNone (A.view arena.old) (A.view arena.new)) }
     ensures granted { OnOk result (KeepsMemory (A.view arena.old) (A.view arena.new)) }
@@ -52,7 +51,7 @@ pub fn copy_flat<A: BuilderArena>(
     ensures kept { OnErr result ((A.view arena.new).words ≡ (A.view arena.old).words) }
     ensures memory { IfErr result (SpendsMemory (A.view arena.old) (A.view arena.new)) }
 {
-    let start = make_list(arena, id, at, size, count)?;
+    let start = make_list(arena, to.segment, to.at, size, count)?;
     let bits = u64::from(count) * u64::from(data_bits_per_element(size));
     put_elements(arena, start.segment, start.at, elements, bits);
     Ok(())
@@ -68,7 +67,8 @@ fn put_elements<A: BuilderArena>(arena: &mut A, id: u32, start: u32, elements: &
     ensures { A.view arena.new
         ≡ record (A.view arena.old) {
           words = with_words (A.view arena.old).words id start
-              (low_bits (words_of elements.now) bits);
+              (digits (2 ^ 64) (length (words_of elements.now))
+              (from_digits (2 ^ 64) (words_of elements.now) % 2 ^ bits));
         } }
 {
     arena.copy_words(id, start, elements);

@@ -4,15 +4,15 @@ ghost use Rattle.capnp_format.specs.Segments.{word_at, IsPlace};
 ghost use Rattle.capnp_objects.specs.Reading.{segment_read};
 ghost use Rattle.capnp_readers.specs.Readers.{reading};
 ghost use Rattle.capnp_copies.specs.Growth.{TakesAtMost};
-ghost use Rattle.capnp_copies.specs.Changes.{change, MakesCopy, StopsHalfway};
+ghost use Rattle.capnp_copies.specs.Changes.{change_to, MakesCopy, StopsHalfway};
 ghost use Rattle.capnp_copies.specs.Forms.{form_in};
 ghost use Rattle.capnp_copies.specs.Originals.{pointers_original, structs_original};
 ghost use Rattle.capnp_copies.specs.Widths.{widths_kept};
 
 use super::children::copy_in_line;
 use super::elements::copy_elements;
-use crate::form::CopyForm;
-use crate::widths::{ElementSizes, least_widths};
+use crate::form::{CopyForm, Destination};
+use crate::widths::{ElementSizes, StructList, least_widths};
 use capnp_arena_traits::arena::{BuilderArena, ReaderArena};
 use capnp_making::making::{Start, make_list, make_struct_list};
 use capnp_readers::readers::PointerReader;
@@ -25,28 +25,31 @@ use capnp_words::wire_pointer::{ElementSize, StructSize};
 #[inline(always)]
 pub fn copy_pointers<A: BuilderArena, B: ReaderArena>(
     arena: &mut A,
-    id: u32,
-    at: u32,
+    to: Destination,
     from: PointerReader<'_, B>,
     count: u32,
     lim: &mut ReadLimiter,
-    form: CopyForm,
 ) -> Result<(), ErrorKind>
-    requires place { IsPlace (A.view arena.old).words id at }
-    requires null { word_at (A.view arena.old).words id at ≡ 0 }
+    requires place { IsPlace (A.view arena.old).words to.place.segment to.place.at }
+    requires null { word_at (A.view arena.old).words to.place.segment to.place.at ≡ 0 }
     requires few { count < 2 ^ 29 }
     requires inside { from.place.at + count ≤ length (segment_read (reading B.ReaderArena from)) }
     ensures copied { IfOk result
         (λ _. MakesCopy (pointers_original count (reading B.ReaderArena from.entry))
-        (change (form_in form) id at (A.view arena.old) (A.view arena.new) lim.old lim.new)) }
+        (change_to to (A.view arena.old) (A.view arena.new) lim.old lim.new)) }
     ensures refused { IfErr result
         (StopsHalfway (pointers_original count (reading B.ReaderArena from.entry))
-        (change (form_in form) id at (A.view arena.old) (A.view arena.new) lim.old lim.new)) }
+        (change_to to (A.view arena.old) (A.view arena.new) lim.old lim.new)) }
     ensures taken { TakesAtMost result (pointers_original count (reading B.ReaderArena from.entry))
-        (change (form_in form) id at (A.view arena.old) (A.view arena.new) lim.old lim.new) }
+        (change_to to (A.view arena.old) (A.view arena.new) lim.old lim.new) }
 {
-    let start = make_list(arena, id, at, ElementSize::Pointer, count)?;
-    copy_in_line(arena, start.segment, start.at, from, count, lim, form)
+    let Start { segment, at } = to.place;
+    let start = make_list(arena, segment, at, ElementSize::Pointer, count)?;
+    let elements = Destination {
+        place: start,
+        form: to.form,
+    };
+    copy_in_line(arena, elements, from, count, lim)
 }
 
 /// Copies a list of so many structs, of which `from` is the first word behind the tag, to the pointer
@@ -55,38 +58,42 @@ pub fn copy_pointers<A: BuilderArena, B: ReaderArena>(
 #[inline(always)]
 pub fn copy_structs<A: BuilderArena, B: ReaderArena>(
     arena: &mut A,
-    id: u32,
-    at: u32,
+    to: Destination,
     from: PointerReader<'_, B>,
-    size: StructSize,
-    count: u32,
+    list: StructList,
     lim: &mut ReadLimiter,
-    form: CopyForm,
 ) -> Result<(), ErrorKind>
-    requires place { IsPlace (A.view arena.old).words id at }
-    requires null { word_at (A.view arena.old).words id at ≡ 0 }
-    requires few { count < 2 ^ 30 }
-    requires words { count * (size.data_words + size.pointers) < 2 ^ 29 }
-    requires inside { from.place.at + count * (size.data_words + size.pointers)
+    requires place { IsPlace (A.view arena.old).words to.place.segment to.place.at }
+    requires null { word_at (A.view arena.old).words to.place.segment to.place.at ≡ 0 }
+    requires few { list.count < 2 ^ 30 }
+    requires words { list.count * (list.size.data_words + list.size.pointers) < 2 ^ 29 }
+    requires inside { from.place.at + list.count * (list.size.data_words + list.size.pointers)
         ≤ length (segment_read (reading B.ReaderArena from)) }
     ensures copied { IfOk result
-        (λ _. MakesCopy (structs_original size count (reading B.ReaderArena from.entry))
-        (change (form_in form) id at (A.view arena.old) (A.view arena.new) lim.old lim.new)) }
+        (λ _. MakesCopy (structs_original list.size list.count (reading B.ReaderArena from.entry))
+        (change_to to (A.view arena.old) (A.view arena.new) lim.old lim.new)) }
     ensures refused { IfErr result
-        (StopsHalfway (structs_original size count (reading B.ReaderArena from.entry))
-        (change (form_in form) id at (A.view arena.old) (A.view arena.new) lim.old lim.new)) }
+        (StopsHalfway (structs_original list.size list.count (reading B.ReaderArena from.entry))
+        (change_to to (A.view arena.old) (A.view arena.new) lim.old lim.new)) }
     ensures taken { TakesAtMost result
-        (structs_original size count (reading B.ReaderArena from.entry))
-        (change (form_in form) id at (A.view arena.old) (A.view arena.new) lim.old lim.new) }
+        (structs_original list.size list.count (reading B.ReaderArena from.entry))
+        (change_to to (A.view arena.old) (A.view arena.new) lim.old lim.new) }
 {
+    let Start { segment, at } = to.place;
+    let form = to.form;
+    let StructList { count, size } = list;
     let kept = kept_widths(from, size, count, form);
-    let sizes = ElementSizes { source: size, kept };
-    let list = make_struct_list(arena, id, at, count, kept)?;
-    let first = Start {
-        segment: list.segment,
-        at: list.at + 1,
+    let made = make_struct_list(arena, segment, at, count, kept)?;
+    let place = Start {
+        segment: made.segment,
+        at: made.at + 1,
     };
-    copy_elements(arena, first, from, sizes, count, lim, form)
+    let sizes = ElementSizes {
+        count,
+        source: size,
+        kept,
+    };
+    copy_elements(arena, Destination { place, form }, from, sizes, lim)
 }
 
 /// The sections that a copy of so many structs keeps of each, of which `from` is the first word: in

@@ -5,15 +5,15 @@ ghost use Rattle.capnp_format.specs.Segments.{word_at, IsPlace};
 ghost use Rattle.capnp_objects.specs.Reading.{segment_read, behind, words_from};
 ghost use Rattle.capnp_readers.specs.Readers.{reading};
 ghost use Rattle.capnp_copies.specs.Growth.{TakesAtMost};
-ghost use Rattle.capnp_copies.specs.Changes.{change, MakesCopy, StopsHalfway};
+ghost use Rattle.capnp_copies.specs.Changes.{change_to, MakesCopy, StopsHalfway};
 ghost use Rattle.capnp_copies.specs.Forms.{form_in};
 ghost use Rattle.capnp_copies.specs.Originals.{sections_original, kept_count};
 
 use super::children::copy_children;
 use super::elements::put_words;
-use crate::form::CopyForm;
+use crate::form::{CopyForm, Destination};
 use capnp_arena_traits::arena::{BuilderArena, ReaderArena};
-use capnp_making::making::make_struct;
+use capnp_making::making::{Start, make_struct};
 use capnp_objects::object::Place;
 use capnp_readers::readers::PointerReader;
 use capnp_words::error::ErrorKind;
@@ -27,33 +27,32 @@ use capnp_words::words::{part, used_part};
 #[inline(always)]
 pub(crate) fn copy_struct<A: BuilderArena, B: ReaderArena>(
     arena: &mut A,
-    id: u32,
-    at: u32,
+    to: Destination,
     from: PointerReader<'_, B>,
     size: StructSize,
     lim: &mut ReadLimiter,
-    form: CopyForm,
 ) -> Result<(), ErrorKind>
-    requires place { IsPlace (A.view arena.old).words id at }
+    requires place { IsPlace (A.view arena.old).words to.place.segment to.place.at }
     requires inside { from.place.at + (size.data_words + size.pointers)
         ≤ length (segment_read (reading B.ReaderArena from)) }
-    requires null { word_at (A.view arena.old).words id at ≡ 0 }
+    requires null { word_at (A.view arena.old).words to.place.segment to.place.at ≡ 0 }
     ensures copied { IfOk result (λ _. MakesCopy
         (sections_original (words_from (reading B.ReaderArena from.entry) size.data_words)
         (behind (reading B.ReaderArena from.entry) size.data_words) size.pointers)
-        (change (form_in form) id at (A.view arena.old) (A.view arena.new) lim.old lim.new)) }
+        (change_to to (A.view arena.old) (A.view arena.new) lim.old lim.new)) }
     ensures refused { IfErr result
         (StopsHalfway
         (sections_original (words_from (reading B.ReaderArena from.entry) size.data_words)
         (behind (reading B.ReaderArena from.entry) size.data_words) size.pointers)
-        (change (form_in form) id at (A.view arena.old) (A.view arena.new) lim.old lim.new)) }
+        (change_to to (A.view arena.old) (A.view arena.new) lim.old lim.new)) }
     ensures taken { TakesAtMost result
         (sections_original (words_from (reading B.ReaderArena from.entry) size.data_words)
         (behind (reading B.ReaderArena from.entry) size.data_words) size.pointers)
-        (change (form_in form) id at (A.view arena.old) (A.view arena.new) lim.old lim.new) }
+        (change_to to (A.view arena.old) (A.view arena.new) lim.old lim.new) }
 {
+    let form = to.form;
     let kept = kept_sections(from, size, form);
-    let start = make_struct(arena, id, at, kept)?;
+    let start = make_struct(arena, to.place.segment, to.place.at, kept)?;
     let data_words = usize::from(kept.data_words);
     let data = part(from.place.bytes, from.place.at as usize, data_words);
     put_words(arena, start.segment, start.at, data);
@@ -66,9 +65,12 @@ pub(crate) fn copy_struct<A: BuilderArena, B: ReaderArena>(
         },
         nesting_limit: from.nesting_limit,
     };
-    let first = start.at + u32::from(kept.data_words);
+    let place = Start {
+        segment: start.segment,
+        at: start.at + u32::from(kept.data_words),
+    };
     let pointers = u32::from(kept.pointers);
-    copy_children(arena, start.segment, first, children, pointers, lim, form)
+    copy_children(arena, Destination { place, form }, children, pointers, lim)
 }
 
 /// The sections that a copy of a struct keeps, of which `from` is the first word: in canonical form

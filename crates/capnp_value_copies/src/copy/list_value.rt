@@ -12,8 +12,9 @@ ghost use Rattle.capnp_copies.specs.Originals.{FitsListPointer};
 
 use capnp_arena_traits::arena::{BuilderArena, ReaderArena};
 use capnp_copies::copy::{copy_flat, copy_pointers, copy_structs};
-use capnp_copies::form::CopyForm;
-use capnp_making::making::clear;
+use capnp_copies::form::{CopyForm, Destination};
+use capnp_copies::widths::StructList;
+use capnp_making::making::{Start, clear};
 use capnp_readers::readers::{ListReader, PointerReader};
 use capnp_words::error::ErrorKind;
 use capnp_words::read_limiter::ReadLimiter;
@@ -57,7 +58,8 @@ pub fn copy_list<A: BuilderArena, B: ReaderArena>(
         (change (form_of canonicalize) id at (A.view arena.old)
         (A.view arena.new) lim.old lim.new) }
 {
-    match copy_elements_read(arena, id, at, value, lim, canonicalize) {
+    let to = Start { segment: id, at };
+    match copy_elements_read(arena, to, value, lim, canonicalize) {
         Ok(()) => Ok(()),
         Err(k) => {
             clear(arena, id, at);
@@ -69,25 +71,24 @@ pub fn copy_list<A: BuilderArena, B: ReaderArena>(
 /// Does what `copy_list` does, but leaves what it made where it is refused.
 fn copy_elements_read<A: BuilderArena, B: ReaderArena>(
     arena: &mut A,
-    id: u32,
-    at: u32,
+    to: Start,
     value: ListReader<'_, B>,
     lim: &mut ReadLimiter,
     canonicalize: bool,
 ) -> Result<(), ErrorKind>
-    requires place { IsPlace (A.view arena.old).words id at }
-    requires null { word_at (A.view arena.old).words id at ≡ 0 }
+    requires place { IsPlace (A.view arena.old).words to.segment to.at }
+    requires null { word_at (A.view arena.old).words to.segment to.at ≡ 0 }
     ensures copied { IfOk result (λ _. MakesCopy (list_read B.ReaderArena value.entry)
-        (change (form_of canonicalize) id at (A.view arena.old)
+        (change (form_of canonicalize) to.segment to.at (A.view arena.old)
         (A.view arena.new) lim.old lim.new)) }
     ensures refused { IfErr result
         (StopsHalfway (list_read B.ReaderArena value.entry)
-        (change (form_of canonicalize) id at (A.view arena.old)
+        (change (form_of canonicalize) to.segment to.at (A.view arena.old)
         (A.view arena.new) lim.old lim.new)) }
     ensures long { (k : ErrorKind) → (list_read B.ReaderArena value.entry).exceeds
         (form_of canonicalize) k → (result ≡ Err k) × (lim.new ≡ lim.old) }
     ensures taken { TakesAtMost result (list_read B.ReaderArena value.entry)
-        (change (form_of canonicalize) id at (A.view arena.old)
+        (change (form_of canonicalize) to.segment to.at (A.view arena.old)
         (A.view arena.new) lim.old lim.new) }
 {
     let count = value.count;
@@ -100,13 +101,14 @@ fn copy_elements_read<A: BuilderArena, B: ReaderArena>(
         nesting_limit: value.nesting_limit,
     };
     let form = CopyForm::of(canonicalize);
+    let list = Destination { place: to, form };
     match value.element_size {
         ElementSize::InlineComposite => {
             let size = value.struct_size;
-            copy_structs(arena, id, at, first, size, count, lim, form)
+            copy_structs(arena, list, first, StructList { count, size }, lim)
         }
-        ElementSize::Pointer => copy_pointers(arena, id, at, first, count, lim, form),
-        size => copy_flat(arena, id, at, size, count, value.content),
+        ElementSize::Pointer => copy_pointers(arena, list, first, count, lim),
+        size => copy_flat(arena, to, size, count, value.content),
     }
 }
 

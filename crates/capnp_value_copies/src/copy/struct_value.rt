@@ -10,14 +10,14 @@ ghost use Rattle.capnp_copies.specs.Changes.{change, MakesCopy, StopsCopy, Stops
 ghost use Rattle.capnp_copies.specs.Rooms.{CanBeCopied};
 ghost use Rattle.capnp_copies.specs.Forms.{form_of};
 ghost use Rattle.capnp_copies.specs.Growth.{TakesAtMost};
-ghost use Rattle.capnp_copies.specs.Originals.{IsTooWide, kept_count};
+ghost use Rattle.capnp_copies.specs.Originals.{kept_count};
 ghost use Rattle.capnp_copies.specs.StructValues.{data_of, struct_read};
 
 use crate::section::{kept_words, put_section};
 use capnp_arena_traits::arena::{BuilderArena, ReaderArena};
 use capnp_copies::copy::copy_children;
-use capnp_copies::form::CopyForm;
-use capnp_making::making::{clear, make_struct};
+use capnp_copies::form::{CopyForm, Destination};
+use capnp_making::making::{Start, clear, make_struct};
 use capnp_readers::readers::{PointerReader, StructReader};
 use capnp_words::error::ErrorKind;
 use capnp_words::read_limiter::ReadLimiter;
@@ -61,7 +61,8 @@ pub fn copy_struct_value<A: BuilderArena, B: ReaderArena>(
         (change (form_of canonicalize) id at (A.view arena.old)
         (A.view arena.new) lim.old lim.new) }
 {
-    match copy_sections(arena, id, at, value, lim, canonicalize) {
+    let to = Start { segment: id, at };
+    match copy_sections(arena, to, value, lim, canonicalize) {
         Ok(()) => Ok(()),
         Err(k) => {
             clear(arena, id, at);
@@ -73,47 +74,42 @@ pub fn copy_struct_value<A: BuilderArena, B: ReaderArena>(
 /// Does what `copy_struct_value` does, but leaves what it made where it is refused.
 fn copy_sections<A: BuilderArena, B: ReaderArena>(
     arena: &mut A,
-    id: u32,
-    at: u32,
+    to: Start,
     value: StructReader<'_, B>,
     lim: &mut ReadLimiter,
     canonicalize: bool,
 ) -> Result<(), ErrorKind>
-    requires place { IsPlace (A.view arena.old).words id at }
-    requires null { word_at (A.view arena.old).words id at ≡ 0 }
+    requires place { IsPlace (A.view arena.old).words to.segment to.at }
+    requires null { word_at (A.view arena.old).words to.segment to.at ≡ 0 }
     ensures copied { IfOk result (λ _. MakesCopy (struct_read B.ReaderArena value.entry)
-        (change (form_of canonicalize) id at (A.view arena.old)
+        (change (form_of canonicalize) to.segment to.at (A.view arena.old)
         (A.view arena.new) lim.old lim.new)) }
     ensures refused { IfErr result
         (StopsHalfway (struct_read B.ReaderArena value.entry)
-        (change (form_of canonicalize) id at (A.view arena.old)
+        (change (form_of canonicalize) to.segment to.at (A.view arena.old)
         (A.view arena.new) lim.old lim.new)) }
     ensures wide { (k : ErrorKind) → (struct_read B.ReaderArena value.entry).exceeds
         (form_of canonicalize) k → (result ≡ Err k) × (lim.new ≡ lim.old) }
     ensures taken { TakesAtMost result (struct_read B.ReaderArena value.entry)
-        (change (form_of canonicalize) id at (A.view arena.old)
+        (change (form_of canonicalize) to.segment to.at (A.view arena.old)
         (A.view arena.new) lim.old lim.new) }
 {
     let kept = kept_sections(value, canonicalize)?;
-    let start = make_struct(arena, id, at, kept)?;
+    let start = make_struct(arena, to.segment, to.at, kept)?;
     let data_words = kept.data_words;
-    put_section(
-        arena,
-        start.segment,
-        start.at,
-        value.content,
-        value.bits,
-        data_words,
-    );
+    put_section(arena, start, value.content, value.bits, data_words);
     let children = PointerReader {
         source: value.source,
         place: value.pointers,
         nesting_limit: value.nesting_limit,
     };
-    let first = start.at + u32::from(data_words);
+    let place = Start {
+        segment: start.segment,
+        at: start.at + u32::from(data_words),
+    };
     let pointers = u32::from(kept.pointers);
     let form = CopyForm::of(canonicalize);
-    copy_children(arena, start.segment, first, children, pointers, lim, form)
+    copy_children(arena, Destination { place, form }, children, pointers, lim)
 }
 
 /// The sections that a copy of a struct keeps: in canonical form the words of each up to the last
@@ -132,7 +128,7 @@ fn kept_sections<B: ReaderArena>(
     ensures narrow { IfOk result (λ _.
         kept_count (form_of canonicalize) (data_of B.ReaderArena value.entry) < 2 ^ 16) }
     ensures wide { IfErr result
-        (IsTooWide (kept_count (form_of canonicalize) (data_of B.ReaderArena value.entry))) }
+        ((struct_read B.ReaderArena value.entry).exceeds (form_of canonicalize)) }
 {
     let data_words = kept_words(value.content, value.bits, canonicalize);
     if data_words > usize::from(u16::MAX) {

@@ -29,11 +29,10 @@ use Rattle.capnp_arena_traits.specs.View.{View}
 use Rattle.capnp_copies.specs.Changes.{HasNulls}
 use Rattle.capnp_copies.proofs.ElementsLaid.{words_taken}
 use Rattle.capnp_copies.proofs.FilledSections.{SectionsBegun, sections_fit, sections_null, sections_copied, sections_stop}
-use Rattle.capnp_copies.specs.Widths.{KeepsPointers}
 use Rattle.capnp_copies.specs.Forms.{form_in}
 use Rattle.capnp_copies.proofs.FlatRead.{word_count-flat}
 use Rattle.capnp_copies.proofs.FilledChildren.{no_child, children_grow, child_ahead, child_copied, child_stops}
-use Rattle.capnp_copies.proofs.FilledElements.{DataWritten, element_copied, element_stops, no_row, no_width, AtRow, next_room, next_null, next_inside, row_copied, row_stops}
+use Rattle.capnp_copies.proofs.FilledElements.{element_copied, element_stops, no_row, no_width, AtRow, row_written, next_room, next_null, next_inside, row_copied, row_stops}
 use Rattle.capnp_copies.proofs.FilledObjects.{nothing_made, ObjectBegun, pointers_copied, pointers_stop, widths_keep, structs_copied, structs_stop}
 use Rattle.capnp_copies.proofs.FilledValues.{read_stops, null_copied, CapabilityCopied, capability_value, capability_value_stops, struct_value, struct_value_stops, pointers_value, pointers_value_stops, structs_value, structs_value_stops, FlatOutcome, flat_value, flat_stops}
 use Rattle.capnp_copies.proofs.Copying.{there}
@@ -55,29 +54,12 @@ children::copy_in_line-overflow_add-child g t c =
           c.loop-i-test.true c.args.from.held.1 c.args.from.held.2;
     }
 
-pub children::copy_in_line-overflow_add-at : goal.children::copy_in_line-overflow_add-at
-children::copy_in_line-overflow_add-at g t c =
+pub children::copy_in_line-overflow_add-place : goal.children::copy_in_line-overflow_add-place
+children::copy_in_line-overflow_add-place g t c =
     let now = c.args.arena.now in
     record {
-      fits = null_fits c.args.at c.args.count c.loop-i.i c.requires.nulls.room c.loop-i-test.true
-          (g.met.A.BuilderArena.within now c.args.id) (g.met.A.BuilderArena.small now c.args.id);
-    }
-
-pub elements::copy_element-overflow_add-children : goal.elements::copy_element-overflow_add-children
-elements::copy_element-overflow_add-children g t c =
-    record {
-      fits = children_fit c.args.from.place.at c.args.sizes.source.data_words
-          c.args.sizes.source.pointers c.requires.inside c.from.ensures c.args.from.held.1
-          c.args.from.held.2;
-    }
-
-pub elements::copy_element-overflow_add-first : goal.elements::copy_element-overflow_add-first
-elements::copy_element-overflow_add-first g t c =
-    let now = c.args.arena.now in
-    record {
-      fits = first_fits c.args.to.at c.args.sizes.kept.data_words c.args.sizes.kept.pointers
-          c.requires.room (g.met.A.BuilderArena.within now c.args.to.segment)
-          (g.met.A.BuilderArena.small now c.args.to.segment) c.from-2.ensures;
+      fits = null_fits c.args.to.place.at c.args.count c.loop-i.i c.requires.nulls.room c.loop-i-test.true
+          (g.met.A.BuilderArena.within now c.args.to.place.segment) (g.met.A.BuilderArena.small now c.args.to.place.segment);
     }
 
 pub structs::copy_struct-overflow_add-children : goal.structs::copy_struct-overflow_add-children
@@ -87,30 +69,18 @@ structs::copy_struct-overflow_add-children g t c =
           c.requires.inside c.from.ensures c.args.from.held.1 c.args.from.held.2;
     }
 
-pub elements::copy_elements-overflow_add-row : goal.elements::copy_elements-overflow_add-row
-elements::copy_elements-overflow_add-row g t c =
-    let now = c.args.arena.now in
-    record {
-      fits = kept_starts c.args.to.at (c.args.sizes.kept.data_words + c.args.sizes.kept.pointers)
-          c.loop-i.i c.args.count c.requires.room c.loop-i-test.true c.total-kept_words.ensures
-          (g.met.A.BuilderArena.within now c.args.to.segment)
-          (g.met.A.BuilderArena.small now c.args.to.segment);
-    }
-
--- Pointers one behind the other.
-
 pub children::copy_in_line-loop-i-init : goal.children::copy_in_line-loop-i-init
 children::copy_in_line-loop-i-init g t c =
-    (no_child (reading g.B.ReaderArena c.args.from) (form_in c.args.form) c.args.id c.args.at (g.A.BuilderArena.view c.args.arena.now) c.args.lim.now, none_taken (reading g.B.ReaderArena c.args.from) (form_in c.args.form) c.args.id (g.A.BuilderArena.view c.args.arena.now) c.args.lim.now)
+    (no_child (reading g.B.ReaderArena c.args.from) (form_in c.args.to.form) c.args.to.place.segment c.args.to.place.at (g.A.BuilderArena.view c.args.arena.now) c.args.lim.now, none_taken (reading g.B.ReaderArena c.args.from) (form_in c.args.to.form) c.args.to.place.segment (g.A.BuilderArena.view c.args.arena.now) c.args.lim.now)
 
 pub children::copy_in_line-copy_child-requires : goal.children::copy_in_line-copy_child-requires
 children::copy_in_line-copy_child-requires g t c κs within =
     let grows = children_grow c.loop-i.invariant.0 in
-    let PLACE : IsPlace (g.A.BuilderArena.view c.loop-i.arena).words c.args.id (c.args.at + c.loop-i.i) =
-    child_there c.args.at c.args.count c.loop-i.i c.requires.nulls.room c.loop-i-test.true (grows.words
-    c.args.id) in
-    let NULL : word_at (g.A.BuilderArena.view c.loop-i.arena).words c.args.id (c.args.at + c.loop-i.i) ≡ 0 =
-    child_ahead c.loop-i.invariant.0 (child_there c.args.at c.args.count c.loop-i.i
+    let PLACE : IsPlace (g.A.BuilderArena.view c.loop-i.arena).words c.args.to.place.segment (c.args.to.place.at + c.loop-i.i) =
+    child_there c.args.to.place.at c.args.count c.loop-i.i c.requires.nulls.room c.loop-i-test.true (grows.words
+    c.args.to.place.segment) in
+    let NULL : word_at (g.A.BuilderArena.view c.loop-i.arena).words c.args.to.place.segment (c.args.to.place.at + c.loop-i.i) ≡ 0 =
+    child_ahead c.loop-i.invariant.0 (child_there c.args.to.place.at c.args.count c.loop-i.i
     c.requires.nulls.room c.loop-i-test.true (le_refl _)) ∙ c.requires.nulls.null c.loop-i.i
     c.loop-i-test.true in
     let nl = to_z-of_z w32 c.args.from.nesting_limit (search rules) in
@@ -122,7 +92,7 @@ children::copy_in_line-returns-in_err-copy_child g t c =
     let p = err_from_is_err_and c.from_residual.result c.from_residual.ensures.1 in
     rw (p.1, p.2) (record {
       copied = tt;
-      refused = child_stops (child_there c.args.at c.args.count c.loop-i.i c.requires.nulls.room
+      refused = child_stops (child_there c.args.to.place.at c.args.count c.loop-i.i c.requires.nulls.room
           c.loop-i-test.true (le_refl _)) c.loop-i-test.true c.loop-i.invariant.0 c.loop-i.invariant.1 (rw
           nl at c.in_err-copy_child.ensures.refused);
       taken = stop_taken c.loop-i-test.true c.loop-i.invariant.1 (rw nl at c.in_err-copy_child.ensures.taken);
@@ -131,10 +101,10 @@ children::copy_in_line-returns-in_err-copy_child g t c =
 pub children::copy_in_line-loop-i-preserved : goal.children::copy_in_line-loop-i-preserved
 children::copy_in_line-loop-i-preserved g t c =
     let nl = to_z-of_z w32 c.args.from.nesting_limit (search rules) in
-    let few : length (segment (g.A.BuilderArena.view c.loop-i.arena).words c.args.id) < 2 ^ 29 =
-    lt_of_le_of_lt (g.met.A.BuilderArena.within c.loop-i.arena c.args.id) (g.met.A.BuilderArena.small
-    c.loop-i.arena c.args.id) in (
-      child_copied (child_there c.args.at c.args.count c.loop-i.i c.requires.nulls.room c.loop-i-test.true
+    let few : length (segment (g.A.BuilderArena.view c.loop-i.arena).words c.args.to.place.segment) < 2 ^ 29 =
+    lt_of_le_of_lt (g.met.A.BuilderArena.within c.loop-i.arena c.args.to.place.segment) (g.met.A.BuilderArena.small
+    c.loop-i.arena c.args.to.place.segment) in (
+      child_copied (child_there c.args.to.place.at c.args.count c.loop-i.i c.requires.nulls.room c.loop-i-test.true
           (le_refl _)) few c.loop-i.invariant.0 (rw nl at c.in_ok-copy_child.ensures.copied),
       one_taken c.loop-i.invariant.1 (rw nl at c.in_ok-copy_child.ensures.taken),
     )
@@ -149,9 +119,9 @@ children::copy_children-returns-then-count-eq0 g t c =
     let r : Reading = reading g.B.ReaderArena c.args.from in
     let view : View = g.A.BuilderArena.view c.args.arena.now in
     record {
-      copied = rw c.if-count-eq0.true (no_child r (form_in c.args.form) c.args.id c.args.at view c.args.lim.now);
+      copied = rw c.if-count-eq0.true (no_child r (form_in c.args.to.form) c.args.to.place.segment c.args.to.place.at view c.args.lim.now);
       refused = tt;
-      taken = all_taken {i = 0} (sym c.if-count-eq0.true) (none_taken r (form_in c.args.form) c.args.id view
+      taken = all_taken {i = 0} (sym c.if-count-eq0.true) (none_taken r (form_in c.args.to.form) c.args.to.place.segment view
           c.args.lim.now);
     }
 
@@ -189,7 +159,7 @@ children::copy_child-copy_object-requires g t c κs within =
 
 pub children::copy_child-returns-then-is_of_bits : goal.children::copy_child-returns-then-is_of_bits
 children::copy_child-returns-then-is_of_bits g t c =
-    record { copied = c.copy_near_flat.ensures.copied (form_in c.args.form); refused = c.copy_near_flat.ensures.refused (form_in c.args.form); taken = c.copy_near_flat.ensures.taken (form_in c.args.form) }
+    record { copied = c.copy_near_flat.ensures.copied (form_in c.args.to.form); refused = c.copy_near_flat.ensures.refused (form_in c.args.to.form); taken = c.copy_near_flat.ensures.taken (form_in c.args.to.form) }
 
 pub children::copy_child-returns-then-eq : goal.children::copy_child-returns-then-eq
 children::copy_child-returns-then-eq g t c =
@@ -296,7 +266,7 @@ copy_object-returns-in-Null-clause-taken g t c = null_takes (rw c.in-Null.is at 
 pub copy_object-returns-in-Capability : goal.copy_object-returns-in-Capability
 copy_object-returns-in-Capability g t c =
     let object = rw c.in-Capability.is at c.in_ok-object.ensures.object in
-    let outcome : CapabilityCopied c.copy_capability.result (form_in c.args.form) c.args.id c.args.at c.in-Capability.index (g.A.BuilderArena.view c.args.arena.now) (g.A.BuilderArena.view c.copy_capability.new.arena) =
+    let outcome : CapabilityCopied c.copy_capability.result (form_in c.args.form) c.args.to.segment c.args.to.at c.in-Capability.index (g.A.BuilderArena.view c.args.arena.now) (g.A.BuilderArena.view c.copy_capability.new.arena) =
     record { as_it_stands = c.copy_capability.ensures.as_it_stands; copied = c.copy_capability.ensures.copied; refused = c.copy_capability.ensures.refused; unchanged = c.copy_capability.ensures.unchanged } in
     record {
       copied = capability_value (reading g.B.ReaderArena c.args.from) _ _ c.copy_capability.result object c.requires.place outcome;
@@ -320,7 +290,7 @@ pub copy_object-returns-in-Flat : goal.copy_object-returns-in-Flat
 copy_object-returns-in-Flat g t c =
     let nl = to_z-of_z w32 c.args.from.nesting_limit (search rules) in
     let object = rw (c.in-Flat.is, nl) at c.in_ok-object.ensures.object in
-    let outcome : FlatOutcome c.copy_flat.result c.args.id c.args.at (words_for (size_number c.in-Flat.size) c.in-Flat.count) (g.A.BuilderArena.view c.args.arena.now) (g.A.BuilderArena.view c.copy_flat.new.arena) (Flat (size_number c.in-Flat.size) (unpacked (size_number c.in-Flat.size) c.in-Flat.count (words_of c.part-elements.result.now))) =
+    let outcome : FlatOutcome c.copy_flat.result c.args.to.segment c.args.to.at (words_for (size_number c.in-Flat.size) c.in-Flat.count) (g.A.BuilderArena.view c.args.arena.now) (g.A.BuilderArena.view c.copy_flat.new.arena) (Flat (size_number c.in-Flat.size) (unpacked (size_number c.in-Flat.size) c.in-Flat.count (words_of c.part-elements.result.now))) =
     record {
       copied = c.copy_flat.ensures.copied;
       granted = c.copy_flat.ensures.granted;
@@ -329,7 +299,7 @@ copy_object-returns-in-Flat g t c =
       memory = c.copy_flat.ensures.memory;
       stands = c.copy_flat.ensures.stands;
       fits = λ room. c.copy_flat.ensures.fits (subst (HasOwnRoom
-          (g.A.BuilderArena.view c.args.arena.now) c.args.id) (word_count-flat (size_number c.in-Flat.size)
+          (g.A.BuilderArena.view c.args.arena.now) c.args.to.segment) (word_count-flat (size_number c.in-Flat.size)
           c.in-Flat.count (words_of c.part-elements.result.now)) room);
     } in
     record {
@@ -364,114 +334,163 @@ copy_object-returns-in-Structs g t c =
 
 -- The elements of a list of structs.
 
-pub elements::copy_element-returns : goal.elements::copy_element-returns
-elements::copy_element-returns g t c =
-    let nl = to_z-of_z w32 c.args.from.nesting_limit (search rules) in
-    let from : Reading = reading g.B.ReaderArena c.args.from in
-    let held : words_of c.args.from.place.bytes.now ≡ segment_read from = c.args.from.held.0 in
-    let section : words_of c.part-data.result.now ≡ words_from from c.args.sizes.kept.data_words = rw (c.from-data_words.ensures, held) at c.part-data.ensures.words in
-    let put : DataWritten from c.args.sizes (g.A.BuilderArena.view c.args.arena.now) (g.A.BuilderArena.view c.put_words.new.arena) c.args.to.segment c.args.to.at =
-    record {
-      inside = part_inside c.args.from.place.at c.args.sizes.kept.data_words
-          c.args.sizes.source.data_words c.args.sizes.source.pointers c.requires.inside c.requires.less_data;
-      room = part_inside c.args.to.at c.args.sizes.kept.data_words c.args.sizes.kept.data_words
-          c.args.sizes.kept.pointers c.requires.room (le_refl _);
-      writes = rw section at c.put_words.ensures.words;
-    } in
-    record {
-      copied = ok_so c.copy_in_line.result c.copy_in_line.ensures.copied (λ x made. element_copied put (rw (c.from.ensures, c.from-2.ensures, c.from-pointers.ensures, nl) at made));
-      refused = err_so c.copy_in_line.result c.copy_in_line.ensures.refused (λ k stop. element_stops put (rw (c.from.ensures, c.from-2.ensures, c.from-pointers.ensures, nl) at stop));
-      taken = (let none = c.put_words.ensures.taken in let last = none_itself (g.A.BuilderArena.view c.copy_in_line.new.arena) in taken_so c.copy_in_line.result _ _ _ _ (λ x. all_within none last x) (λ x. among_within (le_refl _) none
-          last x) (rw (c.from.ensures, c.from-pointers.ensures, nl) at c.copy_in_line.ensures.taken));
-    }
-
 pub elements::copy_elements-returns-then-kept_words-eq0-clause-copied : goal.elements::copy_elements-returns-then-kept_words-eq0-clause-copied
 elements::copy_elements-returns-then-kept_words-eq0-clause-copied g t c =
     let from : Reading = reading g.B.ReaderArena c.args.from in
-    let fits : SourceKept (form_in c.args.form) from c.args.sizes c.args.count = record { inside = c.requires.inside; less_data = c.requires.less_data; less_pointers = c.requires.less_pointers; used = c.requires.pointers } in
-    no_width from c.args.sizes c.args.count (form_in c.args.form) c.args.to.segment c.args.to.at
-    (g.A.BuilderArena.view c.args.arena.now) c.args.lim.now fits (sym c.total-kept_words.ensures ∙
-    c.if-kept_words-eq0.true)
+    let fits : SourceKept (form_in c.args.to.form) from c.args.sizes c.args.sizes.count =
+    record { inside = c.requires.inside; less_data = c.requires.less_data; less_pointers = c.requires.less_pointers; used = widths_keep (form_in c.args.to.form) from c.args.sizes c.args.sizes.count c.requires.kept } in
+    no_width from c.args.sizes c.args.sizes.count (form_in c.args.to.form) c.args.to.place.segment c.args.to.place.at
+    (g.A.BuilderArena.view c.args.arena.now) c.args.lim.now fits (sym c.total-kept_words.ensures ∙ c.if-kept_words-eq0.true)
 
 pub elements::copy_elements-returns-then-kept_words-eq0-clause-taken : goal.elements::copy_elements-returns-then-kept_words-eq0-clause-taken
 elements::copy_elements-returns-then-kept_words-eq0-clause-taken g t c =
     let from : Reading = reading g.B.ReaderArena c.args.from in
-    let fits : SourceKept (form_in c.args.form) from c.args.sizes c.args.count = record { inside = c.requires.inside; less_data = c.requires.less_data; less_pointers = c.requires.less_pointers; used = c.requires.pointers } in
-    blank_taken from c.args.sizes c.args.count (form_in c.args.form) c.args.to.segment
-    (g.A.BuilderArena.view c.args.arena.now) c.args.lim.now fits (sym c.total-kept_words.ensures ∙
-    c.if-kept_words-eq0.true)
+    let fits : SourceKept (form_in c.args.to.form) from c.args.sizes c.args.sizes.count =
+    record { inside = c.requires.inside; less_data = c.requires.less_data; less_pointers = c.requires.less_pointers; used = widths_keep (form_in c.args.to.form) from c.args.sizes c.args.sizes.count c.requires.kept } in
+    blank_taken from c.args.sizes c.args.sizes.count (form_in c.args.to.form) c.args.to.place.segment
+    (g.A.BuilderArena.view c.args.arena.now) c.args.lim.now fits (sym c.total-kept_words.ensures ∙ c.if-kept_words-eq0.true)
 
 pub elements::copy_elements-loop-i-init : goal.elements::copy_elements-loop-i-init
 elements::copy_elements-loop-i-init g t c =
-    (no_row (reading g.B.ReaderArena c.args.from) c.args.sizes _ (form_in c.args.form) c.args.to.segment c.args.to.at (g.A.BuilderArena.view c.args.arena.now) c.args.lim.now, no_row_taken (reading g.B.ReaderArena c.args.from) c.args.sizes (form_in c.args.form) c.args.to.segment (g.A.BuilderArena.view c.args.arena.now) c.args.lim.now)
+    (no_row (reading g.B.ReaderArena c.args.from) c.args.sizes _ (form_in c.args.to.form) c.args.to.place.segment c.args.to.place.at (g.A.BuilderArena.view c.args.arena.now) c.args.lim.now, no_row_taken (reading g.B.ReaderArena c.args.from) c.args.sizes (form_in c.args.to.form) c.args.to.place.segment (g.A.BuilderArena.view c.args.arena.now) c.args.lim.now)
 
 pub elements::copy_elements-overflow_mul-element : goal.elements::copy_elements-overflow_mul-element
 elements::copy_elements-overflow_mul-element g t c =
     record {
       fits = product_fits c.args.from.place.at c.loop-i.i c.total-source_words.result (row_fits
           c.args.from.place.at (c.args.sizes.source.data_words + c.args.sizes.source.pointers) c.loop-i.i
-          c.args.count c.requires.inside c.loop-i-test.true c.total-source_words.ensures c.args.from.held.1
+          c.args.sizes.count c.requires.inside c.loop-i-test.true c.total-source_words.ensures c.args.from.held.1
           c.args.from.held.2);
+    }
+
+pub elements::copy_elements-overflow_add-element : goal.elements::copy_elements-overflow_add-element
+elements::copy_elements-overflow_add-element g t c =
+    record {
+      fits = row_fits c.args.from.place.at (c.args.sizes.source.data_words +
+          c.args.sizes.source.pointers) c.loop-i.i c.args.sizes.count c.requires.inside c.loop-i-test.true
+          c.total-source_words.ensures c.args.from.held.1 c.args.from.held.2;
     }
 
 pub elements::copy_elements-overflow_mul-row : goal.elements::copy_elements-overflow_mul-row
 elements::copy_elements-overflow_mul-row g t c =
     record {
-      fits = kept_fits c.args.to.at (c.args.sizes.kept.data_words + c.args.sizes.kept.pointers)
-          c.loop-i.i c.args.count c.requires.room c.loop-i-test.true c.total-kept_words.ensures
-          (g.met.A.BuilderArena.within c.args.arena.now c.args.to.segment) (g.met.A.BuilderArena.small
-          c.args.arena.now c.args.to.segment);
+      fits = kept_fits c.args.to.place.at (c.args.sizes.kept.data_words + c.args.sizes.kept.pointers)
+          c.loop-i.i c.args.sizes.count c.requires.room c.loop-i-test.true c.total-kept_words.ensures
+          (g.met.A.BuilderArena.within c.args.arena.now c.args.to.place.segment) (g.met.A.BuilderArena.small
+          c.args.arena.now c.args.to.place.segment);
     }
 
-pub elements::copy_elements-copy_element-requires : goal.elements::copy_elements-copy_element-requires
-elements::copy_elements-copy_element-requires g t c κs within =
+pub elements::copy_elements-overflow_add-row : goal.elements::copy_elements-overflow_add-row
+elements::copy_elements-overflow_add-row g t c =
+    let now = c.args.arena.now in
+    record {
+      fits = kept_starts c.args.to.place.at (c.args.sizes.kept.data_words + c.args.sizes.kept.pointers)
+          c.loop-i.i c.args.sizes.count c.requires.room c.loop-i-test.true c.total-kept_words.ensures
+          (g.met.A.BuilderArena.within now c.args.to.place.segment)
+          (g.met.A.BuilderArena.small now c.args.to.place.segment);
+    }
+
+pub elements::copy_elements-overflow_add-children : goal.elements::copy_elements-overflow_add-children
+elements::copy_elements-overflow_add-children g t c =
     let from : Reading = reading g.B.ReaderArena c.args.from in
-    let here : AtRow from c.args.sizes c.args.count c.loop-i.i (form_in c.args.form) c.args.to.segment c.args.to.at (g.A.BuilderArena.view c.args.arena.now) (g.A.BuilderArena.view c.loop-i.arena) c.args.lim.now c.loop-i.lim = record {
-      fits = record { inside = c.requires.inside; less_data = c.requires.less_data; less_pointers = c.requires.less_pointers; used = c.requires.pointers };
-      room = c.requires.room;
-      zero = c.requires.zero;
-      wide = some_words c.total-kept_words.ensures c.if-kept_words-eq0.false;
-      more = c.loop-i-test.true;
-      rows = c.loop-i.invariant.0;
-    } in
-    let ROOM : c.args.to.at + c.loop-i.i * c.total-kept_words.result + (c.args.sizes.kept.data_words + c.args.sizes.kept.pointers) ≤ length (segment (g.A.BuilderArena.view c.loop-i.arena).words c.args.to.segment) = rw c.total-kept_words.ensures (next_room here) in
-    let NULL : (j : ℕ) → j < c.args.sizes.kept.pointers → word_at (g.A.BuilderArena.view c.loop-i.arena).words c.args.to.segment (c.args.to.at + c.loop-i.i * c.total-kept_words.result + c.args.sizes.kept.data_words + j) ≡ 0 = rw c.total-kept_words.ensures (next_null here) in
+    let fits : SourceKept (form_in c.args.to.form) from c.args.sizes c.args.sizes.count =
+    record { inside = c.requires.inside; less_data = c.requires.less_data; less_pointers = c.requires.less_pointers; used = widths_keep (form_in c.args.to.form) from c.args.sizes c.args.sizes.count c.requires.kept } in
+    let here : AtRow from c.args.sizes c.args.sizes.count c.loop-i.i (form_in c.args.to.form) c.args.to.place.segment c.args.to.place.at (g.A.BuilderArena.view c.args.arena.now) (g.A.BuilderArena.view c.loop-i.arena) c.args.lim.now c.loop-i.lim =
+    record { fits = fits; room = c.requires.room; zero = c.requires.zero; wide = some_words c.total-kept_words.ensures c.if-kept_words-eq0.false; more = c.loop-i-test.true; rows = c.loop-i.invariant.0 } in
     let INSIDE : c.args.from.place.at + c.loop-i.i * c.total-source_words.result + (c.args.sizes.source.data_words + c.args.sizes.source.pointers) ≤ length (segment from.segments from.segment) = rw c.total-source_words.ensures (next_inside here) in
+    record {
+      fits = children_fit (c.args.from.place.at + c.loop-i.i * c.total-source_words.result) c.args.sizes.source.data_words
+          c.args.sizes.source.pointers INSIDE c.from.ensures c.args.from.held.1 c.args.from.held.2;
+    }
+
+pub elements::copy_elements-overflow_add-place : goal.elements::copy_elements-overflow_add-place
+elements::copy_elements-overflow_add-place g t c =
+    let from : Reading = reading g.B.ReaderArena c.args.from in
+    let fits : SourceKept (form_in c.args.to.form) from c.args.sizes c.args.sizes.count =
+    record { inside = c.requires.inside; less_data = c.requires.less_data; less_pointers = c.requires.less_pointers; used = widths_keep (form_in c.args.to.form) from c.args.sizes c.args.sizes.count c.requires.kept } in
+    let here : AtRow from c.args.sizes c.args.sizes.count c.loop-i.i (form_in c.args.to.form) c.args.to.place.segment c.args.to.place.at (g.A.BuilderArena.view c.args.arena.now) (g.A.BuilderArena.view c.loop-i.arena) c.args.lim.now c.loop-i.lim =
+    record { fits = fits; room = c.requires.room; zero = c.requires.zero; wide = some_words c.total-kept_words.ensures c.if-kept_words-eq0.false; more = c.loop-i-test.true; rows = c.loop-i.invariant.0 } in
+    let ROOM : c.args.to.place.at + c.loop-i.i * c.total-kept_words.result + (c.args.sizes.kept.data_words + c.args.sizes.kept.pointers) ≤ length (segment (g.A.BuilderArena.view c.loop-i.arena).words c.args.to.place.segment) = rw c.total-kept_words.ensures (next_room here) in
+    let now = c.loop-i.arena in
+    record {
+      fits = first_fits (c.args.to.place.at + c.loop-i.i * c.total-kept_words.result) c.args.sizes.kept.data_words c.args.sizes.kept.pointers
+          ROOM (g.met.A.BuilderArena.within now c.args.to.place.segment)
+          (g.met.A.BuilderArena.small now c.args.to.place.segment) c.from-in-loop-i.ensures;
+    }
+
+pub elements::copy_elements-part-data-requires : goal.elements::copy_elements-part-data-requires
+elements::copy_elements-part-data-requires g t c =
+    let from : Reading = reading g.B.ReaderArena c.args.from in
+    let fits : SourceKept (form_in c.args.to.form) from c.args.sizes c.args.sizes.count =
+    record { inside = c.requires.inside; less_data = c.requires.less_data; less_pointers = c.requires.less_pointers; used = widths_keep (form_in c.args.to.form) from c.args.sizes c.args.sizes.count c.requires.kept } in
+    let here : AtRow from c.args.sizes c.args.sizes.count c.loop-i.i (form_in c.args.to.form) c.args.to.place.segment c.args.to.place.at (g.A.BuilderArena.view c.args.arena.now) (g.A.BuilderArena.view c.loop-i.arena) c.args.lim.now c.loop-i.lim =
+    record { fits = fits; room = c.requires.room; zero = c.requires.zero; wide = some_words c.total-kept_words.ensures c.if-kept_words-eq0.false; more = c.loop-i-test.true; rows = c.loop-i.invariant.0 } in
+    let INSIDE : c.args.from.place.at + c.loop-i.i * c.total-source_words.result + (c.args.sizes.source.data_words + c.args.sizes.source.pointers) ≤ length (segment from.segments from.segment) = rw c.total-source_words.ensures (next_inside here) in
+    omega (arith, INSIDE, c.requires.less_data, c.from-data_words.ensures, ap length c.args.from.held.0, c.args.from.held.1, c.args.from.held.2)
+
+pub elements::copy_elements-put_words-requires-clause-inside : goal.elements::copy_elements-put_words-requires-clause-inside
+elements::copy_elements-put_words-requires-clause-inside g t c =
+    let from : Reading = reading g.B.ReaderArena c.args.from in
+    let fits : SourceKept (form_in c.args.to.form) from c.args.sizes c.args.sizes.count =
+    record { inside = c.requires.inside; less_data = c.requires.less_data; less_pointers = c.requires.less_pointers; used = widths_keep (form_in c.args.to.form) from c.args.sizes c.args.sizes.count c.requires.kept } in
+    let here : AtRow from c.args.sizes c.args.sizes.count c.loop-i.i (form_in c.args.to.form) c.args.to.place.segment c.args.to.place.at (g.A.BuilderArena.view c.args.arena.now) (g.A.BuilderArena.view c.loop-i.arena) c.args.lim.now c.loop-i.lim =
+    record { fits = fits; room = c.requires.room; zero = c.requires.zero; wide = some_words c.total-kept_words.ensures c.if-kept_words-eq0.false; more = c.loop-i-test.true; rows = c.loop-i.invariant.0 } in
+    let ROOM : c.args.to.place.at + c.loop-i.i * c.total-kept_words.result + (c.args.sizes.kept.data_words + c.args.sizes.kept.pointers) ≤ length (segment (g.A.BuilderArena.view c.loop-i.arena).words c.args.to.place.segment) = rw c.total-kept_words.ensures (next_room here) in
+    omega (arith, ROOM, c.part-data.ensures.count, c.from-data_words.ensures)
+
+pub elements::copy_elements-copy_in_line-requires : goal.elements::copy_elements-copy_in_line-requires
+elements::copy_elements-copy_in_line-requires g t c κs within =
+    let from : Reading = reading g.B.ReaderArena c.args.from in
+    let fits : SourceKept (form_in c.args.to.form) from c.args.sizes c.args.sizes.count =
+    record { inside = c.requires.inside; less_data = c.requires.less_data; less_pointers = c.requires.less_pointers; used = widths_keep (form_in c.args.to.form) from c.args.sizes c.args.sizes.count c.requires.kept } in
+    let here : AtRow from c.args.sizes c.args.sizes.count c.loop-i.i (form_in c.args.to.form) c.args.to.place.segment c.args.to.place.at (g.A.BuilderArena.view c.args.arena.now) (g.A.BuilderArena.view c.loop-i.arena) c.args.lim.now c.loop-i.lim =
+    record { fits = fits; room = c.requires.room; zero = c.requires.zero; wide = some_words c.total-kept_words.ensures c.if-kept_words-eq0.false; more = c.loop-i-test.true; rows = c.loop-i.invariant.0 } in
+    let INSIDE : c.args.from.place.at + c.loop-i.i * c.total-source_words.result + (c.args.sizes.source.data_words + c.args.sizes.source.pointers) ≤ length (segment from.segments from.segment) = rw c.total-source_words.ensures (next_inside here) in
+    let ROOM : c.args.to.place.at + c.loop-i.i * c.total-kept_words.result + (c.args.sizes.kept.data_words + c.args.sizes.kept.pointers) ≤ length (segment (g.A.BuilderArena.view c.loop-i.arena).words c.args.to.place.segment) = rw c.total-kept_words.ensures (next_room here) in
+    let NULL : (j : ℕ) → j < c.args.sizes.kept.pointers → word_at (g.A.BuilderArena.view c.loop-i.arena).words c.args.to.place.segment (c.args.to.place.at + c.loop-i.i * c.total-kept_words.result + c.args.sizes.kept.data_words + j) ≡ 0 = rw c.total-kept_words.ensures (next_null here) in
+    let NULLS : HasNulls (g.A.BuilderArena.view c.put_words.new.arena).words c.args.to.place.segment (c.args.to.place.at + c.loop-i.i * c.total-kept_words.result + c.from-in-loop-i.result) c.from-pointers.result =
+    rw (c.from-in-loop-i.ensures, c.from-pointers.ensures) (record {
+      room = omega (arith, ROOM, c.put_words.ensures.length);
+      null = λ j less. c.put_words.ensures.behind (c.args.to.place.at + c.loop-i.i * c.total-kept_words.result + c.args.sizes.kept.data_words + j) (omega (arith, c.part-data.ensures.count, c.from-data_words.ensures)) ∙ NULL j less;
+    }) in
     let nl = to_z-of_z w32 c.args.from.nesting_limit (search rules) in
-    (omega (arith, ap levels nl, c.decreases), (within.0, (within.1, (ROOM, (NULL, (INSIDE, (c.requires.less_data, c.requires.less_pointers)))))))
+    (omega (arith, ap levels nl, c.decreases), (within.0, (within.1, (NULLS, rw (c.from.ensures, c.from-pointers.ensures) (omega (arith, INSIDE, c.requires.less_pointers))))))
 
 pub elements::copy_elements-loop-i-preserved : goal.elements::copy_elements-loop-i-preserved
 elements::copy_elements-loop-i-preserved g t c =
     let nl = to_z-of_z w32 c.args.from.nesting_limit (search rules) in
     let from : Reading = reading g.B.ReaderArena c.args.from in
-    let here : AtRow from c.args.sizes c.args.count c.loop-i.i (form_in c.args.form) c.args.to.segment c.args.to.at (g.A.BuilderArena.view c.args.arena.now) (g.A.BuilderArena.view c.loop-i.arena) c.args.lim.now c.loop-i.lim = record {
-      fits = record { inside = c.requires.inside; less_data = c.requires.less_data; less_pointers = c.requires.less_pointers; used = c.requires.pointers };
-      room = c.requires.room;
-      zero = c.requires.zero;
-      wide = some_words c.total-kept_words.ensures c.if-kept_words-eq0.false;
-      more = c.loop-i-test.true;
-      rows = c.loop-i.invariant.0;
-    } in (
-      row_copied here (rw (c.total-source_words.ensures, c.total-kept_words.ensures, nl) at c.in_ok-copy_element.ensures.copied),
-      row_taken here.fits c.loop-i-test.true c.loop-i.invariant.1 (rw (c.total-source_words.ensures, nl) at c.in_ok-copy_element.ensures.taken),
+    let fits : SourceKept (form_in c.args.to.form) from c.args.sizes c.args.sizes.count =
+    record { inside = c.requires.inside; less_data = c.requires.less_data; less_pointers = c.requires.less_pointers; used = widths_keep (form_in c.args.to.form) from c.args.sizes c.args.sizes.count c.requires.kept } in
+    let here : AtRow from c.args.sizes c.args.sizes.count c.loop-i.i (form_in c.args.to.form) c.args.to.place.segment c.args.to.place.at (g.A.BuilderArena.view c.args.arena.now) (g.A.BuilderArena.view c.loop-i.arena) c.args.lim.now c.loop-i.lim =
+    record { fits = fits; room = c.requires.room; zero = c.requires.zero; wide = some_words c.total-kept_words.ensures c.if-kept_words-eq0.false; more = c.loop-i-test.true; rows = c.loop-i.invariant.0 } in
+    let held : words_of c.args.from.place.bytes.now ≡ segment_read from = c.args.from.held.0 in
+    let section : words_of c.part-data.result.now ≡ words_from (behind from (c.loop-i.i * c.total-source_words.result)) c.args.sizes.kept.data_words = rw (c.from-data_words.ensures, held) at c.part-data.ensures.words in
+    let put = row_written here (rw (c.total-source_words.ensures, c.total-kept_words.ensures) at (rw section at c.put_words.ensures.words)) in
+    let none = c.put_words.ensures.taken in
+    let last = none_itself (g.A.BuilderArena.view c.copy_in_line.new.arena) in (
+      row_copied here (element_copied put (rw (c.total-source_words.ensures, c.total-kept_words.ensures, c.from.ensures, c.from-in-loop-i.ensures, c.from-pointers.ensures, nl) at c.in_ok-copy_in_line.ensures.copied)),
+      row_taken fits c.loop-i-test.true c.loop-i.invariant.1 (all_within none last (rw (c.total-source_words.ensures, c.from.ensures, c.from-pointers.ensures, nl) at c.in_ok-copy_in_line.ensures.taken)),
     )
 
-pub elements::copy_elements-returns-in_err-copy_element : goal.elements::copy_elements-returns-in_err-copy_element
-elements::copy_elements-returns-in_err-copy_element g t c =
+pub elements::copy_elements-returns-in_err-copy_in_line : goal.elements::copy_elements-returns-in_err-copy_in_line
+elements::copy_elements-returns-in_err-copy_in_line g t c =
     let nl = to_z-of_z w32 c.args.from.nesting_limit (search rules) in
     let from : Reading = reading g.B.ReaderArena c.args.from in
+    let fits : SourceKept (form_in c.args.to.form) from c.args.sizes c.args.sizes.count =
+    record { inside = c.requires.inside; less_data = c.requires.less_data; less_pointers = c.requires.less_pointers; used = widths_keep (form_in c.args.to.form) from c.args.sizes c.args.sizes.count c.requires.kept } in
+    let here : AtRow from c.args.sizes c.args.sizes.count c.loop-i.i (form_in c.args.to.form) c.args.to.place.segment c.args.to.place.at (g.A.BuilderArena.view c.args.arena.now) (g.A.BuilderArena.view c.loop-i.arena) c.args.lim.now c.loop-i.lim =
+    record { fits = fits; room = c.requires.room; zero = c.requires.zero; wide = some_words c.total-kept_words.ensures c.if-kept_words-eq0.false; more = c.loop-i-test.true; rows = c.loop-i.invariant.0 } in
+    let held : words_of c.args.from.place.bytes.now ≡ segment_read from = c.args.from.held.0 in
+    let section : words_of c.part-data.result.now ≡ words_from (behind from (c.loop-i.i * c.total-source_words.result)) c.args.sizes.kept.data_words = rw (c.from-data_words.ensures, held) at c.part-data.ensures.words in
+    let put = row_written here (rw (c.total-source_words.ensures, c.total-kept_words.ensures) at (rw section at c.put_words.ensures.words)) in
+    let none = c.put_words.ensures.taken in
+    let last = none_itself (g.A.BuilderArena.view c.copy_in_line.new.arena) in
     let p = err_from_is_err_and c.from_residual.result c.from_residual.ensures.1 in
     record {
       copied = rw p.1 tt;
-      refused = (let here : AtRow from c.args.sizes c.args.count c.loop-i.i (form_in c.args.form) c.args.to.segment c.args.to.at (g.A.BuilderArena.view c.args.arena.now) (g.A.BuilderArena.view c.loop-i.arena) c.args.lim.now c.loop-i.lim = record {
-        fits = record { inside = c.requires.inside; less_data = c.requires.less_data; less_pointers = c.requires.less_pointers; used = c.requires.pointers };
-        room = c.requires.room;
-        zero = c.requires.zero;
-        wide = some_words c.total-kept_words.ensures c.if-kept_words-eq0.false;
-        more = c.loop-i-test.true;
-        rows = c.loop-i.invariant.0;
-      } in rw (p.1, p.2) (row_stops here c.loop-i.invariant.1 (rw (c.total-source_words.ensures, c.total-kept_words.ensures, nl) at c.in_err-copy_element.ensures.refused)));
-      taken = (let fits : SourceKept (form_in c.args.form) from c.args.sizes c.args.count = record { inside = c.requires.inside; less_data = c.requires.less_data; less_pointers = c.requires.less_pointers; used = c.requires.pointers } in rw p.1 (row_stop_taken fits c.loop-i-test.true c.loop-i.invariant.1 (rw (c.total-source_words.ensures, nl) at c.in_err-copy_element.ensures.taken)));
+      refused = rw (p.1, p.2) (row_stops here c.loop-i.invariant.1 (element_stops put (rw (c.total-source_words.ensures, c.total-kept_words.ensures, c.from.ensures, c.from-in-loop-i.ensures, c.from-pointers.ensures, nl) at c.in_err-copy_in_line.ensures.refused)));
+      taken = rw p.1 (row_stop_taken fits c.loop-i-test.true c.loop-i.invariant.1 (among_within (le_refl _) none last (rw (c.total-source_words.ensures, c.from.ensures, c.from-pointers.ensures, nl) at c.in_err-copy_in_line.ensures.taken)));
     }
 
 pub elements::copy_elements-returns-clause-copied : goal.elements::copy_elements-returns-clause-copied
@@ -479,16 +498,8 @@ elements::copy_elements-returns-clause-copied g t c =
     all_rows c.loop-i-test.false c.loop-i.auto.i-end c.loop-i.invariant.0
 
 pub elements::copy_elements-returns-clause-taken : goal.elements::copy_elements-returns-clause-taken
-elements::copy_elements-returns-clause-taken g t c = rows_taken c.args.sizes (le_antisymm
-    c.loop-i.auto.i-end c.loop-i-test.false) c.loop-i.invariant.1
-
-pub elements::copy_elements-overflow_add-element : goal.elements::copy_elements-overflow_add-element
-elements::copy_elements-overflow_add-element g t c =
-    record {
-      fits = row_fits c.args.from.place.at (c.args.sizes.source.data_words +
-          c.args.sizes.source.pointers) c.loop-i.i c.args.count c.requires.inside c.loop-i-test.true
-          c.total-source_words.ensures c.args.from.held.1 c.args.from.held.2;
-    }
+elements::copy_elements-returns-clause-taken g t c =
+    rows_taken c.args.sizes (le_antisymm c.loop-i.auto.i-end c.loop-i-test.false) c.loop-i.invariant.1
 
 -- Lists of pointers.
 
@@ -496,19 +507,19 @@ pub lists::copy_pointers-copy_in_line-requires : goal.lists::copy_pointers-copy_
 lists::copy_pointers-copy_in_line-requires g t c κs within =
     let S : Segments = (g.A.BuilderArena.view c.args.arena.now).words in
     let M : Segments = (g.A.BuilderArena.view c.make_list.new.arena).words in
-    let begun : IsBegun S M c.args.id c.args.at c.args.count c.in_ok-start.start (Pointers (nulls c.args.count)) = record { made = c.in_ok-start.ensures.made; start = c.in_ok-start.ensures.start.leads; inside = c.in_ok-start.ensures.start.inside } in
-    let NULLS : HasNulls M c.in_ok-start.start.segment c.in_ok-start.start.at c.args.count = record { room = begun.inside.1; null = pointers_ready S M c.args.id c.args.at c.args.count c.in_ok-start.start begun } in
+    let begun : IsBegun S M c.args.to.place.segment c.args.to.place.at c.args.count c.in_ok-start.start (Pointers (nulls c.args.count)) = record { made = c.in_ok-start.ensures.made; start = c.in_ok-start.ensures.start.leads; inside = c.in_ok-start.ensures.start.inside } in
+    let NULLS : HasNulls M c.in_ok-start.start.segment c.in_ok-start.start.at c.args.count = record { room = begun.inside.1; null = pointers_ready S M c.args.to.place.segment c.args.to.place.at c.args.count c.in_ok-start.start begun } in
     (omega (arith, c.decreases), (within.0, (within.1, (NULLS, c.requires.inside))))
 
 pub lists::copy_pointers-returns : goal.lists::copy_pointers-returns
 lists::copy_pointers-returns g t c =
     record {
-      copied = (let begun : ObjectBegun c.args.id c.args.at c.args.count (g.A.BuilderArena.view c.args.arena.now) (g.A.BuilderArena.view c.make_list.new.arena) c.in_ok-start.start (Pointers (nulls c.args.count)) =
+      copied = (let begun : ObjectBegun c.args.to.place.segment c.args.to.place.at c.args.count (g.A.BuilderArena.view c.args.arena.now) (g.A.BuilderArena.view c.make_list.new.arena) c.in_ok-start.start (Pointers (nulls c.args.count)) =
           record { begun = record { made = c.in_ok-start.ensures.made; start = c.in_ok-start.ensures.start.leads; inside = c.in_ok-start.ensures.start.inside }; memory = c.in_ok-start.ensures.memory.granted } in ok_so c.copy_in_line.result c.copy_in_line.ensures.copied (λ x made. pointers_copied begun (record { place = c.requires.place; memory = c.in_ok-start.ensures.memory.granted; taken = c.in_ok-start.ensures.memory.taken; near = c.in_ok-start.ensures.near; at_end = c.in_ok-start.ensures.at_end }) made));
-      refused = (let begun : ObjectBegun c.args.id c.args.at c.args.count (g.A.BuilderArena.view c.args.arena.now) (g.A.BuilderArena.view c.make_list.new.arena) c.in_ok-start.start (Pointers (nulls c.args.count)) =
+      refused = (let begun : ObjectBegun c.args.to.place.segment c.args.to.place.at c.args.count (g.A.BuilderArena.view c.args.arena.now) (g.A.BuilderArena.view c.make_list.new.arena) c.in_ok-start.start (Pointers (nulls c.args.count)) =
           record { begun = record { made = c.in_ok-start.ensures.made; start = c.in_ok-start.ensures.start.leads; inside = c.in_ok-start.ensures.start.inside }; memory = c.in_ok-start.ensures.memory.granted } in err_so c.copy_in_line.result c.copy_in_line.ensures.refused (λ k stop. pointers_stop begun (record { place = c.requires.place; memory = c.in_ok-start.ensures.memory.granted; taken = c.in_ok-start.ensures.memory.taken; behind = c.in_ok-start.ensures.start.behind }) c.in_ok-start.ensures.at_end stop));
-      taken = (let begun : Begins c.args.id c.in_ok-start.start.segment c.args.count (g.A.BuilderArena.view c.args.arena.now) (g.A.BuilderArena.view c.make_list.new.arena) =
-          record { there = there (g.A.BuilderArena.view c.args.arena.now).words c.args.id c.args.at c.requires.place; taken = c.in_ok-start.ensures.memory.taken; memory = c.in_ok-start.ensures.memory.granted; near = λ room. (c.in_ok-start.ensures.at_end room).0; far = λ full. (c.in_ok-start.ensures.start.behind.far full).0 } in taken_so c.copy_in_line.result _ _ _ _ (λ x. pointers_behind _ _ _ _ _ _ _ _ _ _ begun x) (λ x. pointers_stop_behind _ _ _ _ _ _ _ _ _ _ begun x) c.copy_in_line.ensures.taken);
+      taken = (let begun : Begins c.args.to.place.segment c.in_ok-start.start.segment c.args.count (g.A.BuilderArena.view c.args.arena.now) (g.A.BuilderArena.view c.make_list.new.arena) =
+          record { there = there (g.A.BuilderArena.view c.args.arena.now).words c.args.to.place.segment c.args.to.place.at c.requires.place; taken = c.in_ok-start.ensures.memory.taken; memory = c.in_ok-start.ensures.memory.granted; near = λ room. (c.in_ok-start.ensures.at_end room).0; far = λ full. (c.in_ok-start.ensures.start.behind.far full).0 } in taken_so c.copy_in_line.result _ _ _ _ (λ x. pointers_behind _ _ _ _ _ _ _ _ _ _ begun x) (λ x. pointers_stop_behind _ _ _ _ _ _ _ _ _ _ begun x) c.copy_in_line.ensures.taken);
     }
 
 pub lists::copy_pointers-returns-in_err-start : goal.lists::copy_pointers-returns-in_err-start
@@ -516,8 +527,8 @@ lists::copy_pointers-returns-in_err-start g t c =
     let p = err_from_is_err_and c.from_residual.result c.from_residual.ensures.1 in
     record {
       copied = rw p.1 tt;
-      refused = (let full : HasRoom (g.A.BuilderArena.view c.args.arena.now) c.args.id c.args.count → ⊥ = λ room. absurd (false≢true (c.in_err-start.ensures.memory.fits room)) in let none = nothing_made (form_in c.args.form) c.args.id c.args.at c.args.count (g.A.BuilderArena.view c.args.arena.now) (g.A.BuilderArena.view c.make_list.new.arena) c.args.lim.now c.args.lim.now c.in_err-start.field-0.0 c.requires.place c.requires.null
-          c.in_err-start.ensures.memory.named c.in_err-start.ensures.refused full in rw (p.1, p.2) (halfway (inl (inl (c.args.count, refl, refl, (none.0, no_own_room (g.A.BuilderArena.view c.args.arena.now) c.args.id c.args.count full)), pointers_large (form_in c.args.form) (reading g.B.ReaderArena c.args.from) c.args.count (length (segment (g.A.BuilderArena.view c.args.arena.now).words c.args.id)) ((g.A.BuilderArena.view c.args.arena.now).room c.args.id) (no_pointers_room (form_in c.args.form) (reading g.B.ReaderArena c.args.from) c.args.count c.args.id (g.A.BuilderArena.view c.args.arena.now) full))) none.1));
+      refused = (let full : HasRoom (g.A.BuilderArena.view c.args.arena.now) c.args.to.place.segment c.args.count → ⊥ = λ room. absurd (false≢true (c.in_err-start.ensures.memory.fits room)) in let none = nothing_made (form_in c.args.to.form) c.args.to.place.segment c.args.to.place.at c.args.count (g.A.BuilderArena.view c.args.arena.now) (g.A.BuilderArena.view c.make_list.new.arena) c.args.lim.now c.args.lim.now c.in_err-start.field-0.0 c.requires.place c.requires.null
+          c.in_err-start.ensures.memory.named c.in_err-start.ensures.refused full in rw (p.1, p.2) (halfway (inl (inl (c.args.count, refl, refl, (none.0, no_own_room (g.A.BuilderArena.view c.args.arena.now) c.args.to.place.segment c.args.count full)), pointers_large (form_in c.args.to.form) (reading g.B.ReaderArena c.args.from) c.args.count (length (segment (g.A.BuilderArena.view c.args.arena.now).words c.args.to.place.segment)) ((g.A.BuilderArena.view c.args.arena.now).room c.args.to.place.segment) (no_pointers_room (form_in c.args.to.form) (reading g.B.ReaderArena c.args.from) c.args.count c.args.to.place.segment (g.A.BuilderArena.view c.args.arena.now) full))) none.1));
       taken = rw p.1 (inl (refl, made_none (none_refused (g.A.BuilderArena.view c.args.arena.now) (g.A.BuilderArena.view c.make_list.new.arena) c.args.count c.in_err-start.field-0.0 c.in_err-start.ensures.memory.named c.in_err-start.ensures.refused)));
     }
 
@@ -529,51 +540,56 @@ lists::copy_structs-copy_elements-requires g t c κs within =
     let least = c.kept_widths-kept.result in
     let S : Segments = (g.A.BuilderArena.view c.args.arena.now).words in
     let M : Segments = (g.A.BuilderArena.view c.make_struct_list.new.arena).words in
-    let begun : IsBegun S M c.args.id c.args.at (1 + c.args.count * (least.data_words + least.pointers)) c.in_ok-list.list (zero_structs c.args.count least) = record { made = c.in_ok-list.ensures.made; start = c.in_ok-list.ensures.start.leads; inside = c.in_ok-list.ensures.start.inside } in
-    let ROOM : c.in_ok-list.list.at + 1 + c.args.count * (least.data_words + least.pointers) ≤ length (segment M c.in_ok-list.list.segment) =
-    rows_inside c.in_ok-list.list.at (c.args.count * (least.data_words + least.pointers)) begun.inside.1 in
-    let ZERO : (i : ℕ) → i < c.args.count * (least.data_words + least.pointers) → word_at M c.in_ok-list.list.segment (c.in_ok-list.list.at + 1 + i) ≡ 0 = structs_ready S M c.args.id c.args.at least.data_words least.pointers c.args.count c.in_ok-list.list begun in
-    let POINTERS : KeepsPointers (form_in c.args.form) from (record { source = c.args.size; kept = least }) c.args.count = widths_keep (form_in c.args.form) from (record { source = c.args.size; kept = least }) c.args.count c.kept_widths-kept.ensures.kept in
-    (omega (arith, c.decreases), (within.0, (within.1, (ROOM, (ZERO, (c.requires.inside, (c.kept_widths-kept.ensures.less_data, (c.kept_widths-kept.ensures.less_pointers, POINTERS))))))))
+    let begun : IsBegun S M c.args.to.place.segment c.args.to.place.at (1 + c.args.list.count * (least.data_words + least.pointers)) c.in_ok-made.made (zero_structs c.args.list.count least) = record { made = c.in_ok-made.ensures.made; start = c.in_ok-made.ensures.start.leads; inside = c.in_ok-made.ensures.start.inside } in
+    let ROOM : c.in_ok-made.made.at + 1 + c.args.list.count * (least.data_words + least.pointers) ≤ length (segment M c.in_ok-made.made.segment) =
+    rows_inside c.in_ok-made.made.at (c.args.list.count * (least.data_words + least.pointers)) begun.inside.1 in
+    let ZERO : (i : ℕ) → i < c.args.list.count * (least.data_words + least.pointers) → word_at M c.in_ok-made.made.segment (c.in_ok-made.made.at + 1 + i) ≡ 0 = structs_ready S M c.args.to.place.segment c.args.to.place.at least.data_words least.pointers c.args.list.count c.in_ok-made.made begun in
+    (omega (arith, c.decreases), (within.0, (within.1, (ROOM, (ZERO, (c.requires.inside, (c.kept_widths-kept.ensures.less_data, (c.kept_widths-kept.ensures.less_pointers, c.kept_widths-kept.ensures.kept))))))))
+
+pub lists::copy_structs-overflow_add-place : goal.lists::copy_structs-overflow_add-place
+lists::copy_structs-overflow_add-place g t c =
+    let now = c.make_struct_list.new.arena in
+    let s = c.in_ok-made.made.segment in
+    record { fits = omega (arith, c.in_ok-made.ensures.start.inside.1, g.met.A.BuilderArena.within now s, g.met.A.BuilderArena.small now s) }
 
 pub lists::copy_structs-returns : goal.lists::copy_structs-returns
 lists::copy_structs-returns g t c =
     let least = c.kept_widths-kept.result in
-    let less = no_wider c.args.count least.data_words least.pointers c.args.size.data_words c.args.size.pointers c.kept_widths-kept.ensures.less_data c.kept_widths-kept.ensures.less_pointers in
+    let less = no_wider c.args.list.count least.data_words least.pointers c.args.list.size.data_words c.args.list.size.pointers c.kept_widths-kept.ensures.less_data c.kept_widths-kept.ensures.less_pointers in
     record {
-      copied = (let begun : ObjectBegun c.args.id c.args.at (1 + c.args.count * (least.data_words + least.pointers)) (g.A.BuilderArena.view c.args.arena.now) (g.A.BuilderArena.view c.make_struct_list.new.arena) c.in_ok-list.list (zero_structs c.args.count least) =
-          record { begun = record { made = c.in_ok-list.ensures.made; start = c.in_ok-list.ensures.start.leads; inside = c.in_ok-list.ensures.start.inside }; memory = c.in_ok-list.ensures.memory.granted } in ok_so c.copy_elements.result c.copy_elements.ensures.copied (λ x made. structs_copied c.requires.inside c.kept_widths-kept.ensures.kept begun (record { place = c.requires.place; memory = c.in_ok-list.ensures.memory.granted; taken = c.in_ok-list.ensures.memory.taken; behind = c.in_ok-list.ensures.start.behind; near = c.in_ok-list.ensures.near }) made));
-      refused = (let begun : ObjectBegun c.args.id c.args.at (1 + c.args.count * (least.data_words + least.pointers)) (g.A.BuilderArena.view c.args.arena.now) (g.A.BuilderArena.view c.make_struct_list.new.arena) c.in_ok-list.list (zero_structs c.args.count least) =
-          record { begun = record { made = c.in_ok-list.ensures.made; start = c.in_ok-list.ensures.start.leads; inside = c.in_ok-list.ensures.start.inside }; memory = c.in_ok-list.ensures.memory.granted } in err_so c.copy_elements.result c.copy_elements.ensures.refused (λ k stop. structs_stop c.requires.inside
+      copied = (let begun : ObjectBegun c.args.to.place.segment c.args.to.place.at (1 + c.args.list.count * (least.data_words + least.pointers)) (g.A.BuilderArena.view c.args.arena.now) (g.A.BuilderArena.view c.make_struct_list.new.arena) c.in_ok-made.made (zero_structs c.args.list.count least) =
+          record { begun = record { made = c.in_ok-made.ensures.made; start = c.in_ok-made.ensures.start.leads; inside = c.in_ok-made.ensures.start.inside }; memory = c.in_ok-made.ensures.memory.granted } in ok_so c.copy_elements.result c.copy_elements.ensures.copied (λ x made. structs_copied c.requires.inside c.kept_widths-kept.ensures.kept begun (record { place = c.requires.place; memory = c.in_ok-made.ensures.memory.granted; taken = c.in_ok-made.ensures.memory.taken; behind = c.in_ok-made.ensures.start.behind; near = c.in_ok-made.ensures.near }) made));
+      refused = (let begun : ObjectBegun c.args.to.place.segment c.args.to.place.at (1 + c.args.list.count * (least.data_words + least.pointers)) (g.A.BuilderArena.view c.args.arena.now) (g.A.BuilderArena.view c.make_struct_list.new.arena) c.in_ok-made.made (zero_structs c.args.list.count least) =
+          record { begun = record { made = c.in_ok-made.ensures.made; start = c.in_ok-made.ensures.start.leads; inside = c.in_ok-made.ensures.start.inside }; memory = c.in_ok-made.ensures.memory.granted } in err_so c.copy_elements.result c.copy_elements.ensures.refused (λ k stop. structs_stop c.requires.inside
           c.kept_widths-kept.ensures.kept begun (record {
             place = c.requires.place;
-            memory = c.in_ok-list.ensures.memory.granted;
-            taken = c.in_ok-list.ensures.memory.taken;
-            behind = c.in_ok-list.ensures.start.behind;
-            near = c.in_ok-list.ensures.near;
+            memory = c.in_ok-made.ensures.memory.granted;
+            taken = c.in_ok-made.ensures.memory.taken;
+            behind = c.in_ok-made.ensures.start.behind;
+            near = c.in_ok-made.ensures.near;
           }) (one_more less) stop));
-      taken = (let begun : Begins c.args.id c.in_ok-list.list.segment (1 + c.args.count * (least.data_words + least.pointers)) (g.A.BuilderArena.view c.args.arena.now) (g.A.BuilderArena.view c.make_struct_list.new.arena) =
+      taken = (let begun : Begins c.args.to.place.segment c.in_ok-made.made.segment (1 + c.args.list.count * (least.data_words + least.pointers)) (g.A.BuilderArena.view c.args.arena.now) (g.A.BuilderArena.view c.make_struct_list.new.arena) =
           record {
-            there = there (g.A.BuilderArena.view c.args.arena.now).words c.args.id c.args.at c.requires.place;
-            taken = c.in_ok-list.ensures.memory.taken;
-            memory = c.in_ok-list.ensures.memory.granted;
-            near = λ room. (c.in_ok-list.ensures.start.behind.near (some_more _) room).0;
-            far = λ full. (c.in_ok-list.ensures.start.behind.far full).0;
+            there = there (g.A.BuilderArena.view c.args.arena.now).words c.args.to.place.segment c.args.to.place.at c.requires.place;
+            taken = c.in_ok-made.ensures.memory.taken;
+            memory = c.in_ok-made.ensures.memory.granted;
+            near = λ room. (c.in_ok-made.ensures.start.behind.near (some_more _) room).0;
+            far = λ full. (c.in_ok-made.ensures.start.behind.far full).0;
           } in taken_so c.copy_elements.result _ _ _ _
-          (λ x. structs_behind _ (record { source = c.args.size; kept = c.kept_widths-kept.result }) _ _ _ _ _ _ _ _ _ _ begun (one_more less) x)
-          (λ x. structs_stop_behind _ (record { source = c.args.size; kept = c.kept_widths-kept.result }) _ _ _ _ _ _ _ _ _ _ begun (one_more less) x)
+          (λ x. structs_behind _ (record { count = c.args.list.count; source = c.args.list.size; kept = c.kept_widths-kept.result }) _ _ _ _ _ _ _ _ _ _ begun (one_more less) x)
+          (λ x. structs_stop_behind _ (record { count = c.args.list.count; source = c.args.list.size; kept = c.kept_widths-kept.result }) _ _ _ _ _ _ _ _ _ _ begun (one_more less) x)
           c.copy_elements.ensures.taken);
     }
 
-pub lists::copy_structs-returns-in_err-list : goal.lists::copy_structs-returns-in_err-list
-lists::copy_structs-returns-in_err-list g t c =
+pub lists::copy_structs-returns-in_err-made : goal.lists::copy_structs-returns-in_err-made
+lists::copy_structs-returns-in_err-made g t c =
     let least = c.kept_widths-kept.result in
     let p = err_from_is_err_and c.from_residual.result c.from_residual.ensures.1 in
     record {
       copied = rw p.1 tt;
-      refused = (let full : HasRoom (g.A.BuilderArena.view c.args.arena.now) c.args.id (1 + c.args.count * (least.data_words + least.pointers)) → ⊥ = λ room. absurd (false≢true (c.in_err-list.ensures.memory.fits room)) in let none = nothing_made (form_in c.args.form) c.args.id c.args.at (1 + c.args.count * (least.data_words + least.pointers)) (g.A.BuilderArena.view c.args.arena.now) (g.A.BuilderArena.view c.make_struct_list.new.arena) c.args.lim.now c.args.lim.now c.in_err-list.field-0.0 c.requires.place c.requires.null
-          c.in_err-list.ensures.memory.named c.in_err-list.ensures.refused full in rw (p.1, p.2) (halfway (inl (inl (1 + c.args.count * (least.data_words + least.pointers), refl, ap (structs_words c.args.count) c.kept_widths-kept.ensures.kept, (none.0, no_own_room (g.A.BuilderArena.view c.args.arena.now) c.args.id (1 + c.args.count * (least.data_words + least.pointers)) full)), structs_large (form_in c.args.form) (reading g.B.ReaderArena c.args.from) c.args.size c.args.count (length (segment (g.A.BuilderArena.view c.args.arena.now).words c.args.id)) ((g.A.BuilderArena.view c.args.arena.now).room c.args.id) (no_structs_room (reading g.B.ReaderArena c.args.from) c.args.size least c.args.count c.args.id (g.A.BuilderArena.view c.args.arena.now) (form_in c.args.form) c.requires.inside c.kept_widths-kept.ensures.kept full))) none.1));
-      taken = rw p.1 (inl (refl, made_none (none_refused (g.A.BuilderArena.view c.args.arena.now) (g.A.BuilderArena.view c.make_struct_list.new.arena) (1 + c.args.count * (least.data_words + least.pointers)) c.in_err-list.field-0.0 c.in_err-list.ensures.memory.named c.in_err-list.ensures.refused)));
+      refused = (let full : HasRoom (g.A.BuilderArena.view c.args.arena.now) c.args.to.place.segment (1 + c.args.list.count * (least.data_words + least.pointers)) → ⊥ = λ room. absurd (false≢true (c.in_err-made.ensures.memory.fits room)) in let none = nothing_made (form_in c.args.to.form) c.args.to.place.segment c.args.to.place.at (1 + c.args.list.count * (least.data_words + least.pointers)) (g.A.BuilderArena.view c.args.arena.now) (g.A.BuilderArena.view c.make_struct_list.new.arena) c.args.lim.now c.args.lim.now c.in_err-made.field-0.0 c.requires.place c.requires.null
+          c.in_err-made.ensures.memory.named c.in_err-made.ensures.refused full in rw (p.1, p.2) (halfway (inl (inl (1 + c.args.list.count * (least.data_words + least.pointers), refl, ap (structs_words c.args.list.count) c.kept_widths-kept.ensures.kept, (none.0, no_own_room (g.A.BuilderArena.view c.args.arena.now) c.args.to.place.segment (1 + c.args.list.count * (least.data_words + least.pointers)) full)), structs_large (form_in c.args.to.form) (reading g.B.ReaderArena c.args.from) c.args.list.size c.args.list.count (length (segment (g.A.BuilderArena.view c.args.arena.now).words c.args.to.place.segment)) ((g.A.BuilderArena.view c.args.arena.now).room c.args.to.place.segment) (no_structs_room (reading g.B.ReaderArena c.args.from) c.args.list.size least c.args.list.count c.args.to.place.segment (g.A.BuilderArena.view c.args.arena.now) (form_in c.args.to.form) c.requires.inside c.kept_widths-kept.ensures.kept full))) none.1));
+      taken = rw p.1 (inl (refl, made_none (none_refused (g.A.BuilderArena.view c.args.arena.now) (g.A.BuilderArena.view c.make_struct_list.new.arena) (1 + c.args.list.count * (least.data_words + least.pointers)) c.in_err-made.field-0.0 c.in_err-made.ensures.memory.named c.in_err-made.ensures.refused)));
     }
 
 -- Structs.
@@ -584,17 +600,17 @@ structs::copy_struct-returns-in_err-start g t c =
     let p = err_from_is_err_and c.from_residual.result c.from_residual.ensures.1 in
     record {
       copied = rw p.1 tt;
-      refused = (let full : HasRoom (g.A.BuilderArena.view c.args.arena.now) c.args.id (least.data_words + least.pointers) → ⊥ = λ room. absurd (false≢true (c.in_err-start.ensures.memory.fits room)) in let none = nothing_made (form_in c.args.form) c.args.id c.args.at (least.data_words + least.pointers) (g.A.BuilderArena.view c.args.arena.now) (g.A.BuilderArena.view c.make_struct.new.arena) c.args.lim.now c.args.lim.now c.in_err-start.field-0.0 c.requires.place c.requires.null
-          c.in_err-start.ensures.memory.named c.in_err-start.ensures.refused full in let r : Reading = reading g.B.ReaderArena c.args.from in let cut : SectionsCut (form_in c.args.form) (words_from r c.args.size.data_words) (behind r
+      refused = (let full : HasRoom (g.A.BuilderArena.view c.args.arena.now) c.args.to.place.segment (least.data_words + least.pointers) → ⊥ = λ room. absurd (false≢true (c.in_err-start.ensures.memory.fits room)) in let none = nothing_made (form_in c.args.to.form) c.args.to.place.segment c.args.to.place.at (least.data_words + least.pointers) (g.A.BuilderArena.view c.args.arena.now) (g.A.BuilderArena.view c.make_struct.new.arena) c.args.lim.now c.args.lim.now c.in_err-start.field-0.0 c.requires.place c.requires.null
+          c.in_err-start.ensures.memory.named c.in_err-start.ensures.refused full in let r : Reading = reading g.B.ReaderArena c.args.from in let cut : SectionsCut (form_in c.args.to.form) (words_from r c.args.size.data_words) (behind r
           c.args.size.data_words) c.args.size.pointers least = record {
             inside = behind_inside
                 c.args.from.place.at c.args.size.data_words c.args.size.pointers c.requires.inside;
             of_data = c.kept_sections-kept.ensures.data;
             of_pointers = c.kept_sections-kept.ensures.pointers;
           } in let makes = ap₂ (λ i j. i + j) cut.of_data cut.of_pointers in rw (p.1, p.2) (halfway (inl (
-            inl (least.data_words + least.pointers, refl, makes, (none.0, no_own_room (g.A.BuilderArena.view c.args.arena.now) c.args.id (least.data_words + least.pointers) full)),
-            sections_large (form_in c.args.form) (words_from r c.args.size.data_words) (behind r c.args.size.data_words) c.args.size.pointers (length (segment (g.A.BuilderArena.view c.args.arena.now).words c.args.id)) ((g.A.BuilderArena.view c.args.arena.now).room c.args.id)
-                (no_sections_room c.args.id (g.A.BuilderArena.view c.args.arena.now) (form_in c.args.form) cut full),
+            inl (least.data_words + least.pointers, refl, makes, (none.0, no_own_room (g.A.BuilderArena.view c.args.arena.now) c.args.to.place.segment (least.data_words + least.pointers) full)),
+            sections_large (form_in c.args.to.form) (words_from r c.args.size.data_words) (behind r c.args.size.data_words) c.args.size.pointers (length (segment (g.A.BuilderArena.view c.args.arena.now).words c.args.to.place.segment)) ((g.A.BuilderArena.view c.args.arena.now).room c.args.to.place.segment)
+                (no_sections_room c.args.to.place.segment (g.A.BuilderArena.view c.args.arena.now) (form_in c.args.to.form) cut full),
           )) none.1));
       taken = rw p.1 (inl (refl, made_none (none_refused (g.A.BuilderArena.view c.args.arena.now) (g.A.BuilderArena.view c.make_struct.new.arena) (least.data_words + least.pointers) c.in_err-start.field-0.0 c.in_err-start.ensures.memory.named c.in_err-start.ensures.refused)));
     }
@@ -608,7 +624,7 @@ structs::copy_struct-returns g t c =
     let section : words_of c.part-data.result.now ≡ take least.data_words (words_from r c.args.size.data_words) =
     (rw (c.from-data_words.ensures, held) at c.part-data.ensures.words) ∙ sym (words_taken r.segments r.segment r.at least.data_words c.args.size.data_words c.kept_sections-kept.ensures.less_data) in
     record {
-      copied = (let begun : SectionsBegun (form_in c.args.form) (words_from r c.args.size.data_words) (behind r c.args.size.data_words) c.args.size.pointers least c.args.id c.args.at (g.A.BuilderArena.view c.args.arena.now) (g.A.BuilderArena.view c.make_struct.new.arena) (g.A.BuilderArena.view c.put_words.new.arena) c.in_ok-start.start = record {
+      copied = (let begun : SectionsBegun (form_in c.args.to.form) (words_from r c.args.size.data_words) (behind r c.args.size.data_words) c.args.size.pointers least c.args.to.place.segment c.args.to.place.at (g.A.BuilderArena.view c.args.arena.now) (g.A.BuilderArena.view c.make_struct.new.arena) (g.A.BuilderArena.view c.put_words.new.arena) c.in_ok-start.start = record {
         cut = record {
           inside = behind_inside c.args.from.place.at c.args.size.data_words c.args.size.pointers
               c.requires.inside;
@@ -625,7 +641,7 @@ structs::copy_struct-returns g t c =
         near = c.in_ok-start.ensures.near;
         empty = c.in_ok-start.ensures.empty;
       } in ok_so c.copy_children.result c.copy_children.ensures.copied (λ x made. sections_copied begun (rw (c.from.ensures, c.from-2.ensures, c.from-pointers.ensures, nl) at made)));
-      refused = (let begun : SectionsBegun (form_in c.args.form) (words_from r c.args.size.data_words) (behind r c.args.size.data_words) c.args.size.pointers least c.args.id c.args.at (g.A.BuilderArena.view c.args.arena.now) (g.A.BuilderArena.view c.make_struct.new.arena) (g.A.BuilderArena.view c.put_words.new.arena) c.in_ok-start.start = record {
+      refused = (let begun : SectionsBegun (form_in c.args.to.form) (words_from r c.args.size.data_words) (behind r c.args.size.data_words) c.args.size.pointers least c.args.to.place.segment c.args.to.place.at (g.A.BuilderArena.view c.args.arena.now) (g.A.BuilderArena.view c.make_struct.new.arena) (g.A.BuilderArena.view c.put_words.new.arena) c.in_ok-start.start = record {
         cut = record {
           inside = behind_inside c.args.from.place.at c.args.size.data_words c.args.size.pointers
               c.requires.inside;
@@ -642,7 +658,7 @@ structs::copy_struct-returns g t c =
         near = c.in_ok-start.ensures.near;
         empty = c.in_ok-start.ensures.empty;
       } in err_so c.copy_children.result c.copy_children.ensures.refused (λ k stop. sections_stop begun (rw (c.from.ensures, c.from-2.ensures, c.from-pointers.ensures, nl) at stop)));
-      taken = (let made = struct_begins c.args.id c.args.at least (g.A.BuilderArena.view c.args.arena.now) (g.A.BuilderArena.view c.make_struct.new.arena) c.in_ok-start.start c.requires.place c.in_ok-start.ensures.memory.taken c.in_ok-start.ensures.memory.granted c.in_ok-start.ensures.start.behind c.in_ok-start.ensures.start.leads c.in_ok-start.ensures.empty in let put = c.put_words.ensures.taken in let last = none_itself (g.A.BuilderArena.view c.copy_children.new.arena) in let fewer = c.kept_sections-kept.ensures.less_pointers in let cut : SectionsCut (form_in c.args.form) (words_from r c.args.size.data_words) (behind r
+      taken = (let made = struct_begins c.args.to.place.segment c.args.to.place.at least (g.A.BuilderArena.view c.args.arena.now) (g.A.BuilderArena.view c.make_struct.new.arena) c.in_ok-start.start c.requires.place c.in_ok-start.ensures.memory.taken c.in_ok-start.ensures.memory.granted c.in_ok-start.ensures.start.behind c.in_ok-start.ensures.start.leads c.in_ok-start.ensures.empty in let put = c.put_words.ensures.taken in let last = none_itself (g.A.BuilderArena.view c.copy_children.new.arena) in let fewer = c.kept_sections-kept.ensures.less_pointers in let cut : SectionsCut (form_in c.args.to.form) (words_from r c.args.size.data_words) (behind r
           c.args.size.data_words) c.args.size.pointers least = record {
             inside = behind_inside
                 c.args.from.place.at c.args.size.data_words c.args.size.pointers c.requires.inside;
@@ -666,7 +682,7 @@ structs::copy_struct-copy_children-requires g t c κs within =
     let held : words_of c.args.from.place.bytes.now ≡ segment_read r = c.args.from.held.0 in
     let section : words_of c.part-data.result.now ≡ take least.data_words (words_from r c.args.size.data_words) =
     (rw (c.from-data_words.ensures, held) at c.part-data.ensures.words) ∙ sym (words_taken r.segments r.segment r.at least.data_words c.args.size.data_words c.kept_sections-kept.ensures.less_data) in
-    let begun : SectionsBegun (form_in c.args.form) (words_from r c.args.size.data_words) (behind r c.args.size.data_words) c.args.size.pointers least c.args.id c.args.at (g.A.BuilderArena.view c.args.arena.now) (g.A.BuilderArena.view c.make_struct.new.arena) (g.A.BuilderArena.view c.put_words.new.arena) c.in_ok-start.start = record {
+    let begun : SectionsBegun (form_in c.args.to.form) (words_from r c.args.size.data_words) (behind r c.args.size.data_words) c.args.size.pointers least c.args.to.place.segment c.args.to.place.at (g.A.BuilderArena.view c.args.arena.now) (g.A.BuilderArena.view c.make_struct.new.arena) (g.A.BuilderArena.view c.put_words.new.arena) c.in_ok-start.start = record {
       cut = record {
         inside = behind_inside c.args.from.place.at c.args.size.data_words c.args.size.pointers
             c.requires.inside;
@@ -687,8 +703,8 @@ structs::copy_struct-copy_children-requires g t c κs within =
     let nl = to_z-of_z w32 c.args.from.nesting_limit (search rules) in
     (omega (arith, ap levels nl, c.decreases), (within.0, (within.1, (NULLS, rw (c.from.ensures, c.from-pointers.ensures) (omega (arith, c.requires.inside))))))
 
-pub structs::copy_struct-overflow_add-first : goal.structs::copy_struct-overflow_add-first
-structs::copy_struct-overflow_add-first g t c =
+pub structs::copy_struct-overflow_add-place : goal.structs::copy_struct-overflow_add-place
+structs::copy_struct-overflow_add-place g t c =
     let now = c.make_struct.new.arena in
     record {
       fits = first_fits c.in_ok-start.start.at c.kept_sections-kept.result.data_words

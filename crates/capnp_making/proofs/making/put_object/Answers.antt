@@ -2,7 +2,7 @@ use Rattle.std.proofs.Common.{◌≡◌, ◌∙◌, ◌<◌, ◌≤◌, ℕ, len
 use Rattle.capnp_format.specs.Canonical.{Reaches, offset_to}
 use Rattle.capnp_format.specs.Segments.{Segments, segment, IsPlace}
 use Rattle.capnp_arena_traits.specs.View.{View}
-use Rattle.capnp_making.specs.Made.{IsGrown, IsMade, IsShape, IsMadeAt}
+use Rattle.capnp_making.specs.Made.{IsGrown, IsMade, IsShape}
 use Rattle.capnp_arena_traits.specs.Written.{with_word, with_more, extended}
 use Rattle.capnp_making.specs.Near.{offset_behind, shape_word, with_object, HasOwnRoom}
 use Rattle.capnp_making.proofs.Memory.{words_in, keeps_written}
@@ -13,7 +13,7 @@ use Rattle.capnp_making.proofs.Zeros.{there}
 use Rattle.std.proofs.lemmas.Bool.{false≢true}
 use Rattle.capnp_words.specs.declared.error.ErrorKind.{ErrorKind}
 use Rattle.capnp_arena_traits.specs.Taking.{IsFirstFit}
-use Rattle.capnp_making.specs.Makes.{Allocates, call_at}
+use Rattle.capnp_making.specs.Makes.{Allocates, IsMadeAt, call_at}
 use Rattle.capnp_making.specs.Memory.{IsNextRoom, IsRefusedFor, KeepsMemory, Lengthens}
 use Rattle.capnp_making.specs.declared.making.Start.{Start}
 use Rattle.capnp_making.proofs.Outcomes.{if_ok_so, on_ok_so}
@@ -114,7 +114,7 @@ returns-in-None-clause-at_end g c = λ own. absurd (no_room g c own)
 
 pub returns-in-None-clause-made : goal.returns-in-None-clause-made
 returns-in-None-clause-made g c =
-    subst (λ (v : View). IfOk c.put_far.result (IsMadeAt v.words (g.A.BuilderArena.view c.put_far.new.arena).words c.args.id c.args.at c.args.shape c.args.amount)) (c.in-None.ensures.none refl) c.put_far.ensures.made
+    subst (λ (v : View). IfOk c.put_far.result (IsMadeAt (call_at c.args.id c.args.at v (g.A.BuilderArena.view c.put_far.new.arena)) c.args.shape c.args.amount)) (c.in-None.ensures.none refl) c.put_far.ensures.made
 
 pub returns-in-None-clause-refused : goal.returns-in-None-clause-refused
 returns-in-None-clause-refused g c =

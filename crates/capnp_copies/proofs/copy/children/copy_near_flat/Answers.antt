@@ -42,7 +42,7 @@ returns-clause-copied g c =
     let width : size_number size ≡ element_size (word_of r) = c.list_element_size-size.ensures ∙ ap element_size c.requires.there in
     let many : c.list_element_count-count.result ≡ list_count (word_of r) = c.list_element_count-count.ensures.value ∙ ap list_count c.requires.there in
     let object : IsObject Value r c.args.lim.now c.read_near_flat.new.lim (ObjectFlat start size c.list_element_count-count.result) = flat_by_word start size c.list_element_count-count.result (near, rw c.requires.there at c.requires.of_bits.1) c.args.from.held refl (rw nl at c.in_ok-start.ensures.object) width many in
-    let outcome : FlatOutcome c.copy_flat.result c.args.id c.args.at (words_for (size_number size) c.list_element_count-count.result) (g.A.BuilderArena.view c.args.arena.now) (g.A.BuilderArena.view c.copy_flat.new.arena) (Flat (size_number size) (unpacked (size_number size) c.list_element_count-count.result (words_of c.part-elements.result.now))) =
+    let outcome : FlatOutcome c.copy_flat.result c.args.to.segment c.args.to.at (words_for (size_number size) c.list_element_count-count.result) (g.A.BuilderArena.view c.args.arena.now) (g.A.BuilderArena.view c.copy_flat.new.arena) (Flat (size_number size) (unpacked (size_number size) c.list_element_count-count.result (words_of c.part-elements.result.now))) =
     record { copied = c.copy_flat.ensures.copied; granted = c.copy_flat.ensures.granted; refused = c.copy_flat.ensures.refused; kept = c.copy_flat.ensures.kept; memory = c.copy_flat.ensures.memory; stands = c.copy_flat.ensures.stands; fits = λ room. c.copy_flat.ensures.fits (omega (arith, room, word_count-flat (size_number size) c.list_element_count-count.result (words_of c.part-elements.result.now))) } in
     λ form. flat_value form c.copy_flat.result start size object c.flat_words-words.ensures c.part-elements.ensures.words outcome
 
@@ -56,7 +56,7 @@ returns-clause-refused g c =
     let width : size_number size ≡ element_size (word_of r) = c.list_element_size-size.ensures ∙ ap element_size c.requires.there in
     let many : c.list_element_count-count.result ≡ list_count (word_of r) = c.list_element_count-count.ensures.value ∙ ap list_count c.requires.there in
     let object : IsObject Value r c.args.lim.now c.read_near_flat.new.lim (ObjectFlat start size c.list_element_count-count.result) = flat_by_word start size c.list_element_count-count.result (near, rw c.requires.there at c.requires.of_bits.1) c.args.from.held refl (rw nl at c.in_ok-start.ensures.object) width many in
-    let outcome : FlatOutcome c.copy_flat.result c.args.id c.args.at (words_for (size_number size) c.list_element_count-count.result) (g.A.BuilderArena.view c.args.arena.now) (g.A.BuilderArena.view c.copy_flat.new.arena) (Flat (size_number size) (unpacked (size_number size) c.list_element_count-count.result (words_of c.part-elements.result.now))) =
+    let outcome : FlatOutcome c.copy_flat.result c.args.to.segment c.args.to.at (words_for (size_number size) c.list_element_count-count.result) (g.A.BuilderArena.view c.args.arena.now) (g.A.BuilderArena.view c.copy_flat.new.arena) (Flat (size_number size) (unpacked (size_number size) c.list_element_count-count.result (words_of c.part-elements.result.now))) =
     record { copied = c.copy_flat.ensures.copied; granted = c.copy_flat.ensures.granted; refused = c.copy_flat.ensures.refused; kept = c.copy_flat.ensures.kept; memory = c.copy_flat.ensures.memory; stands = c.copy_flat.ensures.stands; fits = λ room. c.copy_flat.ensures.fits (omega (arith, room, word_count-flat (size_number size) c.list_element_count-count.result (words_of c.part-elements.result.now))) } in
     λ form. flat_stops form c.copy_flat.result start size object c.flat_words-words.ensures c.part-elements.ensures.words (c.requires.place, c.requires.null) outcome
 

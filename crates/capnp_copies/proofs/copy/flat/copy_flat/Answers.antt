@@ -1,4 +1,4 @@
-use Rattle.std.proofs.Common.{◌≡◌, ◌*◌, ◌%◌, ◌^◌, ◌≤◌, ℕ, List, length, replicate, cond, sym, ap, ap₂, ◌∙◌, subst, arith, ne_eqb, pow_pos}
+use Rattle.std.proofs.Common.{◌≡◌, ◌+◌, ◌<◌, ◌*◌, ◌%◌, ◌^◌, ◌≤◌, ℕ, List, length, replicate, cond, sym, ap, ap₂, ◌∙◌, subst, arith, ne_eqb, pow_pos}
 use Rattle.capnp_format.specs.Bytes.{words_of}
 use Rattle.std.proofs.lemmas.Bool.{false≢true}
 use Rattle.capnp_format.specs.Numbers.{unpacked, packed, words_for, from_digits, digits, element_bits}
@@ -8,7 +8,7 @@ use Rattle.capnp_format.proofs.Bounds.{digits_below}
 use Rattle.capnp_format.proofs.Digits.{length-digits}
 use Rattle.capnp_arena_traits.specs.View.{View}
 use Rattle.capnp_arena_traits.specs.Written.{with_words}
-use Rattle.capnp_making.specs.Made.{words_of_zero, nulls, list_words, WordsLieFrom}
+use Rattle.capnp_making.specs.Made.{words_of_zero, nulls, list_words}
 use Rattle.capnp_making.specs.Memory.{RefusesWords}
 use Rattle.capnp_making.specs.Stored.{IsReplaced}
 use Rattle.capnp_making.proofs.FillingMade.{IsBegun, flat_whole}
@@ -42,17 +42,17 @@ returns-clause-copied g c =
     let all : bits ≡ n * b = ap₂ (λ i j. i * j) c.from.ensures (c.from-2.ensures ∙ c.data_bits_per_element.ensures) in
     let packs : digits (2 ^ 64) (length ws) (f % 2 ^ bits) ≡ packed size ns = ap₂ (λ i j. digits (2 ^ 64) i (f % 2 ^ j)) c.requires.all all ∙ sym (packed_again size n ws) in
     let other = ne_eqb size 6 (λ e. omega (arith, c.requires.flat)) in
-    let made = subst (λ x. IsReplaced S M c.args.id c.args.at Null (cond x (Pointers (nulls n)) (Flat size (words_of_zero n)))) other c.in_ok-start.ensures.made in
-    let inside = subst (λ x. WordsLieFrom M (cond x n (words_for size n)) c.in_ok-start.start) other c.in_ok-start.ensures.start.inside in
-    let begun : IsBegun S M c.args.id c.args.at (words_for size n) c.in_ok-start.start (Flat size (words_of_zero n)) = record { made = made; start = c.in_ok-start.ensures.start.leads; inside = inside } in
-    flat_whole S M R c.args.id c.args.at size n c.in_ok-start.start ns begun (length-digits (2 ^ b) n f) (digits_below (2 ^ b) n f (pow_pos b))
+    let made = subst (λ x. IsReplaced S M c.args.to.segment c.args.to.at Null (cond x (Pointers (nulls n)) (Flat size (words_of_zero n)))) other c.in_ok-start.ensures.made in
+    let inside = subst (λ x. (c.in_ok-start.start.segment < length M) × (c.in_ok-start.start.at + cond x n (words_for size n) ≤ length (segment M c.in_ok-start.start.segment))) other c.in_ok-start.ensures.start.inside in
+    let begun : IsBegun S M c.args.to.segment c.args.to.at (words_for size n) c.in_ok-start.start (Flat size (words_of_zero n)) = record { made = made; start = c.in_ok-start.ensures.start.leads; inside = inside } in
+    flat_whole S M R c.args.to.segment c.args.to.at size n c.in_ok-start.start ns begun (length-digits (2 ^ b) n f) (digits_below (2 ^ b) n f (pow_pos b))
     (ap words_in c.put_elements.ensures ∙ ap (with_words M c.in_ok-start.start.segment c.in_ok-start.start.at) packs)
 
 -- Where it fits the list is made near its pointer.
 pub returns-clause-stands : goal.returns-clause-stands
 returns-clause-stands g c = λ fits.
     (let S : Segments = (g.A.BuilderArena.view c.args.arena.now).words in
-    let id : ℕ = c.args.id in
+    let id : ℕ = c.args.to.segment in
     let size : ℕ = size_number c.args.size in
     let n : ℕ = c.args.count in
     let b : ℕ = element_bits size in
@@ -72,12 +72,12 @@ returns-clause-stands g c = λ fits.
     let laid = words_put mid.words new.words c.in_ok-start.start.segment c.in_ok-start.start.at D (omega (arith, c.in_ok-start.ensures.start.inside.1, length-digits (2 ^ 64) (length ws) (f % 2 ^ bits), c.requires.all, list)) (ap words_in c.put_elements.ensures) in
     let longer : length mid.words ≤ length new.words = omega (arith, laid.long.segments) in
     let room : HasOwnRoom old id (list_words size n) =
-    own_room old mid new id c.args.at (list_words size n) c.requires.place c.in_ok-start.ensures.memory.taken longer (stay_fewer old new id (words_for size (length ns)) (list_words size n) (omega (arith, ap (words_for size) counts, list)) fits) in
-    flat_near S id c.args.at size ns D c.requires.place (length-digits (2 ^ 64) (length ws) (f % 2 ^ bits) ∙ c.requires.all ∙ ap (words_for size) (sym counts)) packs
+    own_room old mid new id c.args.to.at (list_words size n) c.requires.place c.in_ok-start.ensures.memory.taken longer (stay_fewer old new id (words_for size (length ns)) (list_words size n) (omega (arith, ap (words_for size) counts, list)) fits) in
+    flat_near S id c.args.to.at size ns D c.requires.place (length-digits (2 ^ 64) (length ws) (f % 2 ^ bits) ∙ c.requires.all ∙ ap (words_for size) (sym counts)) packs
     (ap words_in c.put_elements.ensures
     ∙ ap₂ (λ i k. with_words (g.A.BuilderArena.view c.make_list.new.arena).words i k D) (c.in_ok-start.ensures.at_end room).0 (c.in_ok-start.ensures.at_end room).1
     ∙ ap (λ T. with_words T id (length (segment S id)) D)
-    (c.in_ok-start.ensures.near room ∙ ap₂ (λ i k. with_object S id c.args.at (list_word (offset_behind S id c.args.at) size i) (replicate k 0)) (sym counts) (list ∙ ap (words_for size) (sym counts)))))
+    (c.in_ok-start.ensures.near room ∙ ap₂ (λ i k. with_object S id c.args.to.at (list_word (offset_behind S id c.args.to.at) size i) (replicate k 0)) (sym counts) (list ∙ ap (words_for size) (sym counts)))))
 
 pub returns-clause-taken : goal.returns-clause-taken
 returns-clause-taken g c =
@@ -93,7 +93,7 @@ returns-clause-taken g c =
     let start = c.in_ok-start.start in
     let e = c.in_ok-start.ensures in
     let over = none_written mid new start.segment start.at D (omega (arith, e.start.inside.1, length-digits (2 ^ 64) (length ws) (from_digits (2 ^ 64) ws % 2 ^ (c.from.result * c.from-2.result)), c.requires.all, list)) c.put_elements.ensures in
-    let begun : Begins c.args.id start.segment (list_words size n) old mid = record { there = there old.words c.args.id c.args.at c.requires.place; taken = e.memory.taken; memory = e.memory.granted; near = λ room. (e.at_end room).0; far = λ full. (e.start.behind.far full).0 } in
+    let begun : Begins c.args.to.segment start.segment (list_words size n) old mid = record { there = there old.words c.args.to.segment c.args.to.at c.requires.place; taken = e.memory.taken; memory = e.memory.granted; near = λ room. (e.at_end room).0; far = λ full. (e.start.behind.far full).0 } in
     made_more (omega (arith, list)) (omega arith) (made_object begun (made_none over))
 
 pub returns-in_err-start-clause-taken : goal.returns-in_err-start-clause-taken
@@ -111,4 +111,4 @@ returns-in_err-start-clause-refused g c =
     let list : list_words size n ≡ words_for size n = ap (λ x. cond x n (words_for size n)) other in
     let p = err_from_is_err_and c.from_residual.result c.from_residual.ensures.1 in
     rw (p.1, p.2) (subst (λ i. RefusesWords old new i c.in_err-start.field-0.0) list
-    (made_refused old new c.args.id (list_words size n) c.in_err-start.field-0.0 c.in_err-start.ensures.memory.named c.in_err-start.ensures.refused (λ room. absurd (false≢true (c.in_err-start.ensures.memory.fits room)))).0)
+    (made_refused old new c.args.to.segment (list_words size n) c.in_err-start.field-0.0 c.in_err-start.ensures.memory.named c.in_err-start.ensures.refused (λ room. absurd (false≢true (c.in_err-start.ensures.memory.fits room)))).0)

@@ -41,13 +41,13 @@ returns-in_default g c =
     let width : ℕ = value.struct_size.data_words + value.struct_size.pointers in
     let flat : size ≤ 5 = number_size value.element_size c.in_default.not-Pointer c.in_default.not-InlineComposite in
     let held = numbers_held (source_start g.B.ReaderArena value.source).segments value.start value.element_size value.count width value.content.now flat value.held value.content_is value.inside in
-    let outcome : FlatOutcome c.copy_flat.result c.args.id c.args.at (words_for size value.count) (g.A.BuilderArena.view c.args.arena.now) (g.A.BuilderArena.view c.copy_flat.new.arena) (Flat size (unpacked size value.count (words_of value.content.now))) =
+    let outcome : FlatOutcome c.copy_flat.result c.args.to.segment c.args.to.at (words_for size value.count) (g.A.BuilderArena.view c.args.arena.now) (g.A.BuilderArena.view c.copy_flat.new.arena) (Flat size (unpacked size value.count (words_of value.content.now))) =
     record { copied = c.copy_flat.ensures.copied; granted = c.copy_flat.ensures.granted; refused = c.copy_flat.ensures.refused; kept = c.copy_flat.ensures.kept; memory = c.copy_flat.ensures.memory; stands = c.copy_flat.ensures.stands; fits = λ room. c.copy_flat.ensures.fits (omega (arith, room, word_count-flat size value.count (words_of value.content.now))) } in
-    let call : Change = change (form_of c.args.canonicalize) c.args.id c.args.at (g.A.BuilderArena.view c.args.arena.now) (g.A.BuilderArena.view c.copy_flat.new.arena) c.args.lim.now c.args.lim.now in
+    let call : Change = change (form_of c.args.canonicalize) c.args.to.segment c.args.to.at (g.A.BuilderArena.view c.args.arena.now) (g.A.BuilderArena.view c.copy_flat.new.arena) c.args.lim.now c.args.lim.now in
     record {
       long = λ k large. absurd ((exceeding c.args.value.element_size c.args.value.struct_size c.args.value.count (first_read g.B.ReaderArena c.args.value) (form_of c.args.canonicalize) k large).0 (c.fits_list_pointer.ensures.0 (search rules)));
       taken = numbers_listed c.args.value.element_size c.args.value.struct_size c.args.value.count (first_read g.B.ReaderArena c.args.value) (λ o. TakesAtMost c.copy_flat.result o call) c.in_default.not-Pointer c.in_default.not-InlineComposite
-          (numbers_take c.copy_flat.result c.args.value.element_size c.args.value.count (first_read g.B.ReaderArena c.args.value) (form_of c.args.canonicalize) c.args.id c.args.at (g.A.BuilderArena.view c.args.arena.now) (g.A.BuilderArena.view c.copy_flat.new.arena) c.args.lim.now c.copy_flat.ensures.taken);
+          (numbers_take c.copy_flat.result c.args.value.element_size c.args.value.count (first_read g.B.ReaderArena c.args.value) (form_of c.args.canonicalize) c.args.to.segment c.args.to.at (g.A.BuilderArena.view c.args.arena.now) (g.A.BuilderArena.view c.copy_flat.new.arena) c.args.lim.now c.copy_flat.ensures.taken);
       copied = numbers_listed c.args.value.element_size c.args.value.struct_size c.args.value.count (first_read g.B.ReaderArena c.args.value) (λ o. IfOk c.copy_flat.result (λ _. MakesCopy o call)) c.in_default.not-Pointer c.in_default.not-InlineComposite
           (numbers_copied c.args.value.element_size c.args.value.count (first_read g.B.ReaderArena c.args.value) call value.content.now c.copy_flat.result held.stand refl outcome);
       refused = numbers_listed c.args.value.element_size c.args.value.struct_size c.args.value.count (first_read g.B.ReaderArena c.args.value) (λ o. IfErr c.copy_flat.result (StopsHalfway o call)) c.in_default.not-Pointer c.in_default.not-InlineComposite
@@ -85,14 +85,14 @@ returns-in-Pointer-clause-refused g c =
 
 pub returns-then-not-fits_list_pointer-clause-taken : goal.returns-then-not-fits_list_pointer-clause-taken
 returns-then-not-fits_list_pointer-clause-taken g c =
-    nothing_for_list c.args.value.element_size c.args.value.struct_size c.args.value.count (first_read g.B.ReaderArena c.args.value) (form_of c.args.canonicalize) c.args.lim.now (MakesAtMost c.args.id (g.A.BuilderArena.view c.args.arena.now) (g.A.BuilderArena.view c.args.arena.now)) (made_none (none_itself (g.A.BuilderArena.view c.args.arena.now)))
+    nothing_for_list c.args.value.element_size c.args.value.struct_size c.args.value.count (first_read g.B.ReaderArena c.args.value) (form_of c.args.canonicalize) c.args.lim.now (MakesAtMost c.args.to.segment (g.A.BuilderArena.view c.args.arena.now) (g.A.BuilderArena.view c.args.arena.now)) (made_none (none_itself (g.A.BuilderArena.view c.args.arena.now)))
 
 pub returns-in-Pointer-clause-taken : goal.returns-in-Pointer-clause-taken
 returns-in-Pointer-clause-taken g c =
     let nl = to_z-of_z w32 c.args.value.nesting_limit (search rules) in
     let value = c.args.value in
     pointers_listed c.args.value.element_size c.args.value.struct_size c.args.value.count (first_read g.B.ReaderArena c.args.value)
-    (λ o. TakesAtMost c.copy_pointers.result o (change (form_of c.args.canonicalize) c.args.id c.args.at (g.A.BuilderArena.view c.args.arena.now) (g.A.BuilderArena.view c.copy_pointers.new.arena) c.args.lim.now c.copy_pointers.new.lim))
+    (λ o. TakesAtMost c.copy_pointers.result o (change (form_of c.args.canonicalize) c.args.to.segment c.args.to.at (g.A.BuilderArena.view c.args.arena.now) (g.A.BuilderArena.view c.copy_pointers.new.arena) c.args.lim.now c.copy_pointers.new.lim))
     c.in-Pointer.is (rw (nl, c.of-form.ensures) at c.copy_pointers.ensures.taken)
 
 pub returns-in-InlineComposite-clause-taken : goal.returns-in-InlineComposite-clause-taken
@@ -100,7 +100,7 @@ returns-in-InlineComposite-clause-taken g c =
     let nl = to_z-of_z w32 c.args.value.nesting_limit (search rules) in
     let value = c.args.value in
     structs_listed c.args.value.element_size c.args.value.struct_size c.args.value.count (first_read g.B.ReaderArena c.args.value)
-    (λ o. TakesAtMost c.copy_structs.result o (change (form_of c.args.canonicalize) c.args.id c.args.at (g.A.BuilderArena.view c.args.arena.now) (g.A.BuilderArena.view c.copy_structs.new.arena) c.args.lim.now c.copy_structs.new.lim))
+    (λ o. TakesAtMost c.copy_structs.result o (change (form_of c.args.canonicalize) c.args.to.segment c.args.to.at (g.A.BuilderArena.view c.args.arena.now) (g.A.BuilderArena.view c.copy_structs.new.arena) c.args.lim.now c.copy_structs.new.lim))
     c.in-InlineComposite.is (rw (nl, c.of-form.ensures) at c.copy_structs.ensures.taken)
 
 pub returns-in-InlineComposite-clause-refused : goal.returns-in-InlineComposite-clause-refused

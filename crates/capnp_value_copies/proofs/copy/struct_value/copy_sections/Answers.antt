@@ -31,7 +31,7 @@ returns-in_err-kept-clause-refused g c =
     let v = g.A.BuilderArena.view c.args.arena.now in
     let p = err_from_is_err_and c.from_residual.result c.from_residual.ensures.1 in
     rw (p.1, p.2) (halfway (inr (inr c.in_err-kept.ensures.wide))
-    ((Null, nothing_left v.words v.words c.args.id c.args.at c.requires.place c.requires.null refl), spends_nothing v v c.in_err-kept.field-0.0 (λ n. ap (λ i. refusals_for i n) c.in_err-kept.ensures.wide.1) (keeps_itself v)))
+    ((Null, nothing_left v.words v.words c.args.to.segment c.args.to.at c.requires.place c.requires.null refl), spends_nothing v v c.in_err-kept.field-0.0 (λ n. ap (λ i. refusals_for i n) c.in_err-kept.ensures.wide.1) (keeps_itself v)))
 
 pub returns-in_err-kept-clause-wide : goal.returns-in_err-kept-clause-wide
 returns-in_err-kept-clause-wide g c =
@@ -44,16 +44,16 @@ returns-in_err-start-clause-wide g c = λ k large. absurd (omega (arith, large.0
 pub returns-in_err-start-clause-refused : goal.returns-in_err-start-clause-refused
 returns-in_err-start-clause-refused g c =
     let least = c.in_ok-kept.kept in
-    let full : HasRoom (g.A.BuilderArena.view c.args.arena.now) c.args.id (least.data_words + least.pointers) → ⊥ = λ room. absurd (false≢true (c.in_err-start.ensures.memory.fits room)) in
-    let none = nothing_made (form_of c.args.canonicalize) c.args.id c.args.at (least.data_words + least.pointers) (g.A.BuilderArena.view c.args.arena.now) (g.A.BuilderArena.view c.make_struct.new.arena) c.args.lim.now c.args.lim.now c.in_err-start.field-0.0 c.requires.place c.requires.null
+    let full : HasRoom (g.A.BuilderArena.view c.args.arena.now) c.args.to.segment (least.data_words + least.pointers) → ⊥ = λ room. absurd (false≢true (c.in_err-start.ensures.memory.fits room)) in
+    let none = nothing_made (form_of c.args.canonicalize) c.args.to.segment c.args.to.at (least.data_words + least.pointers) (g.A.BuilderArena.view c.args.arena.now) (g.A.BuilderArena.view c.make_struct.new.arena) c.args.lim.now c.args.lim.now c.in_err-start.field-0.0 c.requires.place c.requires.null
     c.in_err-start.ensures.memory.named c.in_err-start.ensures.refused full in
     let cut : SectionsCut (form_of c.args.canonicalize) (data_of g.B.ReaderArena c.args.value) (pointers_read g.B.ReaderArena c.args.value) c.args.value.pointer_count least = record { inside = c.args.value.inside; of_data = c.in_ok-kept.ensures.data; of_pointers = c.in_ok-kept.ensures.pointers } in
     let makes = ap₂ (λ i j. i + j) c.in_ok-kept.ensures.data c.in_ok-kept.ensures.pointers in
     let p = err_from_is_err_and c.from_residual-in_err-start.result c.from_residual-in_err-start.ensures.1 in
     rw (p.1, p.2) (halfway (inl (
-      inl (least.data_words + least.pointers, refl, makes, (none.0, no_own_room (g.A.BuilderArena.view c.args.arena.now) c.args.id (least.data_words + least.pointers) full)),
-      sections_large (form_of c.args.canonicalize) (data_of g.B.ReaderArena c.args.value) (pointers_read g.B.ReaderArena c.args.value) c.args.value.pointer_count (length (segment (g.A.BuilderArena.view c.args.arena.now).words c.args.id)) ((g.A.BuilderArena.view c.args.arena.now).room c.args.id)
-          (no_sections_room c.args.id (g.A.BuilderArena.view c.args.arena.now) (form_of c.args.canonicalize) cut full),
+      inl (least.data_words + least.pointers, refl, makes, (none.0, no_own_room (g.A.BuilderArena.view c.args.arena.now) c.args.to.segment (least.data_words + least.pointers) full)),
+      sections_large (form_of c.args.canonicalize) (data_of g.B.ReaderArena c.args.value) (pointers_read g.B.ReaderArena c.args.value) c.args.value.pointer_count (length (segment (g.A.BuilderArena.view c.args.arena.now).words c.args.to.segment)) ((g.A.BuilderArena.view c.args.arena.now).room c.args.to.segment)
+          (no_sections_room c.args.to.segment (g.A.BuilderArena.view c.args.arena.now) (form_of c.args.canonicalize) cut full),
     )) none.1)
 
 -- The struct is made, and its data words are written.
@@ -61,13 +61,13 @@ returns-in_err-start-clause-refused g c =
 pub put_section-requires-clause-few : goal.put_section-requires-clause-few
 put_section-requires-clause-few g c = omega (arith, c.in_ok-kept.ensures.data, kept_count-le (form_of c.args.canonicalize) (data_of g.B.ReaderArena c.args.value))
 
-pub overflow_add-first : goal.overflow_add-first
-overflow_add-first g c =
+pub overflow_add-place : goal.overflow_add-place
+overflow_add-place g c =
     omega (arith, c.from.ensures, c.in_ok-start.ensures.start.inside.1, g.met.A.BuilderArena.within c.make_struct.new.arena c.in_ok-start.start.segment, g.met.A.BuilderArena.small c.make_struct.new.arena c.in_ok-start.start.segment)
 
 pub copy_children-requires : goal.copy_children-requires
 copy_children-requires g c =
-    let begun : SectionsBegun (form_of c.args.canonicalize) (data_of g.B.ReaderArena c.args.value) (pointers_read g.B.ReaderArena c.args.value) c.args.value.pointer_count c.in_ok-kept.kept c.args.id c.args.at (g.A.BuilderArena.view c.args.arena.now) (g.A.BuilderArena.view c.make_struct.new.arena)
+    let begun : SectionsBegun (form_of c.args.canonicalize) (data_of g.B.ReaderArena c.args.value) (pointers_read g.B.ReaderArena c.args.value) c.args.value.pointer_count c.in_ok-kept.kept c.args.to.segment c.args.to.at (g.A.BuilderArena.view c.args.arena.now) (g.A.BuilderArena.view c.make_struct.new.arena)
     (g.A.BuilderArena.view c.put_section.new.arena) c.in_ok-start.start = record {
       cut = record { inside = c.args.value.inside; of_data = c.in_ok-kept.ensures.data; of_pointers = c.in_ok-kept.ensures.pointers };
       begun = record { made = c.in_ok-start.ensures.made; start = c.in_ok-start.ensures.start.leads; inside = c.in_ok-start.ensures.start.inside };
@@ -114,12 +114,12 @@ returns g c =
     let start = c.in_ok-start.start in
     let old : View = g.A.BuilderArena.view c.args.arena.now in
     let e = c.in_ok-start.ensures in
-    let begins = struct_begins c.args.id c.args.at size old made start c.requires.place e.memory.taken e.memory.granted e.start.behind e.start.leads e.empty in
+    let begins = struct_begins c.args.to.segment c.args.to.at size old made start c.requires.place e.memory.taken e.memory.granted e.start.behind e.start.leads e.empty in
     let over = none_written made put start.segment start.at (take size.data_words ws) (omega (arith, e.start.inside.1, length-take size.data_words ws)) c.put_section.ensures in
     let last = none_itself (g.A.BuilderArena.view c.copy_children.new.arena) in
     let nl = to_z-of_z w32 value.nesting_limit (search rules) in
     let less : size.data_words + size.pointers ≤ length ws + value.pointer_count = omega (arith, words_kept, pointers_kept) in
-    let begun : SectionsBegun (form_of c.args.canonicalize) (data_of g.B.ReaderArena c.args.value) (pointers_read g.B.ReaderArena c.args.value) c.args.value.pointer_count c.in_ok-kept.kept c.args.id c.args.at (g.A.BuilderArena.view c.args.arena.now) (g.A.BuilderArena.view c.make_struct.new.arena)
+    let begun : SectionsBegun (form_of c.args.canonicalize) (data_of g.B.ReaderArena c.args.value) (pointers_read g.B.ReaderArena c.args.value) c.args.value.pointer_count c.in_ok-kept.kept c.args.to.segment c.args.to.at (g.A.BuilderArena.view c.args.arena.now) (g.A.BuilderArena.view c.make_struct.new.arena)
     (g.A.BuilderArena.view c.put_section.new.arena) c.in_ok-start.start = record {
       cut = record { inside = c.args.value.inside; of_data = c.in_ok-kept.ensures.data; of_pointers = c.in_ok-kept.ensures.pointers };
       begun = record { made = c.in_ok-start.ensures.made; start = c.in_ok-start.ensures.start.leads; inside = c.in_ok-start.ensures.start.inside };
