@@ -1,12 +1,12 @@
 -- What packed bytes give is the front of what is to come.
 use Rattle.std.proofs.Common.{◌≡◌, ℕ, zero, suc, ◌+◌, ◌-◌, ◌*◌, ◌/◌, ◌%◌, ◌<◌, ◌≤◌, ◌≢◌, List, [], ◌∷◌, ◌++◌, replicate, length, take, Option, Some, None, refl, sym, ap, ◌∙◌, subst, arith, add-one, set, append_assoc, append-nil}
-use Rattle.std.specs.Prelude.{cond, nat_eq, option_to_list, slice_index}
+use Rattle.std.specs.Prelude.{if◌then◌else◌, cond, nat_eq, nat_lt, option_to_list, slice_index}
 use Rattle.std.proofs.Math.Dec.{eqb-suc-zero}
 use Rattle.std.specs.Io.KnownBytes.{Consumes, IsAtEnd, Keeps}
 use Rattle.std.proofs.lemmas.Bool.{ne_eqb}
 use Rattle.std.proofs.lemmas.Bool.Decides.{nat_tests}
 use Rattle.std.proofs.lemmas.List.{replicate-append-replicate}
-use Rattle.capnp_packing.specs.Packing.{GivesAndLeads, KeepsEnd, all_given, byte_given, bytes_behind, expanded, lead, ones, place_after, place_at_end, place_behind, place_within, unpacked_bytes, zeros_given}
+use Rattle.capnp_packing.specs.Packing.{GivesAndLeads, KeepsEnd, all_given, byte_given, bytes_behind, expanded, lead, ones, place_after, place_at_end, place_within, unpacked_bytes, zeros_given}
 use Rattle.capnp_packing.specs.declared.packing.place.Place.{Place}
 use Rattle.capnp_packing.specs.declared.packing.place.Place.TheVariants.{Tag, Kept, Zeros, Whole, Count, Raw}
 
@@ -137,6 +137,10 @@ take_one [] b h = absurd (omega (arith, h))
 take_one (x ∷ xs) b h = refl
 
 -- ---- words that are given as they stand
+
+-- the place behind so many bytes of them, where so many were behind the first
+abbrev pub place_behind : ℕ → ℕ → Place
+place_behind left taken = if nat_lt left taken then Tag else Raw (left - taken)
 
 first_behind : (left : ℕ) → cond (nat_eq left 0) Tag (Raw (left - 1)) ≡ place_behind left 1
 first_behind left = grind (arith, nat_tests)

@@ -3,7 +3,7 @@
 -- Behind a tag of 0 stands how many words of zero follow that one; behind a tag of 255 and the
 -- word's eight bytes stands how many words follow as they are.
 use Rattle.std.specs.Prelude.{◌≡◌, ℕ, zero, suc, ◌+◌, ◌-◌, ◌*◌, ◌/◌, ◌%◌, Bool, true, false}
-use Rattle.std.specs.Prelude.{if◌then◌else◌, nat_eq, nat_lt}
+use Rattle.std.specs.Prelude.{if◌then◌else◌, nat_eq}
 use Rattle.std.specs.Prelude.{List, [], ◌∷◌, ◌++◌, drop, slice_index, replicate, ⊤}
 use Rattle.std.specs.Prelude.{Option, Some, None, option_to_list}
 use Rattle.capnp_packing.specs.declared.packing.place.Place.{Place}
@@ -41,10 +41,6 @@ place_after Zeros b = Tag
 place_after (Whole left) b = if nat_eq left 0 then Count else Whole (left - 1)
 place_after Count b = if nat_eq b 0 then Tag else Raw (8 * b - 1)
 place_after (Raw left) b = if nat_eq left 0 then Tag else Raw (left - 1)
-
--- The place behind so many bytes of words that are given as they stand, where so many were behind the first.
-abbrev pub place_behind : ℕ → ℕ → Place
-place_behind left taken = if nat_lt left taken then Tag else Raw (left - taken)
 
 -- All that it gives.
 abbrev pub all_given : Place → ℕ → List ℕ

@@ -1,9 +1,9 @@
 //! An input of packed bytes, as an input of what they stand for.
-ghost use Rattle.std.specs.Prelude.{Some, ℕ, List, ◌&&◌, ◌≡◌, ◌≤◌, ◌<◌, ◌+◌, ◌-◌, ◌∷◌, ◌↔◌, [], IsTrue, IsErr, false, true, IfOk, OnOk, OnErr, length, take, slice_range};
+ghost use Rattle.std.specs.Prelude.{Some, ℕ, List, if◌then◌else◌, nat_lt, ◌&&◌, ◌≡◌, ◌≤◌, ◌<◌, ◌+◌, ◌-◌, ◌∷◌, ◌↔◌, [], IsTrue, IsErr, false, true, IfOk, OnOk, OnErr, length, take, slice_range};
 ghost use Rattle.std.specs.Io.KnownBytes.{Consumes, IsAtEnd, ReadConsumes};
 ghost use Rattle.std.specs.Option.{option_map};
 ghost use Rattle.capnp_framing.specs.Wholeness.{KeepsWhole};
-ghost use Rattle.capnp_packing.specs.Packing.{KeepsEnd, bytes_behind, place_behind, unpacked_bytes, whole_behind};
+ghost use Rattle.capnp_packing.specs.Packing.{KeepsEnd, bytes_behind, unpacked_bytes, whole_behind};
 
 use super::place::{Place, step};
 use super::read_ahead::ReadAhead;
@@ -227,7 +227,7 @@ impl<R: Input> UnpackingInput<R> {
 fn raw_behind(left: u16, taken: usize) -> Place
     requires some { 0 < taken }
     requires inside { taken ≤ left + 1 }
-    ensures { result ≡ place_behind left taken }
+    ensures { result ≡ (if nat_lt left taken then Place.Tag else Place.Raw (left - taken)) }
 {
     if taken > left as usize {
         Place::Tag
