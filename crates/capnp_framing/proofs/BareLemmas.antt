@@ -1,7 +1,8 @@
 -- Bare words that were read are the only segment of a message.
-use Rattle.std.proofs.Common.{◌≡◌, ℕ, zero, suc, ◌+◌, ◌-◌, ◌*◌, ◌/◌, ◌%◌, ◌^◌, ◌<◌, ◌≤◌, List, [], ◌∷◌, ◌++◌, length, take, drop, refl, sym, ap, ap₂, ◌∙◌, subst, arith, add-zero, append-nil, length-append, length-take, take_at, drop_at, slice_get, slice_index, Option, Some, None, IfSome}
+use Rattle.std.proofs.Common.{◌≡◌, ℕ, zero, suc, ◌+◌, ◌-◌, ◌*◌, ◌/◌, ◌%◌, ◌^◌, ◌<◌, ◌≤◌, List, [], ◌∷◌, ◌++◌, length, take, drop, refl, sym, ap, ap₂, ◌∙◌, subst, arith, add-zero, append-nil, append_assoc, length-append, length-take, take_at, drop_at, slice_get, slice_index, Option, Some, None, IfSome}
 use Rattle.std.specs.Int.{from_le_bytes, to_le_bytes, w32}
 use Rattle.std.specs.Io.KnownBytes.{Consumes, IsAtEnd}
+use Rattle.std.proofs.lemmas.Grind.{common_steps}
 use Rattle.std.proofs.lemmas.List.{take-append-le}
 use Rattle.std.proofs.lemmas.List.Elements.{All-head, All-tail}
 use Rattle.std.proofs.lemmas.Nat.{from_le_bytes-to_le_bytes_4, from_le_bytes-to_le_bytes_8}
@@ -85,6 +86,15 @@ only_at bytes short (suc k) s e = absurd (cc e)
 
 pub only_small : (segments : List (List ℕ)) (bytes : List ℕ) → segments ≡ bytes ∷ [] → length bytes / 8 < 2 ^ 32 → IsSmall segments
 only_small segments bytes only short = subst IsSmall (sym only) (omega arith, only_at bytes short)
+
+-- one byte more is kept behind others
+pub byte_kept : {new : List ℕ} (list front bytes : List ℕ) (i : ℕ) → i < length bytes → list ≡ front ++ take i bytes → new ≡ list ++ slice_index bytes i ∷ [] → new ≡ front ++ take (i + 1) bytes
+byte_kept list front bytes i there is one =
+    one ∙ ap (λ (xs : List ℕ). xs ++ slice_index bytes i ∷ []) is ∙ append_assoc front (take i bytes) (slice_index bytes i ∷ [])
+    ∙ ap (λ (xs : List ℕ). front ++ xs) (taken bytes i there)
+  where
+    taken : (bytes : List ℕ) (i : ℕ) → i < length bytes → take i bytes ++ slice_index bytes i ∷ [] ≡ take (i + 1) bytes
+    taken bytes i there = grind (arith, common_steps)
 
 -- whole words within the limit are refused for nothing that they hold
 

@@ -233,7 +233,8 @@ fn are_bytes(bytes: &[u8])
 #[inline(always)]
 fn read_count<R: Input>(input: &mut R, first: &mut [u8; 4]) -> Result<Option<usize>, FrameError>
     requires { R.has_failed input.old ≡ false }
-    ensures end { result ≡ Ok None → IsAtEnd (R.remaining input.old) × IsAtEnd (R.remaining input.new) }
+    ensures end { result ≡ Ok None
+        → IsAtEnd (R.remaining input.old) × IsAtEnd (R.remaining input.new) }
     ensures bytes { IfOk result (λ m. OnSome m
         (Consumes (R.remaining input.old) (R.remaining input.new) first.new)) }
     ensures told { IfOk result (λ m. IfSome m (λ n. n ≡ segments_told first.new)) }

@@ -15,7 +15,6 @@ struct Given {
 }
 
 /// Counts what a packed byte gives at a place.
-#[tactic(auto, using(crate::proofs::SliceLemmas::given_long))]
 fn count_given(place: Place, byte: u8) -> Given
     ensures count { result.count ≡ length (all_given place byte) }
     ensures next { result.next ≡ place_after place byte }
@@ -33,7 +32,6 @@ fn count_given(place: Place, byte: u8) -> Given
 }
 
 /// Puts what a packed byte gives at a place to the front.
-#[tactic(auto, using(crate::proofs::SliceLemmas::given_long))]
 fn put_given(place: Place, byte: u8, to: &mut [u8]) -> Given
     requires { length (all_given place byte) ≤ length to.old }
     ensures bytes { take result.count to.new ≡ all_given place byte }
