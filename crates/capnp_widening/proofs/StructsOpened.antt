@@ -1,5 +1,5 @@
 -- Structs that are opened for writing.
-use Rattle.std.proofs.Common.{[], ◌≡◌, inl, Bool, true, false, ℕ, ◌+◌, ◌≤◌, max, List, length, Some, None, Ok, Err, refl, sym, ap, ap₂, ◌∙◌, subst, arith}
+use Rattle.std.proofs.Common.{[], ◌≡◌, inl, Bool, true, false, ℕ, ◌+◌, ◌≤◌, max, List, length, Some, None, Ok, Err, refl, sym, ap, ap₂, ◌∙◌, subst, arith, IfOk, IfErr, Result}
 use Rattle.std.proofs.lemmas.Grind.{common_steps}
 use Rattle.capnp_words.specs.declared.error.ErrorKind.{ErrorKind}
 use Rattle.capnp_words.specs.declared.error.ErrorKind.TheVariants.{AllocationFailed}
@@ -21,7 +21,7 @@ use Rattle.capnp_making.proofs.Memory.{keeps_itself, spends_nothing, not_the_all
 use Rattle.capnp_making.proofs.Placed.{count-nulls}
 use Rattle.capnp_making.proofs.Replaced.{grown}
 use Rattle.capnp_making.specs.Makes.{call_at}
-use Rattle.capnp_widening.specs.Anew.{StandsAnew}
+use Rattle.capnp_widening.specs.Anew.{StandsAnew, MakesStructWider}
 use Rattle.capnp_widening.specs.Opening.{LeadsToOne, OpensStruct, struct_opened}
 use Rattle.capnp_widening.specs.Rooms.{direct_pointers, RefusesGrowth, RefusesToBecome, widened_words}
 use Rattle.capnp_widening.specs.Widened.{fill_words, fill_trees, GrowsByZeros, widened}
@@ -211,3 +211,13 @@ struct_unmade a b s p size k place null same named full =
       taken = omega (arith, ap all_words same);
       full = inl (subst (λ n. RefusesWords a b n k) words refused.0, same);
     }
+
+-- a known one made wider, or memory refused
+pub known_opened : (a b : View) (s p : ℕ) (t : Tree) (old : ExistingStruct) (size : StructSize) (r : Result ExistingStruct ErrorKind) → IsStored a.words s p t → struct_in (target a.words s p) t ≡ Some old →
+    ((u : Tree) → IsStored a.words s p u → struct_in (target a.words s p) u ≡ Some old) → (size.data_words ≤ old.size.data_words → size.pointers ≤ old.size.pointers → ⊥) → MakesStructWider r (IsStored a.words s p) size (call_at s p a b) →
+    IfOk r (λ e. (e.size.data_words ≡ max old.size.data_words size.data_words) × (e.size.pointers ≡ max old.size.pointers size.pointers)) →
+    IfErr r (RefusesGrowth a b (max old.size.data_words size.data_words + max old.size.pointers size.pointers) old.size.pointers) → GrowsForStruct a.words b.words s p size → OpensStruct LeadsToOne size r (call_at s p a b) t
+known_opened a b s p t old size (Ok f) stored found known narrow w sizes full few =
+    struct_wider a b s p t old f size f.size stored found (record { widened = w.replaced; leads = w.leads; memory = w.granted; anew = w.anew; narrow = narrow }) sizes.0 sizes.1
+known_opened a b s p t old size (Err k) stored found known narrow w sizes full few =
+    struct_kept a b s p t old size k stored found narrow w.refused (struct_unwidened a b s p old size k known w.memory full) few

@@ -1,17 +1,13 @@
 -- Structs and lists of structs that are opened for writing, at least as large as asked for
 -- ("Structs", "Lists").
-use Rattle.std.specs.Prelude.{◌≡◌, ◌⊎◌, ℕ, ◌+◌, ◌*◌, ◌^◌, ◌≤◌, length, max, if◌then◌else◌, nat_lt, Option}
+use Rattle.std.specs.Prelude.{◌≡◌, ◌⊎◌, ℕ, ◌+◌, ◌*◌, ◌≤◌, length, Option}
 use Rattle.std.specs.Prelude.{Some, None, IfSome, Result, Ok, Err}
 use Rattle.capnp_words.specs.declared.error.ErrorKind.{ErrorKind}
-use Rattle.capnp_words.specs.declared.error.ErrorKind.TheVariants.{FoundBitListWhereStructListWasExpected}
 use Rattle.capnp_words.specs.declared.error.ErrorKind.TheVariants.{MessageContainsNonStructPointerWhereStructPointerWasExpected}
-use Rattle.capnp_words.specs.declared.error.ErrorKind.TheVariants.{MessageTooLarge}
 use Rattle.capnp_format.specs.Forest.{target}
 use Rattle.capnp_format.specs.Segments.{Segments, segment}
 use Rattle.capnp_format.specs.Tree.{Tree, Null, Struct}
-use Rattle.capnp_words.specs.declared.wire_pointer.ElementSize.{ElementSize}
-use Rattle.capnp_words.specs.declared.wire_pointer.ElementSize.TheVariants.{Void, Bit, Pointer}
-use Rattle.capnp_words.specs.declared.wire_pointer.ElementSize.TheVariants.{InlineComposite}
+use Rattle.capnp_words.specs.declared.wire_pointer.ElementSize.TheVariants.{Void}
 use Rattle.capnp_words.specs.declared.wire_pointer.StructSize.{StructSize}
 use Rattle.capnp_contents.specs.declared.existing.ExistingList.{ExistingList}
 use Rattle.capnp_contents.specs.declared.existing.ExistingStruct.{ExistingStruct}
@@ -95,17 +91,3 @@ abbrev pub OpensExistingList : StructSize → Result (Option ExistingList) Error
 OpensExistingList size result c Null = (result ≡ Ok None) × (c.new ≡ c.old)
 OpensExistingList size result c t =
     Opens size LeadsToAll c t (list_widened size.data_words size.pointers t) result
-
--- Structs of so many words, which are 2^29 or more, are too large for a list.
-abbrev pub refusal_of_words : ℕ → Option ErrorKind
-refusal_of_words n = if nat_lt n (2 ^ 29) then None else Some (MessageTooLarge n)
-
--- Why n elements make no structs of at least a size, if they don't: elements of an element size,
--- which are structs of the size had or no structs.
-abbrev pub refusal_of_elements : StructSize → ElementSize → StructSize → ℕ → Option ErrorKind
-refusal_of_elements size Void had n = refusal_of_words (n * (size.data_words + size.pointers))
-refusal_of_elements size Bit had n = Some FoundBitListWhereStructListWasExpected
-refusal_of_elements size Pointer had n = refusal_of_words (n * (size.data_words + max 1 size.pointers))
-refusal_of_elements size InlineComposite had n =
-    refusal_of_words (n * (max had.data_words size.data_words + max had.pointers size.pointers))
-refusal_of_elements size other had n = refusal_of_words (n * (max 1 size.data_words + size.pointers))

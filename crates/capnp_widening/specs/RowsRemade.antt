@@ -209,6 +209,9 @@ pub record MakesListWider {B : Type 0} (result : Result B ErrorKind) (Stands : T
   pub memory : IfErr result (SpendsMemory c.old c.new)
   pub refused : OnErr result ((t : Tree) → Stands t → GrowsByZeros c.old.words c.new.words)
   pub named : IfErr result (RefusesWider Stands size c.old c.new)
+  pub exact : (t : Tree) (k : ErrorKind) → Stands t →
+      list_widened size.data_words size.pointers t ≡ Err k →
+      (c.new ≡ c.old) × IfErr result (λ name. name ≡ k)
   pub fits : WiderListFits Stands c.old c.segment c.at size → IsOk result
   pub few : (t u : Tree) → Stands t → list_widened size.data_words size.pointers t ≡ Ok u →
       GrowsByAtMost c.old.words c.new.words (widened_words u + 1 + 2 * direct_pointers t)

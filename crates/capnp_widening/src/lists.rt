@@ -1,5 +1,5 @@
 //! Lists made lists of structs of at least a wanted size.
-ghost use Rattle.std.specs.Prelude.{ℕ, ◌⊎◌, ◌≡◌, ◌<◌, ◌≤◌, ◌^◌, IsOk, IfOk};
+ghost use Rattle.std.specs.Prelude.{ℕ, ◌⊎◌, ◌≡◌, ◌<◌, ◌≤◌, ◌^◌, ◌↔◌, IsTrue, IsOk, IfOk};
 ghost use Rattle.capnp_format.specs.Segments.{IsPlace};
 ghost use Rattle.capnp_format.specs.Tree.{Tree, Elements, Null, Structs};
 ghost use Rattle.capnp_words.specs.Sizes.{size_number};
@@ -8,10 +8,11 @@ ghost use Rattle.capnp_making.specs.Stored.{IsStored, IsReplaced};
 ghost use Rattle.capnp_widening.specs.Opening.{LeadsToAll};
 ghost use Rattle.capnp_widening.specs.RowsRemade.{IsList, MakesListWider, WidensTo};
 ghost use Rattle.capnp_widening.specs.Widened.{list_widened};
+ghost use Rattle.capnp_words.specs.declared.wire_pointer.ElementSize.TheVariants.{InlineComposite};
 
 use crate::numbers::widen_numbers;
 use crate::remaking::{ElementRows, widen_rows};
-use crate::widening::greater;
+use crate::widening::{greater, is_wide};
 use capnp_arena_traits::arena::BuilderArena;
 use capnp_contents::existing::{self, ExistingList};
 use capnp_words::error::ErrorKind;
@@ -48,6 +49,9 @@ pub fn get_struct_list<A: BuilderArena>(
 {
     match existing::get_list(arena, id, at, ElementSize::Void)? {
         Some(old) => {
+            if is_wide_list(old, size) {
+                return Ok(Some(old));
+            }
             let list = widen_list(arena, id, at, old, size)?;
             Ok(Some(list))
         }
@@ -55,7 +59,17 @@ pub fn get_struct_list<A: BuilderArena>(
     }
 }
 
-/// A list made one of structs, by what its elements are.
+/// Whether a list is one of structs with sections as large as wanted.
+fn is_wide_list(list: ExistingList, wanted: StructSize) -> bool
+    ensures { IsTrue result
+        ↔ ((list.size ≡ InlineComposite)
+        × (wanted.data_words ≤ list.struct_size.data_words)
+        × (wanted.pointers ≤ list.struct_size.pointers)) }
+{
+    list.size == ElementSize::InlineComposite && is_wide(list.struct_size, wanted)
+}
+
+/// A list made one of structs, by what its elements are. It isn't one of large enough structs.
 fn widen_list<A: BuilderArena>(
     arena: &mut A,
     id: u32,
@@ -65,13 +79,12 @@ fn widen_list<A: BuilderArena>(
 ) -> Result<ExistingList, ErrorKind>
     requires place { IsPlace (A.view arena.old).words id at }
     requires few { old.count < 2 ^ 30 }
+    requires narrow { size_number old.size ≡ 7 → size.data_words ≤ old.struct_size.data_words
+        → size.pointers ≤ old.struct_size.pointers → ⊥ }
     ensures widened { IfOk result (WidensTo old size
         (call_at id at (A.view arena.old) (A.view arena.new))) }
     ensures wider { MakesListWider result (IsList (A.view arena.old).words id at old) size
         (call_at id at (A.view arena.old) (A.view arena.new)) }
-    ensures stays { size_number old.size ≡ 7 → size.data_words ≤ old.struct_size.data_words
-        → size.pointers ≤ old.struct_size.pointers
-        → IsOk result × (A.view arena.new ≡ A.view arena.old) }
 {
     match old.size {
         ElementSize::Void => widen_void(arena, id, at, old, size),
@@ -85,9 +98,8 @@ fn widen_list<A: BuilderArena>(
     }
 }
 
-/// A list of structs, where the pointer at a place leads to it, with both sections of its structs at least
-/// as large as asked for. Where one is too small, the list stands anew with each section as large as the
-/// greater of old and wanted.
+/// A list of structs of which a section is too small, where the pointer at a place leads to it, made anew
+/// with each section as large as the greater of old and wanted.
 ///
 /// Structs that would take 2^29 words or more are `MessageTooLarge` of these words. Every other refusal is
 /// that of memory, or `MessageTooLarge`; the old list stands then.
@@ -100,18 +112,14 @@ fn widen_structs<A: BuilderArena>(
 ) -> Result<ExistingList, ErrorKind>
     requires place { IsPlace (A.view arena.old).words id at }
     requires kind { size_number old.size ≡ 7 }
+    requires narrow { size.data_words ≤ old.struct_size.data_words
+        → size.pointers ≤ old.struct_size.pointers → ⊥ }
     ensures widened { IfOk result (WidensTo old size
         (call_at id at (A.view arena.old) (A.view arena.new))) }
     ensures wider { MakesListWider result (IsList (A.view arena.old).words id at old) size
         (call_at id at (A.view arena.old) (A.view arena.new)) }
-    ensures stays { size.data_words ≤ old.struct_size.data_words
-        → size.pointers ≤ old.struct_size.pointers
-        → IsOk result × (A.view arena.new ≡ A.view arena.old) }
 {
     let had = old.struct_size;
-    if size.data_words <= had.data_words && size.pointers <= had.pointers {
-        return Ok(old);
-    }
     let rows = ElementRows {
         segment: old.segment,
         at: old.start.saturating_sub(1),

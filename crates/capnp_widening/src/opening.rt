@@ -1,5 +1,5 @@
 //! Structs and lists of structs opened for writing, at least as large as asked for ("Structs", "Lists").
-ghost use Rattle.std.specs.Prelude.{◌-◌, ◌≡◌, ◌↔◌, ◌+◌, ◌*◌, ◌^◌, ◌≤◌, max, IsTrue, IsOk, Some, IfSome, IfOk, OnOk, IfErr, OnErr};
+ghost use Rattle.std.specs.Prelude.{◌-◌, ◌≡◌, ◌+◌, ◌^◌, ◌≤◌, IsOk, Some, IfOk, OnOk, IfErr, OnErr};
 ghost use Rattle.capnp_format.specs.Forest.{target};
 ghost use Rattle.capnp_format.specs.Segments.{IsPlace, word_at};
 ghost use Rattle.capnp_format.specs.Tree.{Tree, Null};
@@ -8,21 +8,19 @@ ghost use Rattle.capnp_format.specs.Word.{struct_word};
 ghost use Rattle.capnp_making.specs.Memory.{HasRoom, KeepsMemory, SpendsMemory, TakesWords, StandsBehind, start_of};
 ghost use Rattle.capnp_making.specs.Stored.{IsStored};
 ghost use Rattle.capnp_making.specs.Makes.{call_at};
-ghost use Rattle.capnp_widening.specs.Opening.{IsNoWider, LeadsToOne, OpensStruct, struct_opened, OpensExistingList, refusal_of_elements, existing_struct};
+ghost use Rattle.capnp_widening.specs.Opening.{IsNoWider, LeadsToOne, OpensStruct, struct_opened, OpensExistingList, existing_struct};
 ghost use Rattle.capnp_widening.specs.Rooms.{RefusesToBecome, WiderListFits, OpeningFits, WiderStructFits};
 ghost use Rattle.capnp_widening.specs.RowsRemade.{RefusesWider};
 ghost use Rattle.capnp_widening.specs.Widened.{IsAtLeast};
-ghost use Rattle.capnp_words.specs.declared.error.ErrorKind.TheVariants.{AllocationFailed};
-ghost use Rattle.capnp_words.specs.declared.wire_pointer.ElementSize.TheVariants.{InlineComposite};
 
 use crate::lists::get_struct_list;
-use crate::widening::{greater, widen_known};
+use crate::widening::{is_wide, widen_known};
 use capnp_arena_traits::arena::BuilderArena;
 use capnp_contents::existing::{self, ExistingList, ExistingStruct};
 use capnp_making::landing::word_of;
 use capnp_making::making::{Start, make_struct};
 use capnp_words::error::ErrorKind;
-use capnp_words::wire_pointer::{ElementSize, StructSize};
+use capnp_words::wire_pointer::StructSize;
 
 /// The struct that the pointer at a place leads to, with sections at least as large as asked for: a new
 /// one, all zero, where the pointer is null, and a wider one where a section is too small. A struct that is
@@ -144,31 +142,7 @@ fn open_narrow_struct<A: BuilderArena>(
         start: start.at,
         size: narrow,
     };
-    let wide = widen_known(arena, id, at, old, size)?;
-    Ok(ExistingStruct {
-        segment: wide.segment,
-        start: wide.start,
-        size: greater_size(narrow, size),
-    })
-}
-
-/// Whether both sections are as large as wanted.
-fn is_wide(size: StructSize, wanted: StructSize) -> bool
-    ensures { IsTrue result
-        ↔ ((wanted.data_words ≤ size.data_words) × (wanted.pointers ≤ size.pointers)) }
-{
-    wanted.data_words <= size.data_words && wanted.pointers <= size.pointers
-}
-
-/// Each section as large as the greater of two.
-fn greater_size(a: StructSize, b: StructSize) -> StructSize
-    ensures data_words { result.data_words ≡ max a.data_words b.data_words }
-    ensures pointers { result.pointers ≡ max a.pointers b.pointers }
-{
-    StructSize {
-        data_words: greater(a.data_words, b.data_words),
-        pointers: greater(a.pointers, b.pointers),
-    }
+    widen_known(arena, id, at, old, size)
 }
 
 /// The list that the pointer at a place leads to, as a list of structs with sections at least as large as
@@ -194,49 +168,5 @@ pub fn open_struct_list<A: BuilderArena>(
     ensures fits { WiderListFits (IsStored (A.view arena.old).words id at)
         (A.view arena.old) id at size → IsOk result }
 {
-    match existing::get_list(arena, id, at, ElementSize::Void)? {
-        Some(old) => {
-            if is_wide_list(old, size) {
-                return Ok(Some(old));
-            }
-            match refusal_of_list(old, size) {
-                Some(k) => Err(k),
-                None => get_struct_list(arena, id, at, size),
-            }
-        }
-        None => Ok(None),
-    }
-}
-
-/// Whether a list is one of structs with sections as large as wanted.
-fn is_wide_list(list: ExistingList, wanted: StructSize) -> bool
-    ensures { IsTrue result
-        ↔ ((list.size ≡ InlineComposite)
-        × (wanted.data_words ≤ list.struct_size.data_words)
-        × (wanted.pointers ≤ list.struct_size.pointers)) }
-{
-    list.size == ElementSize::InlineComposite && is_wide(list.struct_size, wanted)
-}
-
-/// Why the elements of a list make no structs of at least a size, if they don't.
-fn refusal_of_list(list: ExistingList, wanted: StructSize) -> Option<ErrorKind>
-    ensures found { result ≡ refusal_of_elements wanted list.size list.struct_size list.count }
-    ensures named { IfSome result (λ k. k ≡ AllocationFailed → ⊥) }
-{
-    let mut size = wanted;
-    match list.size {
-        ElementSize::Void => {}
-        ElementSize::Bit => return Some(ErrorKind::FoundBitListWhereStructListWasExpected),
-        ElementSize::Pointer => size.pointers = greater(1, wanted.pointers),
-        ElementSize::InlineComposite => size = greater_size(list.struct_size, wanted),
-        ElementSize::Byte
-        | ElementSize::TwoBytes
-        | ElementSize::FourBytes
-        | ElementSize::EightBytes => size.data_words = greater(1, wanted.data_words),
-    }
-    let words = u64::from(list.count) * u64::from(size.total());
-    if words >= 0x2000_0000 {
-        return Some(ErrorKind::MessageTooLarge(words as usize));
-    }
-    None
+    get_struct_list(arena, id, at, size)
 }

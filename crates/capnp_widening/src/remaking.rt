@@ -5,6 +5,7 @@ ghost use Rattle.capnp_arena_traits.specs.View.{KeepsLimits};
 ghost use Rattle.capnp_format.specs.Segments.{Segments, segment, IsPlace, Grows};
 ghost use Rattle.capnp_making.specs.Made.{structs_words};
 ghost use Rattle.capnp_making.specs.Memory.{KeepsMemory, SpendsMemory, RefusesWords, StandsBehind, TakesWords};
+ghost use Rattle.capnp_words.specs.declared.error.ErrorKind.TheVariants.{MessageTooLarge};
 ghost use Rattle.capnp_widening.specs.Rooms.{GrowsByAtMost, HasPadRoom, HasRoomAndPads, RefusesGrowth};
 ghost use Rattle.capnp_widening.specs.Housed.{IsRoom, object_start};
 ghost use Rattle.capnp_widening.specs.Moved.{MovesSome, Unmoves, near_pointers};
@@ -201,6 +202,9 @@ pub(crate) fn widen_rows<A: BuilderArena>(
     ensures made { MakesListAnew result (StoresRows (A.view arena.old).words id at old) size
         (call_at id at (A.view arena.old) (A.view arena.new)) }
     ensures small { OnOk result (old.count * (size.data_words + size.pointers) < 2 ^ 29) }
+    ensures large { 2 ^ 29 ≤ old.count * (size.data_words + size.pointers)
+        → (A.view arena.new ≡ A.view arena.old)
+        × IfErr result (λ k. k ≡ MessageTooLarge (old.count * (size.data_words + size.pointers))) }
     ensures named { IfErr result
         (RefusesRows old size (call_at id at (A.view arena.old) (A.view arena.new))) }
     ensures few { GrowsByAtMost (A.view arena.old).words (A.view arena.new).words

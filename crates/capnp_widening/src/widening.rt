@@ -1,7 +1,7 @@
 //! Structs and lists made wider where they are too small: the object stands anew in more words, its
 //! pointers are moved there, and at last its pointer is overwritten. Until then the old object stands
 //! as it was, and a refusal leaves nothing but zeros.
-ghost use Rattle.std.specs.Prelude.{ℕ, Some, ◌≡◌, ◌≢◌, ◌<◌, ◌≤◌, ◌+◌, ◌*◌, ◌^◌, max, List, length, IsOk, IfOk, OnOk, IfErr, OnErr};
+ghost use Rattle.std.specs.Prelude.{ℕ, Some, ◌≡◌, ◌≢◌, ◌↔◌, ◌<◌, ◌≤◌, ◌+◌, ◌*◌, ◌^◌, max, List, IsTrue, length, IsOk, IfOk, OnOk, IfErr, OnErr};
 ghost use Rattle.capnp_arena_traits.specs.View.{KeepsLimits};
 ghost use Rattle.capnp_format.specs.Segments.{segment, IsPlace};
 ghost use Rattle.capnp_format.specs.Forest.{target};
@@ -151,6 +151,9 @@ pub(crate) fn widen_known<A: BuilderArena>(
         → size.pointers ≤ old.size.pointers → ⊥ }
     ensures wider { MakesStructWider result (IsStored (A.view arena.old).words id at) size
         (call_at id at (A.view arena.old) (A.view arena.new)) }
+    ensures size { IfOk result (λ e.
+        (e.size.data_words ≡ max old.size.data_words size.data_words)
+        × (e.size.pointers ≡ max old.size.pointers size.pointers)) }
     ensures full { IfErr result (RefusesGrowth (A.view arena.old) (A.view arena.new)
         (max old.size.data_words size.data_words + max old.size.pointers size.pointers)
         old.size.pointers) }
@@ -172,6 +175,14 @@ pub(crate) fn greater(a: u16, b: u16) -> u16
     ensures { result ≡ max a b }
 {
     if a < b { b } else { a }
+}
+
+/// Whether both sections are as large as wanted.
+pub(crate) fn is_wide(size: StructSize, wanted: StructSize) -> bool
+    ensures { IsTrue result
+        ↔ ((wanted.data_words ≤ size.data_words) × (wanted.pointers ≤ size.pointers)) }
+{
+    wanted.data_words <= size.data_words && wanted.pointers <= size.pointers
 }
 
 /// Where the data section of a struct starts.

@@ -1,21 +1,37 @@
 use Rattle.std.proofs.lemmas.Result.{err_from_is_err_and}
-use Rattle.std.proofs.Common.{◌≡◌, inl, inr, refl, sym, ap, ◌∙◌, Ok, arith}
-use Rattle.capnp_format.specs.Tree.{Tree, Null, Structs, element_count}
+use Rattle.std.proofs.Common.{◌≡◌, inl, inr, refl, sym, ap, ◌∙◌, Ok, arith, ◌⊎◌, ◌≤◌, ℕ, Some, subst, rules}
+use Rattle.capnp_format.specs.Tree.{Tree, Null, Structs, element_count, Elements}
 use Rattle.capnp_words.specs.Sizes.{size_number}
 use Rattle.capnp_contents.specs.declared.existing.ExistingList.{ExistingList}
-use Rattle.capnp_contents.specs.Existing.{struct_list}
+use Rattle.capnp_contents.specs.Existing.{struct_list, list_in}
 use Rattle.capnp_format.specs.Segments.{Segments}
 use Rattle.capnp_format.specs.Forest.{target}
 use Rattle.capnp_arena_traits.specs.View.{View}
 use Rattle.capnp_making.specs.Stored.{IsStored}
 use Rattle.capnp_making.proofs.Memory.{keeps_itself}
 use Rattle.capnp_widening.proofs.AnyList.{none_is_null, null_stays, null_leads, list_widens, list_leads, unfound_refused}
-use Rattle.capnp_widening.proofs.Listed.{same_list, not_a_list}
-use Rattle.capnp_widening.proofs.Rooms.{not_true}
+use Rattle.capnp_widening.proofs.Listed.{same_list, not_a_list, never_refused, same_refusal}
 use Rattle.capnp_widening.proofs.ListRooms.{not_refused, null_found, found_none}
 use Rattle.capnp_widening.proofs.StructSteps.{nothing_grown}
 use Rattle.capnp_widening.proofs.Unspent.{unfound_spent}
+use Rattle.capnp_widening.specs.Widened.{list_widened}
+use Rattle.capnp_words.specs.declared.wire_pointer.StructSize.{StructSize}
+use Rattle.capnp_words.specs.declared.wire_pointer.ElementSize.{ElementSize}
+use Rattle.capnp_words.specs.declared.wire_pointer.ElementSize.TheVariants.{Void, Bit, Byte, TwoBytes, FourBytes, EightBytes, Pointer, InlineComposite}
+use Rattle.capnp_widening.proofs.StructLists.{structs_kept}
+use Rattle.capnp_widening.proofs.ListsAnew.{structs_not_anew}
+use Rattle.capnp_widening.proofs.StructsOpened.{no_truth}
 use Rattle.capnp_widening.proofs.lists.get_struct_list.Goals as goal
+
+is_composite : (size : ElementSize) → size_number size ≡ 7 → size ≡ InlineComposite
+is_composite Void e = absurd (omega arith)
+is_composite Bit e = absurd (omega arith)
+is_composite Byte e = absurd (omega arith)
+is_composite TwoBytes e = absurd (omega arith)
+is_composite FourBytes e = absurd (omega arith)
+is_composite EightBytes e = absurd (omega arith)
+is_composite Pointer e = absurd (omega arith)
+is_composite InlineComposite e = refl
 
 -- Null stays.
 pub returns-in-None-clause-widened : goal.returns-in-None-clause-widened
@@ -37,6 +53,36 @@ returns-in_ok-list-in-Some-clause-widened g c =
     (let (u, e, made) = list_widens S R c.args.id c.args.at c.args.size c.in-Some.old c.in_ok-list-in-Some.list found widens t x in
     (u, e, made, list_leads S R c.args.id c.args.at c.args.size c.in-Some.old c.in_ok-list-in-Some.list found widens t u x e))
 
+-- One of large enough structs is given as it stands.
+pub returns-then-is_wide_list-clause-widened : goal.returns-then-is_wide_list-clause-widened
+returns-then-is_wide_list-clause-widened g c =
+    let S : Segments = (g.A.BuilderArena.view c.args.arena.now).words in
+    let found = λ (t : Tree) (x : IsStored S c.args.id c.args.at t). sym (ap Ok c.in-Some.is) ∙ c.in_ok-old.ensures.found t x in
+    let wide = c.is_wide_list.ensures.0 (search rules) in
+    let widens = structs_kept S c.args.id c.args.at c.in-Some.old c.args.size (ap size_number wide.0) wide.1 wide.2 in
+    λ t x.
+    (let (u, e, made) = list_widens S S c.args.id c.args.at c.args.size c.in-Some.old c.in-Some.old found widens t x in
+    (u, e, made, list_leads S S c.args.id c.args.at c.args.size c.in-Some.old c.in-Some.old found widens t u x e))
+
+pub returns-then-is_wide_list-clause-wider : goal.returns-then-is_wide_list-clause-wider
+returns-then-is_wide_list-clause-wider g c =
+    let v : View = g.A.BuilderArena.view c.args.arena.now in
+    let found = λ (t : Tree) (x : IsStored v.words c.args.id c.args.at t). sym (ap Ok c.in-Some.is) ∙ c.in_ok-old.ensures.found t x in
+    let wide = c.is_wide_list.ensures.0 (search rules) in
+    let kind = ap size_number wide.0 in
+    record {
+      anew = λ t u x some becomes narrow. structs_not_anew v c.args.id c.args.at c.in-Some.old c.args.size kind wide.1 wide.2 t u (x, sym (found t x)) some becomes narrow;
+      granted = keeps_itself v;
+      memory = tt;
+      refused = tt;
+      named = tt;
+      exact = λ t k x refused.
+          (let (u, e, made) = structs_kept v.words c.args.id c.args.at c.in-Some.old c.args.size kind wide.1 wide.2 t (x, sym (found t x)) in
+          absurd (never_refused u k (list_widened c.args.size.data_words c.args.size.pointers t) e refused));
+      fits = λ h. refl;
+      few = λ t u x e. omega arith;
+    }
+
 -- No list is found.
 pub returns-in_err-old-clause-wider : goal.returns-in_err-old-clause-wider
 returns-in_err-old-clause-wider g c =
@@ -49,6 +95,7 @@ returns-in_err-old-clause-wider g c =
       memory = unfound_spent v _ e.named;
       refused = λ t x. nothing_grown v.words _ refl;
       named = inl (refl, λ t x. unfound_refused (target v.words c.args.id c.args.at) t c.args.size.data_words c.args.size.pointers _ (sym (e.found t x)));
+      exact = λ t k x refused. (refl, same_refusal _ k _ (unfound_refused (target v.words c.args.id c.args.at) t c.args.size.data_words c.args.size.pointers _ (sym (e.found t x))) refused);
       fits = λ h.
           (let (t, u, x, becomes, fits) = h in
           absurd (not_refused _ _ u (unfound_refused (target v.words c.args.id c.args.at) t c.args.size.data_words c.args.size.pointers _ (sym (e.found t x))) becomes));
@@ -65,6 +112,9 @@ returns-in-None-clause-wider g c =
       memory = tt;
       refused = tt;
       named = tt;
+      exact = λ t k x refused.
+          (let null = none_is_null (target v.words c.args.id c.args.at) t (sym (sym (ap Ok c.in-None.is) ∙ c.in_ok-old.ensures.found t x)) in
+          absurd (never_refused Null k (list_widened c.args.size.data_words c.args.size.pointers t) (ap (list_widened c.args.size.data_words c.args.size.pointers) null) refused));
       fits = λ h. refl;
       few = λ t u x e. omega arith;
     }
@@ -79,6 +129,7 @@ returns-in_ok-list-in-Some-clause-wider g c =
       memory = tt;
       refused = tt;
       named = tt;
+      exact = λ t k x refused. e.exact t k (x, sym (sym (ap Ok c.in-Some.is) ∙ c.in_ok-old.ensures.found t x)) refused;
       fits = λ h. refl;
       few = λ t u x becomes. e.few t u (x, sym (sym (ap Ok c.in-Some.is) ∙ c.in_ok-old.ensures.found t x)) becomes;
     }
@@ -100,6 +151,7 @@ returns-in_err-list-in-Some-clause-wider g c =
           full = λ t u x becomes. growth.full t u (x, sym (sym (ap Ok c.in-Some.is) ∙ c.in_ok-old.ensures.found t x)) becomes;
         })
       ];
+      exact = λ t k x refused. e.exact t k (x, sym (sym (ap Ok c.in-Some.is) ∙ c.in_ok-old.ensures.found t x)) refused;
       fits = λ h. (let (t, u, x, becomes, fits) = h in e.fits (t, u, (x, sym (sym (ap Ok c.in-Some.is) ∙ c.in_ok-old.ensures.found t x)), becomes, fits));
       few = λ t u x becomes. e.few t u (x, sym (sym (ap Ok c.in-Some.is) ∙ c.in_ok-old.ensures.found t x)) becomes;
     })
@@ -113,29 +165,24 @@ returns-in_err-old-clause-stays g c =
     ]))
 
 -- Those that are large enough are given as they stand.
+wide_stays : (S : Segments) (s p : ℕ) (l : ExistingList) (size : StructSize) → ((t : Tree) → IsStored S s p t → Ok (Some l) ≡ list_in (target S s p) Void t) → ((l.size ≡ InlineComposite) × (size.data_words ≤ l.struct_size.data_words) × (size.pointers ≤ l.struct_size.pointers) → ⊥) →
+    IsStored S s p Null ⊎ ((d : ℕ) × (q : ℕ) × (es : Elements) × IsStored S s p (Structs d q es) × (size.data_words ≤ d) × (size.pointers ≤ q)) → ⊥
+wide_stays S s p l size found narrow (inl x) = found_none l (found Null x)
+wide_stays S s p l size found narrow (inr (d, q, es, x, m, n)) =
+    let same : struct_list (target S s p) d q (element_count es) ≡ l = same_list _ _ (sym (found (Structs d q es) x)) in
+    narrow (subst (λ (o : ExistingList). (o.size ≡ InlineComposite) × (size.data_words ≤ o.struct_size.data_words) × (size.pointers ≤ o.struct_size.pointers)) same (refl, m, n))
+
 pub returns-in_ok-list-in-Some-clause-stays : goal.returns-in_ok-list-in-Some-clause-stays
 returns-in_ok-list-in-Some-clause-stays g c = λ h.
-    (let S : Segments = (g.A.BuilderArena.view c.args.arena.now).words in
-    elim h [
-      | inl x ↦ absurd (found_none _ (sym (ap Ok c.in-Some.is) ∙ c.in_ok-old.ensures.found Null x))
-      | inr (d, q, es, x, l, m) ↦ (
-          let same : struct_list (target S c.args.id c.args.at) d q (element_count es) ≡ c.in-Some.old = same_list _ _ (sym (sym (ap Ok c.in-Some.is) ∙ c.in_ok-old.ensures.found (Structs d q es) x)) in
-          let data_of = ap (λ (o : ExistingList). o.struct_size.data_words) same in
-          let pointers_of = ap (λ (o : ExistingList). o.struct_size.pointers) same in
-          (refl, (c.widen_list.ensures.stays (sym (ap (λ (o : ExistingList). size_number o.size) same)) (omega (arith, l, data_of)) (omega (arith, m, pointers_of))).1)
-          )
-    ])
+    absurd (wide_stays (g.A.BuilderArena.view c.args.arena.now).words c.args.id c.args.at c.in-Some.old c.args.size (λ t x. sym (ap Ok c.in-Some.is) ∙ c.in_ok-old.ensures.found t x)
+    (λ wide. no_truth c.is_wide_list.result c.if-is_wide_list.false (c.is_wide_list.ensures.1 wide)) h)
 
 pub returns-in_err-list-in-Some-clause-stays : goal.returns-in_err-list-in-Some-clause-stays
 returns-in_err-list-in-Some-clause-stays g c =
     let p = err_from_is_err_and c.from_residual-in_err-list-in-Some.result c.from_residual-in_err-list-in-Some.ensures.1 in rw p.1 (λ h.
-    (let S : Segments = (g.A.BuilderArena.view c.args.arena.now).words in
-    absurd (elim h [
-      | inl x ↦ found_none _ (sym (ap Ok c.in-Some.is) ∙ c.in_ok-old.ensures.found Null x)
-      | inr (d, q, es, x, l, m) ↦ (
-          let same : struct_list (target S c.args.id c.args.at) d q (element_count es) ≡ c.in-Some.old = same_list _ _ (sym (sym (ap Ok c.in-Some.is) ∙ c.in_ok-old.ensures.found (Structs d q es) x)) in
-          let data_of = ap (λ (o : ExistingList). o.struct_size.data_words) same in
-          let pointers_of = ap (λ (o : ExistingList). o.struct_size.pointers) same in
-          not_true (c.in_err-list-in-Some.ensures.stays (sym (ap (λ (o : ExistingList). size_number o.size) same)) (omega (arith, l, data_of)) (omega (arith, m, pointers_of))).0
-          )
-    ])))
+    absurd (wide_stays (g.A.BuilderArena.view c.args.arena.now).words c.args.id c.args.at c.in-Some.old c.args.size (λ t x. sym (ap Ok c.in-Some.is) ∙ c.in_ok-old.ensures.found t x)
+    (λ wide. no_truth c.is_wide_list.result c.if-is_wide_list.false (c.is_wide_list.ensures.1 wide)) h))
+
+pub widen_list-requires-clause-narrow : goal.widen_list-requires-clause-narrow
+widen_list-requires-clause-narrow g c = λ is wide many.
+    no_truth c.is_wide_list.result c.if-is_wide_list.false (c.is_wide_list.ensures.1 (is_composite c.in-Some.old.size is, wide, many))

@@ -1,53 +1,27 @@
-use Rattle.std.proofs.Common.{◌≤◌, inl, inr, refl, arith, rules}
+use Rattle.std.proofs.Common.{◌≤◌, inl, inr, refl, arith, rules, ◌≡◌, ◌+◌, ◌*◌, ◌∙◌, ap, ap₂, sym}
 use Rattle.capnp_format.specs.Segments.{Segments}
 use Rattle.capnp_words.specs.declared.wire_pointer.StructSize.{StructSize}
 use Rattle.capnp_arena_traits.specs.View.{View}
-use Rattle.capnp_making.proofs.Memory.{keeps_itself}
 use Rattle.capnp_making.proofs.Outcomes.{on_err_so, on_made_so}
 use Rattle.capnp_making.specs.declared.making.Start.{Start}
-use Rattle.capnp_widening.proofs.Listed.{if_ok_both, if_err_so}
+use Rattle.capnp_widening.proofs.Listed.{if_ok_both, if_err_so, exact_rows, structs_widen}
 use Rattle.capnp_widening.proofs.AnyRows.{rows_inside}
 use Rattle.capnp_widening.proofs.ListRooms.{structs_are, rows_fit, rows_few, rows_refused}
-use Rattle.capnp_widening.proofs.StructLists.{rows_of, structs_kept, structs_widened_to, structs_left_as, structs_refused}
-use Rattle.capnp_widening.proofs.lists.widen_structs.Goals.{else-size-had-via-then-size-had+else-size-had-2, else-size-had-via-else-size-had}
-use Rattle.capnp_widening.proofs.ListsAnew.{structs_anew_to, structs_not_anew}
+use Rattle.capnp_widening.proofs.StructLists.{rows_of, structs_widened_to, structs_left_as, structs_refused, are_structs}
+use Rattle.capnp_widening.proofs.ListsAnew.{structs_anew_to}
+use Rattle.capnp_widening.specs.Widened.{list_widened}
+use Rattle.capnp_format.specs.Tree.{element_count}
+use Rattle.capnp_contents.specs.declared.existing.ExistingList.{ExistingList}
 use Rattle.capnp_widening.proofs.lists.widen_structs.Goals as goal
-
--- Both sections are large enough.
-pub returns-then-size-had-2-clause-widened : goal.returns-then-size-had-2-clause-widened
-returns-then-size-had-2-clause-widened g c =
-    let S : Segments = (g.A.BuilderArena.view c.args.arena.now).words in
-    let wide : c.args.size.data_words ≤ c.args.old.struct_size.data_words = search rules in
-    let many : c.args.size.pointers ≤ c.args.old.struct_size.pointers = search rules in
-    structs_kept S c.args.id c.args.at c.args.old c.args.size c.requires.kind wide many
 
 -- It stands anew, with each section as large as the greater of old and wanted.
 pub returns-clause-widened : goal.returns-clause-widened
 returns-clause-widened g c =
     let S : Segments = (g.A.BuilderArena.view c.args.arena.now).words in
     let R : Segments = (g.A.BuilderArena.view c.widen_rows.new.arena).words in
-    let narrow : c.args.size.data_words ≤ c.args.old.struct_size.data_words → c.args.size.pointers ≤ c.args.old.struct_size.pointers → ⊥ =
-    λ l m. elim c.else-size-had.branch [ else-size-had-via-then-size-had+else-size-had-2 w ↦ omega arith | else-size-had-via-else-size-had w ↦ omega arith ] in
+    let narrow = c.requires.narrow in
     if_ok_both c.widen_rows.result _ _ _ c.widen_rows.ensures.made.remade c.widen_rows.ensures.small
     (λ m made few. structs_widened_to S R c.args.id c.args.at c.args.old m c.args.size _ c.requires.kind narrow c.greater.ensures c.greater-2.ensures few (rw c.saturating_sub.ensures at made))
-
-pub returns-clause-stays : goal.returns-clause-stays
-returns-clause-stays g c = λ l m. absurd (elim c.else-size-had.branch [ else-size-had-via-then-size-had+else-size-had-2 w ↦ omega arith | else-size-had-via-else-size-had w ↦ omega arith ])
-
-pub returns-then-size-had-2-clause-wider : goal.returns-then-size-had-2-clause-wider
-returns-then-size-had-2-clause-wider g c =
-    let a : View = g.A.BuilderArena.view c.args.arena.now in
-    let wide : c.args.size.data_words ≤ c.args.old.struct_size.data_words = search rules in
-    let many : c.args.size.pointers ≤ c.args.old.struct_size.pointers = search rules in
-    record {
-      anew = structs_not_anew a c.args.id c.args.at c.args.old c.args.size c.requires.kind wide many;
-      granted = keeps_itself a;
-      memory = tt;
-      refused = tt;
-      named = tt;
-      fits = λ h. refl;
-      few = λ t u i becomes. omega arith;
-    }
 
 pub returns-clause-wider : goal.returns-clause-wider
 returns-clause-wider g c =
@@ -56,8 +30,7 @@ returns-clause-wider g c =
     let l = c.args.old in
     let size : StructSize = c.args.size in
     let wide : StructSize = record { data_words = c.greater.result; pointers = c.greater-2.result } in
-    let narrow : size.data_words ≤ l.struct_size.data_words → size.pointers ≤ l.struct_size.pointers → ⊥ =
-    λ l m. elim c.else-size-had.branch [ else-size-had-via-then-size-had+else-size-had-2 w ↦ omega arith | else-size-had-via-else-size-had w ↦ omega arith ] in
+    let narrow = c.requires.narrow in
     let start = c.saturating_sub.ensures in
     let e = c.widen_rows.ensures in
     record {
@@ -70,6 +43,11 @@ returns-clause-wider g c =
         | inr (memory, full) ↦ inr (rows_refused a b c.args.id c.args.at l (rows_of l) size wide k memory full
             (λ t u i e. structs_are a.words c.args.id c.args.at t u l size wide c.requires.kind narrow c.greater.ensures c.greater-2.ensures i e))
       ]);
+      exact = λ t k i refused.
+          (let v = are_structs a.words c.args.id c.args.at t l c.requires.kind i in
+          let n : l.count ≡ element_count v.elements = ap (λ (o : ExistingList). o.count) v.list in
+          exact_rows c.widen_rows.result _ _ _ _ k (ap₂ (λ x y. x * y) n (ap₂ (λ x y. x + y) c.greater.ensures c.greater-2.ensures)) e.large
+          (sym (ap (list_widened size.data_words size.pointers) v.tree ∙ structs_widen size.data_words size.pointers l.struct_size.data_words l.struct_size.pointers v.elements narrow) ∙ refused));
       fits = λ h.
           (let (t, u, i, becomes, fits) = h in
           let to : Start = record { segment = 0; at = 0 } in

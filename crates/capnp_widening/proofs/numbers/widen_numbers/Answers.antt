@@ -1,17 +1,19 @@
-use Rattle.std.proofs.Common.{◌≡◌, ◌∙◌, ◌≤◌, ◌<◌, ◌+◌, ◌*◌, ◌^◌, ℕ, Err, inl, inr, refl, sym, ap₂, subst, arith, rules}
+use Rattle.std.proofs.Common.{◌≡◌, ◌∙◌, ◌≤◌, ◌<◌, ◌+◌, ◌*◌, ◌^◌, ℕ, Err, inl, inr, refl, sym, ap₂, subst, arith, rules, ap, length}
 use Rattle.capnp_words.specs.declared.error.ErrorKind.TheVariants.{MessageTooLarge}
 use Rattle.capnp_words.specs.declared.wire_pointer.StructSize.{StructSize}
 use Rattle.capnp_format.specs.Segments.{Segments}
 use Rattle.capnp_arena_traits.specs.View.{View}
 use Rattle.capnp_making.proofs.Outcomes.{if_ok_so, on_err_so, on_made_so}
-use Rattle.capnp_widening.specs.Widened.{limited}
-use Rattle.capnp_widening.proofs.Listed.{err_both, if_err_both, too_many}
+use Rattle.capnp_widening.specs.Widened.{limited, list_widened}
+use Rattle.capnp_widening.proofs.Listed.{err_both, if_err_both, too_many, exact_few, same_refusal}
 use Rattle.capnp_widening.proofs.ListRooms.{numbers_take, numbers_unmade, numbers_fit, numbers_small}
 use Rattle.capnp_widening.proofs.NumberLists.{numbers_inside}
-use Rattle.capnp_widening.proofs.PlainLists.{numbers_widened_to, numbers_refused}
+use Rattle.capnp_widening.proofs.PlainLists.{numbers_widened_to, numbers_refused, are_numbers, numbers_limited}
 use Rattle.capnp_widening.proofs.StructSteps.{nothing_grown}
 use Rattle.capnp_widening.proofs.Unspent.{too_large_spent, outside_spent}
 use Rattle.capnp_widening.proofs.ListsAnew.{numbers_anew_to}
+use Rattle.capnp_contents.specs.declared.existing.ExistingList.{ExistingList}
+use Rattle.capnp_words.specs.Sizes.{size_number}
 use Rattle.capnp_widening.proofs.numbers.widen_numbers.Goals as goal
 
 pub returns-clause-widened : goal.returns-clause-widened
@@ -41,6 +43,7 @@ returns-then-words-ge536870912-clause-wider g c =
         refl,
         numbers_refused v.words c.args.id c.args.at c.args.old c.args.size wide _ c.requires.kind.0 c.requires.kind.1 c.greater.ensures refl (λ u. subst (λ x. limited n u ≡ Err (MessageTooLarge x)) (sym same) (too_many n u many)),
       );
+      exact = λ t k i refused. (refl, same_refusal _ k _ (numbers_refused v.words c.args.id c.args.at c.args.old c.args.size wide _ c.requires.kind.0 c.requires.kind.1 c.greater.ensures refl (λ u. subst (λ x. limited n u ≡ Err (MessageTooLarge x)) (sym same) (too_many n u many)) t i) refused);
       fits = λ h.
           (let (t, u, i, e, fits) = h in
           let words = numbers_take v.words c.args.id c.args.at t u c.args.old c.args.size wide c.requires.kind.0 c.requires.kind.1 c.greater.ensures refl i e in
@@ -59,6 +62,7 @@ returns-then-not-are_numbers_inside-clause-wider g c =
       memory = outside_spent v;
       refused = λ t i. nothing_grown v.words _ refl;
       named = inl (refl, λ t h. absurd (search (rules, numbers_inside _ c.args.id c.args.at t c.args.old c.requires.kind.1 h)));
+      exact = λ t k i refused. absurd (search (rules, numbers_inside _ c.args.id c.args.at t c.args.old c.requires.kind.1 i));
       fits = λ h. (let (t, u, i, e, fits) = h in absurd (search (rules, numbers_inside _ c.args.id c.args.at t c.args.old c.requires.kind.1 i)));
       few = λ t u i e. omega arith;
     }
@@ -77,6 +81,13 @@ returns-clause-wider g c =
       refused = on_err_so c.remake_numbers.result _ _ e.refused (λ same t i. nothing_grown a.words b.words same);
       named = if_err_both c.remake_numbers.result _ _ _ e.made.memory (err_both c.remake_numbers.result _ _ e.refused e.full) (λ k memory full. inr (numbers_unmade a b c.args.id c.args.at _ l c.args.size k memory full.0 full.1
           (λ t u i e. numbers_take a.words c.args.id c.args.at t u l c.args.size wide c.requires.kind.0 c.requires.kind.1 c.greater.ensures refl i e)));
+      exact = λ t k i refused.
+          (let v = are_numbers a.words c.args.id c.args.at t l c.requires.kind.1 i in
+          let n : l.count ≡ length v.numbers = ap (λ (o : ExistingList). o.count) v.list in
+          let same : c.from.result * c.from-2.result ≡ l.count * (c.greater.result + c.args.size.pointers) = ap₂ (λ x y. x * y) c.from.ensures (c.from-2.ensures ∙ c.total.ensures) in
+          let few : l.count * (c.greater.result + c.args.size.pointers) < 2 ^ 29 = subst (λ x. x < 2 ^ 29) same (omega arith) in
+          absurd (exact_few _ _ _ k (ap₂ (λ x y. x * (y + c.args.size.pointers)) n c.greater.ensures) few
+          (sym (ap (list_widened c.args.size.data_words c.args.size.pointers) v.tree_of ∙ numbers_limited c.args.size.data_words c.args.size.pointers (size_number l.size) v.numbers c.requires.kind.0) ∙ refused)));
       fits = λ h.
           (let (t, u, i, becomes, fits) = h in
           let words = numbers_take a.words c.args.id c.args.at t u l c.args.size wide c.requires.kind.0 c.requires.kind.1 c.greater.ensures refl i becomes in

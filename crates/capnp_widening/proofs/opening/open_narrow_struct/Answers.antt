@@ -1,23 +1,29 @@
-use Rattle.std.proofs.lemmas.Result.{err_from_is_err_and}
+use Rattle.std.proofs.Common.{◌≤◌, arith}
 use Rattle.capnp_arena_traits.specs.View.{View}
+use Rattle.capnp_making.proofs.Outcomes.{if_ok_so}
 use Rattle.capnp_widening.specs.Opening.{existing_struct}
-use Rattle.capnp_widening.proofs.StructsOpened.{struct_wider, struct_kept, struct_unwidened}
+use Rattle.capnp_widening.proofs.Listed.{if_err_both}
+use Rattle.capnp_widening.proofs.StructsOpened.{known_opened, struct_unwidened}
 use Rattle.capnp_widening.proofs.opening.open_narrow_struct.Goals as goal
 
 pub returns-clause-opened : goal.returns-clause-opened
 returns-clause-opened g c = λ t stored found.
-    struct_wider (g.A.BuilderArena.view c.args.arena.now) (g.A.BuilderArena.view c.widen_known.new.arena) c.args.id c.args.at t (existing_struct c.args.start c.args.narrow) c.in_ok-wide.wide c.args.size c.greater_size.result stored found
-    (record { widened = c.in_ok-wide.ensures.wider.replaced; leads = c.in_ok-wide.ensures.wider.leads; memory = c.in_ok-wide.ensures.wider.granted; anew = c.in_ok-wide.ensures.wider.anew; narrow = c.requires.narrow }) c.greater_size.ensures.data_words c.greater_size.ensures.pointers
+    (let e = c.widen_known.ensures in
+    known_opened (g.A.BuilderArena.view c.args.arena.now) (g.A.BuilderArena.view c.widen_known.new.arena) c.args.id c.args.at t (existing_struct c.args.start c.args.narrow) c.args.size c.widen_known.result stored found c.requires.known
+    c.requires.narrow e.wider e.size e.full e.few)
 
-pub returns-in_err-wide-clause-named : goal.returns-in_err-wide-clause-named
-returns-in_err-wide-clause-named g c =
-    let p = err_from_is_err_and c.from_residual.result c.from_residual.ensures.1 in rw (p.1, p.2) (struct_unwidened (g.A.BuilderArena.view c.args.arena.now) (g.A.BuilderArena.view c.widen_known.new.arena) c.args.id c.args.at (existing_struct c.args.start c.args.narrow) c.args.size _ c.requires.known c.in_err-wide.ensures.wider.memory c.in_err-wide.ensures.full)
+pub returns-clause-wide : goal.returns-clause-wide
+returns-clause-wide g c = if_ok_so c.widen_known.result _ _ c.widen_known.ensures.size (λ e sizes. (omega (arith, sizes.0), omega (arith, sizes.1)))
 
-pub returns-in_err-wide-clause-opened : goal.returns-in_err-wide-clause-opened
-returns-in_err-wide-clause-opened g c =
-    let p = err_from_is_err_and c.from_residual.result c.from_residual.ensures.1 in rw (p.1, p.2) (λ t stored found.
-    (let a : View = g.A.BuilderArena.view c.args.arena.now in
+pub returns-clause-named : goal.returns-clause-named
+returns-clause-named g c =
+    let a : View = g.A.BuilderArena.view c.args.arena.now in
     let b : View = g.A.BuilderArena.view c.widen_known.new.arena in
-    let old = existing_struct c.args.start c.args.narrow in
-    struct_kept a b c.args.id c.args.at t old c.args.size _ stored found c.requires.narrow c.in_err-wide.ensures.wider.refused
-    (struct_unwidened a b c.args.id c.args.at old c.args.size _ c.requires.known c.in_err-wide.ensures.wider.memory c.in_err-wide.ensures.full) c.in_err-wide.ensures.few))
+    if_err_both c.widen_known.result _ _ _ c.widen_known.ensures.wider.memory c.widen_known.ensures.full
+    (λ k memory full. struct_unwidened a b c.args.id c.args.at (existing_struct c.args.start c.args.narrow) c.args.size k c.requires.known memory full)
+
+pub returns-clause-granted : goal.returns-clause-granted
+returns-clause-granted g c = c.widen_known.ensures.wider.granted
+
+pub returns-clause-memory : goal.returns-clause-memory
+returns-clause-memory g c = c.widen_known.ensures.wider.memory

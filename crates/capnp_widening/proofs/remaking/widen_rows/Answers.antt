@@ -1,4 +1,4 @@
-use Rattle.std.proofs.Common.{◌≡◌, ◌∙◌, ◌≤◌, ◌+◌, ◌*◌, ◌^◌, ℕ, Err, inl, refl, sym, ap₂, subst, arith, rules}
+use Rattle.std.proofs.Common.{◌≡◌, ◌∙◌, ◌≤◌, ◌+◌, ◌*◌, ◌^◌, ◌<◌, ℕ, Err, inl, refl, sym, ap, ap₂, subst, arith, rules}
 use Rattle.capnp_words.specs.declared.error.ErrorKind.TheVariants.{MessageTooLarge}
 use Rattle.capnp_arena_traits.specs.View.{View}
 use Rattle.capnp_widening.specs.RowsRemade.{as_structs}
@@ -46,3 +46,27 @@ pub returns-then-not-are_inside-clause-made : goal.returns-then-not-are_inside-c
 returns-then-not-are_inside-clause-made g c =
     let v : View = g.A.BuilderArena.view c.args.arena.now in
     record { remade = tt; anew = tt; granted = tt; memory = outside_spent v; refused = λ t h. nothing_grown v.words _ refl }
+
+-- So many words are refused at once.
+pub returns-then-words-ge536870912-clause-large : goal.returns-then-words-ge536870912-clause-large
+returns-then-words-ge536870912-clause-large g c = λ many.
+    (let size = c.args.size in
+    let n : ℕ = c.args.old.count * (size.data_words + size.pointers) in
+    let same : c.from.result * c.from-2.result ≡ n = ap₂ (λ x y. x * y) c.from.ensures (c.from-2.ensures ∙ c.total.ensures) in
+    (refl, ap (λ x. MessageTooLarge x) same))
+
+pub returns-then-not-are_inside-clause-large : goal.returns-then-not-are_inside-clause-large
+returns-then-not-are_inside-clause-large g c = λ many.
+    (let size = c.args.size in
+    let n : ℕ = c.args.old.count * (size.data_words + size.pointers) in
+    let same : c.from.result * c.from-2.result ≡ n = ap₂ (λ x y. x * y) c.from.ensures (c.from-2.ensures ∙ c.total.ensures) in
+    let few : n < 2 ^ 29 = subst (λ x. x < 2 ^ 29) same (omega arith) in
+    absurd (omega (arith, many, few)))
+
+pub returns-clause-large : goal.returns-clause-large
+returns-clause-large g c = λ many.
+    (let size = c.args.size in
+    let n : ℕ = c.args.old.count * (size.data_words + size.pointers) in
+    let same : c.from.result * c.from-2.result ≡ n = ap₂ (λ x y. x * y) c.from.ensures (c.from-2.ensures ∙ c.total.ensures) in
+    let few : n < 2 ^ 29 = subst (λ x. x < 2 ^ 29) same (omega arith) in
+    absurd (omega (arith, many, few)))

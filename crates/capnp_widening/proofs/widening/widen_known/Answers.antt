@@ -1,4 +1,4 @@
-use Rattle.std.proofs.Common.{ℕ, length, subst, ◌+◌, ap, arith}
+use Rattle.std.proofs.Common.{ℕ, length, subst, ◌+◌, ap, arith, ◌∙◌}
 use Rattle.capnp_format.specs.Forest.{target}
 use Rattle.capnp_format.specs.Tree.{Struct}
 use Rattle.capnp_arena_traits.specs.View.{View}
@@ -14,6 +14,7 @@ use Rattle.capnp_widening.proofs.StructSteps.{the_struct, same_struct}
 use Rattle.capnp_making.specs.Makes.{call_at}
 use Rattle.capnp_widening.specs.Anew.{BecomesAnew}
 use Rattle.capnp_widening.proofs.Statements.{row_moves}
+use Rattle.capnp_words.specs.declared.wire_pointer.StructSize.{StructSize}
 use Rattle.capnp_widening.proofs.widening.widen_known.Goals as goal
 use Rattle.capnp_widening.specs.Widened.{fill_words}
 
@@ -64,3 +65,8 @@ returns-clause-few g c = λ ws ts x.
     let k = ap (λ e. e.size.pointers) same in
     let n = wider_words c.args.size ws ts c.greater.result c.greater-2.result (omega (arith, c.greater.ensures, d)) (omega (arith, c.greater-2.ensures, k)) in
     omega (arith, c.widen_struct.ensures.few, n, k))
+
+pub returns-clause-size : goal.returns-clause-size
+returns-clause-size g c =
+    if_ok_so c.widen_struct.result _ _ c.widen_struct.ensures.size
+    (λ e same. (ap (λ (x : StructSize). x.data_words) same ∙ c.greater.ensures, ap (λ (x : StructSize). x.pointers) same ∙ c.greater-2.ensures))
