@@ -27,7 +27,7 @@ pub copied_at : {r : Reading} {S : Segments} {n s p : ℕ} {m after : Meter} {ma
     (t : Tree) × (c : ℕ) × Means S n s p t c × (capabilities t ≡ 0) × Paid true m after c (pointers_in t) × (made ≡ encoding (trim t) ∷ [])
 copied_at {S = S} {n = n} {s = s} {p = p} {m = m} {after = after} same (t, reads, words) =
     let here = subst (λ (x : Reading). Reads canonical x m after t) same reads in
-    (t, here.cost, here.means, here.takes tt, record { covers = here.covers; spent = here.spent }, words)
+    (t, here.cost, here.means, here.takes (λ e. absurd (cc e)), record { covers = here.covers; spent = here.spent }, words)
 
 -- such a value isn't refused
 never_refused : {r : Reading} {S : Segments} {n s p : ℕ} {left : Option ℕ} {k : ErrorKind} → r ≡ read_at S n s p → (t : Tree) (c : ℕ) → Means S n s p t c →

@@ -24,7 +24,7 @@ puts_default (Ok x) bytes id at old new made taken = (
   made.value,
   record {
     meant = (made.is_read.cost, made.is_read.means);
-    plain = made.is_read.takes tt;
+    plain = made.is_read.takes (λ e. absurd (cc e));
     replaced = made.made;
     stands = made.stands;
     memory = made.memory;

@@ -14,7 +14,6 @@ use Rattle.capnp_making.proofs.FillingChains.{element_grows, elements_grow, elem
 use Rattle.capnp_making.proofs.Memory.{keeps_itself, keeps_both, keeps_written, keeps_then_spends, words_refused_after}
 use Rattle.capnp_making.proofs.WordsPut.{words_put}
 use Rattle.capnp_objects.specs.Outcomes.{ReadsAll}
-use Rattle.capnp_objects.specs.Refusals.{RefusedAll}
 use Rattle.capnp_objects.specs.Reading.{Reading, behind, segment_read, words_from, pointers_of}
 use Rattle.capnp_objects.specs.Wanted.{Form, canonical}
 use Rattle.capnp_objects.proofs.Copies.{read_no_element, with_last_element}
@@ -33,6 +32,7 @@ use Rattle.capnp_copies.proofs.TooLarge.{row_too_large}
 use Rattle.capnp_copies.proofs.Shapes.{rows_laid}
 use Rattle.capnp_copies.proofs.KeptChildren.{kept_each-count, kept_no_elements, cut_kept-count}
 use Rattle.capnp_copies.proofs.KeptForms.{SourceKept, one_more, stops_sooner, blank_elements, nothing_filled}
+use Rattle.capnp_objects.proofs.Shorthands.{RefusedAll}
 
 -- one element
 

@@ -70,7 +70,7 @@ null_copied {r} {b} {s} {p} {v} {m} {m'} object place null = record {
 
 unfoldable pub capability_read : {r : Reading} (m m' : Meter) (i : ℕ) → IsObject Value r m m' (ObjectCapability i) → Reads plain r m m' (Capability i)
 capability_read {r} m m' i (a, l, low, e, covers, spent) =
-    record { cost = a.pads; means = (a, leads_there r a l (λ f. omega (arith, f, low)), (let f : a.word ≡ capability_word i = omega (arith, low, e) in f), refl); takes = λ f. absurd f; covers = covers; spent = spent }
+    record { cost = a.pads; means = (a, leads_there r a l (λ f. omega (arith, f, low)), (let f : a.word ≡ capability_word i = omega (arith, low, e) in f), refl); takes = λ f. absurd (f refl); covers = covers; spent = spent }
 
 pub capability_copied : {r : Reading} {s p i : ℕ} {old new : View} {m m' : Meter} → IsObject Value r m m' (ObjectCapability i) → IsPlace old.words s p → new ≡ record old { words = with_word old.words s p (capability_word i) } → MakesCopy (value_original r) (change plain s p old new m m')
 capability_copied {r} {s} {p} {i} {old} {new} {m} {m'} object place writes = record {

@@ -29,7 +29,7 @@ use Rattle.capnp_objects.specs.Faults.{child_at}
 use Rattle.capnp_objects.specs.Objects.{IsObject}
 use Rattle.capnp_objects.specs.Outcomes.{Reads, ReadsAll, ReadsElements, Entered}
 use Rattle.capnp_objects.specs.Reading.{Reading, behind, segment_read, words_from, pointers_of, tag_size}
-use Rattle.capnp_objects.specs.Refusals.{Stopped, ReadsBefore, in_struct, in_pointers, in_element, StopsWithin, here, below, BreaksOff, BreaksOffAmong, BreaksOffAmongElements}
+use Rattle.capnp_objects.specs.Refusals.{Stopped, in_struct, in_pointers, in_element, StopsWithin, StopsAmong, StopsAmongElements, here, below, IsTried}
 use Rattle.capnp_objects.specs.Spending.{pointers_in, pointers_in_all, pointers_in_elements}
 use Rattle.capnp_objects.specs.Wanted.{Form, plain, canonical, of_default}
 use Rattle.capnp_objects.specs.declared.object.Place.{Place}
@@ -53,6 +53,7 @@ use Rattle.capnp_copies.proofs.ObjectsMade.{TakesForCopy, TakesUntilStop, Begins
 use Rattle.capnp_copies.proofs.ObjectsRead.{inside, stopped_in, capability_stopped, default_stopped}
 use Rattle.capnp_copies.proofs.StayingNear.{stay_fewer}
 use Rattle.capnp_objects.proofs.Unreadable.{Spends}
+use Rattle.capnp_objects.proofs.Shorthands.{ReadsBefore}
 
 -- The words of all segments.
 
@@ -190,7 +191,7 @@ one_taken {r} {b} {s} {mid = mid} {new} {m' = m'} {m''} (ts, counts, are_read, m
 pub stop_taken : {r : Reading} {b : Form} {s i n : ℕ} {old mid new : View} {m m' m'' : Meter} → i < n → TakesForCopy (children_original r i) (change b s 0 old mid m m') → TakesUntilStop (value_original (behind r i)) (change b s 0 mid new m' m'') →
     TakesUntilStop (children_original r n) (change b s 0 old new m m'')
 stop_taken {r} {b} {s} {mid = mid} {new} {m' = m'} {m''} less (ts, counts, are_read, made) stop =
-    let here : (one : BreaksOff b (behind r (count ts)) m' m'') × MakesAtMost s mid new (spent_until one).words (spent_until one).pointers = rw counts (stop.0, stop.1) in
+    let here : (one : StopsWithin b (IsTried b) (behind r (count ts)) m' m'') × MakesAtMost s mid new (spent_until one).words (spent_until one).pointers = rw counts (stop.0, stop.1) in
     (record { first = ts; fewer = omega (arith, counts, less); mid = m'; are_read = are_read; stops = here.0 }, made_more (omega arith) (omega arith) (made_both made here.1))
 
 pub all_taken : {r : Reading} {b : Form} {s i j : ℕ} {old new : View} {m m' : Meter} → i ≡ j → TakesForCopy (children_original r i) (change b s 0 old new m m') → TakesForCopy (children_original r j) (change b s 0 old new m m')
@@ -218,7 +219,7 @@ pub row_stop_taken : {r : Reading} {sizes : ElementSizes} {b : Form} {s i n : �
     TakesUntilStop (children_original (pointers_of r sizes.source i) sizes.kept.pointers) (change b s 0 mid new m' m'') → TakesUntilStop (elements_original r sizes n) (change b s 0 old new m m'')
 unfolding stops_sooner
 row_stop_taken {r} {sizes} {b} {s} {mid = mid} {new} {m' = m'} {m''} fits less (es, counts, are_read, made) stop =
-    let here : (one : BreaksOffAmong b (pointers_of r sizes.source (element_count es)) sizes.kept.pointers m' m'') × MakesAtMost s mid new (spent_among one).words (spent_among one).pointers = rw counts (stop.0, stop.1) in
+    let here : (one : StopsAmong b (IsTried b) (pointers_of r sizes.source (element_count es)) sizes.kept.pointers m' m'') × MakesAtMost s mid new (spent_among one).words (spent_among one).pointers = rw counts (stop.0, stop.1) in
     (record { first = es; fewer = omega (arith, counts, less); mid = m'; are_read = are_read; stops = stops_sooner fits.less_pointers here.0 }, made_more (omega arith) (omega arith) (made_both made here.1))
 
 pub rows_taken : {r : Reading} {b : Form} {s i j : ℕ} {old new : View} {m m' : Meter} (sizes : ElementSizes) → i ≡ j → TakesForCopy (elements_original r sizes i) (change b s 0 old new m m') → TakesForCopy (elements_original r sizes j) (change b s 0 old new m m')
@@ -365,7 +366,7 @@ struct_stop_takes {r} {b} {s} {levels} {old} {new} {m} {m'} {m''} {size} start l
     elim tried [
       | inl nothing ↦ entered_takes r b s old new m m' m'' o nothing.0 nothing.1
       | inr x ↦
-          (let given : (off : BreaksOffAmong b (behind (inside r levels start) size.data_words) size.pointers m' m'') × MakesAtMost s old new (size.data_words + size.pointers + (spent_among off).words) (1 + (spent_among off).pointers) = (x.0, made_more (omega (arith, length-take size.data_words (drop start.at (segment r.segments start.segment)))) (omega arith) x.1) in
+          (let given : (off : StopsAmong b (IsTried b) (behind (inside r levels start) size.data_words) size.pointers m' m'') × MakesAtMost s old new (size.data_words + size.pointers + (spent_among off).words) (1 + (spent_among off).pointers) = (x.0, made_more (omega (arith, length-take size.data_words (drop start.at (segment r.segments start.segment)))) (omega arith) x.1) in
           let off = rw (en, es, e, ed, eq) at given in
           (stops_struct o z off.0, made_more (omega (arith, own_struct r.segments a z)) (omega arith) off.1))
     ]
@@ -389,7 +390,7 @@ pointers_stop_take {r} {b} {s} {levels} {i} {old} {new} {m} {m'} {m''} start les
     elim tried [
       | inl nothing ↦ entered_takes r b s old new m m' m'' o nothing.0 nothing.1
       | inr x ↦
-          (let given : (off : BreaksOffAmong b (inside r levels start) i m' m'') × MakesAtMost s old new (i + (spent_among off).words) (1 + (spent_among off).pointers) = (x.0, x.1) in
+          (let given : (off : StopsAmong b (IsTried b) (inside r levels start) i m' m'') × MakesAtMost s old new (i + (spent_among off).words) (1 + (spent_among off).pointers) = (x.0, x.1) in
           let off = rw (en, es, e, ei) at given in
           (stops_pointers o z six off.0, made_more (omega (arith, own_pointers r.segments a z six)) (omega arith) off.1))
     ]
@@ -413,7 +414,7 @@ structs_stop_take {r} {b} {s} {levels} {i} {old} {new} {m} {m'} {m''} {size} sta
     elim tried [
       | inl nothing ↦ entered_takes r b s old new m m' m'' o nothing.0 nothing.1
       | inr x ↦
-          (let given : (off : BreaksOffAmongElements b (inside r levels start) size i m' m'') × MakesAtMost s old new (1 + i * (size.data_words + size.pointers) + (spent_among_elements off).words) (1 + (spent_among_elements off).pointers) = (x.0, x.1) in
+          (let given : (off : StopsAmongElements b (IsTried b) (inside r levels start) size i m' m'') × MakesAtMost s old new (1 + i * (size.data_words + size.pointers) + (spent_among_elements off).words) (1 + (spent_among_elements off).pointers) = (x.0, x.1) in
           let off = rw (en, eu, e, ed, eq, ei) at given in
           (stops_structs o z seven off.0, made_more (omega (arith, own_structs r.segments a z seven, (o.meets.tagged (z, seven)).1)) (omega arith) off.1))
     ]

@@ -11,7 +11,7 @@ use Rattle.capnp_format.proofs.Trimming.{trim_each-count, used_words-le, take_tr
 use Rattle.capnp_format.specs.Means.{MeansElements}
 use Rattle.capnp_making.specs.Filled.{AreElementsFilled}
 use Rattle.capnp_making.proofs.WordsPut.{none_over}
-use Rattle.capnp_objects.specs.Outcomes.{ReadsAll, ReadsElements, MeanThere, ElementsMean}
+use Rattle.capnp_objects.specs.Outcomes.{ReadsAll, ReadsElements}
 use Rattle.capnp_objects.specs.Refusals.{StopsAmong}
 use Rattle.capnp_objects.specs.Reading.{Reading, segment_read, words_from, pointers_of}
 use Rattle.capnp_objects.specs.Spending.{pointers_in_all, pointers_in_elements}
@@ -27,6 +27,7 @@ use Rattle.capnp_copies.proofs.ElementsLaid.{words_taken}
 use Rattle.capnp_copies.proofs.KeptChildren.{cut_kept-count}
 use Rattle.capnp_copies.proofs.ListSteps.{AreLeast, trimmed_list}
 use Rattle.capnp_copies.proofs.UsedChildren.{used_children, means_taken, trim-struct}
+use Rattle.capnp_objects.proofs.Shorthands.{MeanThere, ElementsMean}
 
 -- children
 

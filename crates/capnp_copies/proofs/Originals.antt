@@ -12,9 +12,9 @@ use Rattle.capnp_format.specs.Segments.{segment}
 use Rattle.capnp_arena_traits.specs.View.{View}
 use Rattle.capnp_making.specs.Memory.{SpendsMemory, RefusesWords}
 use Rattle.capnp_making.specs.Stored.{IsReplaced}
-use Rattle.capnp_objects.specs.Outcomes.{MeansThere, MeanThere, ElementsMean, Reads, ReadsAll, ReadsElements}
+use Rattle.capnp_objects.specs.Outcomes.{MeansThere, Reads, ReadsAll, ReadsElements}
 use Rattle.capnp_objects.specs.Reading.{Reading, behind, words_from}
-use Rattle.capnp_objects.specs.Refusals.{Stopped, RefusedAll}
+use Rattle.capnp_objects.specs.Refusals.{Stopped}
 use Rattle.capnp_objects.specs.Spending.{after, pointers_in, pointers_in_all, pointers_in_elements}
 use Rattle.capnp_objects.specs.Wanted.{Form, plain}
 use Rattle.capnp_objects.specs.declared.object.Purpose.TheVariants.{Value}
@@ -23,6 +23,7 @@ use Rattle.capnp_copies.specs.Forms.{kept, kept_each, kept_elements}
 use Rattle.capnp_copies.specs.Originals.{Original, value_original, children_original, elements_original, sections_original, numbers_original, pointers_original, structs_original, list_original, FitsListPointer}
 use Rattle.capnp_copies.specs.Rooms.{CanBeCopied}
 use Rattle.capnp_copies.specs.declared.widths.ElementSizes.{ElementSizes}
+use Rattle.capnp_objects.proofs.Shorthands.{MeanThere, ElementsMean, RefusedAll}
 
 -- a limiter without a budget lets all be read
 
@@ -41,7 +42,7 @@ value_large b r used room large any m m' t read = large t read.cost read.means
 
 pub value_beyond : (b : Form) (r : Reading) (used room : ℕ) → ExceedsRoom b (value_original r) used room → (t : Tree) (c : ℕ) → MeansThere r t c → room < used + word_count (kept b t)
 value_beyond b r used room large t c means =
-    let read : Reads plain r (unused None) (after r.charging (unused None) c (pointers_in t)) t = record { cost = c; means = means; takes = λ f. absurd f; covers = affords_all r.charging c; spent = refl } in
+    let read : Reads plain r (unused None) (after r.charging (unused None) c (pointers_in t)) t = record { cost = c; means = means; takes = λ f. absurd (f refl); covers = affords_all r.charging c; spent = refl } in
     large plain (unused None) (after r.charging (unused None) c (pointers_in t)) t read
 
 -- a struct of these data words, of whose pointers r is the first of q
@@ -53,7 +54,7 @@ abbrev pub IsTooLargeStruct : Form → Reading → StructSize → ℕ → ℕ �
 IsTooLargeStruct b r size used room = AreTooLargeSections b (words_from r size.data_words) (behind r size.data_words) size.pointers used room
 
 all_read : (r : Reading) (ts : Trees) (c : ℕ) → MeanThere r ts c → ReadsAll plain r (unused None) (after r.charging (unused None) c (pointers_in_all ts)) ts
-all_read r ts c means = record { cost = c; means = means; takes = λ f. absurd f; covers = affords_all r.charging c; spent = refl }
+all_read r ts c means = record { cost = c; means = means; takes = λ f. absurd (f refl); covers = affords_all r.charging c; spent = refl }
 
 pub sections_large : (b : Form) (ws : List ℕ) (r : Reading) (q used room : ℕ) → AreTooLargeSections b ws r q used room → ExceedsRoom b (sections_original ws r q) used room
 sections_large b ws r q used room large any m m' t (ts, is, counts, read) = subst (λ u. room < used + word_count (kept b u)) (sym is) (large ts read.cost counts read.means)
@@ -125,7 +126,7 @@ AreTooLargeElements b r sizes i used room =
     (es : Elements) (c : ℕ) → element_count es ≡ i → ElementsMean r sizes.source es c → room < used + word_count_elements (cut_to sizes.kept.data_words sizes.kept.pointers (kept_elements b es))
 
 elements_read : (r : Reading) (size : StructSize) (es : Elements) (c : ℕ) → ElementsMean r size es c → ReadsElements plain r size (unused None) (after r.charging (unused None) c (pointers_in_elements es)) es
-elements_read r size es c means = record { cost = c; means = means; takes = λ f. absurd f; covers = affords_all r.charging c; spent = refl }
+elements_read r size es c means = record { cost = c; means = means; takes = λ f. absurd (f refl); covers = affords_all r.charging c; spent = refl }
 
 pub elements_large : (b : Form) (r : Reading) (sizes : ElementSizes) (i used room : ℕ) → AreTooLargeElements b r sizes i used room → ExceedsRoom b (elements_original r sizes i) used room
 elements_large b r sizes i used room large any m m' es (counts, read) = large es read.cost counts read.means

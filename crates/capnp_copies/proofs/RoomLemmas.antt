@@ -3,11 +3,12 @@ use Rattle.std.proofs.Common.{◌≡◌, ℕ, suc, ◌+◌, ◌<◌, ◌≤◌, 
 use Rattle.capnp_format.specs.Tree.{Tree, Trees, no_trees, tree, count}
 use Rattle.capnp_format.specs.Canonical.{word_count, word_count_all}
 use Rattle.capnp_format.proofs.Levels.{one_value}
-use Rattle.capnp_objects.specs.Outcomes.{MeansThere, MeanThere}
+use Rattle.capnp_objects.specs.Outcomes.{MeansThere}
 use Rattle.capnp_objects.specs.Reading.{Reading, behind}
 use Rattle.capnp_objects.specs.Wanted.{Form}
 use Rattle.capnp_copies.specs.Forms.{kept, kept_each}
 use Rattle.capnp_copies.proofs.KeptChildren.{kept_none, kept_first}
+use Rattle.capnp_objects.proofs.Shorthands.{MeanThere}
 
 -- so many pointers have one cost
 pub same_cost : (r : Reading) (ts us : Trees) (c e : ℕ) → count ts ≡ count us → MeanThere r ts c → MeanThere r us e → c ≡ e

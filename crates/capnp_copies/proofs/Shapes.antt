@@ -4,12 +4,13 @@ use Rattle.capnp_format.specs.Numbers.{words_for}
 use Rattle.capnp_format.specs.Tree.{Tree, Null, Capability, Struct, Flat, Pointers, Structs, Trees, no_trees, tree, Elements, no_elements, element, count, element_count}
 use Rattle.capnp_words.specs.declared.wire_pointer.StructSize.{StructSize}
 use Rattle.capnp_objects.specs.Faults.{child_at}
-use Rattle.capnp_objects.specs.Outcomes.{MeansThere, MeanThere, ElementsMean}
+use Rattle.capnp_objects.specs.Outcomes.{MeansThere}
 use Rattle.capnp_objects.specs.Reading.{Reading, behind, sized}
 use Rattle.capnp_format.specs.Canonical.{used_trees, take_trees, data_width, pointer_width, cut_to, trim, trim_each, trim_elements, word_count, word_count_all, word_count_elements, pointers, rows, body, bodies, element_bodies}
 use Rattle.capnp_format.proofs.Digits.{length-digits}
 use Rattle.capnp_format.proofs.Lengths.{length-pointers}
 use Rattle.capnp_format.proofs.Trimming.{used_words-le, used_trees-le, take_trees-count, trim_each-count}
+use Rattle.capnp_objects.proofs.Shorthands.{MeanThere, ElementsMean}
 
 -- while elements are copied, some of them being there and n still to come
 abbrev pub rows_laid : List ℕ → ℕ → ℕ → Elements → ℕ → List ℕ

@@ -14,7 +14,7 @@ use Rattle.capnp_making.specs.Memory.{HasRoom, KeepsMemory, StandsBehind, TakesW
 use Rattle.capnp_making.specs.Near.{HasOwnRoom, StartsBehind}
 use Rattle.capnp_making.specs.declared.making.Start.{Start}
 use Rattle.capnp_objects.specs.Objects.{IsObject}
-use Rattle.capnp_objects.specs.Outcomes.{Reads, MeansThere, MeanThere}
+use Rattle.capnp_objects.specs.Outcomes.{Reads, MeansThere}
 use Rattle.capnp_objects.specs.Reading.{Reading, behind, segment_read, pointers_of, sized, tag_size}
 use Rattle.capnp_objects.specs.Demands.{tag}
 use Rattle.capnp_objects.specs.Faults.{child_at}
@@ -38,6 +38,7 @@ use Rattle.capnp_copies.proofs.ObjectsRead.{inside, means_struct, means_pointers
 use Rattle.capnp_copies.proofs.RoomLemmas.{next_words}
 use Rattle.capnp_copies.proofs.TightChildren.{room_kept}
 use Rattle.capnp_objects.proofs.Followed.{entered_leads}
+use Rattle.capnp_objects.proofs.Shorthands.{MeanThere}
 
 -- a child
 pub child_too_large : {r : Reading} {s p i n : ℕ} {old mid : View} {m m' : Meter} (b : Form) → IsPlace old.words s (p + i) → i < n → (first : CopiesChildren r i (change b s p old mid m m')) →

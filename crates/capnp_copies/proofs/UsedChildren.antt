@@ -11,9 +11,10 @@ use Rattle.capnp_making.specs.Made.{nulls}
 use Rattle.capnp_making.proofs.Placed.{count-nulls, nulls_mean}
 use Rattle.capnp_copies.proofs.LeastWidths.{used_where_meant}
 use Rattle.capnp_objects.specs.Spending.{after, pointers_in_all}
-use Rattle.capnp_objects.specs.Outcomes.{MeansThere, MeanThere, ReadsAll}
+use Rattle.capnp_objects.specs.Outcomes.{MeansThere, ReadsAll}
 use Rattle.capnp_objects.specs.Reading.{Reading, behind, segment_read, words_from}
 use Rattle.capnp_objects.specs.Wanted.{canonical}
+use Rattle.capnp_objects.proofs.Shorthands.{MeanThere}
 
 -- nothing is used behind the used words
 pub behind_used : (xs : List ℕ) (i : ℕ) → used_words xs ≤ i → get_or xs i 0 ≡ 0

@@ -17,7 +17,7 @@ use Rattle.capnp_making.specs.Stored.{IsReplaced}
 use Rattle.capnp_objects.specs.Demands.{IsStructList, tag}
 use Rattle.capnp_objects.specs.Faults.{child_at}
 use Rattle.capnp_objects.specs.Outcomes.{Entered, ReadsAll, ReadsElements}
-use Rattle.capnp_objects.specs.Refusals.{Stopped, Refused, RefusedElements}
+use Rattle.capnp_objects.specs.Refusals.{Stopped, Refused, StopsAmongElements}
 use Rattle.capnp_objects.specs.Reading.{Reading, behind, tag_size}
 use Rattle.capnp_objects.specs.Wanted.{Form}
 use Rattle.capnp_objects.specs.declared.object.Purpose.TheVariants.{Value}
@@ -217,7 +217,8 @@ pub record StopsAtElements (r : Reading) (sizes : ElementSizes) (i : ℕ) (c : C
       (ComesToObject (elements_original r sizes i) c.form c.before c.after (FindsNoRoom c k) ×
       (EndsInZeros c (i * (sizes.kept.data_words + sizes.kept.pointers)) →
       IsTooLarge (elements_original r sizes i) c))
-      ⊎ RefusedElements c.form r sizes.source i c.before c.after k
+      ⊎ StopsAmongElements c.form (λ s m m'. Stopped Value c.form s m m' k) r sizes.source i
+      c.before c.after
   pub left : ArePartlyFilled c.old.words c.new.words c.segment c.at sizes.kept.data_words
       sizes.kept.pointers i
   pub memory : SpendsMemory c.old c.new k

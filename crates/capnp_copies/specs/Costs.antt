@@ -7,7 +7,8 @@ use Rattle.capnp_words.specs.Meter.{Meter}
 use Rattle.capnp_format.specs.Segments.{Target}
 use Rattle.capnp_objects.specs.Demands.{own}
 use Rattle.capnp_objects.specs.Reading.{Reading}
-use Rattle.capnp_objects.specs.Refusals.{ReadsBefore, in_struct, in_pointers, in_element}
+use Rattle.capnp_objects.specs.Outcomes.{ReadsAll, ReadsElements}
+use Rattle.capnp_objects.specs.Refusals.{GoesBefore, in_struct, in_pointers, in_element}
 use Rattle.capnp_objects.specs.Refusals.{StopsWithin, here, below, StopsAmong, StopsAmongElements}
 use Rattle.capnp_objects.specs.Spending.{pointers_in_all, pointers_in_elements}
 use Rattle.capnp_objects.specs.Wanted.{Form}
@@ -20,7 +21,7 @@ pub record Spent : Type 0 where
 
 -- What is spent on the pointers of an object before one of them.
 abbrev pub spent_before : {form : Form} {r : Reading} {a : Target} {q : ℕ} {m m' : Meter} →
-    ReadsBefore form r a q m m' → Spent
+    GoesBefore (ReadsAll form) (ReadsElements form) r a q m m' → Spent
 spent_before (in_struct ts is fewer at reads) = record { words = reads.cost; pointers = pointers_in_all ts }
 spent_before (in_pointers ts is six fewer at reads) =
     record { words = reads.cost; pointers = pointers_in_all ts }

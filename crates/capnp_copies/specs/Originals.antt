@@ -15,8 +15,7 @@ use Rattle.capnp_format.specs.Tree.{element_count}
 use Rattle.capnp_making.specs.Made.{structs_words}
 use Rattle.capnp_objects.specs.Outcomes.{Reads, ReadsAll, ReadsElements}
 use Rattle.capnp_objects.specs.Reading.{Reading, words_from}
-use Rattle.capnp_objects.specs.Refusals.{StopsWithin, StopsAmong, StopsAmongElements, BreaksOff}
-use Rattle.capnp_objects.specs.Refusals.{BreaksOffAmong, BreaksOffAmongElements}
+use Rattle.capnp_objects.specs.Refusals.{StopsWithin, StopsAmong, StopsAmongElements, IsTried}
 use Rattle.capnp_objects.specs.Spending.{pointers_in, pointers_in_all, pointers_in_elements}
 use Rattle.capnp_objects.specs.Wanted.{Form, canonical}
 use Rattle.capnp_copies.specs.Costs.{Spent, spent_until, spent_among, spent_among_elements, spent_behind}
@@ -58,7 +57,8 @@ value_original r = record {
   exceeds = λ form k. ⊥;
   words = λ form t. word_count (kept form t);
   takes = λ form m m' P. (t : Tree) × (x : Reads form r m m' t) × P x.cost (pointers_in t);
-  takes_until = λ form m m' P. (x : BreaksOff form r m m') × P (spent_until x).words (spent_until x).pointers;
+  takes_until = λ form m m' P. (x : StopsWithin form (IsTried form) r m m') ×
+      P (spent_until x).words (spent_until x).pointers;
 }
 
 -- What so many pointers from a place on mean, one behind the other: no words of it are at hand.
@@ -72,7 +72,7 @@ children_original r n = record {
   words = λ form ts. word_count_all (kept_each form ts);
   takes = λ form m m' P. (ts : Trees) × (count ts ≡ n) × (x : ReadsAll form r m m' ts) ×
       P x.cost (pointers_in_all ts);
-  takes_until = λ form m m' P. (x : BreaksOffAmong form r n m m') ×
+  takes_until = λ form m m' P. (x : StopsAmong form (IsTried form) r n m m') ×
       P (spent_among x).words (spent_among x).pointers;
 }
 
@@ -89,7 +89,7 @@ elements_original r sizes n = record {
       (cut_to sizes.kept.data_words sizes.kept.pointers (kept_elements form es));
   takes = λ form m m' P. (es : Elements) × (element_count es ≡ n) ×
       (x : ReadsElements form r sizes.source m m' es) × P x.cost (pointers_in_elements es);
-  takes_until = λ form m m' P. (x : BreaksOffAmongElements form r sizes.source n m m') ×
+  takes_until = λ form m m' P. (x : StopsAmongElements form (IsTried form) r sizes.source n m m') ×
       P (spent_among_elements x).words (spent_among_elements x).pointers;
 }
 
@@ -112,7 +112,7 @@ sections_original ws r q = record {
   takes = λ form m m' P. (ts : Trees) × (count ts ≡ q) × (x : ReadsAll form r m m' ts) ×
       P (length ws + q + x.cost) (1 + pointers_in_all ts);
   takes_until = λ form m m' P. ((m' ≡ m) × P 0 0) ⊎
-      ((x : BreaksOffAmong form r q m m') ×
+      ((x : StopsAmong form (IsTried form) r q m m') ×
       P (length ws + q + (spent_among x).words) (1 + (spent_among x).pointers));
 }
 
@@ -152,7 +152,7 @@ pointers_original n r = record {
   takes = λ form m m' P. (ts : Trees) × (count ts ≡ n) × (x : ReadsAll form r m m' ts) ×
       P (n + x.cost) (1 + pointers_in_all ts);
   takes_until = λ form m m' P. ((m' ≡ m) × P 0 0) ⊎
-      ((x : BreaksOffAmong form r n m m') ×
+      ((x : StopsAmong form (IsTried form) r n m m') ×
       P (n + (spent_among x).words) (1 + (spent_among x).pointers));
 }
 
@@ -169,7 +169,7 @@ structs_original size n r = record {
       (x : ReadsElements form r size m m' es) ×
       P (structs_words n size + x.cost) (1 + pointers_in_elements es);
   takes_until = λ form m m' P. ((m' ≡ m) × P 0 0) ⊎
-      ((x : BreaksOffAmongElements form r size n m m') ×
+      ((x : StopsAmongElements form (IsTried form) r size n m m') ×
       P (structs_words n size + (spent_among_elements x).words)
       (1 + (spent_among_elements x).pointers));
 }

@@ -23,7 +23,7 @@ use Rattle.capnp_objects.specs.Expected.{list_expected, CanBeGiven, null_pointer
 use Rattle.capnp_objects.specs.Faults.{LeadsTo, child_at}
 use Rattle.capnp_objects.specs.Outcomes.{Reads, ReadsAll, ReadsElements, Entered, MeansThere}
 use Rattle.capnp_objects.specs.Reading.{Reading, word_of, words_from, sized, tag_size}
-use Rattle.capnp_objects.specs.Refusals.{Refused, RefusedAll, RefusedElements}
+use Rattle.capnp_objects.specs.Refusals.{Refused}
 use Rattle.capnp_objects.specs.Source.{levels}
 use Rattle.capnp_objects.specs.Spending.{after, pointers_in_all, pointers_in_elements}
 use Rattle.capnp_objects.specs.Wanted.{Form, AllowsCapabilities}
@@ -51,6 +51,7 @@ use Rattle.capnp_edits.proofs.CopiedStruct.{CanBeCopiedAs, level_less}
 use Rattle.capnp_edits.proofs.ListReads.{ReadsList, RefusedList, as_list_read, list_refused_as}
 use Rattle.capnp_edits.proofs.Steps.{same_some}
 use Rattle.capnp_objects.proofs.Followed.{leads_to, entered_leads}
+use Rattle.capnp_objects.proofs.Shorthands.{RefusedAll, RefusedElements}
 
 -- the elements of a list that is read
 abbrev pub elements_read : {A : Type 0} (g : Ghosts A) → ListReader A g → ListElements
@@ -82,7 +83,7 @@ list_there g p m m' v a o z source nesting Pointer e no_bits h = plain_there g p
 
 pub list_at : {A : Type 0} (g : Ghosts A) (p : PointerReader A g) (m m' : Meter) (v : ListReader A g) → IsListRead g Void p m m' v → LeadsToList (reading g p) m m' (elements_read g v)
 list_at g p m m' v (inl (null, same, nothing, void, none, nesting)) = no_list null void none same
-list_at g p m m' v (inr ((a, o, z, is, source, nesting), wide)) = list_there g p m m' v a o z source nesting v.element_size refl (λ bits. absurd (omega (arith, wide.whole bits))) is
+list_at g p m m' v (inr ((a, o, z, is, source, nesting), wide)) = list_there g p m m' v a o z source nesting v.element_size refl (λ bits. absurd (omega (arith, wide.2 bits))) is
 
 -- reading it, and then what its elements lead to, is reading the value
 abbrev Numbers : Reading → ℕ → ℕ → Tree

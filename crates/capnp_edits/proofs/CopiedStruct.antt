@@ -18,7 +18,7 @@ use Rattle.capnp_objects.specs.Expected.{struct_expected, CanBeGiven, null_point
 use Rattle.capnp_objects.specs.Faults.{child_at, LeadsTo}
 use Rattle.capnp_objects.specs.Outcomes.{Reads, ReadsAll, MeansThere}
 use Rattle.capnp_objects.specs.Reading.{Reading}
-use Rattle.capnp_objects.specs.Refusals.{Refused, RefusedAll}
+use Rattle.capnp_objects.specs.Refusals.{Refused}
 use Rattle.capnp_objects.specs.Source.{levels}
 use Rattle.capnp_objects.specs.Spending.{after, pointers_in_all}
 use Rattle.capnp_objects.specs.Wanted.{Form, AllowsCapabilities}
@@ -50,6 +50,7 @@ use Rattle.capnp_edits.specs.Sources.{as_wanted, Sections, LeadsToStruct, no_str
 use Rattle.capnp_edits.proofs.Applied.{of_allocation}
 use Rattle.capnp_edits.proofs.Steps.{same_some}
 use Rattle.capnp_objects.proofs.Followed.{leads_to, entered_leads}
+use Rattle.capnp_objects.proofs.Shorthands.{RefusedAll}
 
 -- A place means a value that is as wanted, in canonical form one without capabilities, at a cost that the limiter covers, and the words to be kept of it fit behind so many words of a segment with this room.
 pub record CanBeCopiedAs (c : Copying) (r : Reading) (m : Meter) (used room : ℕ) : Type 0 where

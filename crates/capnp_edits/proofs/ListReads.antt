@@ -9,11 +9,12 @@ use Rattle.capnp_format.specs.Numbers.{words_for, unpacked}
 use Rattle.capnp_format.specs.Tree.{Tree, Null, Capability, Struct, Flat, Pointers, Structs, count, element_count}
 use Rattle.capnp_objects.specs.Outcomes.{ReadsAll, ReadsElements}
 use Rattle.capnp_objects.specs.Reading.{words_from}
-use Rattle.capnp_objects.specs.Refusals.{Stopped, RefusedAll, RefusedElements}
+use Rattle.capnp_objects.specs.Refusals.{Stopped}
 use Rattle.capnp_objects.specs.Wanted.{Form}
 use Rattle.capnp_objects.specs.declared.object.Purpose.TheVariants.{Value}
 use Rattle.capnp_copies.specs.Originals.{numbers_original, list_original}
 use Rattle.capnp_edits.specs.Sources.{ListElements}
+use Rattle.capnp_objects.proofs.Shorthands.{RefusedAll, RefusedElements}
 
 -- The value of the list is t, and reading what its elements lead to takes the meter from m to m'; numbers take nothing.
 abbrev pub ReadsList : Form → ListElements → Meter → Meter → Tree → Type 0

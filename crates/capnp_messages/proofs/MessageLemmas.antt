@@ -52,7 +52,7 @@ value_of {S} {limits} {r} {m} {after} {t} root read =
       root = root.covers;
       cost = there.cost;
       means = there.means;
-      free = there.takes tt;
+      free = there.takes (λ e. absurd (cc e));
       covered = covers_root limits.traversal_limit_in_words there.cost root.covers.covered there.covers;
     }
 

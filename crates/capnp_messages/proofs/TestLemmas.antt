@@ -11,7 +11,7 @@ use Rattle.capnp_words.specs.declared.wire_pointer.StructSize.{StructSize}
 use Rattle.capnp_objects.specs.Demands.{claim}
 use Rattle.capnp_objects.specs.Outcomes.{MeansThere, ReadsAll, ReadsElements}
 use Rattle.capnp_objects.specs.Reading.{Reading, segment_read, tag_size}
-use Rattle.capnp_objects.specs.Refusals.{GoesBefore, ReadsBefore, Refused, in_struct, in_pointers, in_element}
+use Rattle.capnp_objects.specs.Refusals.{GoesBefore, Refused, in_struct, in_pointers, in_element}
 use Rattle.capnp_objects.specs.Refusals.{here as refused_here, below as refused_below}
 use Rattle.capnp_objects.specs.Wanted.{plain}
 use Rattle.capnp_objects.proofs.Refusals.{unreadable}
@@ -19,6 +19,7 @@ use Rattle.capnp_readers.specs.Checking.{FindsAll, FindsElements, Progress, Test
 use Rattle.capnp_readers.specs.Standing.{AllStand, ElementsStand}
 use Rattle.capnp_readers.proofs.Chains.{all_within, elements_within, stands_within}
 use Rattle.capnp_readers.proofs.Takes.{stands_means_at}
+use Rattle.capnp_objects.proofs.Shorthands.{ReadsBefore}
 
 -- canonical words that stand one behind the other mean their values
 all_mean : (S : Segments) (n s p h : ℕ) (ts : Trees) → depth_all ts ≤ n → h ≤ length (segment S s) →
@@ -44,7 +45,7 @@ all_read : {r : Reading} {from to : Progress} {ts : Trees} → from.head ≤ len
 all_read {r} {from} {to} {ts} inside f = record {
   cost = charge_all ts;
   means = all_mean r.segments r.levels r.segment r.at from.head ts f.levels inside f.stand;
-  takes = λ none. absurd none;
+  takes = λ other. absurd (other refl);
   covers = f.paid.covers;
   spent = f.paid.spent;
 }
@@ -56,7 +57,7 @@ elements_read {r} {size} {from} {to} {es} inside f = record {
   means =
       elements_mean r.segments r.levels r.segment r.at size.data_words size.pointers from.head es
       f.levels inside f.stand;
-  takes = λ none. absurd none;
+  takes = λ other. absurd (other refl);
   covers = f.paid.covers;
   spent = f.paid.spent;
 }
@@ -87,4 +88,4 @@ pub never_stops : {k : ErrorKind} {r : Reading} {from : Progress} {m' : Meter} �
     (t : Tree) (c : ℕ) → MeansThere r t c → Affords r.charging from.meter c → ⊥
 never_stops stops t c means covers =
     let (name, refused) = stops_refused stops in
-    (unreadable refused).only t c means (λ none. absurd none) covers
+    (unreadable refused).only t c means (λ other. absurd (other refl)) covers

@@ -9,7 +9,7 @@ use Rattle.capnp_format.specs.Means.{Means}
 use Rattle.capnp_arena_traits.specs.Allocations.{max_segment_words}
 use Rattle.capnp_arena.specs.declared.arena.reader_arena_impl.ReaderOptions.{ReaderOptions}
 use Rattle.capnp_objects.specs.Reading.{Reading}
-use Rattle.capnp_objects.specs.Sizing.{HasSize, SizeRefused, Totals}
+use Rattle.capnp_objects.specs.Sizing.{FitSize, SizeStops, Tally, tally, WalksPlace}
 use Rattle.capnp_objects.specs.Source.{levels}
 use Rattle.capnp_readers.specs.declared.readers.canonical_fault.CanonicalFault.{CanonicalFault}
 use Rattle.capnp_messages.specs.Roots.{CoversRoot, RefusesRoot, message_root}
@@ -48,7 +48,8 @@ HasCanonicalCopy S limits = (t : Tree) × IsValueOf S limits t × (1 + word_coun
 pub record HasTotals (S : Segments) (n : ℕ) (budget : Option ℕ) (words caps : ℕ) : Type 0 where
   pub at_root : CoversRoot S budget
   pub after : Meter
-  pub totals : Totals (message_root S n) (unused (less budget 1)) after words caps
+  pub totals : WalksPlace (message_root S n) (tally 0 0 (unused (less budget 1)))
+      (tally words caps after)
   pub of_value : (t : Tree) (m cost : ℕ) → Means S m 0 0 t cost → (words ≡ word_count t) ×
       (caps ≡ capabilities t)
 
@@ -72,7 +73,9 @@ left_of limits = less limits.traversal_limit_in_words 1
 -- The walk that takes a size goes to its end within the limits, and what it counts fits.
 abbrev pub HasSizeWithin : Segments → ReaderOptions → Type 0
 HasSizeWithin S limits =
-    CoversRoot S limits.traversal_limit_in_words × HasSize (root_within S limits) (unused (left_of limits))
+    CoversRoot S limits.traversal_limit_in_words × ((to : Tally) ×
+    WalksPlace (root_within S limits) (tally 0 0 (unused (left_of limits))) to ×
+    FitSize to.words to.caps)
 
 -- The root pointer is refused by the name k, or the limit covers it and P holds.
 abbrev pub RefusesAt : Segments → ReaderOptions → ErrorKind → Type 0 → Type 0
@@ -87,7 +90,8 @@ RefusesCanon S limits k =
 
 abbrev pub RefusesSize : Segments → ReaderOptions → ErrorKind → Type 0
 RefusesSize S limits k =
-    RefusesAt S limits k ((m : Meter) × SizeRefused (root_within S limits) (unused (left_of limits)) m k)
+    RefusesAt S limits k ((m : Meter) ×
+    SizeStops k (root_within S limits) (tally 0 0 (unused (left_of limits))) m)
 
 abbrev pub RefusesCheck : Segments → ReaderOptions → ErrorKind → Type 0
 RefusesCheck S limits k =

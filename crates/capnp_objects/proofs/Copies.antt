@@ -7,7 +7,7 @@ use Rattle.capnp_format.specs.Tree.{Tree, Trees, no_trees, tree, Elements, no_el
 use Rattle.capnp_format.specs.Means.{Means, MeansAll}
 use Rattle.capnp_words.specs.Meter.{Meter}
 use Rattle.capnp_objects.specs.Spending.{Paid, after, pointers_in, pointers_in_all, pointers_in_elements}
-use Rattle.capnp_objects.specs.Outcomes.{MeansThere, MeanThere, ElementsMean, Reads, ReadsAll, ReadsElements}
+use Rattle.capnp_objects.specs.Outcomes.{MeansThere, Reads, ReadsAll, ReadsElements}
 use Rattle.capnp_objects.proofs.Unreadable.{Unreadable, UnreadableAll, UnreadableElements, Spends}
 use Rattle.capnp_objects.specs.Wanted.{Form}
 use Rattle.capnp_objects.specs.Reading.{Reading, behind, pointers_of}
@@ -16,6 +16,7 @@ use Rattle.capnp_format.proofs.Levels.{one_value}
 use Rattle.capnp_format.proofs.Children.{with_last, means_more}
 use Rattle.capnp_format.proofs.Slices.{length_words}
 use Rattle.capnp_objects.proofs.Budgets.{one_element_more, after_none, affords_rest, affords_none, paid_both, paid_one, paid_all, paid_elements, pointers_within_all, pointers_within_elements}
+use Rattle.capnp_objects.proofs.Shorthands.{MeanThere, ElementsMean}
 
 pub capabilities-with_last : (ts : Trees) (u : Tree) → capabilities_all (with_last ts u) ≡ capabilities_all ts + capabilities u
 capabilities-with_last no_trees u = omega arith

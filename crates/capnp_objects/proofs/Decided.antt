@@ -11,7 +11,7 @@ use Rattle.capnp_format.specs.Means.{Claims, count_cost}
 use Rattle.capnp_words.specs.declared.wire_pointer.StructSize.{StructSize}
 use Rattle.capnp_objects.specs.Demands.{claim, tag, element_words}
 use Rattle.capnp_objects.specs.Faults.{of_struct, of_list, of_element, here, below, LeadsTo, child_at, HasFault}
-use Rattle.capnp_objects.specs.Outcomes.{MeansThere, MeanThere, ElementsMean}
+use Rattle.capnp_objects.specs.Outcomes.{MeansThere}
 use Rattle.capnp_objects.specs.Wanted.{BreaksObject, BreaksAt, AllowsCapabilities, follow_at, FollowsTo}
 use Rattle.capnp_objects.specs.Wanted.{Form, plain, canonical, of_default}
 use Rattle.capnp_objects.specs.Reading.{Reading, word_of, behind, segment_read, words_from, tag_size}
@@ -22,6 +22,7 @@ use Rattle.capnp_objects.proofs.Parts.{claim_struct, claim_list, claim_flat}
 use Rattle.capnp_format.proofs.Slices.{length_words}
 use Rattle.capnp_format.proofs.Digits.{length-digits}
 use Rattle.capnp_format.proofs.Meanings.{struct_meaning, flat_meaning, pointers_meaning}
+use Rattle.capnp_objects.proofs.Shorthands.{MeanThere, ElementsMean}
 
 same_or_not : (a b : ℕ) → (a ≡ b) ⊎ (a ≢ b)
 same_or_not a b = go (nat_eq a b) refl
@@ -205,7 +206,7 @@ choose_object form r a f object h = elim (same_or_not r.levels 0) [
 choose_capability : (form : Form) (r : Reading) (a : Target) → FollowsTo r a → a.word % 2 ^ 32 ≡ 3 → Choice form r
 choose_capability canonical r a f low = at_place canonical r a CannotCreateACanonicalMessageWithACapability f (refl, low)
 choose_capability of_default r a f low = at_place of_default r a UnknownPointerType f (omega (arith, low), inr refl)
-choose_capability plain r a f low = inl (Capability (upper_half a.word), a.pads, (a, leads_there r a f (λ e. omega arith), omega arith, refl), λ e. absurd e)
+choose_capability plain r a f low = inl (Capability (upper_half a.word), a.pads, (a, leads_there r a f (λ e. omega arith), omega arith, refl), λ e. absurd (e refl))
 
 choose_target : (form : Form) (r : Reading) (a : Target) → FollowsTo r a → (0 < r.levels → Below form r a) → Choice form r
 choose_target form r a f h = elim (same_or_not (kind a.word) 2) [

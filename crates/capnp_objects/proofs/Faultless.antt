@@ -1,13 +1,13 @@
 -- Where a place means a value that a copy takes, no reached place breaks a demand; else some reached place does.
-use Rattle.std.proofs.Common.{◌≡◌, inl, inr, ℕ, pred, ◌%◌, ◌^◌, Some, sym, ap, ◌∙◌, arith}
+use Rattle.std.proofs.Common.{◌≡◌, ◌≢◌, inl, inr, ℕ, pred, ◌%◌, ◌^◌, Some, sym, ap, ◌∙◌, arith}
 use Rattle.capnp_words.specs.declared.error.ErrorKind.{ErrorKind}
 use Rattle.capnp_words.specs.declared.error.ErrorKind.TheVariants.{CannotCreateACanonicalMessageWithACapability, CantHandleNonStructInlineComposite, InlineCompositeListsElementsOverrunItsWordCount, InlineCompositeListsOfNonStructTypeAreNotSupported, MalformedDoubleFarPointer, MessageContainsOutOfBoundsPointer, MessageIsTooDeeplyNestedOrContainsCycles, UnknownPointerType}
 use Rattle.capnp_format.specs.Segments.{Segments, Target, leads}
 use Rattle.capnp_format.specs.Tree.{capabilities}
 use Rattle.capnp_objects.specs.Demands.{Meets}
 use Rattle.capnp_objects.specs.Faults.{IsPointer, Somewhere, here, below, LeadsTo, child_at}
-use Rattle.capnp_objects.specs.Wanted.{BreaksObject, BreaksAt, RefusesCapabilities, AllowsCapabilities}
-use Rattle.capnp_objects.specs.Wanted.{Form, canonical, of_default}
+use Rattle.capnp_objects.specs.Wanted.{BreaksObject, BreaksAt, AllowsCapabilities}
+use Rattle.capnp_objects.specs.Wanted.{Form, plain, canonical, of_default}
 use Rattle.capnp_objects.specs.Reading.{Reading}
 use Rattle.capnp_objects.specs.declared.object.Purpose.{Purpose}
 use Rattle.capnp_objects.specs.declared.object.Purpose.TheVariants.{Value, Size}
@@ -16,15 +16,15 @@ use Rattle.capnp_objects.proofs.Parts.{Meant, Parts, is_null, is_capability, is_
 
 -- a copy in canonical form has no capability, and no more has one of a default
 
-canonical_refuses : (form : Form) → form ≡ canonical → RefusesCapabilities form
-canonical_refuses form e = rw e tt
+canonical_refuses : (form : Form) → form ≡ canonical → form ≢ plain
+canonical_refuses form e other = cc (e, other)
 
-default_refuses : (form : Form) → form ≡ of_default → RefusesCapabilities form
-default_refuses form e = rw e tt
+default_refuses : (form : Form) → form ≡ of_default → form ≢ plain
+default_refuses form e other = cc (e, other)
 
 -- a capability that the form takes, or an object that meets its demands
 pub data Sound (purpose : Purpose) (form : Form) (r : Reading) (a : Target) : Type 0 where
-  sound_capability : a.word % 2 ^ 32 ≡ 3 → (RefusesCapabilities form → ⊥) → Sound purpose form r a
+  sound_capability : a.word % 2 ^ 32 ≡ 3 → (form ≢ plain → ⊥) → Sound purpose form r a
   sound_object : Meets purpose r.segments r.levels a → Sound purpose form r a
 
 pub not_refused : (purpose : Purpose) {form : Form} {r : Reading} {a : Target} (k : ErrorKind) → Sound purpose form r a → BreaksObject purpose form r.segments r.levels a k → ⊥

@@ -5,7 +5,7 @@ use Rattle.std.proofs.lemmas.Bool.{ne_eqb, false≢true}
 use Rattle.std.proofs.lemmas.List.{get_or_past}
 use Rattle.std.proofs.lemmas.Bool.Decides.{nat_tests}
 use Rattle.capnp_words.specs.declared.error.ErrorKind.{ErrorKind}
-use Rattle.capnp_words.specs.declared.error.ErrorKind.TheVariants.{InvalidSegmentId, MessageContainsOutOfBoundsPointer, ReadLimitExceeded, TriedToReadFromNullArena}
+use Rattle.capnp_words.specs.declared.error.ErrorKind.TheVariants.{CantHandleNonStructInlineComposite, InlineCompositeListsOfNonStructTypeAreNotSupported, InvalidSegmentId, MessageContainsOutOfBoundsPointer, ReadLimitExceeded, TriedToReadFromNullArena}
 use Rattle.capnp_format.specs.Word.{kind, offset_bits, upper_half, far_position, is_double}
 use Rattle.capnp_format.specs.Segments.{Segments, segment, word_at, Target, ◌>>=◌, given, offset_leads, near, pad}
 use Rattle.capnp_words.specs.Meter.{Meter, less, raised, Affords, charged, counted_once}
@@ -27,7 +27,7 @@ use Rattle.capnp_objects.specs.Source.{default_segments}
 use Rattle.capnp_objects.specs.Follow.{◌>=>◌}
 use Rattle.capnp_format.specs.Means.{Claims}
 use Rattle.capnp_objects.specs.Demands.{claim, tag, amplified, own, IsStructList, IsVoidList, LiesThere, Meets}
-use Rattle.capnp_objects.specs.Wanted.{non_struct_tag, BreaksObject, follow_at, FollowsFor, FollowsTo}
+use Rattle.capnp_objects.specs.Wanted.{BreaksObject, follow_at, FollowsFor, FollowsTo}
 use Rattle.capnp_objects.specs.Objects.{IsObject, IsHeld, IsWordRead}
 use Rattle.capnp_objects.specs.Outcomes.{Entered}
 use Rattle.capnp_objects.specs.Refusals.{landing_words, granted_before, Unfollowed, exceeding, leading_nowhere, Stopped, no_target, broken as stopped_broken, claim_exceeds as stopped_claim, count_exceeds as stopped_count}
@@ -388,9 +388,10 @@ outside Value S a sought h lies = omega (arith, h, lies)
 outside Size S a sought h lies = omega (arith, h, lies (λ void. let e = sought void in absurd (cc e)))
 
 -- a list of structs without a tag
-pub untagged : (purpose : Purpose) {a : Arrival} {m m' : Meter} → IsClaimed a m m' → IsStructList a.target.word → kind (tag a.segments a.target) ≢ 0 → NotEntered purpose a m m' (non_struct_tag purpose)
-untagged Value o t other = broken (o.levels, t, o.claims, other) o.covers o.paid
-untagged Size o t other = broken (o.levels, t, o.claims, other) o.covers o.paid
+pub untagged : (purpose : Purpose) {a : Arrival} {m m' : Meter} {k : ErrorKind} → (purpose ≡ Value → k ≡ InlineCompositeListsOfNonStructTypeAreNotSupported) → (purpose ≡ Size → k ≡ CantHandleNonStructInlineComposite) → IsClaimed a m m' →
+    IsStructList a.target.word → kind (tag a.segments a.target) ≢ 0 → NotEntered purpose a m m' k
+untagged Value value size o t other = rw (value refl) (broken (o.levels, t, o.claims, other) o.covers o.paid)
+untagged Size value size o t other = rw (size refl) (broken (o.levels, t, o.claims, other) o.covers o.paid)
 
 -- what is true of a result is true of it in other words
 pub if_ok : {A E : Type 0} (r : Result A E) (P Q : A → Type 0) → ((x : A) → P x → Q x) → IfOk r P → IfOk r Q

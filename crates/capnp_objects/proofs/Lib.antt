@@ -15,6 +15,7 @@ pub mod Unreadable
 pub mod Expecting
 pub mod Typing
 pub mod Measures
+pub mod Shorthands
 pub mod Sized
 pub mod Walked
 pub mod WalkStops

@@ -10,10 +10,11 @@ use Rattle.capnp_format.specs.Means.{Claims}
 use Rattle.capnp_words.specs.declared.wire_pointer.StructSize.{StructSize}
 use Rattle.capnp_objects.specs.Demands.{claim, tag, count_charge, amplified, own, Meets}
 use Rattle.capnp_objects.specs.Faults.{LeadsTo, child_at, IsPointer, of_struct, of_list, of_element}
-use Rattle.capnp_objects.specs.Outcomes.{MeansThere, MeanThere, ElementsMean}
+use Rattle.capnp_objects.specs.Outcomes.{MeansThere}
 use Rattle.capnp_objects.specs.Reading.{Reading, word_of, behind, pointers_of}
 use Rattle.capnp_objects.specs.declared.object.Purpose.{Purpose}
 use Rattle.capnp_objects.specs.declared.object.Purpose.TheVariants.{Value, Size}
+use Rattle.capnp_objects.proofs.Shorthands.{MeanThere, ElementsMean}
 
 -- the words that a list claims
 abbrev pub list_claim : ℕ → ℕ → ℕ

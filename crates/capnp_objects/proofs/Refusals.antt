@@ -12,7 +12,7 @@ use Rattle.capnp_objects.specs.declared.object.Object.{Object}
 use Rattle.capnp_objects.specs.declared.object.Object.TheVariants.{Null as ObjectNull, Capability as ObjectCapability, Struct as ObjectStruct, Flat as ObjectFlat, Pointers as ObjectPointers, Structs as ObjectStructs}
 use Rattle.capnp_objects.specs.Outcomes.{Entered}
 use Rattle.capnp_objects.specs.Reading.{Reading, word_of, pointers_of, tag_size}
-use Rattle.capnp_objects.specs.Refusals.{landing_words, Unfollowed, exceeding, leading_nowhere, Stopped, no_target, broken, claim_exceeds, count_exceeds, CanBeRead, ReadsBefore, in_struct, in_pointers, in_element, StopsWithin, here, below, StopsAmong, StopsAmongElements, Refused, BreaksOff}
+use Rattle.capnp_objects.specs.Refusals.{landing_words, Unfollowed, exceeding, leading_nowhere, Stopped, no_target, broken, claim_exceeds, count_exceeds, CanBeRead, in_struct, in_pointers, in_element, StopsWithin, here, below, StopsAmong, StopsAmongElements, Refused, IsTried}
 use Rattle.capnp_objects.specs.Spending.{Paid}
 use Rattle.capnp_objects.specs.Wanted.{Form, plain, FollowsFor, FollowsTo}
 use Rattle.capnp_objects.specs.declared.object.Purpose.{Purpose}
@@ -24,6 +24,7 @@ use Rattle.capnp_objects.proofs.Followed.{leads_to, leads_there}
 use Rattle.capnp_objects.proofs.Stops.{object_spends, Reached, stopped_struct, stopped_pointers, stopped_structs, refused_here, refused_pads, refused_claim, refused_elements, leads_pads}
 use Rattle.capnp_objects.proofs.Objects.{own_struct, own_pointers, own_structs}
 use Rattle.capnp_objects.proofs.Unreadable.{Unreadable, Spends}
+use Rattle.capnp_objects.proofs.Shorthands.{ReadsBefore}
 
 -- what is granted in one charge
 spends_once : {charging : Bool} {m m' : Meter} {g : ℕ} → Paid charging m m' g 1 → Spends charging m m' 1
@@ -107,7 +108,7 @@ spends_below {r = r} {a = a} o (in_element es ts between (z, seven) fewer less e
     (spends_on (element_count es * q) q (paid_elements rows) (pointers_within_elements (child_at r a (pred r.levels) (a.start + 1)) (tag_size S a) es rows.cost rows.means) (one_element_more (element_count es) n q fewer)
     (spends_on (count ts) 1 (paid_all all) (pointers_within_all (pointers_of (child_at r a (pred r.levels) (a.start + 1)) (tag_size S a) (element_count es)) ts all.cost all.means) (omega (arith, less)) rest))
 
-pub breaks_off_spends : {form : Form} {r : Reading} {m m' : Meter} → BreaksOff form r m m' → Spends r.charging m m' 1
+pub breaks_off_spends : {form : Form} {r : Reading} {m m' : Meter} → StopsWithin form (IsTried form) r m m' → Spends r.charging m m' 1
 breaks_off_spends (here (inl stopped)) = stopped_spends stopped.1
 breaks_off_spends (here (inr (a, o))) = spends_once (paid_own o)
 breaks_off_spends (below a q o before rest) = spends_below o before (breaks_off_spends rest)
@@ -166,7 +167,7 @@ led_there Size r a l = l.0
 pub not_stopped : {purpose : Purpose} {r : Reading} {m m' : Meter} {k : ErrorKind} → CanBeRead purpose r m → Stopped purpose plain r m m' k → ⊥
 unfolding CanBeRead
 not_stopped (inl z) h = not_stopped_null z h
-not_stopped {purpose} {r} (inr (inl (a, l, low, covers))) h = sound_not_stopped (leads_there r a (led_there purpose r a l) (λ f. omega (arith, f, low)), sound_capability low (λ e. e), covers, λ o. absurd (omega (arith, o, low))) h
+not_stopped {purpose} {r} (inr (inl (a, l, low, covers))) h = sound_not_stopped (leads_there r a (led_there purpose r a l) (λ f. omega (arith, f, low)), sound_capability low (λ e. e refl), covers, λ o. absurd (omega (arith, o, low))) h
 not_stopped {purpose} {r} {m} (inr (inr (a, l, meets, covers))) h = sound_not_stopped (leads_there r a l (λ f. let i = meets.is_object in omega (arith, f, i)), sound_object meets, affords_less r.charging m a.pads (own purpose r.segments a) (omega arith) covers, λ _. covers) h
 
 -- what was read could be read

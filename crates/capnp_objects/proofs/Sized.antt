@@ -8,10 +8,11 @@ use Rattle.capnp_format.specs.Segments.{Segments, word_at, words_at, HasWords, T
 use Rattle.capnp_format.specs.Tree.{Tree, Null, Capability, Struct, Flat, Pointers, Structs, Trees, no_trees, tree, Elements, no_elements, element, count, element_count, depth, depth_all, depth_elements}
 use Rattle.capnp_format.specs.Forest.{target, target_in}
 use Rattle.capnp_objects.specs.Faults.{LeadsTo, child_at}
-use Rattle.capnp_objects.specs.Outcomes.{MeansThere, MeanThere, ElementsMean}
+use Rattle.capnp_objects.specs.Outcomes.{MeansThere}
 use Rattle.capnp_objects.specs.Reading.{Reading, behind, sized}
-use Rattle.capnp_objects.specs.Sizing.{SizedAll, SizedElements, SizedThere, SizedAllThere}
+use Rattle.capnp_objects.specs.Sizing.{SizedAll, SizedElements, SizedThere}
 use Rattle.capnp_objects.proofs.Faultless.{same_target}
+use Rattle.capnp_objects.proofs.Shorthands.{MeanThere, ElementsMean, SizedAllThere}
 
 -- the walk over the pointers of elements of a size, from a place on
 abbrev pub ElementsSized : Reading → StructSize → Elements → ℕ → Type 0

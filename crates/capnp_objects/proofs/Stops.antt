@@ -11,7 +11,7 @@ use Rattle.capnp_words.specs.Meter.{Meter, Affords}
 use Rattle.capnp_objects.specs.Demands.{claim, tag, amplified, own, Meets}
 use Rattle.capnp_objects.specs.Faults.{of_struct, of_list, of_element, here, below, Charges, LeadsTo, child_at, of_pads, of_object, of_elements}
 use Rattle.capnp_objects.specs.Wanted.{BreaksAt, FollowsTo}
-use Rattle.capnp_objects.specs.Outcomes.{MeansThere, MeanThere, ElementsMean, Entered}
+use Rattle.capnp_objects.specs.Outcomes.{MeansThere, Entered}
 use Rattle.capnp_objects.proofs.Unreadable.{Unreadable, UnreadableAll, UnreadableElements, Spends}
 use Rattle.capnp_objects.specs.Wanted.{Form}
 use Rattle.capnp_objects.specs.Spending.{Paid}
@@ -24,6 +24,7 @@ use Rattle.capnp_objects.proofs.Faultless.{no_fault}
 use Rattle.capnp_objects.proofs.Objects.{own_struct, own_pointers, own_structs}
 use Rattle.capnp_objects.proofs.Budgets.{fewer_than_words, paid_both, paid_own, affords_rest}
 use Rattle.capnp_objects.proofs.Sized.{one_target}
+use Rattle.capnp_objects.proofs.Shorthands.{MeanThere, ElementsMean}
 
 -- The word at a place is followed to a, and its pads are paid, from m to m', the pointer counted.
 pub record Reached (r : Reading) (m m' : Meter) (a : Target) : Type 0 where

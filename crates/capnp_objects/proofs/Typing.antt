@@ -6,19 +6,23 @@ use Rattle.capnp_words.specs.Meter.{Meter, Affords}
 use Rattle.capnp_format.specs.Word.{kind}
 use Rattle.capnp_format.specs.Segments.{Target}
 use Rattle.capnp_words.specs.declared.wire_pointer.PointerType.{PointerType}
+use Rattle.capnp_words.specs.declared.wire_pointer.PointerType.TheVariants.{Null}
 use Rattle.capnp_objects.specs.declared.source.Found.{Found}
 use Rattle.capnp_objects.specs.Landings.{found_target, following, IsFollowed}
 use Rattle.capnp_objects.specs.Reading.{Reading, word_of}
 use Rattle.capnp_objects.specs.Refusals.{exceeding, leading_nowhere}
-use Rattle.capnp_objects.specs.Types.{type_of, HasType, HasNoType, not_followed, of_no_type}
+use Rattle.capnp_objects.specs.Types.{type_of, IsOfType, HasNoType, not_followed, of_no_type}
 use Rattle.capnp_objects.proofs.Followed.{leads_there}
 use Rattle.capnp_objects.proofs.Landings.{IsCounted, reached}
 use Rattle.capnp_objects.proofs.Refusals.{not_unfollowed}
 use Rattle.capnp_objects.specs.Wanted.{FollowsTo}
 
+-- The pointer is null, or leads to a word that describes something, and m covers its landing pads.
+abbrev pub HasType : Reading → Meter → Type 0
+HasType r m = (t : PointerType) × (m' : Meter) × IsOfType r m m' t
+
 pub null_has_type : (r : Reading) (m : Meter) → word_of r ≡ 0 → HasType r m
-unfolding HasType
-null_has_type r m null = inl null
+null_has_type r m null = (Null, m, inl (null, refl, refl))
 
 -- a word that describes something is not far
 not_far : (w : ℕ) (t : PointerType) → type_of w ≡ Ok t → kind w ≢ 2
@@ -26,8 +30,7 @@ not_far w t e two = absurd (let f : type_of w ≡ Err UnexpectedFarPointer = (rw
 
 -- the outcome once the pointer is followed
 pub has_type : {r : Reading} {m m₁ m₂ : Meter} {l : Found} (t : PointerType) → IsCounted r m m₁ → IsFollowed (following r) m₁ m₂ l → type_of (found_target l).word ≡ Ok t → HasType r m
-unfolding HasType
-has_type {l = l} t o f e = let there = reached o f in inr (found_target l, t, there.follows, e, there.paid.covers)
+has_type {m₂ = m₂} {l = l} t o f e = let there = reached o f in (t, m₂, inr (found_target l, there.follows, e, there.paid))
 
 pub has_no_type : {r : Reading} {m m₁ m₂ : Meter} {l : Found} {k : ErrorKind} → IsCounted r m m₁ → IsFollowed (following r) m₁ m₂ l → type_of (found_target l).word ≡ Err k → HasNoType r m m₂ k
 has_no_type {l = l} o f e = let there = reached o f in of_no_type (found_target l) there.follows e there.paid
@@ -42,9 +45,8 @@ not_untyped_there {r} a t f e covers (not_followed h) = not_unfollowed a (leads_
 not_untyped_there a t f e covers (of_no_type b g none paid) = absurd (let h = f.1 in let i = g.1 in let same : a ≡ b = cc (h, i) in cc (e, none, same))
 
 pub not_untyped : (r : Reading) (m m' : Meter) (k : ErrorKind) → HasType r m → HasNoType r m m' k → ⊥
-unfolding HasType
-not_untyped r m m' k (inl null) h = not_untyped_null null h
-not_untyped r m m' k (inr (a, t, f, e, covers)) h = not_untyped_there a t f e covers h
+not_untyped r m m' k (t, n, inl is_null) h = not_untyped_null is_null.0 h
+not_untyped r m m' k (t, n, inr (a, f, e, paid)) h = not_untyped_there a t f e paid.covers h
 
 pub typed_exactly : (r : Reading) (m m' : Meter) (result : Result PointerType ErrorKind) → IfOk result (λ t. HasType r m) → IfErr result (HasNoType r m m') → IsOk result ↔ HasType r m
 typed_exactly r m m' (Ok t) good bad = ((λ e. good), (λ has. refl))

@@ -6,10 +6,11 @@ use Rattle.capnp_words.specs.declared.wire_pointer.StructSize.{StructSize}
 use Rattle.capnp_words.specs.Meter.{Meter, Affords}
 use Rattle.capnp_format.specs.Tree.{Tree, Trees, Elements, count, element_count, capabilities, capabilities_all, capabilities_elements}
 use Rattle.capnp_objects.specs.Faults.{Somewhere, Exceeds}
-use Rattle.capnp_objects.specs.Outcomes.{MeansThere, MeanThere, ElementsMean}
+use Rattle.capnp_objects.specs.Outcomes.{MeansThere}
 use Rattle.capnp_objects.specs.Reading.{Reading, pointers_of}
 use Rattle.capnp_objects.specs.Spending.{after}
 use Rattle.capnp_objects.specs.Wanted.{Form, BreaksAt, AllowsCapabilities}
+use Rattle.capnp_objects.proofs.Shorthands.{MeanThere, ElementsMean}
 
 -- From m to m' some words g were granted and some pointers followed, at most as many as g and a limit together.
 abbrev pub Spends : Bool → Meter → Meter → ℕ → Type 0

@@ -21,7 +21,7 @@ use Rattle.capnp_objects.specs.Outcomes.{Entered}
 use Rattle.capnp_objects.specs.Objects.{IsObject}
 use Rattle.capnp_objects.specs.Refusals.{GoesBefore, in_struct, in_pointers, in_element, CanBeRead}
 use Rattle.capnp_objects.specs.Reading.{Reading, behind, pointers_of, tag_size, sized}
-use Rattle.capnp_objects.specs.Sizing.{Sized, SizedAll, SizedThere, SizedAllThere, FitSize, Tally, tally, WalksAll, WalksElements, SizeStopped, unmeasured, too_large, too_many, SizeStops, here, below, SizesStop, RowsStop}
+use Rattle.capnp_objects.specs.Sizing.{Sized, SizedAll, SizedThere, FitSize, Tally, tally, WalksAll, WalksElements, SizeStopped, unmeasured, too_large, too_many, SizeStops, here, below, SizesStop, RowsStop}
 use Rattle.capnp_objects.specs.Spending.{Paid, after}
 use Rattle.capnp_objects.proofs.Budgets.{affords_rest, after_none}
 use Rattle.capnp_objects.proofs.Measures.{with_object_counted, can_not, paid_words}
@@ -32,6 +32,7 @@ use Rattle.capnp_objects.proofs.Sized.{of_struct as form_struct, of_pointers as 
 use Rattle.capnp_objects.proofs.Walked.{inside, beginning, same_place, same_size, counted_struct, counted_flat, counted_pointers, counted_structs}
 use Rattle.capnp_objects.proofs.Followed.{entered_leads, leads_to, leads_there}
 use Rattle.capnp_objects.proofs.Stops.{same_word}
+use Rattle.capnp_objects.proofs.Shorthands.{SizedAllThere}
 
 -- from children to their object
 

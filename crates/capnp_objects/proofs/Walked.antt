@@ -19,7 +19,7 @@ use Rattle.capnp_objects.specs.declared.object.Purpose.TheVariants.{Size}
 use Rattle.capnp_objects.specs.Outcomes.{Entered}
 use Rattle.capnp_objects.specs.Objects.{IsObject}
 use Rattle.capnp_objects.specs.Reading.{Reading, behind, segment_read, pointers_of, tag_size, sized}
-use Rattle.capnp_objects.specs.Sizing.{Sized, SizedAll, SizedThere, SizedAllThere, Tally, tally, Walks, WalksAll, WalksElements, WalksPlace, WalksPointers, WalksRows}
+use Rattle.capnp_objects.specs.Sizing.{Sized, SizedAll, SizedThere, Tally, tally, WalksAll, WalksElements, WalksPlace, WalksPointers}
 use Rattle.capnp_objects.specs.Spending.{Paid, pointers_in_all}
 use Rattle.capnp_format.proofs.Children.{with_last, count-with_last}
 use Rattle.capnp_format.proofs.Slices.{length_words}
@@ -30,6 +30,8 @@ use Rattle.capnp_objects.proofs.Budgets.{affords_none, after_none, paid_both}
 use Rattle.capnp_objects.proofs.Copies.{with_last_element, count-with_last_element, capabilities-with_last, pointers_in-with_last, capabilities-with_last_element, pointers_in-with_last_element}
 use Rattle.capnp_objects.proofs.Parts.{claim_struct, claim_list, claim_flat}
 use Rattle.capnp_objects.proofs.Followed.{entered_leads, leads_there}
+use Rattle.capnp_objects.proofs.Shorthands.{SizedAllThere}
+use Rattle.capnp_objects.proofs.Shorthands.{WalksRows}
 
 pub words-with_last : (ts : Trees) (u : Tree) → word_count_all (with_last ts u) ≡ word_count_all ts + word_count u
 words-with_last no_trees u = omega arith
@@ -76,18 +78,19 @@ sized_more r (tree t ts) u (k, (a, b, one, rest, g)) (c, m) =
 pub walks_none : (r : Reading) (from : Tally) → WalksAll r from from no_trees
 walks_none r from = record { cost = 0; is_sized = refl; paid = paid_none r from.meter; words_are = omega arith; caps_are = omega arith }
 
-walks_more : {r : Reading} {from mid to : Tally} {ts : Trees} {u : Tree} → WalksAll r from mid ts → Walks (behind r (count ts)) mid to u → WalksAll r from to (with_last ts u)
-walks_more {r} {from} {mid} {to} {ts} {u} all one = record {
+walks_more : {r : Reading} {from mid to : Tally} {ts : Trees} → WalksAll r from mid ts → (one : WalksPlace (behind r (count ts)) mid to) → WalksAll r from to (with_last ts one.tree)
+walks_more {r} {from} {mid} {to} {ts} all one = record {
   cost = all.cost + one.cost;
-  is_sized = sized_more r ts u (all.cost, all.is_sized) (one.cost, one.is_sized);
-  paid = subst (Paid r.charging from.meter to.meter (all.cost + one.cost)) (sym (pointers_in-with_last ts u)) (paid_both all.paid one.paid);
-  words_are = omega (arith, all.words_are, one.words_are, words-with_last ts u);
-  caps_are = omega (arith, all.caps_are, one.caps_are, capabilities-with_last ts u);
+  is_sized = sized_more r ts one.tree (all.cost, all.is_sized) (one.cost, one.is_sized);
+  paid = subst (Paid r.charging from.meter to.meter (all.cost + one.cost)) (sym (pointers_in-with_last ts one.tree)) (paid_both all.paid one.paid);
+  words_are = omega (arith, all.words_are, one.words_are, words-with_last ts one.tree);
+  caps_are = omega (arith, all.caps_are, one.caps_are, capabilities-with_last ts one.tree);
 }
 
 pub pointer_walked : {r : Reading} {i : ℕ} {from mid to : Tally} → WalksPointers r i from mid → WalksPlace (behind r i) mid to → WalksPointers r (i + 1) from to
-pointer_walked {r} {i} {from} {mid} {to} (ts, len, all) (u, one) =
-    (with_last ts u, omega (arith, count-with_last ts u, len), walks_more all (subst (λ j. Walks (behind r j) mid to u) (sym len) one))
+pointer_walked {r} {i} {from} {mid} {to} (ts, len, all) one =
+    let last : WalksPlace (behind r (count ts)) mid to = subst (λ j. WalksPlace (behind r j) mid to) (sym len) one in
+    (with_last ts last.tree, omega (arith, count-with_last ts last.tree, len), walks_more all last)
 
 -- elements one behind the other
 record ElementAt (r : Reading) (size : StructSize) (j : ℕ) (ws : List ℕ) (ts : Trees) : Type 0 where
@@ -169,20 +172,18 @@ rows_without r size (suc i) from none fits =
 -- objects
 
 pub null_walked : {r : Reading} {from : Tally} {m' : Meter} → IsObject Size r from.meter m' ObjectNull → WalksPlace r from (tally from.words from.caps m')
-null_walked {r} {from} {m'} (z, e) = (
-  Null,
-  record {
-    cost = 0;
-    is_sized = (z, refl);
-    paid = subst (λ m. Paid r.charging from.meter m 0 0) (sym e) (paid_none r from.meter);
-    words_are = omega arith;
-    caps_are = omega arith;
-  },
-)
+null_walked {r} {from} {m'} (z, e) = record {
+  tree = Null;
+  cost = 0;
+  is_sized = (z, refl);
+  paid = subst (λ m. Paid r.charging from.meter m 0 0) (sym e) (paid_none r from.meter);
+  words_are = omega arith;
+  caps_are = omega arith;
+}
 
 pub capability_walked : {r : Reading} {from : Tally} {m' : Meter} {i : ℕ} → IsObject Size r from.meter m' (ObjectCapability i) → WalksPlace r from (tally from.words (from.caps + 1) m')
 capability_walked {r} {from} {m'} {i} (a, (l, some), low, index, covers, spent) =
-    (Capability (upper_half a.word), record { cost = a.pads; is_sized = (a, some, leads_there r a l (λ f. omega (arith, f, low)), omega arith, refl); paid = record { covers = covers; spent = spent }; words_are = omega arith; caps_are = refl })
+    record { tree = Capability (upper_half a.word); cost = a.pads; is_sized = (a, some, leads_there r a l (λ f. omega (arith, f, low)), omega arith, refl); paid = record { covers = covers; spent = spent }; words_are = omega arith; caps_are = refl }
 
 pub flat_at : {r : Reading} {from : Tally} {m' : Meter} {a : Target} → Entered Size r from.meter m' a → kind a.word ≡ 1 → element_size a.word ≤ 5 →
     WalksPlace r from (tally (from.words + words_for (element_size a.word) (list_count a.word)) from.caps m')
@@ -193,24 +194,23 @@ flat_at {r} {from} {m'} {a} o z small =
     let words : List ℕ = words_at S a.segment a.start (words_for kind_of number) in
     let ns : List ℕ = unpacked kind_of number words in
     let long : length ns ≡ number = length-digits _ number _ in
-    let claimed : claim a.word ≡ words_for kind_of number = claim_list a.word kind_of z refl ∙ claim_flat kind_of number small in (
-      Flat kind_of ns,
-      record {
-        cost = a.pads + claim a.word;
-        is_sized = (
-          a,
-          o.meets.levels,
-          small,
-          record { leads_to = entered_leads o; is_list = z; is_size = refl; counts = sym long },
-          (λ some. omega (arith, o.meets.claims (λ v. omega (arith, v.1, some)), claimed, ap (words_for kind_of) long)),
-          subst (λ j. ns ≡ unpacked kind_of j (words_at S a.segment a.start (words_for kind_of j))) (sym long) refl,
-          ap (λ x. a.pads + x) (claimed ∙ ap (words_for kind_of) (sym long)),
-        );
-        paid = paid_words o;
-        words_are = ap (λ i. from.words + words_for kind_of i) (sym long);
-        caps_are = omega arith;
-      },
-    )
+    let claimed : claim a.word ≡ words_for kind_of number = claim_list a.word kind_of z refl ∙ claim_flat kind_of number small in
+    record {
+      tree = Flat kind_of ns;
+      cost = a.pads + claim a.word;
+      is_sized = (
+        a,
+        o.meets.levels,
+        small,
+        record { leads_to = entered_leads o; is_list = z; is_size = refl; counts = sym long },
+        (λ some. omega (arith, o.meets.claims (λ v. omega (arith, v.1, some)), claimed, ap (words_for kind_of) long)),
+        subst (λ j. ns ≡ unpacked kind_of j (words_at S a.segment a.start (words_for kind_of j))) (sym long) refl,
+        ap (λ x. a.pads + x) (claimed ∙ ap (words_for kind_of) (sym long)),
+      );
+      paid = paid_words o;
+      words_are = ap (λ i. from.words + words_for kind_of i) (sym long);
+      caps_are = omega arith;
+    }
 
 pub flat_walked : {r : Reading} {from : Tally} {m' : Meter} (start : Place) (size : ElementSize) (i : ℕ) → IsObject Size r from.meter m' (ObjectFlat start size i) →
     WalksPlace r from (tally (from.words + words_for (size_number size) i) from.caps m')
@@ -232,25 +232,24 @@ struct_at {r} {from} {to} {m'} {a} o z (ts, len, all) =
     let claimed : claim a.word ≡ d + q = claim_struct a.word z in
     let room : a.start + (d + q) ≤ length (segment_read (child_at r a 0 0)) = omega (arith, o.meets.claims (λ v. omega (arith, v.0, z)), claimed) in
     let ws : List ℕ = words_at S a.segment a.start d in
-    let long : length ws ≡ d = length_words S a.segment a.start d (omega (arith, room)) in (
-      Struct ws ts,
-      record {
-        cost = a.pads + claim a.word + all.cost;
-        is_sized = (
-          a,
-          all.cost,
-          o.meets.levels,
-          record { leads_to = entered_leads o; is_struct = z; data_of = sym long; pointers = sym len },
-          omega (arith, room, long, len),
-          rw long refl,
-          subst (λ i. SizedAll S (pred r.levels) a.segment (a.start + i) ts all.cost) (sym long) all.is_sized,
-          omega (arith, claimed, long, len),
-        );
-        paid = paid_both (paid_words o) all.paid;
-        words_are = omega (arith, all.words_are, counted_struct S a z, long, len);
-        caps_are = omega (arith, all.caps_are);
-      },
-    )
+    let long : length ws ≡ d = length_words S a.segment a.start d (omega (arith, room)) in
+    record {
+      tree = Struct ws ts;
+      cost = a.pads + claim a.word + all.cost;
+      is_sized = (
+        a,
+        all.cost,
+        o.meets.levels,
+        record { leads_to = entered_leads o; is_struct = z; data_of = sym long; pointers = sym len },
+        omega (arith, room, long, len),
+        rw long refl,
+        subst (λ i. SizedAll S (pred r.levels) a.segment (a.start + i) ts all.cost) (sym long) all.is_sized,
+        omega (arith, claimed, long, len),
+      );
+      paid = paid_both (paid_words o) all.paid;
+      words_are = omega (arith, all.words_are, counted_struct S a z, long, len);
+      caps_are = omega (arith, all.caps_are);
+    }
 
 pub struct_walked : {r : Reading} {from to : Tally} {m' : Meter} (start : Place) (size : StructSize) → IsObject Size r from.meter m' (ObjectStruct start size) →
     WalksPointers (inside r start size.data_words) size.pointers (tally (from.words + (size.data_words + size.pointers)) from.caps m') to → WalksPlace r from to
@@ -266,24 +265,23 @@ pointers_at : {r : Reading} {from to : Tally} {m' : Meter} {a : Target} → Ente
     WalksPointers (child_at r a (pred r.levels) a.start) (list_count a.word) (with_object_counted from a r.segments m') to → WalksPlace r from to
 pointers_at {r} {from} {to} {m'} {a} o z six (ts, len, all) =
     let S : Segments = r.segments in
-    let claimed : claim a.word ≡ list_count a.word = claim_list a.word 6 z six in (
-      Pointers ts,
-      record {
-        cost = a.pads + claim a.word + all.cost;
-        is_sized = (
-          a,
-          all.cost,
-          o.meets.levels,
-          record { leads_to = entered_leads o; is_list = z; is_size = six; counts = sym len },
-          omega (arith, o.meets.claims (λ v. omega (arith, v.1, six)), claimed, len),
-          all.is_sized,
-          omega (arith, claimed, len),
-        );
-        paid = paid_both (paid_words o) all.paid;
-        words_are = omega (arith, all.words_are, counted_pointers S a z six, len);
-        caps_are = omega (arith, all.caps_are);
-      },
-    )
+    let claimed : claim a.word ≡ list_count a.word = claim_list a.word 6 z six in
+    record {
+      tree = Pointers ts;
+      cost = a.pads + claim a.word + all.cost;
+      is_sized = (
+        a,
+        all.cost,
+        o.meets.levels,
+        record { leads_to = entered_leads o; is_list = z; is_size = six; counts = sym len },
+        omega (arith, o.meets.claims (λ v. omega (arith, v.1, six)), claimed, len),
+        all.is_sized,
+        omega (arith, claimed, len),
+      );
+      paid = paid_both (paid_words o) all.paid;
+      words_are = omega (arith, all.words_are, counted_pointers S a z six, len);
+      caps_are = omega (arith, all.caps_are);
+    }
 
 pub pointers_walked : {r : Reading} {from to : Tally} {m' : Meter} (start : Place) (i : ℕ) → IsObject Size r from.meter m' (ObjectPointers start i) →
     WalksPointers (inside r start 0) i (tally (from.words + i) from.caps m') to → WalksPlace r from to
@@ -305,27 +303,26 @@ structs_at {r} {from} {to} {m'} {a} o z seven (es, len, all) =
     let q : ℕ = pointer_count (tag S a) in
     let N : ℕ = list_count a.word in
     let claimed : claim a.word ≡ N + 1 = claim_list a.word 7 z seven in
-    let t = o.meets.tagged (z, seven) in (
-      Structs d q es,
-      record {
-        cost = a.pads + claim a.word + all.cost;
-        is_sized = (
-          a,
-          N,
-          all.cost,
-          o.meets.levels,
-          record { leads_to = entered_leads o; is_list = z; is_size = seven; counts = refl },
-          omega (arith, o.meets.claims (λ v. omega (arith, v.1, seven)), claimed),
-          record { is_struct = t.0; counts = sym len; data_of = refl; pointers = refl },
-          subst (λ j. j * (d + q) ≤ N) (sym len) t.1,
-          all.is_sized,
-          omega (arith, claimed),
-        );
-        paid = paid_both (paid_words o) all.paid;
-        words_are = let rows : element_count es * (d + q) ≡ element_words (tag S a) = ap (λ j. j * (d + q)) len in omega (arith, all.words_are, counted_structs S a z seven, rows);
-        caps_are = omega (arith, all.caps_are);
-      },
-    )
+    let t = o.meets.tagged (z, seven) in
+    record {
+      tree = Structs d q es;
+      cost = a.pads + claim a.word + all.cost;
+      is_sized = (
+        a,
+        N,
+        all.cost,
+        o.meets.levels,
+        record { leads_to = entered_leads o; is_list = z; is_size = seven; counts = refl },
+        omega (arith, o.meets.claims (λ v. omega (arith, v.1, seven)), claimed),
+        record { is_struct = t.0; counts = sym len; data_of = refl; pointers = refl },
+        subst (λ j. j * (d + q) ≤ N) (sym len) t.1,
+        all.is_sized,
+        omega (arith, claimed),
+      );
+      paid = paid_both (paid_words o) all.paid;
+      words_are = let rows : element_count es * (d + q) ≡ element_words (tag S a) = ap (λ j. j * (d + q)) len in omega (arith, all.words_are, counted_structs S a z seven, rows);
+      caps_are = omega (arith, all.caps_are);
+    }
 
 pub same_size : {size : StructSize} (S : Segments) (a : Target) → size.data_words ≡ data_words (tag S a) → size.pointers ≡ pointer_count (tag S a) → size ≡ tag_size S a
 same_size S a wide pointers = ap₂ (λ x y. record { data_words = x; pointers = y }) wide pointers

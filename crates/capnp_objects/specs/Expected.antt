@@ -21,8 +21,7 @@ use Rattle.capnp_words.specs.declared.error.ErrorKind.TheVariants.{NestingLimitE
 use Rattle.capnp_words.specs.Meter.{Meter}
 use Rattle.capnp_words.specs.declared.wire_pointer.ElementSize.{ElementSize}
 use Rattle.capnp_words.specs.declared.wire_pointer.ElementSize.TheVariants.{Void, Bit, Byte}
-use Rattle.capnp_words.specs.declared.wire_pointer.ElementSize.TheVariants.{TwoBytes, FourBytes}
-use Rattle.capnp_words.specs.declared.wire_pointer.ElementSize.TheVariants.{EightBytes, Pointer}
+use Rattle.capnp_words.specs.declared.wire_pointer.ElementSize.TheVariants.{Pointer}
 use Rattle.capnp_words.specs.declared.wire_pointer.ElementSize.TheVariants.{InlineComposite}
 use Rattle.capnp_words.specs.declared.wire_pointer.StructSize.{StructSize}
 use Rattle.capnp_words.specs.Sizes.{size_number}
@@ -65,26 +64,18 @@ narrow_elements expected found =
     || nat_eq (size_number expected) 6 && not (nat_eq found 6) then
     Some MessageContainsListWithIncompatibleElementType else None
 
--- Structs of these sections, where elements of a size are expected.
+-- Structs of these sections, where elements of a size are expected: bits are never structs, numbers
+-- are their first data, and pointers their first pointer.
 abbrev pub narrow_structs : ElementSize → StructSize → Option ErrorKind
 narrow_structs Void sections = None
+narrow_structs InlineComposite sections = None
 narrow_structs Bit sections = Some FoundStructListWhereBitListWasExpected
-narrow_structs Byte sections =
-    if nat_eq sections.data_words 0 then Some ExpectedAPrimitiveListButGotAListOfPointerOnlyStructs
-    else None
-narrow_structs TwoBytes sections =
-    if nat_eq sections.data_words 0 then Some ExpectedAPrimitiveListButGotAListOfPointerOnlyStructs
-    else None
-narrow_structs FourBytes sections =
-    if nat_eq sections.data_words 0 then Some ExpectedAPrimitiveListButGotAListOfPointerOnlyStructs
-    else None
-narrow_structs EightBytes sections =
-    if nat_eq sections.data_words 0 then Some ExpectedAPrimitiveListButGotAListOfPointerOnlyStructs
-    else None
 narrow_structs Pointer sections =
     if nat_eq sections.pointers 0 then Some ExpectedAPointerListButGotAListOfDataOnlyStructs
     else None
-narrow_structs InlineComposite sections = None
+narrow_structs size sections =
+    if nat_eq sections.data_words 0 then Some ExpectedAPrimitiveListButGotAListOfPointerOnlyStructs
+    else None
 
 -- A struct.
 abbrev pub struct_expected : Expectation

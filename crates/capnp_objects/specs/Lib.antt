@@ -14,4 +14,3 @@ pub mod Landings
 pub mod Entering
 pub mod Measures
 pub mod Sizing
-pub mod Laws

@@ -12,18 +12,9 @@ use Rattle.capnp_objects.specs.Reading.{Reading}
 use Rattle.capnp_objects.specs.Spending.{after, pointers_in, pointers_in_all, pointers_in_elements}
 use Rattle.capnp_objects.specs.Wanted.{Form, FollowsTo, AllowsCapabilities}
 
--- The place means t within the levels, at a cost; pointers one behind the other mean ts; elements
--- of this size mean es.
+-- The place means t within the levels, at a cost.
 abbrev pub MeansThere : Reading → Tree → ℕ → Type 0
 MeansThere r t c = Means r.segments r.levels r.segment r.at t c
-
--- Pointers one behind the other, from the place on, mean ts within the levels, at a cost.
-abbrev pub MeanThere : Reading → Trees → ℕ → Type 0
-MeanThere r ts c = MeansAll r.segments r.levels r.segment r.at ts c
-
--- Elements of this size, from the place on, mean es within the levels, at a cost.
-abbrev pub ElementsMean : Reading → StructSize → Elements → ℕ → Type 0
-ElementsMean r size es c = MeansElements r.segments r.levels r.segment r.at size.data_words size.pointers es c
 
 -- The place means t, at a cost that m covers and m' is less by.
 pub record Reads (form : Form) (r : Reading) (m m' : Meter) (t : Tree) : Type 0 where
@@ -36,16 +27,16 @@ pub record Reads (form : Form) (r : Reading) (m m' : Meter) (t : Tree) : Type 0 
 -- Pointers one behind the other, from the place on, mean ts, at a cost that m covers and m' is less by.
 pub record ReadsAll (form : Form) (r : Reading) (m m' : Meter) (ts : Trees) : Type 0 where
   pub cost : ℕ
-  pub means : MeanThere r ts cost
+  pub means : MeansAll r.segments r.levels r.segment r.at ts cost
   pub takes : AllowsCapabilities form (capabilities_all ts)
   pub covers : Affords r.charging m cost
   pub spent : m' ≡ after r.charging m cost (pointers_in_all ts)
 
--- Elements of a list of structs mean es, at a cost that m covers and m' is less by.
+-- Elements of a size, from the place on, mean es, at a cost that m covers and m' is less by.
 pub record ReadsElements (form : Form) (r : Reading) (size : StructSize) (m m' : Meter)
     (es : Elements) : Type 0 where
   pub cost : ℕ
-  pub means : ElementsMean r size es cost
+  pub means : MeansElements r.segments r.levels r.segment r.at size.data_words size.pointers es cost
   pub takes : AllowsCapabilities form (capabilities_elements es)
   pub covers : Affords r.charging m cost
   pub spent : m' ≡ after r.charging m cost (pointers_in_elements es)

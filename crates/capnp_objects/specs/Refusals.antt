@@ -114,10 +114,6 @@ pub data GoesBefore {X : Type 0} (Run : Reading → X → X → Trees → Type 0
       (element_count es)) mid to ts →
       GoesBefore Run Rows r a q from to
 
--- They are read, from m to m'.
-abbrev pub ReadsBefore : Form → Reading → Target → ℕ → Meter → Meter → Type 0
-ReadsBefore form r a q m m' = GoesBefore (ReadsAll form) (ReadsElements form) r a q m m'
-
 -- The reading of a whole value stops, from m to m', where P says so of one object: at its own
 -- object, or at that of one of its pointers, when the object and the pointers before that one were
 -- read.
@@ -127,7 +123,7 @@ pub data StopsWithin (form : Form) (P : Reading → Meter → Meter → Type 0) 
   below :
       {r : Reading} {m first mid m' : Meter} (a : Target) (q : ℕ) →
       Entered Value r m first a →
-      ReadsBefore form r a q first mid →
+      GoesBefore (ReadsAll form) (ReadsElements form) r a q first mid →
       StopsWithin form P (child_at r a (pred r.levels) q) mid m' →
       StopsWithin form P r m m'
 
@@ -149,29 +145,13 @@ pub record StopsAmongElements (form : Form) (P : Reading → Meter → Meter →
   pub are_read : ReadsElements form r size m mid first
   pub stops : StopsAmong form P (pointers_of r size (element_count first)) size.pointers mid m'
 
--- The reading of a whole value is refused by the name k: one object is; so of i pointers, and of i elements.
+-- The reading of a whole value is refused by the name k: that of one object is.
 abbrev pub Refused : Form → Reading → Meter → Meter → ErrorKind → Type 0
 Refused form r m m' k = StopsWithin form (λ s i j. Stopped Value form s i j k) r m m'
 
-abbrev pub RefusedAll : Form → Reading → ℕ → Meter → Meter → ErrorKind → Type 0
-RefusedAll form r n m m' k = StopsAmong form (λ s i j. Stopped Value form s i j k) r n m m'
-
-abbrev pub RefusedElements : Form → Reading → StructSize → ℕ → Meter → Meter → ErrorKind → Type 0
-RefusedElements form r size n m m' k =
-    StopsAmongElements form (λ s i j. Stopped Value form s i j k) r size n m m'
-
 -- The reading of one object stops; or the object was read, and what is made of it finds no room.
+-- A reading that stops here is broken off: all before the object was read, and it was granted no
+-- more than its own charges.
 abbrev pub IsTried : Form → Reading → Meter → Meter → Type 0
 IsTried form r m m' =
     ((k : ErrorKind) × Stopped Value form r m m' k) ⊎ ((a : Target) × Entered Value r m m' a)
-
--- The reading of a whole value is broken off at one object: all before it was read, and it was
--- granted no more than its own charges. So of i pointers, and of i elements.
-abbrev pub BreaksOff : Form → Reading → Meter → Meter → Type 0
-BreaksOff form r m m' = StopsWithin form (IsTried form) r m m'
-
-abbrev pub BreaksOffAmong : Form → Reading → ℕ → Meter → Meter → Type 0
-BreaksOffAmong form r n m m' = StopsAmong form (IsTried form) r n m m'
-
-abbrev pub BreaksOffAmongElements : Form → Reading → StructSize → ℕ → Meter → Meter → Type 0
-BreaksOffAmongElements form r size n m m' = StopsAmongElements form (IsTried form) r size n m m'

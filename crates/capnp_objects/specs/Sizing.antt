@@ -66,26 +66,13 @@ abbrev mutual
       (k : ℕ) × (l : ℕ) × (length words ≡ d) × (count children ≡ q) × HasWords S s p words
       × SizedAll S n s (p + d) children k × SizedElements S n s (p + d + q) d q es l × (c ≡ k + l)
 
--- The walk from the place goes over t, and charges c words; over pointers one behind the other.
+-- The walk from the place goes over t, and charges c words.
 abbrev pub SizedThere : Reading → Tree → ℕ → Type 0
 SizedThere r t c = Sized r.segments r.levels r.segment r.at t c
-
-abbrev pub SizedAllThere : Reading → Trees → ℕ → Type 0
-SizedAllThere r ts c = SizedAll r.segments r.levels r.segment r.at ts c
 
 -- So many words and capabilities fit the numbers that a size has.
 abbrev pub FitSize : ℕ → ℕ → Type 0
 FitSize words caps = (words < 2 ^ 64) × (caps < 2 ^ 32)
-
--- The walk from a place gives so many words and capabilities, and takes the limiter from m to m'.
-abbrev pub Totals : Reading → Meter → Meter → ℕ → ℕ → Type 0
-Totals r m m' words caps = (t : Tree) × (c : ℕ) × SizedThere r t c × (words ≡ word_count t) ×
-    (caps ≡ capabilities t) × Paid r.charging m m' c (pointers_in t)
-
--- There is a walk from a place that m covers, whose words and capabilities fit.
-abbrev pub HasSize : Reading → Meter → Type 0
-HasSize r m = (t : Tree) × (c : ℕ) × SizedThere r t c × FitSize (word_count t) (capabilities t) ×
-    Affords r.charging m c
 
 -- How far a walk has come: the words and capabilities that it has counted, and its limiter.
 pub record Tally : Type 0 where
@@ -97,22 +84,23 @@ abbrev pub tally : ℕ → ℕ → Meter → Tally
 tally words caps m = record { words = words; caps = caps; meter = m }
 
 -- From one tally to another the walk goes over the value at a place.
-pub record Walks (r : Reading) (from to : Tally) (t : Tree) : Type 0 where
+pub record WalksPlace (r : Reading) (from to : Tally) : Type 0 where
+  pub tree : Tree
   pub cost : ℕ
-  pub is_sized : SizedThere r t cost
-  pub paid : Paid r.charging from.meter to.meter cost (pointers_in t)
-  pub words_are : to.words ≡ from.words + word_count t
-  pub caps_are : to.caps ≡ from.caps + capabilities t
+  pub is_sized : SizedThere r tree cost
+  pub paid : Paid r.charging from.meter to.meter cost (pointers_in tree)
+  pub words_are : to.words ≡ from.words + word_count tree
+  pub caps_are : to.caps ≡ from.caps + capabilities tree
 
--- Over those of pointers one behind the other, from the place on.
+-- Over the values of pointers one behind the other, from the place on.
 pub record WalksAll (r : Reading) (from to : Tally) (ts : Trees) : Type 0 where
   pub cost : ℕ
-  pub is_sized : SizedAllThere r ts cost
+  pub is_sized : SizedAll r.segments r.levels r.segment r.at ts cost
   pub paid : Paid r.charging from.meter to.meter cost (pointers_in_all ts)
   pub words_are : to.words ≡ from.words + word_count_all ts
   pub caps_are : to.caps ≡ from.caps + capabilities_all ts
 
--- Over those of the pointers of elements of a size.
+-- Over the values of the pointers of elements of a size, the first of which starts at the place.
 pub record WalksElements (r : Reading) (size : StructSize) (from to : Tally) (es : Elements) : Type 0 where
   pub cost : ℕ
   pub is_sized : SizedElements r.segments r.levels r.segment r.at size.data_words size.pointers es cost
@@ -120,23 +108,9 @@ pub record WalksElements (r : Reading) (size : StructSize) (from to : Tally) (es
   pub words_are : to.words ≡ from.words + word_count_elements es
   pub caps_are : to.caps ≡ from.caps + capabilities_elements es
 
--- From one tally to another the walk goes over a place; over i pointers; over the pointers of i elements.
-abbrev pub WalksPlace : Reading → Tally → Tally → Type 0
-WalksPlace r from to = (t : Tree) × Walks r from to t
-
+-- From one tally to another the walk goes over i pointers, from the place on.
 abbrev pub WalksPointers : Reading → ℕ → Tally → Tally → Type 0
 WalksPointers r i from to = (ts : Trees) × (count ts ≡ i) × WalksAll r from to ts
-
-abbrev pub WalksRows : Reading → StructSize → ℕ → Tally → Tally → Type 0
-WalksRows r size i from to = (es : Elements) × (element_count es ≡ i) × WalksElements r size from to es
-
--- There is a walk over i pointers from a place on that the limiter of a tally covers, and that the
--- sums of the tally have room for.
-abbrev pub HaveSizes : Reading → ℕ → Tally → Type 0
-HaveSizes r i from =
-    (ts : Trees) × (c : ℕ) × (count ts ≡ i) × SizedAllThere r ts c ×
-    FitSize (from.words + word_count_all ts) (from.caps + capabilities_all ts) ×
-    Affords r.charging from.meter c
 
 -- The walk stops at one object, with the limiter m', by the name k. The sums before it fit. The
 -- object can't be measured; or it is measured, and with its own words, or with it as a capability,
@@ -156,7 +130,7 @@ pub data SizeStopped (r : Reading) (from : Tally) (m' : Meter) (k : ErrorKind) :
       k ≡ MessageTooLarge (2 ^ 64 - 1) →
       SizeStopped r from m' k
 
--- The walk from a place stops: at its own object, or at that of one of its pointers, when the
+-- The walk from a place stops by the name k: at its own object, or at that of one of its pointers, when the
 -- object and the pointers before that one were walked over. The sums before the object that stops
 -- it fit.
 pub data SizeStops (k : ErrorKind) : Reading → Tally → Meter → Type 0 where
@@ -186,7 +160,3 @@ pub record RowsStop (r : Reading) (size : StructSize) (i : ℕ) (from : Tally) (
   pub mid : Tally
   pub are_walked : WalksElements r size from mid first
   pub stops : SizesStop (pointers_of r size (element_count first)) size.pointers mid m' k
-
--- The walk from a place is refused by the name k, from m to m'.
-abbrev pub SizeRefused : Reading → Meter → Meter → ErrorKind → Type 0
-SizeRefused r m m' k = SizeStops k r (tally 0 0 m) m'

@@ -1,8 +1,6 @@
 -- Of which kind the object is that a pointer leads to, by the word that describes it alone.
 use Rattle.std.specs.Prelude.{◌≡◌, ◌≢◌, ◌⊎◌, ℕ, if◌then◌else◌, nat_eq, Result, Ok, Err}
 use Rattle.capnp_words.specs.declared.error.ErrorKind.{ErrorKind}
-use Rattle.capnp_words.specs.declared.error.ErrorKind.TheVariants.{MessageContainsNonCapabilityPointerWhereCapabilityPointerWasExpected}
-use Rattle.capnp_words.specs.declared.error.ErrorKind.TheVariants.{MessageContainsNullCapabilityPointer}
 use Rattle.capnp_words.specs.declared.error.ErrorKind.TheVariants.{UnexpectedFarPointer}
 use Rattle.capnp_words.specs.declared.error.ErrorKind.TheVariants.{UnknownPointerType}
 use Rattle.capnp_words.specs.Meter.{Meter, Affords}
@@ -28,22 +26,9 @@ abbrev pub IsOfType : Reading → Meter → Meter → PointerType → Type 0
 IsOfType r m m' t = ((word_of r ≡ 0) × (t ≡ Null) × (m' ≡ m)) ⊎
     ((a : Target) × FollowsTo r a × (type_of a.word ≡ Ok t) × Paid r.charging m m' a.pads 1)
 
--- The call is answered: the pointer is null, or leads to a word that describes something, and m
--- covers its landing pads.
-unfoldable pub HasType : Reading → Meter → Type 0
-HasType r m =
-    (word_of r ≡ 0) ⊎ ((a : Target) × (t : PointerType) × FollowsTo r a × (type_of a.word ≡ Ok t) ×
-    Affords r.charging m a.pads)
-
 -- The call is refused, from m to m', by the name k: the pointer is not followed, or leads to a word
 -- that describes nothing.
 pub data HasNoType (r : Reading) (m m' : Meter) (k : ErrorKind) : Type 0 where
   not_followed : Unfollowed r m m' k → HasNoType r m m' k
   of_no_type : (a : Target) → FollowsTo r a → type_of a.word ≡ Err k →
       Paid r.charging m m' a.pads 1 → HasNoType r m m' k
-
--- A capability is read from the pointer's own word, which is not followed.
-pub data IsNoCapability (w : ℕ) : ErrorKind → Type 0 where
-  of_null : w ≡ 0 → IsNoCapability w MessageContainsNullCapabilityPointer
-  of_another : w ≢ 0 → lower_half w ≢ 3 →
-      IsNoCapability w MessageContainsNonCapabilityPointerWhereCapabilityPointerWasExpected

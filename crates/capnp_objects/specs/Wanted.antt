@@ -30,16 +30,6 @@ pub data Form : Type 0 where
   canonical : Form
   of_default : Form
 
--- The forms of values without capabilities.
-abbrev pub RefusesCapabilities : Form → Type 0
-RefusesCapabilities plain = ⊥
-RefusesCapabilities _ = ⊤
-
--- By what name it is refused that a list of structs has no tag.
-abbrev pub non_struct_tag : Purpose → ErrorKind
-non_struct_tag Value = InlineCompositeListsOfNonStructTypeAreNotSupported
-non_struct_tag Size = CantHandleNonStructInlineComposite
-
 -- Any object: a demand that is refused by the name k is broken, with n levels, by what a pointer
 -- leads to. A demand is looked at where those before it hold, so that an object breaks one at most.
 abbrev pub BreaksObject : Purpose → Form → Segments → ℕ → Target → ErrorKind → Type 0
@@ -88,6 +78,6 @@ BreaksAt form k r = (word_of r ≢ 0) ×
     ((follow_at r ≡ Err k) ⊎ ((a : Target) × (follow_at r ≡ Ok a) ×
     BreaksObject Value form r.segments r.levels a k))
 
--- What a reading of a whole value takes: every value, or one without capabilities.
+-- What a reading of a whole value takes: every value, or in the other forms one without capabilities.
 abbrev pub AllowsCapabilities : Form → ℕ → Type 0
-AllowsCapabilities form capabilities = RefusesCapabilities form → capabilities ≡ 0
+AllowsCapabilities form capabilities = form ≢ plain → capabilities ≡ 0

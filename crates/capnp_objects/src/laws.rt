@@ -1,49 +1,83 @@
 //! What a refusal tells, and what a size is of. Each function does nothing: its contract is the law, proved for all messages and limits. How a
 //! refusal is stated in contracts is in `specs/Refusals.antt`, and docs/FORMAT.md has it in plain words.
 
-ghost use Rattle.capnp_objects.specs.Laws.{RefusedTruly, LimitOfCharges, RefusedRightly, RefusedUnlimited, ValueOrFault, FewFollowed, SizeOfValue, ValuesHaveSizes, CanonicalWithinTotal, FollowedLeads};
+ghost use Rattle.std.specs.Prelude.{◌≡◌, ◌≢◌, ◌⊎◌, ◌+◌, ◌<◌, ◌≤◌, ℕ, true, Some};
+ghost use Rattle.capnp_words.specs.declared.error.ErrorKind.{ErrorKind};
+ghost use Rattle.capnp_words.specs.declared.error.ErrorKind.TheVariants.{ReadLimitExceeded};
+ghost use Rattle.capnp_words.specs.Meter.{Meter, Affords};
+ghost use Rattle.capnp_format.specs.Segments.{AreWords, Target};
+ghost use Rattle.capnp_format.specs.Word.{kind};
+ghost use Rattle.capnp_format.specs.Tree.{Tree, depth, capabilities};
+ghost use Rattle.capnp_format.specs.Canonical.{word_count, trim};
+ghost use Rattle.capnp_objects.specs.Faults.{LeadsTo, Somewhere, Exceeds, HasFault};
+ghost use Rattle.capnp_objects.specs.Outcomes.{MeansThere, Reads};
+ghost use Rattle.capnp_objects.specs.Reading.{Reading};
+ghost use Rattle.capnp_objects.specs.Refusals.{Refused, StopsWithin, IsTried};
+ghost use Rattle.capnp_objects.specs.Sizing.{SizedThere, tally, WalksPlace};
+ghost use Rattle.capnp_objects.specs.Wanted.{Form, FollowsTo, AllowsCapabilities};
 
 /// A refusal names a demand that a reached place breaks, or the read limit, where a reached place charges more than is
 /// left; and the read limit is named for nothing else.
 pub fn refused_truly()
-    ensures named { RefusedTruly }
-    ensures limit { LimitOfCharges }
+    ensures named { (form : Form) (r : Reading) (m m' : Meter) (k : ErrorKind)
+        → Refused form r m m' k
+        → HasFault form r k ⊎ ((k ≡ ReadLimitExceeded) × Somewhere (Exceeds m') r) }
+    ensures limit { (form : Form) (r : Reading) (m m' : Meter)
+        → Refused form r m m' ReadLimitExceeded → Somewhere (Exceeds m') r }
 {}
 
-/// Where a reading is refused there is no value within both limits.
+/// Where a reading is refused the place means no value that is taken, within both limits.
 pub fn refused_rightly()
-    ensures { RefusedRightly }
+    ensures { (form : Form) (r : Reading) (m m' : Meter) (k : ErrorKind)
+        → Refused form r m m' k → (t : Tree) (c : ℕ) → MeansThere r t c
+        → AllowsCapabilities form (capabilities t) → Affords r.charging m c → ⊥ }
 {}
 
 /// Where there is no limit, or nothing is charged, each refusal names a demand that a reached place breaks.
 pub fn refused_unlimited()
-    ensures { RefusedUnlimited }
+    ensures { (form : Form) (r : Reading) (m m' : Meter) (k : ErrorKind)
+        → ((x : ℕ) → Affords r.charging m x) → Refused form r m m' k → HasFault form r k }
 {}
 
-/// A place means a value within its levels, or some reached place breaks a demand.
+/// A place means a value that is taken, within its levels, or some reached place breaks a demand.
 pub fn value_or_fault()
-    ensures { ValueOrFault }
+    ensures { (form : Form) (r : Reading)
+        → ((t : Tree) × (c : ℕ) × MeansThere r t c × AllowsCapabilities form (capabilities t))
+        ⊎ ((k : ErrorKind) × HasFault form r k) }
 {}
 
-/// Under a budget of x words a reading, whether it ends in a value or not, follows at most x + 1 pointers.
+/// Under a budget of x words a reading, whether it ends in a value, is refused or is broken off, follows at most x + 1
+/// pointers.
 pub fn few_followed()
-    ensures { FewFollowed }
+    ensures { (form : Form) (r : Reading) (m m' : Meter) (x : ℕ)
+        → r.charging ≡ true → m.left ≡ Some x
+        → ((t : Tree) × Reads form r m m' t) ⊎ ((k : ErrorKind) × Refused form r m m' k)
+        ⊎ StopsWithin form (IsTried form) r m m'
+        → m'.followed ≤ m.followed + (x + 1) }
 {}
 
-/// Where a place means a value, the size of it is that of this value, whatever the levels of either.
+/// Where a place means a value, the size of it is that of this value, whatever the levels of either; and the canonical words
+/// behind its pointer are no more than the words of the size.
 pub fn size_of_value()
-    ensures size { SizeOfValue }
-    ensures canonical { CanonicalWithinTotal }
+    ensures size { (r : Reading) (n : ℕ) (m m' : Meter) (words caps : ℕ) (t : Tree) (c : ℕ)
+        → WalksPlace r (tally 0 0 m) (tally words caps m')
+        → MeansThere (record r { levels = n }) t c
+        → (words ≡ word_count t) × (caps ≡ capabilities t) }
+    ensures canonical { (r : Reading) (n : ℕ) (m m' : Meter) (words caps : ℕ) (t : Tree) (c : ℕ)
+        → AreWords r.segments → WalksPlace r (tally 0 0 m) (tally words caps m')
+        → MeansThere (record r { levels = n }) t c
+        → word_count (trim t) ≤ words }
 {}
 
 /// Where a place means a value there is a walk over it within more levels than its depth, at no
 /// greater cost.
 pub fn values_have_sizes()
-    ensures { ValuesHaveSizes }
+    ensures { (r : Reading) (n : ℕ) (t : Tree) (c : ℕ) → MeansThere (record r { levels = n }) t c
+        → depth t < r.levels → (k : ℕ) × (k ≤ c) × SizedThere r t k }
 {}
 
 /// A pointer that is followed to what a word describes that is no far pointer leads there, as the meaning of a message has
 /// it: so does a pointer whose object is entered.
 pub fn followed_leads()
-    ensures { FollowedLeads }
+    ensures { (r : Reading) (a : Target) → FollowsTo r a → kind a.word ≢ 2 → LeadsTo r a }
 {}

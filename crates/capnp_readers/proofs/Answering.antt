@@ -18,7 +18,7 @@ use Rattle.capnp_objects.specs.Reading.{Reading, source_start, word_of, tag_size
 use Rattle.capnp_objects.specs.Source.{default_segment, levels}
 use Rattle.capnp_readers.specs.Readers.{reading, IsTargetList, IsTarget}
 use Rattle.capnp_readers.specs.Calls.{Call, IsRead, of_pointer, of_default, short_default, of_null_default, WhereRead}
-use Rattle.capnp_readers.specs.Sections.{IsWide}
+use Rattle.capnp_readers.specs.Sections.{HoldsPointer, data_bits}
 use Rattle.capnp_readers.specs.declared.readers.PointerReader.{PointerReader}
 use Rattle.capnp_readers.specs.declared.readers.list_reader.ListReader.{ListReader}
 use Rattle.capnp_readers.specs.declared.readers.struct_reader.StructReader.{StructReader}
@@ -27,6 +27,10 @@ use Rattle.capnp_readers.specs.declared.readers.target.Target.TheVariants.{Null 
 use Rattle.capnp_objects.proofs.Expecting.{IsReadAt, struct_or_null, list_or_null, given_fits}
 use Rattle.capnp_objects.proofs.Faultless.{same_target}
 use Rattle.capnp_objects.proofs.Followed.{entered_leads, leads_there}
+
+-- Elements of a size, with sections where they are structs, are as wide as those of an expected size, or wider.
+abbrev IsWide : ElementSize → ElementSize → StructSize → Type 0
+IsWide expected found sections = (element_bits (size_number expected) ≤ data_bits found sections) × (size_number expected ≡ 6 → HoldsPointer found sections) × (size_number found ≡ 1 → size_number expected ≡ 1)
 
 -- elements and structs that aren't too narrow
 both_none : (k j : ErrorKind) (b c : Bool) → cond b (Some k) (cond c (Some j) None) ≡ None → (b ≡ false) × (c ≡ false)
@@ -62,14 +66,14 @@ some_words k zero e = absurd (cc e)
 some_words k (suc n) e = omega arith
 
 wide_structs : (size : ElementSize) (sections : StructSize) → narrow_structs size sections ≡ None → IsWide size InlineComposite sections
-wide_structs Void sections e = record { bits = omega arith; pointers = λ six. absurd (omega (arith, six)); whole = λ one. absurd (omega (arith, one)) }
+wide_structs Void sections e = (omega arith, λ six. absurd (omega (arith, six)), λ one. absurd (omega (arith, one)))
 wide_structs Bit sections e = absurd (cc e)
-wide_structs Byte sections e = let some = some_words _ sections.data_words e in record { bits = omega (arith, some); pointers = λ six. absurd (omega (arith, six)); whole = λ one. absurd (omega (arith, one)) }
-wide_structs TwoBytes sections e = let some = some_words _ sections.data_words e in record { bits = omega (arith, some); pointers = λ six. absurd (omega (arith, six)); whole = λ one. absurd (omega (arith, one)) }
-wide_structs FourBytes sections e = let some = some_words _ sections.data_words e in record { bits = omega (arith, some); pointers = λ six. absurd (omega (arith, six)); whole = λ one. absurd (omega (arith, one)) }
-wide_structs EightBytes sections e = let some = some_words _ sections.data_words e in record { bits = omega (arith, some); pointers = λ six. absurd (omega (arith, six)); whole = λ one. absurd (omega (arith, one)) }
-wide_structs Pointer sections e = record { bits = omega arith; pointers = λ six. some_words _ sections.pointers e; whole = λ one. absurd (omega (arith, one)) }
-wide_structs InlineComposite sections e = record { bits = omega arith; pointers = λ six. absurd (omega (arith, six)); whole = λ one. absurd (omega (arith, one)) }
+wide_structs Byte sections e = let some = some_words _ sections.data_words e in (omega (arith, some), λ six. absurd (omega (arith, six)), λ one. absurd (omega (arith, one)))
+wide_structs TwoBytes sections e = let some = some_words _ sections.data_words e in (omega (arith, some), λ six. absurd (omega (arith, six)), λ one. absurd (omega (arith, one)))
+wide_structs FourBytes sections e = let some = some_words _ sections.data_words e in (omega (arith, some), λ six. absurd (omega (arith, six)), λ one. absurd (omega (arith, one)))
+wide_structs EightBytes sections e = let some = some_words _ sections.data_words e in (omega (arith, some), λ six. absurd (omega (arith, six)), λ one. absurd (omega (arith, one)))
+wide_structs Pointer sections e = (omega arith, λ six. some_words _ sections.pointers e, λ one. absurd (omega (arith, one)))
+wide_structs InlineComposite sections e = (omega arith, λ six. absurd (omega (arith, six)), λ one. absurd (omega (arith, one)))
 
 module _ {A : Type 0} (g : Ghosts A) where
   -- the call's own default
@@ -163,13 +167,13 @@ module _ {A : Type 0} (g : Ghosts A) where
       IsTargetList g found (reading g p).segments r h.target.0 → IsWide size found r.struct_size
   wide_list size {p} {r = r} h InlineComposite fits list =
       (let sections : r.struct_size ≡ tag_size (reading g p).segments h.target.0 = ap₂ (λ i j. record { data_words = i; pointers = j }) list.1.data_of list.1.pointers_of in wide_structs size r.struct_size (rw sections (rw list.0 at fits)))
-  wide_list size h Void fits list = let wide = wide_elements size 0 (rw list.0 at fits) in record { bits = wide.0; pointers = λ six. absurd (omega (arith, wide.1 six)); whole = wide.2 }
-  wide_list size h Bit fits list = let wide = wide_elements size 1 (rw list.0 at fits) in record { bits = wide.0; pointers = λ six. absurd (omega (arith, wide.1 six)); whole = wide.2 }
-  wide_list size h Byte fits list = let wide = wide_elements size 2 (rw list.0 at fits) in record { bits = wide.0; pointers = λ six. absurd (omega (arith, wide.1 six)); whole = wide.2 }
-  wide_list size h TwoBytes fits list = let wide = wide_elements size 3 (rw list.0 at fits) in record { bits = wide.0; pointers = λ six. absurd (omega (arith, wide.1 six)); whole = wide.2 }
-  wide_list size h FourBytes fits list = let wide = wide_elements size 4 (rw list.0 at fits) in record { bits = wide.0; pointers = λ six. absurd (omega (arith, wide.1 six)); whole = wide.2 }
-  wide_list size h EightBytes fits list = let wide = wide_elements size 5 (rw list.0 at fits) in record { bits = wide.0; pointers = λ six. absurd (omega (arith, wide.1 six)); whole = wide.2 }
-  wide_list size h Pointer fits list = let wide = wide_elements size 6 (rw list.0 at fits) in record { bits = wide.0; pointers = λ six. tt; whole = wide.2 }
+  wide_list size h Void fits list = let wide = wide_elements size 0 (rw list.0 at fits) in (wide.0, λ six. absurd (omega (arith, wide.1 six)), wide.2)
+  wide_list size h Bit fits list = let wide = wide_elements size 1 (rw list.0 at fits) in (wide.0, λ six. absurd (omega (arith, wide.1 six)), wide.2)
+  wide_list size h Byte fits list = let wide = wide_elements size 2 (rw list.0 at fits) in (wide.0, λ six. absurd (omega (arith, wide.1 six)), wide.2)
+  wide_list size h TwoBytes fits list = let wide = wide_elements size 3 (rw list.0 at fits) in (wide.0, λ six. absurd (omega (arith, wide.1 six)), wide.2)
+  wide_list size h FourBytes fits list = let wide = wide_elements size 4 (rw list.0 at fits) in (wide.0, λ six. absurd (omega (arith, wide.1 six)), wide.2)
+  wide_list size h EightBytes fits list = let wide = wide_elements size 5 (rw list.0 at fits) in (wide.0, λ six. absurd (omega (arith, wide.1 six)), wide.2)
+  wide_list size h Pointer fits list = let wide = wide_elements size 6 (rw list.0 at fits) in (wide.0, λ six. tt, wide.2)
 
   pub wide_target : (size : ElementSize) {p : PointerReader A g} {m m' : Meter} {x : Object} {r : ListReader A g} → CanBeGiven (list_expected size) (reading g p) m → IsShown p m m' x (ListTarget r) → IsWide size r.element_size r.struct_size
   wide_target size {p} {m} {r = r} can h = wide_list size h r.element_size (given_fits (list_expected size) (reading g p) m h.target.0 can (entered_leads h.target.1)) h.target.3

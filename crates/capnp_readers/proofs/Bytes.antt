@@ -16,7 +16,10 @@ use Rattle.capnp_objects.specs.Reading.{Reading}
 use Rattle.capnp_objects.specs.declared.object.Purpose.TheVariants.{Value}
 use Rattle.capnp_objects.proofs.Expecting.{one_level, IsReadAt}
 use Rattle.capnp_objects.proofs.Parts.{claim_list, claim_flat}
-use Rattle.capnp_readers.specs.Calls.{ShowsBytes}
+
+-- The first n bytes of an object of bytes.
+abbrev ShowsBytes : Reading → Target → ℕ → List ℕ → Type 0
+ShowsBytes r a n bytes = (all : List ℕ) × (words_of all ≡ words_at r.segments a.segment a.start (words_for 2 (list_count a.word))) × (bytes ≡ take n all) × (length bytes ≡ n)
 
 -- the first n of an object's bytes
 shown : (n : ℕ) {r : Reading} {m m' : Meter} {start : Place} {count : ℕ} {bytes : List ℕ} → n ≤ count → bytes ≡ take n (drop (8 * start.at) start.bytes.now) → IsReadAt r m m' (ObjectFlat start Byte count) →

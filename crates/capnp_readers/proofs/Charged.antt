@@ -12,7 +12,11 @@ use Rattle.capnp_objects.proofs.Walked.{paid_none}
 use Rattle.capnp_objects.specs.Refusals.{GoesBefore, in_struct, in_pointers, in_element}
 use Rattle.capnp_readers.specs.Checking.{Progress, FindsAll, FindsElements, TestEnds, here, below, TestsEnd, Unread, IsFault, IsUnfit, no_pointer, other_pointer, empty_elsewhere, elsewhere, not_padded, other_claim, wide_sections, wide_elements}
 use Rattle.capnp_readers.specs.declared.readers.canonical_fault.CanonicalFault.{CanonicalFault}
-use Rattle.capnp_readers.specs.Laws.{IsCharged}
+use Rattle.capnp_objects.specs.Spending.{Paid}
+
+-- From m to m' some words were granted and some pointers counted.
+abbrev IsCharged : Reading → Meter → Meter → Type 0
+IsCharged r m m' = (g : ℕ) × (i : ℕ) × Paid r.charging m m' g i
 
 -- The pointers before one of an object's are charged.
 before_charged : {r : Reading} {a : Target} {q : ℕ} {from to : Progress} → GoesBefore FindsAll FindsElements r a q from to → IsCharged r from.meter to.meter
@@ -55,5 +59,5 @@ stopped_charged r m m' k (broken a follows breaks paid) = (_, _, paid)
 stopped_charged r m m' k (claim_exceeds a follows level less there over paid named) = (_, _, paid)
 stopped_charged r m m' k (count_exceeds a follows meets over paid named) = (_, _, paid)
 
-pub unread_charged : (k : ErrorKind) (r : Reading) (from : Progress) (m' : Meter) → Unread r from.meter m' k → IsCharged r from.meter m'
+pub unread_charged : (k : ErrorKind) (r : Reading) (from : Progress) (m' : Meter) → Unread k r from m' → IsCharged r from.meter m'
 unread_charged k r from m' u = stopped_charged r from.meter m' u.name u.stopped

@@ -35,12 +35,12 @@ use Rattle.capnp_objects.specs.Objects.{IsObject}
 use Rattle.capnp_words.specs.declared.wire_pointer.ElementSize.{ElementSize}
 use Rattle.capnp_words.specs.Sizes.{size_number}
 use Rattle.capnp_objects.specs.declared.object.Purpose.TheVariants.{Value}
-use Rattle.capnp_readers.specs.Standing.{AllStand, ElementsStand, ElementsAccept, EndsUsed, IsPadded}
+use Rattle.capnp_readers.specs.Standing.{AllStand, ElementsStand, EndsUsed, IsPadded}
 use Rattle.capnp_objects.specs.Refusals.{in_struct, in_pointers, in_element}
-use Rattle.capnp_readers.specs.Checking.{Progress, progress, Finds, FindsAll, FindsElements, IsFound, AreFound, AreFoundRows, IsCanonicalAt, AreCanonicalAt, TestEnds, below, TestsEnd, RowTestsEnd, IsTested, StartsRight, Tells, TellsAll, TellsFlat, TellsStruct, TellsClaimed}
+use Rattle.capnp_readers.specs.Checking.{Progress, progress, Finds, FindsAll, FindsElements, IsFound, AreFound, IsCanonicalAt, AreCanonicalAt, TestEnds, below, TestsEnd, RowTestsEnd, IsTested, StartsRight, Tells, TellsAll, TellsFlat, TellsStruct, TellsRows}
 use Rattle.capnp_readers.proofs.Accepts.{IsNear, near_to, null_stands, empty_stands, struct_stands, pointers_stand, flat_stands, structs_stand, used_where_standing, blanks_stand, data_width-blank, pointer_width-blank, words-blank}
 use Rattle.capnp_readers.proofs.Found.{struct_found, pointers_found, flat_found, structs_found, empty_found}
-use Rattle.capnp_readers.proofs.Exactly.{structs_of_tag, element_fails, widths_fail, widths_within, reached}
+use Rattle.capnp_readers.proofs.Exactly.{ElementsAccept, structs_of_tag, element_fails, widths_fail, widths_within, reached}
 use Rattle.capnp_readers.proofs.Growing.{all_stand_more, words-with_last, charge-with_last, depth-with_last, words-with_last_element, charge-with_last_element, depth-with_last_element, elements_stand_more, data_width-with_last, pointer_width-with_last, none_stand}
 use Rattle.capnp_readers.proofs.Used.{ends_used, used_ends}
 use Rattle.capnp_objects.proofs.Followed.{entered_leads, leads_there}
@@ -234,6 +234,15 @@ flat_finds {r} {from} {m'} {a} ready o z small start padded =
         head_is = ap₂ (λ x y. x + words_for size y) start (sym long);
       },
     )
+
+-- Elements one behind the other are canonical, and no smaller size of elements would do.
+abbrev pub AreFoundRows : Reading → StructSize → ℕ → Progress → Progress → Type 0
+AreFoundRows r size n from to = TellsRows r size n from to.meter (Some to.head)
+
+-- What the test of a list tells that claims so many words: its elements take just these, and the first object stands behind them.
+abbrev pub TellsClaimed : Reading → StructSize → ℕ → ℕ → Meter → Meter → Option ℕ → Type 0
+TellsClaimed r size n claimed m m' (Some e) = (n * (size.data_words + size.pointers) ≡ claimed) × TellsRows r size n (progress (r.at + claimed) m) m' (Some e)
+TellsClaimed r size n claimed m m' None = n * (size.data_words + size.pointers) ≡ claimed → TellsRows r size n (progress (r.at + claimed) m) m' None
 
 structs_find : {r : Reading} {from to : Progress} {m' : Meter} {a : Target} → IsTested r → Entered Value r from.meter m' a → kind a.word ≡ 1 → element_size a.word ≡ 7 → a.start ≡ from.head → element_words (tag r.segments a) ≡ list_count a.word →
     AreFoundRows (list_elements r a) (tag_size r.segments a) (offset_bits (tag r.segments a)) (progress (a.start + 1 + list_count a.word) m') to → IsFound r from to

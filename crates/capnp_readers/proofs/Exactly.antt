@@ -7,12 +7,16 @@ use Rattle.capnp_format.specs.Segments.{Segments, word_at, IsPlace, Target}
 use Rattle.capnp_format.specs.Tree.{Structs, Elements, no_elements, element, element_count}
 use Rattle.capnp_format.specs.Means.{Claims, ListAt, IsTag}
 use Rattle.capnp_format.specs.Canonical.{data_width, pointer_width, word_count_all, word_count_elements}
-use Rattle.capnp_readers.specs.Standing.{ElementsAccept, ElementsStand}
+use Rattle.capnp_readers.specs.Standing.{ElementsStand}
 use Rattle.capnp_format.proofs.Bounds.{HasSmallWords}
 use Rattle.capnp_readers.proofs.Accepts.{structs_stand}
 use Rattle.capnp_readers.proofs.Growing.{Accepts, AllAccept, next_element_stands, one_row_of_elements}
 use Rattle.capnp_format.proofs.Trimming.{used_words-le, used_trees-le}
 use Rattle.capnp_readers.proofs.Found.{structs_found}
+
+-- Some n elements stand from a place and a head on, and no smaller sections would hold them.
+abbrev pub ElementsAccept : Segments → ℕ → ℕ → ℕ → ℕ → ℕ → ℕ → Type 0
+ElementsAccept S s p d q h n = (es : Elements) × (element_count es ≡ n) × (data_width es ≡ d) × (pointer_width es ≡ q) × ElementsStand S s p d q h es
 
 -- The same is so where the tag is read already.
 pub structs_of_tag : (S : Segments) (s p h : ℕ) (a : Target) (m n d q : ℕ) → HasSmallWords S s → IsPlace S s p → kind (word_at S s p) ≢ 2 → ListAt S s p a 7 m → a.start ≡ h → Claims S a (m + 1) → IsTag (word_at S s h) n d q →

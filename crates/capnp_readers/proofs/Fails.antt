@@ -1,5 +1,5 @@
 -- Where the test for canonical form fails, which is a no: by which object, and what was charged until then.
-use Rattle.std.proofs.Common.{◌≡◌, ◌≢◌, ℕ, ◌+◌, ◌-◌, ◌*◌, ◌<◌, inl, inr, pred, Bool, IsTrue, [], ◌∷◌, true, false, Option, Some, None, sym, ap, ap₂, ◌∙◌, subst, arith}
+use Rattle.std.proofs.Common.{◌≡◌, ◌≢◌, ◌⊎◌, ℕ, ◌+◌, ◌-◌, ◌*◌, ◌<◌, inl, inr, pred, Bool, IsTrue, [], ◌∷◌, true, false, Option, Some, None, sym, ap, ap₂, ◌∙◌, subst, arith}
 use Rattle.std.specs.Prelude.{IfSome, is_some, not}
 use Rattle.capnp_format.specs.Word.{kind, offset_bits, data_words, pointer_count, element_size, list_count}
 use Rattle.capnp_format.specs.Numbers.{words_for}
@@ -20,10 +20,10 @@ use Rattle.capnp_objects.specs.declared.object.Purpose.TheVariants.{Value}
 use Rattle.capnp_objects.proofs.Parts.{claim_struct, claim_list}
 use Rattle.capnp_objects.proofs.Walked.{beginning, same_place, same_size}
 use Rattle.capnp_readers.specs.declared.readers.canonical_fault.CanonicalFault.{CanonicalFault}
-use Rattle.capnp_readers.specs.declared.readers.canonical_fault.CanonicalFaultReason.TheVariants.{EmptyStructPlace, ObjectPlace, Padding, ElementData, ElementPointers}
+use Rattle.capnp_readers.specs.declared.readers.canonical_fault.CanonicalFaultReason.TheVariants.{EmptyStructPlace, ObjectPlace, Padding, ElementWords, ElementData, ElementPointers}
 use Rattle.capnp_readers.specs.Faults.{FaultIs}
 use Rattle.capnp_readers.specs.Standing.{IsPadded}
-use Rattle.capnp_readers.specs.Checking.{Progress, progress, AreFound, AreFoundTooWide, IsTested, StartsRight, TestsEnd, RowTestsEnd, here, below, IsFault, IsUnfit, HasWideSection, empty_elsewhere, elsewhere, not_padded, other_claim, wide_sections, wide_elements, TestEnds, SectionsFail, ClaimedFails}
+use Rattle.capnp_readers.specs.Checking.{Progress, progress, AreFound, AreFoundTooWide, IsTested, StartsRight, TestsEnd, RowTestsEnd, here, below, IsFault, IsUnfit, HasWideSection, empty_elsewhere, elsewhere, not_padded, other_claim, wide_sections, wide_elements, TestEnds, SectionsFail, RowsFail}
 use Rattle.capnp_readers.proofs.Checks.{near_object, struct_pointers, list_elements, padded_at, some_starts, lists_alone, AreSeen, struct_ends, structs_end}
 use Rattle.capnp_objects.proofs.Followed.{entered_leads}
 
@@ -92,6 +92,12 @@ sections_fail {f} {r} {from} {m'} {m''} start size ready (a, o, z, (held, seg, a
     (subst (λ x. AreFound x size.pointers (progress (start.at + size.data_words + size.pointers) m') (progress e m'')) there found)))
     (subst (λ x. HasWideSection f x (sized (data_words a.word) (pointer_count a.word))) begin
     (subst (λ n. HasWideSection f (beginning r start) n) of_size unused)))
+
+-- The test of a list that claims so many words fails: its elements take others, and nothing more is charged; or their test fails.
+abbrev pub ClaimedFails : CanonicalFault → Reading → StructSize → ℕ → ℕ → Meter → Meter → Type 0
+ClaimedFails f r size n claimed m m' =
+    (FaultIs f ElementWords r.segment (r.at - 1) × (n * (size.data_words + size.pointers) ≢ claimed) × (m' ≡ m))
+    ⊎ ((n * (size.data_words + size.pointers) ≡ claimed) × RowsFail f r size n m m')
 
 -- A list of structs whose elements take other words than it claims, or of which a pointer fails, or smaller elements would do.
 pub claimed_fails : {f : CanonicalFault} {r : Reading} {from : Progress} {m' m'' : Meter} (start : Place) (size : StructSize) (n : ℕ) → IsTested r → IsObject Value r from.meter m' (ObjectStructs start size n) →

@@ -1,5 +1,5 @@
 -- Where canonical words stand that the limits cover, the test does not stop.
-use Rattle.std.proofs.Common.{◌≡◌, ℕ, pred, ◌+◌, ◌*◌, ◌<◌, ◌≤◌, length, sym, ap, ap₂, ◌∙◌, subst, arith}
+use Rattle.std.proofs.Common.{◌≡◌, ℕ, pred, ◌+◌, ◌*◌, ◌<◌, ◌≤◌, length, refl, sym, ap, ap₂, ◌∙◌, subst, arith}
 use Rattle.capnp_format.specs.Word.{kind, offset_bits, data_words, pointer_count, element_size, list_count}
 use Rattle.capnp_format.specs.Segments.{Segments, segment, word_at, words_at, Target}
 use Rattle.capnp_format.specs.Tree.{Tree, Trees, no_trees, tree, Elements, count, element_count, depth, depth_all, depth_elements}
@@ -23,7 +23,7 @@ use Rattle.capnp_objects.proofs.Parts.{claim_struct, claim_list}
 use Rattle.capnp_objects.proofs.Refusals.{unreadable}
 use Rattle.capnp_objects.proofs.Walked.{paid_none}
 use Rattle.capnp_readers.specs.Standing.{AllStand, ForOffsets, ElementsStand}
-use Rattle.capnp_readers.specs.Checking.{Progress, FindsAll, FindsElements, CanBeFound, CanAllBeFound, behind_object, TestStops, here, below, TestsStop}
+use Rattle.capnp_readers.specs.Checking.{Progress, FindsAll, FindsElements, CanBeFound, CanAllBeFound, behind_object, TestStops, here, below, TestsEnd, Unread}
 use Rattle.capnp_readers.proofs.Chains.{for_offset_map, all_within, elements_within}
 use Rattle.capnp_readers.proofs.Checks.{near_object, all_at, struct_at, list_at, struct_pointers, list_pointers, list_elements}
 use Rattle.capnp_readers.proofs.Found.{struct_found, pointers_found, structs_found}
@@ -172,7 +172,7 @@ structs_next {r} {from = from} {between = between} {mid = mid} {first = first} {
 
 pub stops_never : {k : ErrorKind} {r : Reading} {from : Progress} {m' : Meter} → TestStops k r from m' → CanBeFound r from → ⊥
 stops_never {r = r} {from = from} (here u) (t, stands, inside, levels, covers) =
-    (unreadable (stopped_here u.stopped)).only t (charge t) (stands_means_at r.segments r.levels r.segment r.at from.head t levels inside stands) (λ none. absurd none) covers
+    (unreadable (stopped_here u.stopped)).only t (charge t) (stands_means_at r.segments r.levels r.segment r.at from.head t levels inside stands) (λ other. absurd (other refl)) covers
 stops_never {r = r} {from = from} (below {mid = mid} a q near o start exact (in_struct ts z less e all) stops) can =
     stops_never stops (subst (λ y. CanBeFound (child_at r a (pred r.levels) y) mid) (sym e) (struct_next ts near o z less all can))
 stops_never {r = r} {from = from} (below {mid = mid} a q near o start exact (in_pointers ts z six less e all) stops) can =
@@ -180,7 +180,7 @@ stops_never {r = r} {from = from} (below {mid = mid} a q near o start exact (in_
 stops_never {r = r} {from = from} (below {mid = mid} a q near o start exact (in_element es ts between list fewer less e rows all) stops) can =
     stops_never stops (subst (λ y. CanBeFound (child_at r a (pred r.levels) y) mid) (sym e) (structs_next es ts near o list fewer less rows all can))
 
-pub row_stops_never : {k : ErrorKind} {r : Reading} {i : ℕ} {from : Progress} {m' : Meter} → TestsStop r i from m' k → CanAllBeFound r i from → ⊥
+pub row_stops_never : {k : ErrorKind} {r : Reading} {i : ℕ} {from : Progress} {m' : Meter} → TestsEnd (Unread k) r i from m' → CanAllBeFound r i from → ⊥
 row_stops_never {r = r} {from = from} h (us, len, stand, inside, levels, covers) =
     let rest : Rest r from from.meter us = record { stand = stand; within = inside; levels = levels; before = 0; pointers = 0; whole = charge_all us; paid = paid_none r from.meter; fits = omega arith; covers = covers } in
     stops_never h.ends (next_can h.first rest h.are_found (omega (arith, h.fewer, len)))

@@ -1,7 +1,7 @@
 -- What the test for canonical form tells of the values that it finds, and when two of them are the same.
 -- The lemmas take a place, a head and what stands there one by one, as `Stands` has them.
-use Rattle.std.proofs.Common.{◌≡◌, ℕ, ◌-◌, ◌≤◌, List, ◌∷◌, length, sym, ap, ap₂, ◌∙◌, subst, arith}
-use Rattle.capnp_format.specs.Segments.{Segments, words_at, HasWords}
+use Rattle.std.proofs.Common.{◌≡◌, ◌↔◌, ℕ, ◌-◌, ◌≤◌, List, ◌∷◌, length, sym, ap, ap₂, ◌∙◌, subst, arith}
+use Rattle.capnp_format.specs.Segments.{Segments, words_at, HasWords, AreWords}
 use Rattle.capnp_format.specs.Tree.{Tree, depth}
 use Rattle.capnp_format.specs.Canonical.{charge, trim, word_count, pointer, body, offset_to, Stands}
 use Rattle.capnp_format.proofs.Lengths.{length-body}
@@ -9,22 +9,24 @@ use Rattle.capnp_format.proofs.Levels.{depth_within}
 use Rattle.capnp_format.proofs.Trimmed.{trim-depth}
 use Rattle.capnp_format.proofs.Unique.{Standing, for_offset}
 use Rattle.capnp_format.proofs.LawLemmas.{canonical_cost, one_stands}
-use Rattle.capnp_words.specs.Meter.{Affords}
-use Rattle.capnp_objects.specs.Reading.{Reading, segment_read}
+use Rattle.capnp_words.specs.Meter.{Meter, Affords}
+use Rattle.capnp_objects.specs.Outcomes.{MeansThere, Reads}
+use Rattle.capnp_objects.specs.Reading.{Reading, word_of, segment_read}
+use Rattle.capnp_objects.specs.Wanted.{canonical}
 use Rattle.capnp_objects.proofs.Budgets.{affords_rest}
 use Rattle.capnp_objects.proofs.Walked.{paid_none}
-use Rattle.capnp_readers.specs.Checking.{Progress, Finds}
-use Rattle.capnp_readers.specs.Laws.{CopyIsAnswered, FoundIsMeant, words_tested, SameWords}
+use Rattle.capnp_readers.specs.Checking.{Progress, progress, Finds, CanBeFound}
 use Rattle.capnp_readers.proofs.Takes.{stands_means_at}
 
-pub copy_is_answered : CopyIsAnswered
-copy_is_answered r q m m' h t read copy =
-    let deep : depth (trim t) ≤ q.levels = omega (arith, trim-depth t, depth_within t (record { means = read.means }), copy.levels) in
-    let cost : charge (trim t) ≤ read.cost = canonical_cost r.segments r.levels r.segment r.at t read.cost copy.words read.means in
+pub copy_is_answered : (r q : Reading) (m m' : Meter) (h : ℕ) (t : Tree) → AreWords r.segments → Reads canonical r m m' t → q.levels ≡ r.levels → q.charging ≡ r.charging → h ≤ length (segment_read q) →
+    Stands q.segments q.segment q.at h (trim t) → CanBeFound q (progress h m)
+copy_is_answered r q m m' h t words read levels charging inside stands =
+    let deep : depth (trim t) ≤ q.levels = omega (arith, trim-depth t, depth_within t (record { means = read.means }), levels) in
+    let cost : charge (trim t) ≤ read.cost = canonical_cost r.segments r.levels r.segment r.at t read.cost words read.means in
     let covers : Affords r.charging m (charge (trim t)) = affords_rest (charge (trim t)) read.cost (paid_none r m) (omega (arith, cost)) read.covers in
-    (trim t, copy.stands, for_offset (trim t) (h ≤ length (segment_read q)) copy.inside, deep, subst (λ b. Affords b m (charge (trim t))) (sym copy.charging) covers)
+    (trim t, stands, for_offset (trim t) (h ≤ length (segment_read q)) inside, deep, subst (λ b. Affords b m (charge (trim t))) (sym charging) covers)
 
-pub found_is_meant : FoundIsMeant
+pub found_is_meant : (r : Reading) (from to : Progress) (t : Tree) → Finds r from to t → MeansThere r t (charge t)
 found_is_meant r from to t f = stands_means_at r.segments r.levels r.segment r.at from.head t f.levels f.inside f.stands
 
 -- The canonical words of a value where its pointer is at position p and its body at the head h.
@@ -41,6 +43,10 @@ same_rest x y xs ys e = cc
 -- As many words as a body has are the body.
 words_of_body : (S : Segments) (s h n : ℕ) (ws : List ℕ) → HasWords S s h ws → n ≡ length ws → words_at S s h n ≡ ws
 words_of_body S s h n ws a e = ap (λ m. words_at S s h m) e ∙ a
+
+-- The words that a test has gone over: the pointer's, and those between the heads.
+abbrev pub words_tested : Reading → Progress → Progress → List ℕ
+words_tested r from to = word_of r ∷ words_at r.segments r.segment from.head (to.head - from.head)
 
 -- The words that a test has gone over are the canonical words of the value that it has found.
 tested_words : (r : Reading) (from to : Progress) (t : Tree) → Finds r from to t → words_tested r from to ≡ standing_words r.at from.head t
@@ -66,7 +72,7 @@ same_by_words {S = S} {s = s} {p = p} {h = h} {t = t} {u = u} left right e =
     let other = stands_by_words left right e in
     one_stands S s p h t u left.stands other.stands
 
-pub same_words : SameWords
+pub same_words : (r q : Reading) (from to start end : Progress) (t u : Tree) → Finds r from to t → Finds q start end u → r.at ≡ q.at → from.head ≡ start.head → (words_tested r from to ≡ words_tested q start end) ↔ (t ≡ u)
 same_words r q from to start end t u f g at head =
     let left = tested_words r from to t f in
     let right : words_tested q start end ≡ standing_words r.at from.head u = tested_words q start end u g ∙ ap₂ (λ p h. standing_words p h u) (sym at) (sym head) in

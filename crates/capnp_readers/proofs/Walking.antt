@@ -16,13 +16,14 @@ use Rattle.capnp_objects.specs.declared.object.Purpose.TheVariants.{Size}
 use Rattle.capnp_objects.specs.Objects.{IsObject}
 use Rattle.capnp_objects.proofs.Parts.{claim_struct, claim_list}
 use Rattle.capnp_objects.specs.Reading.{Reading, segment_read, sized}
-use Rattle.capnp_objects.specs.Sizing.{FitSize, HasSize, HaveSizes, SizeRefused, SizesStop, SizeStops, RowsStop, Tally, tally, WalksPlace, WalksRows}
+use Rattle.capnp_objects.specs.Sizing.{FitSize, SizesStop, SizeStops, RowsStop, Tally, tally, WalksPlace, WalksPointers}
 use Rattle.capnp_objects.specs.Source.{levels}
 use Rattle.capnp_objects.proofs.Walked.{beginning, null_walked, flat_walked, struct_row_walked, pointers_row_walked, structs_rows_walked}
 use Rattle.capnp_objects.proofs.WalkStops.{stops_never, stop_never, struct_row_stops, pointers_row_stops, structs_rows_stop, flat_beyond, struct_beyond, pointers_beyond, structs_beyond}
 use Rattle.capnp_words.specs.Meter.{Meter}
 use Rattle.capnp_readers.specs.declared.readers.sizes.MeasuredRows.{MeasuredRows}
-use Rattle.capnp_readers.specs.Sizes.{object_words, HasRows, HasNoRows}
+use Rattle.capnp_readers.specs.Sizes.{object_words, HasRows}
+use Rattle.capnp_objects.proofs.Shorthands.{WalksRows}
 
 one_level : (z : ℤ) → SFits w32 z → 0 < levels z → levels (to_z w32 (of_z w32 (z -ℤ pos 1))) ≡ pred (levels z)
 one_level (pos zero) fits some = absurd (omega arith)
@@ -73,11 +74,11 @@ beyond_with (Ok x) k Q exactly named f = tt
 beyond_with (Err e) k Q exactly named f = subst Q (sym named) (f (λ h. false≢true (exactly.1 h)))
 
 -- Where the walk is refused, there is none whose sums fit: from a place, and over pointers.
-pub no_size : {r : Reading} {m m' : Meter} {k : ErrorKind} → SizeRefused r m m' k → HasSize r m → ⊥
-no_size refused h = stops_never refused h.0 h.1 h.2 (omega (arith, h.3.0), omega (arith, h.3.1)) h.4
+pub no_size : {r : Reading} {m m' : Meter} {k : ErrorKind} → SizeStops k r (tally 0 0 m) m' → (to : Tally) × WalksPlace r (tally 0 0 m) to × FitSize to.words to.caps → ⊥
+no_size refused (to, walk, fits) = stops_never refused walk.tree walk.cost walk.is_sized (omega (arith, fits.0, walk.words_are), omega (arith, fits.1, walk.caps_are)) walk.paid.covers
 
-pub no_sizes : {r : Reading} {i : ℕ} {from : Tally} {m' : Meter} {k : ErrorKind} → SizesStop r i from m' k → HaveSizes r i from → ⊥
-no_sizes refused h = stop_never refused h.0 h.1 h.2 h.3 h.4 h.5
+pub no_sizes : {r : Reading} {i : ℕ} {from : Tally} {m' : Meter} {k : ErrorKind} → SizesStop r i from m' k → (to : Tally) × WalksPointers r i from to × FitSize to.words to.caps → ⊥
+no_sizes refused (to, (ts, len, all), fits) = stop_never refused ts all.cost len all.is_sized (omega (arith, fits.0, all.words_are), omega (arith, fits.1, all.caps_are)) all.paid.covers
 
 -- An object is measured that has pointers, those of these rows.
 pub record Opened (r : Reading) (m m' : Meter) (x : Object) (rows : MeasuredRows) : Type 0 where
@@ -117,13 +118,13 @@ object_inside (ObjectCapability i) o = absurd o.has
 object_inside (ObjectFlat start size i) o = absurd o.has
 
 -- What a walk finds at an object: its own words and no pointers; the pointers that it goes over, or stops at; too many words.
-pub leaf_walked : {r : Reading} {from : Tally} {m' : Meter} (x : Object) → IsObject Size r from.meter m' x → HasNoRows x → ((i : ℕ) → x ≡ ObjectCapability i → ⊥) → WalksPlace r from (tally (from.words + object_words x) from.caps m')
+pub leaf_walked : {r : Reading} {from : Tally} {m' : Meter} (x : Object) → IsObject Size r from.meter m' x → ((rows : MeasuredRows) → HasRows x rows → ⊥) → ((i : ℕ) → x ≡ ObjectCapability i → ⊥) → WalksPlace r from (tally (from.words + object_words x) from.caps m')
 leaf_walked {r} {from} {m'} ObjectNull object none other = rw add-zero (null_walked {r = r} {from = from} object)
 leaf_walked {r} {from} {m'} (ObjectCapability i) object none other = absurd (other i refl)
 leaf_walked {r} {from} {m'} (ObjectFlat start size i) object none other = flat_walked {r = r} {from = from} start size i object
-leaf_walked {r} {from} {m'} (ObjectStruct start size) object none other = absurd none
-leaf_walked {r} {from} {m'} (ObjectPointers start i) object none other = absurd none
-leaf_walked {r} {from} {m'} (ObjectStructs start size i) object none other = absurd none
+leaf_walked {r} {from} {m'} (ObjectStruct start size) object none other = absurd (none (record { start = start; data_words = size.data_words; pointers = size.pointers; count = 1 }) (refl, refl, refl, refl))
+leaf_walked {r} {from} {m'} (ObjectPointers start i) object none other = absurd (none (record { start = start; data_words = 0; pointers = i; count = 1 }) (refl, refl, refl, refl))
+leaf_walked {r} {from} {m'} (ObjectStructs start size i) object none other = absurd (none (record { start = start; data_words = size.data_words; pointers = size.pointers; count = i }) (refl, refl, refl, refl))
 
 pub object_walked : {r : Reading} {from to : Tally} {m' : Meter} {rows : MeasuredRows} (x : Object) → Opened r from.meter m' x rows →
     WalksRows (beginning r rows.start) (sized rows.data_words rows.pointers) rows.count (tally (from.words + object_words x) from.caps m') to → WalksPlace r from to

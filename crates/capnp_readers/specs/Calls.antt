@@ -7,7 +7,8 @@ use Rattle.capnp_words.specs.declared.error.ErrorKind.{ErrorKind}
 use Rattle.capnp_words.specs.declared.error.ErrorKind.TheVariants.{MessageContainsOutOfBoundsPointer}
 use Rattle.capnp_words.specs.Meter.{Meter}
 use Rattle.capnp_format.specs.Bytes.{words_of}
-use Rattle.capnp_format.specs.Numbers.{words_for}
+use Rattle.capnp_format.specs.Numbers.{words_for, element_bits}
+use Rattle.capnp_words.specs.Sizes.{size_number}
 use Rattle.capnp_format.specs.Segments.{Target, word_at, words_at}
 use Rattle.capnp_format.specs.Word.{list_count}
 use Rattle.capnp_words.specs.declared.wire_pointer.ElementSize.{ElementSize}
@@ -20,16 +21,10 @@ use Rattle.capnp_objects.specs.Reading.{Reading, word_of}
 use Rattle.capnp_objects.specs.Source.{default_segment, default_segments}
 use Rattle.capnp_objects.specs.declared.object.Purpose.TheVariants.{Value}
 use Rattle.capnp_readers.specs.Readers.{reading, IsStructThere, IsListThere}
-use Rattle.capnp_readers.specs.Sections.{IsWide}
+use Rattle.capnp_readers.specs.Sections.{HoldsPointer, data_bits}
 use Rattle.capnp_readers.specs.declared.readers.PointerReader.{PointerReader}
 use Rattle.capnp_readers.specs.declared.readers.struct_reader.StructReader.{StructReader}
 use Rattle.capnp_readers.specs.declared.readers.list_reader.ListReader.{ListReader}
-
--- The first n bytes of an object of bytes.
-abbrev pub ShowsBytes : Reading → Target → ℕ → List ℕ → Type 0
-ShowsBytes r a n bytes =
-    (all : List ℕ) × (words_of all ≡ words_at r.segments a.segment a.start
-    (words_for 2 (list_count a.word))) × (bytes ≡ take n all) × (length bytes ≡ n)
 
 module _ {A : Type 0} (g : Ghosts A) where
   -- A call on a pointer: what it expects there, and the default that it is given.
@@ -87,17 +82,23 @@ module _ {A : Type 0} (g : Ghosts A) where
       (r.pointer_count ≡ 0) × (r.nesting_limit ≡ pos (2 ^ 31 - 1)))
       ⊎ IsStructThere g p m m' r
 
-  -- The list that a pointer leads to, of elements that are wide enough; of a null pointer the list
-  -- from nothing.
+  -- The list that a pointer leads to, of elements as wide as those of an expected size, or wider:
+  -- they have at least its bits of data, and a pointer where it is one; and they are bits only where
+  -- bits are expected. Of a null pointer the list from nothing.
   abbrev pub IsListRead : ElementSize → PointerReader A g → Meter → Meter → ListReader A g → Type 0
   IsListRead expected p m m' r =
       ((word_of (reading g p) ≡ 0) × (m' ≡ m) × (r.source ≡ Nothing) × (r.element_size ≡ Void) ×
       (r.count ≡ 0) × (r.nesting_limit ≡ pos (2 ^ 31 - 1)))
-      ⊎ (IsListThere g p m m' r × IsWide expected r.element_size r.struct_size)
+      ⊎ (IsListThere g p m m' r ×
+      ((element_bits (size_number expected) ≤ data_bits r.element_size r.struct_size) ×
+      (size_number expected ≡ 6 → HoldsPointer r.element_size r.struct_size) ×
+      (size_number r.element_size ≡ 1 → size_number expected ≡ 1)))
 
   -- The bytes that a pointer leads to, in place, but so many at the end; of a null pointer none.
   abbrev pub AreBytesRead : ℕ → PointerReader A g → Meter → Meter → List ℕ → Type 0
   AreBytesRead but p m m' bytes =
       ((word_of (reading g p) ≡ 0) × (m' ≡ m) × (bytes ≡ []))
       ⊎ ((a : Target) × Entered Value (record (reading g p) { levels = 1 }) m m' a ×
-      ShowsBytes (reading g p) a (list_count a.word - but) bytes)
+      ((all : List ℕ) × (words_of all ≡ words_at (reading g p).segments a.segment a.start
+      (words_for 2 (list_count a.word)))
+      × (bytes ≡ take (list_count a.word - but) all) × (length bytes ≡ list_count a.word - but)))

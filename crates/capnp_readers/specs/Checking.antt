@@ -49,7 +49,7 @@ use Rattle.capnp_readers.specs.declared.readers.canonical_fault.CanonicalFaultRe
 use Rattle.capnp_readers.specs.declared.readers.canonical_fault.CanonicalFaultReason.TheVariants.{ElementWords}
 use Rattle.capnp_readers.specs.declared.readers.canonical_fault.CanonicalFaultReason.TheVariants.{ElementData}
 use Rattle.capnp_readers.specs.declared.readers.canonical_fault.CanonicalFaultReason.TheVariants.{ElementPointers}
-use Rattle.capnp_readers.specs.Standing.{AllStand, ForOffsets, ElementsStand, ElementsAccept}
+use Rattle.capnp_readers.specs.Standing.{AllStand, ForOffsets, ElementsStand}
 use Rattle.capnp_readers.specs.Standing.{EndsUsed, IsPadded}
 
 -- How far a test has come: the word at which the next object has to start, and its limiter.
@@ -150,25 +150,14 @@ TellsStruct r size m m' None =
 
 -- Of n elements of a list of structs, the first of which starts at a place: their pointers are
 -- canonical, the first object at the head; and no smaller size of elements would do.
-abbrev pub AreFoundRows : Reading → StructSize → ℕ → Progress → Progress → Type 0
-AreFoundRows r size n from to =
-    (es : Elements) × (element_count es ≡ n) × (data_width es ≡ size.data_words) ×
-    (pointer_width es ≡ size.pointers) × FindsElements r size from to es
-
 abbrev pub TellsRows : Reading → StructSize → ℕ → Progress → Meter → Option ℕ → Type 0
-TellsRows r size n from m' (Some e) = AreFoundRows r size n from (progress e m')
+TellsRows r size n from m' (Some e) =
+    (es : Elements) × (element_count es ≡ n) × (data_width es ≡ size.data_words) ×
+    (pointer_width es ≡ size.pointers) × FindsElements r size from (progress e m') es
 TellsRows r size n from m' None =
-    ElementsAccept r.segments r.segment r.at size.data_words size.pointers from.head n → ⊥
-
--- Of the list that claims so many words: its elements take just these, and the first object stands
--- behind them.
-abbrev pub TellsClaimed : Reading → StructSize → ℕ → ℕ → Meter → Meter → Option ℕ → Type 0
-TellsClaimed r size n claimed m m' (Some e) =
-    (n * (size.data_words + size.pointers) ≡ claimed) ×
-    AreFoundRows r size n (progress (r.at + claimed) m) (progress e m')
-TellsClaimed r size n claimed m m' None =
-    n * (size.data_words + size.pointers) ≡ claimed →
-    ElementsAccept r.segments r.segment r.at size.data_words size.pointers (r.at + claimed) n → ⊥
+    ((es : Elements) × (element_count es ≡ n) × (data_width es ≡ size.data_words) ×
+    (pointer_width es ≡ size.pointers) ×
+    ElementsStand r.segments r.segment r.at size.data_words size.pointers from.head es) → ⊥
 
 -- Canonical words stand at a place and a head in its segment, the levels are enough, and the
 -- limiter covers their cost; of i pointers.
@@ -190,12 +179,12 @@ level_refusal_name w MessageIsTooDeeplyNestedOrContainsCycles =
     if nat_eq (kind w) 1 then NestingLimitExceeded else MessageIsTooDeeplyNestedOrContainsCycles
 level_refusal_name w k = k
 
--- The object of a near pointer can't be read, from m to m', for the reason k: its reading stops as
--- any other does.
-pub record Unread (r : Reading) (m m' : Meter) (k : ErrorKind) : Type 0 where
+-- The object of a near pointer can't be read, for the reason k, and the limiter is left as m': its
+-- reading stops as any other does.
+pub record Unread (k : ErrorKind) (r : Reading) (from : Progress) (m' : Meter) : Type 0 where
   pub name : ErrorKind
   pub near : kind (word_of r) < 2
-  pub stopped : Stopped Value plain r m m' name
+  pub stopped : Stopped Value plain r from.meter m' name
   pub named : k ≡ level_refusal_name (word_of r) name
 
 -- The head behind an object's own words, once these are read.
@@ -235,41 +224,20 @@ pub record RowTestsEnd (P : Reading → Progress → Meter → Type 0) (r : Read
   pub are_found : FindsElements r size from mid first
   pub ends : TestsEnd P (pointers_of r size (element_count first)) size.pointers mid m'
 
--- The test of a place stops by the name k: an object can't be read. So does that of one of i
--- pointers from a place on, and that of a pointer of one of i elements.
+-- The test of a place stops by the name k: an object can't be read.
 abbrev pub TestStops : ErrorKind → Reading → Progress → Meter → Type 0
-TestStops k r from m' = TestEnds (λ s at m. Unread s at.meter m k) r from m'
-
-abbrev pub TestsStop : Reading → ℕ → Progress → Meter → ErrorKind → Type 0
-TestsStop r i from m' k = TestsEnd (λ s at m. Unread s at.meter m k) r i from m'
-
-abbrev pub RowTestsStop : Reading → StructSize → ℕ → Progress → Meter → ErrorKind → Type 0
-RowTestsStop r size i from m' k = RowTestsEnd (λ s at m. Unread s at.meter m k) r size i from m'
-
--- The test of the pointers of a struct of this size, the first object right behind the struct,
--- stops by the name k.
-abbrev pub StructTestStops : Reading → StructSize → Meter → Meter → ErrorKind → Type 0
-StructTestStops r size m m' k =
-    TestsStop (behind r size.data_words) size.pointers
-    (progress (r.at + size.data_words + size.pointers) m) m' k
-
--- A struct without words, which stands at its pointer in canonical form.
-abbrev pub IsEmptyStruct : Target → Type 0
-IsEmptyStruct a = (kind a.word ≡ 0) × (data_words a.word + pointer_count a.word ≡ 0)
-
--- Of n words from position p on the last is zero.
-abbrev pub EndsUnused : Segments → ℕ → ℕ → ℕ → Type 0
-EndsUnused S s p n = (0 < n) × (word_at S s (p + n - 1) ≡ 0)
+TestStops k r from m' = TestEnds (Unread k) r from m'
 
 -- A section of the struct that starts at a place ends in a zero word, which the fault names: that of
 -- its data; or its data doesn't, and that of its pointers does.
 abbrev pub HasWideSection : CanonicalFault → Reading → StructSize → Type 0
 HasWideSection f r size =
     let first = r.at + size.data_words in
-    (FaultIs f DataSection r.segment (first - 1) × EndsUnused r.segments r.segment r.at size.data_words)
+    (FaultIs f DataSection r.segment (first - 1) ×
+    (EndsUsed r.segments r.segment r.at size.data_words → ⊥))
     ⊎ (FaultIs f PointerSection r.segment (first + size.pointers - 1) ×
     EndsUsed r.segments r.segment r.at size.data_words ×
-    EndsUnused r.segments r.segment first size.pointers)
+    (EndsUsed r.segments r.segment first size.pointers → ⊥))
 
 -- The pointers of n elements of a size are canonical, and none of the elements uses its last word
 -- of data; or some does, and none uses its last pointer. The fault names the tag before the first
@@ -294,10 +262,14 @@ pub data IsFault (f : CanonicalFault) (r : Reading) (from : Progress) (m' : Mete
       IsFault f r from m'
   empty_elsewhere :
       (a : Target) → FaultIs f EmptyStructPlace r.segment r.at → kind (word_of r) < 2 →
-      Entered Value r from.meter m' a → IsEmptyStruct a → a.start ≢ r.at → IsFault f r from m'
+      Entered Value r from.meter m' a →
+      (kind a.word ≡ 0) × (data_words a.word + pointer_count a.word ≡ 0) → a.start ≢ r.at →
+      IsFault f r from m'
   elsewhere :
       (a : Target) → FaultIs f ObjectPlace r.segment r.at → kind (word_of r) < 2 →
-      Entered Value r from.meter m' a → (IsEmptyStruct a → ⊥) → a.start ≢ from.head →
+      Entered Value r from.meter m' a →
+      ((kind a.word ≡ 0) × (data_words a.word + pointer_count a.word ≡ 0) → ⊥) →
+      a.start ≢ from.head →
       IsFault f r from m'
   not_padded :
       (a : Target) →
@@ -360,29 +332,10 @@ RowsFail f r size n m m' =
     let from = progress (r.at + n * (size.data_words + size.pointers)) m in
     RowTestsEnd (IsFault f) r size n from m' ⊎ ((e : ℕ) × AreFoundTooWide f r size n from (progress e m'))
 
--- The test of a list that claims so many words fails: its elements take others, and nothing more is
--- charged; or their test fails.
-abbrev pub ClaimedFails : CanonicalFault → Reading → StructSize → ℕ → ℕ → Meter → Meter → Type 0
-ClaimedFails f r size n claimed m m' =
-    (FaultIs f ElementWords r.segment (r.at - 1) ×
-    (n * (size.data_words + size.pointers) ≢ claimed) × (m' ≡ m))
-    ⊎ ((n * (size.data_words + size.pointers) ≡ claimed) × RowsFail f r size n m m')
-
 module _ {A : Type 0} (g : Ghosts A) where
   -- A struct has whole words of data, and starts at the head. That from nothing starts nowhere.
   abbrev pub StartsWhole : StructReader A g → ℕ → Type 0
   StartsWhole r h = (r.source ≢ Nothing) × (r.bits % 64 ≡ 0) × (r.byte ≡ 8 * h)
-
-  -- A struct starts at a head, and its pointers are canonical from another head on.
-  abbrev pub IsCanonicalStruct : StructReader A g → ℕ → ℕ → Type 0
-  IsCanonicalStruct r h bodies = StartsWhole r h × AreCanonicalAt (pointers_read g r) r.pointer_count bodies
-
-  -- The test of a struct at a head fails: the struct doesn't start there, and nothing is counted or
-  -- charged; or that of one of its pointers fails.
-  abbrev pub StructTestFails : StructReader A g → ℕ → Progress → Meter → Type 0
-  StructTestFails r h from m' =
-      ((StartsWhole r h → ⊥) × (m' ≡ from.meter)) ⊎
-      (StartsWhole r h × TestsEnd IsUnfit (pointers_read g r) r.pointer_count from m')
 
   -- The data section is empty or ends in a word that is not zero; so does the pointer section.
   abbrev pub IsDataUsed : StructReader A g → Type 0

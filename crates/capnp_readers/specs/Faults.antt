@@ -1,6 +1,5 @@
 -- What a fault of a message in canonical form says, and its text ("Canonicalization").
-use Rattle.std.specs.Prelude.{◌≡◌, ℕ, List, codes, ◌++◌, if◌then◌else◌, nat_eq}
-use Rattle.std.specs.Fmt.{decimal}
+use Rattle.std.specs.Prelude.{◌≡◌, ℕ, List, codes, if◌then◌else◌, nat_eq}
 use Rattle.capnp_format.specs.Word.{kind, lower_half}
 use Rattle.capnp_readers.specs.declared.readers.canonical_fault.CanonicalFault.{CanonicalFault}
 use Rattle.capnp_readers.specs.declared.readers.canonical_fault.CanonicalFaultReason.{CanonicalFaultReason}
@@ -35,12 +34,6 @@ fault_reason_text ElementWords = codes "a struct list that claims other words th
 fault_reason_text ElementData = codes "a struct list that could do with less data"
 fault_reason_text ElementPointers = codes "a struct list that could do with fewer pointers"
 fault_reason_text WordsBehind = codes "words behind the value"
-
--- the text of a fault
-abbrev pub fault_text : CanonicalFault → List ℕ
-fault_text f =
-    fault_reason_text f.reason ++ codes " at segment " ++ decimal f.segment ++ codes ", word "
-    ++ decimal f.word
 
 -- A fault names a word of a segment, for this reason.
 abbrev pub FaultIs : CanonicalFault → CanonicalFaultReason → ℕ → ℕ → Type 0

@@ -5,4 +5,3 @@ pub mod Calls
 pub mod Standing
 pub mod Faults
 pub mod Checking
-pub mod Laws

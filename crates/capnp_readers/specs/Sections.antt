@@ -37,10 +37,6 @@ elements_words InlineComposite n width = n * width
 elements_words Pointer n width = n
 elements_words size n width = words_for (size_number size) n
 
--- Elements that are no structs have no sections.
-abbrev pub IsSized : ElementSize → StructSize → Type 0
-IsSized size sections = size_number size < 7 → (sections.data_words ≡ 0) × (sections.pointers ≡ 0)
-
 -- An element holds a pointer: it is one, or a struct with pointers.
 abbrev pub HoldsPointer : ElementSize → StructSize → Type 0
 HoldsPointer Pointer sections = ⊤
@@ -71,10 +67,3 @@ low_data Bit sections bytes i = bit_at bytes i
 low_data size sections bytes i =
     let start = i * step_bits size sections / 8 in
     from_digits 256 (slice_range bytes start (start + min 64 (data_bits size sections) / 8))
-
--- Elements are as wide as those of an expected size, or wider: they have at least its bits of data,
--- and a pointer where it is one; and they are bits only where bits are expected.
-pub record IsWide (expected found : ElementSize) (sections : StructSize) : Type 0 where
-  pub bits : element_bits (size_number expected) ≤ data_bits found sections
-  pub pointers : size_number expected ≡ 6 → HoldsPointer found sections
-  pub whole : size_number found ≡ 1 → size_number expected ≡ 1

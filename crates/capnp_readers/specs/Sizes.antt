@@ -1,5 +1,5 @@
 -- What sizes are taken of: of the places that a reader's segment has, and of a struct.
-use Rattle.std.specs.Prelude.{◌≡◌, ℕ, ℤ, ◌+◌, ◌*◌, ◌/◌, ⊤}
+use Rattle.std.specs.Prelude.{◌≡◌, ℕ, ℤ, ◌+◌, ◌*◌, ◌/◌}
 use Rattle.capnp_arena_traits.specs.declared.arena.reader_arena.ReaderArena.{Ghosts}
 use Rattle.capnp_words.specs.Meter.{Meter}
 use Rattle.capnp_format.specs.Numbers.{words_for}
@@ -27,7 +27,7 @@ object_words (Flat start size count) = words_for (size_number size) count
 object_words (Pointers start count) = count
 object_words (Structs start size count) = 1 + count * (size.data_words + size.pointers)
 
--- The pointers of an object are those of these elements; or it has none.
+-- The pointers of an object are those of these elements.
 abbrev pub HasRows : Object → MeasuredRows → Type 0
 HasRows (Struct start size) rows =
     (rows.start ≡ start) × (rows.data_words ≡ size.data_words) × (rows.pointers ≡ size.pointers) ×
@@ -38,12 +38,6 @@ HasRows (Structs start size count) rows =
     (rows.start ≡ start) × (rows.data_words ≡ size.data_words) × (rows.pointers ≡ size.pointers) ×
     (rows.count ≡ count)
 HasRows object rows = ⊥
-
-abbrev pub HasNoRows : Object → Type 0
-HasNoRows (Struct start size) = ⊥
-HasNoRows (Pointers start count) = ⊥
-HasNoRows (Structs start size count) = ⊥
-HasNoRows object = ⊤
 
 module _ {A : Type 0} (g : Ghosts A) where
   -- The words of a struct's own: its data section, rounded up, and its pointers.

@@ -25,12 +25,6 @@ ElementsStand S s p d q h (element ws ts es) =
     (length ws ≡ d) × (count ts ≡ q) × HasWords S s p ws × AllStand S s (p + d) h ts ×
     ElementsStand S s (p + d + q) d q (h + word_count_all ts) es
 
--- Some n elements stand from a place and a head on, and no smaller sections would hold them.
-abbrev pub ElementsAccept : Segments → ℕ → ℕ → ℕ → ℕ → ℕ → ℕ → Type 0
-ElementsAccept S s p d q h n =
-    (es : Elements) × (element_count es ≡ n) × (data_width es ≡ d) × (pointer_width es ≡ q) ×
-    ElementsStand S s p d q h es
-
 -- Of n words from position p on the last is not zero, or there are none.
 abbrev pub EndsUsed : Segments → ℕ → ℕ → ℕ → Type 0
 EndsUsed S s p n = (n ≡ 0) ⊎ (word_at S s (p + n - 1) ≢ 0)

@@ -1,9 +1,9 @@
 //! Readers: pointers, structs and lists of a message, in place.
-ghost use Rattle.std.specs.Prelude.{◌≡◌, Some, Ok, ◌<◌, ◌≤◌, ◌+◌, ◌*◌, ◌/◌, ◌^◌, ◌↔◌, ℕ, pos, false, ⊤, IsTrue, IfOk, IsOk, OnOk, OnErr, IfErr, IfSome, length, take, drop};
+ghost use Rattle.std.specs.Prelude.{◌≡◌, ◌≢◌, Some, Ok, ◌<◌, ◌≤◌, ◌+◌, ◌*◌, ◌/◌, ◌^◌, ◌↔◌, ℕ, pos, false, ⊤, IsTrue, IfOk, IsOk, OnOk, OnErr, IfErr, IfSome, length, take, drop};
 ghost use Rattle.capnp_format.specs.Bytes.{message};
 ghost use Rattle.capnp_words.specs.Meter.{Meter, Affords, charged};
 ghost use Rattle.capnp_format.specs.Segments.{word_at, segment, IsPlace};
-ghost use Rattle.capnp_words.specs.declared.error.ErrorKind.TheVariants.{MessageContainsOutOfBoundsPointer, ReadLimitExceeded};
+ghost use Rattle.capnp_words.specs.declared.error.ErrorKind.TheVariants.{MessageContainsNonCapabilityPointerWhereCapabilityPointerWasExpected, MessageContainsNullCapabilityPointer, MessageContainsOutOfBoundsPointer, ReadLimitExceeded};
 ghost use Rattle.capnp_arena_traits.specs.Checks.{Holds, misplaced};
 ghost use Rattle.capnp_objects.specs.Source.{default_segment, levels};
 ghost use Rattle.capnp_objects.specs.Refusals.{Stopped, CanBeRead};
@@ -11,7 +11,8 @@ ghost use Rattle.capnp_objects.specs.Objects.{IsHeld};
 ghost use Rattle.capnp_objects.specs.Reading.{source_start, reading_at, word_of};
 ghost use Rattle.capnp_objects.specs.Objects.{IsFew, IsObject};
 ghost use Rattle.capnp_objects.specs.Expected.{expectation, struct_expected, list_expected, text_expected, data_expected, CanBeGiven, IsGiven};
-ghost use Rattle.capnp_objects.specs.Types.{IsNoCapability, IsOfType, HasType, HasNoType};
+ghost use Rattle.capnp_words.specs.declared.wire_pointer.PointerType.{PointerType};
+ghost use Rattle.capnp_objects.specs.Types.{IsOfType, HasNoType};
 ghost use Rattle.capnp_format.specs.Word.{lower_half, upper_half};
 ghost use Rattle.capnp_objects.specs.Wanted.{plain};
 ghost use Rattle.capnp_objects.specs.declared.object.Purpose.TheVariants.{Value};
@@ -421,7 +422,10 @@ impl<'a, A: ReaderArena> PointerReader<'a, A> {
             ≡ 3) }
         ensures index { IfOk result (λ i. i ≡ upper_half
             (word_of (reading A.ReaderArena self.now))) }
-        ensures refused { IfErr result (IsNoCapability (word_of (reading A.ReaderArena self.now))) }
+        ensures null { IfErr result (λ k. word_of (reading A.ReaderArena self.now) ≡ 0
+            → k ≡ MessageContainsNullCapabilityPointer) }
+        ensures another { IfErr result (λ k. word_of (reading A.ReaderArena self.now) ≢ 0
+            → k ≡ MessageContainsNonCapabilityPointerWhereCapabilityPointerWasExpected) }
     {
         let word = self.place.word();
         if word.is_null() {
@@ -443,7 +447,8 @@ impl<'a, A: ReaderArena> PointerReader<'a, A> {
     /// kind `UnknownPointerType`; a pointer that can't be followed is refused as by `next`.
     pub fn get_pointer_type(&self, lim: &mut ReadLimiter) -> Result<PointerType, ErrorKind>
         ensures of_type { IfOk result (IsOfType (reading A.ReaderArena self.now) lim.old lim.new) }
-        ensures exactly { IsOk result ↔ HasType (reading A.ReaderArena self.now) lim.old }
+        ensures exactly { IsOk result ↔ (t : PointerType) × (left : Meter)
+            × IsOfType (reading A.ReaderArena self.now) lim.old left t }
         ensures refused { IfErr result
             (HasNoType (reading A.ReaderArena self.now) lim.old lim.new) }
     {

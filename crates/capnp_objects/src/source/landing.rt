@@ -1,6 +1,7 @@
 //! What a pointer leads to, once it is followed, and how that is entered: its checks and charges.
 ghost use Rattle.std.specs.Prelude.{◌≡◌, ⊤};
-ghost use Rattle.capnp_objects.specs.Wanted.{non_struct_tag};
+ghost use Rattle.capnp_words.specs.declared.error.ErrorKind.TheVariants.{CantHandleNonStructInlineComposite, InlineCompositeListsOfNonStructTypeAreNotSupported};
+ghost use Rattle.capnp_objects.specs.declared.object.Purpose.TheVariants.{Value, Size};
 ghost use Rattle.capnp_objects.specs.Objects.{IsHeld};
 ghost use Rattle.capnp_objects.specs.Reading.{source_start};
 
@@ -9,7 +10,7 @@ use crate::object::{Object, Place, Purpose};
 use capnp_arena_traits::arena::ReaderArena;
 use capnp_words::error::ErrorKind;
 use capnp_words::read_limiter::ReadLimiter;
-use capnp_words::wire_pointer::{ElementSize, WirePointerKind, data_bits_per_element};
+use capnp_words::wire_pointer::{ElementSize, WirePointerKind, flat_words};
 use std::alloc::AllocError;
 
 // What following a pointer found, in the source that it is read from.
@@ -40,7 +41,6 @@ impl<'a, A: ReaderArena> Entrance<'a, A> {
     ghost use Rattle.capnp_format.specs.Word.{kind, element_size};
     ghost use Rattle.capnp_words.specs.Sizes.{size_number};
     ghost use Rattle.capnp_objects.specs.declared.object.Purpose.{Purpose};
-    ghost use Rattle.capnp_objects.specs.declared.object.Purpose.TheVariants.{Value, Size};
     ghost use Rattle.capnp_objects.specs.Demands.{claim, IsVoidList};
     ghost use Rattle.capnp_objects.specs.Objects.{IsFew};
     ghost use Rattle.capnp_objects.specs.Landings.{arrival, IsClaimed, NotEntered, IsOpened};
@@ -174,9 +174,7 @@ impl<'a, A: ReaderArena> Entrance<'a, A> {
             lim.old lim.new) }
     {
         let count = self.found.word.list_element_count();
-        let bits = data_bits_per_element(size);
-        let words = (u64::from(count) * u64::from(bits) + 63) / 64;
-        self.claim(words as u32, lim)?;
+        self.claim(flat_words(size, count), lim)?;
         Ok(Object::Flat {
             start: self.found.start,
             size,
@@ -243,7 +241,9 @@ impl<'a, A: ReaderArena> Entrance<'a, A> {
 
 // How it is refused that a list of structs has no tag.
 fn name_of_non_struct_tag(purpose: Purpose) -> ErrorKind
-    ensures { result ≡ non_struct_tag purpose }
+    ensures value { purpose ≡ Value
+        → result ≡ InlineCompositeListsOfNonStructTypeAreNotSupported }
+    ensures size { purpose ≡ Size → result ≡ CantHandleNonStructInlineComposite }
 {
     match purpose {
         Purpose::Value => ErrorKind::InlineCompositeListsOfNonStructTypeAreNotSupported,

@@ -1,8 +1,10 @@
 //! Of which kind the object is that a pointer leads to.
 ghost use Rattle.std.specs.Prelude.{◌≡◌, ◌↔◌, IsOk, IfOk, IfErr};
+ghost use Rattle.capnp_words.specs.Meter.{Meter};
+ghost use Rattle.capnp_words.specs.declared.wire_pointer.PointerType.{PointerType};
 ghost use Rattle.capnp_objects.specs.Reading.{source_start, reading_at};
 ghost use Rattle.capnp_objects.specs.Objects.{IsHeld};
-ghost use Rattle.capnp_objects.specs.Types.{type_of, IsOfType, HasType, HasNoType};
+ghost use Rattle.capnp_objects.specs.Types.{type_of, IsOfType, HasNoType};
 
 use super::Source;
 use crate::object::Place;
@@ -28,8 +30,8 @@ impl<'a, A: ReaderArena> Source<'a, A> {
         requires held { IsHeld (source_start A.ReaderArena self).segments place }
         ensures of_type { IfOk result (IsOfType
             (reading_at A.ReaderArena self.entry place.entry nesting_limit) lim.old lim.new) }
-        ensures exactly { IsOk result ↔ HasType
-            (reading_at A.ReaderArena self.entry place.entry nesting_limit) lim.old }
+        ensures exactly { IsOk result ↔ (t : PointerType) × (left : Meter) × IsOfType
+            (reading_at A.ReaderArena self.entry place.entry nesting_limit) lim.old left t }
         ensures refused { IfErr result
             (HasNoType (reading_at A.ReaderArena self.entry place.entry nesting_limit)
             lim.old lim.new) }

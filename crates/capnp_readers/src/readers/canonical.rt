@@ -1,20 +1,18 @@
 //! The test for canonical form, in place.
 ghost use Rattle.std.specs.Prelude.{ℕ, ◌≡◌, ◌≢◌, ◌<◌, ◌≤◌, ◌+◌, ◌*◌, ◌/◌, ◌-◌, ◌⊎◌, ◌↔◌, pred, ◌^◌, None, IsOk, IsTrue, IsNone, Ok, true, false, Some, Err, IfOk, IfErr, IfNone, IfSome, OnOk, OnErr, length, slice_index};
-ghost use Rattle.std.specs.Bool.{OnFalse};
 ghost use Rattle.capnp_format.specs.Bytes.{words_of};
 ghost use Rattle.capnp_format.specs.Word.{kind, element_size};
 ghost use Rattle.capnp_format.specs.Numbers.{words_for};
 ghost use Rattle.capnp_words.specs.Sizes.{size_number};
-ghost use Rattle.capnp_objects.specs.Reading.{segment_read, word_of};
+ghost use Rattle.capnp_objects.specs.Reading.{behind, segment_read, word_of};
 ghost use Rattle.capnp_objects.specs.Source.{levels};
 ghost use Rattle.capnp_readers.specs.Faults.{FaultIs};
 ghost use Rattle.capnp_readers.specs.Readers.{reading};
 ghost use Rattle.capnp_readers.specs.Sizes.{pointers_read, reading_on};
-ghost use Rattle.capnp_readers.specs.Checking.{progress, level_refusal_name, IsFound, AreFound, IsCanonicalAt, IsTested, StartsRight, Tells, TellsAll, TellsFlat, TellsStruct, TellsRows, TellsClaimed, CanBeFound, CanAllBeFound, TestStops, TestsStop, StructTestStops, RowTestsStop, TestEnds, IsFault, IsUnfit, TestsEnd, SectionsFail, RowsFail, ClaimedFails, StructTestFails, StartsWhole, IsCanonicalStruct, IsDataUsed, ArePointersUsed, head_behind};
+ghost use Rattle.capnp_readers.specs.Checking.{progress, level_refusal_name, IsFound, AreFound, IsCanonicalAt, AreCanonicalAt, IsTested, StartsRight, Tells, TellsAll, TellsFlat, TellsStruct, TellsRows, CanBeFound, CanAllBeFound, Unread, TestStops, TestEnds, IsFault, IsUnfit, TestsEnd, RowTestsEnd, SectionsFail, RowsFail, StartsWhole, IsDataUsed, ArePointersUsed, head_behind};
 
 use crate::readers::canonical_answer::{Answer, Stopped, fault_at, reason_of, refused, unanswered};
 use crate::readers::canonical_fault::{CanonicalFault, CanonicalFaultReason};
-use crate::readers::sizes::{flat_words, is_of_bits};
 use crate::readers::{PointerReader, StructReader};
 use capnp_arena_traits::arena::ReaderArena;
 use capnp_objects::object::{Object, Place};
@@ -23,7 +21,8 @@ use capnp_words::error::ErrorKind;
 use capnp_words::lanes;
 use capnp_words::read_limiter::ReadLimiter;
 use capnp_words::wire_pointer::{
-    ElementSize, StructSize, WirePointer, WirePointerKind, data_bits_per_element,
+    ElementSize, StructSize, WirePointer, WirePointerKind, data_bits_per_element, flat_words,
+    is_of_bits,
 };
 use capnp_words::words::word_at;
 
@@ -128,7 +127,9 @@ impl<'a, A: ReaderArena> StructReader<'a, A> {
         ptr_trunc: &mut bool,
     ) -> Result<bool, ErrorKind>
         ensures exactly { IfOk result (λ b. IsTrue b
-            ↔ IsCanonicalStruct A.ReaderArena self.now read_head.old ptr_head.old) }
+            ↔ StartsWhole A.ReaderArena self.now read_head.old
+            × AreCanonicalAt (pointers_read A.ReaderArena self.now) self.now.pointer_count
+            ptr_head.old) }
         ensures found { IfOk result (λ b. IsTrue b
             → AreFound (pointers_read A.ReaderArena self.now) self.now.pointer_count
             (progress ptr_head.old lim.old) (progress ptr_head.new lim.new)) }
@@ -141,11 +142,13 @@ impl<'a, A: ReaderArena> StructReader<'a, A> {
         ensures answered { CanAllBeFound (pointers_read A.ReaderArena self.now)
             self.now.pointer_count (progress ptr_head.old lim.old) → IsOk result }
         ensures started { IfErr result (λ k. StartsWhole A.ReaderArena self.now read_head.old) }
-        ensures refused { IfErr result
-            (TestsStop (pointers_read A.ReaderArena self.now) self.now.pointer_count
+        ensures elsewhere { (StartsWhole A.ReaderArena self.now read_head.old → ⊥)
+            → lim.new ≡ lim.old }
+        ensures refused { IfErr result (λ k. TestsEnd (Unread k)
+            (pointers_read A.ReaderArena self.now) self.now.pointer_count
             (progress ptr_head.old lim.old) lim.new) }
-        ensures failed { result ≡ Ok false
-            → StructTestFails A.ReaderArena self.now read_head.old
+        ensures failed { result ≡ Ok false → StartsWhole A.ReaderArena self.now read_head.old
+            → TestsEnd IsUnfit (pointers_read A.ReaderArena self.now) self.now.pointer_count
             (progress ptr_head.old lim.old) lim.new }
         ensures kept { (result ≡ Ok true → ⊥) → (read_head.new ≡ read_head.old)
             × (ptr_head.new ≡ ptr_head.old) }
@@ -198,7 +201,8 @@ impl<'a, A: ReaderArena> StructReader<'a, A> {
         ptr_trunc: &mut bool,
     ) -> Result<bool, ErrorKind>
         ensures exactly { IfOk result (λ b. IsTrue b
-            ↔ IsCanonicalStruct A.ReaderArena self.now head.old
+            ↔ StartsWhole A.ReaderArena self.now head.old
+            × AreCanonicalAt (pointers_read A.ReaderArena self.now) self.now.pointer_count
             (head_behind A.ReaderArena self.now head.old)) }
         ensures found { IfOk result (λ b. IsTrue b
             → AreFound (pointers_read A.ReaderArena self.now) self.now.pointer_count
@@ -212,11 +216,13 @@ impl<'a, A: ReaderArena> StructReader<'a, A> {
             self.now.pointer_count (progress (head_behind A.ReaderArena self.now head.old) lim.old)
             → IsOk result }
         ensures started { IfErr result (λ k. StartsWhole A.ReaderArena self.now head.old) }
-        ensures refused { IfErr result
-            (TestsStop (pointers_read A.ReaderArena self.now) self.now.pointer_count
+        ensures elsewhere { (StartsWhole A.ReaderArena self.now head.old → ⊥)
+            → lim.new ≡ lim.old }
+        ensures refused { IfErr result (λ k. TestsEnd (Unread k)
+            (pointers_read A.ReaderArena self.now) self.now.pointer_count
             (progress (head_behind A.ReaderArena self.now head.old) lim.old) lim.new) }
-        ensures failed { result ≡ Ok false
-            → StructTestFails A.ReaderArena self.now head.old
+        ensures failed { result ≡ Ok false → StartsWhole A.ReaderArena self.now head.old
+            → TestsEnd IsUnfit (pointers_read A.ReaderArena self.now) self.now.pointer_count
             (progress (head_behind A.ReaderArena self.now head.old) lim.old) lim.new }
         ensures kept { (result ≡ Ok true → ⊥) → head.new ≡ head.old }
         ensures flags { (result ≡ Ok true → ⊥) → (data_trunc.new ≡ data_trunc.old)
@@ -308,8 +314,8 @@ fn test_children<A: ReaderArena>(
     ensures never { OnErr result (OnOk answer.new
         (TellsAll (reading_on A.ReaderArena from.now at nesting_limit) count
         (progress first lim.old) lim.new None)) }
-    ensures refused { OnErr result (IfErr answer.new
-        (TestsStop (reading_on A.ReaderArena from.now at nesting_limit) count
+    ensures refused { OnErr result (IfErr answer.new (λ k. TestsEnd (Unread k)
+        (reading_on A.ReaderArena from.now at nesting_limit) count
         (progress first lim.old) lim.new)) }
     ensures failed { OnErr result (IfOk answer.new (λ f. TestsEnd (IsFault f)
         (reading_on A.ReaderArena from.now at nesting_limit) count
@@ -396,9 +402,9 @@ fn test_sections<A: ReaderArena>(
     ensures never { OnErr result (OnOk answer.new
         (TellsStruct (reading_on A.ReaderArena from.now start nesting_limit) size
         lim.old lim.new None)) }
-    ensures refused { OnErr result (IfErr answer.new
-        (StructTestStops (reading_on A.ReaderArena from.now start nesting_limit) size
-        lim.old lim.new)) }
+    ensures refused { OnErr result (IfErr answer.new (λ k. TestsEnd (Unread k)
+        (behind (reading_on A.ReaderArena from.now start nesting_limit) size.data_words)
+        size.pointers (progress (start + size.data_words + size.pointers) lim.old) lim.new)) }
     ensures failed { OnErr result (IfOk answer.new (λ f. SectionsFail f
         (reading_on A.ReaderArena from.now start nesting_limit) size lim.old lim.new)) }
 {
@@ -541,20 +547,24 @@ fn test_structs<A: ReaderArena>(
 ) -> Result<u32, Stopped>
     requires inside { start + claimed ≤ length (segment_read (reading A.ReaderArena from.now)) }
     requires tagged { 0 < start }
-    ensures tells { IfOk result (λ end.
-        TellsClaimed (reading_on A.ReaderArena from.now start nesting_limit) size count claimed
-        lim.old lim.new (Some end)) }
+    ensures tells { IfOk result (λ end. (count * (size.data_words + size.pointers) ≡ claimed)
+        × TellsRows (reading_on A.ReaderArena from.now start nesting_limit) size count
+        (progress (start + claimed) lim.old) lim.new (Some end)) }
     ensures never { OnErr result (OnOk answer.new
-        (TellsClaimed (reading_on A.ReaderArena from.now start nesting_limit) size count claimed
-        lim.old lim.new None)) }
+        (count * (size.data_words + size.pointers) ≡ claimed
+        → TellsRows (reading_on A.ReaderArena from.now start nesting_limit) size count
+        (progress (start + claimed) lim.old) lim.new None)) }
     ensures exact { OnErr result (OnErr answer.new
         (count * (size.data_words + size.pointers) ≡ claimed)) }
-    ensures refused { OnErr result (IfErr answer.new
-        (RowTestsStop (reading_on A.ReaderArena from.now start nesting_limit) size count
-        (progress (start + claimed) lim.old) lim.new)) }
-    ensures failed { OnErr result (IfOk answer.new (λ f. ClaimedFails f
+    ensures refused { OnErr result (IfErr answer.new (λ k. RowTestsEnd (Unread k)
         (reading_on A.ReaderArena from.now start nesting_limit) size count
-        claimed lim.old lim.new)) }
+        (progress (start + claimed) lim.old) lim.new)) }
+    ensures failed { OnErr result (IfOk answer.new (λ f.
+        (FaultIs f CanonicalFaultReason.ElementWords from.now.place.segment (start - 1)
+        × (count * (size.data_words + size.pointers) ≢ claimed) × (lim.new ≡ lim.old))
+        ⊎ ((count * (size.data_words + size.pointers) ≡ claimed)
+        × RowsFail f (reading_on A.ReaderArena from.now start nesting_limit) size count
+        lim.old lim.new))) }
 {
     if u64::from(count) * u64::from(size.total()) != u64::from(claimed) {
         return Err(fault_at(
@@ -591,8 +601,8 @@ fn test_rows<A: ReaderArena>(
     ensures never { OnErr result (OnOk answer.new
         (TellsRows (reading_on A.ReaderArena from.now start nesting_limit) size count
         (progress (start + count * (size.data_words + size.pointers)) lim.old) lim.new None)) }
-    ensures refused { OnErr result (IfErr answer.new
-        (RowTestsStop (reading_on A.ReaderArena from.now start nesting_limit) size count
+    ensures refused { OnErr result (IfErr answer.new (λ k. RowTestsEnd (Unread k)
+        (reading_on A.ReaderArena from.now start nesting_limit) size count
         (progress (start + count * (size.data_words + size.pointers)) lim.old) lim.new)) }
     ensures failed { OnErr result (IfOk answer.new (λ f. RowsFail f
         (reading_on A.ReaderArena from.now start nesting_limit) size count
@@ -650,8 +660,8 @@ fn test_row<A: ReaderArena>(
     ensures never { OnErr result (OnOk answer.new
         (TellsAll (reading_on A.ReaderArena from.now at nesting_limit) count
         (progress first lim.old) lim.new None)) }
-    ensures refused { OnErr result (IfErr answer.new
-        (TestsStop (reading_on A.ReaderArena from.now at nesting_limit) count
+    ensures refused { OnErr result (IfErr answer.new (λ k. TestsEnd (Unread k)
+        (reading_on A.ReaderArena from.now at nesting_limit) count
         (progress first lim.old) lim.new)) }
     ensures failed { OnErr result (IfOk answer.new (λ f. TestsEnd (IsFault f)
         (reading_on A.ReaderArena from.now at nesting_limit) count
@@ -737,10 +747,8 @@ fn whole_words(bytes: &[u8]) -> usize
 /// Whether there are none of so many words from a position on, or the last isn't zero.
 fn ends_used(place: Place, at: u32, count: u32) -> bool
     requires { at + count < 2 ^ 32 }
-    ensures used { IsTrue result
+    ensures { IsTrue result
         ↔ (count ≡ 0) ⊎ (slice_index (words_of place.entry.bytes.now) (at + count - 1) ≢ 0) }
-    ensures unused { OnFalse result ((0 < count)
-        × (slice_index (words_of place.entry.bytes.now) (at + count - 1) ≡ 0)) }
 {
     if count == 0 {
         return true;

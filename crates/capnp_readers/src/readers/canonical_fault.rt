@@ -1,6 +1,7 @@
 //! Where and why a message isn't in canonical form ("Canonicalization").
-ghost use Rattle.std.specs.Prelude.{◌≡◌, Some};
-ghost use Rattle.capnp_readers.specs.Faults.{fault_text, fault_reason_text};
+ghost use Rattle.std.specs.Prelude.{◌≡◌, ◌++◌, codes, Some};
+ghost use Rattle.std.specs.Fmt.{decimal};
+ghost use Rattle.capnp_readers.specs.Faults.{fault_reason_text};
 
 use std::fmt;
 use thiserror::Error;
@@ -87,7 +88,8 @@ impl fmt::Display for CanonicalFaultReason {
 }
 
 impl fmt::Display for CanonicalFault {
-    ghost output = { λ e. Some (fault_text e) };
+    ghost output = { λ e. Some (fault_reason_text e.reason ++ codes " at segment "
+        ++ decimal e.segment ++ codes ", word " ++ decimal e.word) };
 
     fn fmt<W: fmt::Write>(&self, f: &mut fmt::Formatter<W>) -> fmt::Result {
         let (segment, word, text) = (self.segment, self.word, self.reason.text());

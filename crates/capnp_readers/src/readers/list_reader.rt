@@ -7,7 +7,7 @@ ghost use Rattle.capnp_format.specs.Numbers.{element_bits, from_digits};
 ghost use Rattle.capnp_words.specs.Sizes.{size_number};
 ghost use Rattle.capnp_objects.specs.Reading.{source_start};
 ghost use Rattle.capnp_objects.specs.Objects.{IsHeld};
-ghost use Rattle.capnp_readers.specs.Sections.{IsPart, HasWordsFrom, IsSized, HoldsPointer, elements_words, pointers_behind, bit_at, step_bits, data_bits, low_data};
+ghost use Rattle.capnp_readers.specs.Sections.{IsPart, HasWordsFrom, HoldsPointer, elements_words, pointers_behind, bit_at, step_bits, data_bits, low_data};
 
 use crate::readers::{NO_SECTIONS, PointerReader, StructReader};
 use capnp_arena_traits::arena::ReaderArena;
@@ -54,7 +54,8 @@ pub struct ListReader<'a, A: ReaderArena> {
     ghost content_is: { IsPart start (8 * start.at) (64 * elements_words element_size count (struct_size.data_words + struct_size.pointers)) content.now },
     ghost inside: { HasWordsFrom (source_start A.ReaderArena source).segments start
         (elements_words element_size count (struct_size.data_words + struct_size.pointers)) },
-    ghost sized: { IsSized element_size struct_size },
+    ghost sized: { size_number element_size < 7
+        → (struct_size.data_words ≡ 0) × (struct_size.pointers ≡ 0) },
 }
 
 impl<'a, A: ReaderArena> Clone for ListReader<'a, A> {
@@ -158,7 +159,8 @@ impl<'a, A: ReaderArena> ListReader<'a, A> {
         requires held { IsHeld (source_start A.ReaderArena source).segments start }
         requires room { HasWordsFrom (source_start A.ReaderArena source).segments start
             (elements_words element_size count (struct_size.data_words + struct_size.pointers)) }
-        requires sized { IsSized element_size struct_size }
+        requires sized { size_number element_size < 7
+            → (struct_size.data_words ≡ 0) × (struct_size.pointers ≡ 0) }
         ensures source { result.source ≡ source.entry }
         ensures size { result.element_size ≡ element_size }
         ensures shows { ShowsList A.ReaderArena (source_start A.ReaderArena source.entry).segments

@@ -6,16 +6,18 @@ ghost use Rattle.capnp_words.specs.Sizes.{size_number};
 ghost use Rattle.capnp_words.specs.declared.error.ErrorKind.TheVariants.{MessageTooLarge};
 ghost use Rattle.capnp_objects.specs.Objects.{IsFew};
 ghost use Rattle.capnp_objects.specs.Reading.{segment_read, sized, word_of};
-ghost use Rattle.capnp_objects.specs.Sizing.{FitSize, Totals, HasSize, SizeRefused, WalksPlace, WalksPointers, WalksRows, HaveSizes, SizeStops, SizesStop, RowsStop};
+ghost use Rattle.capnp_format.specs.Tree.{Elements, element_count};
+ghost use Rattle.capnp_objects.specs.Sizing.{FitSize, Tally, tally, WalksPlace, WalksPointers, WalksElements, SizeStops, SizesStop, RowsStop};
 ghost use Rattle.capnp_readers.specs.Readers.{reading};
-ghost use Rattle.capnp_readers.specs.Sizes.{begun, pointers_read, reading_on, so_far, object_words, HasRows, HasNoRows};
+ghost use Rattle.capnp_readers.specs.declared.readers.sizes.MeasuredRows.{MeasuredRows};
+ghost use Rattle.capnp_readers.specs.Sizes.{begun, pointers_read, reading_on, so_far, object_words, HasRows};
 
 use crate::readers::{PointerReader, StructReader};
 use capnp_arena_traits::arena::ReaderArena;
 use capnp_objects::object::{Object, Place};
 use capnp_words::error::ErrorKind;
 use capnp_words::read_limiter::ReadLimiter;
-use capnp_words::wire_pointer::{ElementSize, WirePointer, WirePointerKind, data_bits_per_element};
+use capnp_words::wire_pointer::{WirePointer, WirePointerKind, flat_words, is_of_bits};
 
 /// The size of a value: of its objects, itself and all below, without landing pads.
 #[derive(Clone, Copy, Debug, PartialEq, Eq)]
@@ -44,11 +46,13 @@ impl<'a, A: ReaderArena> PointerReader<'a, A> {
     /// pointer of a default, `ReadLimitExceeded`, or `MessageTooLarge(usize::MAX)` where the words
     /// don't fit 64 bits or the capabilities 32. It keeps what was charged.
     pub fn total_size(&self, lim: &mut ReadLimiter) -> Result<MessageSize, ErrorKind>
-        ensures sized { IfOk result (λ z.
-            Totals (reading A.ReaderArena self.now) lim.old lim.new z.word_count z.cap_count) }
-        ensures exactly { IsOk result ↔ HasSize (reading A.ReaderArena self.now) lim.old }
-        ensures refused { IfErr result
-            (SizeRefused (reading A.ReaderArena self.now) lim.old lim.new) }
+        ensures sized { IfOk result (λ z. WalksPlace (reading A.ReaderArena self.now)
+            (tally 0 0 lim.old) (so_far z lim.new)) }
+        ensures exactly { IsOk result ↔ (to : Tally)
+            × WalksPlace (reading A.ReaderArena self.now) (tally 0 0 lim.old) to
+            × FitSize to.words to.caps }
+        ensures refused { IfErr result (λ k. SizeStops k (reading A.ReaderArena self.now)
+            (tally 0 0 lim.old) lim.new) }
     {
         let mut walk = Walk::begin(MessageSize {
             word_count: 0,
@@ -72,8 +76,9 @@ impl<'a, A: ReaderArena> StructReader<'a, A> {
         ensures sized { IfOk result (λ z. WalksPointers
             (pointers_read A.ReaderArena self.now) self.now.pointer_count
             (begun A.ReaderArena self.now lim.old) (so_far z lim.new)) }
-        ensures exactly { IsOk result ↔ HaveSizes (pointers_read A.ReaderArena self.now)
-            self.now.pointer_count (begun A.ReaderArena self.now lim.old) }
+        ensures exactly { IsOk result ↔ (to : Tally) × WalksPointers
+            (pointers_read A.ReaderArena self.now) self.now.pointer_count
+            (begun A.ReaderArena self.now lim.old) to × FitSize to.words to.caps }
         ensures refused { IfErr result
             (SizesStop (pointers_read A.ReaderArena self.now) self.now.pointer_count
             (begun A.ReaderArena self.now lim.old) lim.new) }
@@ -401,9 +406,9 @@ fn add_rows<A: ReaderArena>(
     requires inside { from.now.place.at + count * (data_words + pointers)
         ≤ length (segment_read (reading A.ReaderArena from.now)) }
     requires fits { FitSize walk.old.size.word_count walk.old.size.cap_count }
-    ensures sized { OnOk result (WalksRows (reading A.ReaderArena from.now)
-        (sized data_words pointers) count
-        (so_far walk.old.size lim.old) (so_far walk.new.size lim.new)) }
+    ensures sized { OnOk result ((es : Elements) × (element_count es ≡ count)
+        × WalksElements (reading A.ReaderArena from.now) (sized data_words pointers)
+        (so_far walk.old.size lim.old) (so_far walk.new.size lim.new) es) }
     ensures fits { OnOk result (FitSize walk.new.size.word_count walk.new.size.cap_count) }
     ensures refused { OnErr result
         (RowsStop (reading A.ReaderArena from.now) (sized data_words pointers) count
@@ -436,7 +441,8 @@ fn words_of_object(object: Object) -> u64
 
 // The pointers of an object; there are none of what is null, a capability, or a list of bits.
 fn rows_of_object(object: Object) -> Option<MeasuredRows>
-    ensures { MatchOption result (HasNoRows object.entry) (HasRows object.entry) }
+    ensures { MatchOption result ((rows : MeasuredRows) → HasRows object.entry rows → ⊥)
+        (HasRows object.entry) }
 {
     match object {
         Object::Null | Object::Capability(_) | Object::Flat { .. } => None,
@@ -459,22 +465,4 @@ fn rows_of_object(object: Object) -> Option<MeasuredRows>
             count,
         }),
     }
-}
-
-// Whether the elements of a list are of bits or bytes: no pointers, no structs, and not void.
-pub(crate) fn is_of_bits(word: WirePointer) -> bool
-    ensures { IsTrue result ↔ (0 < element_size word.0) × (element_size word.0 ≤ 5) }
-{
-    !matches!(
-        word.list_element_size(),
-        ElementSize::Void | ElementSize::Pointer | ElementSize::InlineComposite
-    )
-}
-
-// How many words so many elements take.
-pub(crate) fn flat_words(size: ElementSize, count: u32) -> u32
-    requires { count < 2 ^ 29 }
-    ensures { result ≡ words_for (size_number size) count }
-{
-    ((u64::from(count) * u64::from(data_bits_per_element(size)) + 63) / 64) as u32
 }

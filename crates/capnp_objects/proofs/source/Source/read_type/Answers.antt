@@ -1,10 +1,10 @@
 use Rattle.std.proofs.Common.{◌≡◌, ◌≢◌, get_or, ap, ◌∙◌, sym, refl}
 use Rattle.std.proofs.lemmas.Bool.{false≢true}
 use Rattle.std.proofs.lemmas.Result.{err_from_is_err_and}
-use Rattle.capnp_objects.specs.Types.{type_of, HasType, HasNoType, not_followed}
+use Rattle.capnp_objects.specs.Types.{type_of, HasNoType, not_followed}
 use Rattle.capnp_objects.specs.Reading.{Reading, reading_at, word_of}
 use Rattle.capnp_objects.proofs.Landings.{IsCounted, unfollowed}
-use Rattle.capnp_objects.proofs.Typing.{null_has_type, has_type, has_no_type, not_untyped, typed_exactly, ok_by, err_by}
+use Rattle.capnp_objects.proofs.Typing.{HasType, null_has_type, has_type, has_no_type, not_untyped, typed_exactly, ok_by, err_by}
 use Rattle.capnp_objects.proofs.source.Source.read_type.Goals as goal
 
 pub returns-then-is_null-clause-exactly : goal.returns-then-is_null-clause-exactly

@@ -14,11 +14,11 @@ use Rattle.capnp_objects.specs.declared.object.Purpose.TheVariants.{Value}
 use Rattle.capnp_objects.proofs.Walked.{row_within}
 use Rattle.capnp_readers.specs.Sizes.{reading_on}
 use Rattle.capnp_readers.specs.Faults.{other_reason}
-use Rattle.capnp_readers.specs.Checking.{level_refusal_name, IsTested, Progress, progress, StartsRight, Tells, TellsStruct, TellsAll, TellsClaimed, TestsStop, RowTestsStop, TestsEnd, IsFault, SectionsFail, ClaimedFails, AreFoundRows, here, no_pointer, other_pointer}
+use Rattle.capnp_readers.specs.Checking.{level_refusal_name, IsTested, Progress, progress, StartsRight, Tells, TellsStruct, TellsAll, TestsEnd, RowTestsEnd, Unread, IsFault, SectionsFail, here, no_pointer, other_pointer}
 use Rattle.capnp_readers.proofs.Walking.{ok_so, err_so, err_with, on_err, on_err_so, on_err_both, on_ok_so}
-use Rattle.capnp_readers.proofs.Checks.{tested, finds_none, pointer_found, pointer_never, unplaced_never, null_found_at, empty_tells, flat_tells, struct_tells, pointers_tell, structs_tell, pointer_ends, row_ends, struct_ends, pointers_end, structs_end, pointers_room, structs_room, some_right, level_falls, place_begins, elements_begin, pointers_here, structs_here, none_seen, row_seen, row_never, rows_unused, empties_found, lists_alone, no_list_else, still_seen, seen_now, RowDataUsed, RowPointersUsed}
+use Rattle.capnp_readers.proofs.Checks.{tested, finds_none, pointer_found, pointer_never, unplaced_never, null_found_at, empty_tells, flat_tells, struct_tells, pointers_tell, structs_tell, pointer_ends, row_ends, struct_ends, pointers_end, structs_end, pointers_room, structs_room, some_right, level_falls, place_begins, elements_begin, pointers_here, structs_here, none_seen, row_seen, row_never, rows_unused, empties_found, lists_alone, no_list_else, still_seen, seen_now, RowDataUsed, RowPointersUsed, AreFoundRows, TellsClaimed}
 use Rattle.capnp_readers.proofs.NearRead.{struct_by_word}
-use Rattle.capnp_readers.proofs.Fails.{empty_fails, struct_fails, unplaced_fails, flat_fails, sections_fail, claimed_fails, rows_wide_data, rows_wide_pointers}
+use Rattle.capnp_readers.proofs.Fails.{empty_fails, struct_fails, unplaced_fails, flat_fails, sections_fail, claimed_fails, ClaimedFails, rows_wide_data, rows_wide_pointers}
 use Rattle.capnp_readers.proofs.readers.canonical.+tests.Goals.{test_rows-then-is_data_used, test_rows-else-is_data_used, test_rows-then-are_pointers_used, test_rows-else-are_pointers_used}
 use Rattle.capnp_readers.proofs.readers.canonical.+tests.Goals as goal
 
@@ -122,7 +122,7 @@ test_list-returns-in-Pointers-clause-refused g t c =
     let nm = to_z-of_z w32 c.less.result (search rules) in
     let there = place_begins r c.in-Pointers.start (rw nl at c.less.ensures) (pointers_here {r = r} c.in-Pointers.start c.in-Pointers.count ready object) in
     on_err_so c.test_children.result c.test_children.ensures.refused (λ x. err_so c.test_children.new.answer x (λ k h. pointers_end {r = r} {from = progress c.args.head c.args.lim.now} c.in-Pointers.start c.in-Pointers.count ready object right
-    (subst (λ x. TestsStop x c.in-Pointers.count (progress (c.in-Pointers.start.at + c.in-Pointers.count) c.read_object.new.lim) c.test_children.new.lim k) there (rw nm at h))))
+    (subst (λ x. TestsEnd (Unread k) x c.in-Pointers.count (progress (c.in-Pointers.start.at + c.in-Pointers.count) c.read_object.new.lim) c.test_children.new.lim) there (rw nm at h))))
 
 pub test_list-returns-in-Structs-clause-tells : goal.test_list-returns-in-Structs-clause-tells
 test_list-returns-in-Structs-clause-tells g t c =
@@ -163,7 +163,7 @@ test_list-returns-in-Structs-clause-refused g t c =
     let there = elements_begin r c.in-Structs.start (rw nl at c.less-inner.ensures) (structs_here {r = r} c.in-Structs.start c.in-Structs.size c.in-Structs.count ready object) in
     let claimed : c.list_inline_composite_word_count-claimed.result ≡ list_count (word_of r) = c.list_inline_composite_word_count-claimed.ensures.value ∙ ap list_count c.requires.there in
     on_err_both c.test_structs.result c.test_structs.ensures.exact c.test_structs.ensures.refused (λ x y. err_with c.test_structs.new.answer x y (λ exact k h. structs_end {r = r} {from = progress c.args.head c.args.lim.now} c.in-Structs.start c.in-Structs.size c.in-Structs.count ready object right (exact ∙ claimed)
-    (subst (λ x. RowTestsStop x c.in-Structs.size c.in-Structs.count (progress (x.at + list_count (word_of r)) c.read_object.new.lim) c.test_structs.new.lim k) there (rw (nk, claimed) at h))))
+    (subst (λ x. RowTestsEnd (Unread k) x c.in-Structs.size c.in-Structs.count (progress (x.at + list_count (word_of r)) c.read_object.new.lim) c.test_structs.new.lim) there (rw (nk, claimed) at h))))
 
 pub test_rows-loop-i-init : goal.test_rows-loop-i-init
 test_rows-loop-i-init g t c =
@@ -188,12 +188,12 @@ test_rows-loop-i-preserved g t c =
     let data_so : IsTrue c.if-is_data_used.is_data_used ↔ (IsTrue c.loop-i.is_data_used ⊎ RowDataUsed r c.args.size i) =
     elim c.if-is_data_used.branch [
       | test_rows-then-is_data_used w ↦ still_seen w.is_data_used-is w.if-is_data_used.true
-      | test_rows-else-is_data_used w ↦ seen_now w.is_data_used-is w.if-is_data_used.false (rw (c.from-data_words.ensures, c.from-pointers.ensures, c.args.from.now.held.0) at w.ends_used-is_data_used.ensures.used)
+      | test_rows-else-is_data_used w ↦ seen_now w.is_data_used-is w.if-is_data_used.false (rw (c.from-data_words.ensures, c.from-pointers.ensures, c.args.from.now.held.0) at w.ends_used-is_data_used.ensures)
     ] in
     let pointers_so : IsTrue c.if-are_pointers_used.are_pointers_used ↔ (IsTrue c.loop-i.are_pointers_used ⊎ RowPointersUsed r c.args.size i) =
     elim c.if-are_pointers_used.branch [
       | test_rows-then-are_pointers_used w ↦ still_seen w.are_pointers_used-is w.if-are_pointers_used.true
-      | test_rows-else-are_pointers_used w ↦ seen_now w.are_pointers_used-is w.if-are_pointers_used.false (rw (c.from-data_words.ensures, c.from-pointers.ensures, c.args.from.now.held.0) at w.ends_used-are_pointers_used.ensures.used)
+      | test_rows-else-are_pointers_used w ↦ seen_now w.are_pointers_used-is w.if-are_pointers_used.false (rw (c.from-data_words.ensures, c.from-pointers.ensures, c.args.from.now.held.0) at w.ends_used-are_pointers_used.ensures)
     ] in
     row_seen c.if-is_data_used.is_data_used c.if-are_pointers_used.are_pointers_used c.loop-i.invariant inside (rw (c.from-data_words.ensures, c.from-pointers.ensures) at c.in_ok-head.ensures.tells) data_so pointers_so
 
@@ -273,7 +273,7 @@ test_struct-returns-clause-refused g t c =
     let nm = to_z-of_z w32 c.less.result (search rules) in
     let there = place_begins r start (rw nl at c.less.ensures) refl in
     on_err_so c.test_sections.result c.test_sections.ensures.refused (λ x. err_so c.test_sections.new.answer x (λ k h. struct_ends {r = r} {from = progress c.args.head c.args.lim.now} start size ready object some (some_right c.args.at some c.if-start-head.false)
-    (subst (λ x. TestsStop (behind x size.data_words) size.pointers (progress (c.in-Ok.start + size.data_words + size.pointers) c.read_near_struct.new.lim) c.test_sections.new.lim k) there (rw nm at h))))
+    (subst (λ x. TestsEnd (Unread k) (behind x size.data_words) size.pointers (progress (c.in-Ok.start + size.data_words + size.pointers) c.read_near_struct.new.lim) c.test_sections.new.lim) there (rw nm at h))))
 
 pub test_list-test_children-requires : goal.test_list-test_children-requires
 test_list-test_children-requires g t c κs within =
@@ -463,10 +463,10 @@ test_list-returns-in_default-clause-failed g t c =
 pub test_sections-returns-then-not-ends_used-2-clause-failed : goal.test_sections-returns-then-not-ends_used-2-clause-failed
 test_sections-returns-then-not-ends_used-2-clause-failed g t c =
     let nl = to_z-of_z w32 c.args.nesting_limit c.ranges.nesting_limit in
-    let used = rw (c.from-data_words.ensures, c.args.from.now.held.0) at (c.ends_used.ensures.used.0 c.if-not-ends_used.false) in
-    let unused = rw (c.if-not-ends_used-2.true, c.from-data_words.ensures, c.from-pointers.ensures, c.args.from.now.held.0) at c.ends_used-2.ensures.unused in
+    let used = rw (c.from-data_words.ensures, c.args.from.now.held.0) at (c.ends_used.ensures.0 c.if-not-ends_used.false) in
+    let ends = rw (c.from-data_words.ensures, c.from-pointers.ensures, c.args.from.now.held.0) at c.ends_used-2.ensures in
     let word = ap₂ (λ d q. c.args.start + d + q - 1) c.from-data_words.ensures c.from-pointers.ensures in
-    rw c.fault_at-then-not-ends_used-2.ensures (inr (c.in_ok-end.end, rw (nl, c.from-data_words.ensures, c.from-pointers.ensures) at c.in_ok-end.ensures.tells, inr ((refl, refl, word), used, unused)))
+    rw c.fault_at-then-not-ends_used-2.ensures (inr (c.in_ok-end.end, rw (nl, c.from-data_words.ensures, c.from-pointers.ensures) at c.in_ok-end.ensures.tells, inr ((refl, refl, word), used, λ unused. false≢true (sym c.if-not-ends_used-2.true ∙ ends.1 unused))))
 
 -- What a test that is handed on tells.
 pub test_place-returns-in-Struct-clause-tells : goal.test_place-returns-in-Struct-clause-tells

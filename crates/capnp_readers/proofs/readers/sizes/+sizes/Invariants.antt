@@ -1,10 +1,11 @@
 use Rattle.std.proofs.Common.{◌+◌, ◌*◌}
 use Rattle.capnp_objects.specs.Reading.{sized}
 use Rattle.capnp_objects.specs.Source.{levels}
-use Rattle.capnp_objects.specs.Sizing.{FitSize, WalksPointers, WalksRows}
+use Rattle.capnp_objects.specs.Sizing.{FitSize, WalksPointers}
 use Rattle.capnp_readers.specs.Readers.{reading}
 use Rattle.capnp_readers.specs.Sizes.{reading_on, so_far}
 use Rattle.capnp_readers.proofs.readers.sizes.+sizes.Given as goal
+use Rattle.capnp_objects.proofs.Shorthands.{WalksRows}
 
 abbrev pub decreases-add_pointers : goal.decreases-add_pointers
 decreases-add_pointers g l = 6 * levels l.nesting_limit + 4

@@ -20,7 +20,7 @@ returns-then-ne-clause-refused g c =
     let word : c.word-tag.result.0 ≡ tag S a = c.word-tag.ensures.value ∙ ap (λ ws. get_or ws c.args.self.found.start.at 0) c.args.self.held.0 in
     let other : kind c.word-tag.result.0 ≢ 0 = search rules in
     let paid = c.in_ok-claim.ensures.claimed in
-    rw c.name_of_non_struct_tag.ensures (untagged c.args.purpose paid (c.requires.is_list, c.requires.of_structs) (rw word at other))
+    untagged c.args.purpose c.name_of_non_struct_tag.ensures.value c.name_of_non_struct_tag.ensures.size paid (c.requires.is_list, c.requires.of_structs) (rw word at other)
 
 pub returns-then-from-clause-refused : goal.returns-then-from-clause-refused
 returns-then-from-clause-refused g c =
