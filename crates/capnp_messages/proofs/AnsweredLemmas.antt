@@ -46,9 +46,9 @@ copy_lacks_memory S limits (t, value, fits) (inr (refused, same)) = absurd (cano
 -- nor the test of a message that can be read
 pub check_refused : (S : Segments) (limits : ReaderOptions) {k : ErrorKind} →
     IsReadable S limits → RefusesCheck S limits k → ⊥
-check_refused S limits (t, read) (one, (m, inl (root, same))) = root_refused read.root root
-check_refused S limits (t, read) (one, (m, inr (covers, stops))) =
-    never_stops stops t read.cost read.means
+check_refused S limits read (one, (m, inl (root, same))) = root_refused read.root root
+check_refused S limits read (one, (m, inr (covers, stops))) =
+    never_stops stops read.value read.cost read.means
     (covers_rest limits.traversal_limit_in_words read.cost read.covered)
 
 pub size_refused : (S : Segments) (limits : ReaderOptions) {k : ErrorKind} →

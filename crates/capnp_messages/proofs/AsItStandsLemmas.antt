@@ -5,11 +5,10 @@ use Rattle.capnp_format.specs.Bytes.{message, words_of}
 use Rattle.capnp_format.specs.Canonical.{charge, encoding, trim}
 use Rattle.capnp_format.specs.Segments.{Segments}
 use Rattle.capnp_format.specs.Tree.{Tree, depth}
-use Rattle.capnp_format.proofs.Levels.{depth_within, one_value}
 use Rattle.capnp_arena_traits.proofs.MessageLemmas.{length-message}
 use Rattle.capnp_arena.specs.declared.arena.reader_arena_impl.ReaderOptions.{ReaderOptions}
 use Rattle.capnp_objects.specs.Source.{levels}
-use Rattle.capnp_messages.specs.CanonicalMessages.{CanBeTested, IsCanonicalMessage, IsCanonicalOf, IsPaid, IsWithinLevels}
+use Rattle.capnp_messages.specs.CanonicalMessages.{IsCanonicalMessage, IsCanonicalOf, IsPaid, IsWithinLevels}
 use Rattle.capnp_messages.specs.Messages.{IsValueOf}
 use Rattle.capnp_messages.proofs.CanonicalMessageLemmas.{has_root, means_its_value}
 

@@ -18,7 +18,7 @@ use Rattle.capnp_copies.specs.Changes.{ComesToObject, MakesCopy, StopsCopy, chan
 use Rattle.capnp_copies.specs.Originals.{value_original}
 use Rattle.capnp_copies.proofs.Copying.{fresh_made}
 use Rattle.capnp_copies.proofs.Originals.{value_beyond}
-use Rattle.capnp_messages.specs.Copies.{IsMadeWhereAlone, LacksMemoryOr, OutgrowsRoom, RefusesCopy, RefusesCopyAnywhere, is_message_too_large, wants_room}
+use Rattle.capnp_messages.specs.Copies.{HoldsCanonicalWords, LacksMemoryOr, OutgrowsRoom, RefusesCopy, RefusesCopyAnywhere, is_message_too_large, wants_room}
 use Rattle.capnp_messages.specs.Tries.{NeedsMoreRoom}
 use Rattle.capnp_arena_traits.specs.Allocations.{max_segment_words, one_more}
 use Rattle.capnp_arena_traits.specs.View.{View}
@@ -41,7 +41,7 @@ only_segment (x ∷ y ∷ S) ws one e = absurd (omega (arith, one))
 
 -- a copy to the root is all of the message, if that has one segment afterwards
 pub made_copy : (r : Reading) (left : Option ℕ) (old made : View) (l m : Meter) → old.words ≡ (0 ∷ []) ∷ [] → l ≡ unused left →
-    MakesCopy (value_original r) (change canonical 0 0 old made l m) → (t : Tree) × Reads canonical r (unused left) m t × IsMadeWhereAlone made t
+    MakesCopy (value_original r) (change canonical 0 0 old made l m) → (t : Tree) × Reads canonical r (unused left) m t × (length made.words ≡ 1 → HoldsCanonicalWords made t)
 made_copy r left old made l m fresh begun copied =
     let t = copied.value in
     let place = root_there old.words fresh in

@@ -1,5 +1,5 @@
 -- What the test at the root of a message of one segment says of the whole message.
-use Rattle.std.proofs.Common.{◌≡◌, ◌↔◌, inl, inr, ℕ, ◌+◌, ◌-◌, ◌<◌, ◌≤◌, List, [], ◌∷◌, take, drop, get_or, length, Bool, true, false, Option, Some, None, refl, ap, sym, ◌∙◌, subst, arith, length-drop, length-take}
+use Rattle.std.proofs.Common.{◌≡◌, ◌↔◌, inr, ℕ, ◌+◌, ◌-◌, ◌<◌, ◌≤◌, List, [], ◌∷◌, take, drop, get_or, length, Bool, true, false, Option, Some, None, refl, ap, sym, ◌∙◌, subst, arith, length-drop, length-take}
 use Rattle.std.specs.Prelude.{IsNone, IfNone, IfSome, is_some, not}
 use Rattle.std.proofs.lemmas.List.{take_all}
 use Rattle.capnp_words.specs.declared.error.ErrorKind.{ErrorKind}
@@ -7,6 +7,7 @@ use Rattle.capnp_words.specs.Meter.{Meter, FitsIn, less, raised, spent}
 use Rattle.capnp_format.specs.Bytes.{message}
 use Rattle.capnp_format.specs.Segments.{Segments, segment}
 use Rattle.capnp_format.specs.Tree.{Tree, depth}
+use Rattle.capnp_format.specs.Means.{Means}
 use Rattle.capnp_format.specs.Canonical.{Lies, Reaches, Stands, body, charge, encoding, pointer, word_count}
 use Rattle.capnp_format.proofs.Lengths.{length-body}
 use Rattle.capnp_format.proofs.Unique.{for_offset, one_stands, stands_means}
@@ -18,13 +19,12 @@ use Rattle.capnp_readers.specs.declared.readers.canonical_fault.CanonicalFault.{
 use Rattle.capnp_readers.specs.declared.readers.canonical_fault.CanonicalFaultReason.TheVariants.{WordsBehind}
 use Rattle.capnp_readers.specs.Faults.{FaultIs}
 use Rattle.capnp_readers.specs.Checking.{IsCanonicalAt, IsFound, TestStops, progress}
-use Rattle.capnp_readers.proofs.Fails.{ends_so, fault_unfit}
 use Rattle.capnp_readers.proofs.NeverStops.{stops_never}
 use Rattle.capnp_messages.specs.Roots.{CoversRoot, message_root}
-use Rattle.capnp_framing.specs.Frames.{frame}
+use Rattle.capnp_framing.specs.Frames.{CanBeFramed, frame}
 use Rattle.capnp_framing.specs.Reading.{total}
 use Rattle.capnp_framing.proofs.FrameLemmas.{same_frames}
-use Rattle.capnp_messages.specs.CanonicalMessages.{CanBeTested, IsCanonicalMessage, IsCanonicalOf, IsMessageFault, IsPaid, IsRootFault, IsWithinLevels, MeansItsValue, MessageTestFails, OneCanonicalValue, SameCanonicalFrames}
+use Rattle.capnp_messages.specs.CanonicalMessages.{CanBeTested, IsCanonicalMessage, IsCanonicalOf, IsMessageFault, IsPaid, IsRootFault, IsWithinLevels}
 use Rattle.capnp_messages.proofs.CanonLemmas.{covers_root}
 use Rattle.capnp_messages.proofs.CanonLemmas.{covers_rest}
 use Rattle.capnp_messages.proofs.TryLemmas.{total-message}
@@ -101,13 +101,13 @@ more_fault {S} {h = h} covers (t, finds) more fault =
 pub has_root : {S : Segments} {t : Tree} → IsCanonicalOf S t → 1 ≤ length (segment S 0)
 has_root canonical = omega (arith, canonical_length canonical)
 
-pub one_canonical_value : OneCanonicalValue
+pub one_canonical_value : (S : Segments) (t u : Tree) → IsCanonicalOf S t → IsCanonicalOf S u → t ≡ u
 one_canonical_value S t u a b = one_stands {S = S} {s = 0} {h = 1} (has_root a) (record { stands = canonical_stands a }) (record { stands = canonical_stands b })
 
-pub means_its_value : MeansItsValue
+pub means_its_value : (S : Segments) (t : Tree) (n : ℕ) → IsCanonicalOf S t → depth t ≤ n → Means S n 0 0 t (charge t)
 means_its_value S t n canonical levels = stands_means S n 0 0 1 t levels (has_root canonical) (canonical_stands canonical)
 
-pub same_canonical_frames : SameCanonicalFrames
+pub same_canonical_frames : (S R : Segments) (t u : Tree) → CanBeFramed S → CanBeFramed R → IsCanonicalOf S t → IsCanonicalOf R u → (frame S ≡ frame R) ↔ (t ≡ u)
 same_canonical_frames S R t u framed as_framed canonical other = (
   λ frames. one_canonical_value R t u (subst (λ (T : Segments). IsCanonicalOf T t) (same_frames S R framed as_framed frames) canonical) other,
   λ values. ap frame (canonical.is ∙ ap (λ (v : Tree). encoding v ∷ []) values ∙ sym other.is),
@@ -154,16 +154,10 @@ more_is_fault {h = h} {r = r} {m = m} {m' = m'} o root is found more fault =
     let finds : IsFound r (progress 1 m) (progress h m') = subst (λ (x : Option CanonicalFault). IfNone x (IsFound r (progress 1 m) (progress h m'))) is found in
     more_fault root.covers (moved (λ r m. IsFound r (progress 1 m) (progress h m')) root finds) more fault
 
--- A fault of a message of one segment is a no of its test.
-pub root_fault_fails : {f : CanonicalFault} {S : Segments} {n : ℕ} {m m' : Meter} → IsRootFault f S n m m' → MessageTestFails S n m m'
-root_fault_fails {f} (covers, inl ends) = (covers, inl (ends_so (fault_unfit f) ends))
-root_fault_fails (covers, inr (t, h, finds, fewer, fault)) = (covers, inr (t, h, finds, fewer))
-
--- A fault of a message of one segment is a no of its test, and so of what is said of the message.
-pub message_fault_fails : {S : Segments} {n : ℕ} {m m' : Meter} (o : Option CanonicalFault) (b : Bool) → is_some o ≡ not b → b ≡ false → IfSome o (λ f. IsMessageFault f S n m m') → length S ≡ 1 → MessageTestFails S n m m'
-message_fault_fails None b is fails fault one = absurd (let wrong : false ≡ true = is ∙ ap not fails in cc)
-message_fault_fails (Some f) b is fails (inl (other, fault, same)) one = absurd (other one)
-message_fault_fails (Some f) b is fails (inr (same, root)) one = root_fault_fails root
+-- Where the test of a message says no, it finds a fault.
+pub message_fault_found : {S : Segments} {n : ℕ} {m m' : Meter} (o : Option CanonicalFault) (b : Bool) → is_some o ≡ not b → b ≡ false → IfSome o (λ f. IsMessageFault f S n m m') → (f : CanonicalFault) × IsMessageFault f S n m m'
+message_fault_found None b is fails fault = absurd (let wrong : false ≡ true = is ∙ ap not fails in cc)
+message_fault_found (Some f) b is fails fault = (f, fault)
 
 -- the test of a canonical message isn't refused within its limits
 pub never_refused : {S : Segments} {n : ℕ} {old : Meter} {r : Reading} {m m' : Meter} {k : ErrorKind} → IsRootRead S n old r m → TestStops k r (progress 1 m) m' → CanBeTested S n old → ⊥

@@ -1,19 +1,17 @@
 -- Messages in canonical form as a whole, and the test for it ("Canonicalization").
-use Rattle.std.specs.Prelude.{◌≡◌, ◌≢◌, ◌⊎◌, ◌↔◌, ℕ, ◌+◌, ◌<◌, ◌≤◌, min, [], ◌∷◌, true, length}
+use Rattle.std.specs.Prelude.{◌≡◌, ◌≢◌, ◌⊎◌, ℕ, ◌+◌, ◌<◌, ◌≤◌, min, [], ◌∷◌, true, length}
 use Rattle.capnp_words.specs.declared.error.ErrorKind.{ErrorKind}
 use Rattle.capnp_words.specs.Meter.{Meter, FitsIn, spent}
 use Rattle.capnp_format.specs.Segments.{Segments, segment}
 use Rattle.capnp_format.specs.Tree.{Tree, depth}
 use Rattle.capnp_format.specs.Value.{IsValue}
-use Rattle.capnp_format.specs.Means.{Means}
 use Rattle.capnp_format.specs.Canonical.{IsEncodable, IsFree, IsTrimmed, charge, encoding, word_count}
-use Rattle.capnp_framing.specs.Frames.{CanBeFramed, frame}
 use Rattle.capnp_objects.specs.Spending.{Paid, pointers_in}
 use Rattle.capnp_readers.specs.declared.readers.canonical_fault.CanonicalFault.{CanonicalFault}
 use Rattle.capnp_readers.specs.declared.readers.canonical_fault.CanonicalFaultReason.TheVariants.{SegmentCount}
 use Rattle.capnp_readers.specs.declared.readers.canonical_fault.CanonicalFaultReason.TheVariants.{WordsBehind}
 use Rattle.capnp_readers.specs.Faults.{FaultIs}
-use Rattle.capnp_readers.specs.Checking.{Finds, TestEnds, IsFault, IsUnfit, TestStops, progress}
+use Rattle.capnp_readers.specs.Checking.{Finds, TestEnds, IsFault, TestStops, progress}
 use Rattle.capnp_messages.specs.Roots.{CoversRoot, RefusesRoot, message_root}
 
 -- A message is the canonical one of t: one segment, which holds t's canonical words and nothing else
@@ -66,28 +64,3 @@ abbrev pub IsMessageFault : CanonicalFault → Segments → ℕ → Meter → Me
 IsMessageFault f S n m m' =
     ((length S ≢ 1) × FaultIs f SegmentCount (min 1 (length S)) 0 × (m' ≡ m)) ⊎
     ((length S ≡ 1) × IsRootFault f S n m m')
-
--- The test of a message of one segment says no, and leaves the limiter as m': a word is charged for
--- the root pointer, and the test of what it leads to fails, or it finds the canonical words of some
--- value, with more words behind them.
-abbrev pub MessageTestFails : Segments → ℕ → Meter → Meter → Type 0
-MessageTestFails S n m m' =
-    CoversRoot S m.left
-    × (TestEnds IsUnfit (message_root S n) (progress 1 (spent m 1)) m'
-    ⊎ ((t : Tree) × (h : ℕ) × Finds (message_root S n) (progress 1 (spent m 1)) (progress h m') t ×
-    (1 + word_count t < length (segment S 0))))
-
--- A message is the canonical one of one value at most.
-abbrev pub OneCanonicalValue : Type 0
-OneCanonicalValue = (S : Segments) (t u : Tree) → IsCanonicalOf S t → IsCanonicalOf S u → t ≡ u
-
--- Its root means that value, within as many levels as the value is deep, at the value's least cost.
-abbrev pub MeansItsValue : Type 0
-MeansItsValue =
-    (S : Segments) (t : Tree) (n : ℕ) → IsCanonicalOf S t → depth t ≤ n → Means S n 0 0 t (charge t)
-
--- The frames of two canonical messages are equal exactly if their values are.
-abbrev pub SameCanonicalFrames : Type 0
-SameCanonicalFrames =
-    (S R : Segments) (t u : Tree) → CanBeFramed S → CanBeFramed R → IsCanonicalOf S t →
-    IsCanonicalOf R u → (frame S ≡ frame R) ↔ (t ≡ u)

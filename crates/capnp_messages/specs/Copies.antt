@@ -1,5 +1,5 @@
 -- What a canonical copy leaves in a fresh message, and why it is refused.
-use Rattle.std.specs.Prelude.{◌≡◌, ◌⊎◌, ℕ, ◌+◌, ◌<◌, [], ◌∷◌, Bool, true, false, length, Option}
+use Rattle.std.specs.Prelude.{◌≡◌, ◌⊎◌, ℕ, ◌+◌, ◌<◌, [], ◌∷◌, Bool, true, false, Option}
 use Rattle.capnp_words.specs.declared.error.ErrorKind.{ErrorKind}
 use Rattle.capnp_words.specs.declared.error.ErrorKind.TheVariants.{AllocationFailed}
 use Rattle.capnp_words.specs.declared.error.ErrorKind.TheVariants.{MessageTooLarge}
@@ -32,17 +32,13 @@ abbrev pub OutgrowsRoom : Reading → Option ℕ → ℕ → Type 0
 OutgrowsRoom r left room =
     (m : Meter) × ComesToObject (value_original r) canonical (unused left) m (λ n all. room < 1 + all)
 
--- A place means a value that the budget lets be read, whose canonical words are more than the room;
--- or an object is reached for which there is no room.
-abbrev pub IsReadOrOutgrows : Reading → Option ℕ → ℕ → Type 0
-IsReadOrOutgrows r left room =
-    ((t : Tree) × (m : Meter) × Reads canonical r (unused left) m t) ⊎ OutgrowsRoom r left room
-
 -- A copy of what a place means, into a fresh segment of so many words, is refused by the name k: it
--- needs more words, or reading it is refused.
+-- needs more words, and the budget lets its value be read, or reading comes to an object for which
+-- there is no room; or reading it is refused.
 abbrev pub RefusesCopy : Reading → Option ℕ → ℕ → ErrorKind → Type 0
 RefusesCopy r left room k =
-    ((k ≡ MessageTooLarge room) × NeedsMoreRoom r room × IsReadOrOutgrows r left room) ⊎
+    ((k ≡ MessageTooLarge room) × NeedsMoreRoom r room ×
+    (((t : Tree) × (m : Meter) × Reads canonical r (unused left) m t) ⊎ OutgrowsRoom r left room)) ⊎
     ((m : Meter) × Refused canonical r (unused left) m k)
 
 -- A copy of what a place means, into a fresh segment with this room and into further ones where
@@ -60,11 +56,3 @@ LacksMemoryOr old new k P = ((k ≡ AllocationFailed) × (new ≡ one_more old))
 -- A message that was made has one segment, the canonical words of t.
 abbrev pub HoldsCanonicalWords : View → Tree → Type 0
 HoldsCanonicalWords made t = made.words ≡ encoding (trim t) ∷ []
-
--- If it has one segment, it was made so.
-abbrev pub IsMadeWhereAlone : View → Tree → Type 0
-IsMadeWhereAlone made t = length made.words ≡ 1 → HoldsCanonicalWords made t
-
--- A message has one segment, or P holds.
-abbrev pub IsAloneOr : View → Type 0 → Type 0
-IsAloneOr made P = (length made.words ≡ 1) ⊎ P

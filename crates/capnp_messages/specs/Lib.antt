@@ -3,6 +3,7 @@ pub mod Roots
 pub mod Tries
 pub mod Copies
 pub mod CopyMemory
+pub mod CopyMemoryLemmas
 pub mod CanonicalErrors
 pub mod CanonicalMessages
 pub mod Messages

@@ -16,20 +16,17 @@ use Rattle.capnp_messages.specs.Roots.{CoversRoot, RefusesRoot, message_root}
 use Rattle.capnp_messages.specs.Copies.{RefusesCopy}
 use Rattle.capnp_messages.specs.CanonicalMessages.{IsMessageFault, RefusesTest}
 
--- The root of a message means t, with capabilities or without, within the nesting limit, and the
--- traversal limit covers what reading it costs, and one word for the root pointer ("Messages",
+-- The root of a message means a value, with capabilities or without, within the nesting limit, and
+-- the traversal limit covers what reading it costs, and one word for the root pointer ("Messages",
 -- "Security Considerations").
-pub record IsReadAs (S : Segments) (limits : ReaderOptions) (t : Tree) : Type 0 where
+pub record IsReadable (S : Segments) (limits : ReaderOptions) : Type 0 where
   pub root : CoversRoot S limits.traversal_limit_in_words
+  pub value : Tree
   pub cost : ℕ
-  pub means : Means S (levels limits.nesting_limit) 0 0 t cost
+  pub means : Means S (levels limits.nesting_limit) 0 0 value cost
   pub covered : FitsIn limits.traversal_limit_in_words (1 + cost)
 
--- It means some value so ("Messages", "Security Considerations").
-abbrev pub IsReadable : Segments → ReaderOptions → Type 0
-IsReadable S limits = (t : Tree) × IsReadAs S limits t
-
--- It means t so, and t has no capabilities ("Messages", "Security Considerations").
+-- It means t within these limits, and t has no capabilities ("Messages", "Security Considerations").
 pub record IsValueOf (S : Segments) (limits : ReaderOptions) (t : Tree) : Type 0 where
   pub root : CoversRoot S limits.traversal_limit_in_words
   pub cost : ℕ
@@ -42,22 +39,6 @@ pub record IsValueOf (S : Segments) (limits : ReaderOptions) (t : Tree) : Type 0
 abbrev pub HasCanonicalCopy : Segments → ReaderOptions → Type 0
 HasCanonicalCopy S limits = (t : Tree) × IsValueOf S limits t × (1 + word_count (trim t) ≤ max_segment_words)
 
--- The walk that takes a size gives so many words and capabilities at the root of a message, within
--- n levels, and with what the budget leaves behind the root pointer. Where the root means a value
--- within the levels, they are the value's.
-pub record HasTotals (S : Segments) (n : ℕ) (budget : Option ℕ) (words caps : ℕ) : Type 0 where
-  pub at_root : CoversRoot S budget
-  pub after : Meter
-  pub totals : WalksPlace (message_root S n) (tally 0 0 (unused (less budget 1)))
-      (tally words caps after)
-  pub of_value : (t : Tree) (m cost : ℕ) → Means S m 0 0 t cost → (words ≡ word_count t) ×
-      (caps ≡ capabilities t)
-
--- The walk that takes a size gives so many words and capabilities there.
-abbrev pub HasSizeOf : Segments → ReaderOptions → ℕ → ℕ → Type 0
-HasSizeOf S limits words caps =
-    HasTotals S (levels limits.nesting_limit) limits.traversal_limit_in_words words caps
-
 -- The test for canonical form finds this fault: its reason is true of the word that it names.
 abbrev pub IsFaultOf : Segments → ReaderOptions → CanonicalFault → Type 0
 IsFaultOf S limits f =
@@ -69,6 +50,16 @@ root_within S limits = message_root S (levels limits.nesting_limit)
 
 abbrev pub left_of : ReaderOptions → Option ℕ
 left_of limits = less limits.traversal_limit_in_words 1
+
+-- The walk that takes a size gives so many words and capabilities at the root of a message, within
+-- the limits. Where the root means a value, they are the value's.
+pub record HasSizeOf (S : Segments) (limits : ReaderOptions) (words caps : ℕ) : Type 0 where
+  pub at_root : CoversRoot S limits.traversal_limit_in_words
+  pub after : Meter
+  pub totals : WalksPlace (root_within S limits) (tally 0 0 (unused (left_of limits)))
+      (tally words caps after)
+  pub of_value : (t : Tree) (m cost : ℕ) → Means S m 0 0 t cost → (words ≡ word_count t) ×
+      (caps ≡ capabilities t)
 
 -- The walk that takes a size goes to its end within the limits, and what it counts fits.
 abbrev pub HasSizeWithin : Segments → ReaderOptions → Type 0

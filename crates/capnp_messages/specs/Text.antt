@@ -6,15 +6,12 @@ use mir.Syntax.{w32}
 use Rattle.std.specs.Fmt.{decimal}
 use Rattle.std.specs.Str.Parse.{IsNumeral, digits_value, starts_with_minus}
 
--- the digits of a number that may be below zero
-abbrev pub without_minus : List ℕ → List ℕ
-without_minus text = if starts_with_minus text then drop 1 text else text
-
 -- a nesting limit: an optional '-' and one or more decimal digits, with a value of i32
 abbrev pub IsNesting : List ℕ → ℤ → Type 0
 IsNesting text n =
-    let value = pos (digits_value 10 (without_minus text)) in
-    IsNumeral 10 (without_minus text) ×
+    let digits = if starts_with_minus text then drop 1 text else text in
+    let value = pos (digits_value 10 digits) in
+    IsNumeral 10 digits ×
     (n ≡ (if starts_with_minus text then neg_ℤ value else value)) × FitsSigned w32 n
 
 -- a budget of words: one or more decimal digits with a value below 2^64, or the word `none`

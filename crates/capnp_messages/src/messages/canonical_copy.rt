@@ -2,7 +2,7 @@
 //! first asks for the words of the message that is read and one more, each further one for twice those
 //! of the one before, so that all together take no longer than twice the last. While one runs, its
 //! allocator is taken out, so that it ends where that segment does.
-ghost use Rattle.std.specs.Prelude.{◌≡◌, ◌⊎◌, ◌<◌, ◌≤◌, ◌+◌, ◌*◌, ◌++◌, ◌∷◌, [], false, min, ℕ, IsTrue, OnOk, IfOk, OnErr, IfErr};
+ghost use Rattle.std.specs.Prelude.{◌≡◌, ◌⊎◌, ◌<◌, ◌≤◌, ◌+◌, ◌*◌, ◌++◌, ◌∷◌, [], false, length, min, ℕ, IsTrue, OnOk, IfOk, OnErr, IfErr};
 ghost use Rattle.std.specs.Bool.{OnFalse, OnTrue};
 ghost use Rattle.capnp_format.specs.Canonical.{trim, encoding};
 ghost use Rattle.capnp_format.specs.Tree.{Tree};
@@ -13,7 +13,7 @@ ghost use Rattle.capnp_objects.specs.Outcomes.{Reads};
 ghost use Rattle.capnp_objects.specs.Refusals.{Refused};
 ghost use Rattle.capnp_objects.specs.Wanted.{canonical};
 ghost use Rattle.capnp_readers.specs.Readers.{reading};
-ghost use Rattle.capnp_messages.specs.Copies.{IsAloneOr, HoldsCanonicalWords, IsMadeWhereAlone, LacksMemoryOr, RefusesCopy, RefusesCopyAnywhere, is_message_too_large, wants_room};
+ghost use Rattle.capnp_messages.specs.Copies.{HoldsCanonicalWords, LacksMemoryOr, RefusesCopy, RefusesCopyAnywhere, is_message_too_large, wants_room};
 ghost use Rattle.capnp_messages.specs.CanonicalErrors.{IsLeftOf};
 ghost use Rattle.capnp_messages.specs.Tries.{IsMadeByFirstTry, NeedsMoreRoom, as_asked, room_of_try, words_read};
 
@@ -48,10 +48,10 @@ fn copy_root<A: BuilderArena, B: ReaderArena>(
     requires root { (A.view arena.old).words ≡ (0 ∷ []) ∷ [] }
     ensures copied { IfOk result (λ after. (t : Tree)
         × Reads canonical (reading B.ReaderArena from.entry) (unused left) after t
-        × IsMadeWhereAlone (A.view arena.new) t) }
+        × (length (A.view arena.new).words ≡ 1 → HoldsCanonicalWords (A.view arena.new) t)) }
     ensures room { OnOk result ((A.view arena.new).room 0 ≡ (A.view arena.old).room 0) }
-    ensures alone { OnOk result (IsAloneOr (A.view arena.new)
-        (NeedsMoreRoom (reading B.ReaderArena from.entry) ((A.view arena.old).room 0))) }
+    ensures alone { OnOk result ((length (A.view arena.new).words ≡ 1)
+        ⊎ NeedsMoreRoom (reading B.ReaderArena from.entry) ((A.view arena.old).room 0)) }
     ensures refused { IfErr result
         (RefusesCopyAnywhere (reading B.ReaderArena from.entry) left ((A.view arena.old).room 0)) }
 {
@@ -252,7 +252,7 @@ pub(super) fn copy_in_room<A: Allocator, B: ReaderArena>(
     ensures refused { IfErr result (λ k. (m : Meter)
         × Refused canonical (reading B.ReaderArena from.entry) (unused left) m k) }
 {
-    if let Err(_) = make_root(made, room) {
+    if make_root(made, room).is_err() {
         return Ok(false);
     }
     match copy_to_segment(made, from, left, room) {

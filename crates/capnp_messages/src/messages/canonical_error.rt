@@ -1,6 +1,9 @@
 //! Why no canonical frame is written.
 ghost use Rattle.std.specs.Prelude.{◌≡◌};
-ghost use Rattle.capnp_messages.specs.CanonicalErrors.{inner_name};
+ghost use Rattle.capnp_words.specs.Names.{name_of};
+ghost use Rattle.capnp_words.specs.declared.error.ErrorKind.{ErrorKind};
+ghost use Rattle.capnp_framing.specs.Names.{frame_error_name};
+ghost use Rattle.capnp_framing.specs.declared.framing.frame_error.FrameError.{FrameError};
 
 use capnp_framing::framing::FrameError;
 use capnp_words::error::ErrorKind;
@@ -17,7 +20,10 @@ pub enum CanonicalError {
 impl CanonicalError {
     /// The name of the refusal inside.
     pub fn name(&self) -> &'static str
-        ensures { result.now ≡ inner_name self.now }
+        ensures layout { (k : ErrorKind) → self.now ≡ CanonicalError.Layout k
+            → result.now ≡ name_of k }
+        ensures frame { (e : FrameError) → self.now ≡ CanonicalError.Frame e
+            → result.now ≡ frame_error_name e }
     {
         match self {
             CanonicalError::Layout(kind) => kind.name(),

@@ -4,8 +4,9 @@ ghost use Rattle.capnp_words.specs.Meter.{spent};
 ghost use Rattle.capnp_format.specs.Bytes.{message};
 ghost use Rattle.capnp_objects.specs.Source.{levels};
 ghost use Rattle.capnp_readers.specs.Readers.{reading};
+ghost use Rattle.capnp_readers.specs.declared.readers.canonical_fault.CanonicalFault.{CanonicalFault};
 ghost use Rattle.capnp_messages.specs.Roots.{CoversRoot, RefusesRoot, message_root};
-ghost use Rattle.capnp_messages.specs.CanonicalMessages.{CanBeTested, IsCanonicalMessage, IsPaid, MessageTestFails, RefusesTest};
+ghost use Rattle.capnp_messages.specs.CanonicalMessages.{CanBeTested, IsCanonicalMessage, IsMessageFault, IsPaid, RefusesTest};
 
 use super::message_fault::canonical_fault;
 use capnp_arena::arena::{ReaderArena, ReaderArenaImpl, ReaderSegments};
@@ -34,9 +35,8 @@ pub fn is_canonical_message<S: ReaderSegments>(
         (⟦<ReaderArenaImpl<S> as ReaderArena>⟧.segments arena.now))
         (levels arena.now.nesting_limit) lim.old
         → IsOk result }
-    ensures failed { result ≡ Ok false
-        → length (⟦<ReaderArenaImpl<S> as ReaderArena>⟧.segments arena.now) ≡ 1 →
-        MessageTestFails (message (⟦<ReaderArenaImpl<S> as ReaderArena>⟧.segments arena.now))
+    ensures failed { result ≡ Ok false → (f : CanonicalFault) ×
+        IsMessageFault f (message (⟦<ReaderArenaImpl<S> as ReaderArena>⟧.segments arena.now))
         (levels arena.now.nesting_limit)
         lim.old lim.new }
     ensures refused { IfErr result (

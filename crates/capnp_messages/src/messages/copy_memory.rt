@@ -45,7 +45,8 @@ impl CopySegment {
 }
 
 impl Segment for CopySegment {
-    ghost use Rattle.capnp_messages.specs.CopyMemory.{copy_content, copy_zeros_behind, with_copy_bytes, with_copy_bytes-as_long, with_copy_bytes-holds};
+    ghost use Rattle.capnp_messages.specs.CopyMemory.{copy_content, with_copy_bytes};
+    ghost use Rattle.capnp_messages.specs.CopyMemoryLemmas.{copy_zeros_behind, with_copy_bytes-as_long, with_copy_bytes-holds};
 
     ghost content = { copy_content };
 

@@ -1,15 +1,24 @@
 //! What is so of canonical messages. Each function does nothing: its contract is the law, proved for all
 //! messages ("Canonicalization").
 
-ghost use Rattle.capnp_messages.specs.CanonicalMessages.{MeansItsValue, OneCanonicalValue, SameCanonicalFrames};
+ghost use Rattle.std.specs.Prelude.{◌≡◌, ◌↔◌, ◌≤◌, ℕ};
+ghost use Rattle.capnp_format.specs.Segments.{Segments};
+ghost use Rattle.capnp_format.specs.Tree.{Tree, depth};
+ghost use Rattle.capnp_format.specs.Means.{Means};
+ghost use Rattle.capnp_format.specs.Canonical.{charge};
+ghost use Rattle.capnp_framing.specs.Frames.{CanBeFramed, frame};
+ghost use Rattle.capnp_messages.specs.CanonicalMessages.{IsCanonicalOf};
 
-/// A message is the canonical one of one value at most, and means it.
+/// A message is the canonical one of one value at most. Its root means that value, within as many levels
+/// as the value is deep, at the value's least cost.
 pub fn canonical_message()
-    ensures value { OneCanonicalValue }
-    ensures means { MeansItsValue }
+    ensures value { (S : Segments) (t u : Tree) → IsCanonicalOf S t → IsCanonicalOf S u → t ≡ u }
+    ensures means { (S : Segments) (t : Tree) (n : ℕ) → IsCanonicalOf S t → depth t ≤ n
+        → Means S n 0 0 t (charge t) }
 {}
 
 /// The frames of two canonical messages are equal exactly if their values are.
 pub fn canonical_frames()
-    ensures { SameCanonicalFrames }
+    ensures { (S R : Segments) (t u : Tree) → CanBeFramed S → CanBeFramed R
+        → IsCanonicalOf S t → IsCanonicalOf R u → (frame S ≡ frame R) ↔ (t ≡ u) }
 {}

@@ -1,5 +1,6 @@
 //! Memory that is lent for one segment.
-ghost use Rattle.std.specs.Prelude.{◌++◌, ◌∷◌, [], ◌≡◌, ◌<◌, ◌≤◌, ◌*◌, ◌/◌, ◌==◌, ℕ, length, replicate, true, IsTrue, IsNone, IfSome, IsOk, IfOk, OnOk, IfErr, Err};
+ghost use Rattle.std.specs.Prelude.{◌++◌, ◌∷◌, [], ◌≡◌, ◌<◌, ◌≤◌, ◌*◌, ◌/◌, ◌==◌, ℕ, length, replicate, false, true, nat_le, ◌&&◌, IsTrue, IsNone, IsSome, IfSome, IsOk, IfOk, OnOk, IfErr, Err};
+ghost use Rattle.std.specs.Option.{option_map_or};
 ghost use Rattle.capnp_words.specs.declared.error.ErrorKind.TheVariants.{AllocationFailed, MessageTooLarge};
 ghost use Rattle.capnp_arena_traits.specs.Allocations.{IsFresh, max_segment_words, one_more, zeros};
 
@@ -60,6 +61,8 @@ impl<'a> LentMemory<'a> {
     pub fn new(memory: &'a mut [u8]) -> Self
         requires { memory.old ≡ replicate (length memory.old) 0 }
         ensures refused { result.refused ≡ 0 }
+        ensures grants { (words : ℕ) → words ≤ max_segment_words → 8 * words ≤ length memory.old
+            → IsTrue (⟦<Self as Allocator>⟧.grants result words) }
     {
         LentMemory {
             memory: Some(LentZeros::new(memory)),
@@ -69,6 +72,7 @@ impl<'a> LentMemory<'a> {
 
     /// So many words, if there are as many and none were lent yet.
     fn lend(&mut self, words: u32) -> Option<&'a mut [u8]>
+        ensures lent { IfSome self.old.memory (λ bytes. 8 * words ≤ bytes → IsSome result) }
         ensures fresh { IfSome result (λ s. s.now ≡ zeros words) }
         ensures refused { self.new.refused ≡ self.old.refused }
     {
@@ -95,6 +99,9 @@ impl<'a> Allocator for LentMemory<'a> {
     ghost refusals = { λ a. a.refused };
 
     ghost offers = { λ _ asked words. words == asked };
+
+    ghost grants = { λ a words. nat_le words max_segment_words
+        && option_map_or (λ bytes. nat_le (8 * words) bytes) a.memory false };
 
     fn allocate_segment(&mut self, min_words: u32) -> Result<&'a mut [u8], ErrorKind>
         ensures fresh { IfOk result (λ s. IsFresh min_words s.now) }

@@ -1,4 +1,4 @@
-use Rattle.std.proofs.Common.{◌≡◌, ◌∙◌, ap, sym}
+use Rattle.std.proofs.Common.{◌∙◌, ap, sym}
 use Rattle.capnp_framing.specs.Frames.{bytes_of_words}
 use Rattle.capnp_messages.proofs.AsItStandsLemmas.{own_message, own_words, segment_stands}
 use Rattle.capnp_messages.proofs.messages.as_it_stands.canonical_segment.Goals as goal

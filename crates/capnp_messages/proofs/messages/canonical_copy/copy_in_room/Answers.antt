@@ -5,5 +5,5 @@ use Rattle.capnp_messages.proofs.messages.canonical_copy.copy_in_room.Goals as g
 
 pub returns-then-is_too_large-clause-small : goal.returns-then-is_too_large-clause-small
 returns-then-is_too_large-clause-small g c =
-    let large : is_message_too_large c.in-Err-copy_to_segment.kind ≡ true = search rules in
-    inl (try_outgrown large c.in-Err-copy_to_segment.ensures.refused)
+    let large : is_message_too_large c.in-Err.kind ≡ true = search rules in
+    inl (try_outgrown large c.in-Err.ensures.refused)
