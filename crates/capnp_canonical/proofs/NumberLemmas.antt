@@ -4,7 +4,7 @@ use Rattle.std.proofs.Common.{refl, subst, arith}
 use Rattle.capnp_words.specs.Names.{name_of}
 use Rattle.capnp_readers.specs.Faults.{fault_reason_text}
 use Rattle.capnp_canonical.specs.Numbers.{answer_name, answer_number, error_number, frame_error_number, reason_number}
-use Rattle.capnp_canonical.specs.Texts.{IsReasonText}
+use Rattle.capnp_canonical.specs.Texts.{IsTextOf}
 use Rattle.capnp_words.specs.declared.error.ErrorKind.{ErrorKind}
 use Rattle.capnp_words.specs.declared.error.ErrorKind.TheVariants.{AllocationFailed, CannotCreateACanonicalMessageWithACapability, CantHandleNonStructInlineComposite, ExistingListPointerIsNotByteSized, ExistingListValueIsIncompatibleWithExpectedType, ExistingPointerIsNotAList, ExpectedAPointerListButGotAListOfDataOnlyStructs, ExpectedAPrimitiveListButGotAListOfPointerOnlyStructs, FoundBitListWhereStructListWasExpected, FoundStructListWhereBitListWasExpected, InlineCompositeListsElementsOverrunItsWordCount, InlineCompositeListsOfNonStructTypeAreNotSupported, InvalidSegmentId, MalformedDoubleFarPointer, MessageContainsListPointerOfNonBytesWhereDataWasExpected, MessageContainsListPointerOfNonBytesWhereTextWasExpected, MessageContainsListWithIncompatibleElementType, MessageContainsNonCapabilityPointerWhereCapabilityPointerWasExpected, MessageContainsNonListPointerWhereDataWasExpected, MessageContainsNonListPointerWhereListPointerWasExpected, MessageContainsNonListPointerWhereTextWasExpected, MessageContainsNonStructPointerWhereStructPointerWasExpected, MessageContainsNullCapabilityPointer, MessageContainsOutOfBoundsPointer, MessageContainsTextThatIsNotNULTerminated, MessageIsTooDeeplyNested, MessageIsTooDeeplyNestedOrContainsCycles, MessageTooLarge, NestingLimitExceeded, NoSuchPlace, ReadLimitExceeded, TextBlobMissingNULTerminator, TriedToReadFromNullArena, UnexpectedFarPointer, UnknownPointerType}
 use Rattle.capnp_framing.specs.declared.framing.frame_error.FrameError.{FrameError}
@@ -252,7 +252,7 @@ reason_at d WordsBehind = refl
 
 -- the text of the reason that has a number
 pub reason_found : (n : ℕ) (d : CanonicalFaultReason) → 1 ≤ n → n ≤ 14 →
-    IsReasonText n (fault_reason_text (slice_index_or reasons (n - 1) d))
+    IsTextOf reason_number fault_reason_text n (fault_reason_text (slice_index_or reasons (n - 1) d))
 reason_found n d low high = (
   λ r is. subst (λ m. fault_reason_text (slice_index_or reasons (m - 1) d) ≡ fault_reason_text r) is (reason_at d r),
   λ none. absurd (none (slice_index_or reasons (n - 1) d)

@@ -87,19 +87,15 @@ abbrev pub IsCopyOf : Form → ReaderOptions → Segments → List ℕ → Type 
 IsCopyOf form limits S bytes =
     (t : Tree) × IsValueOf S limits t × (bytes ≡ form_bytes form (encoding (trim t)))
 
--- There is a copy, of so many bytes, which is more than there is room for.
-abbrev pub HasTooLittleRoom : Form → ReaderOptions → Segments → ℕ → Refusal → Type 0
-HasTooLittleRoom form limits S room r =
-    (bytes : List ℕ) × IsCopyOf form limits S bytes × (r ≡ NoRoom (length bytes)) × (room < length bytes)
-
 -- A command is refused, by what the message means.
 abbrev pub RefusesMeaning : Command → ReaderOptions → Segments → Refusal → Type 0
 RefusesMeaning command limits S r = (k : ErrorKind) × (r ≡ Layout k) × RefusesAnswer command limits S k
 
--- A copy is refused: so, or for want of room.
+-- A copy is refused by what the message means; or there is a copy, of more bytes than there is room for.
 abbrev pub RefusesRoom : Form → ReaderOptions → ℕ → Segments → Refusal → Type 0
 RefusesRoom form limits room S r =
-    RefusesMeaning (Canon form) limits S r ⊎ HasTooLittleRoom form limits S room r
+    RefusesMeaning (Canon form) limits S r ⊎
+    ((bytes : List ℕ) × IsCopyOf form limits S bytes × (r ≡ NoRoom (length bytes)) × (room < length bytes))
 
 -- A number is that of a refusal of which P holds.
 abbrev pub IsNumberWhere : ℕ → (Refusal → Type 0) → Type 0

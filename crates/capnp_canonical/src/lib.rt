@@ -14,8 +14,9 @@ ghost use Rattle.capnp_messages.specs.declared.messages.command.Command.{Command
 ghost use Rattle.capnp_messages.specs.declared.messages.command.Form.{Form};
 ghost use Rattle.capnp_packing.specs.Packing.{IsWhole, Packs, unpacked_bytes};
 ghost use Rattle.capnp_canonical.specs.Calls.{InFrame, InSegments, InWords, IsCopyOf, IsGranted, IsNumberWhere, RefusesBytes, RefusesMeaning, RefusesPacked, RefusesRoom, RefusesSegments, RefusesSegment, TestIs, limits_of, no_fault};
-ghost use Rattle.capnp_canonical.specs.Numbers.{wanted_room};
-ghost use Rattle.capnp_canonical.specs.Texts.{PutsText, IsNameOf, IsReasonText};
+ghost use Rattle.capnp_readers.specs.Faults.{fault_reason_text};
+ghost use Rattle.capnp_canonical.specs.Numbers.{answer_name, answer_number, reason_number, wanted_room};
+ghost use Rattle.capnp_canonical.specs.Texts.{PutsText, IsTextOf};
 
 mod calls;
 mod fault;
@@ -452,7 +453,8 @@ pub extern "C" fn capnp_canonical_unpack(packed: &[u8], to: &mut [u8], written: 
 /// length in bytes: 0 where the number has none.
 #[unsafe(no_mangle)]
 pub extern "C" fn capnp_canonical_name(answer: u32, to: &mut [u8]) -> usize
-    ensures { (text : List ℕ) × IsNameOf answer text × (result ≡ length text)
+    ensures { (text : List ℕ) × IsTextOf answer_number answer_name answer text
+        × (result ≡ length text)
         × PutsText text to.old to.new }
 {
     put_text(name_of_number(answer), to)
@@ -461,7 +463,8 @@ pub extern "C" fn capnp_canonical_name(answer: u32, to: &mut [u8]) -> usize
 /// Writes what a reason says, in words, as `capnp_canonical_name` writes.
 #[unsafe(no_mangle)]
 pub extern "C" fn capnp_canonical_reason_text(reason: u32, to: &mut [u8]) -> usize
-    ensures { (text : List ℕ) × IsReasonText reason text × (result ≡ length text)
+    ensures { (text : List ℕ) × IsTextOf reason_number fault_reason_text reason text
+        × (result ≡ length text)
         × PutsText text to.old to.new }
 {
     put_text(text_of_reason(reason), to)

@@ -1,7 +1,8 @@
 //! The texts of numbers.
 ghost use Rattle.std.specs.Prelude.{◌≡◌, IfSome, IsNone, length};
-ghost use Rattle.capnp_canonical.specs.Numbers.{answer_name, answer_number};
-ghost use Rattle.capnp_canonical.specs.Texts.{PutsText, IsNameOf, IsReasonText};
+ghost use Rattle.capnp_readers.specs.Faults.{fault_reason_text};
+ghost use Rattle.capnp_canonical.specs.Numbers.{answer_name, answer_number, reason_number};
+ghost use Rattle.capnp_canonical.specs.Texts.{PutsText, IsTextOf};
 ghost use Rattle.capnp_canonical.specs.declared.refusal.Refusal.{Refusal};
 
 use crate::refusal::Refusal;
@@ -95,7 +96,7 @@ fn refusal_of(number: u32) -> Option<Refusal>
 
 /// The name of the refusals with this number, empty where there is none.
 pub fn name_of_number(number: u32) -> &'static str
-    ensures { IsNameOf number result.now }
+    ensures { IsTextOf answer_number answer_name number result.now }
 {
     match refusal_of(number) {
         Some(refusal) => refusal.name(),
@@ -105,7 +106,7 @@ pub fn name_of_number(number: u32) -> &'static str
 
 /// What the reason with this number says, empty where there is none.
 pub fn text_of_reason(number: u32) -> &'static str
-    ensures { IsReasonText number result.now }
+    ensures { IsTextOf reason_number fault_reason_text number result.now }
 {
     match number {
         1..=14 => REASONS[number as usize - 1].text(),
