@@ -1,12 +1,13 @@
 -- The message of an empty root, and outcomes one by one.
-use Rattle.std.proofs.Common.{◌≡◌, ℕ, zero, suc, List, [], ◌∷◌, get_or, Option, Some, None, refl, sym, subst, arith}
+use Rattle.std.proofs.Common.{◌≡◌, ℕ, zero, suc, List, [], ◌∷◌, get_or, Option, Some, None, refl, sym, subst, arith, All}
+use Rattle.std.proofs.lemmas.List.Elements.{All-head, All-tail}
 use Rattle.capnp_words.specs.declared.error.ErrorKind.{ErrorKind}
 use Rattle.capnp_format.specs.Forest.{IsForest}
 use Rattle.capnp_format.specs.Segments.{Segments, word_at}
 use Rattle.capnp_format.specs.Tree.{Tree, Null}
 use Rattle.capnp_making.proofs.FillingMade.{null_stored}
 use Rattle.capnp_making.proofs.Replaced.{forest_of}
-use Rattle.capnp_edits.specs.Fitting.{AreInFirst, IsNoneOfMemory, NoneOfMemory}
+use Rattle.capnp_edits.specs.Fitting.{AreInFirst, IsNoneOfMemory}
 
 -- the word of an empty root holds null
 abbrev only_root : Segments
@@ -34,10 +35,10 @@ root_first S e = subst AreInFirst (sym e) first
     first (suc (suc k)) other = refl
 
 -- where no outcome is one of memory, the one of each edit isn't
-pub none_at : (rs : List (Option ErrorKind)) (i : ℕ) → NoneOfMemory rs → IsNoneOfMemory (get_or rs i None)
+pub none_at : (rs : List (Option ErrorKind)) (i : ℕ) → All IsNoneOfMemory rs → IsNoneOfMemory (get_or rs i None)
 none_at [] i none = λ k e. absurd (unlike k e)
   where
     unlike : (k : ErrorKind) → None ≡ Some k → ⊥
     unlike k e = cc
-none_at (r ∷ rs) zero (none, others) = none
-none_at (r ∷ rs) (suc i) (none, others) = none_at rs i others
+none_at (r ∷ rs) zero none = All-head IsNoneOfMemory r rs none
+none_at (r ∷ rs) (suc i) none = none_at rs i (All-tail IsNoneOfMemory r rs none)

@@ -1,5 +1,5 @@
 -- What the steps of edits say of memory.
-use Rattle.std.proofs.Common.{◌≡◌, ◌⊎◌, ◌++◌, inl, inr, sym, ℕ, ◌+◌, ◌*◌, ◌-◌, ◌^◌, ◌&&◌, nat_le, nat_lt, ◌<◌, ◌≤◌, Bool, true, false, if◌then◌else◌, List, [], ◌∷◌, length, Option, Some, None, IfSome, IsSomeAnd, refl, ap, ◌∙◌, subst, arith}
+use Rattle.std.proofs.Common.{◌≡◌, ◌⊎◌, ◌++◌, inl, inr, sym, ℕ, ◌+◌, ◌*◌, ◌-◌, ◌^◌, ◌&&◌, nat_le, nat_lt, ◌<◌, ◌≤◌, Bool, true, false, if◌then◌else◌, List, [], ◌∷◌, length, Option, Some, None, IfSome, IsSomeAnd, refl, ap, ◌∙◌, subst, arith, map}
 use Rattle.capnp_words.specs.declared.error.ErrorKind.{ErrorKind}
 use Rattle.capnp_words.specs.declared.error.ErrorKind.TheVariants.{AllocationFailed, MessageTooLarge}
 use Rattle.capnp_format.specs.Canonical.{word_count}
@@ -18,7 +18,7 @@ use Rattle.capnp_edits.specs.declared.edit.Edit.{Edit}
 use Rattle.capnp_edits.specs.declared.edit.Op.{Op}
 use Rattle.capnp_edits.specs.declared.edit.Op.TheVariants.{InitData, InitList, InitStruct, InitStructList, InitText, SetData, SetText}
 use Rattle.capnp_edits.specs.Edits.{is_of_path, refusals_after}
-use Rattle.capnp_edits.specs.Paths.{path_of}
+use Rattle.capnp_edits.specs.Paths.{step_of}
 use Rattle.capnp_edits.specs.Steps.{AreSteps, FitsAt, IsRefusedAt, IsStep}
 use Rattle.capnp_edits.specs.Tasks.{task_of}
 use Rattle.capnp_edits.proofs.Stepped.{step_is_there}
@@ -60,7 +60,7 @@ no_tree y e = cc
 
 -- an object that an edit makes is refused as its words are
 asked_by : (old new : View) (e : Edit) (r : Option ErrorKind) (step : IsStep old new e r) (op : Op) → e.op ≡ op → (object t x : Tree) (s p : ℕ) (k : ErrorKind) → object_made op ≡ Some object → IsForest old.words t →
-    PathLeads old.words 0 0 t (path_of e.path.now) s p x → IsSomeAnd step.path_end (λ place. IsSomeAnd (task_of e.op) (λ task. IsRefusedAt old new task k place)) → IsRefusedFor old new (word_count object) k
+    PathLeads old.words 0 0 t (map step_of e.path.now) s p x → IsSomeAnd step.path_end (λ place. IsSomeAnd (task_of e.op) (λ task. IsRefusedAt old new task k place)) → IsRefusedFor old new (word_count object) k
 asked_by old new e r step (InitStruct size) same object t x s p k is forest leads named =
     let there = step_is_there old new e r t x s p step forest leads in
     let by = subst (λ (o : Op). IsSomeAnd step.path_end (λ place. IsSomeAnd (task_of o) (λ task. IsRefusedAt old new task k place))) same named in
@@ -106,7 +106,7 @@ asked_by old new e r step _ same object t x s p k is forest leads named = absurd
 
 -- and has room where they have
 fits_by : (old new : View) (e : Edit) (r : Option ErrorKind) (step : IsStep old new e r) (op : Op) → e.op ≡ op → (object t x : Tree) (s p : ℕ) → object_made op ≡ Some object → IsForest old.words t →
-    PathLeads old.words 0 0 t (path_of e.path.now) s p x → length (segment old.words s) + word_count object ≤ old.room s →
+    PathLeads old.words 0 0 t (map step_of e.path.now) s p x → length (segment old.words s) + word_count object ≤ old.room s →
     IfSome step.path_end (λ place. IfSome (task_of e.op) (λ task. FitsAt old task place))
 fits_by old new e r step (InitStruct size) same object t x s p is forest leads fits =
     let there = step_is_there old new e r t x s p step forest leads in

@@ -1,5 +1,5 @@
 -- What outcomes of edits say of memory; and a pointer of a message that is read.
-use Rattle.std.specs.Prelude.{◌≡◌, ◌⊎◌, ℕ, ◌+◌, ◌-◌, ◌^◌, ◌<◌, ◌≤◌, true, false, List, [], ◌∷◌}
+use Rattle.std.specs.Prelude.{◌≡◌, ◌⊎◌, ℕ, ◌+◌, ◌-◌, ◌^◌, ◌<◌, ◌≤◌, true, false, List, [], ◌∷◌, map}
 use Rattle.std.specs.Prelude.{◌++◌, length, Option, Some, None}
 use Rattle.capnp_words.specs.Sizes.{size_number}
 use Rattle.capnp_words.specs.declared.error.ErrorKind.{ErrorKind}
@@ -18,7 +18,7 @@ use Rattle.capnp_edits.specs.declared.edit.Edit.{Edit}
 use Rattle.capnp_edits.specs.declared.edit.Op.{Op}
 use Rattle.capnp_edits.specs.declared.edit.Op.TheVariants.{InitData, InitList, InitStruct}
 use Rattle.capnp_edits.specs.declared.edit.Op.TheVariants.{InitStructList, InitText, SetData, SetText}
-use Rattle.capnp_edits.specs.Paths.{path_of}
+use Rattle.capnp_edits.specs.Paths.{step_of}
 
 -- The value of the object that an operation makes, if it makes one.
 abbrev pub object_made : Op → Option Tree
@@ -41,12 +41,12 @@ pub record IsRefusedTruly (old new : View) (edit : Edit) (r : Option ErrorKind) 
   pub others : (r ≡ Some AllocationFailed → ⊥) → new.refusals ≡ old.refusals
   pub fits :
       (object t x : Tree) (s p : ℕ) → object_made edit.op ≡ Some object → IsForest old.words t →
-      PathLeads old.words 0 0 t (path_of edit.path.now) s p x →
+      PathLeads old.words 0 0 t (map step_of edit.path.now) s p x →
       length (segment old.words s) + word_count object ≤ old.room s →
       (k : ErrorKind) → r ≡ Some k → is_allocation_name k ≡ false
   pub asked :
       (object t x : Tree) (s p n : ℕ) → object_made edit.op ≡ Some object → IsForest old.words t →
-      PathLeads old.words 0 0 t (path_of edit.path.now) s p x → r ≡ Some (MessageTooLarge n) →
+      PathLeads old.words 0 0 t (map step_of edit.path.now) s p x → r ≡ Some (MessageTooLarge n) →
       ((n ≡ word_count object + 1) × (max_segment_words < n)) ⊎
       ((n ≡ 2 ^ 64 - 1) × (length old.words ≡ 2 ^ 32 - 1))
 

@@ -1,10 +1,12 @@
 //! Callers of edits that know their contracts alone.
-ghost use Rattle.std.specs.Prelude.{◌≡◌, ◌≤◌, ◌+◌, ◌∷◌, [], length, true, IsOk};
+ghost use Rattle.std.specs.Prelude.{◌≡◌, ◌≤◌, ◌+◌, ◌∷◌, [], length, true, IsOk, All};
+ghost use Rattle.std.specs.List.{sum_by};
 ghost use Rattle.capnp_format.specs.Forest.{IsForest};
 ghost use Rattle.capnp_format.specs.Segments.{segment};
 ghost use Rattle.capnp_format.specs.Tree.{Tree};
 ghost use Rattle.capnp_edits.specs.Edits.{is_of_path};
-ghost use Rattle.capnp_edits.specs.Fitting.{AllAskNoMore, AreInFirst, IsNoneOfMemory, NoneOfMemory, all_asked};
+ghost use Rattle.capnp_edits.specs.Fitting.{AreInFirst, AsksNoMore, IsNoneOfMemory, words_asked};
+ghost use Rattle.capnp_edits.specs.Tasks.{task_of};
 
 use crate::builders::root_word;
 use capnp_arena::arena::{BuilderArena, BuilderArenaImpl, ScratchSpaceHeapAllocator};
@@ -23,10 +25,10 @@ pub fn edits_in_room<A: BuilderArena>(
     requires many { length outcomes.old ≡ length edits.now }
     requires forest { (t : Tree) × IsForest (A.view arena.old).words t }
     requires first { AreInFirst (A.view arena.old).words }
-    requires asks { AllAskNoMore edits.now }
-    requires room { length (segment (A.view arena.old).words 0) + all_asked edits.now
-        ≤ (A.view arena.old).room 0 }
-    ensures { NoneOfMemory outcomes.new }
+    requires asks { All (λ e. AsksNoMore (task_of e.op)) edits.now }
+    requires room { length (segment (A.view arena.old).words 0)
+        + sum_by (λ e. words_asked (task_of e.op)) edits.now ≤ (A.view arena.old).room 0 }
+    ensures { All IsNoneOfMemory outcomes.new }
 {
     apply_all(arena, edits, outcomes);
 }

@@ -23,9 +23,9 @@ use Rattle.capnp_making.proofs.Placed.{count-nulls}
 use Rattle.capnp_making.proofs.Replace.{put_tree-count}
 use Rattle.capnp_making.proofs.Replaced.{replaced_again}
 use Rattle.capnp_readers.specs.declared.readers.struct_reader.StructPlace.{StructPlace}
-use Rattle.capnp_builders.specs.Content.{content_byte, with_fields, with_content, AreCleared}
-use Rattle.capnp_builders.specs.Laws.{HoldContent, up_to, TakesBytes, ContentTaken, ContentStopped}
+use Rattle.capnp_builders.specs.Content.{content_byte, with_fields, with_content, AreCleared, HoldContent, up_to, TakesBytes}
 use Rattle.capnp_widening.specs.Opening.{existing_struct}
+use Rattle.capnp_builders.specs.Places.{struct_place}
 use Rattle.capnp_builders.proofs.StructPlaces.{StructStartsAt, struct_starts}
 use Rattle.capnp_making.specs.Memory.{start_of}
 
@@ -211,14 +211,31 @@ struct_content s p d q a = record {
   field = λ S ws ts b w v y long len l. field_put S s p a ws ts b w v y (omega (arith, l, long));
 }
 
-pub content_taken : ContentTaken
+pub content_taken :
+    (S M R : Segments) (s p : ℕ) (ws : List ℕ) (ts us : Trees) (place : StructPlace) (bits : ℕ)
+    (bytes : List ℕ) → IsStored S s p (Struct ws ts)
+    → place ≡ struct_place (existing_struct (start_of (target S s p))
+    (record { data_words = length ws; pointers = count ts })) → TakesBytes S M place bits bytes
+    → AreFilled M R place.segment place.pointers_at us → count us ≤ count ts
+    → (vs : List ℕ) × HoldContent vs (length ws) bits bytes ×
+    IsReplaced S R s p (Struct ws ts) (Struct vs (up_to (count ts) us)) ×
+    (target R s p ≡ target S s p)
 content_taken S M R s p ws ts us place bits bytes y is takes fills few =
     let a : Target = target S s p in
     let (vs, hold, turns) =
     filled Struct (λ i. Child i ∷ []) S M R s p (length ws) (count ts) a a.start (length ws + count ts) ws ts us place bits bytes (struct_content s p (length ws) (count ts) a) (record { stored = y; leads = (leads_of S s p ws ts y).0 }) refl refl (struct_starts place (existing_struct (start_of a) (record { data_words = length ws; pointers = count ts })) is) takes fills few in
     (vs, hold, turns.0, ap target_in turns.1.1)
 
-pub content_stopped : ContentStopped
+pub content_stopped :
+    (S M F R : Segments) (s p : ℕ) (ws : List ℕ) (ts us : Trees) (place : StructPlace) (bits : ℕ)
+    (bytes : List ℕ) → IsStored S s p (Struct ws ts)
+    → place ≡ struct_place (existing_struct (start_of (target S s p))
+    (record { data_words = length ws; pointers = count ts })) → TakesBytes S M place bits bytes
+    → AreFilled M F place.segment place.pointers_at us → count us < count ts →
+    IsReplaced F R place.segment (place.pointers_at + count us) Null Null
+    → (vs : List ℕ) × HoldContent vs (length ws) bits bytes ×
+    IsReplaced S R s p (Struct ws ts) (Struct vs (up_to (count ts) us)) ×
+    (target R s p ≡ target S s p)
 content_stopped S M K R s p ws ts us place bits bytes y is takes fills fewer null =
     let a : Target = target S s p in
     let (vs, hold, turns) =

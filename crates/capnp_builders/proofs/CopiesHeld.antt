@@ -91,7 +91,11 @@ put_copied c mid limits only null made = record {
   is_read = made.is_read;
   put = λ u stored. replaced_again c.old.words mid.words c.new.words c.segment c.at u Null (kept c.form made.value) (null u stored) made.made;
   memory = keeps_both c.old mid c.new (omega (arith, only.segments)) (keeps_written c.old mid _ limits) made.memory;
-  stands = record { cleared = mid; zeroed = only; limits = limits; null = null; stands = made.stands };
+  cleared = mid;
+  zeroed = only;
+  limits = limits;
+  null = null;
+  stands = made.stands;
 }
 
 pub put_stopped : {o : Original Tree} {k : ErrorKind} (c : Change) (mid : View) → KeepsLimits c.old mid → IsPruned c.old.words mid.words → Puts c.old.words mid.words c.segment c.at Null → StopsCopy o (record c { old = mid }) Null k → LeavesCleared o c k

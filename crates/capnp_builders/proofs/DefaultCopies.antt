@@ -1,17 +1,21 @@
 -- The copy of a default: nothing of a limiter is spent, and each refusal to read is a fault of the default.
-use Rattle.std.proofs.Common.{◌≡◌, inl, inr, ℕ, List, Result, Ok, Err, IfOk, IfErr, OnOk}
+use Rattle.std.proofs.Common.{◌≡◌, inl, inr, ℕ, List, None, Result, Ok, Err, IfOk, IfErr, OnOk}
 use Rattle.capnp_words.specs.declared.error.ErrorKind.{ErrorKind}
-use Rattle.capnp_words.specs.Meter.{Meter}
+use Rattle.capnp_words.specs.Meter.{Meter, unused}
 use Rattle.capnp_format.specs.Tree.{Tree, Null}
 use Rattle.capnp_arena_traits.specs.View.{View}
 use Rattle.capnp_objects.specs.Wanted.{of_default}
 use Rattle.capnp_objects.proofs.Refusals.{breaks_off_spends, unreadable}
 use Rattle.capnp_objects.proofs.Truths.{unlimited_refusal}
-use Rattle.capnp_copies.specs.Changes.{change, MakesCopy, StopsCopy}
+use Rattle.capnp_copies.specs.Changes.{Change, change, MakesCopy, StopsCopy}
 use Rattle.capnp_copies.specs.Growth.{TakesAtMost}
 use Rattle.capnp_copies.specs.Originals.{value_original}
 use Rattle.capnp_making.specs.Makes.{call_at}
-use Rattle.capnp_builders.specs.Defaults.{default_root, default_copy, DropsDefault, PutsDefault, RefusesDefault}
+use Rattle.capnp_builders.specs.Defaults.{default_root, DropsDefault, PutsDefault, RefusesDefault}
+
+-- The copy of a default to position at of segment id.
+abbrev pub default_copy : ℕ → ℕ → View → View → Change
+default_copy id at old new = change of_default id at old new (unused None) (unused None)
 
 -- reading a default spends nothing, whether it ends or breaks off
 pub nothing_spent : {X E : Type 0} (o : Result X E) (bytes : List ℕ) (id at : ℕ) (old new : View) (m m' : Meter) → TakesAtMost o (value_original (default_root bytes)) (change of_default id at old new m m') → m' ≡ m
@@ -33,7 +37,7 @@ puts_default (Ok x) bytes id at old new made taken = (
 )
 puts_default (Err k) bytes id at old new made taken = tt
 
-refuses_default : (bytes : List ℕ) (id at : ℕ) (old new : View) (k : ErrorKind) → StopsCopy (value_original (default_root bytes)) (default_copy id at old new) Null k → RefusesDefault bytes (default_copy id at old new) k
+refuses_default : (bytes : List ℕ) (id at : ℕ) (old new : View) (k : ErrorKind) → StopsCopy (value_original (default_root bytes)) (default_copy id at old new) Null k → RefusesDefault bytes (call_at id at old new) k
 refuses_default bytes id at old new k stop = elim stop.why [
   | inl x ↦ inr x
   | inr y ↦ elim y [ inl read ↦ inl (unlimited_refusal (λ x. tt) (unreadable read)) | inr none ↦ absurd none ]

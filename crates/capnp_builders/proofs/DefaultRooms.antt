@@ -1,6 +1,7 @@
 -- The room that a call with a default has: the copy of the default fits, and then what the call does with a value that stands.
-use Rattle.std.proofs.Common.{◌≡◌, inl, inr, ℕ, ◌<◌, ◌≤◌, Bool, true, false, cond, List, [], ◌∷◌, length, nat_eq, Option, Some, None, Result, Ok, Err, refl, sym, subst, arith}
+use Rattle.std.proofs.Common.{◌≡◌, inl, inr, ℕ, ◌<◌, ◌≤◌, Bool, true, false, cond, List, [], ◌∷◌, length, nat_eq, slice_get, if◌then◌else◌, Option, Some, None, Result, Ok, Err, refl, sym, subst, arith}
 use Rattle.std.specs.Borrow.{Bor}
+use Rattle.std.specs.Option.{option_map_or}
 use Rattle.std.proofs.lemmas.Bool.{cases_lt, false≢true}
 use Rattle.capnp_words.specs.declared.error.ErrorKind.{ErrorKind}
 use Rattle.capnp_words.specs.declared.error.ErrorKind.TheVariants.{MessageContainsOutOfBoundsPointer}
@@ -9,7 +10,7 @@ use Rattle.capnp_format.specs.Tree.{Tree, Null, Capability, Struct, Flat, Pointe
 use Rattle.capnp_format.proofs.WordsOf.{length-words_of}
 use Rattle.capnp_arena_traits.specs.View.{View}
 use Rattle.capnp_making.specs.Makes.{call_at}
-use Rattle.capnp_builders.specs.Defaults.{DefaultUse, ignored, denied, copied, object_default, use_of_words, DefaultCopyFits, DefaultFits, FitsWithDefault, PutsDefaultOver}
+use Rattle.capnp_builders.specs.Defaults.{DefaultUse, ignored, denied, copied, object_default, DefaultCopyFits, DefaultFits, FitsWithDefault, PutsDefaultOver}
 
 -- nothing is put where the default leaves null
 pub null_left : (w : DefaultUse) (s p : ℕ) (a m : View) (o : Result (Unit {0}) ErrorKind) → w ≡ ignored → PutsDefaultOver w (call_at s p a m) Null o → m ≡ a
@@ -19,12 +20,16 @@ null_left w s p a m o e put = (let P : DefaultUse → Type 0 = λ u. PutsDefault
 pub then_fits : (w : DefaultUse) (s p : ℕ) (a m : View) (t : Tree) (x : Unit {0}) (Fits : View → Type 0) → FitsWithDefault w a s p Fits → PutsDefaultOver w (call_at s p a m) t (Ok x) → Fits m
 then_fits ignored s p a m t x Fits fits (ok, same) = subst Fits (sym same) fits
 then_fits (denied k) s p a m t x Fits fits o = absurd fits
-then_fits (copied bytes) s p a m t x Fits fits (inl d) = subst Fits (sym d.does.1) (fits.1 d.mid d.value d.put)
+then_fits (copied bytes) s p a m t x Fits fits (inl (mid, value, put, (ok, same))) = subst Fits (sym same) (fits.1 mid value put)
 then_fits (copied bytes) s p a m t x Fits fits (inr e) = absurd e
 
 -- the bytes that are copied are those of the default, which has a first word
 not_copied : (bytes : List ℕ) → ignored ≡ copied bytes → ⊥
 not_copied bytes e = cc
+
+-- what a call that finds null does with a default of these words
+abbrev pub use_of_words : DefaultUse → List ℕ → List ℕ → DefaultUse
+use_of_words of_null bytes ws = option_map_or (λ x. if nat_eq x 0 then of_null else copied bytes) (slice_get ws 0) (denied MessageContainsOutOfBoundsPointer)
 
 copied_words : (bytes b ws : List ℕ) → use_of_words ignored b ws ≡ copied bytes → (b ≡ bytes) × (0 < length ws)
 copied_words bytes b [] e = absurd (no_refusal e)

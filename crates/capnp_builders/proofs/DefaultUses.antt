@@ -17,18 +17,13 @@ pub then_does : {B : Type 0} (w : DefaultUse) (s p : ℕ) (a m b : View) (t : Tr
 then_does ignored s p a m b t x r P stored (ok, same) f =
     subst (λ (v : View). P (call_at s p v b) t) same (f t (subst (λ (v : View). IsStored v.words s p t) (sym same) stored))
 then_does (denied k) s p a m b t x r P stored (e, same) f = absurd (no_refusal x k e)
-then_does (copied bytes) s p a m b t x r P stored (inl d) f =
-    inl (record {
-      mid = d.mid;
-      value = d.value;
-      put = d.put;
-      does = subst (λ (v : View). P (call_at s p v b) d.value) d.does.1 (f d.value (subst (λ (v : View). IsStored v.words s p d.value) (sym d.does.1) d.put.replaced.stored));
-    })
+then_does (copied bytes) s p a m b t x r P stored (inl (mid, value, put, (ok, same))) f =
+    inl (mid, value, put, subst (λ (v : View). P (call_at s p v b) value) same (f value (subst (λ (v : View). IsStored v.words s p value) (sym same) put.replaced.stored)))
 then_does (copied bytes) s p a m b t x r P stored (inr e) f = absurd e
 
 -- some value stands once the default is put
 pub stands_then : (w : DefaultUse) (s p : ℕ) (a m : View) (t : Tree) (x : Unit {0}) → IsStored a.words s p t → PutsDefaultOver w (call_at s p a m) t (Ok x) → (u : Tree) × IsStored m.words s p u
 stands_then ignored s p a m t x stored (ok, same) = (t, subst (λ (v : View). IsStored v.words s p t) (sym same) stored)
 stands_then (denied k) s p a m t x stored (e, same) = absurd (no_refusal x k e)
-stands_then (copied bytes) s p a m t x stored (inl d) = (d.value, subst (λ (v : View). IsStored v.words s p d.value) (sym d.does.1) d.put.replaced.stored)
+stands_then (copied bytes) s p a m t x stored (inl (mid, value, put, (ok, same))) = (value, subst (λ (v : View). IsStored v.words s p value) (sym same) put.replaced.stored)
 stands_then (copied bytes) s p a m t x stored (inr e) = absurd e

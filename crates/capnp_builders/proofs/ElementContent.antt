@@ -3,8 +3,9 @@ use Rattle.std.proofs.Common.{◌≡◌, ℕ, zero, suc, pred, ◌+◌, ◌*◌,
 use Rattle.capnp_format.specs.Forest.{target, target_in}
 use Rattle.capnp_format.specs.Means.{Means, MeansElements, Leads}
 use Rattle.capnp_format.specs.Segments.{Segments, segment, Target}
-use Rattle.capnp_format.specs.Tree.{Tree, Struct, Structs, Trees, Elements, no_elements, element, count, element_count}
+use Rattle.capnp_format.specs.Tree.{Tree, Null, Struct, Structs, Trees, Elements, no_elements, element, count, element_count}
 use Rattle.capnp_making.specs.Fields.{put_field, with_field}
+use Rattle.capnp_making.specs.Filled.{AreFilled}
 use Rattle.capnp_making.specs.Path.{Child, Element, struct_at, put_struct}
 use Rattle.capnp_making.specs.Stored.{IsStored, IsReplaced}
 use Rattle.capnp_making.proofs.Extents.{word_within}
@@ -12,8 +13,10 @@ use Rattle.capnp_contents.proofs.FieldsWritten.{element_field_written}
 use Rattle.capnp_making.proofs.Filling.{Holds, still_leads}
 use Rattle.capnp_making.proofs.FillingElements.{put_struct-count, put_struct-here, put_struct-again, row_high, element_holder, structs_claim}
 use Rattle.capnp_making.proofs.MadeWords.{IsPut, word_put}
-use Rattle.capnp_builders.specs.Laws.{up_to, ElementContentTaken, ElementContentStopped}
+use Rattle.capnp_builders.specs.Content.{up_to, HoldContent, TakesBytes}
 use Rattle.capnp_builders.proofs.ContentTaken.{Turns, IsContent, filled, stopped}
+use Rattle.capnp_builders.specs.Places.{struct_place}
+use Rattle.capnp_readers.specs.declared.readers.struct_reader.StructPlace.{StructPlace}
 use Rattle.capnp_builders.proofs.StructPlaces.{struct_starts}
 
 put_struct-same : (X : Elements) (i : ℕ) (ws : List ℕ) (ts : Trees) → struct_at X i ≡ Struct ws ts → put_struct X i (Struct ws ts) ≡ X
@@ -71,7 +74,19 @@ element_content s p d q a X i less = record {
   field = λ S ws ts b w v y long len l. element_put S s p d q a X i ws ts b w v y less long len l;
 }
 
-pub element_content_taken : ElementContentTaken
+pub element_content_taken :
+    (S M R : Segments) (s p d q : ℕ) (es : Elements) (i : ℕ) (ws : List ℕ) (ts us : Trees)
+    (place : StructPlace) (bits : ℕ) (bytes : List ℕ) → IsStored S s p (Structs d q es)
+    → i < element_count es → struct_at es i ≡ Struct ws ts →
+    place ≡ struct_place (record {
+      segment = (target S s p).segment;
+      start = (target S s p).start + 1 + i * (d + q);
+      size = record { data_words = d; pointers = q };
+    })
+    → TakesBytes S M place bits bytes
+    → AreFilled M R place.segment place.pointers_at us → count us ≤ q
+    → (vs : List ℕ) × HoldContent vs d bits bytes ×
+    IsReplaced S R s p (Structs d q es) (Structs d q (put_struct es i (Struct vs (up_to q us))))
 element_content_taken S M R s p d q es i ws ts us place bits bytes y less is placed takes fills few =
     let a : Target = target S s p in
     let F : List ℕ → Trees → Tree = λ vs os. Structs d q (put_struct es i (Struct vs os)) in
@@ -82,7 +97,20 @@ element_content_taken S M R s p d q es i ws ts us place bits bytes y less is pla
     filled F (λ j. Element i ∷ Child j ∷ []) S M R s p d q a (a.start + 1 + i * (d + q)) (1 + element_count es * (d + q)) ws ts us place bits bytes (element_content s p d q a es i less) held long.0 long.1 (struct_starts place (record { segment = a.segment; start = a.start + 1 + i * (d + q); size = record { data_words = d; pointers = q } }) placed) takes fills few in
     (vs, hold, subst (λ X. IsReplaced S R s p (Structs d q X) (F vs (up_to q us))) own turns.0)
 
-pub element_content_stopped : ElementContentStopped
+pub element_content_stopped :
+    (S M F R : Segments) (s p d q : ℕ) (es : Elements) (i : ℕ) (ws : List ℕ) (ts us : Trees)
+    (place : StructPlace) (bits : ℕ) (bytes : List ℕ) → IsStored S s p (Structs d q es)
+    → i < element_count es → struct_at es i ≡ Struct ws ts →
+    place ≡ struct_place (record {
+      segment = (target S s p).segment;
+      start = (target S s p).start + 1 + i * (d + q);
+      size = record { data_words = d; pointers = q };
+    })
+    → TakesBytes S M place bits bytes
+    → AreFilled M F place.segment place.pointers_at us → count us < q →
+    IsReplaced F R place.segment (place.pointers_at + count us) Null Null
+    → (vs : List ℕ) × HoldContent vs d bits bytes ×
+    IsReplaced S R s p (Structs d q es) (Structs d q (put_struct es i (Struct vs (up_to q us))))
 element_content_stopped S M K R s p d q es i ws ts us place bits bytes y less is placed takes fills fewer null =
     let a : Target = target S s p in
     let F : List ℕ → Trees → Tree = λ vs os. Structs d q (put_struct es i (Struct vs os)) in

@@ -10,9 +10,14 @@ use Rattle.capnp_format.specs.Means.{Means}
 use Rattle.capnp_format.specs.Forest.{target, target_in}
 use Rattle.capnp_contents.specs.declared.existing.ExistingBytes.{ExistingBytes}
 use Rattle.capnp_contents.specs.Existing.{BytesLieIn, bytes_at, data_in, text_in, ends_in_zero}
+use Rattle.capnp_making.specs.Makes.{CallAt}
 use Rattle.capnp_making.specs.Stored.{IsStored}
 use Rattle.capnp_making.proofs.Leading.{leads_segment}
-use Rattle.capnp_builders.specs.Found.{bytes_given, no_bytes}
+use Rattle.capnp_builders.specs.Found.{bytes_given}
+
+-- A call gives the bytes that are found where t stands, and nothing is changed.
+abbrev pub GivesFoundBytes : (Target → Tree → Result (Option ExistingBytes) ErrorKind) → Result ExistingBytes ErrorKind → CallAt → Tree → Type 0
+GivesFoundBytes found_in result c t = (result ≡ bytes_given c.segment (found_in (target c.old.words c.segment c.at) t)) × (c.new ≡ c.old)
 
 abbrev pub Found : Type 0
 Found = Result (Option ExistingBytes) ErrorKind
@@ -63,6 +68,6 @@ text_inside S s p t b there stored e = let m = stored.means in meant m.0 m.1 t m
 
 -- bytes that were found are what the call gives
 pub bytes_found : (S : Segments) (s : ℕ) (q : Found) (found : Option ExistingBytes) (r : Result ExistingBytes ErrorKind) → q ≡ Ok found → ((b : ExistingBytes) → q ≡ Ok (Some b) → BytesLieIn S b) → IfSome found (λ b. BytesLieIn S b → r ≡ Ok b) →
-    (IsNone found → r ≡ Ok (no_bytes s)) → r ≡ bytes_given s q
+    (IsNone found → r ≡ Ok (record { segment = s; start = 0; length = 0 })) → r ≡ bytes_given s q
 bytes_found S s q (Some b) r e inside some none = some (inside b e) ∙ sym (ap (bytes_given s) e)
 bytes_found S s q None r e inside some none = none refl ∙ sym (ap (bytes_given s) e)

@@ -10,6 +10,7 @@ use Rattle.capnp_words.specs.declared.wire_pointer.ElementSize.{ElementSize}
 use Rattle.capnp_words.specs.declared.wire_pointer.ElementSize.TheVariants.{Pointer}
 use Rattle.capnp_contents.specs.declared.existing.ExistingList.{ExistingList}
 use Rattle.capnp_contents.specs.Existing.{size_of, plain_misfit, structs_misfit, plain_list, struct_list, unless, list_in}
+use Rattle.capnp_making.specs.Makes.{CallAt}
 use Rattle.capnp_making.specs.Stored.{IsStored}
 use Rattle.capnp_making.proofs.Leading.{leads_segment}
 use Rattle.capnp_making.proofs.Zeros.{there}
@@ -64,6 +65,10 @@ meant S n s p c expected (Structs d q es) l there (a, m, k, some, o, claim, tag,
 
 pub found_inside : (S : Segments) (s p : ℕ) (expected : ElementSize) (t : Tree) (l : ExistingList) → s < length S → IsStored S s p t → list_in (target S s p) expected t ≡ Ok (Some l) → IsListPlace S (list_place l)
 found_inside S s p expected t l there stored e = let m = stored.means in meant S m.0 s p m.1 expected t l there m.2 e
+
+-- A call gives the list that is found where t stands, and nothing is changed.
+abbrev pub GivesFoundList : ElementSize → Result ListPlace ErrorKind → CallAt → Tree → Type 0
+GivesFoundList size result c t = (result ≡ list_given c.segment (list_in (target c.old.words c.segment c.at) size t)) × (c.new ≡ c.old)
 
 -- what is given of what is found
 same_list : {E : Type 0} (x y : ListPlace) → ◌≡◌ {A = Result ListPlace E} (Ok x) (Ok y) → x ≡ y

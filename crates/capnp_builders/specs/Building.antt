@@ -6,7 +6,7 @@ use Rattle.capnp_format.specs.Tree.{Tree}
 use Rattle.capnp_arena_traits.specs.View.{View}
 use Rattle.capnp_contents.specs.Existing.{is_unfound}
 use Rattle.capnp_making.specs.Memory.{KeepsMemory, SpendsMemory}
-use Rattle.capnp_making.specs.Stored.{IsStored, Puts}
+use Rattle.capnp_making.specs.Stored.{IsStored}
 use Rattle.capnp_making.specs.Makes.{CallAt, call_at}
 use Rattle.capnp_readers.specs.declared.readers.list_reader.ListPlace.{ListPlace}
 use Rattle.capnp_readers.specs.declared.readers.struct_reader.StructPlace.{StructPlace}
@@ -30,10 +30,6 @@ built view b =
       at = b.at;
       room = (view b.arena.now).room b.segment;
     }
-
--- Whatever value the place had, it has t in its stead.
-abbrev pub Becomes : Building → Building → Tree → Type 0
-Becomes old new t = Puts old.segments new.segments old.segment old.at t
 
 -- the place is there
 abbrev pub IsThere : Building → Type 0

@@ -1,12 +1,13 @@
 -- What a struct of a message that is built has of another struct's content ("Structs").
-use Rattle.std.specs.Prelude.{◌≡◌, ℕ, zero, suc, ◌+◌, ◌-◌, ◌*◌, ◌/◌, ◌%◌, ◌^◌, ◌<◌, List, Result}
-use Rattle.std.specs.Prelude.{slice_index, min}
+use Rattle.std.specs.Prelude.{◌≡◌, ℕ, zero, suc, ◌+◌, ◌-◌, ◌*◌, ◌/◌, ◌%◌, ◌^◌, ◌<◌, List}
+use Rattle.std.specs.Prelude.{slice_index, min, pred, length}
 use Rattle.capnp_words.specs.Meter.{Meter}
 use Rattle.capnp_format.specs.Segments.{Segments, word_at}
-use Rattle.capnp_format.specs.Tree.{Null}
+use Rattle.capnp_format.specs.Tree.{Null, Trees, no_trees, tree}
 use Rattle.capnp_arena_traits.specs.declared.arena.reader_arena.ReaderArena.{Ghosts}
 use Rattle.capnp_arena_traits.specs.View.{View, KeepsLimits}
-use Rattle.capnp_making.specs.Fields.{with_field}
+use Rattle.capnp_making.specs.Fields.{with_field, field_in}
+use Rattle.capnp_making.specs.Made.{nulls}
 use Rattle.capnp_making.specs.Stored.{Puts}
 use Rattle.capnp_readers.specs.declared.readers.struct_reader.StructPlace.{StructPlace}
 use Rattle.capnp_readers.specs.declared.readers.struct_reader.StructReader.{StructReader}
@@ -15,7 +16,6 @@ use Rattle.capnp_objects.specs.Wanted.{plain}
 use Rattle.capnp_readers.specs.Sizes.{pointers_read}
 use Rattle.capnp_copies.specs.Changes.{Change, CopiesChildren, change, CopiesFirst}
 use Rattle.capnp_copies.specs.Rooms.{CanBeCopied}
-use Rattle.capnp_copies.specs.Growth.{TakesAtMost}
 use Rattle.capnp_copies.specs.Originals.{children_original}
 
 -- Byte number i of content of so many bits: the bits behind these are zero.
@@ -47,38 +47,45 @@ AreCleared S R s p (suc n) = (M : Segments) × AreCleared S M s p n × Puts M R 
 abbrev pub pointers_copied : StructPlace → View → View → Meter → Meter → Change
 pointers_copied place old new before after = change plain place.segment place.pointers_at old new before after
 
+-- From S to M content is written in the data section of a struct, and then all its pointers become null.
+abbrev pub TakesBytes : Segments → Segments → StructPlace → ℕ → List ℕ → Type 0
+TakesBytes S M place bits bytes =
+    AreCleared (with_content S place bits bytes) M place.segment place.pointers_at place.pointers
+
+-- d data words, of which each byte is that of content.
+abbrev pub HoldContent : List ℕ → ℕ → ℕ → List ℕ → Type 0
+HoldContent ws d bits bytes =
+    (length ws ≡ d) × ((i : ℕ) → i < 8 * d → field_in ws (8 * i) 8 ≡ content_byte bits bytes i)
+
+-- Children with nulls behind them, n in all.
+abbrev pub up_to : ℕ → Trees → Trees
+up_to n no_trees = nulls n
+up_to n (tree t ts) = tree t (up_to (pred n) ts)
+
 module _ {A : Type 0} (g : Ghosts A) where
   -- The data of a struct that is read stands in the data section of a struct, as much as both have,
   -- and zeros behind it; and then the pointers of that became null.
   pub record TakesData (value : StructReader A g) (place : StructPlace) (old new : View) : Type 0 where
-    pub cleared : AreCleared (with_content old.words place value.bits value.content.now) new.words
-        place.segment place.pointers_at place.pointers
+    pub cleared : TakesBytes old.words new.words place value.bits value.content.now
     pub null : (i : ℕ) → i < place.pointers → word_at new.words place.segment (place.pointers_at + i) ≡ 0
     pub limits : KeepsLimits old new
-
-  -- How many pointers both have.
-  abbrev pub both_have : StructReader A g → StructPlace → ℕ
-  both_have value place = min place.pointers value.pointer_count
 
   -- The data is taken, and then as many pointers are copied as both have; or copying these is
   -- refused by the name k.
   abbrev pub TakesContent : StructReader A g → StructPlace → Change → Type 0
   TakesContent value place c = (mid : View) × TakesData value place c.old mid ×
-      CopiesChildren (pointers_read g value) (both_have value place) (record c { old = mid })
+      CopiesChildren (pointers_read g value) (min place.pointers value.pointer_count)
+      (record c { old = mid })
 
   abbrev pub StopsAtContent : StructReader A g → StructPlace → Change → ErrorKind → Type 0
   StopsAtContent value place c k =
       (mid : View) × TakesData value place c.old mid ×
-      CopiesFirst (pointers_read g value) (both_have value place) (record c { old = mid }) k
+      CopiesFirst (pointers_read g value) (min place.pointers value.pointer_count)
+      (record c { old = mid }) k
 
   -- The pointers that both have can be read, and the words of what they mean fit behind those of
   -- the struct's segment.
   abbrev pub ContentFits : StructReader A g → StructPlace → Change → Type 0
   ContentFits value place c =
       CanBeCopied (children_original (pointers_read g value)
-      (both_have value place)) c.form c.before c.old c.segment
-
-  -- Words are taken for the copies of these pointers alone.
-  abbrev pub TakesForContent : {B E : Type 0} → Result B E → StructReader A g → StructPlace → Change → Type 0
-  TakesForContent result value place c =
-      TakesAtMost result (children_original (pointers_read g value) (both_have value place)) c
+      (min place.pointers value.pointer_count)) c.form c.before c.old c.segment

@@ -1,8 +1,9 @@
 -- Defaults: what stands for a null pointer ("Default Values").
-use Rattle.std.specs.Prelude.{◌≡◌, ◌⊎◌, ℕ, ◌-◌, ◌/◌, ◌^◌, ◌<◌, ◌≤◌, List, [], ◌∷◌, if◌then◌else◌}
-use Rattle.std.specs.Prelude.{nat_eq, length, true, false, Option, Some, None, IfSome, Result, Err}
+use Rattle.std.specs.Prelude.{◌≡◌, ◌⊎◌, ℕ, ◌-◌, ◌/◌, ◌^◌, ◌<◌, ◌≤◌, List, if◌then◌else◌}
+use Rattle.std.specs.Prelude.{nat_eq, length, slice_get, true, false, Option, Some, None, IfSome, Result, Err}
 use Rattle.std.specs.Prelude.{IsOk, IsErrAnd, ⊤}
 use Rattle.std.specs.Borrow.{Bor}
+use Rattle.std.specs.Option.{option_map_or}
 use Rattle.capnp_words.specs.declared.error.ErrorKind.{ErrorKind}
 use Rattle.capnp_words.specs.declared.error.ErrorKind.TheVariants.{ExistingPointerIsNotAList}
 use Rattle.capnp_words.specs.declared.error.ErrorKind.TheVariants.{MessageContainsOutOfBoundsPointer}
@@ -17,7 +18,7 @@ use Rattle.capnp_objects.specs.Outcomes.{MeansThere}
 use Rattle.capnp_objects.specs.Reading.{Reading}
 use Rattle.capnp_objects.specs.Source.{default_segment, default_segments}
 use Rattle.capnp_objects.specs.Wanted.{of_default}
-use Rattle.capnp_copies.specs.Changes.{Change, IsCopiedInRoom, IsTooLarge, LacksRoom, change}
+use Rattle.capnp_copies.specs.Changes.{IsCopiedInRoom, IsTooLarge, LacksRoom, change}
 use Rattle.capnp_copies.specs.Growth.{MakesAtMost}
 use Rattle.capnp_copies.specs.Originals.{value_original}
 use Rattle.capnp_copies.specs.Rooms.{CanBeCopied}
@@ -36,17 +37,14 @@ default_root bytes =
       at = 0;
     }
 
--- The copy of a default to position at of segment id.
-abbrev pub default_copy : ℕ → ℕ → View → View → Change
-default_copy id at old new = change of_default id at old new (unused None) (unused None)
-
 -- Why a default isn't copied, by the name k: what its first word leads to has this fault, of which
 -- a capability is one; or there is no room for an object of it.
-abbrev pub RefusesDefault : List ℕ → Change → ErrorKind → Type 0
+abbrev pub RefusesDefault : List ℕ → CallAt → ErrorKind → Type 0
 RefusesDefault bytes c k =
+    let copy = change of_default c.segment c.at c.old c.new (unused None) (unused None) in
     HasFault of_default (default_root bytes) k
-    ⊎ (LacksRoom (value_original (default_root bytes)) c k ×
-    IsTooLarge (value_original (default_root bytes)) c)
+    ⊎ (LacksRoom (value_original (default_root bytes)) copy k ×
+    IsTooLarge (value_original (default_root bytes)) copy)
 
 -- A default is of fewer than 2^32 words.
 abbrev pub IsShortDefault : Option (Bor (List ℕ)) → Type 0
@@ -59,15 +57,12 @@ pub data DefaultUse : Type 0 where
   denied : ErrorKind → DefaultUse
   copied : List ℕ → DefaultUse
 
--- What a call that finds null does with a default of these words; `of_null` is for one whose first
--- word is null.
-abbrev pub use_of_words : DefaultUse → List ℕ → List ℕ → DefaultUse
-use_of_words of_null bytes [] = denied MessageContainsOutOfBoundsPointer
-use_of_words of_null bytes (x ∷ xs) = if nat_eq x 0 then of_null else copied bytes
-
--- A default is for null alone.
+-- What a call does with a default where t stands: a default is for null alone, and has a first
+-- word. `of_null` is for one whose first word is null.
 abbrev pub default_use : DefaultUse → Option (Bor (List ℕ)) → Tree → DefaultUse
-default_use of_null (Some d) Null = use_of_words of_null d.now (words_of d.now)
+default_use of_null (Some d) Null =
+    option_map_or (λ x. if nat_eq x 0 then of_null else copied d.now) (slice_get (words_of d.now) 0)
+    (denied MessageContainsOutOfBoundsPointer)
 default_use of_null default t = ignored
 
 -- A default whose first word is null is as none to a struct and a list, and no list to a text and data.
@@ -80,7 +75,7 @@ blob_default default t = default_use (denied ExistingPointerIsNotAList) default 
 
 -- There is no default, or one whose first word is null: an object isn't put in place of null.
 abbrev pub IsIgnoredDefault : Option (Bor (List ℕ)) → Type 0
-IsIgnoredDefault default = object_default default Null ≡ ignored
+IsIgnoredDefault default = default_use ignored default Null ≡ ignored
 
 -- The value u of a default, which has no capabilities, is stored in place of null, and no more
 -- words are taken than reading it costs.
@@ -95,27 +90,22 @@ pub record PutsDefault (bytes : List ℕ) (c : CallAt) (u : Tree) : Type 0 where
 
 -- The copy of a default is refused by the name k: null stands, and new words are zero.
 pub record DropsDefault (bytes : List ℕ) (c : CallAt) (k : ErrorKind) : Type 0 where
-  pub named : RefusesDefault bytes (default_copy c.segment c.at c.old c.new) k
+  pub named : RefusesDefault bytes c k
   pub replaced : IsReplaced c.old.words c.new.words c.segment c.at Null Null
   pub memory : SpendsMemory c.old c.new k
   pub taken : (value_original (default_root bytes)).takes_until of_default (unused None)
       (unused None) (MakesAtMost c.segment c.old c.new)
 
--- A default's value is put in place of null, and from there on the call does what P says of a value
--- that stands.
-pub record OnDefault (bytes : List ℕ) (c : CallAt) (P : CallAt → Tree → Type 0) : Type 0 where
-  pub mid : View
-  pub value : Tree
-  pub put : PutsDefault bytes (record c { new = mid }) value
-  pub does : P (record c { old = mid }) value
-
 -- What a call does where t stands, by its use of a default: as P says of t; or it is refused, and
--- nothing is changed; or as P says of the default's value, or its copy is refused.
+-- nothing is changed; or the default's value is put in place of null, and from there on the call
+-- does what P says of it, or its copy is refused.
 abbrev pub WithDefault : {B : Type 0} → DefaultUse → CallAt → Tree → (CallAt → Tree → Type 0) →
     Result B ErrorKind → Type 0
 WithDefault ignored c t P result = P c t
 WithDefault (denied k) c t P result = (result ≡ Err k) × (c.new ≡ c.old)
-WithDefault (copied bytes) c t P result = OnDefault bytes c P ⊎ IsErrAnd result (DropsDefault bytes c)
+WithDefault (copied bytes) c t P result =
+    ((mid : View) × (value : Tree) × PutsDefault bytes (record c { new = mid }) value ×
+    P (record c { old = mid }) value) ⊎ IsErrAnd result (DropsDefault bytes c)
 
 -- The value of these bytes has no fault, and its words fit behind those of segment id.
 abbrev pub DefaultCopyFits : List ℕ → View → ℕ → Type 0
@@ -138,12 +128,3 @@ FitsWithDefault (copied bytes) v s p Fits =
 -- A default is put where the call uses one, and nothing else is done.
 abbrev pub PutsDefaultOver : DefaultUse → CallAt → Tree → Result ⊤ ErrorKind → Type 0
 PutsDefaultOver w c t result = WithDefault w c t (λ d u. IsOk result × (d.new ≡ d.old)) result
-
--- There is a default with a first word, which is null.
-abbrev pub HasNullWord : List ℕ → Type 0
-HasNullWord [] = ⊥
-HasNullWord (x ∷ xs) = x ≡ 0
-
-abbrev pub IsNullDefault : Option (Bor (List ℕ)) → Type 0
-IsNullDefault (Some d) = HasNullWord (words_of d.now)
-IsNullDefault None = ⊥

@@ -26,10 +26,6 @@ void_list id =
       count = 0;
     }
 
--- No bytes, in segment id.
-abbrev pub no_bytes : ℕ → ExistingBytes
-no_bytes id = record { segment = id; start = 0; length = 0 }
-
 -- What a call gives at a pointer of segment id, by what is found: a list of none, or no bytes,
 -- where that is null.
 abbrev pub list_given : ℕ → Result (Option ExistingList) ErrorKind → Result ListPlace ErrorKind
@@ -39,30 +35,22 @@ list_given id (Err k) = Err k
 
 abbrev pub bytes_given : ℕ → Result (Option ExistingBytes) ErrorKind → Result ExistingBytes ErrorKind
 bytes_given id (Ok (Some b)) = Ok b
-bytes_given id (Ok None) = Ok (no_bytes id)
+bytes_given id (Ok None) = Ok (record { segment = id; start = 0; length = 0 })
 bytes_given id (Err k) = Err k
 
--- A call gives what is found where t stands, a list or bytes, and nothing is changed.
-abbrev pub GivesFoundList : ElementSize → Result ListPlace ErrorKind → CallAt → Tree → Type 0
-GivesFoundList size result c t =
-    (result ≡ list_given c.segment (list_in (target c.old.words c.segment c.at) size t)) ×
-    (c.new ≡ c.old)
-
-abbrev pub GivesFoundBytes : (Target → Tree → Result (Option ExistingBytes) ErrorKind) →
-    Result ExistingBytes ErrorKind → CallAt → Tree → Type 0
-GivesFoundBytes found_in result c t =
-    (result ≡ bytes_given c.segment (found_in (target c.old.words c.segment c.at) t)) ×
-    (c.new ≡ c.old)
-
--- A call puts its default in place of null, and then gives the list that stands; or the bytes,
--- which are data or a text.
+-- A call puts its default in place of null, and then gives the list that is found where u stands, and
+-- nothing is changed; or the bytes, which are data or a text.
 abbrev pub FindsList : ElementSize → Option (Bor (List ℕ)) → Result ListPlace ErrorKind → CallAt →
     Tree → Type 0
 FindsList size default result c t =
-    WithDefault (object_default default t) c t (GivesFoundList size result) result
+    WithDefault (object_default default t) c t
+    (λ d u. (result ≡ list_given d.segment (list_in (target d.old.words d.segment d.at) size u)) ×
+    (d.new ≡ d.old)) result
 
 abbrev pub FindsBytes :
     (Target → Tree → Result (Option ExistingBytes) ErrorKind) → Option (Bor (List ℕ)) →
     Result ExistingBytes ErrorKind → CallAt → Tree → Type 0
 FindsBytes found_in default result c t =
-    WithDefault (blob_default default t) c t (GivesFoundBytes found_in result) result
+    WithDefault (blob_default default t) c t
+    (λ d u. (result ≡ bytes_given d.segment (found_in (target d.old.words d.segment d.at) u)) ×
+    (d.new ≡ d.old)) result

@@ -6,6 +6,7 @@ use Rattle.capnp_format.specs.Segments.{segment}
 use Rattle.capnp_format.specs.Tree.{Tree, Null}
 use Rattle.capnp_format.specs.Canonical.{encoding, word_count}
 use Rattle.capnp_arena_traits.specs.View.{View, KeepsLimits}
+use Rattle.capnp_making.specs.Makes.{CallAt}
 use Rattle.capnp_making.specs.Memory.{KeepsMemory, SpendsMemory}
 use Rattle.capnp_making.specs.Stored.{Puts}
 use Rattle.capnp_making.specs.Zeroed.{IsPruned}
@@ -14,31 +15,24 @@ use Rattle.capnp_objects.specs.Reading.{Reading}
 use Rattle.capnp_copies.specs.Changes.{Change, StayInSegment, IsCopiedInRoom, RefusesToCopy, change}
 use Rattle.capnp_copies.specs.Forms.{form_of, kept}
 use Rattle.capnp_copies.specs.Originals.{Original}
-use Rattle.capnp_builders.specs.declared.builders.PointerBuilder.{PointerBuilder}
 
--- A copy to the place of a builder: the builder and the read limiter, before it and after it.
-abbrev pub copying : {A : Type 0} → (A → View) → Bool → PointerBuilder A → PointerBuilder A →
-    Meter → Meter → Change
-copying view canonicalize b b' m m' =
-    change (form_of canonicalize) b.segment b.at (view b.arena.now) (view b'.arena.now) m m'
-
--- What the place held becomes zero first, and its words stay allocated. Then P says where the words
--- of what is kept stand.
-pub record OnceCleared (P : Change → Type 0) (c : Change) : Type 0 where
-  pub cleared : View
-  pub zeroed : IsPruned c.old.words cleared.words
-  pub limits : KeepsLimits c.old cleared
-  pub null : Puts c.old.words cleared.words c.segment c.at Null
-  pub stands : P (record c { old = cleared })
+-- A call that copies, as it stands or in canonical form, with the read limiter before it and after it.
+abbrev pub copying : CallAt → Bool → Meter → Meter → Change
+copying c canonicalize m m' = change (form_of canonicalize) c.segment c.at c.old c.new m m'
 
 -- What is copied is read, and whatever value the place had, what is kept of the value that was read
--- stands in its stead.
+-- stands in its stead. What the place held becomes zero first, and its words stay allocated; then the
+-- words of what is kept are put behind those of the segment, where they have room.
 pub record PutsCopy (o : Original Tree) (c : Change) : Type 0 where
   pub value : Tree
   pub is_read : o.reads c.form c.before c.after value
   pub put : Puts c.old.words c.new.words c.segment c.at (kept c.form value)
   pub memory : KeepsMemory c.old c.new
-  pub stands : OnceCleared (λ d. IsCopiedInRoom d.old d.new d.segment d.at (kept d.form value)) c
+  pub cleared : View
+  pub zeroed : IsPruned c.old.words cleared.words
+  pub limits : KeepsLimits c.old cleared
+  pub null : Puts c.old.words cleared.words c.segment c.at Null
+  pub stands : IsCopiedInRoom cleared c.new c.segment c.at (kept c.form value)
 
 -- The copy is refused by the name k, and leaves null in the stead of whatever value the place had.
 pub record LeavesCleared (o : Original Tree) (c : Change) (k : ErrorKind) : Type 0 where
@@ -46,14 +40,14 @@ pub record LeavesCleared (o : Original Tree) (c : Change) (k : ErrorKind) : Type
   pub cleared : Puts c.old.words c.new.words c.segment c.at Null
   pub memory : SpendsMemory c.old c.new k
 
--- It is read, and a copy that stays in the segment is all of the segment.
+-- The source is read; if its copy stays in the segment, the segment's words are exactly that copy.
 abbrev pub FillsSegment : Reading → Change → Type 0
 FillsSegment r c =
     (t : Tree) × Reads c.form r c.before c.after t
     × (StayInSegment c.old c.new c.segment (word_count (kept c.form t)) →
     segment c.new.words c.segment ≡ encoding (kept c.form t))
 
--- It is read, and its copy is all of the message, where that has one segment.
+-- The source is read; if the message has but one segment, its words are exactly the copy.
 abbrev pub FillsMessage : Reading → Change → Type 0
 FillsMessage r c =
     (t : Tree) × Reads c.form r c.before c.after t ×

@@ -6,5 +6,4 @@ pub mod Reads
 pub mod Content
 pub mod Defaults
 pub mod Kept
-pub mod Laws
 pub mod Opening

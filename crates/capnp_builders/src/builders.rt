@@ -12,6 +12,7 @@ ghost use Rattle.capnp_words.specs.Sizes.{size_number};
 ghost use Rattle.capnp_making.specs.Made.{zero_struct, zero_structs, zero_list, list_words};
 ghost use Rattle.capnp_making.specs.Makes.{MakesObject, ReachesArena};
 ghost use Rattle.capnp_making.specs.Near.{LeadsToEnd};
+ghost use Rattle.capnp_making.specs.Stored.{Puts};
 ghost use Rattle.capnp_making.specs.Zeroed.{IsPruned, IsPrunedBut};
 ghost use Rattle.capnp_builders.specs.Places.{IsAligned, IsStructOf, IsListOf};
 ghost use Rattle.capnp_words.specs.declared.error.ErrorKind.{ErrorKind};
@@ -71,7 +72,7 @@ pub struct PointerBuilder<'a, A> {
 impl<'a, A: BuilderArena> PointerBuilder<'a, A> {
     ghost use Rattle.std.specs.Borrow.{sem, follows, Array, u8 as byte};
     ghost use Rattle.capnp_arena_traits.specs.View.{KeepsLimits};
-    ghost use Rattle.capnp_builders.specs.Building.{Becomes, ChangesWords, GivesList, GivesStruct, IsNull, IsThere, KeepsBuilder, built, calling, calling_last};
+    ghost use Rattle.capnp_builders.specs.Building.{ChangesWords, GivesList, GivesStruct, IsNull, IsThere, KeepsBuilder, built, calling, calling_last};
     ghost use Rattle.capnp_builders.specs.Kept.{PutsCopy, LeavesCleared, FillsSegment, FillsMessage, copying};
     ghost use Rattle.capnp_builders.specs.contracts.builders.PointerBuilder.{the_row};
     ghost use mir.Syntax.{named};
@@ -139,7 +140,8 @@ impl<'a, A: BuilderArena> PointerBuilder<'a, A> {
     /// These words stay allocated.
     pub fn clear(&mut self)
         requires { IsThere (built A.view self.old) }
-        ensures cleared { Becomes (built A.view self.old) (built A.view self.new) Null }
+        ensures cleared { Puts (A.view self.old.arena.now).words
+            (A.view self.new.arena.now).words self.old.segment self.old.at Null }
         ensures null { IsNull (built A.view self.new) }
         ensures only { IsPruned (A.view self.old.arena.now).words
             (A.view self.new.arena.now).words }
@@ -153,7 +155,8 @@ impl<'a, A: BuilderArena> PointerBuilder<'a, A> {
     /// Makes the pointer a capability, by its index ("Capabilities (Interfaces)").
     pub fn set_capability(&mut self, index: u32)
         requires { IsThere (built A.view self.old) }
-        ensures made { Becomes (built A.view self.old) (built A.view self.new) (Capability index) }
+        ensures made { Puts (A.view self.old.arena.now).words
+            (A.view self.new.arena.now).words self.old.segment self.old.at (Capability index) }
         ensures only { IsPrunedBut (A.view self.old.arena.now).words
             (A.view self.new.arena.now).words self.old.segment self.old.at (capability_word index) }
         ensures there { IsThere (built A.view self.new) }
@@ -487,27 +490,27 @@ impl<'a, A: BuilderArena> PointerBuilder<'a, A> {
         requires place { IsThere (built A.view self.old) }
         ensures copied { IfOk result (λ _. PutsCopy
             (value_original (reading B.ReaderArena from.entry))
-            (copying A.view canonicalize self.old self.new lim.old lim.new)) }
+            (copying (calling A.view self.old self.new) canonicalize lim.old lim.new)) }
         ensures near { IsNull (built A.view self.old)
             → IfOk result
             (λ _. MakesCopy (value_original (reading B.ReaderArena from.entry))
-            (copying A.view canonicalize self.old self.new lim.old lim.new)) }
+            (copying (calling A.view self.old self.new) canonicalize lim.old lim.new)) }
         ensures fresh { segment (A.view self.old.arena.now).words self.old.segment ≡ 0 ∷ []
             → IfOk result
             (λ _. FillsSegment (reading B.ReaderArena from.entry)
-            (copying A.view canonicalize self.old self.new lim.old lim.new)) }
+            (copying (calling A.view self.old self.new) canonicalize lim.old lim.new)) }
         ensures alone { (A.view self.old.arena.now).words ≡ (0 ∷ []) ∷ []
             → IfOk result
             (λ _. FillsMessage (reading B.ReaderArena from.entry)
-            (copying A.view canonicalize self.old self.new lim.old lim.new)) }
+            (copying (calling A.view self.old self.new) canonicalize lim.old lim.new)) }
         ensures fits { CanBeCopied (value_original (reading B.ReaderArena from.entry))
             (form_of canonicalize) lim.old (A.view self.old.arena.now) self.old.segment
             → IsOk result }
         ensures refused { IfErr result (LeavesCleared
             (value_original (reading B.ReaderArena from.entry))
-            (copying A.view canonicalize self.old self.new lim.old lim.new)) }
+            (copying (calling A.view self.old self.new) canonicalize lim.old lim.new)) }
         ensures taken { TakesAtMost result (value_original (reading B.ReaderArena from.entry))
-            (copying A.view canonicalize self.old self.new lim.old lim.new) }
+            (copying (calling A.view self.old self.new) canonicalize lim.old lim.new) }
         ensures there { IsThere (built A.view self.new) }
         ensures builder { KeepsBuilder self.old self.new }
     {
@@ -542,14 +545,14 @@ impl<'a, A: BuilderArena> PointerBuilder<'a, A> {
     ) -> Result<(), ErrorKind>
         requires place { IsThere (built A.view self.old) }
         ensures copied { IfOk result (λ _. PutsCopy (struct_read B.ReaderArena value.now)
-            (copying A.view canonicalize self.old self.new lim.old lim.new)) }
+            (copying (calling A.view self.old self.new) canonicalize lim.old lim.new)) }
         ensures fits { CanBeCopied (struct_read B.ReaderArena value.now)
             (form_of canonicalize) lim.old (A.view self.old.arena.now) self.old.segment
             → IsOk result }
         ensures refused { IfErr result (LeavesCleared (struct_read B.ReaderArena value.now)
-            (copying A.view canonicalize self.old self.new lim.old lim.new)) }
+            (copying (calling A.view self.old self.new) canonicalize lim.old lim.new)) }
         ensures taken { TakesAtMost result (struct_read B.ReaderArena value.now)
-            (copying A.view canonicalize self.old self.new lim.old lim.new) }
+            (copying (calling A.view self.old self.new) canonicalize lim.old lim.new) }
         ensures wide { (k : ErrorKind) → (struct_read B.ReaderArena value.now).exceeds
             (form_of canonicalize) k → (result ≡ Err k) × (lim.new ≡ lim.old) }
         ensures there { IsThere (built A.view self.new) }
@@ -591,14 +594,14 @@ impl<'a, A: BuilderArena> PointerBuilder<'a, A> {
     ) -> Result<(), ErrorKind>
         requires place { IsThere (built A.view self.old) }
         ensures copied { IfOk result (λ _. PutsCopy (list_read B.ReaderArena value.now)
-            (copying A.view canonicalize self.old self.new lim.old lim.new)) }
+            (copying (calling A.view self.old self.new) canonicalize lim.old lim.new)) }
         ensures fits { CanBeCopied (list_read B.ReaderArena value.now)
             (form_of canonicalize) lim.old (A.view self.old.arena.now) self.old.segment
             → IsOk result }
         ensures refused { IfErr result (LeavesCleared (list_read B.ReaderArena value.now)
-            (copying A.view canonicalize self.old self.new lim.old lim.new)) }
+            (copying (calling A.view self.old self.new) canonicalize lim.old lim.new)) }
         ensures taken { TakesAtMost result (list_read B.ReaderArena value.now)
-            (copying A.view canonicalize self.old self.new lim.old lim.new) }
+            (copying (calling A.view self.old self.new) canonicalize lim.old lim.new) }
         ensures long { (k : ErrorKind) → (list_read B.ReaderArena value.now).exceeds
             (form_of canonicalize) k → (result ≡ Err k) × (lim.new ≡ lim.old) }
         ensures there { IsThere (built A.view self.new) }

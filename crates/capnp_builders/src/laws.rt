@@ -1,29 +1,82 @@
 //! What follows of the calls that copy the content of a struct into a struct that a message has. Each
 //! function does nothing: its contract is the law, proved for all messages.
-ghost use Rattle.capnp_builders.specs.Laws.{ContentTaken, ContentStopped, ElementContentTaken, ElementContentStopped};
+ghost use Rattle.std.specs.Prelude.{◌≡◌, ℕ, ◌+◌, ◌*◌, ◌<◌, ◌≤◌, List, length};
+ghost use Rattle.capnp_format.specs.Forest.{target};
+ghost use Rattle.capnp_format.specs.Segments.{Segments};
+ghost use Rattle.capnp_format.specs.Tree.{Null, Struct, Structs, Trees, Elements, count, element_count};
+ghost use Rattle.capnp_making.specs.Filled.{AreFilled};
+ghost use Rattle.capnp_making.specs.Memory.{start_of};
+ghost use Rattle.capnp_making.specs.Path.{struct_at, put_struct};
+ghost use Rattle.capnp_making.specs.Stored.{IsStored, IsReplaced};
+ghost use Rattle.capnp_readers.specs.declared.readers.struct_reader.StructPlace.{StructPlace};
+ghost use Rattle.capnp_widening.specs.Opening.{existing_struct};
+ghost use Rattle.capnp_builders.specs.Content.{TakesBytes, HoldContent, up_to};
+ghost use Rattle.capnp_builders.specs.Places.{struct_place};
 
 /// Where content is taken and the pointers are copied, the pointer that leads to the struct stores one
 /// struct: its data words are of the content, its children the copies, with nulls behind them. It starts
 /// where it did, and nothing else of the message is changed ("Structs").
 pub fn content_taken()
-    ensures { ContentTaken }
+    ensures { (S M R : Segments) (s p : ℕ) (ws : List ℕ) (ts us : Trees) (place : StructPlace)
+        (bits : ℕ) (bytes : List ℕ) → IsStored S s p (Struct ws ts)
+        → place ≡ struct_place (existing_struct (start_of (target S s p))
+        (record { data_words = length ws; pointers = count ts }))
+        → TakesBytes S M place bits bytes
+        → AreFilled M R place.segment place.pointers_at us → count us ≤ count ts
+        → (vs : List ℕ) × HoldContent vs (length ws) bits bytes
+        × IsReplaced S R s p (Struct ws ts) (Struct vs (up_to (count ts) us))
+        × (target R s p ≡ target S s p) }
 {}
 
-/// Where the copy of a pointer is refused, it stores the struct with the copies made before, and with
-/// nulls behind them.
+/// Where the copy of a pointer is refused, which leaves it null, the struct is stored with the copies made
+/// before, and with nulls behind them.
 pub fn content_stopped()
-    ensures { ContentStopped }
+    ensures { (S M F R : Segments) (s p : ℕ) (ws : List ℕ) (ts us : Trees) (place : StructPlace)
+        (bits : ℕ) (bytes : List ℕ) → IsStored S s p (Struct ws ts)
+        → place ≡ struct_place (existing_struct (start_of (target S s p))
+        (record { data_words = length ws; pointers = count ts }))
+        → TakesBytes S M place bits bytes
+        → AreFilled M F place.segment place.pointers_at us → count us < count ts
+        → IsReplaced F R place.segment (place.pointers_at + count us) Null Null
+        → (vs : List ℕ) × HoldContent vs (length ws) bits bytes
+        × IsReplaced S R s p (Struct ws ts) (Struct vs (up_to (count ts) us))
+        × (target R s p ≡ target S s p) }
 {}
 
 /// Where an element of a list of structs takes content and the pointers are copied, the pointer that leads
 /// to the list stores it with that element, which has the content, and nothing else of the message is
 /// changed ("Lists").
 pub fn element_content_taken()
-    ensures { ElementContentTaken }
+    ensures { (S M R : Segments) (s p d q : ℕ) (es : Elements) (i : ℕ) (ws : List ℕ)
+        (ts us : Trees) (place : StructPlace) (bits : ℕ) (bytes : List ℕ)
+        → IsStored S s p (Structs d q es) → i < element_count es → struct_at es i ≡ Struct ws ts
+        → place ≡ struct_place (record {
+          segment = (target S s p).segment;
+          start = (target S s p).start + 1 + i * (d + q);
+          size = record { data_words = d; pointers = q };
+        })
+        → TakesBytes S M place bits bytes
+        → AreFilled M R place.segment place.pointers_at us → count us ≤ q
+        → (vs : List ℕ) × HoldContent vs d bits bytes
+        × IsReplaced S R s p (Structs d q es)
+        (Structs d q (put_struct es i (Struct vs (up_to q us)))) }
 {}
 
 /// Where the copy of a pointer of the element is refused, the pointer that leads to the list stores it with
 /// that element, which has the copies made before, and nulls behind them.
 pub fn element_content_stopped()
-    ensures { ElementContentStopped }
+    ensures { (S M F R : Segments) (s p d q : ℕ) (es : Elements) (i : ℕ) (ws : List ℕ)
+        (ts us : Trees) (place : StructPlace) (bits : ℕ) (bytes : List ℕ)
+        → IsStored S s p (Structs d q es) → i < element_count es → struct_at es i ≡ Struct ws ts
+        → place ≡ struct_place (record {
+          segment = (target S s p).segment;
+          start = (target S s p).start + 1 + i * (d + q);
+          size = record { data_words = d; pointers = q };
+        })
+        → TakesBytes S M place bits bytes
+        → AreFilled M F place.segment place.pointers_at us → count us < q
+        → IsReplaced F R place.segment (place.pointers_at + count us) Null Null
+        → (vs : List ℕ) × HoldContent vs d bits bytes
+        × IsReplaced S R s p (Structs d q es)
+        (Structs d q (put_struct es i (Struct vs (up_to q us)))) }
 {}

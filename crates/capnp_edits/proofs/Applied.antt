@@ -1,5 +1,5 @@
 -- What an edit leaves of a forest.
-use Rattle.std.proofs.Common.{◌≡◌, ◌⊎◌, inl, inr, Bool, ℕ, zero, suc, pred, ◌+◌, ◌-◌, ◌*◌, ◌^◌, ◌<◌, ◌≤◌, true, false, cond, nat_eq, nat_le, List, [], ◌∷◌, length, Option, Some, None, Result, Ok, Err, IsOk, IfErr, OnOk, OnErr, refl, sym, ap, ◌∙◌, subst, arith}
+use Rattle.std.proofs.Common.{◌≡◌, ◌⊎◌, inl, inr, Bool, ℕ, zero, suc, pred, ◌+◌, ◌-◌, ◌*◌, ◌^◌, ◌<◌, ◌≤◌, true, false, cond, nat_eq, nat_le, List, [], ◌∷◌, length, Option, Some, None, Result, Ok, Err, IsOk, IfErr, OnOk, OnErr, refl, sym, ap, ◌∙◌, subst, arith, map}
 use Rattle.std.specs.Option.{option_map_or}
 use Rattle.std.specs.Prelude.{MatchOption}
 use Rattle.std.proofs.lemmas.Bool.Decides.{nat_tests}
@@ -33,22 +33,23 @@ use Rattle.capnp_readers.specs.declared.readers.PointerPlace.{PointerPlace}
 use Rattle.capnp_widening.specs.Rooms.{is_allocation_name}
 use Rattle.capnp_words.specs.declared.wire_pointer.StructSize.{StructSize}
 use Rattle.capnp_edits.specs.declared.edit.Edit.{Edit}
-use Rattle.capnp_edits.specs.Paths.{EndValue, PointerTo, ElementOf, path_of, found, IsElementFound, IsPathFound}
+use Rattle.capnp_edits.specs.Paths.{EndValue, PointerTo, ElementOf, found, IsElementFound, IsPathFound, step_of}
 use Rattle.capnp_edits.specs.declared.edit.tasks.Task.{Task}
 use Rattle.capnp_edits.specs.declared.edit.tasks.Task.TheVariants.{Make, Point, InStruct, Write, Search, CopyRoot}
 use Rattle.capnp_edits.specs.declared.edit.tasks.NewObject.{NewObject}
 use Rattle.capnp_edits.specs.declared.edit.tasks.NewObject.TheVariants.{ZeroStruct}
 use Rattle.capnp_edits.specs.declared.edit.tasks.Number.{Number}
 use Rattle.capnp_edits.specs.declared.edit.tasks.Part.{Part}
+use Rattle.capnp_edits.specs.declared.edit.tasks.Part.TheVariants.{ListElement, TextByte, DataByte}
 use Rattle.capnp_edits.specs.declared.edit.tasks.StructChange.{StructChange}
 use Rattle.capnp_edits.specs.declared.edit.tasks.StructChange.TheVariants.{Bits, Content}
 use Rattle.capnp_edits.specs.declared.edit.path.PathEnd.TheVariants.{Pointer as AtPointer, Element as AtElement}
 use Rattle.capnp_edits.specs.Tasks.{task_of}
-use Rattle.capnp_edits.specs.Edits.{refusal_of, bits_of, value_of, Making, becomes, denied, struct_with, struct_changed, made_at, is_of_path, DoesAt, Leaves, are_written, are_outside, PutsBits, Takes, IsApplied, refusals_after}
+use Rattle.capnp_edits.specs.Edits.{refusal_of, bits_of, value_of, Making, becomes, denied, struct_with, made_at, is_of_path, DoesAt, Leaves, are_written, are_outside, PutsBits, Takes, IsApplied, refusals_after}
 use Rattle.capnp_edits.specs.Steps.{DoesThere, IsDoneAt, LeadsThere}
 use Rattle.capnp_edits.proofs.Steps.{first, same_some, struct_of}
 use Rattle.capnp_edits.proofs.Taken.{KeepsLengths, writes}
-use Rattle.capnp_edits.proofs.Ways.{as_it_stands, is_allocated, is_denied, is_done, is_not_allocated, leads_nowhere, leads_to, takes}
+use Rattle.capnp_edits.proofs.Ways.{as_it_stands, is_allocated, is_denied, is_done, is_not_allocated, leads_nowhere, leads_to, struct_changed, takes}
 use Rattle.capnp_edits.proofs.Walks.{found-append, update-append}
 
 -- What is done where a task is, at a pointer, whatever that means; and what an edit's task makes, if its numbers are in range.
@@ -150,12 +151,12 @@ leads_behind (Err k) c n some h = tt
 
 -- a call that makes an object
 pub object_made : {A : Type 0} (result : Result A ErrorKind) (old new : View) (place : PointerPlace) (object : NewObject) (n : ℕ) → n ≡ word_count (value_of object) →
-    MakesObject result (call_at place.segment place.word old new) (value_of object) n → OnOk result (LeadsThere (call_at place.segment place.word old new) object) → IsDoneAt old new place (Make object) (refusal_of result)
+    MakesObject result (call_at place.segment place.word old new) (value_of object) n → OnOk result (LeadsThere (call_at place.segment place.word old new) object) → IsDoneAt old new (AtPointer place) (Make object) (refusal_of result)
 object_made result old new place object n is made leads =
     value_made result old new place object (subst (MakesObject result (call_at place.segment place.word old new) (value_of object)) is made) leads
   where
     value_made : {A : Type 0} (result : Result A ErrorKind) (old new : View) (place : PointerPlace) (object : NewObject) → MakesObject result (call_at place.segment place.word old new) (value_of object) (word_count (value_of object)) →
-        OnOk result (LeadsThere (call_at place.segment place.word old new) object) → IsDoneAt old new place (Make object) (refusal_of result)
+        OnOk result (LeadsThere (call_at place.segment place.word old new) object) → IsDoneAt old new (AtPointer place) (Make object) (refusal_of result)
     value_made (Ok x) old new place object made leads = record {
       done = λ t stored. record { left = Some (value_of object); leaves = as_it_stands (is_allocated Null (value_of object) refl refl refl); stands = made.made t stored };
       counted = ap (λ (v : View). v.refusals) made.memory.granted.0;
@@ -178,7 +179,7 @@ object_made result old new place object n is made leads =
 
 -- a call that makes none
 pub pointed : (old new : View) (place : PointerPlace) (i : Option ℕ) (u : Tree) → ((t : Tree) → made_at (Point i) (PointerTo t) ≡ becomes u) → Puts old.words new.words place.segment place.word u → KeepsLimits old new → KeepsLengths old.words new.words →
-    IsDoneAt old new place (Point i) None
+    IsDoneAt old new (AtPointer place) (Point i) None
 pointed old new place i u makes puts limits lengths = record {
   done = λ t stored. record { left = Some u; leaves = as_it_stands (is_done u (makes t) refl refl); stands = puts t stored };
   counted = ap (λ (v : View). v.refusals) limits;
@@ -190,7 +191,7 @@ pointed old new place i u makes puts limits lengths = record {
 
 -- a call that writes a part
 pub part_done : {A : Type 0} (result : Result A ErrorKind) (old new : View) (place : PointerPlace) (part : Part) → Does old.words new.words place (Write part) (refusal_of result) → KeepsLengths old.words new.words → KeepsLimits old new →
-    IfErr result (λ k. is_of_path k ≡ true) → OnErr result (new ≡ old) → IsDoneAt old new place (Write part) (refusal_of result)
+    IfErr result (λ k. is_of_path k ≡ true) → OnErr result (new ≡ old) → IsDoneAt old new (AtPointer place) (Write part) (refusal_of result)
 part_done result old new place part does lengths limits named kept = record {
   done = does;
   counted = none_counted result old.refusals new.refusals (ap (λ (v : View). v.refusals) limits) named;
@@ -254,21 +255,21 @@ no_struct a (Content source) (Pointers ts) none = refl
 no_struct a (Content source) (Structs d q es) none = refl
 
 -- at a pointer
-at_pointer : (S R : Segments) (e : Edit) (place : PointerPlace) (making : Making) (r : Option ErrorKind) (t x : Tree) → made (task_of e.op) (PointerTo x) ≡ making → PathLeads S 0 0 t (path_of e.path.now) place.segment place.word x →
-    found t (path_of e.path.now) ≡ Some (PointerTo x) → IsForest S t → DoesAt S R place making x r → (u : Tree) × IsForest R u × Takes e r t u
+at_pointer : (S R : Segments) (e : Edit) (place : PointerPlace) (making : Making) (r : Option ErrorKind) (t x : Tree) → made (task_of e.op) (PointerTo x) ≡ making → PathLeads S 0 0 t (map step_of e.path.now) place.segment place.word x →
+    found t (map step_of e.path.now) ≡ Some (PointerTo x) → IsForest S t → DoesAt S R place making x r → (u : Tree) × IsForest R u × Takes e r t u
 at_pointer S R e place making r t x makes leads end_value forest does = stands does.left (subst (λ m. Leaves m r does.left) (sym makes) does.leaves) does.stands
   where
     stands : (o : Option Tree) → Leaves (made (task_of e.op) (PointerTo x)) r o → MatchOption o (R ≡ S) (IsReplaced S R place.segment place.word x) → (u : Tree) × IsForest R u × Takes e r t u
-    stands (Some y) left replaced = (update t (path_of e.path.now) y, forest_updated S R t (path_of e.path.now) place.segment place.word x y forest leads replaced, takes e r t (leads_to (PointerTo x) (Some y) end_value left refl))
+    stands (Some y) left replaced = (update t (map step_of e.path.now) y, forest_updated S R t (map step_of e.path.now) place.segment place.word x y forest leads replaced, takes e r t (leads_to (PointerTo x) (Some y) end_value left refl))
     stands None left same = (t, subst (λ Q. IsForest Q t) (sym same) forest, takes e r t (leads_to (PointerTo x) None end_value left refl))
 
 pub applied_pointer : (S R : Segments) (e : Edit) (place : PointerPlace) (task : Task) (r : Option ErrorKind) → task_of e.op ≡ Some task →
-    ((t : Tree) → IsStored S 0 0 t → IsPathFound S 0 0 t (path_of e.path.now) (Some (AtPointer place))) → Does S R place task r → IsApplied (Takes e r) S R
+    ((t : Tree) → IsStored S 0 0 t → IsPathFound S 0 0 t (map step_of e.path.now) (Some (AtPointer place))) → Does S R place task r → IsApplied (Takes e r) S R
 applied_pointer S R e place task r is leads does t forest =
     let stored = forest_stored S t forest in
     let f = leads t stored in
     at_pointer S R e place (made_at task (PointerTo f.0)) r t f.0 (ap (λ o. made o (PointerTo f.0)) is) f.1 f.2 forest
-    (does f.0 (stored_within S 0 0 t (path_of e.path.now) place.segment place.word f.0 f.1 stored))
+    (does f.0 (stored_within S 0 0 t (map step_of e.path.now) place.segment place.word f.0 f.1 stored))
 
 -- an element of a list of structs is a struct
 pub element_struct : (es : Elements) (i : ℕ) → i < element_count es → (ws : List ℕ) × (ts : Trees) × (struct_at es i ≡ Struct ws ts)
@@ -283,8 +284,8 @@ element_width S n s p d q es c i ws ts (b, m, k, some, o, claim, tag, fits, all,
 pub element_width_stored : (S : Segments) (s p d q : ℕ) (es : Elements) (i : ℕ) (ws : List ℕ) (ts : Trees) → IsStored S s p (Structs d q es) → i < element_count es → struct_at es i ≡ Struct ws ts → length ws ≡ d
 element_width_stored S s p d q es i ws ts stored l is = let m = stored.means in element_width S m.0 s p d q es m.1 i ws ts m.2 l is
 
-at_element : (S R : Segments) (e : Edit) (s : ExistingStruct) (n : Number) (r : Option ErrorKind) (t : Tree) (f : IsElementFound S 0 0 t (path_of e.path.now) s) (ws : List ℕ) (ts : Trees) → struct_at f.elements f.index ≡ Struct ws ts →
-    length ws ≡ s.size.data_words → IsStored S f.list_segment f.list_at (Structs s.size.data_words s.size.pointers f.elements) → found t (path_of e.path.now) ≡ Some (ElementOf (Struct ws ts)) → IsForest S t →
+at_element : (S R : Segments) (e : Edit) (s : ExistingStruct) (n : Number) (r : Option ErrorKind) (t : Tree) (f : IsElementFound S 0 0 t (map step_of e.path.now) s) (ws : List ℕ) (ts : Trees) → struct_at f.elements f.index ≡ Struct ws ts →
+    length ws ≡ s.size.data_words → IsStored S f.list_segment f.list_at (Structs s.size.data_words s.size.pointers f.elements) → found t (map step_of e.path.now) ≡ Some (ElementOf (Struct ws ts)) → IsForest S t →
     made (task_of e.op) (ElementOf (Struct ws ts)) ≡ struct_changed (Bits n) (Struct ws ts) → PutsBits S R s (bits_of n) r → (u : Tree) × IsForest R u × Takes e r t u
 at_element S R e s n r t f ws ts is wide stored end_value forest makes (are_written starts ends done written) =
     let g = bits_of n in
@@ -296,7 +297,7 @@ at_element S R e s n r t f ws ts is wide stored end_value forest makes (are_writ
     let within : g.start + g.bits ≤ 64 * length ws = rw wide ends in
     let placed = rw (f.segment_is, f.start_is) at written in
     let replaced = element_field_written S R f.list_segment f.list_at d q f.elements f.index ws ts g.start g.bits g.value stored f.counts is there placed in
-    let same : update t (path_of e.path.now) y ≡ update t f.front (Structs d q (put_struct f.elements f.index y)) =
+    let same : update t (map step_of e.path.now) y ≡ update t f.front (Structs d q (put_struct f.elements f.index y)) =
     ap (λ p. update t p y) f.path_is ∙ update-append t f.front (Element f.index ∷ []) list y f.end_value in (
       update t f.front (Structs d q (put_struct f.elements f.index y)),
       forest_updated S R t f.front f.list_segment f.list_at list (Structs d q (put_struct f.elements f.index y)) forest f.leads replaced,
@@ -308,12 +309,12 @@ at_element S R e s n r t f ws ts is wide stored end_value forest makes (are_outs
     (t, subst (λ Q. IsForest Q t) (sym same) forest, takes e r t (leads_to (ElementOf (Struct ws ts)) None end_value (as_it_stands (is_denied NoSuchPlace (makes ∙ field_past n ws ts past) named refl)) refl))
 
 -- what a path leads to that leads to an element
-pub element_end : (S : Segments) (e : Edit) (s : ExistingStruct) (t : Tree) (f : IsElementFound S 0 0 t (path_of e.path.now) s) (ws : List ℕ) (ts : Trees) → struct_at f.elements f.index ≡ Struct ws ts → found t (path_of e.path.now) ≡ Some (ElementOf (Struct ws ts))
+pub element_end : (S : Segments) (e : Edit) (s : ExistingStruct) (t : Tree) (f : IsElementFound S 0 0 t (map step_of e.path.now) s) (ws : List ℕ) (ts : Trees) → struct_at f.elements f.index ≡ Struct ws ts → found t (map step_of e.path.now) ≡ Some (ElementOf (Struct ws ts))
 element_end S e s t f ws ts is =
     ap (found t) f.path_is ∙ found-append t f.front (Element f.index ∷ []) (Structs s.size.data_words s.size.pointers f.elements) f.end_value ∙ first f.index (element_count f.elements) _ _ f.counts ∙ ap (λ x. Some (ElementOf x)) is
 
 -- bits of an element are written
-pub applied_bits : (S R : Segments) (e : Edit) (s : ExistingStruct) (n : Number) (r : Option ErrorKind) → task_of e.op ≡ Some (InStruct (Bits n)) → ((t : Tree) → IsStored S 0 0 t → IsElementFound S 0 0 t (path_of e.path.now) s) → PutsBits S R s (bits_of n) r →
+pub applied_bits : (S R : Segments) (e : Edit) (s : ExistingStruct) (n : Number) (r : Option ErrorKind) → task_of e.op ≡ Some (InStruct (Bits n)) → ((t : Tree) → IsStored S 0 0 t → IsElementFound S 0 0 t (map step_of e.path.now) s) → PutsBits S R s (bits_of n) r →
     IsApplied (Takes e r) S R
 applied_bits S R e s n r is_task leads w t forest =
     let stored = forest_stored S t forest in
@@ -331,7 +332,9 @@ none_made (InStruct change) t other = absurd (other change refl)
 none_made (Make object) t other = refl
 none_made (Point (Some i)) t other = refl
 none_made (Point None) t other = refl
-none_made (Write part) t other = refl
+none_made (Write (ListElement n)) t other = refl
+none_made (Write (TextByte i b)) t other = refl
+none_made (Write (DataByte i b)) t other = refl
 none_made (Search sought default) t other = refl
 none_made (CopyRoot c) t other = refl
 
@@ -344,7 +347,7 @@ element_kept S s (Write part) r other = refl
 element_kept S s (Search sought default) r other = refl
 element_kept S s (CopyRoot c) r other = refl
 
-pub none_applied : (S : Segments) (e : Edit) (s : ExistingStruct) (task : Task) → task_of e.op ≡ Some task → ((change : StructChange) → task ≡ InStruct change → ⊥) → ((t : Tree) → IsStored S 0 0 t → IsElementFound S 0 0 t (path_of e.path.now) s) →
+pub none_applied : (S : Segments) (e : Edit) (s : ExistingStruct) (task : Task) → task_of e.op ≡ Some task → ((change : StructChange) → task ≡ InStruct change → ⊥) → ((t : Tree) → IsStored S 0 0 t → IsElementFound S 0 0 t (map step_of e.path.now) s) →
     IsApplied (Takes e (Some NoSuchPlace)) S S
 none_applied S e s task is_task other leads t forest =
     let f = leads t (forest_stored S t forest) in
@@ -354,16 +357,16 @@ none_applied S e s task is_task other leads t forest =
 
 -- numbers that are out of range
 pub out_applied : (S : Segments) (e : Edit) → task_of e.op ≡ None → IsApplied (Takes e (Some NoSuchPlace)) S S
-out_applied S e out t forest = (t, forest, end (found t (path_of e.path.now)) refl)
+out_applied S e out t forest = (t, forest, end (found t (map step_of e.path.now)) refl)
   where
-    end : (o : Option EndValue) → found t (path_of e.path.now) ≡ o → Takes e (Some NoSuchPlace) t t
+    end : (o : Option EndValue) → found t (map step_of e.path.now) ≡ o → Takes e (Some NoSuchPlace) t t
     end (Some end_value) is = takes e (Some NoSuchPlace) t (leads_to end_value None is (as_it_stands (is_denied NoSuchPlace (ap (λ x. made x end_value) out) refl refl)) refl)
     end None is = takes e (Some NoSuchPlace) t (leads_nowhere is refl refl)
 
 -- nowhere
-pub applied_nowhere : (S : Segments) (e : Edit) → ((t : Tree) → IsStored S 0 0 t → IsPathFound S 0 0 t (path_of e.path.now) None) → IsApplied (Takes e (Some NoSuchPlace)) S S
+pub applied_nowhere : (S : Segments) (e : Edit) → ((t : Tree) → IsStored S 0 0 t → IsPathFound S 0 0 t (map step_of e.path.now) None) → IsApplied (Takes e (Some NoSuchPlace)) S S
 applied_nowhere S e none t forest =
-    (t, forest, takes e (Some NoSuchPlace) t (leads_nowhere (ap (found t) (sym (append-nil (path_of e.path.now))) ∙ none t (forest_stored S t forest) []) refl refl))
+    (t, forest, takes e (Some NoSuchPlace) t (leads_nowhere (ap (found t) (sym (append-nil (map step_of e.path.now))) ∙ none t (forest_stored S t forest) []) refl refl))
 
 -- a forest has a root
 pub no_forest : (S : Segments) (e : Edit) (r : Option ErrorKind) → (1 ≤ length (segment S 0) → ⊥) → IsApplied (Takes e r) S S

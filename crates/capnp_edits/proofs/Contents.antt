@@ -27,9 +27,11 @@ use Rattle.capnp_builders.proofs.FoundLists.{found_inside}
 use Rattle.capnp_edits.specs.declared.edit.tasks.Task.TheVariants.{Write}
 use Rattle.capnp_edits.specs.declared.edit.tasks.Part.TheVariants.{ListElement, TextByte, DataByte}
 use Rattle.capnp_edits.specs.Tasks.{is_number}
-use Rattle.capnp_edits.specs.Edits.{becomes, denied, struct_with, with_lowest, nowhere, if_reached, part_written, DoesAt, PutsElement, element_put, element_past, no_list, list_denied, PutsByte, byte_put, byte_past, no_bytes_there, bytes_denied}
+use Rattle.capnp_edits.specs.Edits.{becomes, denied, struct_with, with_lowest, nowhere, if_reached, DoesAt, PutsElement, element_put, element_past, no_list, list_denied, PutsByte, byte_put, byte_past, no_bytes_there, bytes_denied}
+use Rattle.capnp_edits.specs.declared.edit.tasks.Number.{Number}
 use Rattle.capnp_edits.proofs.Steps.{first, second, chosen}
 use Rattle.capnp_edits.proofs.Applied.{Does, done_at, denied_at, element_struct, element_width_stored}
+use Rattle.capnp_edits.proofs.Ways.{part_written}
 use Rattle.capnp_edits.proofs.Fields.{number_parts}
 
 -- How many are in what is found, as elements or bytes: none in a null pointer.
@@ -252,30 +254,30 @@ text_written_at S R s p (Pointers ts) b i v is_b stored less small written = abs
 text_written_at S R s p (Structs d q es) b i v is_b stored less small written = absurd (cc)
 
 -- what writing a part leaves
-pub element_does : (S R : Segments) (place : PointerPlace) (size : ElementSize) (i v : ℕ) (r : Option ErrorKind) (looked : Result (Option ExistingList) ErrorKind) → IsPlace S place.segment place.word → is_number size v ≡ true →
-    ((t : Tree) → IsStored S place.segment place.word t → looked ≡ list_in (target S place.segment place.word) size t) → PutsElement S R looked size i v r → Does S R place (Write (ListElement (record { size = size; index = i; value = v }))) r
-element_does S R place size i v r looked inside range is_found puts t stored = does (is_found t stored) puts
+pub element_does : (S R : Segments) (place : PointerPlace) (n : Number) (r : Option ErrorKind) (looked : Result (Option ExistingList) ErrorKind) → IsPlace S place.segment place.word → is_number n.size n.value ≡ true →
+    ((t : Tree) → IsStored S place.segment place.word t → looked ≡ list_in (target S place.segment place.word) n.size t) → PutsElement S R looked n r → Does S R place (Write (ListElement n)) r
+element_does S R place n r looked inside range is_found puts t stored = does (is_found t stored) puts
   where
     w : ℕ
-    w = element_bits (size_number size)
+    w = element_bits (size_number n.size)
 
-    parts : (1 ≤ size_number size) × (size_number size ≤ 5) × (v < 2 ^ element_bits (size_number size))
-    parts = number_parts size v range
+    parts : (1 ≤ size_number n.size) × (size_number n.size ≤ 5) × (n.value < 2 ^ element_bits (size_number n.size))
+    parts = number_parts n.size n.value range
 
-    counted : looked ≡ list_in (target S place.segment place.word) size t → elements_in (list_in nowhere size t) ≡ elements_in looked
-    counted found = list_anywhere elements_in (λ l k e. ap Ok e) nowhere (target S place.segment place.word) size t ∙ ap elements_in (sym found)
+    counted : looked ≡ list_in (target S place.segment place.word) n.size t → elements_in (list_in nowhere n.size t) ≡ elements_in looked
+    counted found = list_anywhere elements_in (λ l k e. ap Ok e) nowhere (target S place.segment place.word) n.size t ∙ ap elements_in (sym found)
 
-    does : looked ≡ list_in (target S place.segment place.word) size t → PutsElement S R looked size i v r → DoesAt S R place (part_written (ListElement (record { size = size; index = i; value = v })) t) t r
+    does : looked ≡ list_in (target S place.segment place.word) n.size t → PutsElement S R looked n r → DoesAt S R place (part_written (ListElement n) t) t r
     does found (element_put l is_l less done written) = rw done (
-        reached_done (λ (l : ExistingList). l.count) S R place t (with_lowest i w v t) i l.count (list_in nowhere size t) (counted found ∙ ap elements_in is_l) less
-        (list_written S R place.segment place.word size t l i v parts.0 parts.1 parts.2 (sym is_l ∙ found) stored less written))
+        reached_done (λ (l : ExistingList). l.count) S R place t (with_lowest n.index w n.value t) n.index l.count (list_in nowhere n.size t) (counted found ∙ ap elements_in is_l) less
+        (list_written S R place.segment place.word n.size t l n.index n.value parts.0 parts.1 parts.2 (sym is_l ∙ found) stored less written))
     does found (element_past l is_l past named kept) = rw (named, kept) (
-        reached_past (λ (l : ExistingList). l.count) S place t (with_lowest i w v t) i l.count (list_in nowhere size t) (counted found ∙ ap elements_in is_l)
-        (past (found_inside S place.segment place.word size t l (there S place.segment place.word inside) stored (sym found ∙ is_l)) (found_wide S place.segment place.word size t l parts.0 parts.1 (sym is_l ∙ found) stored)))
+        reached_past (λ (l : ExistingList). l.count) S place t (with_lowest n.index w n.value t) n.index l.count (list_in nowhere n.size t) (counted found ∙ ap elements_in is_l)
+        (past (found_inside S place.segment place.word n.size t l (there S place.segment place.word inside) stored (sym found ∙ is_l)) (found_wide S place.segment place.word n.size t l parts.0 parts.1 (sym is_l ∙ found) stored)))
     does found (no_list is_none named kept) = rw (named, kept) (
-        reached_past (λ (l : ExistingList). l.count) S place t (with_lowest i w v t) i 0 (list_in nowhere size t) (counted found ∙ ap elements_in is_none) (omega arith))
+        reached_past (λ (l : ExistingList). l.count) S place t (with_lowest n.index w n.value t) n.index 0 (list_in nowhere n.size t) (counted found ∙ ap elements_in is_none) (omega arith))
     does found (list_denied k is_k named kept) = rw (named, kept) (
-        reached_denied (λ (l : ExistingList). l.count) S place t (with_lowest i w v t) i k (list_in nowhere size t) (counted found ∙ ap elements_in is_k))
+        reached_denied (λ (l : ExistingList). l.count) S place t (with_lowest n.index w n.value t) n.index k (list_in nowhere n.size t) (counted found ∙ ap elements_in is_k))
 
 -- where bytes are looked for, and how a byte of them is written
 record Looks (look : Target → Tree → Result (Option ExistingBytes) ErrorKind) (i v : ℕ) : Type 0 where

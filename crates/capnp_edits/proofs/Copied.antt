@@ -1,5 +1,5 @@
 -- What a copy from another message leaves, and what it is refused for.
-use Rattle.std.proofs.Common.{◌≡◌, inl, inr, ◌⊎◌, ℕ, ◌+◌, ◌≤◌, Bool, true, false, cond, not, ◌&&◌, ◌||◌, nat_eq, nat_lt, length, Option, Some, None, IfSome, Result, Ok, Err, IfOk, IfErr, OnOk, OnErr, refl, sym, ap, ◌∙◌, subst, arith, IsOk}
+use Rattle.std.proofs.Common.{◌≡◌, inl, inr, ◌⊎◌, ℕ, ◌+◌, ◌≤◌, Bool, true, false, cond, not, ◌&&◌, ◌||◌, nat_eq, nat_lt, length, Option, Some, None, Result, Ok, Err, IfOk, IfErr, OnOk, OnErr, refl, sym, ap, ◌∙◌, subst, arith, IsOk}
 use Rattle.std.specs.Prelude.{MatchOption}
 use Rattle.std.proofs.lemmas.Bool.{cases_lt, false≢true}
 use Rattle.capnp_words.specs.Meter.{Meter}
@@ -42,13 +42,14 @@ use Rattle.capnp_making.specs.Makes.{CallAt, call_at}
 use Rattle.capnp_copies.specs.ListValues.{list_read}
 use Rattle.capnp_copies.specs.StructValues.{data_of, struct_read}
 use Rattle.capnp_builders.specs.Kept.{PutsCopy, LeavesCleared}
+use Rattle.capnp_edits.specs.declared.edit.path.PathEnd.TheVariants.{Pointer as AtPointer}
 use Rattle.capnp_edits.specs.declared.edit.Source.{Source}
 use Rattle.capnp_edits.specs.declared.edit.copying.Copying.{Copying}
 use Rattle.capnp_edits.specs.declared.edit.copying.Wanted.{Wanted}
 use Rattle.capnp_edits.specs.declared.edit.copying.Wanted.TheVariants.{Value, Struct as AStruct, List as AList}
 use Rattle.capnp_edits.specs.declared.edit.tasks.Task.TheVariants.{CopyRoot}
-use Rattle.capnp_edits.specs.Sources.{root_of, once_at_root, as_wanted, HasRoot, IsRootReader, Copies, IsRootless, IsWithheld, HasNothingToCopy, Sections, ListElements, LeadsToStruct, LeadsToList, OfWanted, CopiedOrRefused}
-use Rattle.capnp_edits.specs.Edits.{refusal_of, is_of_path, refusals_after, CopiesRoot, root_copied, root_not_copied, root_unread}
+use Rattle.capnp_edits.specs.Sources.{root_of, once_at_root, as_wanted, HasRoot, Copies, IsRootless, IsUnreadable, IsWithheld, HasNothingToCopy, Sections, ListElements, LeadsToStruct, LeadsToList, OfWanted}
+use Rattle.capnp_edits.specs.Edits.{refusal_of, is_of_path, refusals_after}
 use Rattle.capnp_edits.specs.Steps.{result_of, CopiesWhole, IsDoneAt}
 use Rattle.capnp_edits.proofs.Applied.{Does, of_allocation, of_no_place, named_refusal, never_refused}
 use Rattle.capnp_edits.proofs.CopiedStruct.{CanBeCopiedAs, struct_at, struct_reads, struct_refused, struct_given, struct_fits}
@@ -58,6 +59,20 @@ use Rattle.capnp_edits.proofs.Steps.{same_some}
 use Rattle.capnp_edits.proofs.Ways.{as_it_stands, is_copied, is_not_copied, is_unread}
 use Rattle.capnp_making.specs.Near.{HasOwnRoom}
 use Rattle.capnp_widening.specs.Rooms.{is_allocation_name}
+
+-- A reader is at the root, whose word is charged.
+abbrev pub IsRootReader : {A : Type 0} (g : Ghosts A) → Source → PointerReader A g → Meter → Type 0
+IsRootReader g source from m = HasRoot source × (reading g from ≡ root_of source) × (m ≡ once_at_root source)
+
+-- What a copy from another message leaves at a place: it is there; or null, the copy being refused; or there is nothing to be copied.
+root_copied : {S R : Segments} {place : PointerPlace} {c : Copying} {r : Option ErrorKind} (u : Tree) → Copies c u → r ≡ None → Puts S R place.segment place.word u → Does S R place (CopyRoot c) r
+root_copied {c = c} u copied done puts t stored = record { left = Some u; leaves = as_it_stands (is_copied c u refl copied done refl); stands = puts t stored }
+
+root_not_copied : {S R : Segments} {place : PointerPlace} {c : Copying} {r : Option ErrorKind} (k : ErrorKind) → (is_allocation_name k ≡ true) ⊎ IsUnreadable c k → r ≡ Some k → Puts S R place.segment place.word Null → Does S R place (CopyRoot c) r
+root_not_copied {c = c} k why named puts t stored = record { left = Some Null; leaves = as_it_stands (is_not_copied c k refl why named refl); stands = puts t stored }
+
+pub root_unread : {S R : Segments} {place : PointerPlace} {c : Copying} {r : Option ErrorKind} (k : ErrorKind) → HasNothingToCopy c.source c.wanted k → r ≡ Some k → R ≡ S → Does S R place (CopyRoot c) r
+root_unread {c = c} k why named same t stored = record { left = None; leaves = as_it_stands (is_unread c k refl why named refl); stands = same }
 
 -- The root means a value that fits behind segment id.
 abbrev pub FitsBehind : View → ℕ → Copying → Type 0
@@ -140,7 +155,7 @@ tried_refused : {A : Type 0} (k : ErrorKind) (c : Copying) (old new : View) (pla
 tried_refused k c old new place tried = wanted_so c.wanted (root_of c.source) _ (Says (Some k)) (λ o d. RefusesToCopy o d k) (λ o d h. h.1) tried.copies
 
 pub tried_done : {A : Type 0} (result : Result A ErrorKind) (c : Copying) (old new : View) (place : PointerPlace) → Tried result c old new place → OnErr result (Puts old.words new.words place.segment place.word Null) →
-    CopiesRoot old.words new.words place c (refusal_of result)
+    Does old.words new.words place (CopyRoot c) (refusal_of result)
 tried_done (Ok x) c old new place tried cleared =
     let (t, w, reads, is, puts) = tried.done in
     root_copied (kept (form_of c.canonicalize) w) (record { root = tried.root; value = t; after = tried.after; is_read = reads; copied = w; is_wanted = is; is_kept = refl }) refl puts
@@ -243,7 +258,7 @@ struct_copied result c g from v m n m' old new place is here long read done refu
     let s : Sections = record { words = data_of g v; first = pointers_read g v; pointers = v.pointer_count; limiter = n } in
     let there : IsStructRead g from m n v = where_read g struct_expected from (λ p. IsStructRead g p m n v) read in
     let leads : LeadsToStruct (reading g from) m s = struct_at g from m n v long there in
-    struct_tried result c s m' old new place is here.root (subst (λ y. LeadsToStruct (root_of c.source) y s) here.once (subst (λ r. LeadsToStruct r m s) here.reads leads)) done refused taken
+    struct_tried result c s m' old new place is here.0 (subst (λ y. LeadsToStruct (root_of c.source) y s) here.2 (subst (λ r. LeadsToStruct r m s) here.1 leads)) done refused taken
 
 pub list_copied : {A B : Type 0} (result : Result B ErrorKind) (c : Copying) (g : Ghosts A) (from : PointerReader A g) (v : ListReader A g) (m n m' : Meter) (old new : View) (place : PointerPlace) → c.wanted ≡ AList → IsRootReader g c.source from m →
     WhereRead g (record { from = from; expected = list_expected Void; default = None }) (λ p. IsListRead g Void p m n v) → IfOk result (λ x. PutsCopy (list_read g v) (change (form_of c.canonicalize) place.segment place.word old new n m')) →
@@ -251,13 +266,13 @@ pub list_copied : {A B : Type 0} (result : Result B ErrorKind) (c : Copying) (g 
 list_copied result c g from v m n m' old new place is here read done refused taken =
     let l : ListElements = elements_read g v in
     let leads : LeadsToList (reading g from) m n l = list_at g from m n v (where_read g (list_expected Void) from (λ p. IsListRead g Void p m n v) read) in
-    list_tried result c l n m' old new place is here.root (subst (λ y. LeadsToList (root_of c.source) y n l) here.once (subst (λ r. LeadsToList r m n l) here.reads leads)) done refused taken
+    list_tried result c l n m' old new place is here.0 (subst (λ y. LeadsToList (root_of c.source) y n l) here.2 (subst (λ r. LeadsToList r m n l) here.1 leads)) done refused taken
 
 unread_as : {A : Type 0} (g : Ghosts A) (c : Copying) (expected : Expectation) (from : PointerReader A g) (m m' : Meter) (k : ErrorKind) → ((r : Reading) (i j : Meter) → Withheld expected r i j k → IsWithheld c.wanted r i j k) → IsRootReader g c.source from m →
     IsRefused g (record { from = from; expected = expected; default = None }) m m' k → HasNothingToCopy c.source c.wanted k
 unread_as g c expected from m m' k wanted here refused =
     let h = wanted (reading g from) m m' (withheld_at g expected from m m' k refused) in
-    inr (here.root, (m', subst (λ y. IsWithheld c.wanted (root_of c.source) y m' k) here.once (subst (λ r. IsWithheld c.wanted r m m' k) here.reads h)))
+    inr (here.0, (m', subst (λ y. IsWithheld c.wanted (root_of c.source) y m' k) here.2 (subst (λ r. IsWithheld c.wanted r m m' k) here.1 h)))
 
 pub struct_unread : {A : Type 0} (g : Ghosts A) (c : Copying) (from : PointerReader A g) (m m' : Meter) (k : ErrorKind) → c.wanted ≡ AStruct → IsRootReader g c.source from m → IsRefused g (record { from = from; expected = struct_expected; default = None }) m m' k → HasNothingToCopy c.source c.wanted k
 struct_unread g c from m m' k is here refused = unread_as g c struct_expected from m m' k (λ r i j h. subst (λ w. IsWithheld w r i j k) (sym is) h) here refused
@@ -268,12 +283,12 @@ list_unread g c from m m' k is here refused = unread_as g c (list_expected Void)
 pub struct_found : {A : Type 0} (g : Ghosts A) (c : Copying) (from : PointerReader A g) (m : Meter) (v : View) (id : ℕ) → c.wanted ≡ AStruct → IsRootReader g c.source from m → FitsBehind v id c → WhereRead g (record { from = from; expected = struct_expected; default = None }) (λ p. CanBeGiven struct_expected (reading g p) m)
 struct_found g c from m v id is here fits =
     let given = struct_given c (root_of c.source) (once_at_root c.source) (length (segment v.words id)) (v.room id) is (can_be_copied v id c fits) in
-    answered g struct_expected from m (subst (λ y. CanBeGiven struct_expected (reading g from) y) (sym here.once) (subst (λ r. CanBeGiven struct_expected r (once_at_root c.source)) (sym here.reads) given))
+    answered g struct_expected from m (subst (λ y. CanBeGiven struct_expected (reading g from) y) (sym here.2) (subst (λ r. CanBeGiven struct_expected r (once_at_root c.source)) (sym here.1) given))
 
 pub list_found : {A : Type 0} (g : Ghosts A) (c : Copying) (from : PointerReader A g) (m : Meter) (v : View) (id : ℕ) → c.wanted ≡ AList → IsRootReader g c.source from m → FitsBehind v id c → WhereRead g (record { from = from; expected = list_expected Void; default = None }) (λ p. CanBeGiven (list_expected Void) (reading g p) m)
 list_found g c from m v id is here fits =
     let given = list_given c (root_of c.source) (once_at_root c.source) (length (segment v.words id)) (v.room id) is (can_be_copied v id c fits) in
-    answered g (list_expected Void) from m (subst (λ y. CanBeGiven (list_expected Void) (reading g from) y) (sym here.once) (subst (λ r. CanBeGiven (list_expected Void) r (once_at_root c.source)) (sym here.reads) given))
+    answered g (list_expected Void) from m (subst (λ y. CanBeGiven (list_expected Void) (reading g from) y) (sym here.2) (subst (λ r. CanBeGiven (list_expected Void) r (once_at_root c.source)) (sym here.1) given))
 
 -- The names by which a source isn't read: none of them is a call's own.
 abbrev is_of_call : ErrorKind → Bool
@@ -329,7 +344,7 @@ wanted_there Value c r m m' used room k is can h = h
 wanted_there AStruct c r m m' used room k is can h = not_withheld struct_expected r m m' k (struct_given c r m used room is can) h
 wanted_there AList c r m m' used room k is can h = not_withheld (list_expected Void) r m m' k (list_given c r m used room is can) h
 
-pub copied_or_refused : CopiedOrRefused
+pub copied_or_refused : (c : Copying) (u : Tree) (k : ErrorKind) → Copies c u → HasNothingToCopy c.source c.wanted k ⊎ IsUnreadable c k → ⊥
 copied_or_refused c u k good (inl (inl rootless)) = rootless.0 good.root
 copied_or_refused c u k good (inl (inr (has, (m, withheld)))) =
     let x = good.is_read in
@@ -385,18 +400,13 @@ copy_nowhere (Some k) call c (inr (m, h)) e =
     (wanted_so c.wanted (root_of c.source) _ (Says (Some k)) (λ o d. RefusesToCopy o d k) (λ o d x. x.1) h) (same_some k NoSuchPlace e))
 
 -- a call that copies what a root leads to
-pub root_done : {A : Type 0} (result : Result A ErrorKind) (old new : View) (place : PointerPlace) (c : Copying) → CopiesRoot old.words new.words place c (refusal_of result) → new.refusals ≡ refusals_after (refusal_of result) old.refusals →
-    CopiesWhole (call_at place.segment place.word old new) c (refusal_of result) → (FitsBehind old place.segment c → IsOk result) → IsDoneAt old new place (CopyRoot c) (refusal_of result)
+pub root_done : {A : Type 0} (result : Result A ErrorKind) (old new : View) (place : PointerPlace) (c : Copying) → Does old.words new.words place (CopyRoot c) (refusal_of result) → new.refusals ≡ refusals_after (refusal_of result) old.refusals →
+    CopiesWhole (call_at place.segment place.word old new) c (refusal_of result) → (FitsBehind old place.segment c → IsOk result) → IsDoneAt old new (AtPointer place) (CopyRoot c) (refusal_of result)
 root_done result old new place c copies counts taken fits = record {
-  done = does (refusal_of result) copies;
+  done = copies;
   counted = counts;
   named = λ k e. inr (subst (CopiesWhole (call_at place.segment place.word old new) c) e taken);
   fits = λ room k e. named_refusal result (λ j. is_of_path j ≡ true) k (never_refused result (fits room)) e;
   nowhere = copy_nowhere (refusal_of result) (call_at place.segment place.word old new) c taken;
   taken = λ some. taken;
 }
-  where
-    does : (r : Option ErrorKind) → CopiesRoot old.words new.words place c r → Does old.words new.words place (CopyRoot c) r
-    does r (root_copied u copied done puts) t stored = record { left = Some u; leaves = as_it_stands (is_copied c u refl copied done refl); stands = puts t stored }
-    does r (root_not_copied k why named puts) t stored = record { left = Some Null; leaves = as_it_stands (is_not_copied c k refl why named refl); stands = puts t stored }
-    does r (root_unread k why named same) t stored = record { left = None; leaves = as_it_stands (is_unread c k refl why named refl); stands = same }

@@ -1,5 +1,5 @@
 -- Content of another message's struct that is copied over a struct, which a pointer leads to or which is an element of a list.
-use Rattle.std.proofs.Common.{◌≡◌, ◌⊎◌, inl, inr, ℕ, zero, suc, pred, min, ◌+◌, ◌*◌, ◌/◌, ◌<◌, List, [], ◌∷◌, length, Option, Some, None, IsSomeAnd, Result, Ok, Err, IsOk, IfOk, IfErr, OnErr, true, refl, sym, ap, ap₂, ◌∙◌, subst, arith}
+use Rattle.std.proofs.Common.{◌≡◌, ◌⊎◌, inl, inr, ℕ, zero, suc, pred, min, ◌+◌, ◌*◌, ◌/◌, ◌<◌, List, [], ◌∷◌, length, Option, Some, None, IsSomeAnd, Result, Ok, Err, IsOk, IfOk, IfErr, OnErr, true, refl, sym, ap, ap₂, ◌∙◌, subst, arith, map}
 use Rattle.std.specs.Prelude.{MatchOption, ⊤}
 use Rattle.capnp_words.specs.Meter.{Meter}
 use Rattle.capnp_words.specs.declared.error.ErrorKind.{ErrorKind}
@@ -43,11 +43,14 @@ use Rattle.capnp_copies.specs.Growth.{TakesAtMost}
 use Rattle.capnp_copies.specs.Originals.{children_original}
 use Rattle.capnp_copies.specs.StructValues.{data_of}
 use Rattle.capnp_copies.proofs.Growth.{none_taken, all_taken}
-use Rattle.capnp_builders.specs.Content.{TakesContent, StopsAtContent, ContentFits, TakesForContent as TakesForCopy, pointers_copied}
-use Rattle.capnp_builders.specs.Laws.{up_to}
+use Rattle.capnp_builders.specs.Content.{TakesContent, StopsAtContent, ContentFits, pointers_copied}
+use Rattle.capnp_builders.specs.Content.{up_to}
 use Rattle.capnp_builders.specs.Places.{IsAligned, struct_place}
 use Rattle.capnp_builders.proofs.ContentTaken.{content_taken, content_stopped}
 use Rattle.capnp_builders.proofs.ElementContent.{element_content_taken, element_content_stopped, element_long}
+use Rattle.capnp_format.specs.Canonical.{word_count_all}
+use Rattle.capnp_making.specs.Near.{HasOwnRoom}
+use Rattle.capnp_edits.specs.declared.edit.path.PathEnd.TheVariants.{Pointer as AtPointer}
 use Rattle.capnp_edits.specs.declared.edit.Edit.{Edit}
 use Rattle.capnp_edits.specs.declared.edit.Source.{Source}
 use Rattle.capnp_edits.specs.declared.edit.copying.Wanted.TheVariants.{Struct as AStruct}
@@ -56,23 +59,27 @@ use Rattle.capnp_edits.specs.declared.edit.tasks.Number.{Number}
 use Rattle.capnp_edits.specs.declared.edit.tasks.StructChange.{StructChange}
 use Rattle.capnp_edits.specs.declared.edit.tasks.StructChange.TheVariants.{Bits, Content}
 use Rattle.capnp_edits.specs.Tasks.{task_of}
-use Rattle.capnp_edits.specs.Paths.{path_of, found, IsElementFound, ElementOf}
-use Rattle.capnp_edits.specs.Sources.{root_of, once_at_root, HasRoot, IsRootReader, Sections, LeadsToStruct, no_struct, a_struct, ContentRead, ContentFitsBehind, HasNothingToCopy, FilledOrRefused}
-use Rattle.capnp_edits.specs.Edits.{refusal_of, bits_of, struct_changed, fills, is_of_path, PutsBits, FillsAt, Changes, all_filled, first_filled, none_filled, refusals_after, IsApplied, Takes, DoesAt}
-use Rattle.capnp_edits.specs.Steps.{FillsThere, IsStructAt, StopsFilling, FitsAt, IsRefusedAt, TakesForChange, IsDoneAt, IsChanged, result_of}
+use Rattle.capnp_edits.specs.Paths.{found, IsElementFound, ElementOf, step_of}
+use Rattle.capnp_edits.specs.Sources.{root_of, once_at_root, HasRoot, Sections, LeadsToStruct, no_struct, a_struct, ContentRead, HasNothingToCopy, IsNextUnreadable}
+use Rattle.capnp_edits.specs.Edits.{refusal_of, bits_of, fills, is_of_path, PutsBits, FillsAt, all_filled, first_filled, none_filled, refusals_after, IsApplied, Takes, DoesAt}
+use Rattle.capnp_edits.specs.Steps.{DoesThere, FillsThere, IsStructAt, StopsFilling, FitsAt, IsRefusedAt, TakesAt, IsDoneAt, result_of}
 use Rattle.capnp_edits.specs.declared.edit.path.PathEnd.TheVariants.{Pointer as AtPointer, Element as AtElement}
 use Rattle.capnp_edits.proofs.Taken.{bits_lengths, copy_taken, writes}
 use Rattle.capnp_edits.proofs.Applied.{made, of_allocation, of_no_place, of_place, named_refusal, none_counted, kept_nowhere, refused_there, never_refused, denied_at, no_struct as is_none, written_at, element_struct, element_end, applied_bits}
-use Rattle.capnp_edits.proofs.Copied.{where_read}
+use Rattle.capnp_edits.proofs.Copied.{IsRootReader, where_read}
 use Rattle.capnp_edits.proofs.CopiedStruct.{struct_at as source_at, whole_words, whole_bits, struct_suits}
 use Rattle.capnp_edits.proofs.Steps.{same_some, first, struct_of}
 use Rattle.capnp_edits.proofs.Walks.{update-append}
-use Rattle.capnp_edits.proofs.Ways.{as_it_stands, is_filled, is_half_filled, is_not_filled, leads_to, takes}
+use Rattle.capnp_edits.proofs.Ways.{as_it_stands, is_filled, is_half_filled, is_not_filled, leads_to, struct_changed, takes}
 use Rattle.capnp_objects.proofs.Followed.{entered_leads}
 
 -- Content isn't copied over a struct, or not all of it; and the words that are taken for it.
 abbrev pub IsContentRefused : View → View → StructPlace → Source → ErrorKind → Type 0
 IsContentRefused old new place source k = (HasNothingToCopy source AStruct k × (new ≡ old)) ⊎ StopsFilling old new place source k
+
+-- The pointers can be read that a source's struct and one of q pointers in segment id both have, and the words of what they mean fit behind those of that segment.
+abbrev pub ContentFitsBehind : View → ℕ → Source → ℕ → Type 0
+ContentFitsBehind v id source q = (all : ContentRead source) × (count all.children ≡ min q all.from.pointers) × HasOwnRoom v id (word_count_all all.children)
 
 abbrev pub TakesForContentFrom : View → View → StructPlace → Source → Option ErrorKind → Type 0
 TakesForContentFrom old new place source r =
@@ -95,8 +102,8 @@ source_struct g source from v m n opened long read =
     subst (λ w. LeadsToStruct (reading g from) m (record { words = w; first = pointers_read g v; pointers = v.pointer_count; limiter = n })) all.0 leads in
     record {
       leads =
-          subst (λ y. LeadsToStruct (root_of source) y (record { words = words_of v.content.now; first = pointers_read g v; pointers = v.pointer_count; limiter = n })) opened.once
-          (subst (λ r. LeadsToStruct r m (record { words = words_of v.content.now; first = pointers_read g v; pointers = v.pointer_count; limiter = n })) opened.reads of_words);
+          subst (λ y. LeadsToStruct (root_of source) y (record { words = words_of v.content.now; first = pointers_read g v; pointers = v.pointer_count; limiter = n })) opened.2
+          (subst (λ r. LeadsToStruct r m (record { words = words_of v.content.now; first = pointers_read g v; pointers = v.pointer_count; limiter = n })) opened.1 of_words);
       bits = all.1;
     }
 
@@ -119,7 +126,7 @@ pub fill_done : {A B : Type 0} (result : Result B ErrorKind) (g : Ghosts A) (sou
 fill_done (Ok x) g source from v m n m' old new place opened long read (mid, taking, copies) refused =
     let s = source_struct g source from v m n opened long read in
     all_filled (record {
-      content = content_read g source v n m' copies.children opened.root s copies.are_read;
+      content = content_read g source v n m' copies.children opened.0 s copies.are_read;
       taken = mid.words;
       takes = rw (← s.bits) taking.cleared;
       filled = new.words;
@@ -128,7 +135,7 @@ fill_done (Ok x) g source from v m n m' old new place opened long read (mid, tak
 fill_done (Err k) g source from v m n m' old new place opened long read copied (mid, taking, stops) =
     let s = source_struct g source from v m n opened long read in
     first_filled (record {
-      content = content_read g source v n stops.between stops.first opened.root s stops.are_read;
+      content = content_read g source v n stops.between stops.first opened.0 s stops.are_read;
       taken = mid.words;
       takes = rw (← s.bits) taking.cleared;
       filled = stops.filled;
@@ -150,7 +157,7 @@ fill_named (Ok x) g source from v m n m' old new place opened long read refused 
 fill_named (Err k) g source from v m n m' old new place opened long read (mid, taking, stops) =
     let s = source_struct g source from v m n opened long read in
     inr (record {
-      content = content_read g source v n stops.between stops.first opened.root s stops.are_read;
+      content = content_read g source v n stops.between stops.first opened.0 s stops.are_read;
       fewer = stops.fewer;
       taken = mid;
       limits = taking.limits;
@@ -160,7 +167,7 @@ fill_named (Err k) g source from v m n m' old new place opened long read (mid, t
     })
 
 pub fill_taken : {A B : Type 0} (result : Result B ErrorKind) (g : Ghosts A) (source : Source) (from : PointerReader A g) (v : StructReader A g) (m n m' : Meter) (old new : View) (place : StructPlace) → IsRootReader g source from m →
-    length v.content.now ≡ bytes_for v.bits → WhereRead g (record { from = from; expected = struct_expected; default = None }) (λ p. IsStructRead g p m n v) → TakesForCopy g result v place (pointers_copied place old new n m') →
+    length v.content.now ≡ bytes_for v.bits → WhereRead g (record { from = from; expected = struct_expected; default = None }) (λ p. IsStructRead g p m n v) → TakesAtMost result (children_original (pointers_read g v) (min place.pointers v.pointer_count)) (pointers_copied place old new n m') →
     IfOk result (λ x. TakesContent g v place (pointers_copied place old new n m')) → TakesForContentFrom old new place source (refusal_of result)
 fill_taken result g source from v m n m' old new place opened long read taken copied =
     let s = source_struct g source from v m n opened long read in
@@ -209,7 +216,7 @@ fill_nothing g source from v m n S e opened long read empty =
     let no_data : e.size.data_words ≡ 0 = omega (arith, empty) in
     let no_pointers : e.size.pointers ≡ 0 = omega (arith, empty) in
     all_filled (record {
-      content = content_read g source v n n no_trees opened.root s (read_none plain (pointers_read g v) n);
+      content = content_read g source v n n no_trees opened.0 s (read_none plain (pointers_read g v) n);
       taken = S;
       takes = rw (no_data, no_pointers) refl;
       filled = S;
@@ -231,26 +238,26 @@ nothing_taken g source from v m n old e opened long read empty =
 
 -- how a call changes a struct
 pub bits_changed : {A : Type 0} (result : Result A ErrorKind) (old new : View) (e : ExistingStruct) (n : Number) → PutsBits old.words new.words e (bits_of n) (refusal_of result) → KeepsLimits old new → IfErr result (λ k. k ≡ NoSuchPlace) →
-    OnErr result (new ≡ old) → IsChanged old new e (Bits n) (refusal_of result)
+    OnErr result (new ≡ old) → IsDoneAt old new (AtElement e) (InStruct (Bits n)) (refusal_of result)
 bits_changed result old new e n puts limits named kept = record {
   done = puts;
   counted = none_counted result old.refusals new.refusals (ap (λ (v : View). v.refusals) limits) (of_place result named);
   named = λ k. refused_there result old new (λ j. ⊥) k (of_place result named) kept;
   fits = λ room k e. named_refusal result (λ j. is_of_path j ≡ true) k (of_place result named) e;
   nowhere = kept_nowhere result old new kept;
-  taken = writes old new limits (bits_lengths old.words new.words e (bits_of n) (refusal_of result) puts);
+  taken = λ some. (e, refl, writes old new limits (bits_lengths old.words new.words e (bits_of n) (refusal_of result) puts));
 }
 
 pub content_changed : {A : Type 0} (result : Result A ErrorKind) (old new : View) (e : ExistingStruct) (source : Source) → FillsAt old.words new.words (struct_place e) source (refusal_of result) → new.refusals ≡ refusals_after (refusal_of result) old.refusals →
-    IfErr result (λ k. IsRefusedAt old new (InStruct (Content source)) k (AtElement e)) → TakesForChange old new e (Content source) (refusal_of result) → (ContentFitsBehind old e.segment source e.size.pointers → IsOk result) →
-    IsChanged old new e (Content source) (refusal_of result)
+    IfErr result (λ k. IsRefusedAt old new (InStruct (Content source)) k (AtElement e)) → TakesAt old new (InStruct (Content source)) (refusal_of result) (AtElement e) → (FitsAt old (InStruct (Content source)) (AtElement e) → IsOk result) →
+    IsDoneAt old new (AtElement e) (InStruct (Content source)) (refusal_of result)
 content_changed result old new e source filled counted why taken fits = record {
   done = filled;
   counted = counted;
   named = λ k is. inr (named_refusal result (λ j. IsRefusedAt old new (InStruct (Content source)) j (AtElement e)) k why is);
-  fits = λ room k is. named_refusal result (λ j. is_of_path j ≡ true) k (never_refused result (fits (room e refl))) is;
+  fits = λ room k is. named_refusal result (λ j. is_of_path j ≡ true) k (never_refused result (fits room)) is;
   nowhere = fill_nowhere result old new e source why;
-  taken = taken;
+  taken = λ some. taken;
 }
 
 -- at a struct that a pointer leads to
@@ -264,7 +271,7 @@ filled_struct S R place source r ws ts stored (all_filled f counts same done) =
       left = Some u;
       leaves =
           as_it_stands (is_filled source (length ws) (count ts) u refl
-          (f.content, record { section = vs; holds = holds; is_filled = refl }, counts) done refl);
+          (f.content, (vs, holds, refl), counts) done refl);
       stands = subst (λ Q. IsReplaced S Q place.segment place.word (Struct ws ts) u) (sym same) replaced;
     }
 filled_struct S R place source r ws ts stored (first_filled f k fewer null why named) =
@@ -275,7 +282,7 @@ filled_struct S R place source r ws ts stored (first_filled f k fewer null why n
       left = Some u;
       leaves =
           as_it_stands (is_half_filled source (length ws) (count ts) k u refl
-          (f.content, record { section = vs; holds = holds; is_filled = refl }, fewer, why) named refl);
+          (f.content, (vs, holds, refl), fewer, why) named refl);
       stands = replaced;
     }
 filled_struct S R place source r ws ts stored (none_filled k unread same named) =
@@ -293,7 +300,7 @@ filled_value S R place source r e (Pointers ts) is_e h stored = absurd (cc)
 filled_value S R place source r e (Structs d q es) is_e h stored = absurd (cc)
 
 -- a change of the struct that a pointer leads to
-changed_at : (S R : Segments) (place : PointerPlace) (change : StructChange) (r : Option ErrorKind) (e : ExistingStruct) (t : Tree) → Some e ≡ struct_in (target S place.segment place.word) t → Changes S R e change r → IsStored S place.segment place.word t →
+changed_at : (S R : Segments) (place : PointerPlace) (change : StructChange) (r : Option ErrorKind) (e : ExistingStruct) (t : Tree) → Some e ≡ struct_in (target S place.segment place.word) t → DoesThere S R (AtElement e) (InStruct change) r → IsStored S place.segment place.word t →
     DoesAt S R place (struct_changed change t) t r
 changed_at S R place (Bits n) r e t is_e h stored = written_at S R place n r e t is_e h stored
 changed_at S R place (Content source) r e t is_e h stored = filled_value S R place source r e t is_e h stored
@@ -307,18 +314,22 @@ fits_at : (old : View) (place : PointerPlace) (change : StructChange) (e : Exist
 fits_at old place (Bits n) e there room = tt
 fits_at old place (Content source) e there room = λ x is. subst (λ (y : ExistingStruct). ContentFitsBehind old y.segment source y.size.pointers) (sym is) (room e there)
 
-pub change_done : (old new : View) (place : PointerPlace) (change : StructChange) (r : Option ErrorKind) (e : ExistingStruct) → IsStructAt old.words (AtPointer place) e → IsChanged old new e change r → IsDoneAt old new place (InStruct change) r
+takes_at : (old new : View) (place : PointerPlace) (change : StructChange) (r : Option ErrorKind) (e : ExistingStruct) → IsStructAt old.words (AtPointer place) e → TakesAt old new (InStruct change) r (AtElement e) → TakesAt old new (InStruct change) r (AtPointer place)
+takes_at old new place (Bits n) r e there (x, is, h) = (e, there, h)
+takes_at old new place (Content source) r e there (x, is, h) = (e, there, subst (λ (y : ExistingStruct). TakesForContentFrom old new (struct_place y) source r) is h)
+
+pub change_done : (old new : View) (place : PointerPlace) (change : StructChange) (r : Option ErrorKind) (e : ExistingStruct) → IsStructAt old.words (AtPointer place) e → IsDoneAt old new (AtElement e) (InStruct change) r → IsDoneAt old new (AtPointer place) (InStruct change) r
 change_done old new place change r e there changed = record {
   done = λ t stored. changed_at old.words new.words place change r e t (there t stored) changed.done stored;
   counted = changed.counted;
   named = λ k is. elim (changed.named k is) [ inl h ↦ inl h | inr h ↦ inr (refused_at old new place change k e there h) ];
   fits = λ room. changed.fits (fits_at old place change e there room);
   nowhere = changed.nowhere;
-  taken = λ some. (e, there, changed.taken);
+  taken = λ some. takes_at old new place change r e there (changed.taken some);
 }
 
 -- and where none is
-pub nothing_changed : (v : View) (place : PointerPlace) (change : StructChange) → ((t : Tree) → IsStored v.words place.segment place.word t → None ≡ struct_in (target v.words place.segment place.word) t) → IsDoneAt v v place (InStruct change) (Some NoSuchPlace)
+pub nothing_changed : (v : View) (place : PointerPlace) (change : StructChange) → ((t : Tree) → IsStored v.words place.segment place.word t → None ≡ struct_in (target v.words place.segment place.word) t) → IsDoneAt v v (AtPointer place) (InStruct change) (Some NoSuchPlace)
 nothing_changed v place change none = record {
   done = λ t stored. denied_at NoSuchPlace (is_none (target v.words place.segment place.word) change t (none t stored)) refl refl;
   counted = refl;
@@ -329,7 +340,7 @@ nothing_changed v place change none = record {
 }
 
 -- at an element of a list
-filled_element : (S R : Segments) (e : Edit) (s : ExistingStruct) (source : Source) (r : Option ErrorKind) → task_of e.op ≡ Some (InStruct (Content source)) → ((t : Tree) → IsStored S 0 0 t → IsElementFound S 0 0 t (path_of e.path.now) s) →
+filled_element : (S R : Segments) (e : Edit) (s : ExistingStruct) (source : Source) (r : Option ErrorKind) → task_of e.op ≡ Some (InStruct (Content source)) → ((t : Tree) → IsStored S 0 0 t → IsElementFound S 0 0 t (map step_of e.path.now) s) →
     FillsAt S R (struct_place s) source r → IsApplied (Takes e r) S R
 filled_element S R e s source r is leads h t forest =
     let stored = forest_stored S t forest in
@@ -344,8 +355,8 @@ filled_element S R e s source r is leads h t forest =
     let makes : made (task_of e.op) (ElementOf (Struct ws ts)) ≡ fills source d q = ap (λ o. made o (ElementOf (Struct ws ts))) is ∙ ap₂ (fills source) long.0 long.1 in
     done_there stored f ws ts at there end_value makes h
   where
-    done_there : (stored : IsStored S 0 0 t) (f : IsElementFound S 0 0 t (path_of e.path.now) s) (ws : List ℕ) (ts : Trees) → struct_at f.elements f.index ≡ Struct ws ts →
-        IsStored S f.list_segment f.list_at (Structs s.size.data_words s.size.pointers f.elements) → found t (path_of e.path.now) ≡ Some (ElementOf (Struct ws ts)) →
+    done_there : (stored : IsStored S 0 0 t) (f : IsElementFound S 0 0 t (map step_of e.path.now) s) (ws : List ℕ) (ts : Trees) → struct_at f.elements f.index ≡ Struct ws ts →
+        IsStored S f.list_segment f.list_at (Structs s.size.data_words s.size.pointers f.elements) → found t (map step_of e.path.now) ≡ Some (ElementOf (Struct ws ts)) →
         made (task_of e.op) (ElementOf (Struct ws ts)) ≡ fills source s.size.data_words s.size.pointers → FillsAt S R (struct_place s) source r → (u : Tree) × IsForest R u × Takes e r t u
     done_there stored f ws ts at there end_value makes (all_filled h counts same done) =
         let d : ℕ = s.size.data_words in
@@ -356,13 +367,13 @@ filled_element S R e s source r is leads h t forest =
         (ap₂ (λ (u b : ℕ). struct_place (record { segment = u; start = b; size = s.size })) f.segment_is f.start_is) h.takes h.fills_first (omega (arith, counts)) in
         let y : Tree = Struct vs (up_to q h.content.children) in
         let now : IsReplaced S R f.list_segment f.list_at list (Structs d q (put_struct f.elements f.index y)) = subst (λ Q. IsReplaced S Q f.list_segment f.list_at list (Structs d q (put_struct f.elements f.index y))) (sym same) replaced in
-        let path : update t (path_of e.path.now) y ≡ update t f.front (Structs d q (put_struct f.elements f.index y)) =
+        let path : update t (map step_of e.path.now) y ≡ update t f.front (Structs d q (put_struct f.elements f.index y)) =
         ap (λ p. update t p y) f.path_is ∙ update-append t f.front (Element f.index ∷ []) list y f.end_value in (
           update t f.front (Structs d q (put_struct f.elements f.index y)),
           forest_updated S R t f.front f.list_segment f.list_at list (Structs d q (put_struct f.elements f.index y)) forest f.leads now,
           takes e r t (leads_to (ElementOf (Struct ws ts)) (Some y) end_value
               (as_it_stands (is_filled source d q y makes
-              (h.content, record { section = vs; holds = holds; is_filled = refl }, counts) done refl)) (sym path)),
+              (h.content, (vs, holds, refl), counts) done refl)) (sym path)),
         )
     done_there stored f ws ts at there end_value makes (first_filled h k fewer null why named) =
         let d : ℕ = s.size.data_words in
@@ -372,19 +383,19 @@ filled_element S R e s source r is leads h t forest =
         element_content_stopped S h.taken h.filled R f.list_segment f.list_at d q f.elements f.index ws ts h.content.children (struct_place s) (64 * length h.content.from.words) h.content.bytes there f.counts at
         (ap₂ (λ (u b : ℕ). struct_place (record { segment = u; start = b; size = s.size })) f.segment_is f.start_is) h.takes h.fills_first (omega (arith, fewer)) null in
         let y : Tree = Struct vs (up_to q h.content.children) in
-        let path : update t (path_of e.path.now) y ≡ update t f.front (Structs d q (put_struct f.elements f.index y)) =
+        let path : update t (map step_of e.path.now) y ≡ update t f.front (Structs d q (put_struct f.elements f.index y)) =
         ap (λ p. update t p y) f.path_is ∙ update-append t f.front (Element f.index ∷ []) list y f.end_value in (
           update t f.front (Structs d q (put_struct f.elements f.index y)),
           forest_updated S R t f.front f.list_segment f.list_at list (Structs d q (put_struct f.elements f.index y)) forest f.leads replaced,
           takes e r t (leads_to (ElementOf (Struct ws ts)) (Some y) end_value
               (as_it_stands (is_half_filled source d q k y makes
-              (h.content, record { section = vs; holds = holds; is_filled = refl }, fewer, why) named refl)) (sym path)),
+              (h.content, (vs, holds, refl), fewer, why) named refl)) (sym path)),
         )
     done_there stored f ws ts at there end_value makes (none_filled k unread same named) =
         (t, subst (λ Q. IsForest Q t) (sym same) forest, takes e r t (leads_to (ElementOf (Struct ws ts)) None end_value (as_it_stands (is_not_filled source s.size.data_words s.size.pointers k makes unread named refl)) refl))
 
 -- a change of an element
-pub element_applied : (S R : Segments) (e : Edit) (s : ExistingStruct) (change : StructChange) (r : Option ErrorKind) → task_of e.op ≡ Some (InStruct change) → ((t : Tree) → IsStored S 0 0 t → IsElementFound S 0 0 t (path_of e.path.now) s) → Changes S R s change r →
+pub element_applied : (S R : Segments) (e : Edit) (s : ExistingStruct) (change : StructChange) (r : Option ErrorKind) → task_of e.op ≡ Some (InStruct change) → ((t : Tree) → IsStored S 0 0 t → IsElementFound S 0 0 t (map step_of e.path.now) s) → DoesThere S R (AtElement s) (InStruct change) r →
     IsApplied (Takes e r) S R
 element_applied S R e s (Bits n) r is leads h = applied_bits S R e s n r is leads h
 element_applied S R e s (Content source) r is leads h = filled_element S R e s source r is leads h
@@ -406,7 +417,8 @@ there_given (no_struct null ws none same) = null_pointer null
 there_given {r} {m} (a_struct a o z ws start n) = struct_suits r m a (entered_leads o) z o.meets.levels o.meets.claims o.covers
 
 -- so content whose pointers can be read isn't refused for what is read
-pub filled_or_refused : FilledOrRefused
+pub filled_or_refused : (source : Source) (q : ℕ) (k : ErrorKind) (all : ContentRead source) → count all.children ≡ min q all.from.pointers →
+    HasNothingToCopy source AStruct k ⊎ ((some : ContentRead source) × (count some.children < min q some.from.pointers) × IsNextUnreadable source some k) → ⊥
 filled_or_refused source q k whole counts (inl (inl rootless)) = rootless.0 whole.root
 filled_or_refused source q k whole counts (inl (inr (has, (m, withheld)))) = not_withheld struct_expected (root_of source) (once_at_root source) m k (there_given whole.leads) withheld
 filled_or_refused source q k whole counts (inr (part, fewer, (m, refused))) =

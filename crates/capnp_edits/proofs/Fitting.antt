@@ -1,6 +1,9 @@
 -- Edits whose words fit the first segment.
-use Rattle.std.proofs.Common.{◌≡◌, ◌⊎◌, inl, inr, ℕ, ◌+◌, ◌<◌, ◌≤◌, true, [], ◌∷◌, length, Option, Some, None, IfSome, IsSomeAnd, refl, sym, ap, ◌∙◌, subst, arith}
+use Rattle.std.proofs.Common.{◌≡◌, ◌⊎◌, inl, inr, ℕ, ◌+◌, ◌<◌, ◌≤◌, true, [], ◌∷◌, length, Option, Some, None, IfSome, IsSomeAnd, refl, sym, ap, ◌∙◌, subst, arith, map, All, List}
 use Rattle.std.proofs.lemmas.Bool.{cases_eq}
+use Rattle.std.specs.List.{sum_by}
+use Rattle.std.proofs.lemmas.List.Sums.{sum_by-cons}
+use Rattle.std.proofs.lemmas.List.Elements.{All-cons, All-head, All-nil, All-tail}
 use Rattle.capnp_words.specs.declared.error.ErrorKind.{ErrorKind}
 use Rattle.capnp_words.specs.declared.error.ErrorKind.TheVariants.{AllocationFailed, MessageTooLarge, NoSuchPlace}
 use Rattle.capnp_arena_traits.specs.View.{View}
@@ -24,11 +27,18 @@ use Rattle.capnp_edits.specs.declared.edit.tasks.Task.{Task}
 use Rattle.capnp_edits.specs.declared.edit.tasks.Task.TheVariants.{Make, Point, InStruct, Write, Search, CopyRoot}
 use Rattle.capnp_edits.specs.declared.edit.tasks.StructChange.TheVariants.{Bits, Content}
 use Rattle.capnp_edits.specs.Edits.{is_of_path, value_of}
-use Rattle.capnp_edits.specs.Fitting.{words_asked, AsksNoMore, AreInFirst, IsNoneOfMemory, StaysInFirst, FittingEdits}
-use Rattle.capnp_edits.specs.Paths.{path_of, IsPathFound}
-use Rattle.capnp_edits.specs.Steps.{FitsAt, IsRefusedAt, IsStep, TakesAt, TakesForObject}
+use Rattle.capnp_edits.specs.Fitting.{words_asked, AsksNoMore, AreInFirst, IsNoneOfMemory}
+use Rattle.capnp_edits.specs.Paths.{IsPathFound, step_of}
+use Rattle.capnp_edits.specs.Steps.{AreSteps, FitsAt, IsRefusedAt, IsStep, TakesAt, TakesForObject}
 use Rattle.capnp_edits.specs.Tasks.{task_of}
 use Rattle.capnp_edits.proofs.Applied.{of_memory}
+
+-- What edits leave in the first segment that ask for n words together: no more are taken, all stand there, it has as much room as before, and the allocator has refused nothing.
+record StaysInFirst (old new : View) (n : ℕ) : Type 0 where
+  words : length (segment new.words 0) ≤ length (segment old.words 0) + n
+  first : AreInFirst new.words
+  room : new.room 0 ≡ old.room 0
+  refusals : new.refusals ≡ old.refusals
 
 -- a place that stores a value is in the first segment
 held_first : (S : Segments) (u q : ℕ) (x : Tree) → AreInFirst S → IsStored S u q x → u ≡ 0
@@ -136,8 +146,8 @@ one_fits old new edit r t forest first asks fits s = by_task s.path_end (task_of
     by_task (Some there) (Some task) found is asks fits =
         let stored = forest_stored old.words t forest in
         let root : 0 < length (segment old.words 0) = omega (arith, stored.inside 0 0 (omega (arith, times-first (word_interval 0 0) (cover old.words 0 0 t) 0 0, once_held 0 0))) in
-        let leads : IsPathFound old.words 0 0 t (path_of edit.path.now) (Some there) = subst (IsPathFound old.words 0 0 t (path_of edit.path.now)) found (s.leads t stored) in
-        at_place old new there task r (some_segment old.words root) first (λ place e. place_first place (subst (λ x. IsPathFound old.words 0 0 t (path_of edit.path.now) (Some x)) e leads)) asks fits (record {
+        let leads : IsPathFound old.words 0 0 t (map step_of edit.path.now) (Some there) = subst (IsPathFound old.words 0 0 t (map step_of edit.path.now)) found (s.leads t stored) in
+        at_place old new there task r (some_segment old.words root) first (λ place e. place_first place (subst (λ x. IsPathFound old.words 0 0 t (map step_of edit.path.now) (Some x)) e leads)) asks fits (record {
           fits = λ room. s.fits (subst (λ x. IfSome x (λ y. IfSome (task_of edit.op) (λ z. FitsAt old z y))) (sym found) (subst (λ x. IfSome x (λ z. FitsAt old z there)) (sym is) room));
           named = λ k e. elim (s.named k e) [
             | inl h ↦ inl h
@@ -150,19 +160,29 @@ one_fits old new edit r t forest first asks fits s = by_task s.path_end (task_of
         some_segment [] h = absurd (omega (arith, h))
         some_segment (x ∷ S) h = omega arith
 
-        place_first : (place : PointerPlace) → IsPathFound old.words 0 0 t (path_of edit.path.now) (Some (AtPointer place)) → place.segment ≡ 0
+        place_first : (place : PointerPlace) → IsPathFound old.words 0 0 t (map step_of edit.path.now) (Some (AtPointer place)) → place.segment ≡ 0
         place_first place f =
-            held_first old.words place.segment place.word f.0 first (stored_within old.words 0 0 t (path_of edit.path.now) place.segment place.word f.0 f.1 (forest_stored old.words t forest))
+            held_first old.words place.segment place.word f.0 first (stored_within old.words 0 0 t (map step_of edit.path.now) place.segment place.word f.0 f.1 (forest_stored old.words t forest))
 
 -- and edits
-pub fitting_edits : FittingEdits
-fitting_edits old new [] [] t forest first asks fits same = (tt, same_first old new 0 first same)
-fitting_edits old new [] (r ∷ rs) t forest first asks fits none = absurd none
-fitting_edits old new (e ∷ es) [] t forest first asks fits none = absurd none
-fitting_edits old new (e ∷ es) (r ∷ rs) t forest first (asks, rest) fits (mid, s, steps) =
-    let (none, one) = one_fits old mid e r t forest first asks (omega (arith, fits)) s in
+abbrev all_asked : List Edit → ℕ
+all_asked edits = sum_by (λ e. words_asked (task_of e.op)) edits
+
+edits_fit : (old new : View) (edits : List Edit) (rs : List (Option ErrorKind)) (t : Tree) → IsForest old.words t → AreInFirst old.words → All (λ e. AsksNoMore (task_of e.op)) edits →
+    length (segment old.words 0) + all_asked edits ≤ old.room 0 → AreSteps old new edits rs → All IsNoneOfMemory rs × StaysInFirst old new (all_asked edits)
+edits_fit old new [] [] t forest first asks fits same = (All-nil IsNoneOfMemory, same_first old new 0 first same)
+edits_fit old new [] (r ∷ rs) t forest first asks fits none = absurd none
+edits_fit old new (e ∷ es) [] t forest first asks fits none = absurd none
+edits_fit old new (e ∷ es) (r ∷ rs) t forest first asks fits (mid, s, steps) =
+    let total : all_asked (e ∷ es) ≡ words_asked (task_of e.op) + all_asked es = sum_by-cons (λ (d : Edit). words_asked (task_of d.op)) e es in
+    let (none, one) = one_fits old mid e r t forest first (All-head (λ (d : Edit). AsksNoMore (task_of d.op)) e es asks) (omega (arith, fits, total)) s in
     let (u, then, takes) = s.applied t forest in
-    let (others, all) = fitting_edits mid new es rs u then one.first rest (omega (arith, fits, one.words, one.room)) steps in (
-      (none, others),
-      record { words = omega (arith, one.words, all.words); first = all.first; room = all.room ∙ one.room; refusals = all.refusals ∙ one.refusals },
+    let (others, all) = edits_fit mid new es rs u then one.first (All-tail (λ (d : Edit). AsksNoMore (task_of d.op)) e es asks) (omega (arith, fits, one.words, one.room, total)) steps in (
+      All-cons IsNoneOfMemory r rs none others,
+      record { words = omega (arith, one.words, all.words, total); first = all.first; room = all.room ∙ one.room; refusals = all.refusals ∙ one.refusals },
     )
+
+pub fitting_edits : (old new : View) (edits : List Edit) (rs : List (Option ErrorKind)) (t : Tree) → IsForest old.words t → AreInFirst old.words → All (λ e. AsksNoMore (task_of e.op)) edits →
+    length (segment old.words 0) + all_asked edits ≤ old.room 0 → AreSteps old new edits rs →
+    All IsNoneOfMemory rs × (length (segment new.words 0) ≤ length (segment old.words 0) + all_asked edits) × AreInFirst new.words × (new.room 0 ≡ old.room 0) × (new.refusals ≡ old.refusals)
+fitting_edits old new edits rs t forest first asks fits steps = let (none, all) = edits_fit old new edits rs t forest first asks fits steps in (none, all.words, all.first, all.room, all.refusals)

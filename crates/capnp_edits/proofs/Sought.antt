@@ -38,14 +38,16 @@ use Rattle.capnp_copies.proofs.Originals.{refused_words}
 use Rattle.capnp_readers.specs.declared.readers.PointerPlace.{PointerPlace}
 use Rattle.capnp_readers.specs.declared.readers.list_reader.ListPlace.{ListPlace}
 use Rattle.capnp_readers.specs.declared.readers.struct_reader.StructPlace.{StructPlace}
-use Rattle.capnp_making.specs.Makes.{CallAt}
+use Rattle.capnp_making.specs.Makes.{CallAt, call_at}
 use Rattle.capnp_widening.specs.Opening.{IsNoWider, Opens, OpensStruct, struct_opened}
 use Rattle.capnp_widening.specs.Rooms.{HasRoomFor, OpeningFits, RefusesGrowth, RefusesToBecome, direct_pointers, is_allocation_name, widened_words}
 use Rattle.capnp_widening.specs.RowsRemade.{RefusesWider}
 use Rattle.capnp_widening.specs.Widened.{list_widened, widened}
 use Rattle.capnp_widening.proofs.Refusing.{growth_named}
-use Rattle.capnp_builders.specs.Defaults.{IsIgnoredDefault, IsShortDefault, DefaultUse, ignored, denied as is_denied_by, copied as is_copied_from, use_of_words, default_use, default_root, default_copy, RefusesDefault, WithDefault, DefaultFits, FitsWithDefault, object_default, blob_default}
-use Rattle.capnp_builders.specs.Found.{list_given, bytes_given, GivesFoundList, GivesFoundBytes, FindsList, FindsBytes}
+use Rattle.capnp_builders.specs.Defaults.{IsIgnoredDefault, IsShortDefault, DefaultUse, ignored, denied as is_denied_by, copied as is_copied_from, default_use, default_root, RefusesDefault, WithDefault, DefaultFits, FitsWithDefault, object_default, blob_default}
+use Rattle.capnp_builders.proofs.DefaultRooms.{use_of_words}
+use Rattle.capnp_builders.proofs.DefaultCopies.{default_copy}
+use Rattle.capnp_builders.specs.Found.{list_given, bytes_given, FindsList, FindsBytes}
 use Rattle.capnp_builders.specs.Opening.{IsStructGiven, IsListGiven, OpensList, FindsStruct, FindsStructs, StructFindFits, StructsFindFits}
 use Rattle.capnp_edits.specs.declared.edit.path.PathEnd.TheVariants.{Pointer as AtPointer}
 use Rattle.capnp_edits.specs.declared.edit.tasks.Task.TheVariants.{Search}
@@ -53,7 +55,9 @@ use Rattle.capnp_edits.specs.declared.edit.tasks.Sought.{Sought}
 use Rattle.capnp_edits.specs.declared.edit.tasks.Sought.TheVariants.{Struct as ForStruct, List as ForList, StructList as ForStructs, Text as ForText, Data as ForData}
 use Rattle.capnp_edits.specs.Tasks.{is_small_default, is_in_range}
 use Rattle.capnp_edits.specs.Edits.{refusal_of, Making, allocates, becomes, nowhere, made_of_found, looked_for, with_default, default_for, is_of_path, Yields, DoesAt}
-use Rattle.capnp_edits.specs.Steps.{FitsAt, IsOpeningRefused, IsSearchRefused, FindsSought, OpeningHasRoom, OpensThere, IsDoneAt, result_of}
+use Rattle.capnp_builders.proofs.FoundLists.{GivesFoundList}
+use Rattle.capnp_builders.proofs.FoundBytes.{GivesFoundBytes}
+use Rattle.capnp_edits.specs.Steps.{FitsAt, IsOpeningRefused, IsRefusedAt, FindsSought, OpeningHasRoom, OpensThere, IsDoneAt, result_of}
 use Rattle.capnp_edits.proofs.Applied.{Does, never_refused, of_allocation, of_no_place, denied_at}
 use Rattle.capnp_edits.proofs.Contents.{list_anywhere, data_anywhere, text_anywhere}
 use Rattle.capnp_edits.proofs.Names.{elsewhere, struct_elsewhere, structs_elsewhere, list_elsewhere, data_elsewhere, text_elsewhere, fault_elsewhere, unfound_name, list_unfound, data_unfound, text_unfound}
@@ -154,7 +158,7 @@ replaced_if : (S M R : Segments) (place : PointerPlace) (d : Tree) (left : Optio
 replaced_if S M R place d (Some u) put next = replaced_again S M R place.segment place.word Null d u put next
 replaced_if S M R place d None put same = subst (λ Q. IsReplaced S Q place.segment place.word Null d) (sym same) put
 
-dropped_name : (bytes : List ℕ) (id at : ℕ) (old new : View) (k : ErrorKind) → RefusesDefault bytes (default_copy id at old new) k → (is_allocation_name k ≡ true) ⊎ HasFault of_default (default_root bytes) k
+dropped_name : (bytes : List ℕ) (id at : ℕ) (old new : View) (k : ErrorKind) → RefusesDefault bytes (call_at id at old new) k → (is_allocation_name k ≡ true) ⊎ HasFault of_default (default_root bytes) k
 dropped_name bytes id at old new k (inl fault) = inr fault
 dropped_name bytes id at old new k (inr (lacks, large)) =
     let x = refused_words (value_original (default_root bytes)) (default_copy id at old new) k lacks in
@@ -165,11 +169,11 @@ null_does : {B : Type 0} (result : Result B ErrorKind) (used : DefaultUse) (made
 null_does result ignored made_of P c stored does h = as_stands c.old.words c.new.words (place_in c) (made_of Null) Null (refusal_of result) (does c Null stored h)
 null_does result (is_denied_by k) made_of P c stored does h = denied_at k refl (ap refusal_of h.0) (same_words h.1)
 null_does result (is_copied_from bytes) made_of P c stored does (inl on) =
-    let then = does (record c { old = on.mid }) on.value on.put.replaced.stored on.does in
+    let then = does (record c { old = on.0 }) on.1 on.2.replaced.stored on.3 in
     record {
-      left = Some (unwrap_or then.left on.value);
-      leaves = default_put bytes made_of on.value (refusal_of result) then.left (on.put.meant.0, on.put.meant.1, on.put.plain) then.yields;
-      stands = replaced_if c.old.words on.mid.words c.new.words (place_in c) on.value then.left on.put.replaced then.stands;
+      left = Some (unwrap_or then.left on.1);
+      leaves = default_put bytes made_of on.1 (refusal_of result) then.left (on.2.meant.0, on.2.meant.1, on.2.plain) then.yields;
+      stands = replaced_if c.old.words on.0.words c.new.words (place_in c) on.1 then.left on.2.replaced then.stands;
     }
 null_does (Err k) (is_copied_from bytes) made_of P c stored does (inr drops) =
     record { left = Some Null; leaves = default_dropped bytes made_of k (dropped_name bytes c.segment c.at c.old c.new k drops.named); stands = drops.replaced }
@@ -258,7 +262,7 @@ text_why k c t stored h = inl (elsewhere (text_in (target c.old.words c.segment 
 data Why (sought : Sought) (c : CallAt) (default : Option (Bor (List ℕ))) (k : ErrorKind) : Type 0 where
   as_found : IsOpeningRefused sought c k → Why sought c default k
   as_default : (d : Bor (List ℕ)) (mid : View) → default ≡ Some d → KeepsMemory c.old mid → IsWhy sought (record c { old = mid }) k → Why sought c default k
-  as_copy : (d : Bor (List ℕ)) → default ≡ Some d → SpendsMemory c.old c.new k → RefusesDefault d.now (default_copy c.segment c.at c.old c.new) k → Why sought c default k
+  as_copy : (d : Bor (List ℕ)) → default ≡ Some d → SpendsMemory c.old c.new k → RefusesDefault d.now c k → Why sought c default k
 
 unopened : (sought : Sought) (c : CallAt) (k : ErrorKind) → c.new ≡ c.old → IsOpeningRefused sought c k
 unopened (ForStruct size) c k same = inl same
@@ -289,8 +293,8 @@ why_used : (B : Type 0) (k : ErrorKind) (used : DefaultUse) (d : Bor (List ℕ))
     Why sought c (Some d) k
 why_used B k ignored d sought P c stored only why h = as_found (plainly sought c k (why c Null stored h))
 why_used B k (is_denied_by j) d sought P c stored only why h = as_found (unopened sought c k h.1)
-why_used B k (is_copied_from bytes) d sought P c stored only why (inl on) = as_default d on.mid refl on.put.memory (why (record c { old = on.mid }) on.value on.put.replaced.stored on.does)
-why_used B k (is_copied_from bytes) d sought P c stored only why (inr drops) = as_copy d refl drops.memory (subst (λ b. RefusesDefault b (default_copy c.segment c.at c.old c.new) k) only drops.named)
+why_used B k (is_copied_from bytes) d sought P c stored only why (inl on) = as_default d on.0 refl on.2.memory (why (record c { old = on.0 }) on.1 on.2.replaced.stored on.3)
+why_used B k (is_copied_from bytes) d sought P c stored only why (inr drops) = as_copy d refl drops.memory (subst (λ b. RefusesDefault b c k) only drops.named)
 
 why_null : (B : Type 0) (k : ErrorKind) (of_null : DefaultUse) (default : Option (Bor (List ℕ))) (sought : Sought) (P : CallAt → Tree → Type 0) (c : CallAt) → IsStored c.old.words c.segment c.at Null → ((bytes : List ℕ) → IsOf bytes of_null) → WhySo sought P k →
     WithDefault {B = B} (default_use of_null default Null) c Null P (Err k) → Why sought c default k
@@ -306,6 +310,9 @@ why_refused B k of_null default sought P c there plain why found set = elim (cas
 ]
 
 -- so it is refused
+abbrev IsSearchRefused : Sought → CallAt → Option (Bor (List ℕ)) → ErrorKind → Type 0
+IsSearchRefused sought c default k = IsRefusedAt c.old c.new (Search sought default) k (AtPointer (place_in c))
+
 refused_so : (sought : Sought) (c : CallAt) (default : Option (Bor (List ℕ))) (k : ErrorKind) → Why sought c default k → IsSearchRefused sought c default k
 refused_so sought c None k (as_found h) = h
 refused_so sought c (Some d) k (as_found h) = inl (c.old, keeps_itself c.old, h)
@@ -314,7 +321,7 @@ refused_so sought c (Some e) k (as_default d mid is keeps h) = inl (mid, keeps, 
 refused_so sought c None k (as_copy d is spent named) = absurd (cc)
 refused_so sought c (Some e) k (as_copy d is spent named) =
     let same : d ≡ e = same_default d e (sym is) in
-    inr (spent, subst (λ (x : Bor (List ℕ)). RefusesDefault x.now (default_copy c.segment c.at c.old c.new) k) same named)
+    inr (spent, subst (λ (x : Bor (List ℕ)). RefusesDefault x.now c k) same named)
   where
     same_default : (d e : Bor (List ℕ)) → Some d ≡ Some e → d ≡ e
     same_default d e h = cc
@@ -345,7 +352,7 @@ FindsThere sought default r c t = WithDefault (default_for sought default t) c t
 by_outcome : {B : Type 0} (result : Result B ErrorKind) (used : DefaultUse) (P Q : CallAt → Tree → Type 0) (c : CallAt) (t : Tree) → ((d : CallAt) (u : Tree) → P d u → Q d u) → WithDefault used c t P result → WithDefault used c t Q (result_of (refusal_of result))
 by_outcome result ignored P Q c t so h = so c t h
 by_outcome {B} result (is_denied_by k) P Q c t so h = (ap (λ (r : Result B ErrorKind). result_of (refusal_of r)) h.0, h.1)
-by_outcome result (is_copied_from bytes) P Q c t so (inl on) = inl (record { mid = on.mid; value = on.value; put = on.put; does = so (record c { old = on.mid }) on.value on.does })
+by_outcome result (is_copied_from bytes) P Q c t so (inl on) = inl (on.0, on.1, on.2, so (record c { old = on.0 }) on.1 on.3)
 by_outcome (Ok x) (is_copied_from bytes) P Q c t so (inr drops) = absurd drops
 by_outcome (Err k) (is_copied_from bytes) P Q c t so (inr drops) = inr drops
 
@@ -412,7 +419,7 @@ opens_there (Err k) c size default empty = λ null none nothing e. absurd (cc)
 -- what a call leaves that is refused, or isn't
 search_done : {B : Type 0} (result : Result B ErrorKind) (sought : Sought) (default : Option (Bor (List ℕ))) (c : CallAt) → Does c.old.words c.new.words (place_in c) (Search sought default) (refusal_of result) → OnOk result (KeepsMemory c.old c.new) →
     IfErr result (SpendsMemory c.old c.new) → IfErr result (Why sought c default) → (FitsAt c.old (Search sought default) (AtPointer (place_in c)) → IfErr result (λ k. is_of_path k ≡ true)) →
-    ((t : Tree) → IsStored c.old.words c.segment c.at t → FindsThere sought default (refusal_of result) c t) → OpensThere c sought default (refusal_of result) → IsDoneAt c.old c.new (place_in c) (Search sought default) (refusal_of result)
+    ((t : Tree) → IsStored c.old.words c.segment c.at t → FindsThere sought default (refusal_of result) c t) → OpensThere c sought default (refusal_of result) → IsDoneAt c.old c.new (AtPointer (place_in c)) (Search sought default) (refusal_of result)
 search_done (Ok x) sought default c does granted memory why fits finds opens = record {
   done = does;
   counted = ap (λ (v : View). v.refusals) granted.0;
@@ -451,7 +458,7 @@ unfound_place UnknownPointerType e = refl
 unfound_place k e = e
 
 -- its copy isn't refused
-never_dropped : (bytes : List ℕ) (id at : ℕ) (old new : View) (k : ErrorKind) → CanBeCopied (value_original (default_root bytes)) of_default (unused None) old id → RefusesDefault bytes (default_copy id at old new) k → ⊥
+never_dropped : (bytes : List ℕ) (id at : ℕ) (old new : View) (k : ErrorKind) → CanBeCopied (value_original (default_root bytes)) of_default (unused None) old id → RefusesDefault bytes (call_at id at old new) k → ⊥
 never_dropped bytes id at old new k can (inl fault) = no_fault of_default k fault (capabilities can.value) can.is_read.takes (can.value, can.is_read.cost, can.is_read.means, omega arith)
 never_dropped bytes id at old new k can (inr (lacks, large)) = let more = large of_default (unused None) can.after can.value can.is_read in omega (arith, more, can.room)
 
@@ -469,7 +476,7 @@ used_fits B k of_null bytes (x ∷ xs) P c plain name room h = by_first (nat_eq 
     by_first true ignored d g = unfound_place k (name c Null g)
     by_first true (is_denied_by j) d g = ap is_of_path (same_err k j g.0) ∙ d
     by_first true (is_copied_from other) d g = absurd d
-    by_first false used d (inl on) = unfound_place k (name (record c { old = on.mid }) on.value on.does)
+    by_first false used d (inl on) = unfound_place k (name (record c { old = on.0 }) on.1 on.3)
     by_first false used d (inr drops) = absurd (never_dropped bytes c.segment c.at c.old c.new k room drops.named)
 
 found_fits : {B : Type 0} (result : Result B ErrorKind) (of_null : DefaultUse) (default : Option (Bor (List ℕ))) (P : Result B ErrorKind → CallAt → Tree → Type 0) (c : CallAt) → IsPlace c.old.words c.segment c.at → ((bytes : List ℕ) → IsDenied of_null) →
@@ -512,7 +519,7 @@ pub struct_sought : (result : Result StructPlace ErrorKind) (size : StructSize) 
     ((t : Tree) → IsStored c.old.words c.segment c.at t → FindsStruct size default result c t) → ((word_at c.old.words c.segment c.at ≡ 0 → ⊥) → IfErr result (IsNoWider size c)) →
     OnOk result (KeepsMemory c.old c.new) → IfErr result (SpendsMemory c.old c.new) → (StructFindFits size default c.old c.segment c.at → IsOk result) →
     (word_at c.old.words c.segment c.at ≡ 0 → IsIgnoredDefault default → size.data_words + size.pointers ≡ 0 → OnOk result (word_at c.new.words c.segment c.at ≡ struct_word (2 ^ 30 - 1) 0 0)) →
-    IsDoneAt c.old c.new (place_in c) (Search (ForStruct size) default) (refusal_of result)
+    IsDoneAt c.old c.new (AtPointer (place_in c)) (Search (ForStruct size) default) (refusal_of result)
 struct_sought result size default c there found set granted memory fits empty =
     search_done result (ForStruct size) default c
     (λ t stored. with_does result ignored default (looked_for (ForStruct size)) (OpensStruct IsStructGiven size result) c t stored (struct_so result size) (found t stored)) granted memory
@@ -523,7 +530,7 @@ struct_sought result size default c there found set granted memory fits empty =
 pub structs_sought : (result : Result ListPlace ErrorKind) (size : StructSize) (default : Option (Bor (List ℕ))) (c : CallAt) → IsPlace c.old.words c.segment c.at →
     ((t : Tree) → IsStored c.old.words c.segment c.at t → FindsStructs size default result c t) → ((word_at c.old.words c.segment c.at ≡ 0 → ⊥) → IfErr result (RefusesWider (IsStored c.old.words c.segment c.at) size c.old c.new)) →
     OnOk result (KeepsMemory c.old c.new) → IfErr result (SpendsMemory c.old c.new) → (StructsFindFits size default c.old c.segment c.at → IsOk result) →
-    IsDoneAt c.old c.new (place_in c) (Search (ForStructs size) default) (refusal_of result)
+    IsDoneAt c.old c.new (AtPointer (place_in c)) (Search (ForStructs size) default) (refusal_of result)
 structs_sought result size default c there found set granted memory fits =
     search_done result (ForStructs size) default c
     (λ t stored. with_does result ignored default (looked_for (ForStructs size)) (OpensList size result) c t stored (structs_so result size) (found t stored)) granted memory
@@ -532,7 +539,7 @@ structs_sought result size default c there found set granted memory fits =
 
 pub list_sought : (result : Result ListPlace ErrorKind) (size : ElementSize) (default : Option (Bor (List ℕ))) (c : CallAt) → IsPlace c.old.words c.segment c.at →
     ((t : Tree) → IsStored c.old.words c.segment c.at t → FindsList size default result c t) → ((word_at c.old.words c.segment c.at ≡ 0 → ⊥) → (c.new ≡ c.old) × IfErr result (λ k. is_unfound k ≡ true)) →
-    OnOk result (KeepsMemory c.old c.new) → IfErr result (SpendsMemory c.old c.new) → IsDoneAt c.old c.new (place_in c) (Search (ForList size) default) (refusal_of result)
+    OnOk result (KeepsMemory c.old c.new) → IfErr result (SpendsMemory c.old c.new) → IsDoneAt c.old c.new (AtPointer (place_in c)) (Search (ForList size) default) (refusal_of result)
 list_sought result size default c there found set granted memory =
     search_done result (ForList size) default c
     (λ t stored. with_does result ignored default (looked_for (ForList size)) (GivesFoundList size result) c t stored (list_so result size) (found t stored)) granted memory
@@ -542,7 +549,7 @@ list_sought result size default c there found set granted memory =
 
 pub data_sought : (result : Result ExistingBytes ErrorKind) (default : Option (Bor (List ℕ))) (c : CallAt) → IsPlace c.old.words c.segment c.at →
     ((t : Tree) → IsStored c.old.words c.segment c.at t → FindsBytes data_in default result c t) → ((word_at c.old.words c.segment c.at ≡ 0 → ⊥) → (c.new ≡ c.old) × IfErr result (λ k. is_unfound k ≡ true)) →
-    OnOk result (KeepsMemory c.old c.new) → IfErr result (SpendsMemory c.old c.new) → IsDoneAt c.old c.new (place_in c) (Search ForData default) (refusal_of result)
+    OnOk result (KeepsMemory c.old c.new) → IfErr result (SpendsMemory c.old c.new) → IsDoneAt c.old c.new (AtPointer (place_in c)) (Search ForData default) (refusal_of result)
 data_sought result default c there found set granted memory =
     let of_null : DefaultUse = is_denied_by ExistingPointerIsNotAList in
     search_done result ForData default c
@@ -553,7 +560,7 @@ data_sought result default c there found set granted memory =
 
 pub text_sought : (result : Result ExistingBytes ErrorKind) (default : Option (Bor (List ℕ))) (c : CallAt) → IsPlace c.old.words c.segment c.at →
     ((t : Tree) → IsStored c.old.words c.segment c.at t → FindsBytes text_in default result c t) → ((word_at c.old.words c.segment c.at ≡ 0 → ⊥) → (c.new ≡ c.old) × IfErr result (λ k. is_unfound k ≡ true)) →
-    OnOk result (KeepsMemory c.old c.new) → IfErr result (SpendsMemory c.old c.new) → IsDoneAt c.old c.new (place_in c) (Search ForText default) (refusal_of result)
+    OnOk result (KeepsMemory c.old c.new) → IfErr result (SpendsMemory c.old c.new) → IsDoneAt c.old c.new (AtPointer (place_in c)) (Search ForText default) (refusal_of result)
 text_sought result default c there found set granted memory =
     let of_null : DefaultUse = is_denied_by ExistingPointerIsNotAList in
     search_done result ForText default c

@@ -1,10 +1,10 @@
 -- Steps: one edit at its place, and edits one behind the other.
-use Rattle.std.proofs.Common.{◌≡◌, ◌⊎◌, inl, inr, ℕ, ◌+◌, ◌*◌, ◌<◌, ◌≤◌, true, ◌&&◌, cond, List, [], ◌∷◌, ◌++◌, length, take, get_or, set, Option, Some, None, IfSome, IsSomeAnd, refl, sym, ap, ap₂, ◌∙◌, subst, arith, lt-ltb}
+use Rattle.std.proofs.Common.{◌≡◌, ◌⊎◌, inl, inr, ℕ, ◌+◌, ◌*◌, ◌<◌, ◌≤◌, true, ◌&&◌, cond, List, [], ◌∷◌, ◌++◌, length, take, get_or, set, Option, Some, None, IfSome, IsSomeAnd, refl, sym, ap, ap₂, ◌∙◌, subst, arith, lt-ltb, map}
 use Rattle.std.proofs.lemmas.List.{append-nil, take_more, take_more_set}
 use Rattle.capnp_words.specs.declared.error.ErrorKind.{ErrorKind}
 use Rattle.capnp_words.specs.declared.error.ErrorKind.TheVariants.{NoSuchPlace}
 use Rattle.capnp_arena_traits.specs.View.{View}
-use Rattle.capnp_format.specs.Forest.{target, cover}
+use Rattle.capnp_format.specs.Forest.{IsForest, target, cover}
 use Rattle.capnp_format.specs.Segments.{Segments, segment}
 use Rattle.capnp_format.specs.Tree.{Tree, Struct, Pointers, Structs, count, element_count}
 use Rattle.capnp_making.proofs.Extents.{once_held, times-first}
@@ -16,8 +16,8 @@ use Rattle.capnp_edits.specs.declared.edit.tasks.Task.{Task}
 use Rattle.capnp_edits.specs.declared.edit.path.PathEnd.{PathEnd}
 use Rattle.capnp_edits.specs.declared.edit.path.PathEnd.TheVariants.{Pointer as AtPointer, Element as AtElement}
 use Rattle.capnp_edits.specs.Edits.{is_of_path, IsApplied, refusals_after, Takes}
-use Rattle.capnp_edits.specs.Paths.{PointerTo, ElementOf, path_of, found, IsPathFound}
-use Rattle.capnp_edits.specs.Steps.{DoesThere, FitsAt, IsRefusedAt, TakesAt, IsStep, AreSteps, StepIsThere}
+use Rattle.capnp_edits.specs.Paths.{PointerTo, ElementOf, found, IsPathFound, step_of}
+use Rattle.capnp_edits.specs.Steps.{DoesThere, FitsAt, IsRefusedAt, TakesAt, IsStep, AreSteps}
 use Rattle.capnp_edits.specs.Tasks.{task_of}
 use Rattle.capnp_edits.proofs.Applied.{no_forest}
 use Rattle.capnp_edits.proofs.Steps.{first, same_some}
@@ -25,7 +25,7 @@ use Rattle.capnp_edits.proofs.Walks.{found-append}
 
 -- an edit at its place
 pub step_at : (old new : View) (edit : Edit) (there : PathEnd) (task : Task) (r : Option ErrorKind) → task_of edit.op ≡ Some task → 1 ≤ length (segment old.words 0) → IsApplied (Takes edit r) old.words new.words → new.refusals ≡ refusals_after r old.refusals →
-    ((t : Tree) → IsStored old.words 0 0 t → IsPathFound old.words 0 0 t (path_of edit.path.now) (Some there)) → ((k : ErrorKind) → r ≡ Some k → ((is_of_path k ≡ true) × (new ≡ old)) ⊎ IsRefusedAt old new task k there) →
+    ((t : Tree) → IsStored old.words 0 0 t → IsPathFound old.words 0 0 t (map step_of edit.path.now) (Some there)) → ((k : ErrorKind) → r ≡ Some k → ((is_of_path k ≡ true) × (new ≡ old)) ⊎ IsRefusedAt old new task k there) →
     (FitsAt old task there → (k : ErrorKind) → r ≡ Some k → is_of_path k ≡ true) → (r ≡ Some NoSuchPlace → new ≡ old) → ((r ≡ Some NoSuchPlace → ⊥) → TakesAt old new task r there) → DoesThere old.words new.words there task r → IsStep old new edit r
 step_at old new edit there task r is root applied counted leads named fits nowhere taken done = record {
   applied = applied;
@@ -49,7 +49,7 @@ step_at old new edit there task r is root applied counted leads named fits nowhe
 of_missing : (k : ErrorKind) → Some NoSuchPlace ≡ Some k → is_of_path k ≡ true
 of_missing k e = sym (ap is_of_path (same_some NoSuchPlace k e))
 
-pub nothing_done : (v : View) (edit : Edit) (place : Option PathEnd) → IsApplied (Takes edit (Some NoSuchPlace)) v.words v.words → ((t : Tree) → IsStored v.words 0 0 t → IsPathFound v.words 0 0 t (path_of edit.path.now) place) →
+pub nothing_done : (v : View) (edit : Edit) (place : Option PathEnd) → IsApplied (Takes edit (Some NoSuchPlace)) v.words v.words → ((t : Tree) → IsStored v.words 0 0 t → IsPathFound v.words 0 0 t (map step_of edit.path.now) place) →
     IfSome place (λ there. IfSome (task_of edit.op) (λ task. DoesThere v.words v.words there task (Some NoSuchPlace))) → IsStep v v edit (Some NoSuchPlace)
 nothing_done v edit place applied leads done = record {
   applied = applied;
@@ -115,11 +115,12 @@ no_element : (x y : Tree) → Some (PointerTo x) ≡ Some (ElementOf y) → ⊥
 no_element x y e = cc
 
 -- so a step is done there
-pub step_is_there : StepIsThere
+pub step_is_there : (old new : View) (edit : Edit) (r : Option ErrorKind) (t x : Tree) (u q : ℕ) (s : IsStep old new edit r) → IsForest old.words t → PathLeads old.words 0 0 t (map step_of edit.path.now) u q x →
+    s.path_end ≡ Some (AtPointer (record { segment = u; word = q }))
 step_is_there old new edit r t x u q s forest leads = go s.path_end (s.leads t (forest_stored old.words t forest))
   where
     path : List Step
-    path = path_of edit.path.now
+    path = map step_of edit.path.now
 
     end_value : found t path ≡ Some (PointerTo x)
     end_value = leads_value old.words 0 0 t path u q x leads

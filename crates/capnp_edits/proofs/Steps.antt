@@ -1,5 +1,5 @@
 -- One step more of a path.
-use Rattle.std.proofs.Common.{◌≡◌, inl, inr, ℕ, zero, suc, ◌+◌, ◌*◌, ◌<◌, ◌≤◌, false, ◌&&◌, cond, nat_lt, List, [], ◌∷◌, ◌++◌, length, get_or, take, drop, Option, Some, None, IfSome, Ok, Err, refl, sym, ap, ◌∙◌, subst, arith, lt-ltb}
+use Rattle.std.proofs.Common.{◌≡◌, inl, inr, ℕ, zero, suc, ◌+◌, ◌*◌, ◌<◌, ◌≤◌, false, ◌&&◌, cond, nat_lt, List, [], ◌∷◌, ◌++◌, length, get_or, take, drop, Option, Some, None, IfSome, Ok, Err, refl, sym, ap, ◌∙◌, subst, arith, lt-ltb, map}
 use Rattle.std.proofs.lemmas.Bool.{cases_lt}
 use Rattle.std.proofs.lemmas.Bool.Decides.{nat_tests}
 use Rattle.std.proofs.lemmas.List.{append_assoc, take_more, take-append-drop}
@@ -19,7 +19,7 @@ use Rattle.capnp_making.proofs.Replaced.{stored_within}
 use Rattle.capnp_edits.specs.declared.edit.Step.{Step as EditStep}
 use Rattle.capnp_edits.specs.declared.edit.path.PathEnd.{PathEnd}
 use Rattle.capnp_edits.specs.declared.edit.path.PathEnd.TheVariants.{Pointer as AtPointer, Element as AtElement}
-use Rattle.capnp_edits.specs.Paths.{step_of, path_of, found, IsElementFound, IsPathFound, EndLiesIn, child_in, element_in, Steps}
+use Rattle.capnp_edits.specs.Paths.{step_of, found, IsElementFound, IsPathFound, EndLiesIn, child_in, element_in, Steps}
 use Rattle.capnp_edits.proofs.Walks.{leads_further, found-append}
 use Rattle.capnp_widening.proofs.Listed.{same_list}
 
@@ -229,25 +229,25 @@ step_further S s p t path (AtPointer place) step r f stored h = pointer_further 
 step_further S s p t path (AtElement e) (Child j) r f stored h = element_child S s p t path e j r f stored h
 step_further S s p t path (AtElement e) (Element j) r f stored h = subst (IsPathFound S s p t (path ++ Element j ∷ [])) (sym h) (element_element S s p t path e j f)
 
-path_of-append : (xs ys : List EditStep) → path_of (xs ++ ys) ≡ path_of xs ++ path_of ys
-path_of-append [] ys = refl
-path_of-append (x ∷ xs) ys = ap (λ p. step_of x ∷ p) (path_of-append xs ys)
+steps-append : (xs ys : List EditStep) → map step_of (xs ++ ys) ≡ map step_of xs ++ map step_of ys
+steps-append [] ys = refl
+steps-append (x ∷ xs) ys = ap (λ p. step_of x ∷ p) (steps-append xs ys)
 
 -- step number i of a path is taken
-pub step_taken : (S : Segments) (s p : ℕ) (t : Tree) (i : ℕ) (path : List EditStep) (here next : PathEnd) → i < length path → IsPathFound S s p t (path_of (take i path)) (Some here) → IsStored S s p t → (d : EditStep) →
-    Steps S here (step_of (get_or path i d)) (Some next) → IsPathFound S s p t (path_of (take (i + 1) path)) (Some next)
+pub step_taken : (S : Segments) (s p : ℕ) (t : Tree) (i : ℕ) (path : List EditStep) (here next : PathEnd) → i < length path → IsPathFound S s p t (map step_of (take i path)) (Some here) → IsStored S s p t → (d : EditStep) →
+    Steps S here (step_of (get_or path i d)) (Some next) → IsPathFound S s p t (map step_of (take (i + 1) path)) (Some next)
 step_taken S s p t i path here next l f stored d h =
-    let same : path_of (take (i + 1) path) ≡ path_of (take i path) ++ step_of (get_or path i d) ∷ [] = ap path_of (take_more path i d l) ∙ path_of-append (take i path) (get_or path i d ∷ []) in
-    subst (λ x. IsPathFound S s p t x (Some next)) (sym same) (step_further S s p t (path_of (take i path)) here (step_of (get_or path i d)) (Some next) f stored h)
+    let same : map step_of (take (i + 1) path) ≡ map step_of (take i path) ++ step_of (get_or path i d) ∷ [] = ap (map step_of) (take_more path i d l) ∙ steps-append (take i path) (get_or path i d ∷ []) in
+    subst (λ x. IsPathFound S s p t x (Some next)) (sym same) (step_further S s p t (map step_of (take i path)) here (step_of (get_or path i d)) (Some next) f stored h)
 
 -- or leads nowhere, and so does the path
-pub step_nowhere : (S : Segments) (s p : ℕ) (t : Tree) (i : ℕ) (path : List EditStep) (here : PathEnd) → i < length path → IsPathFound S s p t (path_of (take i path)) (Some here) → IsStored S s p t → (d : EditStep) →
-    Steps S here (step_of (get_or path i d)) None → IsPathFound S s p t (path_of path) None
+pub step_nowhere : (S : Segments) (s p : ℕ) (t : Tree) (i : ℕ) (path : List EditStep) (here : PathEnd) → i < length path → IsPathFound S s p t (map step_of (take i path)) (Some here) → IsStored S s p t → (d : EditStep) →
+    Steps S here (step_of (get_or path i d)) None → IsPathFound S s p t (map step_of path) None
 step_nowhere S s p t i path here l f stored d h =
-    let front = path_of (take i path) in
+    let front = map step_of (take i path) in
     let step = step_of (get_or path i d) in
-    let rest = path_of (drop (i + 1) path) in
-    let whole : path_of path ≡ front ++ step ∷ rest = ap path_of (parts path i l) ∙ path_of-append (take i path) (get_or path i d ∷ drop (i + 1) path) in
+    let rest = map step_of (drop (i + 1) path) in
+    let whole : map step_of path ≡ front ++ step ∷ rest = ap (map step_of) (parts path i l) ∙ steps-append (take i path) (get_or path i d ∷ drop (i + 1) path) in
     let none = step_further S s p t front here step None f stored h in
     λ more. ap (λ x. found t (x ++ more)) whole ∙ ap (found t) (append_assoc front (step ∷ rest) more ∙ sym (append_assoc front (step ∷ []) (rest ++ more))) ∙ none (rest ++ more)
   where

@@ -2,7 +2,6 @@
 use Rattle.std.proofs.Common.{◌≡◌, ℕ, ◌+◌, ◌*◌, length, Option, Result, Ok, Err, ap, ◌∙◌}
 use Rattle.std.proofs.lemmas.List.{length-set}
 use Rattle.capnp_words.specs.declared.error.ErrorKind.{ErrorKind}
-use Rattle.capnp_words.specs.declared.wire_pointer.ElementSize.{ElementSize}
 use Rattle.capnp_arena_traits.proofs.WordsOver.{lengths_kept}
 use Rattle.capnp_format.specs.Segments.{Segments, segment}
 use Rattle.capnp_making.specs.Fields.{put_field, with_field}
@@ -14,6 +13,7 @@ use Rattle.capnp_copies.specs.Growth.{TakesAtMost}
 use Rattle.capnp_copies.specs.Originals.{Original}
 use Rattle.capnp_builders.specs.Places.{Field}
 use Rattle.capnp_edits.specs.Edits.{refusal_of, are_written, are_outside, PutsBits, PutsElement, element_put, element_past, no_list, list_denied, PutsByte, byte_put, byte_past, no_bytes_there, bytes_denied}
+use Rattle.capnp_edits.specs.declared.edit.tasks.Number.{Number}
 use Rattle.capnp_edits.specs.Steps.{result_of}
 use Rattle.capnp_arena_traits.specs.View.{View, KeepsLimits}
 use Rattle.capnp_widening.specs.Anew.{OnlyWrites}
@@ -37,11 +37,11 @@ pub bits_lengths : (S R : Segments) (e : ExistingStruct) (f : Field) (r : Option
 bits_lengths S R e f r (are_written starts ends done written) = field_lengths S R _ _ _ _ written
 bits_lengths S R e f r (are_outside past named same) = same_lengths S R same
 
-pub element_lengths : (S R : Segments) (looked : Result (Option ExistingList) ErrorKind) (size : ElementSize) (i v : ℕ) (r : Option ErrorKind) → PutsElement S R looked size i v r → KeepsLengths S R
-element_lengths S R looked size i v r (element_put l is less done written) = field_lengths S R _ _ _ _ written
-element_lengths S R looked size i v r (element_past l is past named same) = same_lengths S R same
-element_lengths S R looked size i v r (no_list none named same) = same_lengths S R same
-element_lengths S R looked size i v r (list_denied k is named same) = same_lengths S R same
+pub element_lengths : (S R : Segments) (looked : Result (Option ExistingList) ErrorKind) (n : Number) (r : Option ErrorKind) → PutsElement S R looked n r → KeepsLengths S R
+element_lengths S R looked n r (element_put l is less done written) = field_lengths S R _ _ _ _ written
+element_lengths S R looked n r (element_past l is past named same) = same_lengths S R same
+element_lengths S R looked n r (no_list none named same) = same_lengths S R same
+element_lengths S R looked n r (list_denied k is named same) = same_lengths S R same
 
 pub byte_lengths : (S R : Segments) (looked : Result (Option ExistingBytes) ErrorKind) (i v : ℕ) (r : Option ErrorKind) → PutsByte S R looked i v r → KeepsLengths S R
 byte_lengths S R looked i v r (byte_put b is less done written) = field_lengths S R b.segment (8 * (8 * b.start + i)) 8 v written

@@ -1,20 +1,20 @@
 -- The ways in which an edit ends, one by one; and what an operation makes, by the task that it is.
-use Rattle.std.proofs.Common.{◌≡◌, ◌⊎◌, inl, inr, Bool, ℕ, true, false, ◌+◌, ◌*◌, ◌^◌, ◌<◌, ◌&&◌, if◌then◌else◌, min, nat_le, nat_lt, List, length, Option, Some, None, unwrap_or, refl, sym, ap, ◌∙◌, subst}
+use Rattle.std.proofs.Common.{◌≡◌, ◌⊎◌, inl, inr, Bool, ℕ, true, false, ◌+◌, ◌*◌, ◌^◌, ◌<◌, ◌&&◌, if◌then◌else◌, min, nat_le, nat_lt, List, length, Option, Some, None, unwrap_or, refl, sym, ap, ◌∙◌, subst, map}
 use Rattle.std.specs.Borrow.{Bor}
 use Rattle.std.specs.Option.{option_map_or}
 use Rattle.std.specs.Prelude.{MatchOption}
 use Rattle.capnp_words.specs.declared.error.ErrorKind.{ErrorKind}
 use Rattle.capnp_words.specs.declared.error.ErrorKind.TheVariants.{NoSuchPlace}
-use Rattle.capnp_words.specs.declared.wire_pointer.ElementSize.{ElementSize}
 use Rattle.capnp_words.specs.declared.wire_pointer.ElementSize.TheVariants.{Void, Bit, Byte}
 use Rattle.capnp_words.specs.Sizes.{size_number}
 use Rattle.capnp_format.specs.Canonical.{IsFree}
-use Rattle.capnp_format.specs.Tree.{Tree, Null, Capability, Struct, Flat, Pointers, Structs, count}
+use Rattle.capnp_format.specs.Tree.{Tree, Null, Struct, count}
 use Rattle.capnp_making.specs.Path.{update}
 use Rattle.capnp_objects.specs.Faults.{HasFault}
 use Rattle.capnp_objects.specs.Outcomes.{MeansThere}
 use Rattle.capnp_objects.specs.Wanted.{of_default}
 use Rattle.capnp_widening.specs.Rooms.{is_allocation_name}
+use Rattle.capnp_builders.specs.Content.{HoldContent, up_to}
 use Rattle.capnp_builders.specs.Defaults.{default_root}
 use Rattle.capnp_edits.specs.declared.edit.Edit.{Edit}
 use Rattle.capnp_edits.specs.declared.edit.Op.{Op}
@@ -25,14 +25,20 @@ use Rattle.capnp_edits.specs.declared.edit.copying.Wanted.TheVariants.{Struct as
 use Rattle.capnp_edits.specs.declared.edit.tasks.Task.{Task}
 use Rattle.capnp_edits.specs.declared.edit.tasks.Task.TheVariants.{Make, InStruct, Write, Search}
 use Rattle.capnp_edits.specs.declared.edit.tasks.NewObject.TheVariants.{ZeroList, ZeroStructs, ZeroText, Text, Data}
-use Rattle.capnp_edits.specs.declared.edit.tasks.StructChange.TheVariants.{Bits, Content}
+use Rattle.capnp_edits.specs.declared.edit.tasks.StructChange.{StructChange}
+use Rattle.capnp_edits.specs.declared.edit.tasks.StructChange.TheVariants.{Bits}
+use Rattle.capnp_edits.specs.declared.edit.tasks.Part.{Part}
 use Rattle.capnp_edits.specs.declared.edit.tasks.Part.TheVariants.{ListElement}
 use Rattle.capnp_edits.specs.declared.edit.tasks.Sought.{Sought}
 use Rattle.capnp_edits.specs.declared.edit.tasks.Sought.TheVariants.{Struct as ForStruct, List as ForList, StructList as ForStructs, Text as ForText, Data as ForData}
-use Rattle.capnp_edits.specs.Paths.{EndValue, PointerTo, ElementOf, found, path_of}
-use Rattle.capnp_edits.specs.Sources.{Copies, ContentRead, Fills, HasNothingToCopy, IsNextUnreadable, IsUnreadable}
-use Rattle.capnp_edits.specs.Tasks.{if_in_range, is_in_range, is_number, is_small_default, task_of}
-use Rattle.capnp_edits.specs.Edits.{Leaves, Making, Takes, Yields, allocates, becomes, content_filled, copies, default_for, defaults, denied, end_tree, field_written, fills, looked_for, made_at, making_of, searched, struct_changed, where_in_range, with_default}
+use Rattle.capnp_edits.specs.Paths.{EndValue, PointerTo, ElementOf, found, step_of}
+use Rattle.capnp_edits.specs.Sources.{Copies, ContentRead, HasNothingToCopy, IsNextUnreadable, IsUnreadable}
+use Rattle.capnp_edits.specs.Tasks.{is_in_range, is_number, is_small_default, task_of}
+use Rattle.capnp_edits.specs.Edits.{Leaves, Making, Takes, Yields, allocates, becomes, copies, default_for, defaults, denied, fills, looked_for, made_at, making_of, searched, where_in_range, with_default}
+
+-- Content stands in the stead of that of a struct of d data words and q pointers, which is u then.
+abbrev pub Fills : (source : Source) → ContentRead source → ℕ → ℕ → Tree → Type 0
+Fills source c d q u = (section : List ℕ) × HoldContent section d (64 * length c.from.words) c.bytes × (u ≡ Struct section (up_to q c.children))
 
 -- What an operation leaves where it makes this, way by way.
 pub data Way (making : Making) (r : Option ErrorKind) (o : Option Tree) : Type 0 where
@@ -56,11 +62,11 @@ yielded {making} {r} {o} (is_done u is done left) = subst (λ m. Yields m r o) (
 yielded {making} {r} {o} (is_denied k is named left) = subst (λ m. Yields m r o) (sym is) (k, refl, named, left)
 yielded {making} {r} {o} (is_allocated t u is done left) = subst (λ m. Yields m r o) (sym is) (inl (done, left))
 yielded {making} {r} {o} (is_not_allocated t u k is lacks named left) = subst (λ m. Yields m r o) (sym is) (inr (k, lacks, named, left))
-yielded {making} {r} {o} (is_copied c u is copied done left) = subst (λ m. Yields m r o) (sym is) (inl (u, copied, (done, left)))
+yielded {making} {r} {o} (is_copied c u is copied done left) = subst (λ m. Yields m r o) (sym is) (inl (u, copied, done, left))
 yielded {making} {r} {o} (is_not_copied c k is why named left) = subst (λ m. Yields m r o) (sym is) (inr (inl (k, why, named, left)))
 yielded {making} {r} {o} (is_unread c k is unread named left) = subst (λ m. Yields m r o) (sym is) (inr (inr (k, unread, named, left)))
-yielded {making} {r} {o} (is_filled source d q u is h done left) = subst (λ m. Yields m r o) (sym is) (inl (h.0, u, h.1, inl (h.2, (done, left))))
-yielded {making} {r} {o} (is_half_filled source d q k u is h named left) = subst (λ m. Yields m r o) (sym is) (inl (h.0, u, h.1, inr (h.2, (k, h.3, named, left))))
+yielded {making} {r} {o} (is_filled source d q u is h done left) = subst (λ m. Yields m r o) (sym is) (inl (h.0, u, h.1.0, h.1.1, h.1.2, inl (h.2, done, left)))
+yielded {making} {r} {o} (is_half_filled source d q k u is h named left) = subst (λ m. Yields m r o) (sym is) (inl (h.0, u, h.1.0, h.1.1, h.1.2, inr (h.2, (k, h.3, named, left))))
 yielded {making} {r} {o} (is_not_filled source d q k is unread named left) = subst (λ m. Yields m r o) (sym is) (inr (k, unread, named, left))
 
 -- what is left of what stands
@@ -101,33 +107,15 @@ both false b m = refl
 
 -- what is done at a pointer makes nothing of an element
 no_element : (task : Task) (t : Tree) → made_at task (ElementOf t) ≡ denied NoSuchPlace →
-    option_map_or (λ (x : Task). made_at x (ElementOf t)) (if_in_range task) (denied NoSuchPlace) ≡ denied NoSuchPlace
+    option_map_or (λ (x : Task). made_at x (ElementOf t)) (if is_in_range task then Some task else None) (denied NoSuchPlace) ≡ denied NoSuchPlace
 no_element task t none = in_range (is_in_range task) task (ElementOf t) ∙ ap (where_in_range (is_in_range task)) none ∙ never (is_in_range task)
 
--- a field of a struct, and content
-changed : (size : ElementSize) (i v : ℕ) (t : Tree) → struct_changed (Bits (record { size = size; index = i; value = v })) t ≡ field_written size i v t
-changed size i v (Struct ws ts) = refl
-changed size i v Null = refl
-changed size i v (Capability j) = refl
-changed size i v (Flat other ns) = refl
-changed size i v (Pointers ts) = refl
-changed size i v (Structs d q es) = refl
+-- What is made of a struct that is changed, and where a part of a list, a text or data is written.
+abbrev pub struct_changed : StructChange → Tree → Making
+struct_changed change t = made_at (InStruct change) (PointerTo t)
 
-field_is : (size : ElementSize) (i v : ℕ) (there : EndValue) → made_at (InStruct (Bits (record { size = size; index = i; value = v }))) there ≡ field_written size i v (end_tree there)
-field_is size i v (PointerTo t) = changed size i v t
-field_is size i v (ElementOf t) = changed size i v t
-
-filled : (source : Source) (t : Tree) → struct_changed (Content source) t ≡ content_filled source t
-filled source (Struct ws ts) = refl
-filled source Null = refl
-filled source (Capability j) = refl
-filled source (Flat other ns) = refl
-filled source (Pointers ts) = refl
-filled source (Structs d q es) = refl
-
-content_is : (source : Source) (there : EndValue) → made_at (InStruct (Content source)) there ≡ content_filled source (end_tree there)
-content_is source (PointerTo t) = filled source t
-content_is source (ElementOf t) = filled source t
+abbrev pub part_written : Part → Tree → Making
+part_written part t = made_at (Write part) (PointerTo t)
 
 -- a search
 search_is : (sought : Sought) (default : Option (Bor (List ℕ))) (t : Tree) (b : Bool) →
@@ -141,10 +129,9 @@ making_is (SetField Void i v) there = refl
 making_is (SetField Bit i v) there = refl
 making_is (SetField size i v) there =
     in_range (is_number size v) (InStruct (Bits (record { size = size; index = i; value = v }))) there
-    ∙ ap (where_in_range (is_number size v)) (field_is size i v there)
-making_is (SetBool i true) there = field_is Bit i 1 there
-making_is (SetBool i false) there = field_is Bit i 0 there
-making_is (CopyContent source) there = content_is source there
+making_is (SetBool i true) there = refl
+making_is (SetBool i false) there = refl
+making_is (CopyContent source) there = refl
 making_is (InitStruct size) (PointerTo t) = refl
 making_is (InitStruct size) (ElementOf t) = refl
 making_is (InitList size n) (PointerTo t) = in_range (nat_le (size_number size) 6 && nat_lt n (2 ^ 29)) (Make (ZeroList size n)) (PointerTo t)
@@ -190,16 +177,16 @@ making_is (SetList source b) (ElementOf t) = refl
 
 -- Where an edit's path leads, and what is left there; or nowhere.
 pub data Reaches (e : Edit) (r : Option ErrorKind) (t u : Tree) : Type 0 where
-  leads_to : (there : EndValue) (o : Option Tree) → found t (path_of e.path.now) ≡ Some there →
+  leads_to : (there : EndValue) (o : Option Tree) → found t (map step_of e.path.now) ≡ Some there →
       Leaves (option_map_or (λ (x : Task). made_at x there) (task_of e.op) (denied NoSuchPlace)) r o →
-      u ≡ option_map_or (update t (path_of e.path.now)) o t → Reaches e r t u
-  leads_nowhere : found t (path_of e.path.now) ≡ None → r ≡ Some NoSuchPlace → u ≡ t → Reaches e r t u
+      u ≡ option_map_or (update t (map step_of e.path.now)) o t → Reaches e r t u
+  leads_nowhere : found t (map step_of e.path.now) ≡ None → r ≡ Some NoSuchPlace → u ≡ t → Reaches e r t u
 
 pub takes : (e : Edit) (r : Option ErrorKind) (t : Tree) {u : Tree} → Reaches e r t u → Takes e r t u
 unfolding Takes
 takes e r t {u} (leads_to there o is left stands) =
-    subst (λ (f : Option EndValue). MatchOption f ((r ≡ Some NoSuchPlace) × (u ≡ t)) (λ x. (o : Option Tree) × Leaves (making_of e.op x) r o × (u ≡ option_map_or (update t (path_of e.path.now)) o t)))
+    subst (λ (f : Option EndValue). MatchOption f ((r ≡ Some NoSuchPlace) × (u ≡ t)) (λ x. (o : Option Tree) × Leaves (making_of e.op x) r o × (u ≡ option_map_or (update t (map step_of e.path.now)) o t)))
     (sym is) (o, subst (λ m. Leaves m r o) (making_is e.op there) left, stands)
 takes e r t {u} (leads_nowhere is named same) =
-    subst (λ (f : Option EndValue). MatchOption f ((r ≡ Some NoSuchPlace) × (u ≡ t)) (λ x. (o : Option Tree) × Leaves (making_of e.op x) r o × (u ≡ option_map_or (update t (path_of e.path.now)) o t)))
+    subst (λ (f : Option EndValue). MatchOption f ((r ≡ Some NoSuchPlace) × (u ≡ t)) (λ x. (o : Option Tree) × Leaves (making_of e.op x) r o × (u ≡ option_map_or (update t (map step_of e.path.now)) o t)))
     (sym is) (named, same)

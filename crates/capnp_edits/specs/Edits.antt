@@ -1,7 +1,7 @@
 -- What edits make of the value of a message.
 use Rattle.std.specs.Option.{option_map_or}
 use Rattle.std.specs.Prelude.{MatchOption, ◌≡◌, ◌⊎◌, ℕ, min, ◌+◌, ◌*◌, ◌^◌, ◌<◌, ◌≤◌, Bool, true}
-use Rattle.std.specs.Prelude.{if◌then◌else◌, ◌&&◌, nat_le, nat_lt, List, ◌++◌, [], ◌∷◌, length, get_or}
+use Rattle.std.specs.Prelude.{if◌then◌else◌, ◌&&◌, nat_le, nat_lt, List, ◌++◌, [], ◌∷◌, length, get_or, map}
 use Rattle.std.specs.Prelude.{slice_set, Option, Some, None, unwrap_or, Result, Ok, Err}
 use Rattle.std.specs.Borrow.{Bor}
 use Rattle.capnp_words.specs.declared.error.ErrorKind.{ErrorKind}
@@ -24,7 +24,7 @@ use Rattle.capnp_making.specs.Filled.{AreFilled}
 use Rattle.capnp_making.specs.Memory.{refusals_for}
 use Rattle.capnp_making.specs.Made.{zero_struct, zero_structs, zero_list}
 use Rattle.capnp_making.specs.Path.{struct_at, put_struct, update}
-use Rattle.capnp_making.specs.Stored.{IsReplaced, Puts}
+use Rattle.capnp_making.specs.Stored.{IsReplaced}
 use Rattle.capnp_contents.specs.declared.existing.ExistingBytes.{ExistingBytes}
 use Rattle.capnp_contents.specs.declared.existing.ExistingList.{ExistingList}
 use Rattle.capnp_contents.specs.declared.existing.ExistingStruct.{ExistingStruct}
@@ -39,12 +39,12 @@ use Rattle.capnp_builders.specs.Defaults.{DefaultUse, ignored, denied as is_deni
 use Rattle.capnp_builders.specs.Defaults.{copied as is_copied_from, default_use}
 use Rattle.capnp_builders.specs.Defaults.{default_root}
 use Rattle.capnp_widening.specs.Opening.{struct_opened}
-use Rattle.capnp_builders.specs.Laws.{TakesBytes}
+use Rattle.capnp_builders.specs.Content.{HoldContent, TakesBytes, up_to}
 use Rattle.capnp_edits.specs.declared.edit.Source.{Source}
 use Rattle.capnp_readers.specs.Sections.{step_bits, data_bits}
 use Rattle.capnp_readers.specs.declared.readers.PointerPlace.{PointerPlace}
 use Rattle.capnp_builders.specs.declared.builders.PointerBuilder.{PointerBuilder}
-use Rattle.capnp_builders.specs.Places.{Field, list_place, struct_place}
+use Rattle.capnp_builders.specs.Places.{Field, list_place}
 use Rattle.capnp_edits.specs.declared.edit.Edit.{Edit}
 use Rattle.capnp_edits.specs.declared.edit.copying.Copying.{Copying}
 use Rattle.capnp_edits.specs.declared.edit.Op.{Op}
@@ -65,9 +65,7 @@ use Rattle.capnp_edits.specs.declared.edit.tasks.NewObject.TheVariants.{ZeroStru
 use Rattle.capnp_edits.specs.declared.edit.tasks.NewObject.TheVariants.{ZeroStructs, ZeroText, Text}
 use Rattle.capnp_edits.specs.declared.edit.tasks.NewObject.TheVariants.{Data}
 use Rattle.capnp_edits.specs.declared.edit.tasks.Number.{Number}
-use Rattle.capnp_edits.specs.declared.edit.tasks.StructChange.{StructChange}
 use Rattle.capnp_edits.specs.declared.edit.tasks.StructChange.TheVariants.{Bits, Content}
-use Rattle.capnp_edits.specs.declared.edit.tasks.Part.{Part}
 use Rattle.capnp_edits.specs.declared.edit.tasks.Part.TheVariants.{ListElement, TextByte, DataByte}
 use Rattle.capnp_edits.specs.declared.edit.tasks.Sought.{Sought}
 use Rattle.capnp_edits.specs.declared.edit.tasks.Sought.TheVariants.{Struct as ForStruct}
@@ -76,9 +74,9 @@ use Rattle.capnp_edits.specs.declared.edit.tasks.Sought.TheVariants.{StructList 
 use Rattle.capnp_edits.specs.declared.edit.tasks.Sought.TheVariants.{Text as ForText}
 use Rattle.capnp_edits.specs.declared.edit.tasks.Sought.TheVariants.{Data as ForData}
 use Rattle.capnp_edits.specs.Tasks.{is_number, is_small_default}
-use Rattle.capnp_edits.specs.Sources.{Copies, ContentRead, Fills, IsNextUnreadable}
+use Rattle.capnp_edits.specs.Sources.{Copies, ContentRead, IsNextUnreadable}
 use Rattle.capnp_edits.specs.Sources.{HasNothingToCopy, IsUnreadable}
-use Rattle.capnp_edits.specs.Paths.{EndValue, PointerTo, ElementOf, path_of, found}
+use Rattle.capnp_edits.specs.Paths.{EndValue, PointerTo, ElementOf, step_of, found}
 
 -- The name by which a call is refused, if it is.
 abbrev pub refusal_of : {A : Type 0} → Result A ErrorKind → Option ErrorKind
@@ -150,24 +148,6 @@ with_default ignored made_of t = made_of t
 with_default (is_denied_by k) made_of t = denied k
 with_default (is_copied_from bytes) made_of t = defaults bytes made_of
 
--- What is made of a struct that is changed: bits of its data section are written, where it has them,
--- or content is copied over it.
-abbrev pub struct_changed : StructChange → Tree → Making
-struct_changed (Bits n) (Struct ws ts) =
-    let f = bits_of n in
-    if nat_le (f.start + f.bits) (64 * length ws) then becomes (struct_with f (Struct ws ts))
-    else denied NoSuchPlace
-struct_changed (Content source) (Struct ws ts) = fills source (length ws) (count ts)
-struct_changed change t = denied NoSuchPlace
-
--- What is made where a part of a list, a text or data is written.
-abbrev pub part_written : Part → Tree → Making
-part_written (ListElement n) t =
-    if_reached (λ l. l.count) n.index
-    (with_lowest n.index (element_bits (size_number n.size)) n.value t) (list_in nowhere n.size t)
-part_written (TextByte i b) t = if_reached (λ x. x.length) i (with_lowest i 8 b t) (text_in nowhere t)
-part_written (DataByte i b) t = if_reached (λ x. x.length) i (with_lowest i 8 b t) (data_in nowhere t)
-
 -- The value of an object that is made.
 abbrev pub value_of : NewObject → Tree
 value_of (ZeroStruct size) = zero_struct size
@@ -183,19 +163,6 @@ abbrev pub default_for : Sought → Option (Bor (List ℕ)) → Tree → Default
 default_for ForText default t = default_use (is_denied_by ExistingPointerIsNotAList) default t
 default_for ForData default t = default_use (is_denied_by ExistingPointerIsNotAList) default t
 default_for sought default t = default_use ignored default t
-
--- The same of a task, which is an operation whose numbers are in range.
-abbrev pub made_at : Task → EndValue → Making
-made_at (InStruct change) (PointerTo t) = struct_changed change t
-made_at (InStruct change) (ElementOf t) = struct_changed change t
-made_at task (ElementOf t) = denied NoSuchPlace
-made_at (Make object) (PointerTo t) = allocates Null (value_of object)
-made_at (Point (Some i)) (PointerTo t) = becomes (Capability i)
-made_at (Point None) (PointerTo t) = becomes Null
-made_at (Write part) (PointerTo t) = part_written part t
-made_at (Search sought default) (PointerTo t) =
-    with_default (default_for sought default t) (looked_for sought) t
-made_at (CopyRoot c) (PointerTo t) = copies c
 
 -- The names by which an operation is refused for what a path leads to, or doesn't.
 abbrev pub is_of_path : ErrorKind → Bool
@@ -286,29 +253,47 @@ making_of (SetStruct source canonicalize) (PointerTo t) =
 making_of (SetList source canonicalize) (PointerTo t) =
     copies (record { source = source; wanted = AList; canonicalize = canonicalize })
 
--- A call of this outcome is done, and u is left.
-abbrev pub Succeeds : Tree → Option ErrorKind → Option Tree → Type 0
-Succeeds u r o = (r ≡ None) × (o ≡ Some u)
+-- The same of a task, which is an operation whose numbers are in range.
+abbrev pub made_at : Task → EndValue → Making
+made_at (InStruct (Bits n)) there = field_written n.size n.index n.value (end_tree there)
+made_at (InStruct (Content source)) there = content_filled source (end_tree there)
+made_at task (ElementOf t) = denied NoSuchPlace
+made_at (Make object) (PointerTo t) = allocates Null (value_of object)
+made_at (Point (Some i)) (PointerTo t) = becomes (Capability i)
+made_at (Point None) (PointerTo t) = becomes Null
+made_at (Write (ListElement n)) (PointerTo t) =
+    if_reached (λ l. l.count) n.index
+    (with_lowest n.index (element_bits (size_number n.size)) n.value t) (list_in nowhere n.size t)
+made_at (Write (TextByte i b)) (PointerTo t) =
+    if_reached (λ x. x.length) i (with_lowest i 8 b t) (text_in nowhere t)
+made_at (Write (DataByte i b)) (PointerTo t) =
+    if_reached (λ x. x.length) i (with_lowest i 8 b t) (data_in nowhere t)
+made_at (Search sought default) (PointerTo t) =
+    with_default (default_for sought default t) (looked_for sought) t
+made_at (CopyRoot c) (PointerTo t) = copies c
 
--- It is refused by a name of which P holds, and so much is left, None being all as it was.
+-- A call is refused by a name of which P holds, and so much is left, None being all as it was.
 abbrev pub Fails : (ErrorKind → Type 0) → Option Tree → Option ErrorKind → Option Tree → Type 0
 Fails P left r o = (k : ErrorKind) × P k × (r ≡ Some k) × (o ≡ left)
 
 -- What an operation leaves where it makes this, with its outcome: o in the value's stead, if
 -- anything is changed. Of a copy it is what is copied; or null, where that is refused, for memory or
--- for what it reads; or all as it was, where there is nothing to be copied. Of content it is all that
--- is copied, as many pointers as both have; or what is before one that is refused.
+-- for what it reads; or all as it was, where there is nothing to be copied. Of content it is a struct u:
+-- the data that both have is copied, with zeros behind it, and the pointers that are read are, with
+-- nulls behind them; these are as many as both have, or those before one that is refused.
 unfoldable pub Yields : Making → Option ErrorKind → Option Tree → Type 0
-Yields (becomes u) r o = Succeeds u r o
+Yields (becomes u) r o = (r ≡ None) × (o ≡ Some u)
 Yields (denied k) r o = Fails (λ j. j ≡ k) None r o
-Yields (allocates t u) r o = Succeeds u r o ⊎ Fails (λ k. is_allocation_name k ≡ true) (Some t) r o
+Yields (allocates t u) r o =
+    ((r ≡ None) × (o ≡ Some u)) ⊎ Fails (λ k. is_allocation_name k ≡ true) (Some t) r o
 Yields (copies c) r o =
-    ((u : Tree) × Copies c u × Succeeds u r o)
+    ((u : Tree) × Copies c u × (r ≡ None) × (o ≡ Some u))
     ⊎ (Fails (λ k. (is_allocation_name k ≡ true) ⊎ IsUnreadable c k) (Some Null) r o
     ⊎ Fails (HasNothingToCopy c.source c.wanted) None r o)
 Yields (fills source d q) r o =
-    ((c : ContentRead source) × (u : Tree) × Fills source c d q u
-    × (((count c.children ≡ min q c.from.pointers) × Succeeds u r o)
+    ((c : ContentRead source) × (u : Tree) × (section : List ℕ)
+    × HoldContent section d (64 * length c.from.words) c.bytes × (u ≡ Struct section (up_to q c.children))
+    × (((count c.children ≡ min q c.from.pointers) × (r ≡ None) × (o ≡ Some u))
     ⊎ ((count c.children < min q c.from.pointers)
     × Fails (λ k. (is_allocation_name k ≡ true) ⊎ IsNextUnreadable source c k) (Some u) r o)))
     ⊎ Fails (HasNothingToCopy source AStruct) None r o
@@ -339,17 +324,6 @@ pub data PutsBits (S R : Segments) (e : ExistingStruct) (f : Field) (r : Option 
       PutsBits S R e f r
   are_outside : 64 * e.size.data_words < f.start + f.bits → r ≡ Some NoSuchPlace → R ≡ S → PutsBits S R e f r
 
--- What a copy from another message leaves at a place, with its outcome: it is there; or null, the
--- copy being refused; or there is nothing to be copied.
-pub data CopiesRoot (S R : Segments) (place : PointerPlace) (c : Copying) (r : Option ErrorKind)
-    : Type 0 where
-  root_copied : (u : Tree) → Copies c u → r ≡ None → Puts S R place.segment place.word u →
-      CopiesRoot S R place c r
-  root_not_copied : (k : ErrorKind) → (is_allocation_name k ≡ true) ⊎ IsUnreadable c k → r ≡ Some k →
-      Puts S R place.segment place.word Null → CopiesRoot S R place c r
-  root_unread : (k : ErrorKind) → HasNothingToCopy c.source c.wanted k → r ≡ Some k → R ≡ S →
-      CopiesRoot S R place c r
-
 -- From S on a struct takes the data of a source's struct, and then the pointers that are read of it
 -- are copied to its first ones.
 pub record Filling (S : Segments) (place : StructPlace) (source : Source) : Type 0 where
@@ -376,25 +350,20 @@ pub data FillsAt (S R : Segments) (place : StructPlace) (source : Source) (r : O
   none_filled : (k : ErrorKind) → HasNothingToCopy source AStruct k → R ≡ S →
       r ≡ Some k → FillsAt S R place source r
 
--- What a change leaves of a struct of a message: its bits are written; or content is copied over it.
-abbrev pub Changes : Segments → Segments → ExistingStruct → StructChange → Option ErrorKind → Type 0
-Changes S R e (Bits n) r = PutsBits S R e (bits_of n) r
-Changes S R e (Content source) r = FillsAt S R (struct_place e) source r
-
 -- What writing an element leaves, with its outcome, where a list was looked for: its lowest bits
 -- are written; or it isn't there, in no list that lies in the message and is as wide; or there is
 -- no list, or the search was refused.
-pub data PutsElement (S R : Segments) (looked : Result (Option ExistingList) ErrorKind)
-    (size : ElementSize) (i v : ℕ) (r : Option ErrorKind) : Type 0 where
-  element_put : (l : ExistingList) → looked ≡ Ok (Some l) → i < l.count → r ≡ None →
-      R ≡ with_field S l.segment (8 * (8 * l.start) + i * step_bits l.size l.struct_size)
-      (element_bits (size_number size)) v → PutsElement S R looked size i v r
+pub data PutsElement (S R : Segments) (looked : Result (Option ExistingList) ErrorKind) (n : Number)
+    (r : Option ErrorKind) : Type 0 where
+  element_put : (l : ExistingList) → looked ≡ Ok (Some l) → n.index < l.count → r ≡ None →
+      R ≡ with_field S l.segment (8 * (8 * l.start) + n.index * step_bits l.size l.struct_size)
+      (element_bits (size_number n.size)) n.value → PutsElement S R looked n r
   element_past : (l : ExistingList) → looked ≡ Ok (Some l) →
-      (IsListPlace S (list_place l) → element_bits (size_number size)
-      ≤ data_bits l.size l.struct_size → l.count ≤ i) → r ≡ Some NoSuchPlace → R ≡ S →
-      PutsElement S R looked size i v r
-  no_list : looked ≡ Ok None → r ≡ Some NoSuchPlace → R ≡ S → PutsElement S R looked size i v r
-  list_denied : (k : ErrorKind) → looked ≡ Err k → r ≡ Some k → R ≡ S → PutsElement S R looked size i v r
+      (IsListPlace S (list_place l) → element_bits (size_number n.size)
+      ≤ data_bits l.size l.struct_size → l.count ≤ n.index) → r ≡ Some NoSuchPlace → R ≡ S →
+      PutsElement S R looked n r
+  no_list : looked ≡ Ok None → r ≡ Some NoSuchPlace → R ≡ S → PutsElement S R looked n r
+  list_denied : (k : ErrorKind) → looked ≡ Err k → r ≡ Some k → R ≡ S → PutsElement S R looked n r
 
 -- The same of a byte of a text or data.
 pub data PutsByte (S R : Segments) (looked : Result (Option ExistingBytes) ErrorKind) (i v : ℕ)
@@ -411,9 +380,9 @@ pub data PutsByte (S R : Segments) (looked : Result (Option ExistingBytes) Error
 -- changed.
 unfoldable pub Takes : Edit → Option ErrorKind → Tree → Tree → Type 0
 Takes e r t u =
-    MatchOption (found t (path_of e.path.now)) ((r ≡ Some NoSuchPlace) × (u ≡ t))
+    MatchOption (found t (map step_of e.path.now)) ((r ≡ Some NoSuchPlace) × (u ≡ t))
     (λ there. (o : Option Tree) × Leaves (making_of e.op there) r o
-    × (u ≡ option_map_or (update t (path_of e.path.now)) o t))
+    × (u ≡ option_map_or (update t (map step_of e.path.now)) o t))
 
 -- From S to R a forest becomes a forest, and P holds of their values: as an edit takes one to the
 -- other, or several do.

@@ -21,11 +21,6 @@ abbrev pub step_of : EditStep → Step
 step_of (ToChild i) = Child i
 step_of (ToElement i) = Element i
 
--- An edit's path, step by step.
-abbrev pub path_of : List EditStep → List Step
-path_of [] = []
-path_of (step ∷ path) = step_of step ∷ path_of path
-
 -- The value that a path leads to: that of a pointer, or an element of a list of structs, which is a struct.
 pub data EndValue : Type 0 where
   PointerTo : Tree → EndValue

@@ -1,6 +1,6 @@
 -- What is copied from another message.
-use Rattle.std.specs.Prelude.{ℕ, pred, min, ◌+◌, ◌*◌, ◌<◌, ◌≤◌, ◌≡◌, ◌⊎◌, true, false}
-use Rattle.std.specs.Prelude.{if◌then◌else◌, nat_eq, List, [], map, length, Option, Some, None}
+use Rattle.std.specs.Prelude.{ℕ, pred, ◌+◌, ◌≤◌, ◌≡◌, ◌⊎◌, true, false}
+use Rattle.std.specs.Prelude.{if◌then◌else◌, nat_eq, List, [], map, Option, Some, None}
 use Rattle.capnp_words.specs.Meter.{Meter, Affords, less, unused}
 use Rattle.capnp_words.specs.declared.error.ErrorKind.{ErrorKind}
 use Rattle.capnp_words.specs.declared.error.ErrorKind.TheVariants.{InvalidSegmentId, ReadLimitExceeded}
@@ -9,16 +9,12 @@ use Rattle.capnp_words.specs.declared.wire_pointer.ElementSize.{ElementSize}
 use Rattle.capnp_words.specs.declared.wire_pointer.ElementSize.TheVariants.{Void, InlineComposite}
 use Rattle.capnp_words.specs.Sizes.{size_number}
 use Rattle.capnp_format.specs.Bytes.{message, words_of}
-use Rattle.capnp_format.specs.Canonical.{word_count_all}
 use Rattle.capnp_format.specs.Segments.{Target, segment, words_at}
 use Rattle.capnp_format.specs.Tree.{Tree, Null, Struct, Flat, Pointers, Structs, Trees, no_trees}
 use Rattle.capnp_format.specs.Tree.{count}
 use Rattle.capnp_format.specs.Word.{kind, offset_bits, data_words, pointer_count, element_size, list_count}
 use Rattle.capnp_arena_traits.specs.Checks.{Holds, misplaced}
 use Rattle.capnp_arena_traits.specs.Limits.{whole}
-use Rattle.capnp_arena_traits.specs.View.{View}
-use Rattle.capnp_arena_traits.specs.declared.arena.reader_arena.ReaderArena.{Ghosts}
-use Rattle.capnp_making.specs.Near.{HasOwnRoom}
 use Rattle.capnp_objects.specs.Demands.{IsStructList, tag}
 use Rattle.capnp_objects.specs.Expected.{struct_expected, list_expected, Withheld}
 use Rattle.capnp_objects.specs.Faults.{child_at}
@@ -27,12 +23,9 @@ use Rattle.capnp_objects.specs.Reading.{Reading, word_of, behind, tag_size}
 use Rattle.capnp_objects.specs.Refusals.{Refused}
 use Rattle.capnp_objects.specs.Source.{levels}
 use Rattle.capnp_objects.specs.Wanted.{plain}
-use Rattle.capnp_readers.specs.Readers.{reading}
-use Rattle.capnp_readers.specs.declared.readers.PointerReader.{PointerReader}
 use Rattle.capnp_copies.specs.Changes.{Change}
 use Rattle.capnp_copies.specs.Forms.{form_of, kept}
 use Rattle.capnp_copies.specs.Originals.{Original, value_original, sections_original, list_original}
-use Rattle.capnp_builders.specs.Laws.{HoldContent, up_to}
 use Rattle.capnp_edits.specs.declared.edit.Source.{Source}
 use Rattle.capnp_edits.specs.declared.edit.copying.Copying.{Copying}
 use Rattle.capnp_edits.specs.declared.edit.copying.Wanted.{Wanted}
@@ -78,13 +71,6 @@ IsRootless source k =
     (HasRoot source → ⊥) × ((Holds (root_of source).segments 0 0 1 → ⊥) →
     k ≡ misplaced (root_of source).segments 0 (InvalidSegmentId 0))
     × (Holds (root_of source).segments 0 0 1 → k ≡ ReadLimitExceeded)
-
--- A reader is at the root, whose word is charged.
-pub record IsRootReader {A : Type 0} (g : Ghosts A) (source : Source) (from : PointerReader A g)
-    (m : Meter) : Type 0 where
-  pub root : HasRoot source
-  pub reads : reading g from ≡ root_of source
-  pub once : m ≡ once_at_root source
 
 -- What is wanted isn't found at a place, by the name k, as get_struct, or get_list of Void, refuses it.
 abbrev pub IsWithheld : Wanted → Reading → Meter → Meter → ErrorKind → Type 0
@@ -175,21 +161,6 @@ pub record ContentRead (source : Source) : Type 0 where
   pub bytes : List ℕ
   pub are_words : words_of bytes ≡ from.words
 
--- It stands in the stead of the content of a struct of d data words and q pointers, which is u
--- then: the data that both have is copied, with zeros behind it, and the pointers that are read
--- are, with nulls behind them.
-pub record Fills (source : Source) (c : ContentRead source) (d q : ℕ) (u : Tree) : Type 0 where
-  pub section : List ℕ
-  pub holds : HoldContent section d (64 * length c.from.words) c.bytes
-  pub is_filled : u ≡ Struct section (up_to q c.children)
-
--- The pointers can be read that a source's struct and one of q pointers in segment id both have,
--- and the words of what they mean fit behind those of that segment.
-abbrev pub ContentFitsBehind : View → ℕ → Source → ℕ → Type 0
-ContentFitsBehind v id source q =
-    (all : ContentRead source) × (count all.children ≡ min q all.from.pointers) ×
-    HasOwnRoom v id (word_count_all all.children)
-
 -- The pointer behind those that are read can't be read, by the name k.
 abbrev pub IsNextUnreadable : (source : Source) → ContentRead source → ErrorKind → Type 0
 IsNextUnreadable source c k = (m : Meter) × Refused plain (behind c.from.first (count c.children)) c.after m k
@@ -202,18 +173,3 @@ OfWanted AStruct r c Says = (s : Sections) × LeadsToStruct r c.before s ×
     Says (sections_original s.words s.first s.pointers) (record c { before = s.limiter })
 OfWanted AList r c Says = (l : ListElements) × (m : Meter) × LeadsToList r c.before m l ×
     Says (list_original l.size l.sections l.count l.first) (record c { before = m })
-
--- Where there is a value to be copied, reading isn't refused.
-abbrev pub CopiedOrRefused : Type 0
-CopiedOrRefused = (c : Copying) (u : Tree) (k : ErrorKind) → Copies c u →
-    HasNothingToCopy c.source c.wanted k ⊎ IsUnreadable c k → ⊥
-
--- Where the pointers can be read that a source's struct and one of q pointers both have, reading
--- isn't refused.
-abbrev pub FilledOrRefused : Type 0
-FilledOrRefused =
-    (source : Source) (q : ℕ) (k : ErrorKind) (all : ContentRead source) →
-    count all.children ≡ min q all.from.pointers
-    → HasNothingToCopy source AStruct k ⊎
-    ((some : ContentRead source) × (count some.children < min q some.from.pointers) ×
-    IsNextUnreadable source some k) → ⊥

@@ -1,14 +1,14 @@
 -- Steps: what one edit does with a message and the arena that holds it, and edits in order.
 use Rattle.std.specs.Prelude.{MatchOption, ◌≡◌, ◌⊎◌, ⊤, ℕ, min, ◌+◌, ◌-◌, ◌*◌, ◌^◌, ◌<◌, true, List, []}
-use Rattle.std.specs.Prelude.{◌∷◌, length, Option, Some, None, IfSome, IsSomeAnd, Result, Ok, Err}
+use Rattle.std.specs.Prelude.{◌∷◌, length, map, Option, Some, None, IfSome, IsSomeAnd, Result, Ok, Err}
 use Rattle.std.specs.Borrow.{Bor}
 use Rattle.capnp_words.specs.Meter.{Meter}
 use Rattle.capnp_words.specs.declared.error.ErrorKind.{ErrorKind}
 use Rattle.capnp_words.specs.declared.error.ErrorKind.TheVariants.{NoSuchPlace}
 use Rattle.capnp_arena_traits.specs.View.{View, KeepsLimits}
 use Rattle.capnp_format.specs.Bytes.{words_of}
-use Rattle.capnp_format.specs.Canonical.{word_count}
-use Rattle.capnp_format.specs.Forest.{IsForest, target}
+use Rattle.capnp_format.specs.Canonical.{word_count, word_count_all}
+use Rattle.capnp_format.specs.Forest.{target}
 use Rattle.capnp_format.specs.Segments.{AreWords, Segments, segment, word_at}
 use Rattle.capnp_format.specs.Word.{struct_word}
 use Rattle.capnp_format.specs.Tree.{Tree, Null, count}
@@ -17,7 +17,6 @@ use Rattle.capnp_making.specs.Makes.{CallAt, call_at}
 use Rattle.capnp_making.specs.Memory.{HasRoom, IsRefusedFor, KeepsMemory, SpendsMemory}
 use Rattle.capnp_making.specs.Memory.{StandsBehind, TakesWords, start_of}
 use Rattle.capnp_making.specs.Near.{HasOwnRoom, LeadsToEnd}
-use Rattle.capnp_making.specs.Path.{PathLeads}
 use Rattle.capnp_making.specs.Stored.{IsStored}
 use Rattle.capnp_making.specs.Zeroed.{IsPruned}
 use Rattle.capnp_contents.specs.declared.existing.ExistingStruct.{ExistingStruct}
@@ -37,9 +36,9 @@ use Rattle.capnp_widening.specs.Rooms.{HasRoomFor, RefusesToBecome}
 use Rattle.capnp_widening.specs.Widened.{list_widened}
 use Rattle.capnp_builders.specs.Content.{pointers_copied}
 use Rattle.capnp_builders.specs.Defaults.{RefusesDefault, DefaultFits, FitsWithDefault, WithDefault}
-use Rattle.capnp_builders.specs.Defaults.{default_copy, default_use, ignored, IsIgnoredDefault}
+use Rattle.capnp_builders.specs.Defaults.{default_use, ignored, IsIgnoredDefault}
 use Rattle.capnp_builders.specs.Kept.{PutsCopy}
-use Rattle.capnp_builders.specs.Laws.{TakesBytes}
+use Rattle.capnp_builders.specs.Content.{TakesBytes}
 use Rattle.capnp_builders.specs.Places.{struct_place}
 use Rattle.capnp_edits.specs.declared.edit.Edit.{Edit}
 use Rattle.capnp_edits.specs.declared.edit.Source.{Source}
@@ -50,7 +49,6 @@ use Rattle.capnp_edits.specs.declared.edit.tasks.Task.{Task}
 use Rattle.capnp_edits.specs.declared.edit.tasks.Task.TheVariants.{Make, InStruct, Search, CopyRoot}
 use Rattle.capnp_edits.specs.declared.edit.tasks.NewObject.{NewObject}
 use Rattle.capnp_edits.specs.declared.edit.tasks.NewObject.TheVariants.{ZeroStruct}
-use Rattle.capnp_edits.specs.declared.edit.tasks.StructChange.{StructChange}
 use Rattle.capnp_edits.specs.declared.edit.tasks.StructChange.TheVariants.{Bits, Content}
 use Rattle.capnp_edits.specs.declared.edit.tasks.Sought.{Sought}
 use Rattle.capnp_edits.specs.declared.edit.tasks.Sought.TheVariants.{Struct as ForStruct}
@@ -59,12 +57,12 @@ use Rattle.capnp_edits.specs.Tasks.{task_of}
 use Rattle.capnp_edits.specs.declared.edit.path.PathEnd.{PathEnd}
 use Rattle.capnp_edits.specs.declared.edit.path.PathEnd.TheVariants.{Pointer as AtPointer}
 use Rattle.capnp_edits.specs.declared.edit.path.PathEnd.TheVariants.{Element as AtElement}
-use Rattle.capnp_edits.specs.Paths.{PointerTo, path_of, IsPathFound}
+use Rattle.capnp_edits.specs.Paths.{PointerTo, step_of, IsPathFound}
 use Rattle.capnp_edits.specs.Sources.{root_of, once_at_root, Sections, LeadsToStruct}
-use Rattle.capnp_edits.specs.Sources.{ContentRead, ContentFitsBehind, Copies, HasNothingToCopy}
+use Rattle.capnp_edits.specs.Sources.{ContentRead, Copies, HasNothingToCopy}
 use Rattle.capnp_edits.specs.Sources.{OfWanted}
 use Rattle.capnp_edits.specs.Edits.{is_of_path, refusals_after, value_of, looked_for, Yields}
-use Rattle.capnp_edits.specs.Edits.{Changes, DoesAt, default_for, made_at, IsApplied, Takes}
+use Rattle.capnp_edits.specs.Edits.{DoesAt, FillsAt, PutsBits, bits_of, default_for, made_at, IsApplied, Takes}
 
 -- Where an object is made that has no words: the pointer of a struct has the offset -1, and that of
 -- a list leads behind the words of its segment.
@@ -134,7 +132,8 @@ OpeningHasRoom opened default old place =
 abbrev pub FitsAt : View → Task → PathEnd → Type 0
 FitsAt old (Make object) (AtPointer place) = HasRoom old place.segment (word_count (value_of object))
 FitsAt old (InStruct (Content source)) there = (e : ExistingStruct) → IsStructAt old.words there e →
-    ContentFitsBehind old e.segment source e.size.pointers
+    (all : ContentRead source) × (count all.children ≡ min e.size.pointers all.from.pointers) ×
+    HasOwnRoom old e.segment (word_count_all all.children)
 FitsAt old (Search (ForStruct size) default) (AtPointer place) =
     OpeningHasRoom (struct_opened size) default old place
 FitsAt old (Search (ForStructs size) default) (AtPointer place) =
@@ -177,16 +176,9 @@ IsOpeningRefused (ForStructs size) c k =
     (list_widened size.data_words size.pointers) c.old c.new k
 IsOpeningRefused sought c k = c.new ≡ c.old
 
--- A search is refused: where a default's value is put in place of null first, from there on; or its copy is.
-abbrev pub IsSearchRefused : Sought → CallAt → Option (Bor (List ℕ)) → ErrorKind → Type 0
-IsSearchRefused sought call None k = IsOpeningRefused sought call k
-IsSearchRefused sought call (Some default) k =
-    ((mid : View) × KeepsMemory call.old mid × IsOpeningRefused sought (record call { old = mid }) k)
-    ⊎ (SpendsMemory call.old call.new k ×
-    RefusesDefault default.now (default_copy call.segment call.at call.old call.new) k)
-
 -- The builder's call is refused by a name where a task is done. One that makes an object is so for
--- want of memory or room for its words, and truly.
+-- want of memory or room for its words, and truly; a search with a default from there on where the
+-- default's value is put in place of null first, or because its copy is refused.
 abbrev pub IsRefusedAt : View → View → Task → ErrorKind → PathEnd → Type 0
 IsRefusedAt old new (Make object) k (AtPointer place) =
     IsRefusedFor old new (word_count (value_of object)) k
@@ -194,8 +186,13 @@ IsRefusedAt old new (InStruct (Content source)) k there =
     (e : ExistingStruct) × IsStructAt old.words there e ×
     ((HasNothingToCopy source AStruct k × (new ≡ old)) ⊎
     StopsFilling old new (struct_place e) source k)
-IsRefusedAt old new (Search sought default) k (AtPointer place) =
-    IsSearchRefused sought (call_at place.segment place.word old new) default k
+IsRefusedAt old new (Search sought None) k (AtPointer place) =
+    IsOpeningRefused sought (call_at place.segment place.word old new) k
+IsRefusedAt old new (Search sought (Some default)) k (AtPointer place) =
+    ((mid : View) × KeepsMemory old mid ×
+    IsOpeningRefused sought (call_at place.segment place.word mid new) k)
+    ⊎ (SpendsMemory old new k ×
+    RefusesDefault default.now (call_at place.segment place.word old new) k)
 IsRefusedAt old new (CopyRoot c) k (AtPointer place) =
     CopiesWhole (call_at place.segment place.word old new) c (Some k)
 IsRefusedAt old new task k there = ⊥
@@ -213,18 +210,6 @@ pub record FillsThere (old new : View) (place : StructPlace) (s : Sections) (m :
   pub copies : CopiesChildren s.first (min place.pointers s.pointers)
       (pointers_copied place taken new s.limiter m)
 
--- A change of a struct takes no words for bits, and for content those of the copies of the pointers
--- that both have alone.
-abbrev pub TakesForChange : View → View → ExistingStruct → StructChange → Option ErrorKind → Type 0
-TakesForChange old new e (Bits n) r = OnlyWrites old new
-TakesForChange old new e (Content source) r =
-    (IsSomeAnd r (HasNothingToCopy source AStruct) × (new ≡ old)) ⊎
-    ((s : Sections) × (m : Meter) × LeadsToStruct (root_of source) (once_at_root source) s ×
-    TakesAtMost (result_of r) (children_original s.first (min e.size.pointers s.pointers))
-    (pointers_copied (struct_place e) old new s.limiter m) ×
-    MatchOption r (0 < 64 * e.size.data_words + e.size.pointers →
-    FillsThere old new (struct_place e) s m) (λ k. ⊤))
-
 -- What is looked for is found where t stands, or refused: a struct or a list of structs is opened,
 -- where null is no list; a list, a text or data stays as it is, and nothing is changed.
 abbrev pub FindsSought : Sought → Option ErrorKind → CallAt → Tree → Type 0
@@ -234,12 +219,21 @@ FindsSought (ForStructs size) r c t =
     Opens size (λ S s p u b. ⊤) c t (list_widened size.data_words size.pointers t) (result_of r)
 FindsSought sought r c t = (o : Option Tree) × Yields (looked_for sought t) r o × (c.new ≡ c.old)
 
--- A task takes words as the builder's call says where it is done. An object that is refused takes none.
+-- A task takes words as the builder's call says where it is done. An object that is refused takes
+-- none; nor does a change of bits. Content takes those of the copies of the pointers that both have alone.
 abbrev pub TakesAt : View → View → Task → Option ErrorKind → PathEnd → Type 0
 TakesAt old new (Make object) None (AtPointer place) = TakesForObject old new place object
 TakesAt old new (Make object) (Some k) (AtPointer place) = IsPruned old.words new.words
-TakesAt old new (InStruct change) r there =
-    (e : ExistingStruct) × IsStructAt old.words there e × TakesForChange old new e change r
+TakesAt old new (InStruct (Bits n)) r there =
+    (e : ExistingStruct) × IsStructAt old.words there e × OnlyWrites old new
+TakesAt old new (InStruct (Content source)) r there =
+    (e : ExistingStruct) × IsStructAt old.words there e ×
+    ((IsSomeAnd r (HasNothingToCopy source AStruct) × (new ≡ old)) ⊎
+    ((s : Sections) × (m : Meter) × LeadsToStruct (root_of source) (once_at_root source) s ×
+    TakesAtMost (result_of r) (children_original s.first (min e.size.pointers s.pointers))
+    (pointers_copied (struct_place e) old new s.limiter m) ×
+    MatchOption r (0 < 64 * e.size.data_words + e.size.pointers →
+    FillsThere old new (struct_place e) s m) (λ k. ⊤)))
 TakesAt old new (Search sought default) r (AtPointer place) =
     OpensThere (call_at place.segment place.word old new) sought default r ×
     ((t : Tree) → IsStored old.words place.segment place.word t →
@@ -251,38 +245,26 @@ TakesAt old new task r there = OnlyWrites old new
 
 -- Calls at a place.
 
--- What a call leaves that does a task in range at a pointer, with its outcome: what the task gives;
--- the refused requests that are counted; why it is refused, which it isn't but for what stands
--- there where it has room; and the words that are taken.
-pub record IsDoneAt (old new : View) (place : PointerPlace) (task : Task) (r : Option ErrorKind)
-    : Type 0 where
-  pub done : (t : Tree) → IsStored old.words place.segment place.word t →
-      DoesAt old.words new.words place (made_at task (PointerTo t)) t r
-  pub counted : new.refusals ≡ refusals_after r old.refusals
-  pub named : (k : ErrorKind) → r ≡ Some k → ((is_of_path k ≡ true) × (new ≡ old)) ⊎
-      IsRefusedAt old new task k (AtPointer place)
-  pub fits : FitsAt old task (AtPointer place) → (k : ErrorKind) → r ≡ Some k → is_of_path k ≡ true
-  pub nowhere : r ≡ Some NoSuchPlace → new ≡ old
-  pub taken : (r ≡ Some NoSuchPlace → ⊥) → TakesAt old new task r (AtPointer place)
-
--- The same of a change of a struct.
-pub record IsChanged (old new : View) (e : ExistingStruct) (change : StructChange)
-    (r : Option ErrorKind) : Type 0 where
-  pub done : Changes old.words new.words e change r
-  pub counted : new.refusals ≡ refusals_after r old.refusals
-  pub named : (k : ErrorKind) → r ≡ Some k → ((is_of_path k ≡ true) × (new ≡ old)) ⊎
-      IsRefusedAt old new (InStruct change) k (AtElement e)
-  pub fits : FitsAt old (InStruct change) (AtElement e) → (k : ErrorKind) → r ≡ Some k →
-      is_of_path k ≡ true
-  pub nowhere : r ≡ Some NoSuchPlace → new ≡ old
-  pub taken : TakesForChange old new e change r
-
 -- What a task leaves where a path leads: words that the value there doesn't hold stay as they are.
 abbrev pub DoesThere : Segments → Segments → PathEnd → Task → Option ErrorKind → Type 0
 DoesThere S R (AtPointer place) task r = (t : Tree) → IsStored S place.segment place.word t →
     DoesAt S R place (made_at task (PointerTo t)) t r
-DoesThere S R (AtElement e) (InStruct change) r = Changes S R e change r
+DoesThere S R (AtElement e) (InStruct (Bits n)) r = PutsBits S R e (bits_of n) r
+DoesThere S R (AtElement e) (InStruct (Content source)) r = FillsAt S R (struct_place e) source r
 DoesThere S R (AtElement e) task r = R ≡ S
+
+-- What a call leaves that does a task in range where a path leads, with its outcome: what the task
+-- gives; the refused requests that are counted; why it is refused, which it isn't but for what
+-- stands there where it has room; and the words that are taken.
+pub record IsDoneAt (old new : View) (there : PathEnd) (task : Task) (r : Option ErrorKind)
+    : Type 0 where
+  pub done : DoesThere old.words new.words there task r
+  pub counted : new.refusals ≡ refusals_after r old.refusals
+  pub named : (k : ErrorKind) → r ≡ Some k → ((is_of_path k ≡ true) × (new ≡ old)) ⊎
+      IsRefusedAt old new task k there
+  pub fits : FitsAt old task there → (k : ErrorKind) → r ≡ Some k → is_of_path k ≡ true
+  pub nowhere : r ≡ Some NoSuchPlace → new ≡ old
+  pub taken : (r ≡ Some NoSuchPlace → ⊥) → TakesAt old new task r there
 
 -- Steps.
 
@@ -298,7 +280,7 @@ pub record IsStep (old new : View) (edit : Edit) (r : Option ErrorKind) : Type 0
   pub done : IfSome path_end (λ there. IfSome (task_of edit.op)
       (λ task. DoesThere old.words new.words there task r))
   pub leads : (t : Tree) → IsStored old.words 0 0 t →
-      IsPathFound old.words 0 0 t (path_of edit.path.now) path_end
+      IsPathFound old.words 0 0 t (map step_of edit.path.now) path_end
   pub missing : path_end ≡ None → r ≡ Some NoSuchPlace
   pub out_of_range : task_of edit.op ≡ None → r ≡ Some NoSuchPlace
   pub rootless : length (segment old.words 0) ≡ 0 → r ≡ Some NoSuchPlace
@@ -316,11 +298,3 @@ abbrev pub AreSteps : View → View → List Edit → List (Option ErrorKind) �
 AreSteps old new [] [] = new ≡ old
 AreSteps old new (e ∷ es) (r ∷ rs) = (mid : View) × IsStep old mid e r × AreSteps mid new es rs
 AreSteps old new es rs = ⊥
-
--- An edit whose path leads to a pointer is done there.
-abbrev pub StepIsThere : Type 0
-StepIsThere =
-    (old new : View) (edit : Edit) (r : Option ErrorKind) (t x : Tree) (u q : ℕ)
-    (s : IsStep old new edit r) → IsForest old.words t
-    → PathLeads old.words 0 0 t (path_of edit.path.now) u q x →
-    s.path_end ≡ Some (AtPointer (record { segment = u; word = q }))

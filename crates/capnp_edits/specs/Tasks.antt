@@ -56,39 +56,37 @@ is_in_range (Search (ForList size) default) = nat_le (size_number size) 6 && is_
 is_in_range (Search sought default) = is_small_default default
 is_in_range task = true
 
--- A task, if its numbers are in range.
-abbrev pub if_in_range : Task → Option Task
-if_in_range task = if is_in_range task then Some task else None
+-- What an operation does.
+abbrev pub as_task : Op → Task
+as_task (InitStruct size) = Make (ZeroStruct size)
+as_task (InitList size n) = Make (ZeroList size n)
+as_task (InitStructList n size) = Make (ZeroStructs n size)
+as_task (InitText n) = Make (ZeroText n)
+as_task (InitData n) = Make (ZeroList Byte n)
+as_task (SetText bytes) = Make (Text bytes)
+as_task (SetData bytes) = Make (Data bytes)
+as_task (SetCapability i) = Point (Some i)
+as_task Clear = Point None
+as_task (SetField size i v) = InStruct (Bits (record { size = size; index = i; value = v }))
+as_task (SetBool i b) = InStruct (Bits (record { size = Bit; index = i; value = if b then 1 else 0 }))
+as_task (SetElement size i v) = Write (ListElement (record { size = size; index = i; value = v }))
+as_task (WriteText i b) = Write (TextByte i b)
+as_task (WriteData i b) = Write (DataByte i b)
+as_task (GetStruct size default) = Search (ForStruct size) default
+as_task (GetList size default) = Search (ForList size) default
+as_task (GetStructList size default) = Search (ForStructs size) default
+as_task (GetText default) = Search ForText default
+as_task (GetData default) = Search ForData default
+as_task (CopyFrom source canonicalize) =
+    CopyRoot (record { source = source; wanted = Value; canonicalize = canonicalize })
+as_task (SetStruct source canonicalize) =
+    CopyRoot (record { source = source; wanted = AStruct; canonicalize = canonicalize })
+as_task (SetList source canonicalize) =
+    CopyRoot (record { source = source; wanted = AList; canonicalize = canonicalize })
+as_task (CopyContent source) = InStruct (Content source)
 
 -- What an operation does, if its numbers are in range. A number of a data section that is a bit has
 -- an operation of its own.
 abbrev pub task_of : Op → Option Task
-task_of (InitStruct size) = if_in_range (Make (ZeroStruct size))
-task_of (InitList size n) = if_in_range (Make (ZeroList size n))
-task_of (InitStructList n size) = if_in_range (Make (ZeroStructs n size))
-task_of (InitText n) = if_in_range (Make (ZeroText n))
-task_of (InitData n) = if_in_range (Make (ZeroList Byte n))
-task_of (SetText bytes) = if_in_range (Make (Text bytes))
-task_of (SetData bytes) = if_in_range (Make (Data bytes))
-task_of (SetCapability i) = if_in_range (Point (Some i))
-task_of Clear = if_in_range (Point None)
 task_of (SetField Bit i v) = None
-task_of (SetField size i v) = if_in_range (InStruct (Bits (record { size = size; index = i; value = v })))
-task_of (SetBool i b) =
-    if_in_range (InStruct (Bits (record { size = Bit; index = i; value = if b then 1 else 0 })))
-task_of (SetElement size i v) =
-    if_in_range (Write (ListElement (record { size = size; index = i; value = v })))
-task_of (WriteText i b) = if_in_range (Write (TextByte i b))
-task_of (WriteData i b) = if_in_range (Write (DataByte i b))
-task_of (GetStruct size default) = if_in_range (Search (ForStruct size) default)
-task_of (GetList size default) = if_in_range (Search (ForList size) default)
-task_of (GetStructList size default) = if_in_range (Search (ForStructs size) default)
-task_of (GetText default) = if_in_range (Search ForText default)
-task_of (GetData default) = if_in_range (Search ForData default)
-task_of (CopyFrom source canonicalize) =
-    if_in_range (CopyRoot (record { source = source; wanted = Value; canonicalize = canonicalize }))
-task_of (SetStruct source canonicalize) =
-    if_in_range (CopyRoot (record { source = source; wanted = AStruct; canonicalize = canonicalize }))
-task_of (SetList source canonicalize) =
-    if_in_range (CopyRoot (record { source = source; wanted = AList; canonicalize = canonicalize }))
-task_of (CopyContent source) = if_in_range (InStruct (Content source))
+task_of op = if is_in_range (as_task op) then Some (as_task op) else None

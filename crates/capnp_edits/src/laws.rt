@@ -1,28 +1,61 @@
 //! What follows of the contracts of this crate. Each function does nothing: its contract is a law, proved
 //! for all messages.
-ghost use Rattle.capnp_edits.specs.Fitting.{FittingEdits};
-ghost use Rattle.capnp_edits.specs.Sources.{CopiedOrRefused, FilledOrRefused};
-ghost use Rattle.capnp_edits.specs.Steps.{StepIsThere};
+ghost use Rattle.std.specs.Prelude.{◌≡◌, ◌⊎◌, ℕ, ◌+◌, ◌<◌, ◌≤◌, min, map, All, List, length, Option, Some};
+ghost use Rattle.std.specs.List.{sum_by};
+ghost use Rattle.capnp_words.specs.declared.error.ErrorKind.{ErrorKind};
+ghost use Rattle.capnp_arena_traits.specs.View.{View};
+ghost use Rattle.capnp_format.specs.Forest.{IsForest};
+ghost use Rattle.capnp_format.specs.Segments.{segment};
+ghost use Rattle.capnp_format.specs.Tree.{Tree, count};
+ghost use Rattle.capnp_making.specs.Path.{PathLeads};
+ghost use Rattle.capnp_edits.specs.declared.edit.Edit.{Edit};
+ghost use Rattle.capnp_edits.specs.declared.edit.Source.{Source};
+ghost use Rattle.capnp_edits.specs.declared.edit.copying.Copying.{Copying};
+ghost use Rattle.capnp_edits.specs.declared.edit.copying.Wanted.TheVariants.{Struct as AStruct};
+ghost use Rattle.capnp_edits.specs.declared.edit.path.PathEnd.TheVariants.{Pointer as AtPointer};
+ghost use Rattle.capnp_edits.specs.Fitting.{AreInFirst, AsksNoMore, IsNoneOfMemory, words_asked};
+ghost use Rattle.capnp_edits.specs.Paths.{step_of};
+ghost use Rattle.capnp_edits.specs.Sources.{ContentRead, Copies, HasNothingToCopy, IsNextUnreadable, IsUnreadable};
+ghost use Rattle.capnp_edits.specs.Steps.{AreSteps, IsStep};
+ghost use Rattle.capnp_edits.specs.Tasks.{task_of};
 
 /// What is copied of another message can be copied or is refused for what is read of it, and never both.
 pub fn copied_or_refused()
-    ensures { CopiedOrRefused }
+    ensures { (c : Copying) (u : Tree) (k : ErrorKind) → Copies c u
+        → HasNothingToCopy c.source c.wanted k ⊎ IsUnreadable c k → ⊥ }
 {}
 
 /// The content of another message's struct can be copied or is refused for what is read, and never both: where
 /// its root leads to a struct, and the pointers that are copied mean values within both limits, it is not.
 pub fn filled_or_refused()
-    ensures { FilledOrRefused }
+    ensures { (source : Source) (q : ℕ) (k : ErrorKind) (all : ContentRead source)
+        → count all.children ≡ min q all.from.pointers
+        → HasNothingToCopy source AStruct k
+        ⊎ ((some : ContentRead source) × (count some.children < min q some.from.pointers)
+        × IsNextUnreadable source some k) → ⊥ }
 {}
 
 /// An edit whose path leads to a pointer is done at that one: what `apply` says of its place is said of it.
 pub fn step_is_there()
-    ensures { StepIsThere }
+    ensures { (old new : View) (edit : Edit) (r : Option ErrorKind) (t x : Tree) (u q : ℕ)
+        (s : IsStep old new edit r) → IsForest old.words t
+        → PathLeads old.words 0 0 t (map step_of edit.path.now) u q x
+        → s.path_end ≡ Some (AtPointer (record { segment = u; word = q })) }
 {}
 
 /// Edits that make objects, or write pointers, fields, elements and bytes, aren't refused for memory where their
 /// words together fit the first segment of a message that stands in it: each is done, or refused for what its
-/// path leads to. All that they make stands in that segment.
+/// path leads to. All that they make stands in that segment, which takes no more words than that and has as
+/// much room as before, and the allocator has refused nothing.
 pub fn fitting_edits()
-    ensures { FittingEdits }
+    ensures { (old new : View) (edits : List Edit) (rs : List (Option ErrorKind)) (t : Tree)
+        → IsForest old.words t → AreInFirst old.words
+        → All (λ e. AsksNoMore (task_of e.op)) edits
+        → length (segment old.words 0) + sum_by (λ e. words_asked (task_of e.op)) edits
+        ≤ old.room 0
+        → AreSteps old new edits rs
+        → All IsNoneOfMemory rs
+        × (length (segment new.words 0)
+        ≤ length (segment old.words 0) + sum_by (λ e. words_asked (task_of e.op)) edits)
+        × AreInFirst new.words × (new.room 0 ≡ old.room 0) × (new.refusals ≡ old.refusals) }
 {}

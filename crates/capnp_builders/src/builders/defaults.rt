@@ -1,11 +1,12 @@
 //! Defaults, which are copied in place of null pointers ("Default Values").
-ghost use Rattle.std.specs.Prelude.{◌≡◌, ◌↔◌, ◌/◌, ◌^◌, ◌<◌, ◌≤◌, length, IsTrue, IsNone, IsOk, IfErr, OnOk};
+ghost use Rattle.std.specs.Prelude.{◌≡◌, ◌↔◌, ◌/◌, ◌^◌, ◌<◌, ◌≤◌, length, IsTrue, IsNone, IsOk, IfErr, OnOk, IsSomeAnd, Some, slice_get};
+ghost use Rattle.capnp_format.specs.Bytes.{words_of};
 ghost use Rattle.capnp_format.specs.Segments.{word_at, Grows, IsPlace};
 ghost use Rattle.capnp_format.specs.Tree.{Tree};
 ghost use Rattle.capnp_making.specs.Stored.{IsStored};
 ghost use Rattle.capnp_making.specs.Makes.{call_at};
 ghost use Rattle.capnp_builders.specs.Building.{ChangesWords};
-ghost use Rattle.capnp_builders.specs.Defaults.{DropsDefault, PutsDefault, IsShortDefault, IsNullDefault, object_default, blob_default, PutsDefaultOver, DefaultCopyFits, DefaultFits};
+ghost use Rattle.capnp_builders.specs.Defaults.{DropsDefault, PutsDefault, IsShortDefault, object_default, blob_default, PutsDefaultOver, DefaultCopyFits, DefaultFits};
 
 use capnp_arena_traits::arena::BuilderArena;
 use capnp_copies::form::CopyForm;
@@ -110,7 +111,8 @@ pub(crate) fn put_blob_default<A: BuilderArena>(
 
 /// Whether there is a default with a first word that is null.
 fn has_null_word(default: Option<&[u8]>) -> bool
-    ensures { IsTrue result ↔ IsNullDefault default.entry }
+    ensures { IsTrue result
+        ↔ IsSomeAnd default.entry (λ d. slice_get (words_of d.now) 0 ≡ Some 0) }
 {
     match default {
         Some(bytes) => bytes.len() >= 8 && words::word_at(bytes, 0) == 0,

@@ -7,7 +7,7 @@ ghost use Rattle.capnp_contents.specs.Existing.{BytesLieIn, is_unfound, list_in,
 ghost use Rattle.capnp_making.specs.Stored.{IsStored};
 ghost use Rattle.capnp_words.specs.Sizes.{size_number};
 ghost use Rattle.capnp_readers.specs.Readers.{IsListPlace};
-ghost use Rattle.capnp_builders.specs.Found.{list_given, bytes_given, no_bytes};
+ghost use Rattle.capnp_builders.specs.Found.{list_given, bytes_given};
 
 use super::NO_SECTIONS;
 use super::places::list_place;
@@ -96,7 +96,8 @@ fn found_bytes<A: BuilderArena>(
 ) -> Result<ExistingBytes, ErrorKind>
     requires { segment < length (A.view arena.now).words }
     ensures some { IfSome found (λ b. BytesLieIn (A.view arena.now).words b → result ≡ Ok b) }
-    ensures none { IsNone found → result ≡ Ok (no_bytes segment) }
+    ensures none { IsNone found
+        → result ≡ Ok (record { segment = segment; start = 0; length = 0 }) }
     ensures inside { IfOk result (BytesLieIn (A.view arena.now).words) }
     ensures named { IfErr result (λ k. is_unfound k ≡ true) }
 {

@@ -1,5 +1,5 @@
 //! Structs of a message that is built ("Structs").
-ghost use Rattle.std.specs.Prelude.{◌≡◌, ◌≢◌, ◌↔◌, ◌+◌, ◌*◌, ◌<◌, [], IsTrue, IsOk, IfOk, IfErr, cond, true, false};
+ghost use Rattle.std.specs.Prelude.{◌≡◌, ◌≢◌, ◌↔◌, ◌+◌, ◌*◌, ◌<◌, [], IsTrue, IsOk, IfOk, IfErr, cond, true, false, min};
 ghost use Rattle.capnp_format.specs.Segments.{segment, word_at, IsPlace};
 ghost use Rattle.capnp_making.specs.Fields.{field_in};
 ghost use Rattle.capnp_readers.specs.Readers.{IsStructPlace};
@@ -7,7 +7,10 @@ ghost use Rattle.capnp_builders.specs.Reads.{IsArenaOf, IsReadAt};
 ghost use Rattle.capnp_builders.specs.Places.{HasField, IsAligned, WritesField, number_field, field};
 ghost use Rattle.capnp_readers.specs.Sections.{IsInside};
 ghost use Rattle.capnp_arena_traits.specs.View.{View};
-ghost use Rattle.capnp_builders.specs.Content.{TakesContent, StopsAtContent, ContentFits, TakesForContent, pointers_copied};
+ghost use Rattle.capnp_builders.specs.Content.{TakesContent, StopsAtContent, ContentFits, pointers_copied};
+ghost use Rattle.capnp_copies.specs.Growth.{TakesAtMost};
+ghost use Rattle.capnp_copies.specs.Originals.{children_original};
+ghost use Rattle.capnp_readers.specs.Sizes.{pointers_read};
 
 use super::content::{clear_pointers, write_content};
 use crate::builders::PointerBuilder;
@@ -116,7 +119,9 @@ impl<'a, A: BuilderArena> StructBuilder<'a, A> {
         ensures fits { ContentFits B.ReaderArena value.now self.old.place
             (pointers_copied self.old.place (A.view self.old.arena.now)
             (A.view self.new.arena.now) lim.old lim.new) → IsOk result }
-        ensures taken { TakesForContent B.ReaderArena result value.now self.old.place
+        ensures taken { TakesAtMost result
+            (children_original (pointers_read B.ReaderArena value.now)
+            (min self.old.place.pointers value.now.pointer_count))
             (pointers_copied self.old.place (A.view self.old.arena.now)
             (A.view self.new.arena.now) lim.old lim.new) }
         ensures inside { IsStructPlace (A.view self.new.arena.now).words self.new.place }

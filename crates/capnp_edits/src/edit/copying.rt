@@ -3,9 +3,10 @@ ghost use Rattle.std.specs.Prelude.{◌≡◌, IsOk, IfOk, IfErr};
 ghost use Rattle.capnp_builders.specs.Building.{built, calling, IsThere};
 ghost use Rattle.capnp_edits.specs.declared.edit.path.PathEnd.TheVariants.{Pointer as AtPointer};
 ghost use Rattle.capnp_edits.specs.declared.edit.tasks.Task.TheVariants.{CopyRoot};
-ghost use Rattle.capnp_edits.specs.Sources.{IsRootReader, IsRootless};
-ghost use Rattle.capnp_edits.specs.Edits.{refusal_of, place_of, refusals_after, CopiesRoot};
-ghost use Rattle.capnp_edits.specs.Steps.{FitsAt, CopiesWhole};
+ghost use Rattle.capnp_edits.specs.Sources.{HasRoot, IsRootless, once_at_root, root_of};
+ghost use Rattle.capnp_readers.specs.Readers.{reading};
+ghost use Rattle.capnp_edits.specs.Edits.{refusal_of, place_of, refusals_after};
+ghost use Rattle.capnp_edits.specs.Steps.{FitsAt, CopiesWhole, DoesThere};
 
 use crate::edit::Source;
 use capnp_arena::arena::{BuilderArena, ReaderArena, ReaderArenaImpl, SegmentArray};
@@ -44,8 +45,9 @@ pub(crate) type SourceReader<'a> = PointerReader<'a, ReaderArenaImpl<SegmentArra
 pub(crate) fn open_source<'a>(
     source: Source<'a>,
 ) -> Result<(SourceReader<'a>, ReadLimiter), ErrorKind>
-    ensures found { IfOk result (λ r.
-        IsRootReader ⟦<ReaderArenaImpl<SegmentArray<'a>> as ReaderArena>⟧ source.entry r.0 r.1) }
+    ensures found { IfOk result (λ r. HasRoot source.entry
+        × (reading ⟦<ReaderArenaImpl<SegmentArray<'a>> as ReaderArena>⟧ r.0 ≡ root_of source.entry)
+        × (r.1 ≡ once_at_root source.entry)) }
     ensures refused { IfErr result (IsRootless source.entry) }
 {
     let mut lim = ReadLimiter::new(source.budget);
@@ -59,9 +61,9 @@ pub(crate) fn copy_root<A: BuilderArena>(
     copying: Copying<'_>,
 ) -> Result<(), ErrorKind>
     requires { IsThere (built A.view pointer.old) }
-    ensures done { CopiesRoot (A.view pointer.old.arena.now).words
-        (A.view pointer.new.arena.now).words (place_of pointer.old) copying.entry
-        (refusal_of result) }
+    ensures done { DoesThere (A.view pointer.old.arena.now).words
+        (A.view pointer.new.arena.now).words (AtPointer (place_of pointer.old))
+        (CopyRoot copying.entry) (refusal_of result) }
     ensures counted { (A.view pointer.new.arena.now).refusals
         ≡ refusals_after (refusal_of result) (A.view pointer.old.arena.now).refusals }
     ensures taken { CopiesWhole (calling A.view pointer.old pointer.new) copying.entry

@@ -9,13 +9,14 @@ ghost use Rattle.capnp_readers.specs.Readers.{IsListPlace};
 ghost use Rattle.capnp_readers.specs.Sections.{data_bits, elements_words};
 ghost use Rattle.capnp_builders.specs.Elements.{lowest_bits};
 ghost use Rattle.capnp_builders.specs.Places.{WritesField, list_place};
+ghost use Rattle.capnp_edits.specs.declared.edit.path.PathEnd.TheVariants.{Pointer as AtPointer};
 ghost use Rattle.capnp_edits.specs.declared.edit.tasks.Task.TheVariants.{Write};
 ghost use Rattle.capnp_edits.specs.Tasks.{is_in_range, is_number};
 ghost use Rattle.capnp_edits.specs.Edits.{refusal_of, is_of_path, PutsElement, PutsByte};
 ghost use Rattle.capnp_edits.specs.Steps.{IsDoneAt};
 
 use crate::edit::path::has_words;
-use crate::edit::tasks::Part;
+use crate::edit::tasks::{Number, Part};
 use capnp_arena::arena::BuilderArena;
 use capnp_builders::builders::places::list_place;
 use capnp_builders::builders::{ListBuilder, PrimitiveElement};
@@ -100,22 +101,25 @@ fn put_element<A: BuilderArena>(
 fn set_element<A: BuilderArena>(
     arena: &mut A,
     found: Result<Option<ExistingList>, ErrorKind>,
-    size: ElementSize,
-    index: u32,
-    value: u64,
+    number: Number,
 ) -> Result<(), ErrorKind>
-    requires number { is_number size value ≡ true }
+    requires number { is_number number.size number.value ≡ true }
     requires looked { IfErr found (λ k. is_unfound k ≡ true) }
     ensures put { PutsElement (A.view arena.old).words
-        (A.view arena.new).words found size index value (refusal_of result) }
+        (A.view arena.new).words found number (refusal_of result) }
     ensures limits { KeepsLimits (A.view arena.old) (A.view arena.new) }
     ensures named { IfErr result (λ k. is_of_path k ≡ true) }
     ensures kept { OnErr result (A.view arena.new ≡ A.view arena.old) }
 {
     match found? {
-        Some(list) if has_element(&*arena, list, size, index) => {
+        Some(list) if has_element(&*arena, list, number.size, number.index) => {
             let place = list_place(list);
-            put_element(&mut ListBuilder { arena, place }, size, index, value);
+            put_element(
+                &mut ListBuilder { arena, place },
+                number.size,
+                number.index,
+                number.value,
+            );
             Ok(())
         }
         _ => Err(ErrorKind::NoSuchPlace),
@@ -155,13 +159,13 @@ pub(crate) fn edit_part<A: BuilderArena>(
 ) -> Result<(), ErrorKind>
     requires there { IsPlace (A.view arena.old).words place.segment place.word }
     requires range { is_in_range (Write part) ≡ true }
-    ensures { IsDoneAt (A.view arena.old) (A.view arena.new) place (Write part)
+    ensures { IsDoneAt (A.view arena.old) (A.view arena.new) (AtPointer place) (Write part)
         (refusal_of result) }
 {
     match part {
         Part::ListElement(number) => {
             let found = existing::get_list(&*arena, place.segment, place.word, number.size);
-            set_element(arena, found, number.size, number.index, number.value)
+            set_element(arena, found, number)
         }
         Part::TextByte(index, value) => {
             let found = existing::get_text(&*arena, place.segment, place.word);

@@ -1,29 +1,26 @@
 //! Changes of a struct, and those that copy the content of a struct of another message.
-ghost use Rattle.std.specs.Prelude.{◌≡◌, ◌+◌, None, true, IsOk, IfOk, IfErr, IfSome};
+ghost use Rattle.std.specs.Prelude.{◌≡◌, ◌+◌, None, true, IsOk, IfErr, IfSome};
 ghost use Rattle.capnp_contents.specs.Existing.{StructLiesIn};
 ghost use Rattle.capnp_readers.specs.Readers.{IsStructPlace};
-ghost use Rattle.capnp_builders.specs.Places.{IsAligned, struct_place};
-ghost use Rattle.capnp_builders.specs.Content.{TakesContent, StopsAtContent, ContentFits, TakesForContent as TakesForCopy, pointers_copied};
+ghost use Rattle.capnp_builders.specs.Places.{struct_place};
 ghost use Rattle.capnp_edits.specs.declared.edit.path.PathEnd.TheVariants.{Element as AtElement};
 ghost use Rattle.capnp_edits.specs.declared.edit.tasks.StructChange.TheVariants.{Content};
 ghost use Rattle.capnp_edits.specs.declared.edit.tasks.Task.TheVariants.{InStruct};
-ghost use Rattle.capnp_edits.specs.Sources.{ContentFitsBehind};
 ghost use Rattle.capnp_edits.specs.Tasks.{is_in_range};
 ghost use Rattle.capnp_edits.specs.Edits.{refusal_of, FillsAt, refusals_after};
-ghost use Rattle.capnp_edits.specs.Steps.{IsChanged, IsRefusedAt, TakesForChange};
+ghost use Rattle.capnp_edits.specs.Steps.{FitsAt, IsDoneAt, IsRefusedAt, TakesAt};
 
 use crate::edit::Source;
 use crate::edit::copying::open_source;
 use crate::edit::fields::put_field;
 use crate::edit::path::has_words;
 use crate::edit::tasks::StructChange;
-use capnp_arena::arena::{BuilderArena, ReaderArena};
+use capnp_arena::arena::BuilderArena;
 use capnp_builders::builders::StructBuilder;
 use capnp_builders::builders::places::struct_place;
 use capnp_contents::existing::ExistingStruct;
-use capnp_readers::readers::{StructPlace, StructReader};
+use capnp_readers::readers::StructPlace;
 use capnp_words::error::ErrorKind;
-use capnp_words::read_limiter::ReadLimiter;
 
 /// The place of a struct that lies in the message, if it has a word.
 fn place_in<A: BuilderArena>(arena: &A, parent: ExistingStruct) -> Option<StructPlace>
@@ -39,30 +36,6 @@ fn place_in<A: BuilderArena>(arena: &A, parent: ExistingStruct) -> Option<Struct
     Some(struct_place(parent))
 }
 
-/// Makes the content of a struct of the message that of another one.
-fn copy_over<A: BuilderArena, B: ReaderArena>(
-    arena: &mut A,
-    place: StructPlace,
-    value: &StructReader<'_, B>,
-    lim: &mut ReadLimiter,
-) -> Result<(), ErrorKind>
-    requires inside { IsStructPlace (A.view arena.old).words place }
-    requires aligned { IsAligned place }
-    ensures copied { IfOk result (λ _. TakesContent B.ReaderArena value.now place
-        (pointers_copied place (A.view arena.old) (A.view arena.new) lim.old lim.new)) }
-    ensures fits { ContentFits B.ReaderArena value.now place
-        (pointers_copied place (A.view arena.old) (A.view arena.new) lim.old lim.new)
-        → IsOk result }
-    ensures refused { IfErr result
-        (StopsAtContent B.ReaderArena value.now place
-        (pointers_copied place (A.view arena.old) (A.view arena.new) lim.old lim.new)) }
-    ensures taken { TakesForCopy B.ReaderArena result value.now place
-        (pointers_copied place (A.view arena.old) (A.view arena.new) lim.old lim.new) }
-{
-    let mut builder = StructBuilder { arena, place };
-    builder.copy_content_from(value, lim)
-}
-
 /// Makes the content of a struct of the message that of the struct that the root of another one leads to.
 pub(crate) fn fill<A: BuilderArena>(
     arena: &mut A,
@@ -76,15 +49,18 @@ pub(crate) fn fill<A: BuilderArena>(
         (A.view arena.old).refusals }
     ensures named { IfErr result (λ k. IsRefusedAt (A.view arena.old) (A.view arena.new)
         (InStruct (Content source.entry)) k (AtElement parent)) }
-    ensures taken { TakesForChange (A.view arena.old) (A.view arena.new) parent
-        (Content source.entry) (refusal_of result) }
-    ensures fits { ContentFitsBehind (A.view arena.old) parent.segment source.entry
-        parent.size.pointers → IsOk result }
+    ensures taken { TakesAt (A.view arena.old) (A.view arena.new)
+        (InStruct (Content source.entry)) (refusal_of result) (AtElement parent) }
+    ensures fits { FitsAt (A.view arena.old) (InStruct (Content source.entry)) (AtElement parent)
+        → IsOk result }
 {
     let (root, mut lim) = open_source(source)?;
     let value = root.get_struct(&mut lim, None)?;
     match place_in(&*arena, parent) {
-        Some(place) => copy_over(arena, place, &value, &mut lim),
+        Some(place) => {
+            let mut builder = StructBuilder { arena, place };
+            builder.copy_content_from(&value, &mut lim)
+        }
         None => Ok(()),
     }
 }
@@ -97,8 +73,8 @@ pub(crate) fn change_struct<A: BuilderArena>(
 ) -> Result<(), ErrorKind>
     requires inside { StructLiesIn (A.view arena.old).words parent }
     requires range { is_in_range (InStruct change) ≡ true }
-    ensures { IsChanged (A.view arena.old) (A.view arena.new) parent change.entry
-        (refusal_of result) }
+    ensures { IsDoneAt (A.view arena.old) (A.view arena.new) (AtElement parent)
+        (InStruct change.entry) (refusal_of result) }
 {
     match change {
         StructChange::Bits(number) => put_field(arena, parent, number),

@@ -1,9 +1,9 @@
 //! Where the paths of edits lead in a message.
-ghost use Rattle.std.specs.Prelude.{◌≡◌, ◌↔◌, ◌≤◌, ◌<◌, ◌^◌, IsTrue, IfSome, length};
+ghost use Rattle.std.specs.Prelude.{◌≡◌, ◌↔◌, ◌≤◌, ◌<◌, ◌^◌, IsTrue, IfSome, length, map};
 ghost use Rattle.capnp_format.specs.Segments.{segment, IsPlace};
 ghost use Rattle.capnp_format.specs.Tree.{Tree};
 ghost use Rattle.capnp_making.specs.Stored.{IsStored};
-ghost use Rattle.capnp_edits.specs.Paths.{step_of, path_of, IsPathFound, EndLiesIn, Steps, child_in, element_in};
+ghost use Rattle.capnp_edits.specs.Paths.{step_of, IsPathFound, EndLiesIn, Steps, child_in, element_in};
 
 use crate::edit::Step;
 use capnp_arena::arena::BuilderArena;
@@ -111,7 +111,7 @@ fn step_from<A: BuilderArena>(arena: &A, here: PathEnd, step: Step) -> Option<Pa
 pub(crate) fn find<A: BuilderArena>(arena: &A, path: &[Step]) -> Option<PathEnd>
     requires { IsPlace (A.view arena.now).words 0 0 }
     ensures found { (t : Tree) → IsStored (A.view arena.now).words 0 0 t
-        → IsPathFound (A.view arena.now).words 0 0 t (path_of path.now) result }
+        → IsPathFound (A.view arena.now).words 0 0 t (map step_of path.now) result }
     ensures inside { IfSome result (EndLiesIn (A.view arena.now).words) }
 {
     let mut here = PathEnd::Pointer(PointerPlace {

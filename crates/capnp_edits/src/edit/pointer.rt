@@ -2,6 +2,7 @@
 ghost use Rattle.std.specs.Prelude.{◌≡◌, true, None};
 ghost use Rattle.capnp_format.specs.Segments.{IsPlace};
 ghost use Rattle.capnp_builders.specs.Building.{built, IsThere};
+ghost use Rattle.capnp_edits.specs.declared.edit.path.PathEnd.TheVariants.{Pointer as AtPointer};
 ghost use Rattle.capnp_edits.specs.declared.edit.tasks.Task.TheVariants.{Make, Point};
 ghost use Rattle.capnp_edits.specs.Tasks.{is_in_range};
 ghost use Rattle.capnp_edits.specs.Edits.{refusal_of, place_of};
@@ -35,7 +36,7 @@ fn make<A: BuilderArena>(
     requires there { IsThere (built A.view pointer.old) }
     requires range { is_in_range (Make object) ≡ true }
     ensures made { IsDoneAt (A.view pointer.old.arena.now) (A.view pointer.new.arena.now)
-        (place_of pointer.old) (Make object.entry) (refusal_of result) }
+        (AtPointer (place_of pointer.old)) (Make object.entry) (refusal_of result) }
     ensures same { pointer.new.arena.ghost_name ≡ pointer.old.arena.ghost_name }
 {
     match object {
@@ -52,7 +53,7 @@ fn make<A: BuilderArena>(
 fn point<A: BuilderArena>(pointer: &mut PointerBuilder<'_, A>, capability: Option<u32>)
     requires { IsThere (built A.view pointer.old) }
     ensures pointed { IsDoneAt (A.view pointer.old.arena.now) (A.view pointer.new.arena.now)
-        (place_of pointer.old) (Point capability) None }
+        (AtPointer (place_of pointer.old)) (Point capability) None }
     ensures same { pointer.new.arena.ghost_name ≡ pointer.old.arena.ghost_name }
 {
     match capability {
@@ -69,7 +70,8 @@ pub(crate) fn edit_pointer<A: BuilderArena>(
 ) -> Result<(), ErrorKind>
     requires there { IsPlace (A.view arena.old).words place.segment place.word }
     requires range { is_in_range task ≡ true }
-    ensures { IsDoneAt (A.view arena.old) (A.view arena.new) place task.entry (refusal_of result) }
+    ensures { IsDoneAt (A.view arena.old) (A.view arena.new) (AtPointer place) task.entry
+        (refusal_of result) }
 {
     let mut pointer = PointerBuilder {
         arena,

@@ -1,9 +1,8 @@
 //! Operations, sorted once by what they do.
 ghost use Rattle.std.specs.Prelude.{◌≡◌};
-ghost use Rattle.capnp_edits.specs.declared.edit.Op.TheVariants.{SetField};
 ghost use Rattle.capnp_edits.specs.declared.edit.tasks.StructChange.TheVariants.{Bits};
 ghost use Rattle.capnp_edits.specs.declared.edit.tasks.Task.TheVariants.{Make, InStruct, Search, CopyRoot};
-ghost use Rattle.capnp_edits.specs.Tasks.{is_number, is_small_default, is_in_range, if_in_range, task_of};
+ghost use Rattle.capnp_edits.specs.Tasks.{is_number, is_small_default, is_in_range, as_task, task_of};
 
 use crate::edit::copying::{Copying, Wanted};
 use crate::edit::{Op, Source};
@@ -166,79 +165,69 @@ fn is_in_range(task: Task<'_>) -> bool
     }
 }
 
-/// A task, if its numbers are in range.
-fn if_in_range(task: Task<'_>) -> Option<Task<'_>>
-    ensures { result ≡ if_in_range task.entry }
-{
-    if is_in_range(task) { Some(task) } else { None }
-}
-
-/// Writing a number of a data section.
-fn bits<'a>(size: ElementSize, index: u32, value: u64) -> Option<Task<'a>>
-    ensures { result
-        ≡ if_in_range (InStruct (Bits (record { size = size; index = index; value = value }))) }
-{
-    if_in_range(Task::InStruct(StructChange::Bits(Number { size, index, value })))
-}
-
-/// The same of a number that is no bit.
-fn field<'a>(size: ElementSize, index: u32, value: u64) -> Option<Task<'a>>
-    ensures { result ≡ task_of (SetField size index value) }
-{
-    if size == ElementSize::Bit {
-        return None;
-    }
-    bits(size, index, value)
-}
-
 /// A copy of what the root of another message leads to.
-fn copy_of(source: Source<'_>, wanted: Wanted, canonicalize: bool) -> Option<Task<'_>>
-    ensures { result ≡ if_in_range (CopyRoot (record {
+fn copy_of(source: Source<'_>, wanted: Wanted, canonicalize: bool) -> Task<'_>
+    ensures { result ≡ CopyRoot (record {
       source = source.entry;
       wanted = wanted;
       canonicalize = canonicalize;
-    })) }
+    }) }
 {
-    if_in_range(Task::CopyRoot(Copying {
+    Task::CopyRoot(Copying {
         source,
         wanted,
         canonicalize,
-    }))
+    })
 }
 
-/// What an operation does, if its numbers are in range.
-pub(crate) fn task_of(op: Op<'_>) -> Option<Task<'_>>
-    ensures { result ≡ task_of op.entry }
+/// Writing a number of a data section.
+fn bits<'a>(size: ElementSize, index: u32, value: u64) -> Task<'a>
+    ensures { result ≡ InStruct (Bits (record { size = size; index = index; value = value })) }
+{
+    Task::InStruct(StructChange::Bits(Number { size, index, value }))
+}
+
+/// What an operation does.
+fn as_task(op: Op<'_>) -> Task<'_>
+    ensures { result ≡ as_task op.entry }
 {
     match op {
-        Op::InitStruct(size) => if_in_range(Task::Make(NewObject::ZeroStruct(size))),
-        Op::InitList(size, count) => if_in_range(Task::Make(NewObject::ZeroList(size, count))),
-        Op::InitStructList(count, size) => if_in_range(Task::Make(NewObject::ZeroStructs(
-            count, size,
-        ))),
-        Op::InitText(size) => if_in_range(Task::Make(NewObject::ZeroText(size))),
-        Op::InitData(size) => if_in_range(Task::Make(NewObject::ZeroList(ElementSize::Byte, size))),
-        Op::SetText(bytes) => if_in_range(Task::Make(NewObject::Text(bytes))),
-        Op::SetData(bytes) => if_in_range(Task::Make(NewObject::Data(bytes))),
-        Op::SetCapability(index) => if_in_range(Task::Point(Some(index))),
-        Op::Clear => if_in_range(Task::Point(None)),
-        Op::SetField(size, index, value) => field(size, index, value),
+        Op::InitStruct(size) => Task::Make(NewObject::ZeroStruct(size)),
+        Op::InitList(size, count) => Task::Make(NewObject::ZeroList(size, count)),
+        Op::InitStructList(count, size) => Task::Make(NewObject::ZeroStructs(count, size)),
+        Op::InitText(size) => Task::Make(NewObject::ZeroText(size)),
+        Op::InitData(size) => Task::Make(NewObject::ZeroList(ElementSize::Byte, size)),
+        Op::SetText(bytes) => Task::Make(NewObject::Text(bytes)),
+        Op::SetData(bytes) => Task::Make(NewObject::Data(bytes)),
+        Op::SetCapability(index) => Task::Point(Some(index)),
+        Op::Clear => Task::Point(None),
+        Op::SetField(size, index, value) => bits(size, index, value),
         Op::SetBool(index, value) => bits(ElementSize::Bit, index, u64::from(value)),
-        Op::CopyContent(source) => if_in_range(Task::InStruct(StructChange::Content(source))),
+        Op::CopyContent(source) => Task::InStruct(StructChange::Content(source)),
         Op::SetElement(size, index, value) => {
-            if_in_range(Task::Write(Part::ListElement(Number { size, index, value })))
+            Task::Write(Part::ListElement(Number { size, index, value }))
         }
-        Op::WriteText(index, value) => if_in_range(Task::Write(Part::TextByte(index, value))),
-        Op::WriteData(index, value) => if_in_range(Task::Write(Part::DataByte(index, value))),
-        Op::GetStruct(size, default) => if_in_range(Task::Search(Sought::Struct(size), default)),
-        Op::GetList(size, default) => if_in_range(Task::Search(Sought::List(size), default)),
-        Op::GetStructList(size, default) => {
-            if_in_range(Task::Search(Sought::StructList(size), default))
-        }
-        Op::GetText(default) => if_in_range(Task::Search(Sought::Text, default)),
-        Op::GetData(default) => if_in_range(Task::Search(Sought::Data, default)),
+        Op::WriteText(index, value) => Task::Write(Part::TextByte(index, value)),
+        Op::WriteData(index, value) => Task::Write(Part::DataByte(index, value)),
+        Op::GetStruct(size, default) => Task::Search(Sought::Struct(size), default),
+        Op::GetList(size, default) => Task::Search(Sought::List(size), default),
+        Op::GetStructList(size, default) => Task::Search(Sought::StructList(size), default),
+        Op::GetText(default) => Task::Search(Sought::Text, default),
+        Op::GetData(default) => Task::Search(Sought::Data, default),
         Op::CopyFrom(source, canonicalize) => copy_of(source, Wanted::Value, canonicalize),
         Op::SetStruct(source, canonicalize) => copy_of(source, Wanted::Struct, canonicalize),
         Op::SetList(source, canonicalize) => copy_of(source, Wanted::List, canonicalize),
     }
+}
+
+/// What an operation does, if its numbers are in range. A number of a data section that is a bit has an
+/// operation of its own.
+pub(crate) fn task_of(op: Op<'_>) -> Option<Task<'_>>
+    ensures { result ≡ task_of op.entry }
+{
+    if let Op::SetField(ElementSize::Bit, _, _) = op {
+        return None;
+    }
+    let task = as_task(op);
+    if is_in_range(task) { Some(task) } else { None }
 }

@@ -1,7 +1,7 @@
 use Rattle.std.proofs.Common.{refl}
 use Rattle.capnp_arena_traits.specs.View.{View}
 use Rattle.capnp_builders.specs.Defaults.{blob_default}
-use Rattle.capnp_builders.specs.Found.{GivesFoundBytes}
+use Rattle.capnp_builders.proofs.FoundBytes.{GivesFoundBytes}
 use Rattle.capnp_contents.specs.Existing.{data_in}
 use Rattle.capnp_builders.proofs.DefaultUses.{then_does}
 use Rattle.capnp_builders.proofs.builders.PointerBuilder.find_data.Goals as goal

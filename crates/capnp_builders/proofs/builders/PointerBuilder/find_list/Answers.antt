@@ -1,7 +1,7 @@
 use Rattle.std.proofs.Common.{refl}
 use Rattle.capnp_arena_traits.specs.View.{View}
 use Rattle.capnp_builders.specs.Defaults.{object_default}
-use Rattle.capnp_builders.specs.Found.{GivesFoundList}
+use Rattle.capnp_builders.proofs.FoundLists.{GivesFoundList}
 use Rattle.capnp_builders.proofs.DefaultUses.{then_does}
 use Rattle.capnp_builders.proofs.builders.PointerBuilder.find_list.Goals as goal
 

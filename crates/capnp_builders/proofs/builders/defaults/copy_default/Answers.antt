@@ -8,9 +8,9 @@ use Rattle.capnp_copies.specs.Changes.{change, MakesCopy, StopsCopy}
 use Rattle.capnp_copies.specs.Growth.{TakesAtMost}
 use Rattle.capnp_copies.specs.Originals.{value_original}
 use Rattle.capnp_copies.proofs.FlatRead.{err_so}
-use Rattle.capnp_builders.specs.Defaults.{default_root, default_copy}
+use Rattle.capnp_builders.specs.Defaults.{default_root}
 use Rattle.capnp_builders.proofs.CopiesHeld.{on_ok}
-use Rattle.capnp_builders.proofs.DefaultCopies.{nothing_spent, puts_default, drops_default}
+use Rattle.capnp_builders.proofs.DefaultCopies.{default_copy, nothing_spent, puts_default, drops_default}
 use Rattle.capnp_builders.proofs.builders.defaults.copy_default.Goals as goal
 
 -- A default with a first word has a pointer there.

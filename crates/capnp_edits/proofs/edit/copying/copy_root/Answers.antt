@@ -2,8 +2,8 @@ use Rattle.std.proofs.Common.{◌≡◌, inl, true, false, refl}
 use Rattle.std.proofs.lemmas.Result.{err_from_is_err_and}
 use Rattle.capnp_copies.proofs.FlatRead.{err_so}
 use Rattle.capnp_builders.proofs.CopiesHeld.{on_ok, on_err}
-use Rattle.capnp_edits.specs.Edits.{place_of, root_unread}
-use Rattle.capnp_edits.proofs.Copied.{Tried, tried_done, copy_counted, tried_taken, tried_fits, value_tried, struct_copied, list_copied, unread_counted, struct_unread, list_unread, struct_found, list_found}
+use Rattle.capnp_edits.specs.Edits.{place_of}
+use Rattle.capnp_edits.proofs.Copied.{Tried, root_unread, tried_done, copy_counted, tried_taken, tried_fits, value_tried, struct_copied, list_copied, unread_counted, struct_unread, list_unread, struct_found, list_found}
 use Rattle.capnp_edits.proofs.edit.copying.copy_root.Goals as goal
 use Rattle.capnp_edits.proofs.edit.copying.copy_root.Goals.{After-set_struct, After-set_list}
 
@@ -20,7 +20,7 @@ returns-in_err-root-clause-taken g c =
 -- The copy of what the root means.
 value_at : (g : _) (c : goal.After-copy_from g) → Tried c.copy_from.result c.args.copying (g.A.BuilderArena.view c.args.pointer.now.arena.now) (g.A.BuilderArena.view c.copy_from.new.self.arena.now) (place_of c.args.pointer.now)
 value_at g c =
-    value_tried c.copy_from.result c.args.copying _ _ _ _ _ (place_of c.args.pointer.now) c.in-Value.is c.in_ok-root.ensures.found.reads c.in_ok-root.ensures.found.once c.in_ok-root.ensures.found.root c.copy_from.ensures.copied c.copy_from.ensures.refused c.copy_from.ensures.taken
+    value_tried c.copy_from.result c.args.copying _ _ _ _ _ (place_of c.args.pointer.now) c.in-Value.is c.in_ok-root.ensures.found.1 c.in_ok-root.ensures.found.2 c.in_ok-root.ensures.found.0 c.copy_from.ensures.copied c.copy_from.ensures.refused c.copy_from.ensures.taken
 
 pub returns-in-Value-clause-done : goal.returns-in-Value-clause-done
 returns-in-Value-clause-done g c = tried_done c.copy_from.result c.args.copying _ _ _ (value_at g c) (on_err c.copy_from.result _ _ c.copy_from.ensures.refused (λ k x. x.cleared))

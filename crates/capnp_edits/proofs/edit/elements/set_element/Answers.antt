@@ -10,16 +10,16 @@ pub returns-in-Some-clause-put : goal.returns-in-Some-clause-put
 returns-in-Some-clause-put g c =
     let view = g.A.BuilderArena.view in
     let old = (view c.args.arena.now).words in
-    let put : PutsElement old (view c.put_element.new.list.arena.now).words c.args.found c.args.size c.args.index c.args.value None =
+    let put : PutsElement old (view c.put_element.new.list.arena.now).words c.args.found c.args.number None =
     element_put c.in-Some.list (is_found c.args.found c.in_ok-list.field-0 c.in-Some.list c.in_ok-list.was c.in-Some.is) (c.has_element.ensures.there c.if-has_element.true) refl
     (rw c.list_place-place.ensures at (ap (λ (v : View). v.words) c.put_element.ensures.written)) in
-    subst (λ (a : g.row.A.Denot). PutsElement old (view a).words c.args.found c.args.size c.args.index c.args.value None) (search rules) put
+    subst (λ (a : g.row.A.Denot). PutsElement old (view a).words c.args.found c.args.number None) (search rules) put
 
 -- A list of a value lies in the message, and is as wide.
 pub returns-in_default-clause-put : goal.returns-in_default-clause-put
 returns-in_default-clause-put g c =
     element_past c.in-Some.list (is_found c.args.found c.in_ok-list.field-0 c.in-Some.list c.in_ok-list.was c.in-Some.is)
-    (λ lies wide. elim (cases_lt c.args.index c.in-Some.list.count) [
+    (λ lies wide. elim (cases_lt c.args.number.index c.in-Some.list.count) [
       | inl less ↦ absurd (let e : false ≡ true = sym c.if-has_element.false ∙ c.has_element.ensures.past lies wide less in cc)
       | inr past ↦ past
     ]) refl refl

@@ -1,8 +1,9 @@
 use Rattle.std.proofs.Common.{◌≡◌, true, sym, subst}
+use Rattle.capnp_edits.specs.declared.edit.path.PathEnd.TheVariants.{Element as AtElement}
 use Rattle.capnp_edits.specs.declared.edit.tasks.Task.TheVariants.{InStruct}
 use Rattle.capnp_edits.specs.Tasks.{is_in_range}
 use Rattle.capnp_edits.specs.Edits.{refusal_of}
-use Rattle.capnp_edits.specs.Steps.{IsChanged}
+use Rattle.capnp_edits.specs.Steps.{IsDoneAt}
 use Rattle.capnp_edits.proofs.Filled.{bits_changed, content_changed}
 use Rattle.capnp_edits.proofs.edit.filling.change_struct.Goals as goal
 
@@ -14,7 +15,7 @@ returns-in-Bits g c =
     let old = g.A.BuilderArena.view c.args.arena.now in
     let new = g.A.BuilderArena.view c.put_field.new.arena in
     let e = c.put_field.ensures in
-    subst (λ change. IsChanged old new c.args.parent change (refusal_of c.put_field.result)) (sym c.in-Bits.is)
+    subst (λ change. IsDoneAt old new (AtElement c.args.parent) (InStruct change) (refusal_of c.put_field.result)) (sym c.in-Bits.is)
     (bits_changed c.put_field.result old new c.args.parent c.in-Bits.number e.put e.limits e.named e.kept)
 
 pub returns-in-Content : goal.returns-in-Content
@@ -22,5 +23,5 @@ returns-in-Content g c =
     let old = g.A.BuilderArena.view c.args.arena.now in
     let new = g.A.BuilderArena.view c.fill.new.arena in
     let e = c.fill.ensures in
-    subst (λ change. IsChanged old new c.args.parent change (refusal_of c.fill.result)) (sym c.in-Content.is)
+    subst (λ change. IsDoneAt old new (AtElement c.args.parent) (InStruct change) (refusal_of c.fill.result)) (sym c.in-Content.is)
     (content_changed c.fill.result old new c.args.parent c.in-Content.source e.filled e.counted e.named e.taken e.fits)

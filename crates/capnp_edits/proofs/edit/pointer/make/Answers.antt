@@ -2,6 +2,7 @@ use Rattle.std.proofs.Common.{◌+◌, ◌*◌, [], ◌∷◌, length, OnOk, ref
 use Rattle.std.proofs.lemmas.List.{length-append}
 use Rattle.capnp_words.specs.Sizes.{size_number}
 use Rattle.capnp_format.specs.Numbers.{words_for}
+use Rattle.capnp_edits.specs.declared.edit.path.PathEnd.TheVariants.{Pointer as AtPointer}
 use Rattle.capnp_edits.specs.declared.edit.tasks.Task.TheVariants.{Make}
 use Rattle.capnp_edits.specs.declared.edit.tasks.NewObject.TheVariants.{ZeroStruct, ZeroList, ZeroStructs, ZeroText, Text, Data}
 use Rattle.capnp_edits.specs.Edits.{refusal_of, place_of}
@@ -17,7 +18,7 @@ returns-in-ZeroStruct-clause-made g c =
     let new = g.A.BuilderArena.view c.put_struct.new.self.arena.now in
     let place = place_of c.args.pointer.now in
     rw c.done.ensures (
-    subst (λ o. IsDoneAt old new place (Make o) (refusal_of c.put_struct.result)) (sym c.in-ZeroStruct.is)
+    subst (λ o. IsDoneAt old new (AtPointer place) (Make o) (refusal_of c.put_struct.result)) (sym c.in-ZeroStruct.is)
     (object_made c.put_struct.result old new place (ZeroStruct c.in-ZeroStruct.size) _ (struct_words c.in-ZeroStruct.size) c.put_struct.ensures.object
     (struct_leads c.put_struct.result (call_at place.segment place.word old new) c.in-ZeroStruct.size (rw (c.put_struct.ensures.builder.segment, c.put_struct.ensures.builder.at) at c.put_struct.ensures.empty))))
 
@@ -27,7 +28,7 @@ returns-in-ZeroList-clause-made g c =
     let new = g.A.BuilderArena.view c.put_list.new.self.arena.now in
     let place = place_of c.args.pointer.now in
     rw c.done-in-ZeroList.ensures (
-    subst (λ o. IsDoneAt old new place (Make o) (refusal_of c.put_list.result)) (sym c.in-ZeroList.is)
+    subst (λ o. IsDoneAt old new (AtPointer place) (Make o) (refusal_of c.put_list.result)) (sym c.in-ZeroList.is)
     (object_made c.put_list.result old new place (ZeroList c.in-ZeroList.size c.in-ZeroList.count) _ (list_words_are (size_number c.in-ZeroList.size) c.in-ZeroList.count) c.put_list.ensures.object
     (subst (λ n. OnOk c.put_list.result (LeadsToEnd (call_at place.segment place.word old new) n)) (list_words_are (size_number c.in-ZeroList.size) c.in-ZeroList.count) c.put_list.ensures.at_end)))
 
@@ -37,7 +38,7 @@ returns-in-ZeroStructs-clause-made g c =
     let new = g.A.BuilderArena.view c.put_struct_list.new.self.arena.now in
     let place = place_of c.args.pointer.now in
     rw c.done-in-ZeroStructs.ensures (
-    subst (λ o. IsDoneAt old new place (Make o) (refusal_of c.put_struct_list.result)) (sym c.in-ZeroStructs.is)
+    subst (λ o. IsDoneAt old new (AtPointer place) (Make o) (refusal_of c.put_struct_list.result)) (sym c.in-ZeroStructs.is)
     (object_made c.put_struct_list.result old new place (ZeroStructs c.in-ZeroStructs.count c.in-ZeroStructs.size) _ (structs_words_are c.in-ZeroStructs.count c.in-ZeroStructs.size) c.put_struct_list.ensures.object
     (subst (λ n. OnOk c.put_struct_list.result (LeadsToEnd (call_at place.segment place.word old new) n)) (structs_words_are c.in-ZeroStructs.count c.in-ZeroStructs.size)
     (leads_behind c.put_struct_list.result (call_at place.segment place.word old new) (1 + c.in-ZeroStructs.count * (c.in-ZeroStructs.size.data_words + c.in-ZeroStructs.size.pointers)) (omega arith) c.put_struct_list.ensures.object.behind))))
@@ -48,7 +49,7 @@ returns-in-ZeroText-clause-made g c =
     let new = g.A.BuilderArena.view c.put_list-in-ZeroText.new.self.arena.now in
     let place = place_of c.args.pointer.now in
     rw c.done-in-ZeroText.ensures (
-    subst (λ o. IsDoneAt old new place (Make o) (refusal_of c.put_list-in-ZeroText.result)) (sym c.in-ZeroText.is)
+    subst (λ o. IsDoneAt old new (AtPointer place) (Make o) (refusal_of c.put_list-in-ZeroText.result)) (sym c.in-ZeroText.is)
     (object_made c.put_list-in-ZeroText.result old new place (ZeroText c.in-ZeroText.size) _ (list_words_are 2 (c.in-ZeroText.size + 1)) c.put_list-in-ZeroText.ensures.object
     (subst (λ n. OnOk c.put_list-in-ZeroText.result (LeadsToEnd (call_at place.segment place.word old new) n)) (list_words_are 2 (c.in-ZeroText.size + 1)) c.put_list-in-ZeroText.ensures.at_end)))
 
@@ -57,7 +58,7 @@ returns-in-Text-clause-made g c =
     let old = g.A.BuilderArena.view c.args.pointer.now.arena.now in
     let new = g.A.BuilderArena.view c.set_text.new.self.arena.now in
     let place = place_of c.args.pointer.now in
-    subst (λ o. IsDoneAt old new place (Make o) (refusal_of c.set_text.result)) (sym c.in-Text.is)
+    subst (λ o. IsDoneAt old new (AtPointer place) (Make o) (refusal_of c.set_text.result)) (sym c.in-Text.is)
     (object_made c.set_text.result old new place (Text c.in-Text.bytes) _ (ap (words_for 2) (sym (length-append c.in-Text.bytes.now (0 ∷ [])))) c.set_text.ensures.object
     (subst (λ n. OnOk c.set_text.result (LeadsToEnd (call_at place.segment place.word old new) n)) (ap (words_for 2) (sym (length-append c.in-Text.bytes.now (0 ∷ []))))
     (leads_behind c.set_text.result (call_at place.segment place.word old new) (words_for 2 (length c.in-Text.bytes.now + 1)) (omega arith) c.set_text.ensures.object.behind)))
@@ -67,5 +68,5 @@ returns-in-Data-clause-made g c =
     let old = g.A.BuilderArena.view c.args.pointer.now.arena.now in
     let new = g.A.BuilderArena.view c.set_data.new.self.arena.now in
     let place = place_of c.args.pointer.now in
-    subst (λ o. IsDoneAt old new place (Make o) (refusal_of c.set_data.result)) (sym c.in-Data.is)
+    subst (λ o. IsDoneAt old new (AtPointer place) (Make o) (refusal_of c.set_data.result)) (sym c.in-Data.is)
     (object_made c.set_data.result old new place (Data c.in-Data.bytes) _ refl c.set_data.ensures.object c.set_data.ensures.at_end)
