@@ -1,5 +1,6 @@
 pub mod AnsweredLemmas
 pub mod ArgumentLemmas
+pub mod CountingLemmas
 pub mod DigitLemmas
 pub mod FlatLemmas
 pub mod FramesLemmas

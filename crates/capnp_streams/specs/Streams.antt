@@ -13,12 +13,14 @@ use Rattle.capnp_format.specs.Tree.{Tree}
 use Rattle.capnp_arena.specs.declared.arena.reader_arena_impl.ReaderOptions.{ReaderOptions}
 use Rattle.capnp_framing.specs.Flat.{BeginsWithFrame}
 use Rattle.capnp_framing.specs.Frames.{IsFrameOf, bytes_of_words}
+use Rattle.capnp_framing.specs.Memory.{frame_refusals}
 use Rattle.capnp_framing.specs.Names.{frame_error_name}
 use Rattle.capnp_framing.specs.Reading.{NoFrame, total}
 use Rattle.capnp_framing.specs.declared.devices.Input.{Ghosts as InputGhosts}
 use Rattle.capnp_framing.specs.declared.devices.Output.{Ghosts as OutputGhosts}
 use Rattle.capnp_framing.specs.declared.framing.frame_error.FrameError.TheVariants.{AllocationFailed as NoMemory}
 use Rattle.capnp_framing.specs.declared.framing.frame_error.FrameError.TheVariants.{ReadFailed, WriteFailed}
+use Rattle.capnp_making.specs.Memory.{refusals_for}
 use Rattle.capnp_readers.specs.Faults.{fault_reason_text}
 use Rattle.capnp_readers.specs.declared.readers.canonical_fault.CanonicalFault.{CanonicalFault}
 use Rattle.capnp_messages.specs.Text.{check_line, size_line}
@@ -88,6 +90,15 @@ AnswersWith command task S holds P = (bytes : List ℕ) × AnswerIs command task
 abbrev pub RefusesBy : Command → ReaderOptions → Segments → Fault → Type 0
 RefusesBy command limits S (Layout k) = RefusesAnswer command limits S k
 RefusesBy command limits S _ = ⊥
+
+-- How often memory was refused, behind a fault and n times before: once more where there was none for the frame that
+-- is read, or for a canonical copy; and else as before.
+abbrev pub refusals_behind : Command → Fault → ℕ → ℕ
+refusals_behind command (Frame e) n = frame_refusals e n
+refusals_behind command TooManyMessages n = n
+refusals_behind (Canon form) (Layout k) n = refusals_for k n
+refusals_behind Check (Layout k) n = n
+refusals_behind Size (Layout k) n = n
 
 module _ {W : Type 0} (g : OutputGhosts W) where
   -- A fault is that of an output, which has failed.

@@ -11,7 +11,7 @@ mod writing;
 
 pub use capnp_messages::messages::{Command, Form};
 pub use fault::Fault;
-pub use flat::run_flat;
-pub use packed::run_packed;
-pub use runs::{Stop, Summary, run};
+pub use flat::{run_flat, run_flat_with};
+pub use packed::{run_packed, run_packed_with};
+pub use runs::{Stop, Summary, run, run_with};
 pub use task::{Request, Task, parse_args};

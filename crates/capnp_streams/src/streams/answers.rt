@@ -1,51 +1,60 @@
 //! The answer to one message.
-ghost use Rattle.std.specs.Prelude.{◌≡◌, ◌⊎◌, false, OnOk, IfOk, IfErr};
+ghost use Rattle.std.specs.Prelude.{◌≡◌, ◌⊎◌, ℕ, Some, false, IsSome, OnOk, IfOk, IfErr};
+ghost use Rattle.std.specs.Option.{option_map_or};
 ghost use Rattle.capnp_format.specs.Bytes.{message};
 ghost use Rattle.capnp_arena_traits.specs.Limits.{IsSmall};
 ghost use Rattle.capnp_framing.specs.Writing.{IsUnwritten, Prints};
-ghost use Rattle.capnp_streams.specs.Streams.{AnswersWith, IsWriteFault, RefusesBy};
+ghost use Rattle.capnp_streams.specs.Streams.{AnswersWith, IsWriteFault, RefusesBy, refusals_behind};
 
 use super::fault::Fault;
 use super::task::Task;
 use super::writing::{write_canonical, write_canonical_words, write_fault};
-use capnp_arena::arena::{ReaderArena, ReaderArenaImpl, ReaderSegments};
+use capnp_arena::arena::{Allocator, ReaderArena, ReaderArenaImpl, ReaderSegments};
 use capnp_framing::devices::{DeviceFault, Output};
 use capnp_framing::framing::FrameError;
 use capnp_messages::messages::{
-    Command, CopyMemory, Form, canonical_bytes, canonical_fault_of, canonical_from,
-    canonical_segment, size_of,
+    Command, Form, canonical_bytes, canonical_fault_of, canonical_from, canonical_segment, size_of,
 };
 use capnp_messages::text::write_size;
 use std::alloc::Global;
-use std::mem;
 
 /// The fault of an output.
 const WRITE_FAILED: Fault = Fault::Frame(FrameError::WriteFailed);
 
 /// What is kept from one message to the next.
 #[derive(Drop)]
-pub(super) struct Memory {
+pub(super) struct Memory<A: Allocator> {
     alloc: Global,
-    /// Memory for copies.
-    copies: CopyMemory,
+    /// Where the memory of messages and copies comes from. Only while a copy is made it isn't here.
+    pub(super) allocator: Option<A>,
     /// Whether the message before was canonical as it stood. A test costs more than it saves where messages
     /// aren't, so only behind one that was is the next one tested before it is copied.
     was_canonical: bool,
 }
 
-impl Memory {
+impl<A: Allocator> Memory<A> {
     /// None is taken yet, and the first message is tested.
-    pub(super) fn new(alloc: Global) -> Self {
+    pub(super) fn new(alloc: Global, allocator: A) -> Self
+        ensures { result.allocator ≡ Some allocator }
+    {
         Memory {
             alloc,
-            copies: CopyMemory::new(alloc),
+            allocator: Some(allocator),
             was_canonical: true,
         }
     }
 
-    /// What is kept for copies, which leaves none.
-    fn take_copies(&mut self) -> CopyMemory {
-        mem::replace(&mut self.copies, CopyMemory::new(self.alloc))
+    /// The allocator.
+    pub(super) fn into_allocator(self) -> A
+        requires { IsSome self.allocator }
+        ensures { self.allocator ≡ Some result }
+    {
+        let Memory {
+            alloc: _,
+            allocator,
+            was_canonical: _,
+        } = self;
+        allocator.unwrap()
     }
 }
 
@@ -58,13 +67,14 @@ fn is_first_segment<S: ReaderSegments>(source: &ReaderArenaImpl<S>, bytes: &[u8]
 }
 
 /// Writes a message in canonical form by a copy, and notes whether it is the message as it stands.
-fn canon_copy<S: ReaderSegments, W: Output>(
-    memory: &mut Memory,
+fn canon_copy<A: Allocator, S: ReaderSegments, W: Output>(
+    memory: &mut Memory<A>,
     form: Form,
     task: Task,
     source: &ReaderArenaImpl<S>,
     output: &mut W,
 ) -> Result<bool, Fault>
+    requires there { IsSome memory.old.allocator }
     requires nesting { source.now.nesting_limit ≡ task.limits.nesting_limit }
     requires works { W.has_failed output.old ≡ false }
     ensures answered { IfOk result (λ holds. AnswersWith (Command.Canon form) task
@@ -75,21 +85,28 @@ fn canon_copy<S: ReaderSegments, W: Output>(
         ⊎ (RefusesBy (Command.Canon form) task.limits
         (message (⟦<ReaderArenaImpl<S> as ReaderArena>⟧.segments source.now)) fault
         × IsUnwritten W.Output output.old output.new)) }
+    ensures there { IsSome memory.new.allocator }
+    ensures kept { OnOk result (option_map_or A.refusals memory.new.allocator 0
+        ≡ option_map_or A.refusals memory.old.allocator 0) }
+    ensures counted { IfErr result (λ fault. option_map_or A.refusals memory.new.allocator 0
+        ≡ refusals_behind (Command.Canon form) fault (option_map_or A.refusals memory.old.allocator 0)) }
 {
-    let copies = memory.take_copies();
-    match canonical_from(memory.alloc, copies, source, task.limits) {
+    let Some(allocator) = memory.allocator.take() else {
+        unreachable!()
+    };
+    match canonical_from(memory.alloc, allocator, source, task.limits) {
         Ok(made) => {
             let words = canonical_bytes(&made);
             memory.was_canonical = is_first_segment(source, words);
             let written = write_canonical_words(output, words, task.hex, form);
-            memory.copies = made.into_allocator();
+            memory.allocator = Some(made.into_allocator());
             match written {
                 Ok(()) => Ok(true),
                 Err(DeviceFault) => Err(WRITE_FAILED),
             }
         }
-        Err((kind, copies)) => {
-            memory.copies = copies;
+        Err((kind, allocator)) => {
+            memory.allocator = Some(allocator);
             Err(Fault::Layout(kind))
         }
     }
@@ -97,13 +114,14 @@ fn canon_copy<S: ReaderSegments, W: Output>(
 
 /// Writes a message in canonical form: as it stands, where it is in that form and the one before was,
 /// and else by a copy.
-fn canon<S: ReaderSegments + Drop, W: Output>(
-    memory: &mut Memory,
+fn canon<A: Allocator, S: ReaderSegments + Drop, W: Output>(
+    memory: &mut Memory<A>,
     form: Form,
     task: Task,
     segments: S,
     output: &mut W,
 ) -> Result<bool, Fault>
+    requires there { IsSome memory.old.allocator }
     requires small { IsSmall (S.segments segments) }
     requires works { W.has_failed output.old ≡ false }
     ensures answered { IfOk result (λ holds.
@@ -113,6 +131,11 @@ fn canon<S: ReaderSegments + Drop, W: Output>(
     ensures refused { IfErr result (λ fault. IsWriteFault W.Output output.new fault
         ⊎ (RefusesBy (Command.Canon form) task.limits (message (S.segments segments)) fault
         × IsUnwritten W.Output output.old output.new)) }
+    ensures there { IsSome memory.new.allocator }
+    ensures kept { OnOk result (option_map_or A.refusals memory.new.allocator 0
+        ≡ option_map_or A.refusals memory.old.allocator 0) }
+    ensures counted { IfErr result (λ fault. option_map_or A.refusals memory.new.allocator 0
+        ≡ refusals_behind (Command.Canon form) fault (option_map_or A.refusals memory.old.allocator 0)) }
 {
     let source = ReaderArenaImpl::new(segments, task.limits);
     if memory.was_canonical {
@@ -141,6 +164,8 @@ fn check<S: ReaderSegments + Drop, W: Output>(
     ensures refused { IfErr result (λ fault. IsWriteFault W.Output output.new fault
         ⊎ (RefusesBy Command.Check task.limits (message (S.segments segments)) fault
         × IsUnwritten W.Output output.old output.new)) }
+    ensures uncounted { IfErr result (λ fault.
+        (n : ℕ) → refusals_behind Command.Check fault n ≡ n) }
 {
     match canonical_fault_of(segments, task.limits) {
         Ok(None) => match write_canonical(output) {
@@ -170,6 +195,8 @@ fn size<S: ReaderSegments + Drop, W: Output>(
     ensures refused { IfErr result (λ fault. IsWriteFault W.Output output.new fault
         ⊎ (RefusesBy Command.Size task.limits (message (S.segments segments)) fault
         × IsUnwritten W.Output output.old output.new)) }
+    ensures uncounted { IfErr result (λ fault.
+        (n : ℕ) → refusals_behind Command.Size fault n ≡ n) }
 {
     match size_of(segments, task.limits) {
         Ok(size) => match write_size(output, size) {
@@ -181,12 +208,13 @@ fn size<S: ReaderSegments + Drop, W: Output>(
 }
 
 /// Answers to one message: writes what its task asks for, and gives whether that is a yes.
-pub(super) fn answer<S: ReaderSegments + Drop, W: Output>(
-    memory: &mut Memory,
+pub(super) fn answer<A: Allocator, S: ReaderSegments + Drop, W: Output>(
+    memory: &mut Memory<A>,
     task: Task,
     segments: S,
     output: &mut W,
 ) -> Result<bool, Fault>
+    requires there { IsSome memory.old.allocator }
     requires small { IsSmall (S.segments segments) }
     requires works { W.has_failed output.old ≡ false }
     ensures answered { IfOk result (λ holds.
@@ -196,6 +224,11 @@ pub(super) fn answer<S: ReaderSegments + Drop, W: Output>(
     ensures refused { IfErr result (λ fault. IsWriteFault W.Output output.new fault
         ⊎ (RefusesBy task.command task.limits (message (S.segments segments)) fault
         × IsUnwritten W.Output output.old output.new)) }
+    ensures there { IsSome memory.new.allocator }
+    ensures kept { OnOk result (option_map_or A.refusals memory.new.allocator 0
+        ≡ option_map_or A.refusals memory.old.allocator 0) }
+    ensures counted { IfErr result (λ fault. option_map_or A.refusals memory.new.allocator 0
+        ≡ refusals_behind task.command fault (option_map_or A.refusals memory.old.allocator 0)) }
 {
     match task.command {
         Command::Canon(form) => canon(memory, form, task, segments, output),

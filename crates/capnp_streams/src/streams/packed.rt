@@ -2,23 +2,62 @@
 ghost use Rattle.std.specs.Prelude.{◌≡◌, ◌⊎◌, false, true, OnOk, IfOk, IfErr, IfSome};
 ghost use Rattle.capnp_framing.specs.declared.framing.frame_error.FrameError.TheVariants.{ReadFailed};
 ghost use Rattle.capnp_streams.specs.Packed.{AllPackedAreDone, IsCutBehind, WherePackedAnswerable, unpacked_stage};
-ghost use Rattle.capnp_streams.specs.Streams.{IsWriteFault, StopsBehind, stage_of};
+ghost use Rattle.capnp_streams.specs.Streams.{IsWriteFault, StopsBehind, refusals_behind, stage_of};
 
 use super::fault::Fault;
-use super::runs::{Stop, Summary, run};
+use super::runs::{Stop, Summary, run_with};
 use super::task::Task;
+use capnp_arena::arena::Allocator;
 use capnp_framing::devices::{DeviceFault, Input};
 use capnp_framing::framing::FrameError;
+use capnp_messages::messages::CopyMemory;
 use capnp_packing::buffered::BufferedOutput;
 use capnp_packing::packing::UnpackingInput;
 use std::alloc::Global;
 
-/// Does a task with each message of a packed input ("Packing"), as `run` does with what its bytes
+/// Does a task with each message of a packed input ("Packing"), as `run_with` does with what its bytes
 /// stand for.
 ///
 /// Packed bytes that are cut short, within a word or before a number, are no end: they are
 /// `Truncated`, behind the answers to all messages whose frames they give, and with nothing of the
 /// one that they are cut in. `ReadFailed` is the packed input's: it has failed then.
+pub fn run_packed_with<A: Allocator, R: Input + Drop, W: BufferedOutput>(
+    alloc: Global,
+    allocator: A,
+    task: Task,
+    packed: R,
+    output: &mut W,
+) -> (Result<Summary, Stop>, A)
+    requires input { R.has_failed packed ≡ false }
+    requires output { W.has_failed output.old ≡ false }
+    ensures done { IfOk result.0 (AllPackedAreDone task
+        (stage_of R.Input W.Output packed output.old) (W.contents output.new)) }
+    ensures refused { IfErr result.0 (λ s. IsWriteFault W.Output output.new s.fault
+        ⊎ StopsBehind task (unpacked_stage (stage_of R.Input W.Output packed output.old))
+        (W.contents output.new) true s
+        ⊎ IsCutBehind task (stage_of R.Input W.Output packed output.old)
+        (W.contents output.new) s) }
+    ensures failed { IfErr result.0 (λ s. s.fault ≡ Fault.Frame ReadFailed
+        → IfSome (R.remaining packed) (λ _. (device : R) × (R.has_failed device ≡ true))) }
+    ensures exactly { IfErr result.0 (λ s. WherePackedAnswerable task (R.remaining packed) s.fault) }
+    ensures works { OnOk result.0 (W.has_failed output.new ≡ false) }
+    ensures kept { OnOk result.0 (A.refusals result.1 ≡ A.refusals allocator) }
+    ensures counted { IfErr result.0 (λ s. A.refusals result.1
+        ≡ refusals_behind task.command s.fault (A.refusals allocator)) }
+{
+    let mut input = UnpackingInput::new(packed);
+    let (answered, allocator) = run_with(alloc, allocator, task, &mut input, output);
+    match answered {
+        Ok(summary) => match input.finish() {
+            Ok(true) => (Ok(summary), allocator),
+            Ok(false) => (Err(behind(summary, FrameError::Truncated)), allocator),
+            Err(DeviceFault) => (Err(behind(summary, FrameError::ReadFailed)), allocator),
+        },
+        Err(stop) => (Err(stop), allocator),
+    }
+}
+
+/// Does a task with each message of a packed input, as `run_packed_with` does with memory of the heap.
 pub fn run_packed<R: Input + Drop, W: BufferedOutput>(
     alloc: Global,
     task: Task,
@@ -39,13 +78,8 @@ pub fn run_packed<R: Input + Drop, W: BufferedOutput>(
     ensures exactly { IfErr result (λ s. WherePackedAnswerable task (R.remaining packed) s.fault) }
     ensures works { OnOk result (W.has_failed output.new ≡ false) }
 {
-    let mut input = UnpackingInput::new(packed);
-    let summary = run(alloc, task, &mut input, output)?;
-    match input.finish() {
-        Ok(true) => Ok(summary),
-        Ok(false) => Err(behind(summary, FrameError::Truncated)),
-        Err(DeviceFault) => Err(behind(summary, FrameError::ReadFailed)),
-    }
+    let (answered, _) = run_packed_with(alloc, CopyMemory::new(alloc), task, packed, output);
+    answered
 }
 
 /// A stop behind all messages, where no frame is read.

@@ -1,16 +1,18 @@
 //! A task done with each message of a stream.
-ghost use Rattle.std.specs.Prelude.{◌≡◌, ◌⊎◌, ◌&&◌, ℕ, false, true, Ok, None, OnOk, IfOk, IfErr, IfSome};
+ghost use Rattle.std.specs.Prelude.{◌≡◌, ◌⊎◌, ◌&&◌, ℕ, false, true, Ok, None, IsSome, OnOk, IfOk, IfErr, IfSome};
+ghost use Rattle.std.specs.Option.{option_map_or};
 ghost use Rattle.std.specs.Io.KnownBytes.{IsAtEnd, Keeps};
 ghost use Rattle.capnp_framing.specs.declared.framing.frame_error.FrameError.TheVariants.{ReadFailed};
 ghost use Rattle.capnp_framing.specs.Wholeness.{KeepsWhole};
-ghost use Rattle.capnp_streams.specs.Streams.{AllAreDone, IsOneDone, IsWriteFault, StopsAt, StopsBehind, TakesRefused, TakesUpToRefused, WereAnswered, WhereAnswerable, most_words, stage_of};
+ghost use Rattle.capnp_streams.specs.Streams.{AllAreDone, IsOneDone, IsWriteFault, StopsAt, StopsBehind, TakesRefused, TakesUpToRefused, WereAnswered, WhereAnswerable, most_words, refusals_behind, stage_of};
 
 use super::answers::{Memory, answer};
 use super::fault::Fault;
 use super::task::Task;
-use capnp_arena::arena::ReaderOptions;
+use capnp_arena::arena::{Allocator, ReaderOptions};
 use capnp_framing::devices::{Input, Output};
-use capnp_framing::framing::{FrameError, OwnedSegments, read_into};
+use capnp_framing::framing::{FrameError, OwnedSegments, read_into_with};
+use capnp_messages::messages::CopyMemory;
 use capnp_packing::buffered::{BufferedInput, BufferedOutput, pass_on_before_waiting};
 use std::alloc::Global;
 
@@ -66,13 +68,14 @@ fn both(a: bool, b: bool) -> bool
 }
 
 /// Reads one message and answers to it; `None` where the input is at its end.
-fn step<R: Input, W: Output>(
+fn step<A: Allocator, R: Input, W: Output>(
     task: Task,
     input: &mut R,
     segments: &mut OwnedSegments,
-    memory: &mut Memory,
+    memory: &mut Memory<A>,
     output: &mut W,
 ) -> Result<Option<Answered>, Fault>
+    requires there { IsSome memory.old.allocator }
     requires input { R.has_failed input.old ≡ false }
     requires output { W.has_failed output.old ≡ false }
     ensures end { result ≡ Ok None → IsAtEnd (R.remaining input.old)
@@ -91,8 +94,16 @@ fn step<R: Input, W: Output>(
     ensures refused { IfErr result (λ e. IsWriteFault W.Output output.new e
         ⊎ (((n : ℕ) → StopsAt task (R.remaining input.old) (R.has_failed input.new) n e)
         × (W.contents output.new ≡ W.contents output.old))) }
+    ensures there { IsSome memory.new.allocator }
+    ensures kept { OnOk result (option_map_or A.refusals memory.new.allocator 0
+        ≡ option_map_or A.refusals memory.old.allocator 0) }
+    ensures counted { IfErr result (λ e. option_map_or A.refusals memory.new.allocator 0
+        ≡ refusals_behind task.command e (option_map_or A.refusals memory.old.allocator 0)) }
 {
-    match read_into(input, words_of(task.limits), segments) {
+    let Some(allocator) = &mut memory.allocator else {
+        unreachable!()
+    };
+    match read_into_with(allocator, input, words_of(task.limits), segments) {
         Ok(false) => Ok(None),
         Ok(true) => {
             let holds = answer(memory, task, &*segments, output)?;
@@ -104,13 +115,14 @@ fn step<R: Input, W: Output>(
 }
 
 /// The same, behind having passed on the answers so far, unless the message is read ahead.
-fn next<R: BufferedInput, W: BufferedOutput>(
+fn next<A: Allocator, R: BufferedInput, W: BufferedOutput>(
     task: Task,
     input: &mut R,
     segments: &mut OwnedSegments,
-    memory: &mut Memory,
+    memory: &mut Memory<A>,
     output: &mut W,
 ) -> Result<Option<Answered>, Fault>
+    requires there { IsSome memory.old.allocator }
     requires input { R.has_failed input.old ≡ false }
     requires output { W.has_failed output.old ≡ false }
     ensures end { result ≡ Ok None → IsAtEnd (R.remaining input.old)
@@ -129,6 +141,11 @@ fn next<R: BufferedInput, W: BufferedOutput>(
     ensures refused { IfErr result (λ e. IsWriteFault W.Output output.new e
         ⊎ (((n : ℕ) → StopsAt task (R.remaining input.old) (R.has_failed input.new) n e)
         × Keeps (W.contents output.old) (W.contents output.new))) }
+    ensures there { IsSome memory.new.allocator }
+    ensures kept { OnOk result (option_map_or A.refusals memory.new.allocator 0
+        ≡ option_map_or A.refusals memory.old.allocator 0) }
+    ensures counted { IfErr result (λ e. option_map_or A.refusals memory.new.allocator 0
+        ≡ refusals_behind task.command e (option_map_or A.refusals memory.old.allocator 0)) }
 {
     if pass_on_before_waiting(input, output).is_err() {
         return Err(Fault::Frame(FrameError::WriteFailed));
@@ -153,6 +170,76 @@ fn next<R: BufferedInput, W: BufferedOutput>(
 /// message at a time, and none for one that is no larger than those before. Behind a message that
 /// is refused nothing is taken of the input. The answers so far are passed on before a message is read
 /// that isn't read ahead.
+///
+/// All memory is an allocator's, which counts where there is none: once for an `AllocationFailed`, and
+/// else not. `Check` and `Size` take it for the frames alone.
+pub fn run_with<A: Allocator, R: BufferedInput, W: BufferedOutput>(
+    alloc: Global,
+    allocator: A,
+    task: Task,
+    input: &mut R,
+    output: &mut W,
+) -> (Result<Summary, Stop>, A)
+    requires input { R.has_failed input.old ≡ false }
+    requires output { W.has_failed output.old ≡ false }
+    ensures done { IfOk result.0 (AllAreDone task (stage_of R.Input W.Output input.old output.old)
+        (W.contents output.new)) }
+    ensures refused { IfErr result.0 (λ s. IsWriteFault W.Output output.new s.fault
+        ⊎ StopsBehind task (stage_of R.Input W.Output input.old output.old)
+        (W.contents output.new) (R.has_failed input.new) s) }
+    ensures exactly { IfErr result.0 (λ s. WhereAnswerable task (R.remaining input.old) s.fault) }
+    ensures end { OnOk result.0 (IsAtEnd (R.remaining input.new)) }
+    ensures whole { OnOk result.0 (KeepsWhole (R.ends_whole input.old) (R.ends_whole input.new)) }
+    ensures reads { OnOk result.0 (R.has_failed input.new ≡ false) }
+    ensures works { OnOk result.0 (W.has_failed output.new ≡ false) }
+    ensures failed { IfErr result.0 (λ s. R.has_failed input.new ≡ true
+        → s.fault ≡ Fault.Frame ReadFailed) }
+    ensures taken { IfErr result.0
+        (TakesUpToRefused task (R.remaining input.old) (R.remaining input.new)) }
+    ensures answered { IfErr result.0 (WereAnswered task
+        (stage_of R.Input W.Output input.old output.old)) }
+    ensures kept { OnOk result.0 (A.refusals result.1 ≡ A.refusals allocator) }
+    ensures counted { IfErr result.0 (λ s. A.refusals result.1
+        ≡ refusals_behind task.command s.fault (A.refusals allocator)) }
+{
+    let mut segments = OwnedSegments::new(alloc);
+    let mut memory = Memory::new(alloc, allocator);
+    let mut bytes = 0u64;
+    let mut holds = true;
+    for number in 0..u64::MAX {
+        match next(task, input, &mut segments, &mut memory, output) {
+            Ok(None) => {
+                let summary = Summary {
+                    messages: number,
+                    bytes,
+                    holds,
+                };
+                return (Ok(summary), memory.into_allocator());
+            }
+            Ok(Some(here)) => {
+                bytes = bytes.saturating_add(here.bytes);
+                holds = both(holds, here.holds);
+            }
+            Err(fault) => {
+                let stop = Stop {
+                    answered: number,
+                    byte: bytes,
+                    fault,
+                };
+                return (Err(stop), memory.into_allocator());
+            }
+        }
+    }
+    let stop = Stop {
+        answered: u64::MAX,
+        byte: bytes,
+        fault: Fault::TooManyMessages,
+    };
+    (Err(stop), memory.into_allocator())
+}
+
+/// Does a task with each message of an input, as `run_with` does with memory of the heap, which is kept from
+/// one message to the next.
 pub fn run<R: BufferedInput, W: BufferedOutput>(
     alloc: Global,
     task: Task,
@@ -178,33 +265,6 @@ pub fn run<R: BufferedInput, W: BufferedOutput>(
     ensures answered { IfErr result (WereAnswered task
         (stage_of R.Input W.Output input.old output.old)) }
 {
-    let mut segments = OwnedSegments::new(alloc);
-    let mut memory = Memory::new(alloc);
-    let mut bytes = 0u64;
-    let mut holds = true;
-    for number in 0..u64::MAX {
-        match next(task, input, &mut segments, &mut memory, output) {
-            Ok(None) => return Ok(Summary {
-                messages: number,
-                bytes,
-                holds,
-            }),
-            Ok(Some(here)) => {
-                bytes = bytes.saturating_add(here.bytes);
-                holds = both(holds, here.holds);
-            }
-            Err(fault) => {
-                return Err(Stop {
-                    answered: number,
-                    byte: bytes,
-                    fault,
-                });
-            }
-        }
-    }
-    Err(Stop {
-        answered: u64::MAX,
-        byte: bytes,
-        fault: Fault::TooManyMessages,
-    })
+    let (answered, _) = run_with(alloc, CopyMemory::new(alloc), task, input, output);
+    answered
 }

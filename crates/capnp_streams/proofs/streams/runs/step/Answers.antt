@@ -6,17 +6,17 @@ use Rattle.capnp_streams.proofs.streams.runs.step.Goals as goal
 
 pub returns-in_err-holds-in-Ok-true-clause-taken : goal.returns-in_err-holds-in-Ok-true-clause-taken
 returns-in_err-holds-in-Ok-true-clause-taken g c =
-    let read : c.read_into.result ≡ Ok true = search rules in
-    let frame = c.read_into.ensures.read read in
-    let short = rw c.words_of.ensures at (c.read_into.ensures.most read) in
+    let read : c.read_into_with.result ≡ Ok true = search rules in
+    let frame = c.read_into_with.ensures.read read in
+    let short = rw c.words_of.ensures at (c.read_into_with.ensures.most read) in
     let p = err_from_is_err_and c.from_residual.result c.from_residual.ensures.1 in
     rw p.1 (λ k same. (_, frame.bytes, frame.framed, short, frame.consumed))
 
 pub returns-in_err-holds-in-Ok-true-clause-refused : goal.returns-in_err-holds-in-Ok-true-clause-refused
 returns-in_err-holds-in-Ok-true-clause-refused g c =
-    let read : c.read_into.result ≡ Ok true = search rules in
-    let frame = c.read_into.ensures.read read in
-    let short = rw c.words_of.ensures at (c.read_into.ensures.most read) in
+    let read : c.read_into_with.result ≡ Ok true = search rules in
+    let frame = c.read_into_with.ensures.read read in
+    let short = rw c.words_of.ensures at (c.read_into_with.ensures.most read) in
     let p = err_from_is_err_and c.from_residual.result c.from_residual.ensures.1 in
     rw (p.1, p.2)
     (message_refused c.args.task _ _ _ _ _ _ (begins _ _ frame.consumed frame.framed short) c.in_err-holds-in-Ok-true.ensures.refused)

@@ -1,8 +1,8 @@
-use Rattle.std.proofs.Common.{◌≡◌, ◌-◌, ◌^◌, rules}
+use Rattle.std.proofs.Common.{◌≡◌, ◌∙◌, ◌-◌, ◌^◌, rules}
 use Rattle.capnp_framing.proofs.WholenessLemmas.{keeps_whole, keeps_whole_both}
 use Rattle.capnp_streams.proofs.AnsweredLemmas.{step_answerable, stops_behind}
 use Rattle.capnp_streams.proofs.StreamLemmas.{none_done, one_more_done, refused_taken}
-use Rattle.capnp_streams.proofs.streams.runs.run.Goals as goal
+use Rattle.capnp_streams.proofs.streams.runs.run_with.Goals as goal
 
 pub loop-number-init : goal.loop-number-init
 loop-number-init g c = record {
@@ -10,6 +10,8 @@ loop-number-init g c = record {
   whole = keeps_whole _;
   reads = search rules;
   writes = search rules;
+  there = search rules;
+  kept = search rules;
 }
 
 pub loop-number-preserved : goal.loop-number-preserved
@@ -20,6 +22,8 @@ loop-number-preserved g c =
       whole = keeps_whole_both _ _ _ c.loop-number.invariant.whole c.in-Ok-Some.ensures.whole;
       reads = search rules;
       writes = search rules;
+      there = search rules;
+      kept = c.in-Ok-Some.ensures.kept ∙ c.loop-number.invariant.kept;
     }
 
 pub returns-in-Err-clause-refused : goal.returns-in-Err-clause-refused

@@ -1,7 +1,8 @@
-use Rattle.std.proofs.Common.{◌≡◌, false}
+use Rattle.std.proofs.Common.{◌≡◌, false, IsSome}
+use Rattle.std.specs.Option.{option_map_or}
 use Rattle.capnp_framing.specs.Wholeness.{KeepsWhole}
 use Rattle.capnp_streams.specs.Streams.{AreDone, stage_of}
-use Rattle.capnp_streams.proofs.streams.runs.run.Given as goal
+use Rattle.capnp_streams.proofs.streams.runs.run_with.Given as goal
 
 abbrev pub invariant-loop-number : goal.invariant-loop-number
 invariant-loop-number g l = record {
@@ -12,4 +13,6 @@ invariant-loop-number g l = record {
   whole : KeepsWhole (g.R.Input.ends_whole l.fn.input) (g.R.Input.ends_whole l.input);
   reads : g.R.Input.has_failed l.input ≡ false;
   writes : g.W.Output.has_failed l.output ≡ false;
+  there : IsSome l.memory.allocator;
+  kept : option_map_or g.A.Allocator.refusals l.memory.allocator 0 ≡ g.A.Allocator.refusals l.fn.allocator;
 }
