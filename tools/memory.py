@@ -4,7 +4,8 @@
 
 Needs gcc, and a PROGRAM that is built: crates/capnp_canon/out/capnp_canon if left out. After a refused request the output
 is that of the messages before, and standard error says `refused AllocationFailed`, with the message's number where one
-was begun. The last line is `N passed, M failed`."""
+was begun; or less was asked for next, as where a list isn't made longer by a piece and is by a byte, and all is as
+without a refusal. The last line is `N passed, M failed`."""
 import os
 import pathlib
 import re
@@ -40,9 +41,10 @@ def refusals(preloaded, args, data):
     """Whether each refused request ends the run as it should, one by one."""
     whole, requests, _ = preloaded.run(args, data)
     for number in range(1, requests + 1):
-        run, _, _ = preloaded.run(args, data, number)
-        found = REFUSED.fullmatch(run.stderr.decode())
-        yield run.returncode == 2 and found and whole.stdout.startswith(run.stdout), args, number, run
+        run, made, _ = preloaded.run(args, data, number)
+        stops = run.returncode == 2 and REFUSED.fullmatch(run.stderr.decode()) and whole.stdout.startswith(run.stdout)
+        asks_for_less = made > requests and (run.returncode, run.stdout, run.stderr) == (whole.returncode, whole.stdout, whole.stderr)
+        yield stops or asks_for_less, args, number, run
 
 
 def main():
