@@ -1,12 +1,13 @@
 -- Of messages that have an answer none is refused: a fault is that of memory or of a device.
-use Rattle.std.proofs.Common.{◌≡◌, ◌⊎◌, inl, inr, ℕ, ◌++◌, List, [], ◌∷◌, Bool, Option, Some, None}
-use Rattle.std.proofs.Common.{All, IfSome, IsSomeAnd}
+use Rattle.std.proofs.Common.{◌≡◌, ◌≤◌, ◌⊎◌, inl, inr, ℕ, ◌++◌, List, [], ◌∷◌, Bool, Option, Some, None}
+use Rattle.std.proofs.Common.{All, IsSomeAnd}
 use Rattle.std.proofs.Common.{refl, sym, ◌∙◌, subst}
 use Rattle.std.proofs.lemmas.List.Elements.{All-head, All-tail}
 use Rattle.std.specs.Io.KnownBytes.{Consumes, Keeps}
 use Rattle.capnp_format.specs.Segments.{Segments}
 use Rattle.capnp_framing.specs.Flat.{BeginsWithFrame}
-use Rattle.capnp_framing.specs.Reading.{NoFrame}
+use Rattle.capnp_framing.specs.Frames.{IsFrameOf}
+use Rattle.capnp_framing.specs.Reading.{NoFrame, total}
 use Rattle.capnp_framing.proofs.FrameLemmas.{one_frame_begins}
 use Rattle.capnp_framing.proofs.ReadingLemmas.{frame_is_read}
 use Rattle.capnp_words.specs.declared.error.ErrorKind.{ErrorKind}
@@ -15,16 +16,17 @@ use Rattle.capnp_messages.specs.Commands.{HasAnswerWithin}
 use Rattle.capnp_messages.specs.Copies.{LacksMemoryOr}
 use Rattle.capnp_messages.proofs.AnsweredLemmas.{answer_refused}
 use Rattle.capnp_messages.proofs.FramesLemmas.{no_bytes_begin}
-use Rattle.capnp_streams.specs.Streams.{AreDone, AreFrames, CanBeAnswered, IsOfDevices}
-use Rattle.capnp_streams.specs.Streams.{RefusesBy, Stage, StopsAt, StopsBehind, WhereAnswerable, most_words}
+use Rattle.capnp_streams.specs.Streams.{AreDone, AreFrames, CanBeAnswered, EndsBehind, IsOfDevices}
+use Rattle.capnp_streams.specs.Streams.{RefusesBy, Stage, StopsAt, most_words}
 use Rattle.capnp_framing.specs.declared.framing.frame_error.FrameError.{FrameError}
 use Rattle.capnp_framing.specs.declared.framing.frame_error.FrameError.TheVariants.{WriteFailed}
 use Rattle.capnp_streams.specs.declared.streams.fault.Fault.{Fault}
 use Rattle.capnp_streams.specs.declared.streams.fault.Fault.TheVariants.{Frame, Layout, TooManyMessages}
+use Rattle.capnp_streams.specs.declared.streams.runs.Stop.{Stop}
 use Rattle.capnp_streams.specs.declared.streams.runs.Summary.{Summary}
 use Rattle.capnp_streams.specs.declared.streams.task.Task.{Task}
 use Rattle.capnp_streams.proofs.FramesLemmas.{frames_behind, no_bytes_refused}
-use Rattle.capnp_streams.proofs.StreamLemmas.{done_kept}
+use Rattle.capnp_streams.proofs.StreamLemmas.{begins}
 
 -- what is left is frames of messages that have an answer
 frame_is_there : (most : ℕ) (more : List Segments) (left : List ℕ) (e : FrameError) →
@@ -43,31 +45,36 @@ first_has P most (T ∷ more) left S (first, rest, is, framed, short, others) al
     one_frame_begins T S first begins.front rest begins.behind framed begins.framed (sym is ∙ begins.is) in
     subst P one (All-head P T more all)
 
-stops_so : (task : Task) (more : List Segments) (left : List ℕ) (failed : Bool) (answered : ℕ) (fault : Fault) →
+stops_so : (task : Task) (more : List Segments) (left : List ℕ) (after : Option (List ℕ)) (failed : Bool) (fault : Fault) →
     AreFrames (most_words task.limits) more left → All (HasAnswerWithin task.command task.limits) more →
-    StopsAt task (Some left) failed answered fault → IsOfDevices fault
-stops_so task more left failed answered (Frame e) framed all (inl memory) = inl memory
-stops_so task more left failed answered (Frame e) framed all (inr (inl (named, device))) = inr (inl named)
-stops_so task more left failed answered (Frame e) framed all (inr (inr none)) =
+    StopsAt task (Some left) after failed fault → IsOfDevices fault
+stops_so task more left after failed (Frame e) framed all (inl memory) = inl memory
+stops_so task more left after failed (Frame e) framed all (inr (inl (named, device))) = inr (inl named)
+stops_so task more left after failed (Frame e) framed all (inr (inr none)) =
     absurd (frame_is_there (most_words task.limits) more left e framed none)
-stops_so task more left failed answered (Layout k) framed all (S, begins, refused) =
+stops_so task more left after failed (Layout k) framed all (S, bytes, is, short, consumed, refused) =
     let P : Segments → Type 0 = HasAnswerWithin task.command task.limits in
-    answer_refused task.command task.limits S (first_has P (most_words task.limits) more left S framed all begins) refused
-stops_so task more left failed answered TooManyMessages framed all stops = tt
+    answer_refused task.command task.limits S
+    (first_has P (most_words task.limits) more left S framed all (begins (Some left) after consumed is short)) refused
+stops_so task more left after failed TooManyMessages framed all stops = absurd stops
 
 all_behind : (P : Segments → Type 0) (done more : List Segments) → All P (done ++ more) → All P more
 all_behind P [] more all = all
 all_behind P (S ∷ done) more all = all_behind P done more (All-tail P S (done ++ more) all)
 
 -- a run over such messages stops for nothing else
-pub answerable_stops : {task : Task} (old : Stage) (left output : Option (List ℕ)) {summary : Summary} (failed : Bool)
-    (answered : ℕ) (fault : Fault) → AreDone task old (record { input = left; output = output }) summary →
-    StopsAt task left failed answered fault → WhereAnswerable task old.input fault
-answerable_stops {task} old left output failed answered fault done stops =
+pub step_answerable : {task : Task} {summary : Summary} {P Q : Type 0} (old : Stage)
+    (left between after : Option (List ℕ)) (failed : Bool) (fault : Fault) →
+    AreDone task old (record { input = left; output = between }) summary →
+    ((fault ≡ Frame WriteFailed) × P) ⊎ (StopsAt task left after failed fault × Q) →
+    IsSomeAnd old.input (CanBeAnswered task) → IsOfDevices fault
+step_answerable old left between after failed fault done (inl (named, device)) =
+    λ can. subst IsOfDevices (sym named) (inr (inr refl))
+step_answerable {task} old left between after failed fault done (inr (stops, same)) =
     λ can. go old.input left done.consumed can stops
   where
     go : (a b : Option (List ℕ)) → Consumes a b done.bytes → IsSomeAnd a (CanBeAnswered task) →
-        StopsAt task b failed answered fault → IsOfDevices fault
+        StopsAt task b after failed fault → IsOfDevices fault
     go None b consumed given stopped = absurd given
     go (Some x) None consumed given stopped = absurd consumed
     go (Some x) (Some y) consumed (messages, framed, all) stopped =
@@ -75,39 +82,27 @@ answerable_stops {task} old left output failed answered fault done stops =
         frames_behind (most_words task.limits) done.messages messages done.bytes y x done.framed framed consumed in
         let rest = all_behind (HasAnswerWithin task.command task.limits) done.messages more
         (subst (All (HasAnswerWithin task.command task.limits)) is all) in
-        stops_so task more y failed answered fault others rest stopped
+        stops_so task more y after failed fault others rest stopped
 
 -- a message that is refused is that at the front of what is left
-pub message_refused : {W U : Type 0} (task : Task) (S : Segments) (left before after : Option (List ℕ))
-    (failed : Bool) (fault : Fault) → IfSome left (λ bytes. BeginsWithFrame bytes (most_words task.limits) S) →
+pub message_refused : {W U : Type 0} (task : Task) (S : Segments) (bytes : List ℕ) (left behind before after : Option (List ℕ))
+    (failed : Bool) (fault : Fault) → IsFrameOf S bytes → total S ≤ most_words task.limits → Consumes left behind bytes →
     W ⊎ (RefusesBy task.command task.limits S fault × ((after ≡ before) × U)) →
-    W ⊎ (((n : ℕ) → StopsAt task left failed n fault) × (after ≡ before))
-message_refused task S left before after failed fault begins (inl written) = inl written
-message_refused task S left before after failed (Frame e) begins (inr (refused, unwritten)) = absurd refused
-message_refused task S left before after failed (Layout k) begins (inr (refused, unwritten)) =
-    inr ((λ n. (S, begins, refused)), unwritten.0)
-message_refused task S left before after failed TooManyMessages begins (inr (refused, unwritten)) = absurd refused
+    W ⊎ (StopsAt task left behind failed fault × (after ≡ before))
+message_refused task S bytes left behind before after failed fault framed short consumed (inl written) = inl written
+message_refused task S bytes left behind before after failed (Frame e) framed short consumed (inr (refused, unwritten)) =
+    absurd refused
+message_refused task S bytes left behind before after failed (Layout k) framed short consumed (inr (refused, unwritten)) =
+    inr ((S, bytes, framed, short, consumed, refused), unwritten.0)
+message_refused task S bytes left behind before after failed TooManyMessages framed short consumed (inr (refused, unwritten)) =
+    absurd refused
 
--- behind messages that are done, one isn't answered: for what fault, and where it is none of a message
-pub stops_behind : {task : Task} {count size : ℕ} {holds : Bool} {W : Type 0} (old : Stage)
-    (left between after : Option (List ℕ)) (failed : Bool) (fault : Fault) →
-    AreDone task old (record { input = left; output = between })
-    (record { messages = count; bytes = size; holds = holds }) →
-    W ⊎ (((n : ℕ) → StopsAt task left failed n fault) × Keeps between after) →
-    W ⊎ StopsBehind task old after failed (record { answered = count; byte = size; fault = fault })
-stops_behind old left between after failed fault done (inl written) = inl written
-stops_behind {task} {count} {size} {holds} old left between after failed fault done (inr (stops, kept)) =
-    inr (left, holds, done_kept left between after kept done, stops count)
-
-pub step_answerable : {task : Task} {summary : Summary} {P Q : Type 0} (old : Stage)
-    (left between : Option (List ℕ)) (failed : Bool) (fault : Fault) →
-    AreDone task old (record { input = left; output = between }) summary →
-    ((fault ≡ Frame WriteFailed) × P) ⊎ (((n : ℕ) → StopsAt task left failed n fault) × Q) →
-    WhereAnswerable task old.input fault
-step_answerable old left between failed fault done (inl (named, device)) =
-    λ can. subst IsOfDevices (sym named) (inr (inr refl))
-step_answerable old left between failed fault done (inr (stops, same)) =
-    answerable_stops old left between failed 0 fault done (stops 0)
+-- a run ends where a message isn't answered
+pub ends_behind : {W : Type 0} (task : Task) (old new : Stage) (failed : Bool) (stop : Stop) →
+    W ⊎ (StopsAt task old.input new.input failed stop.fault × Keeps old.output new.output) →
+    W ⊎ EndsBehind task old new failed stop
+ends_behind task old new failed stop (inl written) = inl written
+ends_behind task old new failed stop (inr (stops, kept)) = inr (kept, inl stops)
 
 -- where a copy is refused memory lacked, or it is refused for what the message holds
 pub copy_refused : {old new : ℕ} {k : ErrorKind} {P : Type 0} → LacksMemoryOr old new k P → (k ≡ AllocationFailed) ⊎ P

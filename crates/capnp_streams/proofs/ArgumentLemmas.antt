@@ -2,13 +2,13 @@
 use Rattle.std.proofs.Common.{◌≡◌, ◌∙◌, inl, inr, ℕ, zero, suc, ◌+◌, ◌*◌, ◌<◌, ℤ, List, [], ◌∷◌, Bool, true, false, not, ◌&&◌, Option, Some, None}
 use Rattle.std.proofs.Common.{String, Global, codes, length, map, string_bytes}
 use Rattle.std.proofs.Common.{ap, sym, subst, refl, arith}
-use Rattle.std.specs.List.{Contains}
-use Rattle.std.specs.Prelude.{if◌then◌else◌, nat_eq}
+use Rattle.std.specs.List.{Contains, after_first, before_first, position_or_len}
+use Rattle.std.specs.Prelude.{MatchOption, if◌then◌else◌, nat_eq}
 use Rattle.std.specs.Str.Parse.{IsNumeral}
 use Rattle.std.proofs.lemmas.List.{length-map}
 use Rattle.capnp_messages.specs.Text.{IsBudget}
-use Rattle.capnp_streams.specs.Arguments.{AsksForBehind, AsksForFiles, MakesLine, MakesLineAlone, MakesLineBehind, Sets, Stops}
-use Rattle.capnp_streams.specs.Arguments.{after_equals, are_files, before_equals, equals_at, is_first_file, is_option, line_after}
+use Rattle.capnp_streams.specs.Arguments.{AsksForBehind, AsksForFiles, MakesLine, MakesLineAlone, Sets, Stops}
+use Rattle.capnp_streams.specs.Arguments.{are_files, is_equals, is_first_file, is_option, line_after}
 use Rattle.capnp_streams.specs.Arguments.{setting_text, text_of_word}
 use Rattle.capnp_streams.specs.declared.streams.task.Request.{Request}
 use Rattle.capnp_streams.specs.declared.streams.words.Line.{Line}
@@ -93,7 +93,7 @@ word_one a b text is same =
     sym (word_found a) ∙ ap (λ (t : List ℕ). word_at (key 8 t)) (is ∙ sym same) ∙ word_found b
 
 -- no word has a `=`
-no_equals : (word : Word) → equals_at (text_of_word word) < length (text_of_word word) → ⊥
+no_equals : (word : Word) → position_or_len is_equals (text_of_word word) < length (text_of_word word) → ⊥
 no_equals Help there = omega arith
 no_equals HelpLetter there = omega arith
 no_equals Version there = omega arith
@@ -111,9 +111,10 @@ no_equals Quiet there = omega arith
 no_equals Nesting there = omega arith
 no_equals Words there = omega arith
 
-word_has_none : (word : Word) (text : List ℕ) → text_of_word word ≡ text → equals_at text < length text → ⊥
+word_has_none : (word : Word) (text : List ℕ) → text_of_word word ≡ text →
+    position_or_len is_equals text < length text → ⊥
 word_has_none word text is there =
-    no_equals word (subst (λ (t : List ℕ). equals_at t < length t) (sym is) there)
+    no_equals word (subst (λ (t : List ℕ). position_or_len is_equals t < length t) (sym is) there)
 
 setting_one : (a b : Setting) (text : List ℕ) → setting_text a ≡ text → setting_text b ≡ text → a ≡ b
 setting_one SetNesting SetNesting text is same = refl
@@ -148,11 +149,13 @@ alone_one text from a b (inl (v, is, to)) (inl (w, same, too)) =
 alone_one text from a b (inl (v, is, to)) (inr (s, there, named, sets)) = absurd (word_has_none v text is there)
 alone_one text from a b (inr (s, there, named, sets)) (inl (v, is, to)) = absurd (word_has_none v text is there)
 alone_one text from a b (inr (s, there, named, sets)) (inr (t, too, same, set)) =
-    let one = setting_one t s (before_equals text) same named in
-    sets_one s (after_equals text) from a b sets (subst (λ (x : Setting). Sets x (after_equals text) from b) one set)
+    let one = setting_one t s (before_first is_equals text) same named in
+    sets_one s (after_first is_equals text) from a b sets
+    (subst (λ (x : Setting). Sets x (after_first is_equals text) from b) one set)
 
-read_one : (expects : Option Setting) (text : List ℕ) (from a b : Line) → MakesLineBehind expects text from a →
-    MakesLineBehind expects text from b → a ≡ b
+read_one : (expects : Option Setting) (text : List ℕ) (from a b : Line) →
+    MatchOption expects (MakesLineAlone text from a) (λ option. Sets option text from a) →
+    MatchOption expects (MakesLineAlone text from b) (λ option. Sets option text from b) → a ≡ b
 read_one None text from a b is same = alone_one text from a b is same
 read_one (Some setting) text from a b is same = sets_one setting text from a b is same
 

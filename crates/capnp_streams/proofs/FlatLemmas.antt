@@ -1,5 +1,5 @@
 -- An input that is one message without a frame is answered, or is not.
-use Rattle.std.proofs.Common.{◌≡◌, ◌⊎◌, inl, inr, ℕ, List, [], ◌∷◌, Bool, Option, Some, None, IfSome, refl, sym, subst}
+use Rattle.std.proofs.Common.{◌≡◌, ◌⊎◌, inl, inr, ℕ, List, [], ◌∷◌, Bool, Option, Some, None, IfSome, IsSomeAnd, refl, sym, subst}
 use Rattle.std.specs.Io.KnownBytes.{Appends, Consumes, IsAtEnd}
 use Rattle.capnp_format.specs.Bytes.{message}
 use Rattle.capnp_framing.proofs.BareLemmas.{all_so, bare_words_are_read}
@@ -8,8 +8,8 @@ use Rattle.capnp_framing.specs.declared.devices.Input.{Ghosts}
 use Rattle.capnp_framing.specs.declared.framing.frame_error.FrameError.TheVariants.{WriteFailed}
 use Rattle.capnp_messages.proofs.AnsweredLemmas.{answer_refused}
 use Rattle.capnp_messages.specs.Commands.{RefusesAnswer}
-use Rattle.capnp_streams.specs.Flat.{CanFlatBeAnswered, HasTakenFlat, IsFlatDone, StopsFlat, WhereFlatAnswerable}
-use Rattle.capnp_streams.specs.Streams.{AnswerIs, AnswersWith, IsOfDevices, RefusesBy, most_words}
+use Rattle.capnp_streams.specs.Flat.{CanFlatBeAnswered, HasTakenFlat, IsFlatDone, StopsFlat}
+use Rattle.capnp_streams.specs.Streams.{AnswerIs, IsOfDevices, RefusesBy, most_words}
 use Rattle.capnp_streams.specs.declared.streams.fault.Fault.{Fault}
 use Rattle.capnp_streams.specs.declared.streams.fault.Fault.TheVariants.{Frame, Layout, TooManyMessages}
 use Rattle.capnp_streams.specs.declared.streams.task.Task.{Task}
@@ -17,7 +17,7 @@ use Rattle.capnp_streams.specs.declared.streams.task.Task.{Task}
 -- the message is answered
 pub flat_done : (task : Task) (holds : Bool) (from to before after : Option (List ℕ)) (segments : List (List ℕ)) (bytes : List ℕ) →
     AreBareWords bytes (most_words task.limits) → Consumes from to bytes → segments ≡ bytes ∷ [] →
-    AnswersWith task.command task (message segments) holds (Appends before after) →
+    ((answer : List ℕ) × AnswerIs task.command task (message segments) holds answer × Appends before after answer) →
     IsFlatDone task (record { input = from; output = before }) (record { input = to; output = after }) holds
 flat_done task holds from to before after segments bytes bare consumed only (answer, is, written) = record {
   bytes = bytes;
@@ -63,7 +63,8 @@ answerable_so task bytes failed (Layout k) (bare, has) (all, same, are, refused)
 answerable_so task bytes failed TooManyMessages can stops = absurd stops
 
 pub flat_answerable : {P Q : Type 0} (task : Task) (input : Option (List ℕ)) (failed : Bool) (fault : Fault) →
-    ((fault ≡ Frame WriteFailed) × P) ⊎ (StopsFlat task input failed fault × Q) → WhereFlatAnswerable task input fault
+    ((fault ≡ Frame WriteFailed) × P) ⊎ (StopsFlat task input failed fault × Q) →
+    IsSomeAnd input (CanFlatBeAnswered task) → IsOfDevices fault
 flat_answerable task input failed fault (inl (named, device)) = λ can. subst IsOfDevices (sym named) (inr (inr refl))
 flat_answerable task None failed fault (inr (stops, kept)) = λ can. absurd can
 flat_answerable task (Some bytes) failed fault (inr (stops, kept)) = λ can. answerable_so task bytes failed fault can stops

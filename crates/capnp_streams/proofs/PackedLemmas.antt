@@ -1,5 +1,5 @@
 -- What a run over what packed bytes stand for says of the packed bytes.
-use Rattle.std.proofs.Common.{◌≡◌, ◌∙◌, ◌⊎◌, inl, inr, ℕ, List, Bool, true, false, ◌&&◌, Option, Some, None, IfSome, ap, refl, sym, subst}
+use Rattle.std.proofs.Common.{◌≡◌, ◌∙◌, ◌⊎◌, inl, inr, ℕ, List, [], Bool, true, false, ◌&&◌, Option, Some, None, IfSome, ap, refl, sym, subst}
 use Rattle.std.specs.Option.{option_map}
 use Rattle.std.specs.Io.KnownBytes.{Consumes}
 use Rattle.capnp_framing.specs.Reading.{NoFrame}
@@ -9,10 +9,11 @@ use Rattle.capnp_packing.specs.Packing.{IsWhole, is_tag, place_at_end, unpacked_
 use Rattle.capnp_packing.specs.declared.packing.place.Place.TheVariants.{Tag}
 use Rattle.capnp_framing.proofs.WholenessLemmas.{keeps_whole_both}
 use Rattle.capnp_framing.specs.declared.framing.frame_error.FrameError.TheVariants.{ReadFailed, Truncated, WriteFailed}
+use Rattle.capnp_streams.proofs.StreamLemmas.{keeps_same}
 use Rattle.capnp_streams.specs.Packed.{IsCutBehind}
-use Rattle.capnp_streams.specs.Streams.{AllAreDone, StopsAt, StopsBehind}
+use Rattle.capnp_streams.specs.Streams.{AreDone, EndsBehind, Stage, StopsAt, WereAnswered}
 use Rattle.capnp_streams.specs.declared.streams.fault.Fault.{Fault}
-use Rattle.capnp_streams.specs.declared.streams.fault.Fault.TheVariants.{Frame}
+use Rattle.capnp_streams.specs.declared.streams.fault.Fault.TheVariants.{Frame, Layout, TooManyMessages}
 use Rattle.capnp_streams.specs.declared.streams.runs.Stop.{Stop}
 use Rattle.capnp_streams.specs.declared.streams.runs.Summary.{Summary}
 use Rattle.capnp_streams.specs.declared.streams.task.Task.{Task}
@@ -25,20 +26,71 @@ are_cut (Some bytes) kept = λ whole.
     let wrong : false ≡ true = same ∙ ap is_tag whole in
     cc
 
--- behind all messages that a packed input gives it is cut
-pub cut_behind : {task : Task} (packed given output after : Option (List ℕ)) (before behind : Option Bool)
+-- all messages that a packed input gives are answered
+packed_answered : {task : Task} (packed given output after : Option (List ℕ)) (summary : Summary) (stop : Stop) →
+    given ≡ option_map (unpacked_bytes Tag) packed →
+    AreDone task (record { input = given; output = output }) (record { input = Some []; output = after }) summary →
+    stop.answered ≡ summary.messages → stop.byte ≡ summary.bytes →
+    WereAnswered task (record { input = option_map (unpacked_bytes Tag) packed; output = output })
+    (record { input = Some []; output = after }) stop
+packed_answered {task} packed given output after summary stop same done answered byte =
+    let end : Stage = record { input = Some []; output = after } in
+    let there : AreDone task (record { input = option_map (unpacked_bytes Tag) packed; output = output }) end
+    (record { messages = summary.messages; bytes = summary.bytes; holds = summary.holds }) =
+    subst (λ (i : Option (List ℕ)). AreDone task (record { input = i; output = output }) end summary) same done in
+    (summary.holds, rw (answered, byte) there)
+
+-- behind these it is cut
+pub cut_behind : {P : Type 0} {Q : Stage → Type 0} {task : Task} (packed given output after : Option (List ℕ)) (before behind : Option Bool)
     (summary : Summary) (stop : Stop) → given ≡ option_map (unpacked_bytes Tag) packed → before ≡ whole_behind Tag packed →
     KeepsWhole before behind → KeepsWhole behind (Some false) →
-    AllAreDone task (record { input = given; output = output }) after summary →
+    AreDone task (record { input = given; output = output }) (record { input = Some []; output = after }) summary →
     stop.answered ≡ summary.messages → stop.byte ≡ summary.bytes → stop.fault ≡ Frame Truncated →
-    IsCutBehind task (record { input = packed; output = output }) after stop
-cut_behind {task} packed given output after before behind summary stop same whole kept last done answered byte fault =
+    (end : Stage)
+    × WereAnswered task (record { input = option_map (unpacked_bytes Tag) packed; output = output }) end stop
+    × (P ⊎ IsCutBehind packed end after stop.fault ⊎ Q end)
+cut_behind packed given output after before behind summary stop same whole kept last done answered byte fault =
     let both = keeps_whole_both before behind (Some false) kept last in
     let cut = are_cut packed (subst (λ (o : Option Bool). KeepsWhole o (Some false)) whole both) in
-    let there : AllAreDone task (record { input = option_map (unpacked_bytes Tag) packed; output = output }) after
-    (record { messages = summary.messages; bytes = summary.bytes; holds = summary.holds }) =
-    subst (λ (i : Option (List ℕ)). AllAreDone task (record { input = i; output = output }) after summary) same done in
-    (fault, cut, (summary.holds, rw (answered, byte) there))
+    (record { input = Some []; output = after }, packed_answered packed given output after summary stop same done answered byte, inr (inl (fault, cut, refl, keeps_same after)))
+
+-- or can't be read
+pub fails_behind : {P : Type 0} {Q : Stage → Type 0} {task : Task} (packed given output after : Option (List ℕ))
+    (summary : Summary) (stop : Stop) → given ≡ option_map (unpacked_bytes Tag) packed →
+    AreDone task (record { input = given; output = output }) (record { input = Some []; output = after }) summary →
+    stop.answered ≡ summary.messages → stop.byte ≡ summary.bytes → stop.fault ≡ Frame ReadFailed →
+    (end : Stage)
+    × WereAnswered task (record { input = option_map (unpacked_bytes Tag) packed; output = output }) end stop
+    × (P ⊎ Q end ⊎ ((rest : Option (List ℕ)) × EndsBehind task end (record { input = rest; output = after }) true stop))
+fails_behind {task = task} packed given output after summary stop same done answered byte fault =
+    let stops : StopsAt task (Some []) None true stop.fault =
+    subst (λ (f : Fault). StopsAt task (Some []) None true f) (sym fault) (inr (inl (refl, refl))) in
+    (record { input = Some []; output = after }, packed_answered packed given output after summary stop same done answered byte, inr (inr (None, (keeps_same after, inl stops))))
+
+-- a run over what a packed input gives ends where a frame isn't read, or a message isn't answered
+stops_failed : (task : Task) (left after : Option (List ℕ)) (failed : Bool) (fault : Fault) →
+    StopsAt task left after failed fault → StopsAt task left after true fault
+stops_failed task left after failed (Frame e) (inl memory) = inl memory
+stops_failed task left after failed (Frame e) (inr (inl (named, device))) = inr (inl (named, refl))
+stops_failed task left after failed (Frame e) (inr (inr none)) = inr (inr none)
+stops_failed task left after failed (Layout k) stops = stops
+stops_failed task left after failed TooManyMessages stops = absurd stops
+
+pub ends_packed : {P : Type 0} {Q : Stage → Type 0} {task : Task} (packed given output left after : Option (List ℕ)) (failed : Bool) (stop : Stop) →
+    given ≡ option_map (unpacked_bytes Tag) packed →
+    ((end : Stage) × WereAnswered task (record { input = given; output = output }) end stop
+    × (P ⊎ EndsBehind task end (record { input = left; output = after }) failed stop)) →
+    (end : Stage)
+    × WereAnswered task (record { input = option_map (unpacked_bytes Tag) packed; output = output }) end stop
+    × (P ⊎ Q end ⊎ ((rest : Option (List ℕ)) × EndsBehind task end (record { input = rest; output = after }) true stop))
+ends_packed {P} {Q} {task} packed given output left after failed stop same (end, were, ended) =
+    (end, subst (λ (i : Option (List ℕ)). WereAnswered task (record { input = i; output = output }) end stop) same were, go ended)
+  where
+    go : P ⊎ EndsBehind task end (record { input = left; output = after }) failed stop →
+        P ⊎ Q end ⊎ ((rest : Option (List ℕ)) × EndsBehind task end (record { input = rest; output = after }) true stop)
+    go (inl written) = inl written
+    go (inr (kept, inl stops)) = inr (inr (left, (kept, inl (stops_failed task end.input left failed stop.fault stops))))
+    go (inr (kept, inr many)) = inr (inr (left, (kept, inr many)))
 
 -- no bytes are refused by the name of a failed read
 bytes_are_read : {bytes : List ℕ} {most : ℕ} → NoFrame bytes most ReadFailed → ⊥
@@ -48,12 +100,12 @@ bytes_are_read (table_cut long few cut is) = cc
 bytes_are_read (too_long there many is) = cc
 bytes_are_read (words_cut there few cut is) = cc
 
-stop_failed : (task : Task) (left : Option (List ℕ)) (failed : Bool) (answered : ℕ) → (left ≡ None → ⊥) →
-    StopsAt task left failed answered (Frame ReadFailed) → failed ≡ true
-stop_failed task left failed answered known (inl memory) = cc
-stop_failed task left failed answered known (inr (inl (same, is))) = is
-stop_failed task None failed answered known (inr (inr none)) = absurd (known refl)
-stop_failed task (Some bytes) failed answered known (inr (inr none)) = absurd (bytes_are_read none)
+stop_failed : (task : Task) (left after : Option (List ℕ)) (failed : Bool) → (left ≡ None → ⊥) →
+    StopsAt task left after failed (Frame ReadFailed) → failed ≡ true
+stop_failed task left after failed known (inl memory) = cc
+stop_failed task left after failed known (inr (inl (same, is))) = is
+stop_failed task None after failed known (inr (inr none)) = absurd (known refl)
+stop_failed task (Some bytes) after failed known (inr (inr none)) = absurd (bytes_are_read none)
 
 -- what is left of known bytes is known
 left_known : (old left : Option (List ℕ)) (xs taken : List ℕ) → old ≡ Some xs → Consumes old left taken →
@@ -74,17 +126,20 @@ device_failed has_failed told device (Some bytes) is = (device, failed_below tol
 
 -- where a run over known packed bytes stops by the name of a failed read, the packed input has failed
 pub read_failed : {P R : Type 0} {task : Task} (has_failed : R → Bool) (told : Bool) (device : R)
-    (packed given output after : Option (List ℕ)) (stop : Stop) → given ≡ option_map (unpacked_bytes Tag) packed →
-    ((stop.fault ≡ Frame WriteFailed) × P) ⊎
-    StopsBehind task (record { input = given; output = output }) after (told && has_failed device) stop →
+    (packed given output left after : Option (List ℕ)) (stop : Stop) → given ≡ option_map (unpacked_bytes Tag) packed →
+    ((end : Stage) × WereAnswered task (record { input = given; output = output }) end stop
+    × (((stop.fault ≡ Frame WriteFailed) × P)
+    ⊎ EndsBehind task end (record { input = left; output = after }) (told && has_failed device) stop)) →
     stop.fault ≡ Frame ReadFailed → IfSome packed (λ bytes. (d : R) × (has_failed d ≡ true))
-read_failed has_failed told device packed given output after stop same (inl (written, such)) is =
+read_failed has_failed told device packed given output left after stop same (end, were, inl (written, such)) is =
     let wrong : Frame WriteFailed ≡ Frame ReadFailed = sym written ∙ is in absurd (cc)
-read_failed has_failed told device None given output after stop same (inr stops) is = tt
-read_failed {task = task} has_failed told device (Some bytes) given output after stop same (inr (left, holds, done, stops)) is =
-    let known = left_known given left (unpacked_bytes Tag bytes) done.bytes same done.consumed in
-    let failed = stop_failed task left (told && has_failed device) stop.answered known
-    (subst (λ (f : Fault). StopsAt task left (told && has_failed device) stop.answered f) is stops) in
+read_failed has_failed told device packed given output left after stop same (end, were, inr (kept, inr (many, count))) is =
+    let wrong : TooManyMessages ≡ Frame ReadFailed = sym many ∙ is in absurd (cc)
+read_failed has_failed told device None given output left after stop same (end, were, inr (kept, inl stops)) is = tt
+read_failed {task = task} has_failed told device (Some bytes) given output left after stop same (end, (holds, done), inr (kept, inl stops)) is =
+    let known = left_known given end.input (unpacked_bytes Tag bytes) done.bytes same done.consumed in
+    let failed = stop_failed task end.input left (told && has_failed device) known
+    (subst (λ (f : Fault). StopsAt task end.input left (told && has_failed device) f) is stops) in
     device_failed has_failed told device (Some bytes) failed
 
 -- a cut is no failed read

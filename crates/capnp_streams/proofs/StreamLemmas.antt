@@ -1,49 +1,44 @@
 -- A stream is read and answered message by message.
-use Rattle.std.proofs.Common.{◌≡◌, ◌≤◌, ℕ, ◌+◌, ◌-◌, ◌^◌, min, List, [], ◌∷◌, ◌++◌, Bool, true, false, ◌&&◌, Option, Some, None, length}
-use Rattle.std.proofs.Common.{IfSome, refl, sym, ap, ◌∙◌, append_assoc, append-nil, arith, length-append}
-use Rattle.std.specs.Io.KnownBytes.{Appends, Consumes, Keeps}
+use Rattle.std.proofs.Common.{◌≡◌, ◌≤◌, ◌<◌, ℕ, ◌+◌, ◌-◌, ◌^◌, min, List, [], ◌∷◌, ◌++◌, Bool, true, false, ◌&&◌, Option, Some, None, length}
+use Rattle.std.proofs.Common.{IfSome, refl, sym, ap, subst, ◌∙◌, append_assoc, append-nil, arith, length-append}
+use Rattle.std.proofs.lemmas.List.{length-replicate}
+use Rattle.std.specs.Prelude.{replicate}
+use Rattle.std.specs.Io.KnownBytes.{Appends, Consumes, IsAtEnd, Keeps}
 use Rattle.capnp_format.specs.Segments.{Segments}
 use Rattle.capnp_framing.specs.Flat.{BeginsWithFrame}
-use Rattle.capnp_framing.specs.Frames.{IsFrameOf}
+use Rattle.capnp_framing.specs.Frames.{IsFrameOf, frame, padding_size}
 use Rattle.capnp_framing.specs.Reading.{total}
-use Rattle.capnp_framing.proofs.ReadingLemmas.{consumes_both}
+use Rattle.capnp_framing.proofs.ReadingLemmas.{consumes_both, length-frame_with}
 use Rattle.capnp_framing.proofs.WritingLemmas.{appends_both}
-use Rattle.capnp_streams.specs.Streams.{AnswerIs, AreAnswered, AreDone, AreFrames, IsOneDone, Stage, TakesRefused, TakesUpToRefused}
-use Rattle.capnp_streams.specs.declared.streams.fault.Fault.{Fault}
-use Rattle.capnp_streams.specs.declared.streams.runs.Answered.{Answered}
+use Rattle.capnp_streams.specs.Streams.{AnswerIs, AreAnswered, AreDone, AreFrames, Stage, most_words}
 use Rattle.capnp_streams.specs.declared.streams.runs.Summary.{Summary}
 use Rattle.capnp_streams.specs.declared.streams.task.Task.{Task}
 
--- one frame more
-frames_more : (most : ℕ) (S : Segments) (last : List ℕ) (Ss : List Segments) (bytes : List ℕ) →
-    AreFrames most Ss bytes → IsFrameOf S last → total S ≤ most → AreFrames most (Ss ++ S ∷ []) (bytes ++ last)
-frames_more most S last [] bytes none framed short =
-    (last, [], ap (λ (bs : List ℕ). bs ++ last) none ∙ sym (append-nil last), framed, short, refl)
-frames_more most S last (T ∷ Ss) bytes (first, rest, same, is, few, more) framed short =
-    let whole = ap (λ (bs : List ℕ). bs ++ last) same ∙ append_assoc first rest last in
-    (first, rest ++ last, whole, is, few, frames_more most S last Ss rest more framed short)
-
-and_true : (b : Bool) → b ≡ b && true
-and_true true = refl
-and_true false = refl
+-- frames behind others
+frames_both : (most : ℕ) (Ss Ts : List Segments) (bytes others : List ℕ) → AreFrames most Ss bytes →
+    AreFrames most Ts others → AreFrames most (Ss ++ Ts) (bytes ++ others)
+frames_both most [] Ts bytes others none framed =
+    subst (λ (bs : List ℕ). AreFrames most Ts (bs ++ others)) (sym none) framed
+frames_both most (S ∷ Ss) Ts bytes others (first, rest, same, is, few, more) framed =
+    let whole = ap (λ (bs : List ℕ). bs ++ others) same ∙ append_assoc first rest others in
+    (first, rest ++ others, whole, is, few, frames_both most Ss Ts rest others more framed)
 
 and_assoc : (a b c : Bool) → (a && b) && c ≡ a && (b && c)
 and_assoc true b c = refl
 and_assoc false b c = refl
 
--- one answer more
-module _ (task : Task) (S : Segments) (holds : Bool) (last : List ℕ)
-    (is : AnswerIs task.command task S holds last) where
-  answers_more : (Ss : List Segments) (all : Bool) (bytes : List ℕ) → AreAnswered task Ss all bytes →
-      AreAnswered task (Ss ++ S ∷ []) (all && holds) (bytes ++ last)
-  answers_more [] all bytes (none, nothing) =
-      let both = ap (λ (b : Bool). b && holds) none ∙ and_true holds in
-      (holds, true, last, [], is, (refl, refl), both, ap (λ (bs : List ℕ). bs ++ last) nothing ∙ sym (append-nil last))
-  answers_more (T ∷ Ss) all bytes (here, there, first, rest, this, more, both, same) =
-      let yes_all = ap (λ (b : Bool). b && holds) both ∙ and_assoc here there holds in
-      let whole = ap (λ (bs : List ℕ). bs ++ last) same ∙ append_assoc first rest last in
-      let others = answers_more Ss there rest more in
-      (here, there && holds, first, rest ++ last, this, others, yes_all, whole)
+-- answers behind others
+answers_both : (task : Task) (Ss Ts : List Segments) (all holds : Bool) (bytes others : List ℕ) →
+    AreAnswered task Ss all bytes → AreAnswered task Ts holds others →
+    AreAnswered task (Ss ++ Ts) (all && holds) (bytes ++ others)
+answers_both task [] Ts all holds bytes others (none, nothing) answered =
+    subst (λ (b : Bool). AreAnswered task Ts (b && holds) (bytes ++ others)) (sym none)
+    (subst (λ (bs : List ℕ). AreAnswered task Ts holds (bs ++ others)) (sym nothing) answered)
+answers_both task (T ∷ Ss) Ts all holds bytes others (here, there, first, rest, this, more, both, same) answered =
+    let yes_all = ap (λ (b : Bool). b && holds) both ∙ and_assoc here there holds in
+    let whole = ap (λ (bs : List ℕ). bs ++ others) same ∙ append_assoc first rest others in
+    let behind = answers_both task Ss Ts there holds rest others more answered in
+    (here, there && holds, first, rest ++ others, this, behind, yes_all, whole)
 
 -- nothing is done yet
 consumes_none : (a : Option (List ℕ)) → Consumes a a []
@@ -67,32 +62,50 @@ none_done task from = record {
     appends_none None = tt
     appends_none (Some x) = sym (append-nil x)
 
--- one message more is done
-pub one_more_done : {task : Task} {old mid new : Stage} {count size : ℕ} {holds : Bool} {one : Answered} →
-    AreDone task old mid (record { messages = count; bytes = size; holds = holds }) → IsOneDone task mid new one →
-    AreDone task old new
-    (record { messages = count + 1; bytes = min (size + one.bytes) (2 ^ 64 - 1); holds = holds && one.holds })
-one_more_done {task} {old} {mid} {new} {count} {size} {holds} {one} done is = record {
-  messages = done.messages ++ is.message ∷ [];
-  bytes = done.bytes ++ is.bytes;
-  answers = done.answers ++ is.answer;
-  many = omega (arith, length-append done.messages (is.message ∷ []), done.many);
-  sized = omega (arith, length-append done.bytes is.bytes, done.sized, is.sized);
-  framed = frames_more _ is.message is.bytes done.messages done.bytes done.framed is.framed is.short;
-  consumed = consumes_both old.input mid.input new.input done.bytes is.bytes done.consumed is.consumed;
-  answered = answers_more task is.message one.holds is.answer is.answered done.messages holds done.answers done.answered;
-  written = appends_both old.output mid.output new.output done.answers is.answer done.written is.written;
-}
+-- a frame is as long whatever its padding holds
+length_framed : (S : Segments) (bytes : List ℕ) → IsFrameOf S bytes → length (frame S) ≡ length bytes
+length_framed S bytes framed =
+    length-frame_with (replicate (padding_size (length S)) 0) S (length-replicate _ _)
+    ∙ sym (length-frame_with framed.padding S framed.padded) ∙ sym (ap length framed.is)
 
--- behind those that are done the frame of a message is taken that is refused
-pub refused_taken : {task : Task} {old mid : Stage} {count size : ℕ} {holds : Bool} (new : Option (List ℕ)) (fault : Fault) →
-    AreDone task old mid (record { messages = count; bytes = size; holds = holds }) →
-    TakesRefused task mid.input new fault →
-    TakesUpToRefused task old.input new (record { answered = count; byte = size; fault = fault })
-refused_taken {task} {old} {mid} {count} {size} {holds} new fault done taken = λ k same.
-    let (S, last, framed, short, consumed) = taken k same in
-    let many : length (done.messages ++ S ∷ []) ≡ count + 1 = omega (arith, length-append done.messages (S ∷ []), done.many) in
-    (done.messages ++ S ∷ [], done.bytes ++ last, many, frames_more _ S last done.messages done.bytes done.framed framed short, consumes_both old.input mid.input new done.bytes last done.consumed consumed)
+-- one message is done
+pub one_done : {task : Task} {S : Segments} {holds : Bool} (old new : Stage) (bytes answer : List ℕ) (size : ℕ) →
+    size < 2 ^ 64 → size ≡ length (frame S) → IsFrameOf S bytes → total S ≤ most_words task.limits →
+    Consumes old.input new.input bytes → AnswerIs task.command task S holds answer → Appends old.output new.output answer →
+    AreDone task old new (record { messages = 1; bytes = size; holds = holds })
+one_done {task} {S} {holds} old new bytes answer size few sized framed short consumed answered written = record {
+  messages = S ∷ [];
+  bytes = bytes;
+  answers = answer;
+  many = refl;
+  sized = omega (arith, few, sized, length_framed S bytes framed);
+  framed = (bytes, [], sym (append-nil bytes), framed, short, refl);
+  consumed = consumed;
+  answered = (holds, true, answer, [], answered, (refl, refl), and_true holds, sym (append-nil answer));
+  written = written;
+}
+  where
+    and_true : (b : Bool) → b ≡ b && true
+    and_true true = refl
+    and_true false = refl
+
+-- more messages are done
+pub more_done : {task : Task} {old mid new : Stage} {count size more_count more_size : ℕ} {all holds : Bool} →
+    AreDone task old mid (record { messages = count; bytes = size; holds = all }) →
+    AreDone task mid new (record { messages = more_count; bytes = more_size; holds = holds }) →
+    AreDone task old new
+    (record { messages = count + more_count; bytes = min (size + more_size) (2 ^ 64 - 1); holds = all && holds })
+more_done {task} {old} {mid} {new} {count} {size} {more_count} {more_size} {all} {holds} done more = record {
+  messages = done.messages ++ more.messages;
+  bytes = done.bytes ++ more.bytes;
+  answers = done.answers ++ more.answers;
+  many = omega (arith, length-append done.messages more.messages, done.many, more.many);
+  sized = omega (arith, length-append done.bytes more.bytes, done.sized, more.sized);
+  framed = frames_both _ done.messages more.messages done.bytes more.bytes done.framed more.framed;
+  consumed = consumes_both old.input mid.input new.input done.bytes more.bytes done.consumed more.consumed;
+  answered = answers_both task done.messages more.messages all holds done.answers more.answers done.answered more.answered;
+  written = appends_both old.output mid.output new.output done.answers more.answers done.written more.written;
+}
 
 -- an input from which a frame is read begins with it
 pub begins : (from left : Option (List ℕ)) {most : ℕ} {S : Segments} {bytes : List ℕ} →
@@ -102,24 +115,34 @@ begins (Some x) None consumed framed short = absurd consumed
 begins (Some x) (Some y) {bytes = bytes} consumed framed short =
     record { front = bytes; behind = y; is = consumed; framed = framed; short = short }
 
--- messages that are done, of an output that keeps what it had
+-- all messages are done where an input is at its end, and its output keeps what it had
 appends_keeps : (a b c : Option (List ℕ)) (bytes : List ℕ) → Appends a b bytes → Keeps b c → Appends a c bytes
 appends_keeps None b c bytes written kept = tt
 appends_keeps (Some x) None c bytes written kept = absurd written
 appends_keeps (Some x) (Some y) None bytes written kept = absurd kept
 appends_keeps (Some x) (Some y) (Some z) bytes written kept = kept ∙ written
 
-pub done_kept : {task : Task} {old : Stage} {summary : Summary} (left between after : Option (List ℕ)) →
+consumes_all : (a b : Option (List ℕ)) (bytes : List ℕ) → Consumes a b bytes → IsAtEnd b → Consumes a (Some []) bytes
+consumes_all None b bytes consumed end = tt
+consumes_all (Some x) None bytes consumed end = absurd consumed
+consumes_all (Some x) (Some y) bytes consumed end = consumed ∙ ap (λ (bs : List ℕ). bytes ++ bs) end
+
+pub all_done : {task : Task} {old : Stage} {summary : Summary} (left between after : Option (List ℕ)) → IsAtEnd left →
     Keeps between after → AreDone task old (record { input = left; output = between }) summary →
-    AreDone task old (record { input = left; output = after }) summary
-done_kept {old = old} left between after kept done = record {
+    AreDone task old (record { input = Some []; output = after }) summary
+all_done {old = old} left between after end kept done = record {
   messages = done.messages;
   bytes = done.bytes;
   answers = done.answers;
   many = done.many;
   sized = done.sized;
   framed = done.framed;
-  consumed = done.consumed;
+  consumed = consumes_all old.input left done.bytes done.consumed end;
   answered = done.answered;
   written = appends_keeps old.output between after done.answers done.written kept;
 }
+
+-- what isn't touched keeps what it had
+pub keeps_same : (a : Option (List ℕ)) → Keeps a a
+keeps_same None = tt
+keeps_same (Some x) = refl

@@ -1,7 +1,8 @@
 -- The words behind the program's name: one names a command, options stand before or behind it, in any order, and
 -- files behind all of these.
 use Rattle.std.specs.Prelude.{◌≡◌, ◌⊎◌, ℕ, ℤ, ◌<◌, ◌==◌, nat_lt, pos, List, [], ◌∷◌, length, codes, Option, Some, None}
-use Rattle.std.specs.Prelude.{Bool, true, false, not, ◌&&◌, ◌||◌, is_some, if◌then◌else◌}
+use Rattle.std.specs.Prelude.{Bool, true, false, not, ◌&&◌, ◌||◌, is_some, MatchOption, if◌then◌else◌}
+use Rattle.std.specs.Option.{option_map}
 use Rattle.std.specs.List.{after_first, before_first, position_or_len}
 use Rattle.std.specs.Str.Parse.{starts_with_minus}
 use Rattle.capnp_messages.specs.Text.{IsBudget, IsNesting}
@@ -88,20 +89,11 @@ abbrev pub line_if_allowed : Line → Option Line
 line_if_allowed line = if line_is_allowed line then Some line else None
 
 -- there is one command
-abbrev pub line_with_verb_behind : Option Verb → Verb → Line → Option Line
-line_with_verb_behind None verb line = line_if_allowed (record line { verb = Some verb })
-line_with_verb_behind (Some other) verb line = None
-
 abbrev pub line_with_verb : Verb → Line → Option Line
-line_with_verb verb line = line_with_verb_behind line.verb verb line
+line_with_verb verb line = if is_some line.verb then None else line_if_allowed (record line { verb = Some verb })
 
 -- a line with a word behind it that isn't the value of an option
 abbrev pub line_after : Word → Line → Option Line
-line_after Help line = None
-line_after HelpLetter line = None
-line_after Version line = None
-line_after VersionLetter line = None
-line_after End line = None
 line_after WordCanon line = line_with_verb ToCanon line
 line_after WordCheck line = line_with_verb ToCheck line
 line_after WordSize line = line_with_verb ToSize line
@@ -113,6 +105,7 @@ line_after Hex line = line_if_allowed (record line { hex = true })
 line_after Quiet line = line_if_allowed (record line { quiet = true })
 line_after Nesting line = Some (record line { expects = Some SetNesting })
 line_after Words line = Some (record line { expects = Some SetWords })
+line_after _ line = None
 
 -- The value of an option makes one line of another.
 abbrev pub Sets : Setting → List ℕ → Line → Line → Type 0
@@ -123,58 +116,39 @@ Sets SetWords value from to =
     (limit : Option ℕ) × IsBudget value limit
     × (to ≡ record from { limits = record from.limits { traversal_limit_in_words = limit }; expects = None })
 
--- where the first `=` of a text stands, and what before and behind it
-abbrev pub equals_at : List ℕ → ℕ
-equals_at text = position_or_len (λ b. b == 61) text
-
-abbrev pub before_equals : List ℕ → List ℕ
-before_equals text = before_first (λ b. b == 61) text
-
-abbrev pub after_equals : List ℕ → List ℕ
-after_equals text = after_first (λ b. b == 61) text
+-- whether a byte parts an option from its value
+abbrev pub is_equals : ℕ → Bool
+is_equals b = b == 61
 
 -- A word makes one line of another: it has a meaning by itself, or is an option and its value, parted by a `=`.
 abbrev pub MakesLineAlone : List ℕ → Line → Line → Type 0
 MakesLineAlone text from to =
     ((word : Word) × (text_of_word word ≡ text) × (line_after word from ≡ Some to))
-    ⊎ ((setting : Setting) × (equals_at text < length text) × (setting_text setting ≡ before_equals text)
-    × Sets setting (after_equals text) from to)
+    ⊎ ((setting : Setting) × (position_or_len is_equals text < length text)
+    × (setting_text setting ≡ before_first is_equals text) × Sets setting (after_first is_equals text) from to)
 
 -- It is the value of the option before it, where that has one.
-abbrev pub MakesLineBehind : Option Setting → List ℕ → Line → Line → Type 0
-MakesLineBehind None text from to = MakesLineAlone text from to
-MakesLineBehind (Some option) text from to = Sets option text from to
-
 abbrev pub MakesLine : List ℕ → Line → Line → Type 0
-MakesLine text from to = MakesLineBehind from.expects text from to
+MakesLine text from to = MatchOption from.expects (MakesLineAlone text from to) (λ option. Sets option text from to)
 
--- a task with the options of a line
-abbrev pub task_with : Command → Line → Task
-task_with command line = record {
-  command = command;
-  limits = line.limits;
-  unpack = line.unpack;
-  from_flat = line_reads_flat line;
-  pack = line.pack;
-  hex = line.hex;
-  quiet = line.quiet;
-}
+-- the command, whose canonical words are bare where that is so
+abbrev pub command_of : Verb → Bool → Command
+command_of ToCanon flat = Canon (if flat then Flat else Framed)
+command_of ToCheck flat = Check
+command_of ToSize flat = Size
 
 -- the task that a line asks for which is whole
-abbrev pub task_of_command : Option Setting → Option Verb → Line → Option Task
-task_of_command (Some _) verb line = None
-task_of_command None None line = None
-task_of_command None (Some ToCanon) line = Some (task_with (Canon (if line.flat then Flat else Framed)) line)
-task_of_command None (Some ToCheck) line = Some (task_with Check line)
-task_of_command None (Some ToSize) line = Some (task_with Size line)
-
 abbrev pub task_of_line : Line → Option Task
-task_of_line line = task_of_command line.expects line.verb line
-
--- the run of a task with so many files
-abbrev pub run_of_task : Option Task → ℕ → Option Request
-run_of_task None files = None
-run_of_task (Some task) files = Some (Run task files)
+task_of_line line =
+    if is_some line.expects then None else option_map (λ verb. record {
+      command = command_of verb line.flat;
+      limits = line.limits;
+      unpack = line.unpack;
+      from_flat = line_reads_flat line;
+      pack = line.pack;
+      hex = line.hex;
+      quiet = line.quiet;
+    }) line.verb
 
 -- what a word asks for behind which no option is read, and so many words stand; behind `--` they are files
 abbrev pub request_of_word : Word → ℕ → Line → Option Request
@@ -182,18 +156,8 @@ request_of_word Help behind line = Some AskHelp
 request_of_word HelpLetter behind line = Some AskHelp
 request_of_word Version behind line = Some AskVersion
 request_of_word VersionLetter behind line = Some AskVersion
-request_of_word End behind line = run_of_task (task_of_line line) behind
-request_of_word WordCanon behind line = None
-request_of_word WordCheck behind line = None
-request_of_word WordSize behind line = None
-request_of_word Packed behind line = None
-request_of_word Pack behind line = None
-request_of_word WordFlat behind line = None
-request_of_word FromFlat behind line = None
-request_of_word Hex behind line = None
-request_of_word Quiet behind line = None
-request_of_word Nesting behind line = None
-request_of_word Words behind line = None
+request_of_word End behind line = option_map (λ task. Run task behind) (task_of_line line)
+request_of_word _ behind line = None
 
 -- A word that isn't the value of an option ends the line, with so many words behind it, and it asks for this.
 abbrev pub Stops : Line → ℕ → List ℕ → Request → Type 0
@@ -216,7 +180,7 @@ is_first_file from text = is_some from.verb && not (is_some from.expects) && not
 -- Words behind others, which make this line, are files, and all of them ask for this.
 abbrev pub AsksForFiles : Line → List (List ℕ) → Request → Type 0
 AsksForFiles from files r =
-    (are_files files ≡ true) × (run_of_task (task_of_line from) (length files) ≡ Some r)
+    (are_files files ≡ true) × (option_map (λ task. Run task (length files)) (task_of_line from) ≡ Some r)
 
 -- Words behind others, which make this line, ask for something. From the first file on all are files.
 abbrev pub AsksForBehind : Line → List (List ℕ) → Request → Type 0

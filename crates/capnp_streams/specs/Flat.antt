@@ -1,5 +1,5 @@
 -- What a run says of an input that is one message of one segment: its bare words, without a frame.
-use Rattle.std.specs.Prelude.{◌≡◌, ◌⊎◌, ℕ, List, [], ◌∷◌, Bool, true, Option, IfSome, IsSomeAnd}
+use Rattle.std.specs.Prelude.{◌≡◌, ◌⊎◌, ℕ, List, [], ◌∷◌, Bool, true, Option, IfSome}
 use Rattle.std.specs.Io.KnownBytes.{Appends, Consumes, IsAtEnd}
 use Rattle.capnp_format.specs.Bytes.{message}
 use Rattle.capnp_framing.specs.Bare.{AreBareWords, HasTakenBare, NoBareWords}
@@ -7,7 +7,7 @@ use Rattle.capnp_framing.specs.declared.devices.Input.{Ghosts}
 use Rattle.capnp_framing.specs.declared.framing.frame_error.FrameError.TheVariants.{AllocationFailed as NoMemory}
 use Rattle.capnp_framing.specs.declared.framing.frame_error.FrameError.TheVariants.{ReadFailed}
 use Rattle.capnp_messages.specs.Commands.{HasAnswerWithin, RefusesAnswer}
-use Rattle.capnp_streams.specs.Streams.{AnswerIs, IsOfDevices, Stage, most_words}
+use Rattle.capnp_streams.specs.Streams.{AnswerIs, Stage, most_words}
 use Rattle.capnp_streams.specs.declared.streams.fault.Fault.{Fault}
 use Rattle.capnp_streams.specs.declared.streams.fault.Fault.TheVariants.{Frame, Layout, TooManyMessages}
 use Rattle.capnp_streams.specs.declared.streams.task.Task.{Task}
@@ -44,7 +44,3 @@ module _ {R : Type 0} (g : Ghosts R) where
 abbrev pub CanFlatBeAnswered : Task → List ℕ → Type 0
 CanFlatBeAnswered task bytes =
     AreBareWords bytes (most_words task.limits) × HasAnswerWithin task.command task.limits (message (bytes ∷ []))
-
--- Where all that an input has are such bytes, a fault is of no message: memory or a device fails.
-abbrev pub WhereFlatAnswerable : Task → Option (List ℕ) → Fault → Type 0
-WhereFlatAnswerable task input fault = IsSomeAnd input (CanFlatBeAnswered task) → IsOfDevices fault

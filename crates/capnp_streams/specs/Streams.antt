@@ -1,17 +1,15 @@
 -- The messages that stand in a stream, one frame behind the other, and what a task answers to them.
-use Rattle.std.specs.Prelude.{◌≡◌, ◌⊎◌, ℕ, ◌+◌, ◌-◌, ◌^◌, ◌≤◌, min, List, [], ◌∷◌, ◌++◌, All, length, codes, ⊤}
-use Rattle.std.specs.Prelude.{Bool, true, false, ◌&&◌, Option, IfSome, IsSomeAnd, unwrap_or}
+use Rattle.std.specs.Prelude.{◌≡◌, ◌⊎◌, ℕ, ◌-◌, ◌^◌, ◌≤◌, min, List, [], ◌∷◌, ◌++◌, All, length, codes, ⊤}
+use Rattle.std.specs.Prelude.{Bool, true, false, ◌&&◌, Option, IfSome, unwrap_or}
 use Rattle.std.specs.Fmt.{decimal}
-use Rattle.std.specs.Io.KnownBytes.{Appends, Consumes, IsAtEnd}
+use Rattle.std.specs.Io.KnownBytes.{Appends, Consumes, Keeps}
 use Rattle.hex.specs.Hex.{encode_lower}
 use Rattle.capnp_words.specs.Names.{name_of}
-use Rattle.capnp_words.specs.declared.error.ErrorKind.{ErrorKind}
 use Rattle.capnp_words.specs.declared.error.ErrorKind.TheVariants.{AllocationFailed}
 use Rattle.capnp_format.specs.Canonical.{encoding, trim}
 use Rattle.capnp_format.specs.Segments.{Segments}
 use Rattle.capnp_format.specs.Tree.{Tree}
 use Rattle.capnp_arena.specs.declared.arena.reader_arena_impl.ReaderOptions.{ReaderOptions}
-use Rattle.capnp_framing.specs.Flat.{BeginsWithFrame}
 use Rattle.capnp_framing.specs.Frames.{IsFrameOf, bytes_of_words}
 use Rattle.capnp_framing.specs.Memory.{frame_refusals}
 use Rattle.capnp_framing.specs.Names.{frame_error_name}
@@ -28,7 +26,6 @@ use Rattle.capnp_messages.specs.CanonicalMessages.{IsCanonicalMessage}
 use Rattle.capnp_messages.specs.Messages.{HasSizeOf, IsFaultOf, IsValueOf}
 use Rattle.capnp_streams.specs.declared.streams.fault.Fault.{Fault}
 use Rattle.capnp_streams.specs.declared.streams.fault.Fault.TheVariants.{Frame, Layout, TooManyMessages}
-use Rattle.capnp_streams.specs.declared.streams.runs.Answered.{Answered}
 use Rattle.capnp_streams.specs.declared.streams.runs.Stop.{Stop}
 use Rattle.capnp_streams.specs.declared.streams.runs.Summary.{Summary}
 use Rattle.capnp_messages.specs.declared.messages.command.Command.{Command}
@@ -60,13 +57,10 @@ word_text word = codes ", word " ++ decimal word ++ 10 ∷ []
 abbrev pub fault_line : CanonicalFault → List ℕ
 fault_line f = no_text ++ fault_reason_text f.reason ++ segment_text f.segment ++ word_text f.word
 
--- The line of canonical words as lower case hex digits: the bytes of each word in order, two digits for each.
-abbrev pub hex_line : List ℕ → List ℕ
-hex_line words = encode_lower (bytes_of_words words) ++ 10 ∷ []
-
--- The bytes that are written of canonical words: such a line, or their bytes in a form.
+-- The bytes that are written of canonical words: a line of lower case hex digits, two for each byte in order, or
+-- the bytes in a form.
 abbrev pub written_words : Bool → Form → List ℕ → List ℕ
-written_words true form words = hex_line words
+written_words true form words = encode_lower (bytes_of_words words) ++ 10 ∷ []
 written_words false form words = form_bytes form words
 
 -- What a command answers to a message, with what else a task asks for: yes or no, and these bytes. The line
@@ -82,11 +76,7 @@ AnswerIs Size task S holds bytes =
     (holds ≡ true) × ((words : ℕ) × (caps : ℕ) × HasSizeOf S task.limits words caps ×
     (bytes ≡ size_line words caps))
 
--- P holds of the bytes that it answers.
-abbrev pub AnswersWith : Command → Task → Segments → Bool → (List ℕ → Type 0) → Type 0
-AnswersWith command task S holds P = (bytes : List ℕ) × AnswerIs command task S holds bytes × P bytes
-
--- A fault says why.
+-- A fault says why a command gives no answer to a message.
 abbrev pub RefusesBy : Command → ReaderOptions → Segments → Fault → Type 0
 RefusesBy command limits S (Layout k) = RefusesAnswer command limits S k
 RefusesBy command limits S _ = ⊥
@@ -129,81 +119,43 @@ module _ {R W : Type 0} (g : InputGhosts R) (h : OutputGhosts W) where
   abbrev pub stage_of : R → W → Stage
   stage_of input output = record { input = g.remaining input; output = h.contents output }
 
--- How many bytes these are, where 64 bits count them, and else as many as these count.
-abbrev pub bytes_counted : List ℕ → ℕ
-bytes_counted bytes = min (length bytes) (2 ^ 64 - 1)
-
 -- From one stage to another the frames of so many messages were taken from the front of the input, of so many
--- bytes, and what a task answers to these was written behind what the output had.
+-- bytes, up to those that 64 bits count, and what a task answers to these was written behind what the output had.
 pub record AreDone (task : Task) (old new : Stage) (summary : Summary) : Type 0 where
   pub messages : List Segments
   pub bytes : List ℕ
   pub answers : List ℕ
   pub many : length messages ≡ summary.messages
-  pub sized : summary.bytes ≡ bytes_counted bytes
+  pub sized : summary.bytes ≡ min (length bytes) (2 ^ 64 - 1)
   pub framed : AreFrames (most_words task.limits) messages bytes
   pub consumed : Consumes old.input new.input bytes
   pub answered : AreAnswered task messages summary.holds answers
   pub written : Appends old.output new.output answers
 
--- So those of one message.
-pub record IsOneDone (task : Task) (old new : Stage) (one : Answered) : Type 0 where
-  pub message : Segments
-  pub bytes : List ℕ
-  pub answer : List ℕ
-  pub sized : one.bytes ≡ length bytes
-  pub framed : IsFrameOf message bytes
-  pub short : total message ≤ most_words task.limits
-  pub consumed : Consumes old.input new.input bytes
-  pub answered : AnswerIs task.command task message one.holds answer
-  pub written : Appends old.output new.output answer
+-- So many messages are done from one stage to another, whose frames have so many bytes, before a run stops.
+abbrev pub WereAnswered : Task → Stage → Stage → Stop → Type 0
+WereAnswered task old new stop =
+    (holds : Bool)
+    × AreDone task old new (record { messages = stop.answered; bytes = stop.byte; holds = holds })
 
--- So those of all messages: behind them the input is at its end.
-abbrev pub AllAreDone : Task → Stage → Option (List ℕ) → Summary → Type 0
-AllAreDone task old output summary =
-    (left : Option (List ℕ)) × AreDone task old (record { input = left; output = output }) summary ×
-    IsAtEnd left
-
--- Why the message at the front of what an input has left isn't answered, though some were: there is no frame
--- of one, a task refuses the message, or memory or the input fails.
-abbrev pub StopsAt : Task → Option (List ℕ) → Bool → ℕ → Fault → Type 0
-StopsAt task left failed answered (Frame e) =
+-- Why the message at the front of what an input has left isn't answered: there is no frame of one, memory or the
+-- input fails; or its frame is taken, and nothing behind it, and a task refuses the message.
+abbrev pub StopsAt : Task → Option (List ℕ) → Option (List ℕ) → Bool → Fault → Type 0
+StopsAt task old new failed (Frame e) =
     (e ≡ NoMemory) ⊎ ((e ≡ ReadFailed) × (failed ≡ true))
-    ⊎ IfSome left (λ bytes. NoFrame bytes (most_words task.limits) e)
-StopsAt task left failed answered (Layout k) =
-    (S : Segments) × IfSome left (λ bytes. BeginsWithFrame bytes (most_words task.limits) S)
-    × RefusesAnswer task.command task.limits S k
-StopsAt task left failed answered TooManyMessages = answered ≡ 2 ^ 64 - 1
-
--- What was done before a run stopped.
-abbrev pub done_before : Stop → Bool → Summary
-done_before stop holds = record { messages = stop.answered; bytes = stop.byte; holds = holds }
-
--- So many messages are answered, whose frames have so many bytes, and the one behind them isn't.
-abbrev pub StopsBehind : Task → Stage → Option (List ℕ) → Bool → Stop → Type 0
-StopsBehind task old output failed stop =
-    (left : Option (List ℕ)) × (holds : Bool)
-    × AreDone task old (record { input = left; output = output }) (done_before stop holds)
-    × StopsAt task left failed stop.answered stop.fault
-
--- Where a message is refused, its frame was taken from the front of an input, and nothing behind it.
-abbrev pub TakesRefused : Task → Option (List ℕ) → Option (List ℕ) → Fault → Type 0
-TakesRefused task old new fault =
-    (k : ErrorKind) → fault ≡ Layout k →
+    ⊎ IfSome old (λ bytes. NoFrame bytes (most_words task.limits) e)
+StopsAt task old new failed (Layout k) =
     (S : Segments) × (bytes : List ℕ) × IsFrameOf S bytes × (total S ≤ most_words task.limits)
-    × Consumes old new bytes
+    × Consumes old new bytes × RefusesAnswer task.command task.limits S k
+StopsAt task old new failed TooManyMessages = ⊥
 
--- So behind the frames of the messages that were answered.
-abbrev pub TakesUpToRefused : Task → Option (List ℕ) → Option (List ℕ) → Stop → Type 0
-TakesUpToRefused task old new stop =
-    (k : ErrorKind) → stop.fault ≡ Layout k →
-    (messages : List Segments) × (bytes : List ℕ) × (length messages ≡ stop.answered + 1)
-    × AreFrames (most_words task.limits) messages bytes × Consumes old new bytes
-
--- So many messages at the front of an input are answered, whose frames have so many bytes.
-abbrev pub WereAnswered : Task → Stage → Stop → Type 0
-WereAnswered task old stop =
-    (new : Stage) × (holds : Bool) × AreDone task old new (done_before stop holds)
+-- Why no message is answered behind a stage, where nothing more is written: that at the front isn't, or as many
+-- were as 64 bits count.
+abbrev pub EndsBehind : Task → Stage → Stage → Bool → Stop → Type 0
+EndsBehind task old new failed stop =
+    Keeps old.output new.output
+    × (StopsAt task old.input new.input failed stop.fault
+    ⊎ ((stop.fault ≡ TooManyMessages) × (stop.answered ≡ 2 ^ 64 - 1)))
 
 -- Bytes are frames of messages that a task has an answer to.
 abbrev pub CanBeAnswered : Task → List ℕ → Type 0
@@ -216,7 +168,3 @@ abbrev pub IsOfDevices : Fault → Type 0
 IsOfDevices (Frame e) = (e ≡ NoMemory) ⊎ (e ≡ ReadFailed) ⊎ (e ≡ WriteFailed)
 IsOfDevices (Layout k) = k ≡ AllocationFailed
 IsOfDevices TooManyMessages = ⊤
-
--- Where all that an input has is frames of messages with an answer, a fault is none of these.
-abbrev pub WhereAnswerable : Task → Option (List ℕ) → Fault → Type 0
-WhereAnswerable task input fault = IsSomeAnd input (CanBeAnswered task) → IsOfDevices fault

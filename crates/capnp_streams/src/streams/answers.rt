@@ -1,10 +1,10 @@
 //! The answer to one message.
-ghost use Rattle.std.specs.Prelude.{◌≡◌, ◌⊎◌, ℕ, Some, false, IsSome, OnOk, IfOk, IfErr};
+ghost use Rattle.std.specs.Prelude.{◌≡◌, ◌⊎◌, ℕ, List, Some, false, IsSome, OnOk, IfOk, IfErr};
 ghost use Rattle.std.specs.Option.{option_map_or};
 ghost use Rattle.capnp_format.specs.Bytes.{message};
 ghost use Rattle.capnp_arena_traits.specs.Limits.{IsSmall};
 ghost use Rattle.capnp_framing.specs.Writing.{IsUnwritten, Prints};
-ghost use Rattle.capnp_streams.specs.Streams.{AnswersWith, IsWriteFault, RefusesBy, refusals_behind};
+ghost use Rattle.capnp_streams.specs.Streams.{AnswerIs, IsWriteFault, RefusesBy, refusals_behind};
 
 use super::fault::Fault;
 use super::task::Task;
@@ -77,9 +77,10 @@ fn canon_copy<A: Allocator, S: ReaderSegments, W: Output>(
     requires there { IsSome memory.old.allocator }
     requires nesting { source.now.nesting_limit ≡ task.limits.nesting_limit }
     requires works { W.has_failed output.old ≡ false }
-    ensures answered { IfOk result (λ holds. AnswersWith (Command.Canon form) task
-        (message (⟦<ReaderArenaImpl<S> as ReaderArena>⟧.segments source.now)) holds
-        (Prints W.Output output.old output.new)) }
+    ensures answered { IfOk result (λ holds. (answer : List ℕ)
+        × AnswerIs (Command.Canon form) task
+        (message (⟦<ReaderArenaImpl<S> as ReaderArena>⟧.segments source.now)) holds answer
+        × Prints W.Output output.old output.new answer) }
     ensures works { OnOk result (W.has_failed output.new ≡ false) }
     ensures refused { IfErr result (λ fault. IsWriteFault W.Output output.new fault
         ⊎ (RefusesBy (Command.Canon form) task.limits
@@ -124,9 +125,9 @@ fn canon<A: Allocator, S: ReaderSegments + Drop, W: Output>(
     requires there { IsSome memory.old.allocator }
     requires small { IsSmall (S.segments segments) }
     requires works { W.has_failed output.old ≡ false }
-    ensures answered { IfOk result (λ holds.
-        AnswersWith (Command.Canon form) task (message (S.segments segments)) holds
-        (Prints W.Output output.old output.new)) }
+    ensures answered { IfOk result (λ holds. (answer : List ℕ)
+        × AnswerIs (Command.Canon form) task (message (S.segments segments)) holds answer
+        × Prints W.Output output.old output.new answer) }
     ensures works { OnOk result (W.has_failed output.new ≡ false) }
     ensures refused { IfErr result (λ fault. IsWriteFault W.Output output.new fault
         ⊎ (RefusesBy (Command.Canon form) task.limits (message (S.segments segments)) fault
@@ -157,9 +158,9 @@ fn check<S: ReaderSegments + Drop, W: Output>(
 ) -> Result<bool, Fault>
     requires small { IsSmall (S.segments segments) }
     requires works { W.has_failed output.old ≡ false }
-    ensures answered { IfOk result (λ holds.
-        AnswersWith Command.Check task (message (S.segments segments)) holds
-        (Prints W.Output output.old output.new)) }
+    ensures answered { IfOk result (λ holds. (answer : List ℕ)
+        × AnswerIs Command.Check task (message (S.segments segments)) holds answer
+        × Prints W.Output output.old output.new answer) }
     ensures works { OnOk result (W.has_failed output.new ≡ false) }
     ensures refused { IfErr result (λ fault. IsWriteFault W.Output output.new fault
         ⊎ (RefusesBy Command.Check task.limits (message (S.segments segments)) fault
@@ -188,9 +189,9 @@ fn size<S: ReaderSegments + Drop, W: Output>(
 ) -> Result<bool, Fault>
     requires small { IsSmall (S.segments segments) }
     requires works { W.has_failed output.old ≡ false }
-    ensures answered { IfOk result (λ holds.
-        AnswersWith Command.Size task (message (S.segments segments)) holds
-        (Prints W.Output output.old output.new)) }
+    ensures answered { IfOk result (λ holds. (answer : List ℕ)
+        × AnswerIs Command.Size task (message (S.segments segments)) holds answer
+        × Prints W.Output output.old output.new answer) }
     ensures works { OnOk result (W.has_failed output.new ≡ false) }
     ensures refused { IfErr result (λ fault. IsWriteFault W.Output output.new fault
         ⊎ (RefusesBy Command.Size task.limits (message (S.segments segments)) fault
@@ -217,9 +218,9 @@ pub(super) fn answer<A: Allocator, S: ReaderSegments + Drop, W: Output>(
     requires there { IsSome memory.old.allocator }
     requires small { IsSmall (S.segments segments) }
     requires works { W.has_failed output.old ≡ false }
-    ensures answered { IfOk result (λ holds.
-        AnswersWith task.command task (message (S.segments segments)) holds
-        (Prints W.Output output.old output.new)) }
+    ensures answered { IfOk result (λ holds. (answer : List ℕ)
+        × AnswerIs task.command task (message (S.segments segments)) holds answer
+        × Prints W.Output output.old output.new answer) }
     ensures works { OnOk result (W.has_failed output.new ≡ false) }
     ensures refused { IfErr result (λ fault. IsWriteFault W.Output output.new fault
         ⊎ (RefusesBy task.command task.limits (message (S.segments segments)) fault

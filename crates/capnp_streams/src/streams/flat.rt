@@ -1,11 +1,11 @@
 //! A task done with the one message whose bare words an input has, without a frame.
-ghost use Rattle.std.specs.Prelude.{◌≡◌, ◌⊎◌, false, true, OnOk, IfOk, IfErr};
+ghost use Rattle.std.specs.Prelude.{◌≡◌, ◌⊎◌, false, true, OnOk, IfOk, IfErr, IsSomeAnd};
 ghost use Rattle.std.specs.Io.KnownBytes.{IsAtEnd};
 ghost use Rattle.capnp_framing.specs.declared.framing.frame_error.FrameError.TheVariants.{ReadFailed};
 ghost use Rattle.capnp_framing.specs.Wholeness.{KeepsWhole};
 ghost use Rattle.capnp_framing.specs.Writing.{IsUnwritten};
-ghost use Rattle.capnp_streams.specs.Flat.{HasTakenFlat, IsFlatDone, StopsFlat, WhereFlatAnswerable};
-ghost use Rattle.capnp_streams.specs.Streams.{IsWriteFault, refusals_behind, stage_of};
+ghost use Rattle.capnp_streams.specs.Flat.{CanFlatBeAnswered, HasTakenFlat, IsFlatDone, StopsFlat};
+ghost use Rattle.capnp_streams.specs.Streams.{IsOfDevices, IsWriteFault, refusals_behind, stage_of};
 
 use super::answers::{Memory, answer};
 use super::fault::Fault;
@@ -48,7 +48,8 @@ pub fn run_flat_with<A: Allocator, R: Input, W: Output>(
     ensures refused { IfErr result.0 (λ fault. IsWriteFault W.Output output.new fault
         ⊎ (StopsFlat task (R.remaining input.old) (R.has_failed input.new) fault
         × IsUnwritten W.Output output.old output.new)) }
-    ensures exactly { IfErr result.0 (λ fault. WhereFlatAnswerable task (R.remaining input.old) fault) }
+    ensures exactly { IfErr result.0 (λ fault.
+        IsSomeAnd (R.remaining input.old) (CanFlatBeAnswered task) → IsOfDevices fault) }
     ensures failed { IfErr result.0 (λ fault. R.has_failed input.new ≡ true
         → fault ≡ Fault.Frame ReadFailed) }
     ensures taken { IfErr result.0 (HasTakenFlat R.Input input.old input.new) }
@@ -86,7 +87,8 @@ pub fn run_flat<R: Input, W: Output>(
     ensures refused { IfErr result (λ fault. IsWriteFault W.Output output.new fault
         ⊎ (StopsFlat task (R.remaining input.old) (R.has_failed input.new) fault
         × IsUnwritten W.Output output.old output.new)) }
-    ensures exactly { IfErr result (λ fault. WhereFlatAnswerable task (R.remaining input.old) fault) }
+    ensures exactly { IfErr result (λ fault.
+        IsSomeAnd (R.remaining input.old) (CanFlatBeAnswered task) → IsOfDevices fault) }
     ensures failed { IfErr result (λ fault. R.has_failed input.new ≡ true
         → fault ≡ Fault.Frame ReadFailed) }
     ensures taken { IfErr result (HasTakenFlat R.Input input.old input.new) }

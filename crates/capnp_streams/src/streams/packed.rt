@@ -1,8 +1,10 @@
 //! A task done with each message of a packed stream.
-ghost use Rattle.std.specs.Prelude.{◌≡◌, ◌⊎◌, false, true, OnOk, IfOk, IfErr, IfSome};
+ghost use Rattle.std.specs.Prelude.{◌≡◌, ◌⊎◌, ℕ, List, [], Option, Some, false, true, OnOk, IfOk, IfErr, IfSome, IsSomeAnd};
+ghost use Rattle.capnp_packing.specs.Packing.{IsWhole, unpacked_bytes};
+ghost use Rattle.capnp_packing.specs.declared.packing.place.Place.TheVariants.{Tag};
 ghost use Rattle.capnp_framing.specs.declared.framing.frame_error.FrameError.TheVariants.{ReadFailed};
-ghost use Rattle.capnp_streams.specs.Packed.{AllPackedAreDone, IsCutBehind, WherePackedAnswerable, unpacked_stage};
-ghost use Rattle.capnp_streams.specs.Streams.{IsWriteFault, StopsBehind, refusals_behind, stage_of};
+ghost use Rattle.capnp_streams.specs.Packed.{IsCutBehind, unpacked_stage};
+ghost use Rattle.capnp_streams.specs.Streams.{AreDone, CanBeAnswered, EndsBehind, IsOfDevices, IsWriteFault, Stage, WereAnswered, refusals_behind, stage_of};
 
 use super::fault::Fault;
 use super::runs::{Stop, Summary, run_with};
@@ -30,16 +32,21 @@ pub fn run_packed_with<A: Allocator, R: Input + Drop, W: BufferedOutput>(
 ) -> (Result<Summary, Stop>, A)
     requires input { R.has_failed packed ≡ false }
     requires output { W.has_failed output.old ≡ false }
-    ensures done { IfOk result.0 (AllPackedAreDone task
-        (stage_of R.Input W.Output packed output.old) (W.contents output.new)) }
-    ensures refused { IfErr result.0 (λ s. IsWriteFault W.Output output.new s.fault
-        ⊎ StopsBehind task (unpacked_stage (stage_of R.Input W.Output packed output.old))
-        (W.contents output.new) true s
-        ⊎ IsCutBehind task (stage_of R.Input W.Output packed output.old)
-        (W.contents output.new) s) }
+    ensures done { IfOk result.0
+        (AreDone task (unpacked_stage (stage_of R.Input W.Output packed output.old))
+        (record { input = Some []; output = W.contents output.new })) }
+    ensures whole { OnOk result.0 (IfSome (R.remaining packed) (IsWhole Tag)) }
+    ensures refused { IfErr result.0 (λ s. (behind : Stage)
+        × WereAnswered task (unpacked_stage (stage_of R.Input W.Output packed output.old)) behind s
+        × (IsWriteFault W.Output output.new s.fault
+        ⊎ IsCutBehind (R.remaining packed) behind (W.contents output.new) s.fault
+        ⊎ ((left : Option (List ℕ)) × EndsBehind task behind
+        (record { input = left; output = W.contents output.new }) true s))) }
     ensures failed { IfErr result.0 (λ s. s.fault ≡ Fault.Frame ReadFailed
         → IfSome (R.remaining packed) (λ _. (device : R) × (R.has_failed device ≡ true))) }
-    ensures exactly { IfErr result.0 (λ s. WherePackedAnswerable task (R.remaining packed) s.fault) }
+    ensures exactly { IfErr result.0 (λ s. IsSomeAnd (R.remaining packed)
+        (λ bytes. IsWhole Tag bytes × CanBeAnswered task (unpacked_bytes Tag bytes))
+        → IsOfDevices s.fault) }
     ensures works { OnOk result.0 (W.has_failed output.new ≡ false) }
     ensures kept { OnOk result.0 (A.refusals result.1 ≡ A.refusals allocator) }
     ensures counted { IfErr result.0 (λ s. A.refusals result.1
@@ -66,16 +73,21 @@ pub fn run_packed<R: Input + Drop, W: BufferedOutput>(
 ) -> Result<Summary, Stop>
     requires input { R.has_failed packed ≡ false }
     requires output { W.has_failed output.old ≡ false }
-    ensures done { IfOk result (AllPackedAreDone task
-        (stage_of R.Input W.Output packed output.old) (W.contents output.new)) }
-    ensures refused { IfErr result (λ s. IsWriteFault W.Output output.new s.fault
-        ⊎ StopsBehind task (unpacked_stage (stage_of R.Input W.Output packed output.old))
-        (W.contents output.new) true s
-        ⊎ IsCutBehind task (stage_of R.Input W.Output packed output.old)
-        (W.contents output.new) s) }
+    ensures done { IfOk result
+        (AreDone task (unpacked_stage (stage_of R.Input W.Output packed output.old))
+        (record { input = Some []; output = W.contents output.new })) }
+    ensures whole { OnOk result (IfSome (R.remaining packed) (IsWhole Tag)) }
+    ensures refused { IfErr result (λ s. (behind : Stage)
+        × WereAnswered task (unpacked_stage (stage_of R.Input W.Output packed output.old)) behind s
+        × (IsWriteFault W.Output output.new s.fault
+        ⊎ IsCutBehind (R.remaining packed) behind (W.contents output.new) s.fault
+        ⊎ ((left : Option (List ℕ)) × EndsBehind task behind
+        (record { input = left; output = W.contents output.new }) true s))) }
     ensures failed { IfErr result (λ s. s.fault ≡ Fault.Frame ReadFailed
         → IfSome (R.remaining packed) (λ _. (device : R) × (R.has_failed device ≡ true))) }
-    ensures exactly { IfErr result (λ s. WherePackedAnswerable task (R.remaining packed) s.fault) }
+    ensures exactly { IfErr result (λ s. IsSomeAnd (R.remaining packed)
+        (λ bytes. IsWhole Tag bytes × CanBeAnswered task (unpacked_bytes Tag bytes))
+        → IsOfDevices s.fault) }
     ensures works { OnOk result (W.has_failed output.new ≡ false) }
 {
     let (answered, _) = run_packed_with(alloc, CopyMemory::new(alloc), task, packed, output);

@@ -1,10 +1,10 @@
 //! A task done with each message of a stream.
-ghost use Rattle.std.specs.Prelude.{◌≡◌, ◌⊎◌, ◌&&◌, ℕ, false, true, Ok, None, IsSome, OnOk, IfOk, IfErr, IfSome};
+ghost use Rattle.std.specs.Prelude.{◌≡◌, ◌⊎◌, ◌&&◌, [], Some, false, true, Ok, None, IsSome, OnOk, IfOk, IfErr, IfSome, IsSomeAnd};
 ghost use Rattle.std.specs.Option.{option_map_or};
 ghost use Rattle.std.specs.Io.KnownBytes.{IsAtEnd, Keeps};
 ghost use Rattle.capnp_framing.specs.declared.framing.frame_error.FrameError.TheVariants.{ReadFailed};
 ghost use Rattle.capnp_framing.specs.Wholeness.{KeepsWhole};
-ghost use Rattle.capnp_streams.specs.Streams.{AllAreDone, IsOneDone, IsWriteFault, StopsAt, StopsBehind, TakesRefused, TakesUpToRefused, WereAnswered, WhereAnswerable, most_words, refusals_behind, stage_of};
+ghost use Rattle.capnp_streams.specs.Streams.{AreDone, CanBeAnswered, EndsBehind, IsOfDevices, IsWriteFault, Stage, StopsAt, WereAnswered, most_words, refusals_behind, stage_of};
 
 use super::answers::{Memory, answer};
 use super::fault::Fault;
@@ -81,18 +81,17 @@ fn step<A: Allocator, R: Input, W: Output>(
     ensures end { result ≡ Ok None → IsAtEnd (R.remaining input.old)
         × IsAtEnd (R.remaining input.new)
         × (W.contents output.new ≡ W.contents output.old) }
-    ensures answered { IfOk result (λ m. IfSome m (IsOneDone task
-        (stage_of R.Input W.Output input.old output.old)
-        (stage_of R.Input W.Output input.new output.new))) }
+    ensures answered { IfOk result (λ m. IfSome m (λ one.
+        AreDone task (stage_of R.Input W.Output input.old output.old)
+        (stage_of R.Input W.Output input.new output.new)
+        (record { messages = 1; bytes = one.bytes; holds = one.holds }))) }
     ensures whole { OnOk result (KeepsWhole (R.ends_whole input.old) (R.ends_whole input.new)) }
     ensures reads { OnOk result (R.has_failed input.new ≡ false) }
     ensures writes { OnOk result (W.has_failed output.new ≡ false) }
     ensures failed { IfErr result (λ e. R.has_failed input.new ≡ true
         → e ≡ Fault.Frame ReadFailed) }
-    ensures taken { IfErr result
-        (TakesRefused task (R.remaining input.old) (R.remaining input.new)) }
     ensures refused { IfErr result (λ e. IsWriteFault W.Output output.new e
-        ⊎ (((n : ℕ) → StopsAt task (R.remaining input.old) (R.has_failed input.new) n e)
+        ⊎ (StopsAt task (R.remaining input.old) (R.remaining input.new) (R.has_failed input.new) e
         × (W.contents output.new ≡ W.contents output.old))) }
     ensures there { IsSome memory.new.allocator }
     ensures kept { OnOk result (option_map_or A.refusals memory.new.allocator 0
@@ -128,18 +127,17 @@ fn next<A: Allocator, R: BufferedInput, W: BufferedOutput>(
     ensures end { result ≡ Ok None → IsAtEnd (R.remaining input.old)
         × IsAtEnd (R.remaining input.new)
         × Keeps (W.contents output.old) (W.contents output.new) }
-    ensures answered { IfOk result (λ m. IfSome m (IsOneDone task
-        (stage_of R.Input W.Output input.old output.old)
-        (stage_of R.Input W.Output input.new output.new))) }
+    ensures answered { IfOk result (λ m. IfSome m (λ one.
+        AreDone task (stage_of R.Input W.Output input.old output.old)
+        (stage_of R.Input W.Output input.new output.new)
+        (record { messages = 1; bytes = one.bytes; holds = one.holds }))) }
     ensures whole { OnOk result (KeepsWhole (R.ends_whole input.old) (R.ends_whole input.new)) }
     ensures reads { OnOk result (R.has_failed input.new ≡ false) }
     ensures writes { OnOk result (W.has_failed output.new ≡ false) }
     ensures failed { IfErr result (λ e. R.has_failed input.new ≡ true
         → e ≡ Fault.Frame ReadFailed) }
-    ensures taken { IfErr result
-        (TakesRefused task (R.remaining input.old) (R.remaining input.new)) }
     ensures refused { IfErr result (λ e. IsWriteFault W.Output output.new e
-        ⊎ (((n : ℕ) → StopsAt task (R.remaining input.old) (R.has_failed input.new) n e)
+        ⊎ (StopsAt task (R.remaining input.old) (R.remaining input.new) (R.has_failed input.new) e
         × Keeps (W.contents output.old) (W.contents output.new))) }
     ensures there { IsSome memory.new.allocator }
     ensures kept { OnOk result (option_map_or A.refusals memory.new.allocator 0
@@ -182,22 +180,21 @@ pub fn run_with<A: Allocator, R: BufferedInput, W: BufferedOutput>(
 ) -> (Result<Summary, Stop>, A)
     requires input { R.has_failed input.old ≡ false }
     requires output { W.has_failed output.old ≡ false }
-    ensures done { IfOk result.0 (AllAreDone task (stage_of R.Input W.Output input.old output.old)
-        (W.contents output.new)) }
-    ensures refused { IfErr result.0 (λ s. IsWriteFault W.Output output.new s.fault
-        ⊎ StopsBehind task (stage_of R.Input W.Output input.old output.old)
-        (W.contents output.new) (R.has_failed input.new) s) }
-    ensures exactly { IfErr result.0 (λ s. WhereAnswerable task (R.remaining input.old) s.fault) }
+    ensures done { IfOk result.0 (AreDone task (stage_of R.Input W.Output input.old output.old)
+        (record { input = Some []; output = W.contents output.new })) }
+    ensures refused { IfErr result.0 (λ s. (behind : Stage)
+        × WereAnswered task (stage_of R.Input W.Output input.old output.old) behind s
+        × (IsWriteFault W.Output output.new s.fault
+        ⊎ EndsBehind task behind (stage_of R.Input W.Output input.new output.new)
+        (R.has_failed input.new) s)) }
+    ensures exactly { IfErr result.0 (λ s.
+        IsSomeAnd (R.remaining input.old) (CanBeAnswered task) → IsOfDevices s.fault) }
     ensures end { OnOk result.0 (IsAtEnd (R.remaining input.new)) }
     ensures whole { OnOk result.0 (KeepsWhole (R.ends_whole input.old) (R.ends_whole input.new)) }
     ensures reads { OnOk result.0 (R.has_failed input.new ≡ false) }
     ensures works { OnOk result.0 (W.has_failed output.new ≡ false) }
     ensures failed { IfErr result.0 (λ s. R.has_failed input.new ≡ true
         → s.fault ≡ Fault.Frame ReadFailed) }
-    ensures taken { IfErr result.0
-        (TakesUpToRefused task (R.remaining input.old) (R.remaining input.new)) }
-    ensures answered { IfErr result.0 (WereAnswered task
-        (stage_of R.Input W.Output input.old output.old)) }
     ensures kept { OnOk result.0 (A.refusals result.1 ≡ A.refusals allocator) }
     ensures counted { IfErr result.0 (λ s. A.refusals result.1
         ≡ refusals_behind task.command s.fault (A.refusals allocator)) }
@@ -248,22 +245,21 @@ pub fn run<R: BufferedInput, W: BufferedOutput>(
 ) -> Result<Summary, Stop>
     requires input { R.has_failed input.old ≡ false }
     requires output { W.has_failed output.old ≡ false }
-    ensures done { IfOk result (AllAreDone task (stage_of R.Input W.Output input.old output.old)
-        (W.contents output.new)) }
-    ensures refused { IfErr result (λ s. IsWriteFault W.Output output.new s.fault
-        ⊎ StopsBehind task (stage_of R.Input W.Output input.old output.old)
-        (W.contents output.new) (R.has_failed input.new) s) }
-    ensures exactly { IfErr result (λ s. WhereAnswerable task (R.remaining input.old) s.fault) }
+    ensures done { IfOk result (AreDone task (stage_of R.Input W.Output input.old output.old)
+        (record { input = Some []; output = W.contents output.new })) }
+    ensures refused { IfErr result (λ s. (behind : Stage)
+        × WereAnswered task (stage_of R.Input W.Output input.old output.old) behind s
+        × (IsWriteFault W.Output output.new s.fault
+        ⊎ EndsBehind task behind (stage_of R.Input W.Output input.new output.new)
+        (R.has_failed input.new) s)) }
+    ensures exactly { IfErr result (λ s.
+        IsSomeAnd (R.remaining input.old) (CanBeAnswered task) → IsOfDevices s.fault) }
     ensures end { OnOk result (IsAtEnd (R.remaining input.new)) }
     ensures whole { OnOk result (KeepsWhole (R.ends_whole input.old) (R.ends_whole input.new)) }
     ensures reads { OnOk result (R.has_failed input.new ≡ false) }
     ensures works { OnOk result (W.has_failed output.new ≡ false) }
     ensures failed { IfErr result (λ s. R.has_failed input.new ≡ true
         → s.fault ≡ Fault.Frame ReadFailed) }
-    ensures taken { IfErr result
-        (TakesUpToRefused task (R.remaining input.old) (R.remaining input.new)) }
-    ensures answered { IfErr result (WereAnswered task
-        (stage_of R.Input W.Output input.old output.old)) }
 {
     let (answered, _) = run_with(alloc, CopyMemory::new(alloc), task, input, output);
     answered

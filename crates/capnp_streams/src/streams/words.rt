@@ -1,6 +1,8 @@
 //! The words behind the program's name, one by one.
 ghost use Rattle.std.specs.Prelude.{◌≡◌, ◌<◌, Bool, Option, IfSome, IsNone, MatchOption, ℕ, List, length};
-ghost use Rattle.capnp_streams.specs.Arguments.{MakesLine, MakesLineAlone, Sets, Stops, after_equals, before_equals, equals_at, is_first_file, is_option, line_after, line_if_allowed, line_is_allowed, line_reads_flat, line_with_verb, options_agree, plain_line, request_of_word, run_of_task, setting_text, task_of_line, text_of_word, verb_allows};
+ghost use Rattle.std.specs.List.{after_first, before_first, position_or_len};
+ghost use Rattle.std.specs.Option.{option_map};
+ghost use Rattle.capnp_streams.specs.Arguments.{MakesLine, MakesLineAlone, Sets, Stops, is_equals, is_first_file, is_option, line_after, line_if_allowed, line_is_allowed, line_reads_flat, line_with_verb, options_agree, plain_line, request_of_word, setting_text, task_of_line, text_of_word, verb_allows};
 ghost use Rattle.capnp_streams.specs.declared.streams.task.Request.{Request};
 ghost use Rattle.capnp_streams.specs.declared.streams.words.Line.{Line};
 ghost use Rattle.capnp_streams.specs.declared.streams.words.Setting.{Setting};
@@ -324,7 +326,7 @@ fn request_at(word: Word, behind: usize, from: Line) -> Option<Request>
 
 /// The run of the task that a line asks for, if it is whole, with so many files.
 pub(super) fn run_of(line: Line, files: usize) -> Option<Request>
-    ensures { result ≡ run_of_task (task_of_line line) files }
+    ensures { result ≡ option_map (λ task. Request.Run task files) (task_of_line line) }
 {
     match task_of(line) {
         Some(task) => Some(Request::Run(task, files)),
@@ -358,9 +360,9 @@ fn read_alone(text: &str, from: Line) -> Option<Line>
 
 /// What stands before and behind the first `=`.
 fn parted(text: &str) -> Option<(&str, &str)>
-    ensures { MatchOption result (equals_at text.now ≡ length text.now) (λ x.
-        (equals_at text.now < length text.now) × (x.0.now ≡ before_equals text.now)
-        × (x.1.now ≡ after_equals text.now)) }
+    ensures { MatchOption result (position_or_len is_equals text.now ≡ length text.now) (λ x.
+        (position_or_len is_equals text.now < length text.now)
+        × (x.0.now ≡ before_first is_equals text.now) × (x.1.now ≡ after_first is_equals text.now)) }
 {
     text.split_once('=')
 }

@@ -1,5 +1,5 @@
-use Rattle.std.proofs.Common.{◌≡◌, false, inr, rules}
-use Rattle.capnp_streams.proofs.PackedLemmas.{cut_behind, cut_not_failed, read_failed}
+use Rattle.std.proofs.Common.{◌≡◌, false, rules}
+use Rattle.capnp_streams.proofs.PackedLemmas.{cut_behind, cut_not_failed, ends_packed, fails_behind, read_failed}
 use Rattle.capnp_streams.proofs.streams.packed.run_packed_with.Goals as goal
 
 pub returns-in-Ok-false-clause-refused : goal.returns-in-Ok-false-clause-refused
@@ -9,13 +9,23 @@ returns-in-Ok-false-clause-refused g c =
     let whole = rw c.in-Ok.is at c.run_with-answered.ensures.whole in
     let done = rw c.in-Ok.is at c.run_with-answered.ensures.done in
     let cut = rw no at (c.in-Ok-false.ensures.whole end) in
-    inr (inr (cut_behind _ _ _ _ _ _ c.in-Ok.summary c.behind.result c.new-input.ensures.remaining
-    c.new-input.ensures.whole whole cut done c.behind.ensures.answered c.behind.ensures.byte c.behind.ensures.fault))
+    cut_behind _ _ _ _ _ _ c.in-Ok.summary c.behind.result c.new-input.ensures.remaining
+    c.new-input.ensures.whole whole cut done c.behind.ensures.answered c.behind.ensures.byte c.behind.ensures.fault
 
 pub returns-in-Ok-false-clause-failed : goal.returns-in-Ok-false-clause-failed
 returns-in-Ok-false-clause-failed g c = λ is. absurd (cut_not_failed c.behind.ensures.fault is)
 
 pub returns-clause-failed : goal.returns-clause-failed
 returns-clause-failed g c = λ is.
-    read_failed g.R.Input.has_failed c.run_with-answered.new.input.told c.run_with-answered.new.input.packed.input _ _ _ _ _
+    read_failed g.R.Input.has_failed c.run_with-answered.new.input.told c.run_with-answered.new.input.packed.input _ _ _ _ _ _
     c.new-input.ensures.remaining (rw c.in-Err.is at c.run_with-answered.ensures.refused) is
+
+pub returns-clause-refused : goal.returns-clause-refused
+returns-clause-refused g c =
+    ends_packed _ _ _ _ _ _ c.in-Err.stop c.new-input.ensures.remaining (rw c.in-Err.is at c.run_with-answered.ensures.refused)
+
+pub returns-in-Ok-clause-refused : goal.returns-in-Ok-clause-refused
+returns-in-Ok-clause-refused g c =
+    let done = rw c.in-Ok.is at c.run_with-answered.ensures.done in
+    fails_behind _ _ _ _ c.in-Ok.summary c.behind-in-Err-finish.result c.new-input.ensures.remaining done
+    c.behind-in-Err-finish.ensures.answered c.behind-in-Err-finish.ensures.byte c.behind-in-Err-finish.ensures.fault

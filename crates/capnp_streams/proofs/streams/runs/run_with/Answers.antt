@@ -1,7 +1,7 @@
-use Rattle.std.proofs.Common.{◌≡◌, ◌∙◌, ◌-◌, ◌^◌, rules}
+use Rattle.std.proofs.Common.{◌≡◌, ◌∙◌, ◌-◌, ◌^◌, inr, refl, rules}
 use Rattle.capnp_framing.proofs.WholenessLemmas.{keeps_whole, keeps_whole_both}
-use Rattle.capnp_streams.proofs.AnsweredLemmas.{step_answerable, stops_behind}
-use Rattle.capnp_streams.proofs.StreamLemmas.{none_done, one_more_done, refused_taken}
+use Rattle.capnp_streams.proofs.AnsweredLemmas.{ends_behind, step_answerable}
+use Rattle.capnp_streams.proofs.StreamLemmas.{all_done, keeps_same, more_done, none_done}
 use Rattle.capnp_streams.proofs.streams.runs.run_with.Goals as goal
 
 pub loop-number-init : goal.loop-number-init
@@ -16,7 +16,7 @@ loop-number-init g c = record {
 
 pub loop-number-preserved : goal.loop-number-preserved
 loop-number-preserved g c =
-    let all = one_more_done c.loop-number.invariant.done (rw c.in-Ok-Some.field-0-is at c.in-Ok-Some.ensures.answered) in
+    let all = more_done c.loop-number.invariant.done (rw c.in-Ok-Some.field-0-is at c.in-Ok-Some.ensures.answered) in
     record {
       done = rw (c.both-holds.ensures, c.saturating_add-bytes.ensures) all;
       whole = keeps_whole_both _ _ _ c.loop-number.invariant.whole c.in-Ok-Some.ensures.whole;
@@ -26,19 +26,20 @@ loop-number-preserved g c =
       kept = c.in-Ok-Some.ensures.kept ∙ c.loop-number.invariant.kept;
     }
 
+pub returns-in-Ok-None-clause-done : goal.returns-in-Ok-None-clause-done
+returns-in-Ok-None-clause-done g c =
+    let (at_end, after, kept) = c.in-Ok-None.ensures.end (search rules) in
+    all_done _ _ _ at_end kept c.loop-number.invariant.done
+
 pub returns-in-Err-clause-refused : goal.returns-in-Err-clause-refused
-returns-in-Err-clause-refused g c = stops_behind _ _ _ _ _ c.in-Err.fault c.loop-number.invariant.done c.in-Err.ensures.refused
-
-pub returns-in-Err-clause-taken : goal.returns-in-Err-clause-taken
-returns-in-Err-clause-taken g c = refused_taken _ c.in-Err.fault c.loop-number.invariant.done c.in-Err.ensures.taken
-
-pub returns-in-Err-clause-answered : goal.returns-in-Err-clause-answered
-returns-in-Err-clause-answered g c = (_, c.loop-number.holds, c.loop-number.invariant.done)
+returns-in-Err-clause-refused g c =
+    (_, (c.loop-number.holds, c.loop-number.invariant.done), ends_behind c.args.task _ _ _ (record { answered = c.loop-number.number; byte = c.loop-number.bytes; fault = c.in-Err.fault }) c.in-Err.ensures.refused)
 
 pub returns-in-Err-clause-exactly : goal.returns-in-Err-clause-exactly
-returns-in-Err-clause-exactly g c = step_answerable _ _ _ _ c.in-Err.fault c.loop-number.invariant.done c.in-Err.ensures.refused
+returns-in-Err-clause-exactly g c =
+    step_answerable _ _ _ _ _ c.in-Err.fault c.loop-number.invariant.done c.in-Err.ensures.refused
 
-pub returns-clause-answered : goal.returns-clause-answered
-returns-clause-answered g c =
+pub returns-clause-refused : goal.returns-clause-refused
+returns-clause-refused g c =
     let every : c.loop-number.number ≡ 2 ^ 64 - 1 = search rules in
-    (_, c.loop-number.holds, rw every at c.loop-number.invariant.done)
+    (_, (c.loop-number.holds, rw every at c.loop-number.invariant.done), inr (keeps_same _, inr (refl, refl)))
