@@ -9,7 +9,8 @@ use Rattle.capnp_making.specs.Zeroed.{IsPruned}
 use Rattle.capnp_making.proofs.Memory.{spends_then_limits, words_refused_before}
 use Rattle.capnp_making.proofs.Replaced.{replaced_again}
 use Rattle.capnp_objects.specs.Wanted.{Form}
-use Rattle.capnp_copies.specs.Changes.{change, StopsCopy, StopsHalfway}
+use Rattle.capnp_copies.specs.Changes.{change, StopsCopy}
+use Rattle.capnp_copies.proofs.Copying.{StopsHalfway}
 use Rattle.capnp_copies.specs.Originals.{Original}
 use Rattle.capnp_copies.proofs.Originals.{lacks_after}
 

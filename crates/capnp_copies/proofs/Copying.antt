@@ -4,7 +4,10 @@ use Rattle.capnp_format.specs.Segments.{Segments, segment, IsPlace}
 use Rattle.capnp_format.specs.Tree.{Tree}
 use Rattle.capnp_format.specs.Canonical.{encoding}
 use Rattle.capnp_arena_traits.proofs.WordsOver.{segment_here}
+use Rattle.capnp_words.specs.declared.error.ErrorKind.{ErrorKind}
+use Rattle.capnp_copies.specs.Changes.{Change, StopsCopy}
 use Rattle.capnp_copies.specs.Copied.{copied}
+use Rattle.capnp_copies.specs.Originals.{Original}
 use Rattle.capnp_copies.proofs.InPlace.{IsCopied}
 
 -- segments
@@ -15,6 +18,10 @@ there (xs ∷ S) zero p l = omega arith
 there (xs ∷ S) (suc s) p l = omega (arith, there S s p l)
 
 -- copies
+
+-- A copy is refused, and leaves some value.
+abbrev pub StopsHalfway : Original Tree → Change → ErrorKind → Type 0
+StopsHalfway o c k = (t : Tree) × StopsCopy o c t k
 
 -- a copy into one fresh word is the words of its value
 pub fresh_made : {M' : Segments} (M : Segments) (id at : ℕ) (t : Tree) → IsPlace M id at × (segment M id ≡ 0 ∷ []) → IsCopied M M' id at t → segment M' id ≡ encoding t

@@ -17,14 +17,14 @@ use Rattle.capnp_objects.specs.Reading.{Reading, behind}
 use Rattle.capnp_objects.specs.Wanted.{Form}
 use Rattle.capnp_objects.proofs.Copies.{read_none, read_more}
 use Rattle.capnp_copies.specs.Copied.{with_children}
-use Rattle.capnp_copies.specs.Changes.{change, MakesCopy, StopsHalfway, CopiesChildren, StopsAtChildren}
+use Rattle.capnp_copies.specs.Changes.{change, MakesCopy, CopiesChildren, StopsAtChildren}
 use Rattle.capnp_copies.specs.Originals.{value_original, children_original}
 use Rattle.capnp_copies.specs.Forms.{kept, kept_each}
 use Rattle.capnp_copies.proofs.ChildrenCopied.{no_children}
 use Rattle.capnp_copies.proofs.SegmentsWritten.{not_written}
 use Rattle.capnp_copies.proofs.TightChildren.{child_tight}
 use Rattle.capnp_copies.proofs.Originals.{refuses_children}
-use Rattle.capnp_copies.proofs.Copying.{there}
+use Rattle.capnp_copies.proofs.Copying.{StopsHalfway, there}
 use Rattle.capnp_copies.proofs.NoRoom.{child_comes}
 use Rattle.capnp_copies.proofs.ObjectsMade.{TakesForCopy}
 use Rattle.capnp_copies.proofs.TooLarge.{child_too_large}

@@ -17,13 +17,13 @@ use Rattle.capnp_making.proofs.FillingMade.{IsBegun, null_stored, pointers_done,
 use Rattle.capnp_making.proofs.Memory.{keeps_both, keeps_then_spends, made_refused}
 use Rattle.capnp_objects.specs.Reading.{Reading, segment_read}
 use Rattle.capnp_objects.specs.Wanted.{Form, canonical}
-use Rattle.capnp_copies.specs.Changes.{change, MakesCopy, StopsHalfway, CopiesChildren, StopsAtChildren, CopiesRows, StopsAtElements}
+use Rattle.capnp_copies.specs.Changes.{change, MakesCopy, CopiesChildren, StopsAtChildren, CopiesRows, StopsAtElements}
 use Rattle.capnp_copies.specs.Forms.{kept_each, kept_elements}
 use Rattle.capnp_copies.specs.Originals.{pointers_original, structs_original}
 use Rattle.capnp_copies.specs.declared.widths.ElementSizes.{ElementSizes}
 use Rattle.capnp_copies.proofs.FilledChildren.{children_grow}
 use Rattle.capnp_copies.proofs.Originals.{LeavesSomeValue, children_refused, elements_beyond, halfway, pointers_large, structs_large}
-use Rattle.capnp_copies.proofs.Copying.{there}
+use Rattle.capnp_copies.proofs.Copying.{StopsHalfway, there}
 use Rattle.capnp_copies.proofs.NoRoom.{pointers_come, structs_come}
 use Rattle.capnp_copies.proofs.ObjectsMade.{Begins}
 use Rattle.capnp_copies.proofs.TooLarge.{ObjectMade, pointers_too_large, structs_too_large}

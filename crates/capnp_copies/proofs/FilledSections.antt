@@ -22,7 +22,8 @@ use Rattle.capnp_objects.specs.Outcomes.{ReadsAll}
 use Rattle.capnp_objects.specs.Reading.{Reading, segment_read, words_from}
 use Rattle.capnp_objects.specs.Spending.{pointers_in_all}
 use Rattle.capnp_objects.specs.Wanted.{Form, canonical}
-use Rattle.capnp_copies.specs.Changes.{change, ComesToObject, FindsNoRoom, MakesCopy, StopsHalfway, CopiesChildren, StopsAtChildren}
+use Rattle.capnp_copies.specs.Changes.{change, ComesToObject, FindsNoRoom, MakesCopy, CopiesChildren, StopsAtChildren}
+use Rattle.capnp_copies.proofs.Copying.{StopsHalfway}
 use Rattle.capnp_copies.specs.Forms.{kept, kept_each}
 use Rattle.capnp_copies.specs.Originals.{kept_count, children_original, sections_original}
 use Rattle.capnp_copies.proofs.DataSections.{kept_count-le}

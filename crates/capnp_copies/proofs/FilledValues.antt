@@ -30,7 +30,8 @@ use Rattle.capnp_objects.specs.declared.object.Purpose.TheVariants.{Value}
 use Rattle.capnp_objects.proofs.Limits.{not_for_memory}
 use Rattle.capnp_objects.proofs.Objects.{read_null, read_flat, read_struct, read_pointers, read_structs}
 use Rattle.capnp_objects.proofs.Refusals.{unreadable, stops_struct, stops_pointers, stops_structs}
-use Rattle.capnp_copies.specs.Changes.{as_numbers, Change, change, IsCopiedInRoom, StayInSegment, MakesCopy, StopsCopy, StopsHalfway}
+use Rattle.capnp_copies.specs.Changes.{as_numbers, Change, change, IsCopiedInRoom, StayInSegment, MakesCopy, StopsCopy}
+use Rattle.capnp_copies.proofs.Copying.{StopsHalfway}
 use Rattle.capnp_copies.specs.Forms.{kept}
 use Rattle.capnp_copies.proofs.InPlace.{IsCopied}
 use Rattle.capnp_copies.specs.Rooms.{CanBeCopied}

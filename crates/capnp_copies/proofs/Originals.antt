@@ -18,7 +18,8 @@ use Rattle.capnp_objects.specs.Refusals.{Stopped}
 use Rattle.capnp_objects.specs.Spending.{after, pointers_in, pointers_in_all, pointers_in_elements}
 use Rattle.capnp_objects.specs.Wanted.{Form, plain}
 use Rattle.capnp_objects.specs.declared.object.Purpose.TheVariants.{Value}
-use Rattle.capnp_copies.specs.Changes.{Change, ComesToObject, FindsNoRoom, LacksRoom, RefusesToCopy, MakesCopy, StopsCopy, StopsHalfway}
+use Rattle.capnp_copies.specs.Changes.{Change, ComesToObject, FindsNoRoom, LacksRoom, RefusesToCopy, MakesCopy, StopsCopy}
+use Rattle.capnp_copies.proofs.Copying.{StopsHalfway}
 use Rattle.capnp_copies.specs.Forms.{kept, kept_each, kept_elements}
 use Rattle.capnp_copies.specs.Originals.{Original, value_original, children_original, elements_original, sections_original, numbers_original, pointers_original, structs_original, list_original, FitsListPointer}
 use Rattle.capnp_copies.specs.Rooms.{CanBeCopied}

@@ -147,10 +147,6 @@ pub record StopsCopy (o : Original Tree) (c : Change) (t : Tree) (k : ErrorKind)
   pub left : IsReplaced c.old.words c.new.words c.segment c.at Null t
   pub memory : SpendsMemory c.old c.new k
 
--- It is refused so, and leaves some value.
-abbrev pub StopsHalfway : Original Tree → Change → ErrorKind → Type 0
-StopsHalfway o c k = (t : Tree) × StopsCopy o c t k
-
 -- A call copies what i pointers from a place on mean.
 pub record CopiesChildren (r : Reading) (i : ℕ) (c : Change) : Type 0 where
   pub children : Trees

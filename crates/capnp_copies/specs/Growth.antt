@@ -4,12 +4,13 @@ use Rattle.std.specs.Prelude.{◌≡◌, ◌≢◌, ℕ, ◌+◌, ◌<◌, ◌�
 use Rattle.std.specs.Prelude.{Result, IfOk, IfErr, MatchResult}
 use Rattle.capnp_words.specs.declared.error.ErrorKind.{ErrorKind}
 use Rattle.capnp_format.specs.Segments.{segment}
+use Rattle.capnp_format.specs.Tree.{Tree}
 use Rattle.capnp_arena_traits.specs.Taking.{SameRoomBelow}
 use Rattle.capnp_arena_traits.specs.View.{View}
 use Rattle.capnp_making.specs.Memory.{Lengthens, IsNextRoom}
 use Rattle.capnp_making.specs.Near.{HasOwnRoom}
 use Rattle.capnp_objects.specs.Reading.{Reading}
-use Rattle.capnp_copies.specs.Changes.{Change, CopiesChildren, StopsAtChildren}
+use Rattle.capnp_copies.specs.Changes.{Change, MakesCopy, StopsCopy, CopiesChildren, StopsAtChildren}
 use Rattle.capnp_copies.specs.Originals.{Original, children_original}
 
 -- No words are taken: each segment has as many as before, and the room that it had.
@@ -60,6 +61,13 @@ abbrev pub TakesAtMost : {A E V : Type 0} → Result A E → Original V → Chan
 TakesAtMost result o c =
     MatchResult result (λ _. o.takes c.form c.before c.after (MakesAtMost c.segment c.old c.new))
     (λ _. o.takes_until c.form c.before c.after (MakesAtMost c.segment c.old c.new))
+
+-- A call copies, or is refused and leaves some value; and what it takes of the message.
+pub record CopiesOrLeaves {A : Type 0} (result : Result A ErrorKind) (o : Original Tree) (c : Change)
+    : Type 0 where
+  pub copied : IfOk result (λ _. MakesCopy o c)
+  pub refused : IfErr result (λ k. (t : Tree) × StopsCopy o c t k)
+  pub taken : TakesAtMost result o c
 
 -- A call copies what n pointers from a place on mean, or is refused; and what it takes of the message.
 pub record CopiesOrStops {A : Type 0} (result : Result A ErrorKind) (r : Reading) (n : ℕ) (c : Change)

@@ -11,8 +11,8 @@ ghost use Rattle.capnp_arena_traits.specs.Written.{with_word};
 ghost use Rattle.capnp_objects.specs.Wanted.{plain, canonical, of_default};
 ghost use Rattle.capnp_format.specs.Tree.{Null};
 ghost use Rattle.capnp_readers.specs.Readers.{reading};
-ghost use Rattle.capnp_copies.specs.Growth.{TakesAtMost};
-ghost use Rattle.capnp_copies.specs.Changes.{change, MakesCopy, StopsCopy, StopsHalfway};
+ghost use Rattle.capnp_copies.specs.Growth.{CopiesOrLeaves, TakesAtMost};
+ghost use Rattle.capnp_copies.specs.Changes.{change, MakesCopy, StopsCopy};
 ghost use Rattle.capnp_copies.specs.Forms.{form_of, form_in};
 ghost use Rattle.capnp_copies.specs.Rooms.{CanBeCopied};
 ghost use Rattle.capnp_copies.specs.Originals.{value_original};
@@ -131,16 +131,7 @@ fn copy_object<A: BuilderArena, B: ReaderArena>(
 ) -> Result<(), ErrorKind>
     requires place { IsPlace (A.view arena.old).words to.segment to.at }
     requires null { word_at (A.view arena.old).words to.segment to.at ≡ 0 }
-    ensures copied { IfOk result
-        (λ _. MakesCopy (value_original (reading B.ReaderArena from.entry))
-        (change (form_in form) to.segment to.at (A.view arena.old)
-        (A.view arena.new) lim.old lim.new)) }
-    ensures refused { IfErr result
-        (StopsHalfway (value_original (reading B.ReaderArena from.entry))
-        (change (form_in form) to.segment to.at (A.view arena.old)
-        (A.view arena.new) lim.old lim.new)) }
-    ensures taken { TakesAtMost result
-        (value_original (reading B.ReaderArena from.entry))
+    ensures { CopiesOrLeaves result (value_original (reading B.ReaderArena from.entry))
         (change (form_in form) to.segment to.at (A.view arena.old)
         (A.view arena.new) lim.old lim.new) }
 {

@@ -23,7 +23,8 @@ use Rattle.capnp_objects.specs.declared.object.Place.{Place}
 use Rattle.capnp_objects.specs.Wanted.{Form}
 use Rattle.capnp_readers.specs.Sections.{IsPart, HasWordsFrom, elements_words}
 use Rattle.capnp_readers.proofs.Sections.{flat_words}
-use Rattle.capnp_copies.specs.Changes.{Change, change, StayInSegment, MakesCopy, StopsHalfway}
+use Rattle.capnp_copies.specs.Changes.{Change, change, StayInSegment, MakesCopy}
+use Rattle.capnp_copies.proofs.Copying.{StopsHalfway}
 use Rattle.capnp_copies.proofs.InPlace.{IsCopied}
 use Rattle.capnp_copies.specs.Forms.{kept}
 use Rattle.capnp_copies.specs.Originals.{numbers_original, list_original, FitsListPointer}

@@ -1,12 +1,12 @@
 //! The copy of pointers one behind the other.
-ghost use Rattle.std.specs.Prelude.{◌≡◌, ◌≢◌, ◌+◌, ◌^◌, ◌<◌, ◌≤◌, ◌↔◌, length, IsTrue, IfOk, IfErr};
+ghost use Rattle.std.specs.Prelude.{◌≡◌, ◌≢◌, ◌+◌, ◌^◌, ◌<◌, ◌≤◌, ◌↔◌, length, IsTrue};
 ghost use Rattle.capnp_format.specs.Segments.{word_at, IsPlace};
 ghost use Rattle.capnp_format.specs.Word.{kind, element_size};
 ghost use Rattle.capnp_objects.specs.Reading.{segment_read, word_of};
 ghost use Rattle.capnp_objects.specs.Wanted.{Form};
 ghost use Rattle.capnp_readers.specs.Readers.{reading};
-ghost use Rattle.capnp_copies.specs.Growth.{TakesAtMost, CopiesOrStops};
-ghost use Rattle.capnp_copies.specs.Changes.{change, change_to, HasNulls, MakesCopy, StopsHalfway};
+ghost use Rattle.capnp_copies.specs.Growth.{CopiesOrLeaves, CopiesOrStops};
+ghost use Rattle.capnp_copies.specs.Changes.{change, change_to, HasNulls};
 ghost use Rattle.capnp_copies.specs.Forms.{form_in};
 ghost use Rattle.capnp_copies.specs.Originals.{value_original};
 
@@ -113,14 +113,7 @@ fn copy_child<A: BuilderArena, B: ReaderArena>(
 ) -> Result<(), ErrorKind>
     requires place { IsPlace (A.view arena.old).words to.place.segment to.place.at }
     requires null { word_at (A.view arena.old).words to.place.segment to.place.at ≡ 0 }
-    ensures copied { IfOk result
-        (λ _. MakesCopy (value_original (reading B.ReaderArena from.entry))
-        (change_to to (A.view arena.old) (A.view arena.new) lim.old lim.new)) }
-    ensures refused { IfErr result
-        (StopsHalfway (value_original (reading B.ReaderArena from.entry))
-        (change_to to (A.view arena.old) (A.view arena.new) lim.old lim.new)) }
-    ensures taken { TakesAtMost result
-        (value_original (reading B.ReaderArena from.entry))
+    ensures { CopiesOrLeaves result (value_original (reading B.ReaderArena from.entry))
         (change_to to (A.view arena.old) (A.view arena.new) lim.old lim.new) }
 {
     let word = from.place.word();
@@ -153,14 +146,7 @@ fn copy_near_struct<A: BuilderArena, B: ReaderArena>(
     requires small { word.0 < 2 ^ 64 }
     requires some { word.0 ≢ 0 }
     requires is_struct { kind word.0 ≡ 0 }
-    ensures copied { IfOk result
-        (λ _. MakesCopy (value_original (reading B.ReaderArena from.entry))
-        (change_to to (A.view arena.old) (A.view arena.new) lim.old lim.new)) }
-    ensures refused { IfErr result
-        (StopsHalfway (value_original (reading B.ReaderArena from.entry))
-        (change_to to (A.view arena.old) (A.view arena.new) lim.old lim.new)) }
-    ensures taken { TakesAtMost result
-        (value_original (reading B.ReaderArena from.entry))
+    ensures { CopiesOrLeaves result (value_original (reading B.ReaderArena from.entry))
         (change_to to (A.view arena.old) (A.view arena.new) lim.old lim.new) }
 {
     let source = from.source;
@@ -193,14 +179,7 @@ fn copy_near_flat<A: BuilderArena, B: ReaderArena>(
     requires some { word.0 ≢ 0 }
     requires is_list { kind word.0 ≡ 1 }
     requires of_bits { (0 < element_size word.0) × (element_size word.0 ≤ 5) }
-    ensures copied { (form : Form) → IfOk result
-        (λ _. MakesCopy (value_original (reading B.ReaderArena from.entry))
-        (change form to.segment to.at (A.view arena.old) (A.view arena.new) lim.old lim.new)) }
-    ensures refused { (form : Form) → IfErr result
-        (StopsHalfway (value_original (reading B.ReaderArena from.entry))
-        (change form to.segment to.at (A.view arena.old) (A.view arena.new) lim.old lim.new)) }
-    ensures taken { (form : Form) → TakesAtMost result
-        (value_original (reading B.ReaderArena from.entry))
+    ensures { (form : Form) → CopiesOrLeaves result (value_original (reading B.ReaderArena from.entry))
         (change form to.segment to.at (A.view arena.old) (A.view arena.new) lim.old lim.new) }
 {
     let size = word.list_element_size();

@@ -1,10 +1,10 @@
 //! The copy of lists of pointers and of structs ("Lists", "Canonicalization").
-ghost use Rattle.std.specs.Prelude.{◌≡◌, ◌+◌, ◌*◌, ◌<◌, ◌≤◌, ◌^◌, length, IfOk, IfErr};
+ghost use Rattle.std.specs.Prelude.{◌≡◌, ◌+◌, ◌*◌, ◌<◌, ◌≤◌, ◌^◌, length};
 ghost use Rattle.capnp_format.specs.Segments.{word_at, IsPlace};
 ghost use Rattle.capnp_objects.specs.Reading.{segment_read};
 ghost use Rattle.capnp_readers.specs.Readers.{reading};
-ghost use Rattle.capnp_copies.specs.Growth.{TakesAtMost};
-ghost use Rattle.capnp_copies.specs.Changes.{change_to, MakesCopy, StopsHalfway};
+ghost use Rattle.capnp_copies.specs.Growth.{CopiesOrLeaves};
+ghost use Rattle.capnp_copies.specs.Changes.{change_to};
 ghost use Rattle.capnp_copies.specs.Forms.{form_in};
 ghost use Rattle.capnp_copies.specs.Originals.{pointers_original, structs_original};
 ghost use Rattle.capnp_copies.specs.Widths.{widths_kept};
@@ -34,13 +34,7 @@ pub fn copy_pointers<A: BuilderArena, B: ReaderArena>(
     requires null { word_at (A.view arena.old).words to.place.segment to.place.at ≡ 0 }
     requires few { count < 2 ^ 29 }
     requires inside { from.place.at + count ≤ length (segment_read (reading B.ReaderArena from)) }
-    ensures copied { IfOk result
-        (λ _. MakesCopy (pointers_original count (reading B.ReaderArena from.entry))
-        (change_to to (A.view arena.old) (A.view arena.new) lim.old lim.new)) }
-    ensures refused { IfErr result
-        (StopsHalfway (pointers_original count (reading B.ReaderArena from.entry))
-        (change_to to (A.view arena.old) (A.view arena.new) lim.old lim.new)) }
-    ensures taken { TakesAtMost result (pointers_original count (reading B.ReaderArena from.entry))
+    ensures { CopiesOrLeaves result (pointers_original count (reading B.ReaderArena from.entry))
         (change_to to (A.view arena.old) (A.view arena.new) lim.old lim.new) }
 {
     let Start { segment, at } = to.place;
@@ -69,13 +63,7 @@ pub fn copy_structs<A: BuilderArena, B: ReaderArena>(
     requires words { list.count * (list.size.data_words + list.size.pointers) < 2 ^ 29 }
     requires inside { from.place.at + list.count * (list.size.data_words + list.size.pointers)
         ≤ length (segment_read (reading B.ReaderArena from)) }
-    ensures copied { IfOk result
-        (λ _. MakesCopy (structs_original list.size list.count (reading B.ReaderArena from.entry))
-        (change_to to (A.view arena.old) (A.view arena.new) lim.old lim.new)) }
-    ensures refused { IfErr result
-        (StopsHalfway (structs_original list.size list.count (reading B.ReaderArena from.entry))
-        (change_to to (A.view arena.old) (A.view arena.new) lim.old lim.new)) }
-    ensures taken { TakesAtMost result
+    ensures { CopiesOrLeaves result
         (structs_original list.size list.count (reading B.ReaderArena from.entry))
         (change_to to (A.view arena.old) (A.view arena.new) lim.old lim.new) }
 {

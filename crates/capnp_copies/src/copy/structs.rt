@@ -1,11 +1,11 @@
 //! The copy of a struct ("Structs", "Canonicalization").
-ghost use Rattle.std.specs.Prelude.{◌≡◌, ◌+◌, ◌≤◌, length, IfOk, IfErr};
+ghost use Rattle.std.specs.Prelude.{◌≡◌, ◌+◌, ◌≤◌, length};
 ghost use Rattle.capnp_format.specs.Canonical.{used_words};
 ghost use Rattle.capnp_format.specs.Segments.{word_at, IsPlace};
 ghost use Rattle.capnp_objects.specs.Reading.{segment_read, behind, words_from};
 ghost use Rattle.capnp_readers.specs.Readers.{reading};
-ghost use Rattle.capnp_copies.specs.Growth.{TakesAtMost};
-ghost use Rattle.capnp_copies.specs.Changes.{change_to, MakesCopy, StopsHalfway};
+ghost use Rattle.capnp_copies.specs.Growth.{CopiesOrLeaves};
+ghost use Rattle.capnp_copies.specs.Changes.{change_to};
 ghost use Rattle.capnp_copies.specs.Forms.{form_in};
 ghost use Rattle.capnp_copies.specs.Originals.{sections_original, kept_count};
 
@@ -36,16 +36,7 @@ pub(crate) fn copy_struct<A: BuilderArena, B: ReaderArena>(
     requires inside { from.place.at + (size.data_words + size.pointers)
         ≤ length (segment_read (reading B.ReaderArena from)) }
     requires null { word_at (A.view arena.old).words to.place.segment to.place.at ≡ 0 }
-    ensures copied { IfOk result (λ _. MakesCopy
-        (sections_original (words_from (reading B.ReaderArena from.entry) size.data_words)
-        (behind (reading B.ReaderArena from.entry) size.data_words) size.pointers)
-        (change_to to (A.view arena.old) (A.view arena.new) lim.old lim.new)) }
-    ensures refused { IfErr result
-        (StopsHalfway
-        (sections_original (words_from (reading B.ReaderArena from.entry) size.data_words)
-        (behind (reading B.ReaderArena from.entry) size.data_words) size.pointers)
-        (change_to to (A.view arena.old) (A.view arena.new) lim.old lim.new)) }
-    ensures taken { TakesAtMost result
+    ensures { CopiesOrLeaves result
         (sections_original (words_from (reading B.ReaderArena from.entry) size.data_words)
         (behind (reading B.ReaderArena from.entry) size.data_words) size.pointers)
         (change_to to (A.view arena.old) (A.view arena.new) lim.old lim.new) }

@@ -3,10 +3,10 @@ ghost use Rattle.std.specs.Prelude.{◌≡◌, ◌+◌, ◌↔◌, IsTrue, Err, 
 ghost use Rattle.capnp_words.specs.declared.error.ErrorKind.{ErrorKind};
 ghost use Rattle.capnp_format.specs.Segments.{word_at, IsPlace};
 ghost use Rattle.capnp_format.specs.Tree.{Null};
-ghost use Rattle.capnp_copies.specs.Changes.{change, MakesCopy, StopsCopy, StopsHalfway};
+ghost use Rattle.capnp_copies.specs.Changes.{change, MakesCopy, StopsCopy};
 ghost use Rattle.capnp_copies.specs.Rooms.{CanBeCopied};
 ghost use Rattle.capnp_copies.specs.Forms.{form_of};
-ghost use Rattle.capnp_copies.specs.Growth.{TakesAtMost};
+ghost use Rattle.capnp_copies.specs.Growth.{CopiesOrLeaves, TakesAtMost};
 ghost use Rattle.capnp_copies.specs.ListValues.{list_read};
 ghost use Rattle.capnp_copies.specs.Originals.{FitsListPointer};
 
@@ -78,18 +78,11 @@ fn copy_elements_read<A: BuilderArena, B: ReaderArena>(
 ) -> Result<(), ErrorKind>
     requires place { IsPlace (A.view arena.old).words to.segment to.at }
     requires null { word_at (A.view arena.old).words to.segment to.at ≡ 0 }
-    ensures copied { IfOk result (λ _. MakesCopy (list_read B.ReaderArena value.entry)
-        (change (form_of canonicalize) to.segment to.at (A.view arena.old)
-        (A.view arena.new) lim.old lim.new)) }
-    ensures refused { IfErr result
-        (StopsHalfway (list_read B.ReaderArena value.entry)
-        (change (form_of canonicalize) to.segment to.at (A.view arena.old)
-        (A.view arena.new) lim.old lim.new)) }
-    ensures long { (k : ErrorKind) → (list_read B.ReaderArena value.entry).exceeds
-        (form_of canonicalize) k → (result ≡ Err k) × (lim.new ≡ lim.old) }
-    ensures taken { TakesAtMost result (list_read B.ReaderArena value.entry)
+    ensures copies { CopiesOrLeaves result (list_read B.ReaderArena value.entry)
         (change (form_of canonicalize) to.segment to.at (A.view arena.old)
         (A.view arena.new) lim.old lim.new) }
+    ensures long { (k : ErrorKind) → (list_read B.ReaderArena value.entry).exceeds
+        (form_of canonicalize) k → (result ≡ Err k) × (lim.new ≡ lim.old) }
 {
     let count = value.count;
     if !fits_list_pointer(value.element_size, value.struct_size, count) {

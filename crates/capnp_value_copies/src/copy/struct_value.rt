@@ -6,10 +6,10 @@ ghost use Rattle.capnp_format.specs.Segments.{word_at, IsPlace};
 ghost use Rattle.capnp_format.specs.Tree.{Null};
 ghost use Rattle.capnp_objects.specs.Reading.{words_from};
 ghost use Rattle.capnp_readers.specs.Sizes.{pointers_read};
-ghost use Rattle.capnp_copies.specs.Changes.{change, MakesCopy, StopsCopy, StopsHalfway};
+ghost use Rattle.capnp_copies.specs.Changes.{change, MakesCopy, StopsCopy};
 ghost use Rattle.capnp_copies.specs.Rooms.{CanBeCopied};
 ghost use Rattle.capnp_copies.specs.Forms.{form_of};
-ghost use Rattle.capnp_copies.specs.Growth.{TakesAtMost};
+ghost use Rattle.capnp_copies.specs.Growth.{CopiesOrLeaves, TakesAtMost};
 ghost use Rattle.capnp_copies.specs.Originals.{kept_count};
 ghost use Rattle.capnp_copies.specs.StructValues.{data_of, struct_read};
 
@@ -81,18 +81,11 @@ fn copy_sections<A: BuilderArena, B: ReaderArena>(
 ) -> Result<(), ErrorKind>
     requires place { IsPlace (A.view arena.old).words to.segment to.at }
     requires null { word_at (A.view arena.old).words to.segment to.at ≡ 0 }
-    ensures copied { IfOk result (λ _. MakesCopy (struct_read B.ReaderArena value.entry)
-        (change (form_of canonicalize) to.segment to.at (A.view arena.old)
-        (A.view arena.new) lim.old lim.new)) }
-    ensures refused { IfErr result
-        (StopsHalfway (struct_read B.ReaderArena value.entry)
-        (change (form_of canonicalize) to.segment to.at (A.view arena.old)
-        (A.view arena.new) lim.old lim.new)) }
-    ensures wide { (k : ErrorKind) → (struct_read B.ReaderArena value.entry).exceeds
-        (form_of canonicalize) k → (result ≡ Err k) × (lim.new ≡ lim.old) }
-    ensures taken { TakesAtMost result (struct_read B.ReaderArena value.entry)
+    ensures copies { CopiesOrLeaves result (struct_read B.ReaderArena value.entry)
         (change (form_of canonicalize) to.segment to.at (A.view arena.old)
         (A.view arena.new) lim.old lim.new) }
+    ensures wide { (k : ErrorKind) → (struct_read B.ReaderArena value.entry).exceeds
+        (form_of canonicalize) k → (result ≡ Err k) × (lim.new ≡ lim.old) }
 {
     let kept = kept_sections(value, canonicalize)?;
     let start = make_struct(arena, to.segment, to.at, kept)?;

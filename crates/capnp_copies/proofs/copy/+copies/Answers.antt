@@ -141,33 +141,24 @@ children::copy_children-returns g t c = c.copy_row.ensures
 
 -- What a pointer means, told by its word.
 
-pub children::copy_child-returns-then-is_null-clause-copied : goal.children::copy_child-returns-then-is_null-clause-copied
-children::copy_child-returns-then-is_null-clause-copied g t c =
+pub children::copy_child-returns-then-is_null : goal.children::copy_child-returns-then-is_null
+children::copy_child-returns-then-is_null g t c =
     let r : Reading = reading g.B.ReaderArena c.args.from in
     let word : c.word-word.result.0 ≡ word_of r = c.word-word.ensures.value ∙ ap (λ ws. get_or ws c.args.from.place.at 0) c.args.from.held.0 in
-    null_copied {r = r} (sym word ∙ c.if-is_null.ensures.0 refl, refl) c.requires.place c.requires.null
-
-pub children::copy_child-returns-then-is_null-clause-taken : goal.children::copy_child-returns-then-is_null-clause-taken
-children::copy_child-returns-then-is_null-clause-taken g t c =
-    let r : Reading = reading g.B.ReaderArena c.args.from in
-    let word : c.word-word.result.0 ≡ word_of r = c.word-word.ensures.value ∙ ap (λ ws. get_or ws c.args.from.place.at 0) c.args.from.held.0 in
-    null_takes {r = r} (sym word ∙ c.if-is_null.ensures.0 refl, refl)
+    record { copied = null_copied {r = r} (sym word ∙ c.if-is_null.ensures.0 refl, refl) c.requires.place c.requires.null; refused = tt; taken = null_takes {r = r} (sym word ∙ c.if-is_null.ensures.0 refl, refl) }
 
 pub children::copy_child-copy_object-requires : goal.children::copy_child-copy_object-requires
 children::copy_child-copy_object-requires g t c κs within =
     (omega (arith, c.decreases), (within.0, (within.1, (c.requires.place, c.requires.null))))
 
 pub children::copy_child-returns-then-is_of_bits : goal.children::copy_child-returns-then-is_of_bits
-children::copy_child-returns-then-is_of_bits g t c =
-    record { copied = c.copy_near_flat.ensures.copied (form_in c.args.to.form); refused = c.copy_near_flat.ensures.refused (form_in c.args.to.form); taken = c.copy_near_flat.ensures.taken (form_in c.args.to.form) }
+children::copy_child-returns-then-is_of_bits g t c = c.copy_near_flat.ensures (form_in c.args.to.form)
 
 pub children::copy_child-returns-then-eq : goal.children::copy_child-returns-then-eq
-children::copy_child-returns-then-eq g t c =
-    record { copied = c.copy_near_struct.ensures.copied; refused = c.copy_near_struct.ensures.refused; taken = c.copy_near_struct.ensures.taken }
+children::copy_child-returns-then-eq g t c = c.copy_near_struct.ensures
 
 pub children::copy_child-returns-else-eq : goal.children::copy_child-returns-else-eq
-children::copy_child-returns-else-eq g t c =
-    record { copied = c.copy_object.ensures.copied; refused = c.copy_object.ensures.refused; taken = c.copy_object.ensures.taken }
+children::copy_child-returns-else-eq g t c = c.copy_object.ensures
 
 pub children::copy_near_struct-returns-in_err-start : goal.children::copy_near_struct-returns-in_err-start
 children::copy_near_struct-returns-in_err-start g t c =
@@ -256,12 +247,10 @@ copy_object-copy_structs-requires g t c κs within =
     let LESS = one_level_in c.args.from.nesting_limit fits SOME in
     (omega (arith, LESS, SOME, c.decreases), (within.0, (within.1, (c.requires.place, (c.requires.null, (FEW, (WORDS, search rules)))))))
 
-pub copy_object-returns-in-Null-clause-copied : goal.copy_object-returns-in-Null-clause-copied
-copy_object-returns-in-Null-clause-copied g t c =
-    null_copied (rw c.in-Null.is at c.in_ok-object.ensures.object) c.requires.place c.requires.null
-
-pub copy_object-returns-in-Null-clause-taken : goal.copy_object-returns-in-Null-clause-taken
-copy_object-returns-in-Null-clause-taken g t c = null_takes (rw c.in-Null.is at c.in_ok-object.ensures.object)
+pub copy_object-returns-in-Null : goal.copy_object-returns-in-Null
+copy_object-returns-in-Null g t c =
+    let object = rw c.in-Null.is at c.in_ok-object.ensures.object in
+    record { copied = null_copied object c.requires.place c.requires.null; refused = tt; taken = null_takes object }
 
 pub copy_object-returns-in-Capability : goal.copy_object-returns-in-Capability
 copy_object-returns-in-Capability g t c =

@@ -7,7 +7,8 @@ use Rattle.capnp_format.specs.Tree.{Flat}
 use Rattle.capnp_objects.specs.Reading.{source_start}
 use Rattle.capnp_words.specs.Sizes.{size_number}
 use Rattle.capnp_readers.proofs.Walking.{ok_so, err_so}
-use Rattle.capnp_copies.specs.Changes.{Change, change, MakesCopy, StopsHalfway}
+use Rattle.capnp_copies.specs.Changes.{Change, change, MakesCopy}
+use Rattle.capnp_copies.proofs.Copying.{StopsHalfway}
 use Rattle.capnp_copies.specs.Forms.{form_of}
 use Rattle.capnp_copies.specs.Growth.{MakesAtMost, TakesAtMost}
 use Rattle.capnp_copies.specs.Originals.{FitsListPointer}
@@ -19,9 +20,13 @@ use Rattle.capnp_copies.proofs.Originals.{pointers_listed, structs_listed, point
 use Rattle.capnp_value_copies.proofs.copy.list_value.copy_elements_read.Goals as goal
 
 -- A list that is too long.
-pub returns-then-not-fits_list_pointer-clause-refused : goal.returns-then-not-fits_list_pointer-clause-refused
-returns-then-not-fits_list_pointer-clause-refused g c =
-    too_long c.args.value.element_size c.args.value.struct_size c.args.value.count (first_read g.B.ReaderArena c.args.value) c.requires.place c.requires.null (λ fits. (let e = c.fits_list_pointer.ensures.1 fits in cc (e, c.if-not-fits_list_pointer.true)))
+pub returns-then-not-fits_list_pointer-clause-copies : goal.returns-then-not-fits_list_pointer-clause-copies
+returns-then-not-fits_list_pointer-clause-copies g c =
+    record {
+      copied = (tt);
+      refused = (too_long c.args.value.element_size c.args.value.struct_size c.args.value.count (first_read g.B.ReaderArena c.args.value) c.requires.place c.requires.null (λ fits. (let e = c.fits_list_pointer.ensures.1 fits in cc (e, c.if-not-fits_list_pointer.true))));
+      taken = (nothing_for_list c.args.value.element_size c.args.value.struct_size c.args.value.count (first_read g.B.ReaderArena c.args.value) (form_of c.args.canonicalize) c.args.lim.now (MakesAtMost c.args.to.segment (g.A.BuilderArena.view c.args.arena.now) (g.A.BuilderArena.view c.args.arena.now)) (made_none (none_itself (g.A.BuilderArena.view c.args.arena.now))));
+    }
 
 -- A list of numbers.
 
@@ -46,27 +51,17 @@ returns-in_default g c =
     let call : Change = change (form_of c.args.canonicalize) c.args.to.segment c.args.to.at (g.A.BuilderArena.view c.args.arena.now) (g.A.BuilderArena.view c.copy_flat.new.arena) c.args.lim.now c.args.lim.now in
     record {
       long = λ k large. absurd ((exceeding c.args.value.element_size c.args.value.struct_size c.args.value.count (first_read g.B.ReaderArena c.args.value) (form_of c.args.canonicalize) k large).0 (c.fits_list_pointer.ensures.0 (search rules)));
-      taken = numbers_listed c.args.value.element_size c.args.value.struct_size c.args.value.count (first_read g.B.ReaderArena c.args.value) (λ o. TakesAtMost c.copy_flat.result o call) c.in_default.not-Pointer c.in_default.not-InlineComposite
-          (numbers_take c.copy_flat.result c.args.value.element_size c.args.value.count (first_read g.B.ReaderArena c.args.value) (form_of c.args.canonicalize) c.args.to.segment c.args.to.at (g.A.BuilderArena.view c.args.arena.now) (g.A.BuilderArena.view c.copy_flat.new.arena) c.args.lim.now c.copy_flat.ensures.taken);
-      copied = numbers_listed c.args.value.element_size c.args.value.struct_size c.args.value.count (first_read g.B.ReaderArena c.args.value) (λ o. IfOk c.copy_flat.result (λ _. MakesCopy o call)) c.in_default.not-Pointer c.in_default.not-InlineComposite
-          (numbers_copied c.args.value.element_size c.args.value.count (first_read g.B.ReaderArena c.args.value) call value.content.now c.copy_flat.result held.stand refl outcome);
-      refused = numbers_listed c.args.value.element_size c.args.value.struct_size c.args.value.count (first_read g.B.ReaderArena c.args.value) (λ o. IfErr c.copy_flat.result (StopsHalfway o call)) c.in_default.not-Pointer c.in_default.not-InlineComposite
-          (numbers_stop c.args.value.element_size c.args.value.count (first_read g.B.ReaderArena c.args.value) call value.content.now c.copy_flat.result held.stand (c.requires.place, c.requires.null) refl outcome);
+      copies = record {
+        taken = numbers_listed c.args.value.element_size c.args.value.struct_size c.args.value.count (first_read g.B.ReaderArena c.args.value) (λ o. TakesAtMost c.copy_flat.result o call) c.in_default.not-Pointer c.in_default.not-InlineComposite
+            (numbers_take c.copy_flat.result c.args.value.element_size c.args.value.count (first_read g.B.ReaderArena c.args.value) (form_of c.args.canonicalize) c.args.to.segment c.args.to.at (g.A.BuilderArena.view c.args.arena.now) (g.A.BuilderArena.view c.copy_flat.new.arena) c.args.lim.now c.copy_flat.ensures.taken);
+        copied = numbers_listed c.args.value.element_size c.args.value.struct_size c.args.value.count (first_read g.B.ReaderArena c.args.value) (λ o. IfOk c.copy_flat.result (λ _. MakesCopy o call)) c.in_default.not-Pointer c.in_default.not-InlineComposite
+            (numbers_copied c.args.value.element_size c.args.value.count (first_read g.B.ReaderArena c.args.value) call value.content.now c.copy_flat.result held.stand refl outcome);
+        refused = numbers_listed c.args.value.element_size c.args.value.struct_size c.args.value.count (first_read g.B.ReaderArena c.args.value) (λ o. IfErr c.copy_flat.result (StopsHalfway o call)) c.in_default.not-Pointer c.in_default.not-InlineComposite
+            (numbers_stop c.args.value.element_size c.args.value.count (first_read g.B.ReaderArena c.args.value) call value.content.now c.copy_flat.result held.stand (c.requires.place, c.requires.null) refl outcome);
+      };
     }
 
 -- Pointers, and structs.
-
-pub returns-in-Pointer-clause-copied : goal.returns-in-Pointer-clause-copied
-returns-in-Pointer-clause-copied g c =
-    let value = c.args.value in
-    let nl = to_z-of_z w32 c.args.value.nesting_limit (search rules) in
-    ok_so c.copy_pointers.result c.copy_pointers.ensures.copied (λ x copies. pointers_list_copied value.element_size value.struct_size value.count (first_read g.B.ReaderArena value) c.in-Pointer.is (rw (nl, c.of-form.ensures) at copies))
-
-pub returns-in-InlineComposite-clause-copied : goal.returns-in-InlineComposite-clause-copied
-returns-in-InlineComposite-clause-copied g c =
-    let value = c.args.value in
-    let nl = to_z-of_z w32 c.args.value.nesting_limit (search rules) in
-    ok_so c.copy_structs.result c.copy_structs.ensures.copied (λ x copies. structs_list_copied value.element_size value.struct_size value.count (first_read g.B.ReaderArena value) c.in-InlineComposite.is (rw (nl, c.of-form.ensures) at copies))
 
 pub returns-then-not-fits_list_pointer-clause-long : goal.returns-then-not-fits_list_pointer-clause-long
 returns-then-not-fits_list_pointer-clause-long g c = λ k large. (rw (sym (exceeding c.args.value.element_size c.args.value.struct_size c.args.value.count (first_read g.B.ReaderArena c.args.value) (form_of c.args.canonicalize) k large).1) (refl, refl))
@@ -77,34 +72,34 @@ returns-in-Pointer-clause-long g c = λ k large. (absurd ((exceeding c.args.valu
 pub returns-in-InlineComposite-clause-long : goal.returns-in-InlineComposite-clause-long
 returns-in-InlineComposite-clause-long g c = λ k large. (absurd ((exceeding c.args.value.element_size c.args.value.struct_size c.args.value.count (first_read g.B.ReaderArena c.args.value) (form_of c.args.canonicalize) k large).0 (c.fits_list_pointer.ensures.0 (search rules))))
 
-pub returns-in-Pointer-clause-refused : goal.returns-in-Pointer-clause-refused
-returns-in-Pointer-clause-refused g c =
-    let value = c.args.value in
-    let nl = to_z-of_z w32 c.args.value.nesting_limit (search rules) in
-    err_so c.copy_pointers.result c.copy_pointers.ensures.refused (λ k stop. pointers_list_stops value.element_size value.struct_size value.count (first_read g.B.ReaderArena value) c.in-Pointer.is (rw (nl, c.of-form.ensures) at stop))
+pub returns-in-Pointer-clause-copies : goal.returns-in-Pointer-clause-copies
+returns-in-Pointer-clause-copies g c =
+    record {
+      copied = (let value = c.args.value in
+          let nl = to_z-of_z w32 c.args.value.nesting_limit (search rules) in
+          ok_so c.copy_pointers.result c.copy_pointers.ensures.copied (λ x copies. pointers_list_copied value.element_size value.struct_size value.count (first_read g.B.ReaderArena value) c.in-Pointer.is (rw (nl, c.of-form.ensures) at copies)));
+      refused = (let value = c.args.value in
+          let nl = to_z-of_z w32 c.args.value.nesting_limit (search rules) in
+          err_so c.copy_pointers.result c.copy_pointers.ensures.refused (λ k stop. pointers_list_stops value.element_size value.struct_size value.count (first_read g.B.ReaderArena value) c.in-Pointer.is (rw (nl, c.of-form.ensures) at stop)));
+      taken = (let nl = to_z-of_z w32 c.args.value.nesting_limit (search rules) in
+          let value = c.args.value in
+          pointers_listed c.args.value.element_size c.args.value.struct_size c.args.value.count (first_read g.B.ReaderArena c.args.value)
+          (λ o. TakesAtMost c.copy_pointers.result o (change (form_of c.args.canonicalize) c.args.to.segment c.args.to.at (g.A.BuilderArena.view c.args.arena.now) (g.A.BuilderArena.view c.copy_pointers.new.arena) c.args.lim.now c.copy_pointers.new.lim))
+          c.in-Pointer.is (rw (nl, c.of-form.ensures) at c.copy_pointers.ensures.taken));
+    }
 
-pub returns-then-not-fits_list_pointer-clause-taken : goal.returns-then-not-fits_list_pointer-clause-taken
-returns-then-not-fits_list_pointer-clause-taken g c =
-    nothing_for_list c.args.value.element_size c.args.value.struct_size c.args.value.count (first_read g.B.ReaderArena c.args.value) (form_of c.args.canonicalize) c.args.lim.now (MakesAtMost c.args.to.segment (g.A.BuilderArena.view c.args.arena.now) (g.A.BuilderArena.view c.args.arena.now)) (made_none (none_itself (g.A.BuilderArena.view c.args.arena.now)))
-
-pub returns-in-Pointer-clause-taken : goal.returns-in-Pointer-clause-taken
-returns-in-Pointer-clause-taken g c =
-    let nl = to_z-of_z w32 c.args.value.nesting_limit (search rules) in
-    let value = c.args.value in
-    pointers_listed c.args.value.element_size c.args.value.struct_size c.args.value.count (first_read g.B.ReaderArena c.args.value)
-    (λ o. TakesAtMost c.copy_pointers.result o (change (form_of c.args.canonicalize) c.args.to.segment c.args.to.at (g.A.BuilderArena.view c.args.arena.now) (g.A.BuilderArena.view c.copy_pointers.new.arena) c.args.lim.now c.copy_pointers.new.lim))
-    c.in-Pointer.is (rw (nl, c.of-form.ensures) at c.copy_pointers.ensures.taken)
-
-pub returns-in-InlineComposite-clause-taken : goal.returns-in-InlineComposite-clause-taken
-returns-in-InlineComposite-clause-taken g c =
-    let nl = to_z-of_z w32 c.args.value.nesting_limit (search rules) in
-    let value = c.args.value in
-    structs_listed c.args.value.element_size c.args.value.struct_size c.args.value.count (first_read g.B.ReaderArena c.args.value)
-    (λ o. TakesAtMost c.copy_structs.result o (change (form_of c.args.canonicalize) c.args.to.segment c.args.to.at (g.A.BuilderArena.view c.args.arena.now) (g.A.BuilderArena.view c.copy_structs.new.arena) c.args.lim.now c.copy_structs.new.lim))
-    c.in-InlineComposite.is (rw (nl, c.of-form.ensures) at c.copy_structs.ensures.taken)
-
-pub returns-in-InlineComposite-clause-refused : goal.returns-in-InlineComposite-clause-refused
-returns-in-InlineComposite-clause-refused g c =
-    let value = c.args.value in
-    let nl = to_z-of_z w32 c.args.value.nesting_limit (search rules) in
-    err_so c.copy_structs.result c.copy_structs.ensures.refused (λ k stop. structs_list_stops value.element_size value.struct_size value.count (first_read g.B.ReaderArena value) c.in-InlineComposite.is (rw (nl, c.of-form.ensures) at stop))
+pub returns-in-InlineComposite-clause-copies : goal.returns-in-InlineComposite-clause-copies
+returns-in-InlineComposite-clause-copies g c =
+    record {
+      copied = (let value = c.args.value in
+          let nl = to_z-of_z w32 c.args.value.nesting_limit (search rules) in
+          ok_so c.copy_structs.result c.copy_structs.ensures.copied (λ x copies. structs_list_copied value.element_size value.struct_size value.count (first_read g.B.ReaderArena value) c.in-InlineComposite.is (rw (nl, c.of-form.ensures) at copies)));
+      refused = (let value = c.args.value in
+          let nl = to_z-of_z w32 c.args.value.nesting_limit (search rules) in
+          err_so c.copy_structs.result c.copy_structs.ensures.refused (λ k stop. structs_list_stops value.element_size value.struct_size value.count (first_read g.B.ReaderArena value) c.in-InlineComposite.is (rw (nl, c.of-form.ensures) at stop)));
+      taken = (let nl = to_z-of_z w32 c.args.value.nesting_limit (search rules) in
+          let value = c.args.value in
+          structs_listed c.args.value.element_size c.args.value.struct_size c.args.value.count (first_read g.B.ReaderArena c.args.value)
+          (λ o. TakesAtMost c.copy_structs.result o (change (form_of c.args.canonicalize) c.args.to.segment c.args.to.at (g.A.BuilderArena.view c.args.arena.now) (g.A.BuilderArena.view c.copy_structs.new.arena) c.args.lim.now c.copy_structs.new.lim))
+          c.in-InlineComposite.is (rw (nl, c.of-form.ensures) at c.copy_structs.ensures.taken));
+    }

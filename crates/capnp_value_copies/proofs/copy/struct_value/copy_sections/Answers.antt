@@ -26,12 +26,17 @@ use Rattle.capnp_value_copies.proofs.copy.struct_value.copy_sections.Goals as go
 
 -- A struct of more data words than a struct can have, and one that the arena refuses.
 
-pub returns-in_err-kept-clause-refused : goal.returns-in_err-kept-clause-refused
-returns-in_err-kept-clause-refused g c =
-    let v = g.A.BuilderArena.view c.args.arena.now in
-    let p = err_from_is_err_and c.from_residual.result c.from_residual.ensures.1 in
-    rw (p.1, p.2) (halfway (inr (inr c.in_err-kept.ensures.wide))
-    ((Null, nothing_left v.words v.words c.args.to.segment c.args.to.at c.requires.place c.requires.null refl), spends_nothing v v c.in_err-kept.field-0.0 (λ n. ap (λ i. refusals_for i n) c.in_err-kept.ensures.wide.1) (keeps_itself v)))
+pub returns-in_err-kept-clause-copies : goal.returns-in_err-kept-clause-copies
+returns-in_err-kept-clause-copies g c =
+    record {
+      copied = (let p = err_from_is_err_and c.from_residual.result c.from_residual.ensures.1 in rw p.1 tt);
+      refused = (let v = g.A.BuilderArena.view c.args.arena.now in
+          let p = err_from_is_err_and c.from_residual.result c.from_residual.ensures.1 in
+          rw (p.1, p.2) (halfway (inr (inr c.in_err-kept.ensures.wide))
+          ((Null, nothing_left v.words v.words c.args.to.segment c.args.to.at c.requires.place c.requires.null refl), spends_nothing v v c.in_err-kept.field-0.0 (λ n. ap (λ i. refusals_for i n) c.in_err-kept.ensures.wide.1) (keeps_itself v))));
+      taken = (let p = err_from_is_err_and c.from_residual.result c.from_residual.ensures.1 in
+          rw p.1 (inl (refl, made_none (none_itself (g.A.BuilderArena.view c.args.arena.now)))));
+    }
 
 pub returns-in_err-kept-clause-wide : goal.returns-in_err-kept-clause-wide
 returns-in_err-kept-clause-wide g c =
@@ -41,20 +46,26 @@ returns-in_err-kept-clause-wide g c =
 pub returns-in_err-start-clause-wide : goal.returns-in_err-start-clause-wide
 returns-in_err-start-clause-wide g c = λ k large. absurd (omega (arith, large.0, c.in_ok-kept.ensures.narrow))
 
-pub returns-in_err-start-clause-refused : goal.returns-in_err-start-clause-refused
-returns-in_err-start-clause-refused g c =
-    let least = c.in_ok-kept.kept in
-    let full : HasRoom (g.A.BuilderArena.view c.args.arena.now) c.args.to.segment (least.data_words + least.pointers) → ⊥ = λ room. absurd (false≢true (c.in_err-start.ensures.memory.fits room)) in
-    let none = nothing_made (form_of c.args.canonicalize) c.args.to.segment c.args.to.at (least.data_words + least.pointers) (g.A.BuilderArena.view c.args.arena.now) (g.A.BuilderArena.view c.make_struct.new.arena) c.args.lim.now c.args.lim.now c.in_err-start.field-0.0 c.requires.place c.requires.null
-    c.in_err-start.ensures.memory.named c.in_err-start.ensures.refused full in
-    let cut : SectionsCut (form_of c.args.canonicalize) (data_of g.B.ReaderArena c.args.value) (pointers_read g.B.ReaderArena c.args.value) c.args.value.pointer_count least = record { inside = c.args.value.inside; of_data = c.in_ok-kept.ensures.data; of_pointers = c.in_ok-kept.ensures.pointers } in
-    let makes = ap₂ (λ i j. i + j) c.in_ok-kept.ensures.data c.in_ok-kept.ensures.pointers in
-    let p = err_from_is_err_and c.from_residual-in_err-start.result c.from_residual-in_err-start.ensures.1 in
-    rw (p.1, p.2) (halfway (inl (
-      inl (least.data_words + least.pointers, refl, makes, (none.0, no_own_room (g.A.BuilderArena.view c.args.arena.now) c.args.to.segment (least.data_words + least.pointers) full)),
-      sections_large (form_of c.args.canonicalize) (data_of g.B.ReaderArena c.args.value) (pointers_read g.B.ReaderArena c.args.value) c.args.value.pointer_count (length (segment (g.A.BuilderArena.view c.args.arena.now).words c.args.to.segment)) ((g.A.BuilderArena.view c.args.arena.now).room c.args.to.segment)
-          (no_sections_room c.args.to.segment (g.A.BuilderArena.view c.args.arena.now) (form_of c.args.canonicalize) cut full),
-    )) none.1)
+pub returns-in_err-start-clause-copies : goal.returns-in_err-start-clause-copies
+returns-in_err-start-clause-copies g c =
+    record {
+      copied = (let p = err_from_is_err_and c.from_residual-in_err-start.result c.from_residual-in_err-start.ensures.1 in rw p.1 tt);
+      refused = (let least = c.in_ok-kept.kept in
+          let full : HasRoom (g.A.BuilderArena.view c.args.arena.now) c.args.to.segment (least.data_words + least.pointers) → ⊥ = λ room. absurd (false≢true (c.in_err-start.ensures.memory.fits room)) in
+          let none = nothing_made (form_of c.args.canonicalize) c.args.to.segment c.args.to.at (least.data_words + least.pointers) (g.A.BuilderArena.view c.args.arena.now) (g.A.BuilderArena.view c.make_struct.new.arena) c.args.lim.now c.args.lim.now c.in_err-start.field-0.0 c.requires.place c.requires.null
+          c.in_err-start.ensures.memory.named c.in_err-start.ensures.refused full in
+          let cut : SectionsCut (form_of c.args.canonicalize) (data_of g.B.ReaderArena c.args.value) (pointers_read g.B.ReaderArena c.args.value) c.args.value.pointer_count least = record { inside = c.args.value.inside; of_data = c.in_ok-kept.ensures.data; of_pointers = c.in_ok-kept.ensures.pointers } in
+          let makes = ap₂ (λ i j. i + j) c.in_ok-kept.ensures.data c.in_ok-kept.ensures.pointers in
+          let p = err_from_is_err_and c.from_residual-in_err-start.result c.from_residual-in_err-start.ensures.1 in
+          rw (p.1, p.2) (halfway (inl (
+            inl (least.data_words + least.pointers, refl, makes, (none.0, no_own_room (g.A.BuilderArena.view c.args.arena.now) c.args.to.segment (least.data_words + least.pointers) full)),
+            sections_large (form_of c.args.canonicalize) (data_of g.B.ReaderArena c.args.value) (pointers_read g.B.ReaderArena c.args.value) c.args.value.pointer_count (length (segment (g.A.BuilderArena.view c.args.arena.now).words c.args.to.segment)) ((g.A.BuilderArena.view c.args.arena.now).room c.args.to.segment)
+                (no_sections_room c.args.to.segment (g.A.BuilderArena.view c.args.arena.now) (form_of c.args.canonicalize) cut full),
+          )) none.1));
+      taken = (let least = c.in_ok-kept.kept in
+          let p = err_from_is_err_and c.from_residual-in_err-start.result c.from_residual-in_err-start.ensures.1 in
+          rw p.1 (inl (refl, made_none (none_refused (g.A.BuilderArena.view c.args.arena.now) (g.A.BuilderArena.view c.make_struct.new.arena) (least.data_words + least.pointers) c.in_err-start.field-0.0 c.in_err-start.ensures.memory.named c.in_err-start.ensures.refused))));
+    }
 
 -- The struct is made, and its data words are written.
 
@@ -84,19 +95,6 @@ copy_children-requires g c =
       nulls = rw (c.from.ensures, c.from-pointers.ensures) (record { room = sections_fit begun; null = sections_null begun });
       inside = rw c.from-pointers.ensures (sections_inside begun);
     }
-
--- What is taken.
-
-pub returns-in_err-kept-clause-taken : goal.returns-in_err-kept-clause-taken
-returns-in_err-kept-clause-taken g c =
-    let p = err_from_is_err_and c.from_residual.result c.from_residual.ensures.1 in
-    rw p.1 (inl (refl, made_none (none_itself (g.A.BuilderArena.view c.args.arena.now))))
-
-pub returns-in_err-start-clause-taken : goal.returns-in_err-start-clause-taken
-returns-in_err-start-clause-taken g c =
-    let least = c.in_ok-kept.kept in
-    let p = err_from_is_err_and c.from_residual-in_err-start.result c.from_residual-in_err-start.ensures.1 in
-    rw p.1 (inl (refl, made_none (none_refused (g.A.BuilderArena.view c.args.arena.now) (g.A.BuilderArena.view c.make_struct.new.arena) (least.data_words + least.pointers) c.in_err-start.field-0.0 c.in_err-start.ensures.memory.named c.in_err-start.ensures.refused)))
 
 -- The copy of its pointers ends it.
 
@@ -133,8 +131,10 @@ returns g c =
       empty = c.in_ok-start.ensures.empty;
     } in
     record {
-      copied = ok_so c.copy_children.result c.copy_children.ensures.copied (λ x made. sections_copied begun (rw (c.from.ensures, c.from-pointers.ensures, nl, c.of-form.ensures) at made));
       wide = λ k large. absurd (omega (arith, large.0, c.in_ok-kept.ensures.narrow));
-      refused = err_so c.copy_children.result c.copy_children.ensures.refused (λ k stop. sections_stop begun (rw (c.from.ensures, c.from-pointers.ensures, nl, c.of-form.ensures) at stop));
-      taken = taken_so c.copy_children.result _ _ _ _ (λ x. sections_behind ws r value.pointer_count size.pointers (size.data_words + size.pointers) _ _ _ _ _ _ _ _ value.inside c.in_ok-kept.ensures.pointers begins less (all_within over last x)) (λ x. sections_stop_behind ws r value.pointer_count size.pointers (size.data_words + size.pointers) _ _ _ _ _ _ _ _ pointers_kept begins less (among_within (omega arith) over last x)) (rw (c.of-form.ensures, nl, c.from-pointers.ensures) at c.copy_children.ensures.taken);
+      copies = record {
+        copied = ok_so c.copy_children.result c.copy_children.ensures.copied (λ x made. sections_copied begun (rw (c.from.ensures, c.from-pointers.ensures, nl, c.of-form.ensures) at made));
+        refused = err_so c.copy_children.result c.copy_children.ensures.refused (λ k stop. sections_stop begun (rw (c.from.ensures, c.from-pointers.ensures, nl, c.of-form.ensures) at stop));
+        taken = taken_so c.copy_children.result _ _ _ _ (λ x. sections_behind ws r value.pointer_count size.pointers (size.data_words + size.pointers) _ _ _ _ _ _ _ _ value.inside c.in_ok-kept.ensures.pointers begins less (all_within over last x)) (λ x. sections_stop_behind ws r value.pointer_count size.pointers (size.data_words + size.pointers) _ _ _ _ _ _ _ _ pointers_kept begins less (among_within (omega arith) over last x)) (rw (c.of-form.ensures, nl, c.from-pointers.ensures) at c.copy_children.ensures.taken);
+      };
     }
