@@ -26,10 +26,10 @@ check_read : {S : Segments} {options : ReaderOptions} {r : Reading} {m : Meter} 
     → (IsTrue b ↔ IsCanonicalAt r 1) → (IsTrue b → IsFound r (progress 1 m) to) → CheckOf S options b
 check_read {options = options} {to = to} true root same found =
     let (t, finds) = moved (λ r m. IsFound r (progress 1 m) to) root (found refl) in
-    (t, record { stands = finds.stands; levels = finds.levels; covered = covers_root options.traversal_limit_in_words (charge t) root.covers.covered finds.paid.covers })
+    (t, finds.stands, finds.levels, covers_root options.traversal_limit_in_words (charge t) root.covers.covered finds.paid.covers)
 check_read {S = S} {options = options} false root same found =
     let never : IsCanonicalAt (root_within S options) 1 → false ≡ true = moved (λ r m. IsCanonicalAt r 1 → false ≡ true) root same.1 in
-    record { at_root = root.covers; none = λ t stands. (let wrong : false ≡ true = never (t, stands) in cc) }
+    (root.covers, λ t stands. (let wrong : false ≡ true = never (t, stands) in cc))
 
 pub check_answers : {S : Segments} {options : ReaderOptions} {r : Reading} {m : Meter} (result : Result Bool ErrorKind) (to : Progress) → AtRoot S options r m
     → IfOk result (λ b. IsTrue b ↔ IsCanonicalAt r 1) → IfOk result (λ b. IsTrue b → IsFound r (progress 1 m) to) → IfOk result (CheckOf S options)
@@ -45,7 +45,7 @@ check_refused {m' = m'} {k = k} root stops = inr (root.covers, (m', moved (λ r 
 pub check_answered : {S : Segments} {options : ReaderOptions} {r : Reading} {m : Meter} (result : Result Bool ErrorKind) (after : Meter) → AtRoot S options r m
     → IfErr result (λ k. TestStops k r (progress 1 m) after) → CheckOf S options true → IsOk result
 check_answered (Ok b) after root stops canonical = refl
-check_answered {S = S} {options = options} (Err k) after root stops (t, canonical) =
-    let there : 1 ≤ length (segment S 0) = omega (arith, canonical.stands.0) in
+check_answered {S = S} {options = options} (Err k) after root stops (t, stands, levels, covered) =
+    let there : 1 ≤ length (segment S 0) = omega (arith, stands.0) in
     let stopped = moved (λ r m. TestStops k r (progress 1 m) after) root stops in
-    absurd (stops_never stopped (t, canonical.stands, for_offset t (1 ≤ length (segment S 0)) there, canonical.levels, covers_rest options.traversal_limit_in_words (charge t) canonical.covered))
+    absurd (stops_never stopped (t, stands, for_offset t (1 ≤ length (segment S 0)) there, levels, covers_rest options.traversal_limit_in_words (charge t) covered))

@@ -1,11 +1,13 @@
 -- What the commands on frames answer and refuse follows from the lines that they are given.
-use Rattle.std.proofs.Common.{◌≡◌, ℕ, ◌<◌, ◌≤◌, List, [], ◌∷◌, ◌∙◌, length, slice_get, Some, sym, ap, subst, arith, length-append}
+use Rattle.std.proofs.Common.{◌≡◌, inl, inr, ℕ, ◌<◌, ◌≤◌, List, [], ◌∷◌, ◌∙◌, length, slice_get, Some, sym, ap, subst, arith, length-append}
 use Rattle.capnp_format.specs.Segments.{Segments}
 use Rattle.capnp_framing.specs.Reading.{NoFrame}
 use Rattle.capnp_framing.proofs.FrameLemmas.{one_frame_begins}
 use Rattle.capnp_framing.proofs.ReadingLemmas.{frame_is_read}
 use Rattle.capnp_layout.specs.declared.tool.refusal.Refusal.{Refusal}
-use Rattle.capnp_layout.specs.Commands.{HoldsFrame, RefusesFrame, empty_line, max_frame_words, no_frame, no_line}
+use Rattle.capnp_arena_traits.specs.Limits.{IsSmall}
+use Rattle.capnp_framing.specs.Frames.{max_frame_segments}
+use Rattle.capnp_layout.specs.Commands.{HoldsFrame, RefusesFrame, RefusesToFrame, beyond_limits, empty_line, max_frame_words, no_frame, no_line, wrong_number}
 
 -- the only line
 pub only_line : (lines : List (List ℕ)) (line : List ℕ) → length lines ≤ 1 → slice_get lines 0 ≡ Some line → lines ≡ line ∷ []
@@ -38,3 +40,9 @@ pub one_message : {lines : List (List ℕ)} {S R : Segments} → HoldsFrame line
 one_message {S = S} {R = R} a b =
     let same : a.line ≡ b.line = (let lines : a.line ∷ [] ≡ b.line ∷ [] = sym a.only ∙ b.only in cc) in
     (one_frame_begins S R a.begins.front b.begins.front a.begins.behind b.begins.behind a.begins.framed b.begins.framed (sym a.begins.is ∙ same ∙ b.begins.is)).0
+
+-- as many segments as a frame holds are not refused one
+pub count_not_refused : {lines : List (List ℕ)} {r : Refusal} → IsSmall lines → (1 ≤ length lines) × (length lines ≤ max_frame_segments) → RefusesToFrame lines r → ⊥
+count_not_refused small few (beyond_limits named large) = large small
+count_not_refused small few (wrong_number e named (inl (is, none))) = omega (arith, few.0, none)
+count_not_refused small few (wrong_number e named (inr (is, many))) = omega (arith, few.1, many)

@@ -1,28 +1,27 @@
 -- What a run answers follows from what it read.
-use Rattle.std.proofs.Common.{◌≡◌, refl, inl, inr, ℕ, List, Option, Some, None, IfSome, sym, ap, ◌∙◌, subst}
+use Rattle.std.proofs.Common.{◌≡◌, ◌≢◌, ◌⊎◌, refl, inl, inr, ℕ, List, Option, Some, None, IfSome, IsSomeAnd, Result, Ok, Err, OnOk, OnErr, true, false, sym, ap, ◌∙◌, subst, arith}
 use Rattle.capnp_words.specs.declared.error.ErrorKind.{ErrorKind}
 use Rattle.capnp_words.specs.declared.error.ErrorKind.TheVariants.{AllocationFailed}
 use Rattle.capnp_format.specs.Bytes.{message}
 use Rattle.capnp_arena_traits.specs.Allocations.{one_more}
 use Rattle.capnp_arena_traits.specs.Limits.{IsSmall}
 use Rattle.capnp_arena.specs.declared.arena.reader_arena_impl.ReaderOptions.{ReaderOptions}
+use Rattle.capnp_framing.specs.Writing.{Prints, Writes}
+use Rattle.capnp_framing.specs.declared.devices.Output.{Ghosts}
 use Rattle.capnp_layout.specs.declared.tool.args.Args.{Args}
 use Rattle.capnp_layout.specs.declared.tool.args.Args.TheVariants.{Canon}
 use Rattle.capnp_layout.specs.declared.tool.engine.Outcome.{Outcome}
-use Rattle.capnp_layout.specs.declared.tool.engine.Outcome.TheVariants.{Done, Refused as RefusedOutcome, WriteFailed}
+use Rattle.capnp_layout.specs.declared.tool.engine.Outcome.TheVariants.{Done, Refused as RefusedOutcome, BadInput, WriteFailed}
+use Rattle.capnp_layout.specs.declared.tool.refusal.Refusal.{Refusal}
+use Rattle.capnp_layout.specs.declared.tool.refusal.Refusal.TheVariants.{Layout}
 use Rattle.capnp_layout.specs.Lines.{segments_of}
 use Rattle.capnp_layout.specs.Refusals.{refusal_line}
-use Rattle.capnp_layout.specs.declared.tool.refusal.Refusal.TheVariants.{Layout}
-use Rattle.capnp_layout.specs.Runs.{HasMoreLines, IsBadInput, WhereItIsAnswered, WritesCountedRefusal}
+use Rattle.capnp_layout.specs.Runs.{AreLinesOf, IsBadInput, IsForMemoryOr, Responds, Run, TextHasAnswer}
 use Rattle.capnp_messages.specs.Messages.{RefusesCanon}
 use Rattle.capnp_messages.proofs.AnsweredLemmas.{copy_lacks_memory}
-use Rattle.capnp_layout.specs.Answers.{IsDoneOr, IsRefusedOutcome, RefusesMessage}
+use Rattle.capnp_layout.specs.Answers.{RefusesMessage}
 use Rattle.capnp_messages.specs.Copies.{LacksMemoryOr}
-use Rattle.capnp_layout.specs.Commands.{AnswersRefusal, HasAnswer, IsWithin, WantsMemory, WhereAnswered}
-
-pub if_some : {X : Type 0} (P : X → Type 0) (o : Option X) → ((x : X) → P x) → IfSome o P
-if_some P (Some x) f = f x
-if_some P None f = tt
+use Rattle.capnp_layout.specs.Commands.{HasAnswer, HasMoreLines, IsAnswer, IsWithin, WhyRefused}
 
 -- what refuses a message, or the memory that it lacks, refuses its segments
 pub refuses_segments : (options : ReaderOptions) (segments : List (List ℕ)) {old new : ℕ} {k : ErrorKind}
@@ -39,32 +38,112 @@ only_memory options segments small has (inr (inl (named, large), same)) = absurd
 only_memory options segments small has (inr (inr refused, same)) =
     copy_lacks_memory (message segments) options has (inr (refused, same))
 
--- what refuses a copy of what segments mean, or the memory that it lacks, is what `canon` and `framed-canon` answer
-pub answers_copy : {old new : ℕ} {k : ErrorKind} (options : ReaderOptions) (lines : List (List ℕ)) (P : List ℕ → Type 0) → LacksMemoryOr old new k (RefusesMessage lines (Canon options) k) → P (refusal_line (Layout k)) → AnswersRefusal lines (Canon options) old new P
-answers_copy options lines P (inl (named, risen)) written = inl (risen, subst (λ (k : ErrorKind). P (refusal_line (Layout k))) named written)
-answers_copy {k = k} options lines P (inr (refused, same)) written = inr ((Layout k, (k, refl, refused), written), same)
+-- what refuses a copy of what segments mean, or the memory that it lacks, is why `canon` refuses them
+pub copy_refusal : {old new : ℕ} {k : ErrorKind} (options : ReaderOptions) (lines : List (List ℕ))
+    → LacksMemoryOr old new k (RefusesMessage lines (Canon options) k) → IsForMemoryOr old new (Layout k) (WhyRefused lines (Canon options) (Layout k))
+copy_refusal options lines (inl (named, risen)) = inl (ap Layout named, risen)
+copy_refusal {k = k} options lines (inr (refused, same)) = inr ((k, refl, refused), same)
 
--- what refuses the lines of a text refuses the text
-pub text_refused : (text : Option (List ℕ)) (args : Args) (lines : List (List ℕ)) (P : List ℕ → Type 0) {old mid new : ℕ}
-    → IfSome text (λ t. segments_of t ≡ Some lines) → mid ≡ old → AnswersRefusal lines args mid new P → WritesCountedRefusal text args old new P
-text_refused None args lines P held kept refusal = tt
-text_refused (Some text) args lines P held kept (inl (risen, written)) = (Layout AllocationFailed, inl (refl, risen ∙ ap one_more kept), written)
-text_refused (Some text) args lines P held kept (inr ((r, why, written), same)) = (r, inr ((lines, held, why), same ∙ kept), written)
+-- a run of these parts
+abbrev pub run_of : List (List ℕ) → Args → Outcome → ℕ → ℕ → Run
+run_of lines args outcome before after = record { lines = lines; args = args; outcome = outcome; before = before; after = after }
+
+-- a run whose answer was written, or whose output failed
+pub answered_run : {W A E : Type 0} (g : Ghosts W) (from to : W) {lines : List (List ℕ)} {args : Args} {outcome : Outcome} {before after : ℕ}
+    (written : Result A E) (answer : List ℕ) → Writes g written from to answer → OnOk written (outcome ≡ Done) → OnErr written (outcome ≡ WriteFailed)
+    → IsWithin args lines → after ≡ before → IsAnswer lines args answer → Responds g from to (run_of lines args outcome before after)
+answered_run g from to (Ok x) answer writes is failed within same answers = record {
+  done = λ _. (within, same, (answer, answers, writes.written));
+  refused = λ wrong. absurd (let e : Done ≡ RefusedOutcome = sym is ∙ wrong in cc);
+  answered = λ _ _. inl is;
+  unread = λ wrong. absurd (let e : Done ≡ BadInput = sym is ∙ wrong in cc);
+  works = λ _. writes.works;
+  failed = λ wrong. absurd (let e : Done ≡ WriteFailed = sym is ∙ wrong in cc);
+}
+answered_run g from to (Err e) answer writes is failed within same answers = record {
+  done = λ wrong. absurd (let e : WriteFailed ≡ Done = sym failed ∙ wrong in cc);
+  refused = λ wrong. absurd (let e : WriteFailed ≡ RefusedOutcome = sym failed ∙ wrong in cc);
+  answered = λ _ _. inr (inl failed);
+  unread = λ wrong. absurd (let e : WriteFailed ≡ BadInput = sym failed ∙ wrong in cc);
+  works = λ wrong. absurd (wrong failed);
+  failed = λ _. writes.fails;
+}
+
+-- a run that is refused, with the line of the refusal, or whose output failed
+pub refused_run : {W : Type 0} (g : Ghosts W) (from to : W) {lines : List (List ℕ)} {args : Args} {outcome : Outcome} {before after : ℕ} (r : Refusal)
+    → (outcome ≡ RefusedOutcome) ⊎ (outcome ≡ WriteFailed) → (outcome ≡ RefusedOutcome → Prints g from to (refusal_line r))
+    → (outcome ≡ RefusedOutcome → g.has_failed to ≡ false) → (outcome ≡ WriteFailed → g.has_failed to ≡ true)
+    → IsForMemoryOr before after r (WhyRefused lines args r)
+    → (IsWithin args lines → HasAnswer lines args → (r ≡ Layout AllocationFailed) × (after ≡ one_more before))
+    → Responds g from to (run_of lines args outcome before after)
+refused_run g from to r (inl is) written works failed why memory = record {
+  done = λ wrong. absurd (let e : RefusedOutcome ≡ Done = sym is ∙ wrong in cc);
+  refused = λ _. (r, written is, why);
+  answered = λ within has.
+      let (named, risen) = memory within has in
+      inr (inr (is, risen, subst (λ (x : Refusal). Prints g from to (refusal_line x)) named (written is)));
+  unread = λ wrong. absurd (let e : RefusedOutcome ≡ BadInput = sym is ∙ wrong in cc);
+  works = λ _. works is;
+  failed = failed;
+}
+refused_run g from to r (inr is) written works failed why memory = record {
+  done = λ wrong. absurd (let e : WriteFailed ≡ Done = sym is ∙ wrong in cc);
+  refused = λ wrong. absurd (let e : WriteFailed ≡ RefusedOutcome = sym is ∙ wrong in cc);
+  answered = λ _ _. inr (inl is);
+  unread = λ wrong. absurd (let e : WriteFailed ≡ BadInput = sym is ∙ wrong in cc);
+  works = λ wrong. absurd (wrong is);
+  failed = failed;
+}
+
+-- a run of a command that is known by another name
+pub named_run : {W : Type 0} (g : Ghosts W) (from to : W) {lines : List (List ℕ)} {args other : Args} {outcome : Outcome} {before after : ℕ}
+    → args ≡ other → Responds g from to (run_of lines other outcome before after) → Responds g from to (run_of lines args outcome before after)
+named_run g from to {lines} {outcome = outcome} {before} {after} same responds =
+    subst (λ (a : Args). Responds g from to (run_of lines a outcome before after)) (sym same) responds
+
+-- so of one that counts nothing, beside an allocator that has counted n
+pub uncounted_run : {W : Type 0} (g : Ghosts W) (from to : W) {lines : List (List ℕ)} {args other : Args} {outcome : Outcome} (n : ℕ)
+    → args ≡ other → Responds g from to (run_of lines other outcome 0 0) → Responds g from to (run_of lines args outcome n n)
+uncounted_run g from to {lines} {args} {other} {outcome} n same responds = named_run g from to same (record {
+  done = λ is. (let all = responds.done is in (all.0, refl, all.2));
+  refused = λ is. (let all = responds.refused is in (all.0, all.1, counted all.0 all.2));
+  answered = λ within has. ends (responds.answered within has);
+  unread = λ is. (let all = responds.unread is in (all.0, refl, all.2));
+  works = responds.works;
+  failed = responds.failed;
+})
+  where
+    never : 0 ≡ one_more 0 → ⊥
+    never risen = cc
+
+    counted : (r : Refusal) → IsForMemoryOr 0 0 r (WhyRefused lines other r) → IsForMemoryOr n n r (WhyRefused lines other r)
+    counted r (inl (named, risen)) = absurd (never risen)
+    counted r (inr (why, same)) = inr (why, refl)
+
+    ends : (outcome ≡ Done) ⊎ (outcome ≡ WriteFailed) ⊎ ((outcome ≡ RefusedOutcome) × (0 ≡ one_more 0) × Prints g from to (refusal_line (Layout AllocationFailed))) →
+        (outcome ≡ Done) ⊎ (outcome ≡ WriteFailed) ⊎ ((outcome ≡ RefusedOutcome) × (n ≡ one_more n) × Prints g from to (refusal_line (Layout AllocationFailed)))
+    ends (inl done) = inl done
+    ends (inr (inl failed)) = inr (inl failed)
+    ends (inr (inr (is, risen, printed))) = absurd (never risen)
+
+-- the lines of a text that is known are those that were read
+lines_read : (text : Option (List ℕ)) (args : Args) (lines : List (List ℕ)) → AreLinesOf text lines → TextHasAnswer text args
+    → IsWithin args lines × HasAnswer lines args
+lines_read None args lines held has = absurd has
+lines_read (Some text) args lines held (given, found, within, answered) =
+    let same : given ≡ lines = (let both : Some given ≡ Some lines = sym found ∙ held in cc) in
+    (subst (IsWithin args) same within, subst (λ (ls : List (List ℕ)). HasAnswer ls args) same answered)
 
 -- where the lines of a text have an answer, memory alone is refused
-pub wants_memory : (text : Option (List ℕ)) (args : Args) (lines : List (List ℕ)) (outcome : Outcome) (P : List ℕ → Type 0) {old mid new : ℕ}
-    → IfSome text (λ t. segments_of t ≡ Some lines) → mid ≡ old → WhereAnswered lines args (IsDoneOr outcome (WantsMemory mid new P)) → IsRefusedOutcome outcome → WhereItIsAnswered text args (WantsMemory old new P)
-wants_memory None args lines outcome P held kept exactly refused = tt
-wants_memory (Some text) args lines outcome P {old} {mid} {new} held kept exactly refused = λ given found within answered.
-    let same : given ≡ lines = (let both : Some given ≡ Some lines = sym found ∙ held in cc) in
-    memory (exactly (subst (IsWithin args) same within) (subst (λ (ls : List (List ℕ)). HasAnswer ls args) same answered))
+pub text_memory : (text : Option (List ℕ)) {W : Type 0} (g : Ghosts W) (from to : W) {lines : List (List ℕ)} {args : Args} {outcome : Outcome} {first before after : ℕ}
+    → AreLinesOf text lines → Responds g from to (run_of lines args outcome before after) → before ≡ first → TextHasAnswer text args → outcome ≡ RefusedOutcome
+    → (after ≡ one_more first) × Prints g from to (refusal_line (Layout AllocationFailed))
+text_memory text g from to {lines} {args} {outcome} {first} {before} {after} held responds same has refused =
+    let (within, answered) = lines_read text args lines held has in
+    memory (responds.answered within answered)
   where
-    memory : IsDoneOr outcome (WantsMemory mid new P) → WantsMemory old new P
+    memory : (outcome ≡ Done) ⊎ (outcome ≡ WriteFailed) ⊎ ((outcome ≡ RefusedOutcome) × (after ≡ one_more before) × Prints g from to (refusal_line (Layout AllocationFailed))) →
+        (after ≡ one_more first) × Prints g from to (refusal_line (Layout AllocationFailed))
     memory (inl done) = absurd (let wrong : RefusedOutcome ≡ Done = sym refused ∙ done in cc)
     memory (inr (inl failed)) = absurd (let wrong : RefusedOutcome ≡ WriteFailed = sym refused ∙ failed in cc)
-    memory (inr (inr (again, wants))) = (wants.0 ∙ ap one_more kept, wants.1)
-
--- a text of more lines than a command takes is bad input
-pub bad_lines : (text : Option (List ℕ)) (args : Args) (lines : List (List ℕ)) → IfSome text (λ t. segments_of t ≡ Some lines) → HasMoreLines args lines → IsBadInput text args
-bad_lines None args lines held more = tt
-bad_lines (Some text) args lines held more = inr (lines, held, more)
+    memory (inr (inr (is, risen, printed))) = (risen ∙ ap one_more same, printed)

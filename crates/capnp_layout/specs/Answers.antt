@@ -1,4 +1,4 @@
--- What the program says of a message, and the line that it then prints.
+-- What the program says of a message, and why it refuses one.
 use Rattle.std.specs.Prelude.{◌≡◌, ◌⊎◌, ℕ, ◌+◌, ◌-◌, ◌^◌, ◌≤◌, List, [], ◌∷◌, ◌++◌, Bool, true}
 use Rattle.std.specs.Prelude.{false, Option}
 use Rattle.std.specs.Int.{to_le_bytes, w64}
@@ -11,14 +11,9 @@ use Rattle.capnp_format.specs.Tree.{Tree, depth}
 use Rattle.capnp_format.specs.Canonical.{charge, Stands}
 use Rattle.capnp_words.specs.Meter.{Meter, FitsIn, unused}
 use Rattle.capnp_arena_traits.specs.Limits.{IsSmall}
-use Rattle.capnp_arena_traits.specs.View.{View}
 use Rattle.capnp_arena.specs.declared.arena.reader_arena_impl.ReaderOptions.{ReaderOptions}
 use Rattle.capnp_layout.specs.declared.tool.args.Args.{Args}
-use Rattle.capnp_layout.specs.declared.tool.args.Args.TheVariants.{Canon, Check, Size}
-use Rattle.capnp_layout.specs.declared.tool.engine.Outcome.{Outcome}
-use Rattle.capnp_layout.specs.declared.tool.engine.Outcome.TheVariants.{Done}
-use Rattle.capnp_layout.specs.declared.tool.engine.Outcome.TheVariants.{Refused as RefusedOutcome}
-use Rattle.capnp_layout.specs.declared.tool.engine.Outcome.TheVariants.{WriteFailed}
+use Rattle.capnp_layout.specs.declared.tool.args.Args.TheVariants.{Canon, Check, Size, FramedCanon}
 use Rattle.capnp_objects.specs.Source.{levels}
 use Rattle.capnp_readers.specs.Checking.{progress, TestStops}
 use Rattle.capnp_messages.specs.Roots.{CoversRoot}
@@ -33,25 +28,15 @@ unfoldable pub digits_of : List ℕ → List ℕ
 digits_of [] = []
 digits_of (w ∷ ws) = word_digits w ++ digits_of ws
 
--- The canonical words of t stand at the root of a message, the first object right behind the root
--- pointer. t is no deeper than n levels, and the budget covers what reading them costs, and one
--- word for the root pointer.
-pub record IsCanonicalWithin (S : Segments) (n : ℕ) (budget : Option ℕ) (t : Tree) : Type 0 where
-  pub stands : Stands S 0 0 1 t
-  pub levels : depth t ≤ n
-  pub covered : FitsIn budget (1 + charge t)
-
--- No canonical words stand there, and the budget covers the word of the root pointer.
-pub record IsNotCanonical (S : Segments) (budget : Option ℕ) : Type 0 where
-  pub at_root : CoversRoot S budget
-  pub none : (t : Tree) → Stands S 0 0 1 t → ⊥
-
--- The test of a message says that canonical words stand at its root, within the limits of a reader's
--- options, or that none do.
+-- The test of a message says that canonical words stand at its root, the first object right behind
+-- the root pointer: of a value within the limits of a reader's options, which cover one word more for
+-- the root pointer. Or it says that none stand there, where the limits cover that word.
 abbrev pub CheckOf : Segments → ReaderOptions → Bool → Type 0
 CheckOf S options true =
-    (t : Tree) × IsCanonicalWithin S (levels options.nesting_limit) options.traversal_limit_in_words t
-CheckOf S options false = IsNotCanonical S options.traversal_limit_in_words
+    (t : Tree) × Stands S 0 0 1 t × (depth t ≤ levels options.nesting_limit)
+    × FitsIn options.traversal_limit_in_words (1 + charge t)
+CheckOf S options false =
+    CoversRoot S options.traversal_limit_in_words × ((t : Tree) → Stands S 0 0 1 t → ⊥)
 
 -- A command refuses a message by the name k: its canonical copy is refused; the test for canonical form at
 -- its root stops; its size is refused.
@@ -60,6 +45,7 @@ RefusesCommand (Canon options) S k = RefusesCanon S options k
 RefusesCommand (Check options) S k =
     RefusesAt S options k ((m : Meter) × TestStops k (root_within S options) (progress 1 (unused (left_of options))) m)
 RefusesCommand (Size options) S k = RefusesSize S options k
+RefusesCommand (FramedCanon options) S k = RefusesCanon S options k
 RefusesCommand _ S k = ⊥
 
 -- It refuses these segments so: there are too many, or one is too large, for a reader; or it refuses their
@@ -67,18 +53,3 @@ RefusesCommand _ S k = ⊥
 abbrev pub RefusesMessage : List (List ℕ) → Args → ErrorKind → Type 0
 RefusesMessage segments args k =
     ((k ≡ MessageTooLarge (2 ^ 64 - 1)) × (IsSmall segments → ⊥)) ⊎ RefusesCommand args (message segments) k
-
--- The words of a message of one segment are written as a line, of which P holds.
-abbrev pub AnswersWords : View → (List ℕ → Type 0) → Type 0
-AnswersWords made P = (words : List ℕ) → made.words ≡ words ∷ [] → P (digits_of words ++ 10 ∷ [])
-
--- How a run ends.
-abbrev pub IsDone : Outcome → Type 0
-IsDone outcome = outcome ≡ Done
-
-abbrev pub IsRefusedOutcome : Outcome → Type 0
-IsRefusedOutcome outcome = outcome ≡ RefusedOutcome
-
--- It is done, or the output failed, or it is refused and P holds.
-abbrev pub IsDoneOr : Outcome → Type 0 → Type 0
-IsDoneOr outcome P = IsDone outcome ⊎ (outcome ≡ WriteFailed) ⊎ (IsRefusedOutcome outcome × P)

@@ -4,14 +4,12 @@ use Rattle.std.specs.Prelude.{◌≡◌, ◌⊎◌, ◌↔◌, ℕ, ◌+◌, ◌
 use Rattle.std.specs.Prelude.{false, IsTrue, codes, length, ⊤}
 use Rattle.hex.specs.Hex.{encode_lower}
 use Rattle.capnp_words.specs.declared.error.ErrorKind.{ErrorKind}
-use Rattle.capnp_words.specs.declared.error.ErrorKind.TheVariants.{AllocationFailed, MessageTooLarge}
+use Rattle.capnp_words.specs.declared.error.ErrorKind.TheVariants.{MessageTooLarge}
 use Rattle.capnp_format.specs.Segments.{Segments}
 use Rattle.capnp_format.specs.Bytes.{message}
 use Rattle.capnp_format.specs.Tree.{Tree}
 use Rattle.capnp_format.specs.Canonical.{encoding, trim}
-use Rattle.capnp_arena_traits.specs.Allocations.{one_more}
 use Rattle.capnp_arena_traits.specs.Limits.{IsSmall}
-use Rattle.capnp_arena_traits.specs.View.{View}
 use Rattle.capnp_arena.specs.declared.arena.reader_arena_impl.ReaderOptions.{ReaderOptions}
 use Rattle.capnp_framing.specs.Flat.{BeginsWithFrame}
 use Rattle.capnp_framing.specs.Frames.{frame, max_frame_segments}
@@ -30,7 +28,6 @@ use Rattle.capnp_layout.specs.Answers.{CheckOf, RefusesMessage}
 use Rattle.capnp_messages.specs.Text.{check_line, size_line}
 use Rattle.capnp_layout.specs.Answers.{digits_of}
 use Rattle.capnp_messages.specs.CanonicalMessages.{IsCanonicalMessage}
-use Rattle.capnp_layout.specs.Refusals.{refusal_line}
 
 -- the line of a message's frame
 abbrev pub frame_line : Segments → List ℕ
@@ -60,11 +57,11 @@ pub record HoldsFrame (lines : List (List ℕ)) (S : Segments) : Type 0 where
 abbrev pub TellsCanonical : List (List ℕ) → Bool → Type 0
 TellsCanonical lines b = (S : Segments) × HoldsFrame lines S × (IsTrue b ↔ IsCanonicalMessage S)
 
--- A command takes one line at most, which holds a frame.
-abbrev pub TakesOneLine : Args → Type 0
-TakesOneLine Unframe = ⊤
-TakesOneLine (FramedCheck options) = ⊤
-TakesOneLine _ = ⊥
+-- A command that takes one line at most is given more.
+abbrev pub HasMoreLines : Args → List (List ℕ) → Type 0
+HasMoreLines Unframe lines = 2 ≤ length lines
+HasMoreLines (FramedCheck options) lines = 2 ≤ length lines
+HasMoreLines _ lines = ⊥
 
 -- Where a command takes lines as segments, these are within the limits of a reader.
 abbrev pub IsWithin : Args → List (List ℕ) → Type 0
@@ -72,23 +69,21 @@ IsWithin Unframe lines = ⊤
 IsWithin (FramedCheck options) lines = ⊤
 IsWithin _ lines = IsSmall lines
 
--- P holds of the lines that a command answers with.
-abbrev pub Answers : List (List ℕ) → Args → (List ℕ → Type 0) → Type 0
-Answers lines (Canon options) P =
-    (t : Tree) × IsValueOf (message lines) options t × P (digits_of (encoding (trim t)) ++ 10 ∷ [])
-Answers lines (Check options) P = (yes : Bool) × CheckOf (message lines) options yes × P (check_line yes)
-Answers lines (Size options) P =
-    (words : ℕ) × (caps : ℕ) × HasSizeOf (message lines) options words caps × P (size_line words caps)
-Answers lines Frame P =
-    (1 ≤ length lines) × (length lines ≤ max_frame_segments) × P (frame_line (message lines))
-Answers lines Unframe P = (S : Segments) × HoldsFrame lines S × P (segment_lines S)
-Answers lines (FramedCanon options) P =
-    (t : Tree) × IsValueOf (message lines) options t × P (frame_line (encoding (trim t) ∷ []))
-Answers lines (FramedCheck options) P = (yes : Bool) × TellsCanonical lines yes × P (message_line yes)
-
--- The frame of a message that was made is written as a line, of which P holds.
-abbrev pub AnswersFrame : View → (List ℕ → Type 0) → Type 0
-AnswersFrame made P = (S : Segments) → made.words ≡ S → P (frame_line S)
+-- What a command answers to lines.
+abbrev pub IsAnswer : List (List ℕ) → Args → List ℕ → Type 0
+IsAnswer lines (Canon options) answer =
+    (t : Tree) × IsValueOf (message lines) options t × (answer ≡ digits_of (encoding (trim t)) ++ 10 ∷ [])
+IsAnswer lines (Check options) answer =
+    (yes : Bool) × CheckOf (message lines) options yes × (answer ≡ check_line yes)
+IsAnswer lines (Size options) answer =
+    (words : ℕ) × (caps : ℕ) × HasSizeOf (message lines) options words caps × (answer ≡ size_line words caps)
+IsAnswer lines Frame answer =
+    (1 ≤ length lines) × (length lines ≤ max_frame_segments) × (answer ≡ frame_line (message lines))
+IsAnswer lines Unframe answer = (S : Segments) × HoldsFrame lines S × (answer ≡ segment_lines S)
+IsAnswer lines (FramedCanon options) answer =
+    (t : Tree) × IsValueOf (message lines) options t × (answer ≡ frame_line (encoding (trim t) ∷ []))
+IsAnswer lines (FramedCheck options) answer =
+    (yes : Bool) × TellsCanonical lines yes × (answer ≡ message_line yes)
 
 -- Wherever this holds there is an answer: there is a value whose canonical words fit a segment;
 -- canonical words; a size; as many segments as a frame holds; a frame; and, where that is of one
@@ -105,10 +100,6 @@ HasAnswer lines (FramedCanon options) =
 HasAnswer lines (FramedCheck options) =
     (S : Segments) × HoldsFrame lines S × (length S ≡ 1 → IsReadable S options)
 
--- P holds wherever the lines are within the limits, and have an answer.
-abbrev pub WhereAnswered : List (List ℕ) → Args → Type 0 → Type 0
-WhereAnswered lines args P = IsWithin args lines → HasAnswer lines args → P
-
 -- Segments have no frame: one is too large or there are too many for a reader, or there is none or
 -- too many for a frame.
 pub data RefusesToFrame (lines : List (List ℕ)) (r : Refusal) : Type 0 where
@@ -124,34 +115,12 @@ pub data RefusesFrame (lines : List (List ℕ)) (r : Refusal) : Type 0 where
   no_frame : (line : List ℕ) (e : FrameError) → r ≡ NoFrameFor e → lines ≡ line ∷ [] →
       NoFrame line max_frame_words e → RefusesFrame lines r
 
--- The message whose frame the only line holds has one segment, and its test is refused.
-abbrev pub RefusesFramedTest : List (List ℕ) → ReaderOptions → Refusal → Type 0
-RefusesFramedTest lines options r =
-    (S : Segments) × HoldsFrame lines S × ((k : ErrorKind) × (r ≡ Layout k) × RefusesCheck S options k)
-
--- The message is refused as a command refuses it that reads a value.
-abbrev pub RefusesLines : List (List ℕ) → Args → Refusal → Type 0
-RefusesLines lines args r = (k : ErrorKind) × (r ≡ Layout k) × RefusesMessage lines args k
-
--- Why a command refuses lines. The frame of a canonical copy is refused where the copy is.
+-- Why a command refuses lines: as no frame, or none that is read; the frame that is read is that of a
+-- message of one segment whose test is refused; else as a message that the command reads.
 abbrev pub WhyRefused : List (List ℕ) → Args → Refusal → Type 0
-WhyRefused lines (Canon options) r = RefusesLines lines (Canon options) r
-WhyRefused lines (Check options) r = RefusesLines lines (Check options) r
-WhyRefused lines (Size options) r = RefusesLines lines (Size options) r
 WhyRefused lines Frame r = RefusesToFrame lines r
 WhyRefused lines Unframe r = RefusesFrame lines r
-WhyRefused lines (FramedCanon options) r = RefusesLines lines (Canon options) r
-WhyRefused lines (FramedCheck options) r = RefusesFrame lines r ⊎ RefusesFramedTest lines options r
-
--- Lines are refused, and P holds of the line that names the refusal.
-abbrev pub NamesRefusal : List (List ℕ) → Args → (List ℕ → Type 0) → Type 0
-NamesRefusal lines args P = (r : Refusal) × WhyRefused lines args r × P (refusal_line r)
-
--- Memory was refused once more, from a count to another, and P holds of the line that says so.
-abbrev pub WantsMemory : ℕ → ℕ → (List ℕ → Type 0) → Type 0
-WantsMemory old new P = (new ≡ one_more old) × P (refusal_line (Layout AllocationFailed))
-
--- Memory was refused once more, or that is not so, and lines are refused; and P holds of the line
--- that names the refusal.
-abbrev pub AnswersRefusal : List (List ℕ) → Args → ℕ → ℕ → (List ℕ → Type 0) → Type 0
-AnswersRefusal lines args old new P = WantsMemory old new P ⊎ (NamesRefusal lines args P × (new ≡ old))
+WhyRefused lines (FramedCheck options) r =
+    RefusesFrame lines r ⊎
+    ((S : Segments) × HoldsFrame lines S × ((k : ErrorKind) × (r ≡ Layout k) × RefusesCheck S options k))
+WhyRefused lines args r = (k : ErrorKind) × (r ≡ Layout k) × RefusesMessage lines args k

@@ -1,49 +1,57 @@
--- What a run of the program reads, and why it is refused.
-use Rattle.std.specs.Prelude.{◌≡◌, ◌⊎◌, ℕ, ◌≤◌, List, Option, Some, None, IfSome, length}
+-- How a run of the program ends, by what it read and what it wrote.
+use Rattle.std.specs.Prelude.{◌≡◌, ◌≢◌, ◌⊎◌, ℕ, List, Option, Some, None, true, false, IfSome, IsSomeAnd}
 use Rattle.capnp_words.specs.declared.error.ErrorKind.TheVariants.{AllocationFailed}
 use Rattle.capnp_arena_traits.specs.Allocations.{one_more}
+use Rattle.capnp_framing.specs.Writing.{Prints}
+use Rattle.capnp_framing.specs.declared.devices.Output.{Ghosts}
 use Rattle.capnp_layout.specs.declared.tool.args.Args.{Args}
+use Rattle.capnp_layout.specs.declared.tool.engine.Outcome.{Outcome}
+use Rattle.capnp_layout.specs.declared.tool.engine.Outcome.TheVariants.{Done, BadInput, WriteFailed}
+use Rattle.capnp_layout.specs.declared.tool.engine.Outcome.TheVariants.{Refused as RefusedOutcome}
 use Rattle.capnp_layout.specs.declared.tool.refusal.Refusal.{Refusal}
 use Rattle.capnp_layout.specs.declared.tool.refusal.Refusal.TheVariants.{Layout}
 use Rattle.capnp_layout.specs.Lines.{segments_of}
-use Rattle.capnp_layout.specs.Commands.{Answers, HasAnswer, IsWithin, TakesOneLine, WhyRefused}
+use Rattle.capnp_layout.specs.Commands.{HasAnswer, HasMoreLines, IsAnswer, IsWithin, WhyRefused}
 use Rattle.capnp_layout.specs.Refusals.{refusal_line}
 
--- A text that is known has lines within the limits, and P holds of what is answered to them.
-abbrev pub WritesAnswer : Option (List ℕ) → Args → (List ℕ → Type 0) → Type 0
-WritesAnswer text args P =
-    IfSome text (λ text. (lines : List (List ℕ)) × (segments_of text ≡ Some lines) ×
-    IsWithin args lines × Answers lines args P)
+-- A refusal says that memory was refused, once more, from a count to another; or that is not so, and
+-- P holds.
+abbrev pub IsForMemoryOr : ℕ → ℕ → Refusal → Type 0 → Type 0
+IsForMemoryOr old new r P = ((r ≡ Layout AllocationFailed) × (new ≡ one_more old)) ⊎ (P × (new ≡ old))
 
--- A text has lines that are refused so.
-abbrev pub TextIsRefused : List ℕ → Args → Refusal → Type 0
-TextIsRefused text args r =
-    (lines : List (List ℕ)) × (segments_of text ≡ Some lines) × WhyRefused lines args r
+-- A command that was given lines: how it ends, and how often memory was refused before and after.
+pub record Run : Type 0 where
+  pub lines : List (List ℕ)
+  pub args : Args
+  pub outcome : Outcome
+  pub before : ℕ
+  pub after : ℕ
 
--- A text that is known is refused, or memory was, and P holds of the line that names the refusal.
-abbrev pub WritesRefusal : Option (List ℕ) → Args → (List ℕ → Type 0) → Type 0
-WritesRefusal text args P =
-    IfSome text (λ text. (r : Refusal) ×
-    ((r ≡ Layout AllocationFailed) ⊎ TextIsRefused text args r) × P (refusal_line r))
+-- What a command has written, from one state of the output to another, when it ends. Wherever lines
+-- have an answer it is given, or the output has failed, or memory was refused.
+pub record Responds {W : Type 0} (g : Ghosts W) (from to : W) (run : Run) : Type 0 where
+  pub done : run.outcome ≡ Done → IsWithin run.args run.lines × (run.after ≡ run.before) ×
+      ((answer : List ℕ) × IsAnswer run.lines run.args answer × Prints g from to answer)
+  pub refused : run.outcome ≡ RefusedOutcome → (r : Refusal) × Prints g from to (refusal_line r) ×
+      IsForMemoryOr run.before run.after r (WhyRefused run.lines run.args r)
+  pub answered : IsWithin run.args run.lines → HasAnswer run.lines run.args →
+      (run.outcome ≡ Done) ⊎ (run.outcome ≡ WriteFailed) ⊎
+      ((run.outcome ≡ RefusedOutcome) × (run.after ≡ one_more run.before) ×
+      Prints g from to (refusal_line (Layout AllocationFailed)))
+  pub unread : run.outcome ≡ BadInput → HasMoreLines run.args run.lines ×
+      (run.after ≡ run.before) × (g.contents to ≡ g.contents from)
+  pub works : run.outcome ≢ WriteFailed → g.has_failed to ≡ false
+  pub failed : run.outcome ≡ WriteFailed → g.has_failed to ≡ true
 
--- The same, where refusals of memory are counted.
-abbrev pub IsCountedRefusal : List ℕ → Args → ℕ → ℕ → Refusal → Type 0
-IsCountedRefusal text args old new r =
-    ((r ≡ Layout AllocationFailed) × (new ≡ one_more old)) ⊎ (TextIsRefused text args r × (new ≡ old))
+-- These are the lines of a text, where it is known.
+abbrev pub AreLinesOf : Option (List ℕ) → List (List ℕ) → Type 0
+AreLinesOf text lines = IfSome text (λ text. segments_of text ≡ Some lines)
 
-abbrev pub WritesCountedRefusal : Option (List ℕ) → Args → ℕ → ℕ → (List ℕ → Type 0) → Type 0
-WritesCountedRefusal text args old new P =
-    IfSome text (λ text. (r : Refusal) × IsCountedRefusal text args old new r × P (refusal_line r))
-
--- P holds wherever a text that is known has lines within the limits that have an answer.
-abbrev pub WhereItIsAnswered : Option (List ℕ) → Args → Type 0 → Type 0
-WhereItIsAnswered text args P =
-    IfSome text (λ text. (lines : List (List ℕ)) → segments_of text ≡ Some lines →
-    IsWithin args lines → HasAnswer lines args → P)
-
--- A command that takes one line at most is given more.
-abbrev pub HasMoreLines : Args → List (List ℕ) → Type 0
-HasMoreLines args lines = TakesOneLine args × (2 ≤ length lines)
+-- A text is known, and has lines within the limits that have an answer.
+abbrev pub TextHasAnswer : Option (List ℕ) → Args → Type 0
+TextHasAnswer text args =
+    IsSomeAnd text (λ text. (lines : List (List ℕ)) × (segments_of text ≡ Some lines) ×
+    IsWithin args lines × HasAnswer lines args)
 
 -- A text that is known has a line that isn't pairs of hex digits, or more lines than a command takes.
 abbrev pub IsBadInput : Option (List ℕ) → Args → Type 0

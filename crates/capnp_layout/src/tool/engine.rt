@@ -1,18 +1,14 @@
 //! One run of the program: an input is read, and what a command answers is written.
-ghost use Rattle.std.specs.Prelude.{◌≡◌, ◌≢◌, ◌⊎◌, ◌∷◌, ◌++◌, [], ℕ, List, length, ◌≤◌, ◌+◌, true, false, Some, None, IfSome, OnOk, OnErr, IfOk, IfErr};
-ghost use Rattle.std.specs.Io.KnownBytes.{Keeps};
+ghost use Rattle.std.specs.Prelude.{◌≡◌, ◌≢◌, ◌⊎◌, ◌++◌, ℕ, List, true, false, None, IfSome, OnOk, OnErr, IfOk, IfErr};
 ghost use Rattle.capnp_arena_traits.specs.Allocations.{one_more};
+ghost use Rattle.capnp_words.specs.declared.error.ErrorKind.TheVariants.{AllocationFailed};
+ghost use Rattle.capnp_framing.specs.Writing.{Prints};
 ghost use Rattle.capnp_layout.specs.Lines.{segments_of};
 ghost use Rattle.capnp_layout.specs.Messages.{segments_in};
-ghost use Rattle.capnp_arena_traits.specs.Limits.{IsSmall};
-ghost use Rattle.capnp_words.specs.declared.error.ErrorKind.TheVariants.{AllocationFailed};
-ghost use Rattle.capnp_layout.specs.Answers.{AnswersWords, IsDone, IsDoneOr, IsRefusedOutcome, digits_of};
-ghost use Rattle.capnp_messages.specs.Copies.{LacksMemoryOr};
-ghost use Rattle.capnp_layout.specs.Commands.{Answers, AnswersRefusal, IsWithin, NamesRefusal, WantsMemory, WhereAnswered};
+ghost use Rattle.capnp_layout.specs.Commands.{IsAnswer, IsWithin, WhyRefused};
 ghost use Rattle.capnp_layout.specs.Refusals.{refusal_line};
-ghost use Rattle.capnp_framing.specs.Writing.{Prints};
-ghost use Rattle.capnp_layout.specs.Runs.{HasMoreLines, IsBadInput, WhereItIsAnswered, WritesAnswer, WritesCountedRefusal, WritesRefusal};
-ghost use Rattle.capnp_format.specs.Bytes.{message, words_of};
+ghost use Rattle.capnp_layout.specs.declared.tool.refusal.Refusal.{Refusal};
+ghost use Rattle.capnp_layout.specs.Runs.{AreLinesOf, TextHasAnswer, IsBadInput, IsForMemoryOr, Responds};
 
 use super::args::Args;
 use super::canon::canonical;
@@ -24,9 +20,7 @@ use super::refusal::Refusal;
 use super::size::size_of;
 use super::writing::{write_check, write_refusal, write_words};
 use crate::devices::{DeviceFault, Input, Output};
-use capnp_arena::arena::{
-    Allocator, BuilderArena, BuilderArenaImpl, ReaderArena, ReaderOptions, ReaderSegments,
-};
+use capnp_arena::arena::{Allocator, ReaderOptions, ReaderSegments};
 use capnp_messages::messages::{CopyMemory, canonical_bytes};
 use capnp_messages::text::write_size;
 use capnp_words::error::ErrorKind;
@@ -53,8 +47,7 @@ fn read_message<A: Allocator, R: Input>(
     input: &mut R,
 ) -> Result<Message, InputFault>
     requires { R.has_failed input.old ≡ false }
-    ensures segments { IfOk result (λ m. IfSome (R.remaining input.old)
-        (λ text. segments_of text ≡ Some (segments_in m))) }
+    ensures segments { IfOk result (λ m. AreLinesOf (R.remaining input.old) (segments_in m)) }
     ensures kept { OnOk result (A.refusals allocator.new ≡ A.refusals allocator.old) }
     ensures bad { IfErr result (λ e. e ≡ InputFault.BadInput
         → (R.has_failed input.new ≡ true)
@@ -71,6 +64,17 @@ fn read_message<A: Allocator, R: Input>(
     read_lines(alloc, allocator, text.as_slice())
 }
 
+/// A run that ends so where a text was written, and else by the output.
+pub(super) fn ended(written: Result<(), DeviceFault>, outcome: Outcome) -> Outcome
+    ensures written { OnOk written (result ≡ outcome) }
+    ensures failed { OnErr written (result ≡ Outcome.WriteFailed) }
+{
+    match written {
+        Ok(()) => outcome,
+        Err(DeviceFault) => Outcome::WriteFailed,
+    }
+}
+
 /// Writes the line of a refusal.
 pub(super) fn refuse<W: Output>(output: &mut W, refusal: Refusal) -> Outcome
     requires { W.has_failed output.old ≡ false }
@@ -80,27 +84,7 @@ pub(super) fn refuse<W: Output>(output: &mut W, refusal: Refusal) -> Outcome
     ensures works { result ≡ Outcome.Refused → W.has_failed output.new ≡ false }
     ensures failed { result ≡ Outcome.WriteFailed → W.has_failed output.new ≡ true }
 {
-    match write_refusal(output, refusal) {
-        Ok(()) => Outcome::Refused,
-        Err(DeviceFault) => Outcome::WriteFailed,
-    }
-}
-
-/// Writes the words of a message of one segment as a line.
-fn answer<A: Allocator, W: Output>(output: &mut W, made: &BuilderArenaImpl<A>) -> Outcome
-    requires works { W.has_failed output.old ≡ false }
-    requires single { length (⟦<BuilderArenaImpl<A> as ReaderArena>⟧.segments made.now) ≡ 1 }
-    ensures either { (result ≡ Outcome.Done) ⊎ (result ≡ Outcome.WriteFailed) }
-    ensures written { result ≡ Outcome.Done
-        → AnswersWords (⟦<BuilderArenaImpl<A> as BuilderArena>⟧.view made.now)
-        (Prints W.Output output.old output.new) }
-    ensures works { result ≡ Outcome.Done → W.has_failed output.new ≡ false }
-    ensures failed { result ≡ Outcome.WriteFailed → W.has_failed output.new ≡ true }
-{
-    match write_words(output, canonical_bytes(made)) {
-        Ok(()) => Outcome::Done,
-        Err(DeviceFault) => Outcome::WriteFailed,
-    }
+    ended(write_refusal(output, refusal), Outcome::Refused)
 }
 
 /// Answers to a message with the line of its canonical words, or of its refusal.
@@ -112,26 +96,18 @@ fn canon<A: Allocator, W: Output>(
     output: &mut W,
 ) -> (Outcome, A)
     requires { W.has_failed output.old ≡ false }
-    ensures small { result.0 ≡ Outcome.Done → IsSmall (segments_in source) }
-    ensures done { result.0 ≡ Outcome.Done
-        → Answers (segments_in source) (Args.Canon options)
-        (Prints W.Output output.old output.new) }
-    ensures refused { result.0 ≡ Outcome.Refused →
-        AnswersRefusal (segments_in source) (Args.Canon options) (A.refusals allocator)
-        (A.refusals result.1) (Prints W.Output output.old output.new) }
-    ensures exactly { WhereAnswered (segments_in source) (Args.Canon options)
-        (IsDoneOr result.0
-        (WantsMemory (A.refusals allocator) (A.refusals result.1)
-        (Prints W.Output output.old output.new))) }
-    ensures kept { result.0 ≡ Outcome.Done → A.refusals result.1 ≡ A.refusals allocator }
-    ensures input { result.0 ≢ Outcome.BadInput }
-    ensures works { result.0 ≢ Outcome.WriteFailed → W.has_failed output.new ≡ false }
-    ensures failed { result.0 ≡ Outcome.WriteFailed → W.has_failed output.new ≡ true }
+    ensures { Responds W.Output output.old output.new (record {
+      lines = segments_in source;
+      args = Args.Canon options;
+      outcome = result.0;
+      before = A.refusals allocator;
+      after = A.refusals result.1;
+    }) }
 {
     match canonical(alloc, allocator, source, options) {
         Ok(made) => {
-            let outcome = answer(output, &made);
-            (outcome, made.into_allocator())
+            let written = write_words(output, canonical_bytes(&made));
+            (ended(written, Outcome::Done), made.into_allocator())
         }
         Err((kind, allocator)) => (refuse(output, Refusal::Layout(kind)), allocator),
     }
@@ -140,24 +116,16 @@ fn canon<A: Allocator, W: Output>(
 /// Answers to a message with the line that says whether it is canonical, or of its refusal.
 fn check<W: Output>(source: Message, options: ReaderOptions, output: &mut W) -> Outcome
     requires { W.has_failed output.old ≡ false }
-    ensures small { result ≡ Outcome.Done → IsSmall (segments_in source) }
-    ensures done { result ≡ Outcome.Done
-        → Answers (segments_in source) (Args.Check options)
-        (Prints W.Output output.old output.new) }
-    ensures refused { result ≡ Outcome.Refused →
-        NamesRefusal (segments_in source) (Args.Check options)
-        (Prints W.Output output.old output.new) }
-    ensures exactly { WhereAnswered (segments_in source) (Args.Check options)
-        (IsDone result ⊎ (result ≡ Outcome.WriteFailed)) }
-    ensures input { result ≢ Outcome.BadInput }
-    ensures works { result ≢ Outcome.WriteFailed → W.has_failed output.new ≡ false }
-    ensures failed { result ≡ Outcome.WriteFailed → W.has_failed output.new ≡ true }
+    ensures { Responds W.Output output.old output.new (record {
+      lines = segments_in source;
+      args = Args.Check options;
+      outcome = result;
+      before = 0;
+      after = 0;
+    }) }
 {
     match is_canonical(source, options) {
-        Ok(yes) => match write_check(output, yes) {
-            Ok(()) => Outcome::Done,
-            Err(DeviceFault) => Outcome::WriteFailed,
-        },
+        Ok(yes) => ended(write_check(output, yes), Outcome::Done),
         Err(kind) => refuse(output, Refusal::Layout(kind)),
     }
 }
@@ -165,23 +133,16 @@ fn check<W: Output>(source: Message, options: ReaderOptions, output: &mut W) -> 
 /// Answers to a message with the line of its size, or of its refusal.
 fn size<W: Output>(source: Message, options: ReaderOptions, output: &mut W) -> Outcome
     requires { W.has_failed output.old ≡ false }
-    ensures small { result ≡ Outcome.Done → IsSmall (segments_in source) }
-    ensures done { result ≡ Outcome.Done
-        → Answers (segments_in source) (Args.Size options) (Prints W.Output output.old output.new) }
-    ensures refused { result ≡ Outcome.Refused →
-        NamesRefusal (segments_in source) (Args.Size options)
-        (Prints W.Output output.old output.new) }
-    ensures exactly { WhereAnswered (segments_in source) (Args.Size options)
-        (IsDone result ⊎ (result ≡ Outcome.WriteFailed)) }
-    ensures input { result ≢ Outcome.BadInput }
-    ensures works { result ≢ Outcome.WriteFailed → W.has_failed output.new ≡ false }
-    ensures failed { result ≡ Outcome.WriteFailed → W.has_failed output.new ≡ true }
+    ensures { Responds W.Output output.old output.new (record {
+      lines = segments_in source;
+      args = Args.Size options;
+      outcome = result;
+      before = 0;
+      after = 0;
+    }) }
 {
     match size_of(source, options) {
-        Ok(size) => match write_size(output, size) {
-            Ok(()) => Outcome::Done,
-            Err(DeviceFault) => Outcome::WriteFailed,
-        },
+        Ok(size) => ended(write_size(output, size), Outcome::Done),
         Err(kind) => refuse(output, Refusal::Layout(kind)),
     }
 }
@@ -195,24 +156,13 @@ fn respond<A: Allocator, W: Output>(
     output: &mut W,
 ) -> (Outcome, A)
     requires { W.has_failed output.old ≡ false }
-    ensures within { result.0 ≡ Outcome.Done → IsWithin args.now (segments_in lines) }
-    ensures done { result.0 ≡ Outcome.Done
-        → Answers (segments_in lines) args.now (Prints W.Output output.old output.new) }
-    ensures refused { result.0 ≡ Outcome.Refused →
-        AnswersRefusal (segments_in lines) args.now (A.refusals allocator) (A.refusals result.1)
-        (Prints W.Output output.old output.new) }
-    ensures exactly { WhereAnswered (segments_in lines) args.now
-        (IsDoneOr result.0
-        (WantsMemory (A.refusals allocator) (A.refusals result.1)
-        (Prints W.Output output.old output.new))) }
-    ensures kept { result.0 ≡ Outcome.Done → A.refusals result.1 ≡ A.refusals allocator }
-    ensures kept_unread { result.0 ≡ Outcome.BadInput
-        → A.refusals result.1 ≡ A.refusals allocator }
-    ensures input { result.0 ≡ Outcome.BadInput → HasMoreLines args.now (segments_in lines) }
-    ensures unwritten { result.0 ≡ Outcome.BadInput → W.contents output.new
-        ≡ W.contents output.old }
-    ensures works { result.0 ≢ Outcome.WriteFailed → W.has_failed output.new ≡ false }
-    ensures failed { result.0 ≡ Outcome.WriteFailed → W.has_failed output.new ≡ true }
+    ensures { Responds W.Output output.old output.new (record {
+      lines = segments_in lines;
+      args = args.now;
+      outcome = result.0;
+      before = A.refusals allocator;
+      after = A.refusals result.1;
+    }) }
 {
     match *args {
         Args::Canon(options) => canon(alloc, allocator, lines, options, output),
@@ -247,17 +197,19 @@ pub fn run_with<A: Allocator, R: Input, W: Output>(
 ) -> (Outcome, A)
     requires input { R.has_failed input.old ≡ false }
     requires output { W.has_failed output.old ≡ false }
-    ensures done { result.0 ≡ Outcome.Done
-        → WritesAnswer (R.remaining input.old) args.now (Prints W.Output output.old output.new) }
-    ensures refused { result.0 ≡ Outcome.Refused →
-        WritesCountedRefusal (R.remaining input.old) args.now (A.refusals allocator)
-        (A.refusals result.1) (Prints W.Output output.old output.new) }
-    ensures exactly { WhereItIsAnswered (R.remaining input.old) args.now
-        (IsDone result.0 ⊎ (R.has_failed input.new ≡ true) ⊎ (W.has_failed output.new ≡ true)
-        ⊎ IsRefusedOutcome result.0) }
-    ensures memory { IsRefusedOutcome result.0 → WhereItIsAnswered (R.remaining input.old) args.now
-        (WantsMemory (A.refusals allocator) (A.refusals result.1)
-        (Prints W.Output output.old output.new)) }
+    ensures done { result.0 ≡ Outcome.Done → (lines : List (List ℕ)) × (answer : List ℕ)
+        × AreLinesOf (R.remaining input.old) lines × IsWithin args.now lines
+        × IsAnswer lines args.now answer × Prints W.Output output.old output.new answer }
+    ensures refused { result.0 ≡ Outcome.Refused → (r : Refusal)
+        × Prints W.Output output.old output.new (refusal_line r)
+        × IsForMemoryOr (A.refusals allocator) (A.refusals result.1) r ((lines : List (List ℕ))
+        × AreLinesOf (R.remaining input.old) lines × WhyRefused lines args.now r) }
+    ensures exactly { TextHasAnswer (R.remaining input.old) args.now
+        → (result.0 ≡ Outcome.Done) ⊎ (R.has_failed input.new ≡ true)
+        ⊎ (W.has_failed output.new ≡ true) ⊎ (result.0 ≡ Outcome.Refused) }
+    ensures memory { TextHasAnswer (R.remaining input.old) args.now → result.0 ≡ Outcome.Refused
+        → (A.refusals result.1 ≡ one_more (A.refusals allocator))
+        × Prints W.Output output.old output.new (refusal_line (Refusal.Layout AllocationFailed)) }
     ensures kept { result.0 ≡ Outcome.Done → A.refusals result.1 ≡ A.refusals allocator }
     ensures kept_unread { result.0 ≡ Outcome.BadInput
         → A.refusals result.1 ≡ A.refusals allocator }
@@ -311,15 +263,18 @@ pub fn run<R: Input, W: Output>(
 ) -> Outcome
     requires input { R.has_failed input.old ≡ false }
     requires output { W.has_failed output.old ≡ false }
-    ensures done { result ≡ Outcome.Done
-        → WritesAnswer (R.remaining input.old) args.now (Prints W.Output output.old output.new) }
-    ensures refused { result ≡ Outcome.Refused
-        → WritesRefusal (R.remaining input.old) args.now (Prints W.Output output.old output.new) }
-    ensures exactly { WhereItIsAnswered (R.remaining input.old) args.now
-        (IsDone result ⊎ (R.has_failed input.new ≡ true) ⊎ (W.has_failed output.new ≡ true)
-        ⊎ IsRefusedOutcome result) }
-    ensures memory { IsRefusedOutcome result → WhereItIsAnswered (R.remaining input.old) args.now
-        (Prints W.Output output.old output.new (refusal_line (Refusal.Layout AllocationFailed))) }
+    ensures done { result ≡ Outcome.Done → (lines : List (List ℕ)) × (answer : List ℕ)
+        × AreLinesOf (R.remaining input.old) lines × IsWithin args.now lines
+        × IsAnswer lines args.now answer × Prints W.Output output.old output.new answer }
+    ensures refused { result ≡ Outcome.Refused → (r : Refusal)
+        × Prints W.Output output.old output.new (refusal_line r)
+        × ((r ≡ Refusal.Layout AllocationFailed) ⊎ ((lines : List (List ℕ))
+        × AreLinesOf (R.remaining input.old) lines × WhyRefused lines args.now r)) }
+    ensures exactly { TextHasAnswer (R.remaining input.old) args.now
+        → (result ≡ Outcome.Done) ⊎ (R.has_failed input.new ≡ true)
+        ⊎ (W.has_failed output.new ≡ true) ⊎ (result ≡ Outcome.Refused) }
+    ensures memory { TextHasAnswer (R.remaining input.old) args.now → result ≡ Outcome.Refused
+        → Prints W.Output output.old output.new (refusal_line (Refusal.Layout AllocationFailed)) }
     ensures input { result ≡ Outcome.BadInput → (R.has_failed input.new ≡ true)
         ⊎ IsBadInput (R.remaining input.old) args.now }
     ensures read { result ≢ Outcome.BadInput → R.has_failed input.new ≡ false }

@@ -2,15 +2,14 @@
 ghost use Rattle.std.specs.Prelude.{◌≡◌, ◌≢◌, ◌⊎◌, ◌≤◌, ℕ, length, true, false, IsOk, IfOk, IfErr, OnErr, OnOk};
 ghost use Rattle.capnp_format.specs.Bytes.{message};
 ghost use Rattle.capnp_arena_traits.specs.Limits.{IsSmall};
-ghost use Rattle.capnp_framing.specs.Writing.{Prints, Writes};
-ghost use Rattle.capnp_layout.specs.Answers.{IsDone, IsDoneOr};
-ghost use Rattle.capnp_layout.specs.Commands.{Answers, AnswersFrame, AnswersRefusal, HasAnswer, HoldsFrame, NamesRefusal, RefusesFrame, TellsCanonical, WantsMemory, WhereAnswered, WhyRefused, frame_line};
+ghost use Rattle.capnp_framing.specs.Writing.{Writes};
+ghost use Rattle.capnp_layout.specs.Commands.{HasAnswer, HoldsFrame, RefusesFrame, TellsCanonical, WhyRefused, frame_line};
 ghost use Rattle.capnp_layout.specs.Messages.{segments_in};
-ghost use Rattle.capnp_layout.specs.Runs.{HasMoreLines};
+ghost use Rattle.capnp_layout.specs.Runs.{Responds};
 
 use super::args::Args;
 use super::canon::canonical;
-use super::engine::{Outcome, refuse};
+use super::engine::{Outcome, ended, refuse};
 use super::frames::{write_frame, write_segments};
 use super::lines::Message;
 use super::refusal::Refusal;
@@ -82,22 +81,16 @@ fn count_of(source: &Message) -> Result<usize, Refusal>
 /// Answers to segments with the line of their frame, or of a refusal.
 pub(crate) fn frame<W: Output>(source: Message, output: &mut W) -> Outcome
     requires { W.has_failed output.old ≡ false }
-    ensures small { result ≡ Outcome.Done → IsSmall (segments_in source) }
-    ensures done { result ≡ Outcome.Done
-        → Answers (segments_in source) Args.Frame (Prints W.Output output.old output.new) }
-    ensures refused { result ≡ Outcome.Refused
-        → NamesRefusal (segments_in source) Args.Frame (Prints W.Output output.old output.new) }
-    ensures exactly { WhereAnswered (segments_in source) Args.Frame
-        (IsDone result ⊎ (result ≡ Outcome.WriteFailed)) }
-    ensures input { result ≢ Outcome.BadInput }
-    ensures works { result ≢ Outcome.WriteFailed → W.has_failed output.new ≡ false }
-    ensures failed { result ≡ Outcome.WriteFailed → W.has_failed output.new ≡ true }
+    ensures { Responds W.Output output.old output.new (record {
+      lines = segments_in source;
+      args = Args.Frame;
+      outcome = result;
+      before = 0;
+      after = 0;
+    }) }
 {
     match count_of(&source) {
-        Ok(_) => match write_frame(output, &source) {
-            Ok(()) => Outcome::Done,
-            Err(DeviceFault) => Outcome::WriteFailed,
-        },
+        Ok(_) => ended(write_frame(output, &source), Outcome::Done),
         Err(refusal) => refuse(output, refusal),
     }
 }
@@ -106,25 +99,19 @@ pub(crate) fn frame<W: Output>(source: Message, output: &mut W) -> Outcome
 /// refusal. More than one line is bad input.
 pub(crate) fn unframe<W: Output>(lines: Message, output: &mut W) -> Outcome
     requires { W.has_failed output.old ≡ false }
-    ensures done { result ≡ Outcome.Done
-        → Answers (segments_in lines) Args.Unframe (Prints W.Output output.old output.new) }
-    ensures refused { result ≡ Outcome.Refused
-        → NamesRefusal (segments_in lines) Args.Unframe (Prints W.Output output.old output.new) }
-    ensures exactly { WhereAnswered (segments_in lines) Args.Unframe
-        (IsDone result ⊎ (result ≡ Outcome.WriteFailed)) }
-    ensures input { result ≡ Outcome.BadInput → HasMoreLines Args.Unframe (segments_in lines) }
-    ensures unwritten { result ≡ Outcome.BadInput → W.contents output.new ≡ W.contents output.old }
-    ensures works { result ≢ Outcome.WriteFailed → W.has_failed output.new ≡ false }
-    ensures failed { result ≡ Outcome.WriteFailed → W.has_failed output.new ≡ true }
+    ensures { Responds W.Output output.old output.new (record {
+      lines = segments_in lines;
+      args = Args.Unframe;
+      outcome = result;
+      before = 0;
+      after = 0;
+    }) }
 {
     if lines.len() > 1 {
         return Outcome::BadInput;
     }
     match frame_in(&lines) {
-        Ok(segments) => match write_segments(output, &segments) {
-            Ok(()) => Outcome::Done,
-            Err(DeviceFault) => Outcome::WriteFailed,
-        },
+        Ok(segments) => ended(write_segments(output, &segments), Outcome::Done),
         Err(refusal) => refuse(output, refusal),
     }
 }
@@ -145,23 +132,6 @@ fn write_made<A: Allocator, W: Output>(
     }
 }
 
-/// Answers with the line of the frame of a message of one segment.
-fn answer_frame<A: Allocator, W: Output>(output: &mut W, made: &BuilderArenaImpl<A>) -> Outcome
-    requires works { W.has_failed output.old ≡ false }
-    requires single { length (⟦<BuilderArenaImpl<A> as ReaderArena>⟧.segments made.now) ≡ 1 }
-    ensures either { (result ≡ Outcome.Done) ⊎ (result ≡ Outcome.WriteFailed) }
-    ensures written { result ≡ Outcome.Done
-        → AnswersFrame (⟦<BuilderArenaImpl<A> as BuilderArena>⟧.view made.now)
-        (Prints W.Output output.old output.new) }
-    ensures works { result ≡ Outcome.Done → W.has_failed output.new ≡ false }
-    ensures failed { result ≡ Outcome.WriteFailed → W.has_failed output.new ≡ true }
-{
-    match write_made(output, made) {
-        Ok(()) => Outcome::Done,
-        Err(DeviceFault) => Outcome::WriteFailed,
-    }
-}
-
 /// Answers to segments with the line of the frame of their canonical words, or of a refusal.
 pub(crate) fn framed_canon<A: Allocator, W: Output>(
     alloc: Global,
@@ -171,26 +141,18 @@ pub(crate) fn framed_canon<A: Allocator, W: Output>(
     output: &mut W,
 ) -> (Outcome, A)
     requires { W.has_failed output.old ≡ false }
-    ensures small { result.0 ≡ Outcome.Done → IsSmall (segments_in source) }
-    ensures done { result.0 ≡ Outcome.Done
-        → Answers (segments_in source) (Args.FramedCanon options)
-        (Prints W.Output output.old output.new) }
-    ensures refused { result.0 ≡ Outcome.Refused →
-        AnswersRefusal (segments_in source) (Args.FramedCanon options) (A.refusals allocator)
-        (A.refusals result.1) (Prints W.Output output.old output.new) }
-    ensures exactly { WhereAnswered (segments_in source) (Args.FramedCanon options)
-        (IsDoneOr result.0
-        (WantsMemory (A.refusals allocator) (A.refusals result.1)
-        (Prints W.Output output.old output.new))) }
-    ensures kept { result.0 ≡ Outcome.Done → A.refusals result.1 ≡ A.refusals allocator }
-    ensures input { result.0 ≢ Outcome.BadInput }
-    ensures works { result.0 ≢ Outcome.WriteFailed → W.has_failed output.new ≡ false }
-    ensures failed { result.0 ≡ Outcome.WriteFailed → W.has_failed output.new ≡ true }
+    ensures { Responds W.Output output.old output.new (record {
+      lines = segments_in source;
+      args = Args.FramedCanon options;
+      outcome = result.0;
+      before = A.refusals allocator;
+      after = A.refusals result.1;
+    }) }
 {
     match canonical(alloc, allocator, source, options) {
         Ok(made) => {
-            let outcome = answer_frame(output, &made);
-            (outcome, made.into_allocator())
+            let written = write_made(output, &made);
+            (ended(written, Outcome::Done), made.into_allocator())
         }
         Err((kind, allocator)) => (refuse(output, Refusal::Layout(kind)), allocator),
     }
@@ -204,28 +166,19 @@ pub(crate) fn framed_check<W: Output>(
     output: &mut W,
 ) -> Outcome
     requires { W.has_failed output.old ≡ false }
-    ensures done { result ≡ Outcome.Done
-        → Answers (segments_in lines) (Args.FramedCheck options)
-        (Prints W.Output output.old output.new) }
-    ensures refused { result ≡ Outcome.Refused →
-        NamesRefusal (segments_in lines) (Args.FramedCheck options)
-        (Prints W.Output output.old output.new) }
-    ensures exactly { WhereAnswered (segments_in lines) (Args.FramedCheck options)
-        (IsDone result ⊎ (result ≡ Outcome.WriteFailed)) }
-    ensures input { result ≡ Outcome.BadInput
-        → HasMoreLines (Args.FramedCheck options) (segments_in lines) }
-    ensures unwritten { result ≡ Outcome.BadInput → W.contents output.new ≡ W.contents output.old }
-    ensures works { result ≢ Outcome.WriteFailed → W.has_failed output.new ≡ false }
-    ensures failed { result ≡ Outcome.WriteFailed → W.has_failed output.new ≡ true }
+    ensures { Responds W.Output output.old output.new (record {
+      lines = segments_in lines;
+      args = Args.FramedCheck options;
+      outcome = result;
+      before = 0;
+      after = 0;
+    }) }
 {
     if lines.len() > 1 {
         return Outcome::BadInput;
     }
     match is_canonical_frame(&lines, options) {
-        Ok(yes) => match write_message_check(output, yes) {
-            Ok(()) => Outcome::Done,
-            Err(DeviceFault) => Outcome::WriteFailed,
-        },
+        Ok(yes) => ended(write_message_check(output, yes), Outcome::Done),
         Err(refusal) => refuse(output, refusal),
     }
 }

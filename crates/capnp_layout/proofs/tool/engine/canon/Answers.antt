@@ -1,21 +1,15 @@
-use Rattle.std.proofs.Common.{inl, inr, subst}
-use Rattle.std.specs.Io.KnownBytes.{Appends}
-use Rattle.capnp_words.specs.declared.error.ErrorKind.{ErrorKind}
+use Rattle.std.proofs.Common.{ap}
 use Rattle.capnp_layout.specs.Messages.{segments_in}
-use Rattle.capnp_layout.specs.Refusals.{refusal_line}
 use Rattle.capnp_layout.specs.declared.tool.refusal.Refusal.TheVariants.{Layout}
-use Rattle.capnp_layout.proofs.RunLemmas.{answers_copy, only_memory}
+use Rattle.capnp_layout.proofs.RunLemmas.{copy_refusal, only_memory, refused_run}
 use Rattle.capnp_layout.proofs.tool.engine.canon.Goals as goal
 
-pub returns-in-Err-clause-refused : goal.returns-in-Err-clause-refused
-returns-in-Err-clause-refused g c = λ refused.
-    answers_copy c.args.options (segments_in c.args.source) (Appends (g.W.Output.contents c.args.output.now) (g.W.Output.contents c.refuse.new.output)) c.in-Err.ensures.refused (c.refuse.ensures.written refused)
-
-pub returns-in-Err-clause-exactly : goal.returns-in-Err-clause-exactly
-returns-in-Err-clause-exactly g c = λ small answered.
-    let memory = only_memory c.args.options (segments_in c.args.source) small answered c.in-Err.ensures.refused in
-    elim c.refuse.ensures.either [
-      | inl refused ↦
-          inr (inr (refused, (memory.1, subst (λ (k : ErrorKind). Appends (g.W.Output.contents c.args.output.now) (g.W.Output.contents c.refuse.new.output) (refusal_line (Layout k))) memory.0 (c.refuse.ensures.written refused))))
-      | inr failed ↦ inr (inl failed)
-    ]
+pub returns-in-Err : goal.returns-in-Err
+returns-in-Err g c =
+    refused_run _ _ _ (Layout c.in-Err.kind) c.refuse.ensures.either c.refuse.ensures.written c.refuse.ensures.works c.refuse.ensures.failed
+    (copy_refusal c.args.options (segments_in c.args.source) c.in-Err.ensures.refused)
+    (
+    λ small has.
+    let memory = only_memory c.args.options (segments_in c.args.source) small has c.in-Err.ensures.refused in
+    (ap Layout memory.0, memory.1)
+    )

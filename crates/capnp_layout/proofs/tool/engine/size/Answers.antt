@@ -1,6 +1,10 @@
-use Rattle.std.proofs.Common.{refl}
+use Rattle.std.proofs.Common.{inr, refl, rules, IsOk}
 use Rattle.capnp_layout.specs.declared.tool.refusal.Refusal.TheVariants.{Layout}
+use Rattle.capnp_layout.proofs.RunLemmas.{refused_run}
 use Rattle.capnp_layout.proofs.tool.engine.size.Goals as goal
 
-pub returns-in-Err-clause-refused : goal.returns-in-Err-clause-refused
-returns-in-Err-clause-refused g c = λ refused. (Layout c.in-Err.kind, (c.in-Err.kind, refl, c.in-Err.ensures.refused), c.refuse.ensures.written refused)
+pub returns-in-Err : goal.returns-in-Err
+returns-in-Err g c =
+    refused_run _ _ _ (Layout c.in-Err.kind) c.refuse.ensures.either c.refuse.ensures.written c.refuse.ensures.works c.refuse.ensures.failed
+    (inr ((c.in-Err.kind, refl, c.in-Err.ensures.refused), refl))
+    (λ small has. (let answered : IsOk c.size_of.result = c.size_of.ensures.exactly.1 (small, has) in absurd (search rules)))

@@ -1,4 +1,9 @@
+use Rattle.std.proofs.Common.{inr, refl}
+use Rattle.capnp_layout.proofs.FrameCommands.{count_not_refused}
+use Rattle.capnp_layout.proofs.RunLemmas.{refused_run}
 use Rattle.capnp_layout.proofs.tool.framed.frame.Goals as goal
 
-pub returns-clause-refused : goal.returns-clause-refused
-returns-clause-refused g c = λ refused. (c.in-Err.refusal, c.in-Err.ensures.refused, c.refuse.ensures.written refused)
+pub returns : goal.returns
+returns g c =
+    refused_run _ _ _ c.in-Err.refusal c.refuse.ensures.either c.refuse.ensures.written c.refuse.ensures.works c.refuse.ensures.failed
+    (inr (c.in-Err.ensures.refused, refl)) (λ small has. absurd (count_not_refused small has c.in-Err.ensures.refused))

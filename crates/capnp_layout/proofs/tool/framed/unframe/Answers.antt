@@ -1,8 +1,9 @@
+use Rattle.std.proofs.Common.{inr, refl}
 use Rattle.capnp_layout.proofs.FrameCommands.{frame_not_refused}
+use Rattle.capnp_layout.proofs.RunLemmas.{refused_run}
 use Rattle.capnp_layout.proofs.tool.framed.unframe.Goals as goal
 
-pub returns-clause-refused : goal.returns-clause-refused
-returns-clause-refused g c = λ refused. (c.in-Err.refusal, c.in-Err.ensures.refused, c.refuse.ensures.written refused)
-
-pub returns-clause-exactly : goal.returns-clause-exactly
-returns-clause-exactly g c = λ _ (message, holds). absurd (frame_not_refused holds c.in-Err.ensures.refused)
+pub returns : goal.returns
+returns g c =
+    refused_run _ _ _ c.in-Err.refusal c.refuse.ensures.either c.refuse.ensures.written c.refuse.ensures.works c.refuse.ensures.failed
+    (inr (c.in-Err.ensures.refused, refl)) (λ _ (message, holds). absurd (frame_not_refused holds c.in-Err.ensures.refused))
