@@ -1,8 +1,6 @@
 -- A list that is made anew is so as what it becomes where structs of a size are wanted.
-use Rattle.std.proofs.Common.{◌≡◌, ℕ, ◌≤◌, max, Some, sym, ap, ap₂, ◌∙◌, subst}
+use Rattle.std.proofs.Common.{◌≡◌, ℕ, ◌≤◌, max, sym, ap, ap₂, ◌∙◌, subst}
 use Rattle.capnp_arena_traits.specs.View.{View}
-use Rattle.capnp_format.specs.Segments.{leads, Target}
-use Rattle.capnp_format.specs.Word.{list_count}
 use Rattle.capnp_format.specs.Tree.{Structs}
 use Rattle.capnp_words.specs.Sizes.{size_number}
 use Rattle.capnp_words.specs.declared.wire_pointer.StructSize.{StructSize}

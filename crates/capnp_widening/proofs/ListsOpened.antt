@@ -1,5 +1,5 @@
 -- Lists of structs that are opened for writing.
-use Rattle.std.proofs.Common.{◌≡◌, ◌⊎◌, inl, inr, ℕ, ◌≤◌, Option, None, Result, Ok, Err, IsOk, IfOk, refl, sym, ap, ◌∙◌, subst}
+use Rattle.std.proofs.Common.{◌≡◌, ◌⊎◌, inl, inr, ℕ, ◌≤◌, Option, None, Result, Ok, Err, IsOk, IfOk, refl, sym, ap, subst}
 use Rattle.capnp_words.specs.declared.error.ErrorKind.{ErrorKind}
 use Rattle.capnp_format.specs.Tree.{Tree, Null, Capability, Struct, Flat, Pointers, Structs, Elements}
 use Rattle.capnp_format.specs.Forest.{target}
@@ -9,7 +9,7 @@ use Rattle.capnp_arena_traits.specs.View.{View}
 use Rattle.capnp_contents.specs.declared.existing.ExistingList.{ExistingList}
 use Rattle.capnp_contents.specs.Existing.{list_in}
 use Rattle.capnp_making.specs.Stored.{IsStored, IsReplaced}
-use Rattle.capnp_making.specs.Makes.{call_at, CallAt}
+use Rattle.capnp_making.specs.Makes.{call_at}
 use Rattle.capnp_widening.specs.Opening.{Opens, OpensExistingList, LeadsToAll}
 use Rattle.capnp_widening.specs.RowsRemade.{MakesListWider}
 use Rattle.capnp_widening.specs.Widened.{HasSections, list_widened}

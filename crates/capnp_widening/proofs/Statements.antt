@@ -29,7 +29,7 @@ use Rattle.capnp_widening.specs.declared.moving.PointerRows.{PointerRows}
 use Rattle.capnp_widening.specs.Moved.{Move, HasValueInside, IsMoved, row_of_moves, rows_of_moves}
 use Rattle.capnp_widening.specs.Opening.{LeadsToAll}
 use Rattle.capnp_widening.specs.Pointed.{PointsTo}
-use Rattle.capnp_widening.specs.Rooms.{GrowsByAtMost, direct_pointers, widened_words}
+use Rattle.capnp_widening.specs.Rooms.{GrowsByAtMost, widened_words}
 use Rattle.capnp_widening.specs.RowsRemade.{AreNumbersCopied, AreRowsCopied, BecomesList, as_structs}
 use Rattle.capnp_widening.specs.Widened.{GrowsByZeros, HasSections, list_widened, widened}
 
@@ -73,9 +73,6 @@ LeadsToWiderList size c l = (t u : Tree) → IsStored c.old.words c.segment c.at
 
 abbrev pub ListLiesIn : Segments → ExistingList → Type 0
 ListLiesIn S l = l.start + l.count * (l.struct_size.data_words + l.struct_size.pointers) ≤ length (segment S l.segment)
-
-abbrev pub GrowsForList : (Tree → Type 0) → Segments → Segments → StructSize → Type 0
-GrowsForList Stands S R size = (t u : Tree) → Stands t → list_widened size.data_words size.pointers t ≡ Ok u → GrowsByAtMost S R (widened_words u + 1 + 2 * direct_pointers t)
 
 -- a pointer overwritten, which leads to b behind pads from (v, at) on
 pub record IsSettled (S R : Segments) (u q : ℕ) (b : Target) (v at pads : ℕ) : Type 0 where

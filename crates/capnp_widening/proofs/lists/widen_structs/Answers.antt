@@ -1,4 +1,4 @@
-use Rattle.std.proofs.Common.{◌≤◌, inl, inr, refl, arith, rules, ◌≡◌, ◌+◌, ◌*◌, ◌∙◌, ap, ap₂, sym}
+use Rattle.std.proofs.Common.{inl, inr, ◌≡◌, ◌+◌, ◌*◌, ◌∙◌, ap, ap₂, sym}
 use Rattle.capnp_format.specs.Segments.{Segments}
 use Rattle.capnp_words.specs.declared.wire_pointer.StructSize.{StructSize}
 use Rattle.capnp_arena_traits.specs.View.{View}

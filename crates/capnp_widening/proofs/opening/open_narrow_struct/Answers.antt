@@ -1,4 +1,4 @@
-use Rattle.std.proofs.Common.{◌≤◌, arith}
+use Rattle.std.proofs.Common.{arith}
 use Rattle.capnp_arena_traits.specs.View.{View}
 use Rattle.capnp_making.proofs.Outcomes.{if_ok_so}
 use Rattle.capnp_widening.specs.Opening.{existing_struct}
