@@ -16,7 +16,6 @@ ghost use Rattle.capnp_format.specs.Tree.{Tree, Null, Struct};
 ghost use Rattle.capnp_making.specs.Made.{words_of_zero, nulls, zero_struct};
 ghost use Rattle.capnp_making.specs.Path.{put_tree};
 ghost use Rattle.callers.specs.Meaning.{MeansTheSame};
-ghost use Rattle.callers.specs.Room.{IsMadeFirst};
 
 use capnp_arena::arena::{
     Allocator, BuilderArena, BuilderArenaImpl, OutputSegments, ReaderArena, ReaderArenaImpl,
@@ -150,8 +149,10 @@ fn root_with_room<A: BuilderArena>(
         (IsStructOf (call_at 0 0 (A.view arena.old) (A.view arena.new)) size) }
     ensures fits { length (segment (A.view arena.old).words 0)
         + (size.data_words + size.pointers) ≤ (A.view arena.old).room 0
-        → IsOkAnd result (IsMadeFirst (A.view arena.old) (A.view arena.new)
-        (size.data_words + size.pointers)) }
+        → IsOkAnd result (λ place. (place.segment ≡ 0)
+        × (length (segment (A.view arena.new).words 0)
+        ≡ length (segment (A.view arena.old).words 0) + (size.data_words + size.pointers))
+        × ((A.view arena.new).room 0 ≡ (A.view arena.old).room 0)) }
 {
     let mut root = PointerBuilder::get_root(arena);
     root.put_struct(size)
