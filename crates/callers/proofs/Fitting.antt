@@ -1,13 +1,15 @@
 -- The message of an empty root, and outcomes one by one.
 use Rattle.std.proofs.Common.{◌≡◌, ℕ, zero, suc, List, [], ◌∷◌, get_or, Option, Some, None, refl, sym, subst, arith, All}
-use Rattle.std.proofs.lemmas.List.Elements.{All-head, All-tail}
+use Rattle.std.proofs.lemmas.List.Elements.{All-cons, All-head, All-nil, All-tail}
 use Rattle.capnp_words.specs.declared.error.ErrorKind.{ErrorKind}
 use Rattle.capnp_format.specs.Forest.{IsForest}
 use Rattle.capnp_format.specs.Segments.{Segments, word_at}
 use Rattle.capnp_format.specs.Tree.{Tree, Null}
 use Rattle.capnp_making.proofs.FillingMade.{null_stored}
 use Rattle.capnp_making.proofs.Replaced.{forest_of}
-use Rattle.capnp_edits.specs.Fitting.{AreInFirst, IsNoneOfMemory}
+use Rattle.capnp_edits.specs.Fitting.{AreInFirst, AsksNoMore, IsNoneOfMemory}
+use Rattle.capnp_edits.specs.Tasks.{task_of}
+use Rattle.capnp_edits.specs.declared.edit.Edit.{Edit}
 
 -- the word of an empty root holds null
 abbrev only_root : Segments
@@ -33,6 +35,12 @@ root_first S e = subst AreInFirst (sym e) first
     first zero other = absurd (other refl)
     first (suc zero) other = refl
     first (suc (suc k)) other = refl
+
+-- three edits ask for no more where each does
+pub three_ask : (a b c : Edit) → AsksNoMore (task_of a.op) → AsksNoMore (task_of b.op) → AsksNoMore (task_of c.op) → All (λ (e : Edit). AsksNoMore (task_of e.op)) (a ∷ b ∷ c ∷ [])
+three_ask a b c x y z =
+    let P : Edit → Type 0 = λ (e : Edit). AsksNoMore (task_of e.op) in
+    All-cons P a (b ∷ c ∷ []) x (All-cons P b (c ∷ []) y (All-cons P c [] z (All-nil P)))
 
 -- where no outcome is one of memory, the one of each edit isn't
 pub none_at : (rs : List (Option ErrorKind)) (i : ℕ) → All IsNoneOfMemory rs → IsNoneOfMemory (get_or rs i None)

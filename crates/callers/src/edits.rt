@@ -55,7 +55,7 @@ fn pass_memory(outcome: Option<ErrorKind>) -> Result<(), ErrorKind>
 
 /// Makes the root a struct of a number and a text, by three edits in a message of an empty root. An error
 /// is a refusal for memory; the words of all fit the segment, so there is none.
-#[tactic(auto, using(crate::proofs::Fitting::root_forest, crate::proofs::Fitting::root_first, crate::proofs::Fitting::none_at))]
+#[tactic(auto, using(crate::proofs::Fitting::root_forest, crate::proofs::Fitting::root_first, crate::proofs::Fitting::three_ask, crate::proofs::Fitting::none_at))]
 pub fn three_edits<A: BuilderArena>(arena: &mut A) -> Result<(), ErrorKind>
     requires root { (A.view arena.old).words ≡ (0 ∷ []) ∷ [] }
     requires room { 4 ≤ (A.view arena.old).room 0 }

@@ -50,7 +50,6 @@ use Rattle.capnp_builders.proofs.ContentTaken.{content_taken, content_stopped}
 use Rattle.capnp_builders.proofs.ElementContent.{element_content_taken, element_content_stopped, element_long}
 use Rattle.capnp_format.specs.Canonical.{word_count_all}
 use Rattle.capnp_making.specs.Near.{HasOwnRoom}
-use Rattle.capnp_edits.specs.declared.edit.path.PathEnd.TheVariants.{Pointer as AtPointer}
 use Rattle.capnp_edits.specs.declared.edit.Edit.{Edit}
 use Rattle.capnp_edits.specs.declared.edit.Source.{Source}
 use Rattle.capnp_edits.specs.declared.edit.copying.Wanted.TheVariants.{Struct as AStruct}
