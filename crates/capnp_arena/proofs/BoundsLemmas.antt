@@ -2,16 +2,18 @@
 use Rattle.std.proofs.Common.{◌≡◌, ℕ, Bool, true, false, IsTrue, zero, suc, inl, inr, ◌+◌, ◌-◌, ◌<◌, ◌≤◌, List, [], ◌∷◌, ◌++◌, length, get_or, set, refl, sym, ap, ◌∙◌, arith, subst}
 use Rattle.std.proofs.lemmas.Bool.{cases_lt}
 use Rattle.std.proofs.lemmas.List.{length-map, length-set, map-append, map-set}
-use Rattle.capnp_format.specs.Bytes.{message}
+use Rattle.capnp_format.specs.Bytes.{words_of, message}
 use Rattle.capnp_format.specs.Segments.{segment}
 use Rattle.capnp_arena_traits.specs.Allocations.{max_segment_words}
-use Rattle.capnp_arena.specs.Row.{capacity, capacity_at, shown}
+use Rattle.capnp_arena_traits.specs.Written.{with_segment}
+use Rattle.capnp_arena.specs.Rewritten.{RewritesRow, RewritesRows, RewritesList}
+use Rattle.capnp_arena.specs.Row.{allocated, capacity, capacity_at, shown}
 use Rattle.capnp_arena.specs.LendingLemmas.{each_same}
 use Rattle.capnp_arena.specs.Bounds.{IsBoundAt, IsBounded, HasBounds, HaveNoRoom, room, rooms, bounds}
 use Rattle.capnp_arena.specs.declared.arena.allocator.Segment.{Ghosts}
 use Rattle.capnp_arena.specs.declared.arena.row.Row.{Row}
 use Rattle.capnp_arena.proofs.RangeLemmas.{bounded_less, bounded_more, bounded_again}
-use Rattle.capnp_arena.proofs.RowsLemmas.{row_words, segment_row, room_row}
+use Rattle.capnp_arena.proofs.RowsLemmas.{row_words, row_over, row_written, segment_row, room_row, room_same}
 
 module _ {S : Type 0} (g : Ghosts S) where
   -- a row that has no more room than before, and the same bound
@@ -49,6 +51,23 @@ module _ {S : Type 0} (g : Ghosts S) where
       new.bound ≡ (get_or rows i old).bound → HasBounds g rows → HasBounds g (set rows i new)
   bounded_grown rows i amount old new e size used same h =
       bounded_taken rows i amount old new e (size ∙ ap (capacity g) (sym e)) (used ∙ ap (λ (q : Row S g). q.used + amount) (sym e)) (same ∙ ap (λ (q : Row S g). q.bound) (sym e)) h
+
+  -- a row rewritten, which is known by its number
+  pub list_over : (f : List ℕ → List ℕ) (rows : List (Row S g)) (i : ℕ) (old new : Row S g) → i < length rows → old ≡ get_or rows i old → RewritesRow g (get_or rows i old) new (f (words_of (allocated g (get_or rows i old)))) →
+      RewritesList g rows (set rows i new) (with_segment (message (shown g rows)) i (f (segment (message (shown g rows)) i)))
+  list_over f rows i old new l e h = record {
+    words = row_over g f rows i old new l h.words;
+    kept = record {
+      room = room_same g rows i old new e (h.capacity ∙ ap (capacity g) (sym e));
+      many = length-set rows i new;
+      bounded = bounded_over rows i old new e h.capacity h.used h.bound;
+    };
+  }
+
+  -- a row rewritten, which was lent
+  pub rows_rewritten : (f : List ℕ → List ℕ) (rows : List (Row S g)) (i : ℕ) (old new : Row S g) → i < length rows → old ≡ get_or rows i old → RewritesRow g old new (f (words_of (allocated g old))) →
+      RewritesRows g rows (set rows i new) (with_segment (message (shown g rows)) i (f (segment (message (shown g rows)) i)))
+  rows_rewritten f rows i old new l e h = record { words = row_written g f rows i old new l e h.words; room = room_same g rows i old new e h.capacity }
 
   -- a row behind the others
   rooms_small : (rows : List (Row S g)) (k : ℕ) → get_or (rooms g rows) k 0 ≤ max_segment_words

@@ -1,10 +1,12 @@
 -- The rows that an arena keeps, where it is known how.
-use Rattle.std.proofs.Common.{◌≡◌, ℕ, Bool, true, false, List, [], ◌≤◌, length, refl, sym}
+use Rattle.std.proofs.Common.{◌≡◌, ℕ, Bool, true, false, Option, Some, None, IfSome, List, [], ◌≤◌, length, replicate, refl, sym}
 use Rattle.std.proofs.lemmas.Bool.{false≢true}
 use Rattle.capnp_format.specs.Bytes.{message}
-use Rattle.capnp_format.specs.Segments.{Segments}
+use Rattle.capnp_format.specs.Segments.{Segments, segment}
 use Rattle.capnp_arena_traits.specs.Allocations.{max_segments}
+use Rattle.capnp_arena_traits.specs.Taking.{GrowsSegment}
 use Rattle.capnp_arena_traits.specs.View.{view_of}
+use Rattle.capnp_arena_traits.specs.Written.{extended}
 use Rattle.capnp_arena.specs.Kept.{arena_rows}
 use Rattle.capnp_arena.specs.Row.{capacity_at, shown}
 use Rattle.capnp_arena.specs.Rows.{all}
@@ -36,6 +38,15 @@ module _ {S : Type 0} (g : Ghosts S) where
   of_listed P false v b e p = p
   of_listed P true v b e p = absurd (false≢true (sym e))
 
+  -- what is so of rows of either kind and of these afterwards is so of the arena's
+  pub over_apart : (P : List (Row S g) → List (Row S g) → Type 0) (f : Bool) (v : Listed S g) (old new : Rows S g) → f ≡ true → P (all g old) (all g new) → P (arena_rows g f v old) (arena_rows g f v new)
+  over_apart P false v old new e p = absurd (false≢true e)
+  over_apart P true v old new e p = p
+
+  pub over_listed : (P : List (Row S g) → List (Row S g) → Type 0) (f : Bool) (old new : Listed S g) (b : Rows S g) → f ≡ false → P old.rows.items new.rows.items → P (arena_rows g f old b) (arena_rows g f new b)
+  over_listed P false old new b e p = p
+  over_listed P true old new b e p = absurd (false≢true (sym e))
+
   -- how many rows there are at most
   pub kept_few : (f : Bool) (v : Listed S g) (b : Rows S g) → length (arena_rows g f v b) ≤ max_segments
   kept_few false v b = v.few
@@ -55,5 +66,21 @@ module _ {S : Type 0} (g : Ghosts S) where
       ≡ view_of (W (message (shown g (arena_rows g f old b)))) (capacity_at g (arena_rows g f old b)) refusals offers
   written_listed W {refusals} {offers} false old new b e words room = λ i. view_of (words i) (room i) refusals offers
   written_listed W true old new b e words room = absurd (false≢true (sym e))
+
+module _ {S : Type 0} (g : Ghosts S) where
+  -- words taken in rows of either kind, where there is room, are taken in the arena's view
+  pub grown_apart : (r : Option ℕ) (id amount refusals : ℕ) (offers : ℕ → ℕ → Bool) (f : Bool) (v : Listed S g) (old new : Rows S g) → f ≡ true →
+      IfSome r (λ at. (at ≡ length (segment (message (shown g (all g old))) id)) × (message (shown g (all g new)) ≡ extended (message (shown g (all g old))) id (replicate amount 0))) → capacity_at g (all g new) ≡ capacity_at g (all g old) →
+      IfSome r (GrowsSegment (view_of (message (shown g (arena_rows g f v old))) (capacity_at g (arena_rows g f v old)) refusals offers) (view_of (message (shown g (arena_rows g f v new))) (capacity_at g (arena_rows g f v new)) refusals offers) amount id)
+  grown_apart None id amount refusals offers f v old new e h room = tt
+  grown_apart (Some at) id amount refusals offers false v old new e h room = absurd (false≢true e)
+  grown_apart (Some at) id amount refusals offers true v old new e h room = (h.0, λ i. view_of (h.1 i) (room i) refusals offers)
+
+  pub grown_listed : (r : Option ℕ) (id amount refusals : ℕ) (offers : ℕ → ℕ → Bool) (f : Bool) (old new : Listed S g) (b : Rows S g) → f ≡ false →
+      IfSome r (λ at. (at ≡ length (segment (message (shown g old.rows.items)) id)) × (message (shown g new.rows.items) ≡ extended (message (shown g old.rows.items)) id (replicate amount 0))) → capacity_at g new.rows.items ≡ capacity_at g old.rows.items →
+      IfSome r (GrowsSegment (view_of (message (shown g (arena_rows g f old b))) (capacity_at g (arena_rows g f old b)) refusals offers) (view_of (message (shown g (arena_rows g f new b))) (capacity_at g (arena_rows g f new b)) refusals offers) amount id)
+  grown_listed None id amount refusals offers f old new b e h room = tt
+  grown_listed (Some at) id amount refusals offers false old new b e h room = (h.0, λ i. view_of (h.1 i) (room i) refusals offers)
+  grown_listed (Some at) id amount refusals offers true old new b e h room = absurd (false≢true (sym e))
 
 pub ruleset keeping = (kept_apart, kept_listed, kept_none)

@@ -6,11 +6,14 @@ use mathlib.Core.List.{is_set}
 use Rattle.capnp_arena.specs.declared.arena.row.Row.{Row}
 use Rattle.std.proofs.lemmas.List.{drop-append-le, drop-replicate, length-append, replicate-append-replicate, take-append-le, take-replicate, length-replicate}
 use Rattle.std.proofs.lemmas.Grind.{common_steps}
+use Rattle.std.proofs.lemmas.Slice.{drop-append-drop}
 use borrow.Rule.Slice.PartMut.{put_mid}
 use Rattle.capnp_format.specs.Bytes.{words_of}
 use Rattle.capnp_format.proofs.WordsOf.{words_of-append, words_of-zeros}
 use Rattle.capnp_arena_traits.specs.Allocations.{IsClearFrom, IsRow, max_segment_words}
 use Rattle.capnp_arena_traits.specs.Written.{overwritten, with_copied}
+use Rattle.capnp_arena.specs.Front.{RewritesFront}
+use Rattle.capnp_arena.specs.Rewritten.{RewritesRow}
 use Rattle.capnp_arena.specs.declared.arena.allocator.Segment.{Ghosts}
 
 -- the first words with others of that length in their place
@@ -29,6 +32,15 @@ moved_over xs from to n l = ap (λ k. take to xs ++ (take n (drop from xs) ++ dr
 
 pub same_row : (used long : ℕ) (bytes new : List ℕ) → IsRow used bytes long → length new ≡ length bytes → drop (8 * used) new ≡ drop (8 * used) bytes → IsRow used new long
 same_row used long bytes new row l e = (omega (arith, row.0, l), omega (arith, row.1, l), row.2, e ∙ row.3 ∙ ap (λ n. replicate (n - 8 * used) 0) (sym l))
+
+kept_rest : (n : ℕ) (bytes new : List ℕ) → length new ≡ n → drop n (new ++ drop n bytes) ≡ drop n bytes
+kept_rest n bytes new e = drop-append-drop n bytes new n (omega arith) e
+
+-- words written over the first ones
+pub front_rewritten : (end : ℕ) (bytes new : List ℕ) {ws : List ℕ} → 8 * end ≤ length bytes → length new ≡ length (take (8 * end) bytes) → words_of new ≡ ws → RewritesFront end bytes (new ++ drop (8 * end) bytes) ws
+front_rewritten end bytes new room same e =
+    let long : length new ≡ 8 * end = omega (arith, room, same, length-take (8 * end) bytes) in
+    record { words = ap words_of (kept_part end bytes new long) ∙ e; rest = kept_rest (8 * end) bytes new long }
 
 pub ruleset kept = (kept_part, same_row)
 
@@ -120,6 +132,16 @@ module _ {S : Type 0} (g : Ghosts S) where
 
   pub long_is : (s : S) (bytes new : List ℕ) → bytes ≡ g.ready s → length new ≡ length bytes → length (g.content (g.with_ready s new)) ≡ length (g.content s)
   long_is s bytes new same l = g.as_long s new (l ∙ ap length same)
+
+  -- a row whose first words were written over
+  pub row_rewritten : (r : Row S g) (bytes new : List ℕ) (f : List ℕ → List ℕ) {clear : IsRow r.used (g.ready (g.with_ready r.segment new)) (length (g.content (g.with_ready r.segment new)))} → bytes ≡ g.ready r.segment → length new ≡ length bytes →
+      RewritesFront r.used bytes new (f bytes) → RewritesRow g r (record { segment = g.with_ready r.segment new; used = r.used; bound = r.bound; clear = clear }) (f (g.ready r.segment))
+  row_rewritten r bytes new f same l h = record {
+    words = ap (λ xs. words_of (take (8 * r.used) xs)) (content_is r.segment bytes new same l) ∙ h.words ∙ ap f same;
+    used = refl;
+    bound = refl;
+    capacity = ap (λ n. n / 8) (long_is r.segment bytes new same l);
+  }
 
   -- a segment of zeros
   pub fresh_row : (s : S) → g.content s ≡ replicate (8 * (length (g.content s) / 8)) 0 → length (g.content s) / 8 ≤ max_segment_words → IsRow 0 (g.ready s) (length (g.content s))

@@ -1,11 +1,15 @@
 -- Words taken in a message: the first segment with room, and a segment behind the others.
-use Rattle.std.proofs.Common.{◌≡◌, ℕ, Bool, IsTrue, zero, suc, ◌<◌, inl, inr, List, [], ◌∷◌, ◌++◌, length, replicate, refl, sym, ap, ◌∙◌, arith, subst}
+use Rattle.std.proofs.Common.{◌≡◌, ℕ, Bool, IsTrue, Result, Ok, Err, zero, suc, ◌<◌, ◌≤◌, ◌-◌, ◌^◌, inl, inr, List, [], ◌∷◌, ◌++◌, length, replicate, refl, sym, ap, ◌∙◌, arith, subst}
 use Rattle.std.proofs.lemmas.Bool.{cases_lt}
 use Rattle.capnp_format.specs.Bytes.{words_of, message}
 use Rattle.capnp_format.specs.Segments.{Segments, segment}
 use Rattle.capnp_arena_traits.proofs.MessageLemmas.{length-message}
+use Rattle.capnp_words.specs.declared.error.ErrorKind.{ErrorKind}
+use Rattle.capnp_words.specs.declared.error.ErrorKind.TheVariants.{MessageTooLarge}
+use Rattle.capnp_arena.specs.Another.{TakesAnother}
 use Rattle.capnp_arena.specs.Row.{allocated, capacity, shown, capacity_at}
-use Rattle.capnp_arena_traits.specs.Taking.{GrowsSegment, IsFull, IsFirstFit, IsTaken, with_another}
+use Rattle.capnp_arena_traits.specs.Allocations.{max_segments, max_segment_words}
+use Rattle.capnp_arena_traits.specs.Taking.{GrowsSegment, IsAllocationRefusal, IsFull, IsFirstFit, IsTaken, SameRoomBelow, with_another}
 use Rattle.capnp_arena_traits.specs.View.{View, view_of}
 use Rattle.capnp_arena_traits.specs.Written.{extended, with_more}
 use Rattle.capnp_arena.specs.declared.arena.allocator.Segment.{Ghosts}
@@ -41,24 +45,6 @@ module _ {old mid new : View} (k amount : ℕ) {p : ℕ} (same : mid ≡ old) (f
   pub fit_granted : new ≡ record old { words = new.words; room = new.room }
   fit_granted = λ i. view_of new.words new.room (ap (λ (v : View). v.refusals) fit_grows.1 i) (ap (λ (v : View). v.offers) fit_grows.1 i)
 
--- Words are taken in a segment behind those of B, or refused, where the view was as it is.
-module _ {old mid new : View} (same : mid ≡ old) where
-  pub granted_as_before : new.refusals ≡ mid.refusals → new.offers ≡ mid.offers → new ≡ record old { words = new.words; room = new.room }
-  granted_as_before refusals offers =
-      λ i. view_of new.words new.room ((refusals ∙ ap (λ (v : View). v.refusals) same) i) ((offers ∙ ap (λ (v : View). v.offers) same) i)
-
-  pub refused_as_before : new.words ≡ mid.words → new.room ≡ mid.room → new.offers ≡ mid.offers → new ≡ record old { refusals = new.refusals }
-  refused_as_before words room offers =
-      λ i. view_of ((words ∙ ap (λ (v : View). v.words) same) i) ((room ∙ ap (λ (v : View). v.room) same) i) new.refusals ((offers ∙ ap (λ (v : View). v.offers) same) i)
-
--- what is offered stays offered
-pub offered : {f h : ℕ → ℕ → Bool} (amount : ℕ) {words : ℕ} → f ≡ h → IsTrue (f amount words) → IsTrue (h amount words)
-offered amount {words} same h = subst (λ (k : ℕ → ℕ → Bool). IsTrue (k amount words)) same h
-
--- how many segments there are, by their words as they were before
-pub as_many : (B : List (List ℕ)) {S : Segments} → message B ≡ S → length B ≡ length S
-as_many B same = sym (length-message B) ∙ ap length same
-
 -- words taken in a segment without any, behind the others
 pub extended_another : (S : Segments) (ws : List ℕ) → extended (S ++ [] ∷ []) (length S) ws ≡ S ++ ws ∷ []
 extended_another [] ws = refl
@@ -85,12 +71,47 @@ message-append (b ∷ B) C = ap (λ M. words_of b ∷ M) (message-append B C)
 pub ruleset pushed = (shown_pushed, room_pushed, room_below)
 
 -- words taken in the segment that was put behind the others
-pub taken_another : (B : List (List ℕ)) {C : List (List ℕ)} (D : List (List ℕ)) {n : ℕ} (amount : ℕ) → C ≡ B ++ [] ∷ [] → n ≡ length B → message D ≡ extended (message C) n (replicate amount 0) → message D ≡ with_another (message B) amount
-taken_another B D {n} amount pushed e taken =
+pub taken_another : (B : List (List ℕ)) {C : List (List ℕ)} {T : Segments} {n : ℕ} (amount : ℕ) → C ≡ B ++ [] ∷ [] → n ≡ length B → T ≡ extended (message C) n (replicate amount 0) → T ≡ with_another (message B) amount
+taken_another B {n = n} amount pushed e taken =
     taken ∙ ap (λ M. extended M n (replicate amount 0)) (ap message pushed ∙ message-append B ([] ∷ []))
     ∙ ap (λ i. extended (message B ++ [] ∷ []) i (replicate amount 0)) (e ∙ sym (length-message B))
     ∙ extended_another (message B) (replicate amount 0)
 
-pub ruleset another = (taken_another, length-message)
+-- words taken in the segment that was put behind those of B, or a refusal of that segment
+module _ (B : List (List ℕ)) {C : List (List ℕ)} {room room' : ℕ → ℕ} {refusals refusals' : ℕ} {offers offers' : ℕ → ℕ → Bool} (amount : ℕ) where
+  pub another_taken : {new : View} {id : ℕ} → C ≡ B ++ [] ∷ [] → id ≡ length B → new ≡ with_more (view_of (message C) room' refusals' offers') id (replicate amount 0) → amount ≤ room' (length B) → IsTrue (offers amount (room' (length B))) → refusals' ≡ refusals →
+      SameRoomBelow (length B) room room' → offers' ≡ offers → (length B ≡ max_segments → ⊥) → (length B < max_segments → max_segment_words < amount → ⊥) →
+      TakesAnother (view_of (message B) room refusals offers) new amount (Ok id)
+  another_taken {id = id} made e taken least size granted kept same few small = subst (λ (v : View). TakesAnother (view_of (message B) room refusals offers) v amount (Ok id)) (sym taken) (record {
+    taken = (
+      e ∙ sym (length-message B),
+      refl,
+      taken_another B amount made e refl,
+      subst (λ k. amount ≤ room' k) (sym e) least,
+      subst (λ k. IsTrue (offers amount (room' k))) (sym e) size,
+    );
+    room = λ k below. kept k (subst (λ n. k < n) (length-message B) below);
+    granted = λ i. view_of (extended (message C) id (replicate amount 0)) room' (granted i) (same i);
+    many = λ most. absurd (few (sym (length-message B) ∙ most));
+    large = λ more less. absurd (small (subst (λ n. n < max_segments) (length-message B) less) more);
+    named = tt;
+    refused = tt;
+  })
+
+  pub another_refused : (e : ErrorKind) → IsAllocationRefusal (view_of (message B) room refusals offers) (view_of (message C) room' refusals' offers') (length B) amount e → (length B ≡ max_segments → (let R : Type 0 = Result ℕ ErrorKind in ◌≡◌ {A = R} (Err e) (Err (MessageTooLarge (2 ^ 64 - 1))))) →
+      (length B < max_segments → max_segment_words < amount → (let R : Type 0 = Result ℕ ErrorKind in ◌≡◌ {A = R} (Err e) (Err (MessageTooLarge amount)))) → C ≡ B → room' ≡ room → offers' ≡ offers → TakesAnother (view_of (message B) room refusals offers) (view_of (message C) room' refusals' offers') amount (Err e)
+  another_refused e named many large same kept offered = record {
+    taken = tt;
+    room = λ k below. ap (λ (f : ℕ → ℕ). f k) kept;
+    granted = tt;
+    many = λ most. many (sym (length-message B) ∙ most);
+    large = λ more less. large (subst (λ n. n < max_segments) (length-message B) less) more;
+    named = subst (λ n. IsAllocationRefusal (view_of (message B) room refusals offers) (view_of (message C) room' refusals' offers') n amount e) (sym (length-message B)) named;
+    refused = λ i. view_of (message (same i)) (kept i) refusals' (offered i);
+  }
+
+-- looking for a segment with room leaves the view as it was
+pub another_as_before : {old mid new : View} {amount : ℕ} {r : Result ℕ ErrorKind} → mid ≡ old → TakesAnother mid new amount r → TakesAnother old new amount r
+another_as_before {new = new} {amount = amount} {r = r} same h = subst (λ (v : View). TakesAnother v new amount r) same h
 
 pub ruleset found = (fit_unique, fit_not_full, length-message)

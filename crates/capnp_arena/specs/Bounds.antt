@@ -1,8 +1,9 @@
 -- How many words more the rows of an arena can hold, and the bounds on that by which the first row
 -- with room is found.
 use Rattle.std.specs.Prelude.{ℕ, List, false, ◌≡◌, ◌≤◌, ◌<◌, ◌+◌, ◌-◌, ◌*◌, ◌^◌, length, map}
-use Rattle.std.specs.Prelude.{slice_index_or}
+use Rattle.std.specs.Prelude.{slice_index_or, Option, IfSome, IsNone}
 use Rattle.capnp_format.specs.Bytes.{message}
+use Rattle.capnp_arena_traits.specs.Taking.{IsFirstFit, IsFull}
 use Rattle.capnp_arena_traits.specs.View.{View, view_of}
 use Rattle.capnp_arena.specs.Row.{capacity, capacity_at, shown}
 use Rattle.capnp_arena.specs.declared.arena.row.Row.{Row}
@@ -45,3 +46,11 @@ module _ {S : Type 0} (g : Ghosts S) where
   -- what rows alone hold and can still give
   abbrev pub view_of_rows : List (Row S g) → View
   view_of_rows rows = view_of (message (shown g rows)) (capacity_at g rows) 0 (λ _ _. false)
+
+  -- The first row with room for so many words more is found, if there is one. Rows stay as they are,
+  -- but for their bounds.
+  pub record FindsFit (old new : List (Row S g)) (amount : ℕ) (found : Option ℕ) : Type 0 where
+    pub fit : IfSome found (λ k. IsFirstFit (view_of_rows old) amount k)
+    pub full : IsNone found → IsFull (view_of_rows old) amount
+    pub segments : shown g new ≡ shown g old
+    pub capacity : capacity_at g new ≡ capacity_at g old

@@ -16,7 +16,7 @@ mod scratch_allocator;
 
 pub use allocator::{Allocator, Segment};
 pub use builder_arena_impl::BuilderArenaImpl;
-pub use capnp_arena_traits::arena::{BuilderArena, ReaderArena, SegmentId};
+pub use capnp_arena_traits::arena::{BuilderArena, ReaderArena, SegmentId, WordPlace};
 pub use heap_allocator::{HeapAllocator, HeapSegment};
 pub use null_allocator::NullAllocator;
 pub use null_arena::NullArena;

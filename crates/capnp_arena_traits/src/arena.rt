@@ -8,3 +8,12 @@ pub use reader_arena::ReaderArena;
 
 /// The number of a segment, counted from 0.
 pub type SegmentId = u32;
+
+/// Where words stand in a message that is built: from the word `at` of a segment on.
+#[derive(Clone, Copy)]
+pub struct WordPlace {
+    /// The segment.
+    pub segment: SegmentId,
+    /// The position of the first word, in words from the segment's start.
+    pub at: u32,
+}

@@ -1,3 +1,4 @@
 pub mod Meter
 pub mod Names
+pub mod PointerWords
 pub mod Sizes

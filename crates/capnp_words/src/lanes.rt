@@ -99,8 +99,7 @@ fn end_of_blocks(bytes: &[u8]) -> usize
 /// zero, nothing more is looked at.
 fn used_of_many(bytes: &[u8]) -> usize
     requires { 8 ≤ length bytes.now }
-    ensures value { result ≡ used_words (words_of bytes.now) }
-    ensures within { result ≤ length bytes.now / 8 }
+    ensures { result ≡ used_words (words_of bytes.now) }
 {
     let words = bytes.len() / 8;
     if word_at(bytes, words - 1) != 0 {
@@ -113,8 +112,7 @@ fn used_of_many(bytes: &[u8]) -> usize
 /// one, which is the fastest for them.
 #[inline(always)]
 fn used(bytes: &[u8]) -> usize
-    ensures value { result ≡ used_words (words_of bytes.now) }
-    ensures within { result ≤ length bytes.now / 8 }
+    ensures { result ≡ used_words (words_of bytes.now) }
 {
     let words = bytes.len() / 8;
     if words < 32 {
@@ -155,17 +153,7 @@ fn zero_short(bytes: &mut [u8])
     }
 }
 
-/// Makes bytes zero, one by one: the compiler's own way for that is the fastest from 64 bytes on.
-#[inline(always)]
-fn zero_long(bytes: &mut [u8])
-    ensures { bytes.new ≡ replicate (length bytes.old) 0 }
-{
-    for byte in bytes.iter_mut() {
-        *byte = 0;
-    }
-}
-
-/// Makes all bytes zero.
+/// Makes all bytes zero. From 64 bytes on the compiler's own way for a plain loop is the fastest.
 #[inline(always)]
 pub fn zero(bytes: &mut [u8])
     ensures { bytes.new ≡ replicate (length bytes.old) 0 }
@@ -173,7 +161,9 @@ pub fn zero(bytes: &mut [u8])
     if bytes.len() < 64 {
         zero_short(bytes);
     } else {
-        zero_long(bytes);
+        for byte in bytes.iter_mut() {
+            *byte = 0;
+        }
     }
 }
 
@@ -201,16 +191,7 @@ fn copy_short(from: &[u8], to: &mut [u8])
     }
 }
 
-/// Copies bytes; the standard library's way is the fastest from 64 bytes on.
-#[inline(always)]
-fn copy_long(from: &[u8], to: &mut [u8])
-    requires { length from.now ≡ length to.old }
-    ensures { to.new ≡ from.now }
-{
-    to.copy_from_slice(from);
-}
-
-/// Copies bytes over as many others.
+/// Copies bytes over as many others. From 64 bytes on the standard library's way is the fastest.
 #[inline(always)]
 pub fn copy(from: &[u8], to: &mut [u8])
     requires { length from.now ≡ length to.old }
@@ -219,6 +200,6 @@ pub fn copy(from: &[u8], to: &mut [u8])
     if from.len() < 64 {
         copy_short(from, to);
     } else {
-        copy_long(from, to);
+        to.copy_from_slice(from);
     }
 }

@@ -4,8 +4,9 @@ ghost use Rattle.std.specs.Prelude.{◌≡◌, ◌<◌, ◌≤◌, ◌+◌, ◌*
 ghost use Rattle.capnp_format.specs.Canonical.{offset_to, Reaches};
 ghost use Rattle.capnp_format.specs.Numbers.{element_bits, words_for};
 ghost use Rattle.capnp_format.specs.Segments.{offset_leads};
+ghost use Rattle.capnp_words.specs.PointerWords.{DescribesStruct, DescribesList, LeadsToPad};
 ghost use Rattle.capnp_words.specs.Sizes.{size_number, pointers_per_element, kind_number};
-ghost use Rattle.capnp_format.specs.Word.{kind, offset_bits, signed, offset_field, IsOffset, lower_half, upper_half, data_words, pointer_count, element_size, list_count, is_double, far_position, struct_word, list_word, far_word, capability_word};
+ghost use Rattle.capnp_format.specs.Word.{kind, offset_bits, signed, offset_field, IsOffset, lower_half, upper_half, data_words, pointer_count, element_size, list_count, is_double, far_position, struct_word, capability_word};
 
 pub use self::ElementSize::{
     Bit, Byte, EightBytes, FourBytes, InlineComposite, Pointer, TwoBytes, Void,
@@ -49,7 +50,8 @@ pub fn data_bits_per_element(size: ElementSize) -> BitCount32
     }
 }
 
-/// How many words so many elements take together, which are no structs and no pointers ("Lists").
+/// How many words so many elements take together ("Lists"): the least that hold their bits. For
+/// pointers and structs it is 0.
 #[inline]
 pub fn flat_words(size: ElementSize, count: ElementCount32) -> WordCount32
     requires { count < 2 ^ 29 }
@@ -149,11 +151,8 @@ impl WirePointer {
     /// ("Structs").
     pub fn new_struct(offset: i32, size: StructSize) -> Self
         requires { IsOffset offset }
-        ensures word { result.0 ≡ struct_word (offset_field offset) size.data_words size.pointers }
-        ensures kind_of { kind result.0 ≡ 0 }
+        ensures word { DescribesStruct result.0 (offset_field offset) size }
         ensures offset_of { signed (offset_bits result.0) ≡ offset }
-        ensures data_of { data_words result.0 ≡ size.data_words }
-        ensures pointers_of { pointer_count result.0 ≡ size.pointers }
     {
         let low = u64::from(bits_of_offset(offset)) << 2;
         WirePointer(low | upper_of_struct(size) << 32)
@@ -163,11 +162,7 @@ impl WirePointer {
     /// size of each ("Lists").
     pub fn new_tag(count: ElementCount32, size: StructSize) -> Self
         requires { count < 2 ^ 30 }
-        ensures word { result.0 ≡ struct_word count size.data_words size.pointers }
-        ensures kind_of { kind result.0 ≡ 0 }
-        ensures count_of { offset_bits result.0 ≡ count }
-        ensures data_of { data_words result.0 ≡ size.data_words }
-        ensures pointers_of { pointer_count result.0 ≡ size.pointers }
+        ensures { DescribesStruct result.0 count size }
     {
         WirePointer(u64::from(count) << 2 | upper_of_struct(size) << 32)
     }
@@ -178,11 +173,7 @@ impl WirePointer {
     pub fn new_list(offset: i32, size: ElementSize, count: ElementCount32) -> Self
         requires near { IsOffset offset }
         requires few { count < 2 ^ 29 }
-        ensures word { result.0 ≡ list_word (offset_field offset) (size_number size) count }
-        ensures kind_of { kind result.0 ≡ 1 }
-        ensures offset_of { signed (offset_bits result.0) ≡ offset }
-        ensures size_of { element_size result.0 ≡ size_number size }
-        ensures count_of { list_count result.0 ≡ count }
+        ensures { DescribesList result.0 offset (size_number size) count }
     {
         let low = u64::from(bits_of_offset(offset)) << 2 | 1;
         let upper = u64::from(count) << 3 | size_code(size);
@@ -194,11 +185,7 @@ impl WirePointer {
     pub fn new_struct_list(offset: i32, words: WordCount32) -> Self
         requires near { IsOffset offset }
         requires few { words < 2 ^ 29 }
-        ensures word { result.0 ≡ list_word (offset_field offset) 7 words }
-        ensures kind_of { kind result.0 ≡ 1 }
-        ensures offset_of { signed (offset_bits result.0) ≡ offset }
-        ensures size_of { element_size result.0 ≡ 7 }
-        ensures words_of { list_count result.0 ≡ words }
+        ensures { DescribesList result.0 offset 7 words }
     {
         Self::new_list(offset, ElementSize::InlineComposite, words)
     }
@@ -207,11 +194,7 @@ impl WirePointer {
     /// ("Inter-Segment Pointers"). The pad's position in its segment is below 2^29 words.
     pub fn new_far(position: WordCount32, segment: u32) -> Self
         requires { position < 2 ^ 29 }
-        ensures word { result.0 ≡ far_word 0 position segment }
-        ensures kind_of { kind result.0 ≡ 2 }
-        ensures pads { is_double result.0 ≡ 0 }
-        ensures position_of { far_position result.0 ≡ position }
-        ensures segment_of { upper_half result.0 ≡ segment }
+        ensures { LeadsToPad result.0 0 position segment }
     {
         WirePointer(u64::from(position) << 3 | 2 | u64::from(segment) << 32)
     }
@@ -220,11 +203,7 @@ impl WirePointer {
     /// ("Inter-Segment Pointers"). The pad's position in its segment is below 2^29 words.
     pub fn new_double_far(position: WordCount32, segment: u32) -> Self
         requires { position < 2 ^ 29 }
-        ensures word { result.0 ≡ far_word 1 position segment }
-        ensures kind_of { kind result.0 ≡ 2 }
-        ensures pads { is_double result.0 ≡ 1 }
-        ensures position_of { far_position result.0 ≡ position }
-        ensures segment_of { upper_half result.0 ≡ segment }
+        ensures { LeadsToPad result.0 1 position segment }
     {
         WirePointer(u64::from(position) << 3 | 6 | u64::from(segment) << 32)
     }

@@ -7,12 +7,10 @@
 //!
 //! Rooms only shrink. So words are taken, and rows put behind the others, without a look at bounds. One that has come
 //! to be too great leads to a row without room, and is lowered then.
-ghost use Rattle.std.specs.Prelude.{◌≡◌, ◌<◌, ◌≤◌, ◌+◌, ◌-◌, ℕ, length, IfSome, IsNone, slice_index_or};
-ghost use Rattle.capnp_format.specs.Bytes.{message};
+ghost use Rattle.std.specs.Prelude.{◌≡◌, ◌<◌, ◌≤◌, ◌+◌, ◌-◌, ℕ, length, IfSome, IsNone};
 ghost use Rattle.capnp_arena_traits.specs.Allocations.{max_segments};
-ghost use Rattle.capnp_arena.specs.Bounds.{HasBounds, HaveNoRoom, IsBoundAt, rooms, view_of_rows};
+ghost use Rattle.capnp_arena.specs.Bounds.{FindsFit, HasBounds, HaveNoRoom, IsBoundAt, rooms};
 ghost use Rattle.capnp_arena.specs.Row.{shown, capacity_at};
-ghost use Rattle.capnp_arena_traits.specs.Taking.{IsFirstFit, IsFull};
 
 use crate::arena::Segment;
 use crate::arena::row::Row;
@@ -80,11 +78,8 @@ fn lower<S: Segment>(rows: &mut [Row<S>], at: usize)
 pub(crate) fn first_by_bounds<S: Segment>(rows: &mut [Row<S>], amount: u32) -> Option<u32>
     requires few { length rows.old ≤ max_segments }
     requires bounded { HasBounds S.Segment rows.old }
-    ensures fit { IfSome result (λ k. IsFirstFit (view_of_rows S.Segment rows.old) amount k) }
-    ensures full { IsNone result → IsFull (view_of_rows S.Segment rows.old) amount }
+    ensures found { FindsFit S.Segment rows.old rows.new amount result }
     ensures bounded { HasBounds S.Segment rows.new }
-    ensures segments { shown S.Segment rows.new ≡ shown S.Segment rows.old }
-    ensures capacity { capacity_at S.Segment rows.new ≡ capacity_at S.Segment rows.old }
 {
     let mut from = 0;
     while let Some(at) = first_allowed(rows, from, amount) {
@@ -102,11 +97,8 @@ pub(crate) fn first_by_bounds<S: Segment>(rows: &mut [Row<S>], amount: u32) -> O
 pub(crate) fn first_fit<S: Segment>(rows: &mut [Row<S>], amount: u32) -> Option<u32>
     requires few { length rows.old ≤ max_segments }
     requires bounded { HasBounds S.Segment rows.old }
-    ensures fit { IfSome result (λ k. IsFirstFit (view_of_rows S.Segment rows.old) amount k) }
-    ensures full { IsNone result → IsFull (view_of_rows S.Segment rows.old) amount }
+    ensures found { FindsFit S.Segment rows.old rows.new amount result }
     ensures bounded { HasBounds S.Segment rows.new }
-    ensures segments { shown S.Segment rows.new ≡ shown S.Segment rows.old }
-    ensures capacity { capacity_at S.Segment rows.new ≡ capacity_at S.Segment rows.old }
 {
     if !rows.is_empty() && rows[0].has_room(amount) {
         return Some(0);

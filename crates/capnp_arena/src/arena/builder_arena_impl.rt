@@ -4,9 +4,11 @@ ghost use Rattle.std.specs.Prelude.{◌≡◌, ◌⊎◌, ◌<◌, ◌≤◌, �
 ghost use Rattle.capnp_format.specs.Bytes.{message};
 ghost use Rattle.capnp_format.specs.Segments.{segment};
 ghost use Rattle.capnp_words.specs.declared.error.ErrorKind.TheVariants.{AllocationFailed, InvalidSegmentId, MessageTooLarge};
-ghost use Rattle.capnp_arena_traits.specs.Allocations.{IsFresh, max_segments, max_segment_words, one_more};
+ghost use Rattle.capnp_arena_traits.specs.Allocations.{IsFresh, max_segments, max_segment_words};
 ghost use Rattle.capnp_arena_traits.specs.View.{view_of};
 ghost use Rattle.capnp_arena_traits.specs.Limits.{IsSmall};
+ghost use Rattle.capnp_arena.specs.Another.{TakesAnother};
+ghost use Rattle.capnp_arena.specs.Counted.{CountsRefusal, RefusesNothing};
 ghost use Rattle.capnp_arena.specs.Output.{output_bytes, is_single};
 ghost use Rattle.capnp_arena.specs.RoomLemmas.{rows_within, rows_small, same_room};
 ghost use Rattle.capnp_arena.specs.Row.{GainsRow, shown, capacity_at};
@@ -14,15 +16,15 @@ ghost use Rattle.capnp_arena.specs.Kept.{arena_rows, listed_with_bytes, apart_wi
 ghost use Rattle.capnp_arena.specs.WithBytesLemmas.{kept_shown, kept_capacity};
 ghost use Rattle.capnp_arena.specs.Rows.{all};
 ghost use Rattle.capnp_arena_traits.specs.Checks.{total_words};
-ghost use Rattle.capnp_arena_traits.specs.Taking.{IsFull, IsFirstFit, IsAllocationRefusal, SameRoomBelow, with_another};
+ghost use Rattle.capnp_arena_traits.specs.Taking.{IsFull, IsFirstFit, IsAllocationRefusal, SameRoomBelow};
 ghost use Rattle.capnp_arena_traits.specs.Written.{with_more};
 
 use crate::arena::listed::Listed;
 use crate::arena::row::Row;
-use crate::arena::rows::{Place, Rows};
+use crate::arena::rows::Rows;
 use crate::arena::{
     Allocator, BuilderArena, MAX_SEGMENTS, NullAllocator, OutputSegments, ReaderArena, Segment,
-    SegmentId,
+    SegmentId, WordPlace,
 };
 use capnp_arena_traits::arena::sealed::Closed;
 use capnp_words::error::ErrorKind;
@@ -43,8 +45,7 @@ pub struct BuilderArenaImpl<A: Allocator> {
 /// Gives the segment of a row back to the allocator.
 #[tactic(auto, using(crate::proofs::RowLemmas::segment_clear))]
 fn deallocate<A: Allocator>(allocator: &mut A, row: Row<A::Segment>)
-    ensures refusals { A.refusals allocator.new ≡ A.refusals allocator.old }
-    ensures offers { A.offers allocator.new ≡ A.offers allocator.old }
+    ensures { RefusesNothing A.Allocator allocator.old allocator.new }
 {
     let Row {
         segment,
@@ -57,8 +58,7 @@ fn deallocate<A: Allocator>(allocator: &mut A, row: Row<A::Segment>)
 /// Gives the segment of each row of a list back to the allocator once, in order of number.
 #[inline(always)]
 fn give_back_list<A: Allocator>(allocator: &mut A, mut rows: Vec<Row<A::Segment>>)
-    ensures refusals { A.refusals allocator.new ≡ A.refusals allocator.old }
-    ensures offers { A.offers allocator.new ≡ A.offers allocator.old }
+    ensures { RefusesNothing A.Allocator allocator.old allocator.new }
 {
     if rows.len() > 1 {
         rows.reverse();
@@ -72,8 +72,7 @@ fn give_back_list<A: Allocator>(allocator: &mut A, mut rows: Vec<Row<A::Segment>
 /// The same for the rows behind a first one that stands apart, of which most messages have none.
 #[inline(never)]
 fn give_back_others<A: Allocator>(allocator: &mut A, rows: Vec<Row<A::Segment>>)
-    ensures refusals { A.refusals allocator.new ≡ A.refusals allocator.old }
-    ensures offers { A.offers allocator.new ≡ A.offers allocator.old }
+    ensures { RefusesNothing A.Allocator allocator.old allocator.new }
 {
     if rows.is_empty() {
         rows.destroy_empty();
@@ -85,8 +84,7 @@ fn give_back_others<A: Allocator>(allocator: &mut A, rows: Vec<Row<A::Segment>>)
 /// The same for all rows where the first stands apart.
 #[inline(always)]
 fn give_back_apart<A: Allocator>(allocator: &mut A, rows: Rows<A::Segment>)
-    ensures refusals { A.refusals allocator.new ≡ A.refusals allocator.old }
-    ensures offers { A.offers allocator.new ≡ A.offers allocator.old }
+    ensures { RefusesNothing A.Allocator allocator.old allocator.new }
 {
     let Rows {
         first,
@@ -111,8 +109,7 @@ fn give_back_apart<A: Allocator>(allocator: &mut A, rows: Rows<A::Segment>)
 /// there are none.
 #[inline(always)]
 fn give_back<A: Allocator>(allocator: &mut A, listed: Listed<A::Segment>, apart: Rows<A::Segment>)
-    ensures refusals { A.refusals allocator.new ≡ A.refusals allocator.old }
-    ensures offers { A.offers allocator.new ≡ A.offers allocator.old }
+    ensures { RefusesNothing A.Allocator allocator.old allocator.new }
 {
     give_back_apart(allocator, apart);
     let Listed { rows } = listed;
@@ -132,13 +129,9 @@ fn put_behind<A: Allocator>(
     ensures put { OnOk result (GainsRow A.Segment.Segment (all A.Segment.Segment rows.old)
         (all A.Segment.Segment rows.new) segment) }
     ensures first { length (all A.Segment.Segment rows.old) ≡ 0 → IsOk result }
-    ensures granted { OnOk result (A.refusals allocator.new ≡ A.refusals allocator.old) }
-    ensures named { IfErr result (λ e. e ≡ AllocationFailed) }
     ensures refused { OnErr result
         (all A.Segment.Segment rows.new ≡ all A.Segment.Segment rows.old) }
-    ensures counted { OnErr result
-        (A.refusals allocator.new ≡ one_more (A.refusals allocator.old)) }
-    ensures offers { A.offers allocator.new ≡ A.offers allocator.old }
+    ensures counted { CountsRefusal A.Allocator allocator.old allocator.new result }
 {
     if !rows.there {
         rows.put_first(segment);
@@ -164,12 +157,8 @@ fn put_in_list<A: Allocator>(
     requires fresh { IsFresh 0 (A.Segment.content segment) }
     ensures put { OnOk result (GainsRow A.Segment.Segment list.old.rows.items
         list.new.rows.items segment) }
-    ensures granted { OnOk result (A.refusals allocator.new ≡ A.refusals allocator.old) }
-    ensures named { IfErr result (λ e. e ≡ AllocationFailed) }
     ensures refused { OnErr result (list.new.rows.items ≡ list.old.rows.items) }
-    ensures counted { OnErr result
-        (A.refusals allocator.new ≡ one_more (A.refusals allocator.old)) }
-    ensures offers { A.offers allocator.new ≡ A.offers allocator.old }
+    ensures counted { CountsRefusal A.Allocator allocator.old allocator.new result }
 {
     match allocator.keep(&mut list.rows, Row::new(segment)) {
         None => Ok(()),
@@ -399,15 +388,10 @@ impl<A: Allocator> BuilderArenaImpl<A> {
             segment) }
         ensures first { length (⟦<Self as ReaderArena>⟧.segments self.old) ≡ 0
             → IsTrue A.first_in_arena → IsOk result }
-        ensures granted { OnOk result
-            (A.refusals self.new.allocator ≡ A.refusals self.old.allocator) }
-        ensures named { IfErr result (λ e. e ≡ AllocationFailed) }
         ensures refused { OnErr result
             (arena_rows A.Segment.Segment A.first_in_arena self.new.listed self.new.apart
             ≡ arena_rows A.Segment.Segment A.first_in_arena self.old.listed self.old.apart) }
-        ensures counted { OnErr result
-            (A.refusals self.new.allocator ≡ one_more (A.refusals self.old.allocator)) }
-        ensures offers { A.offers self.new.allocator ≡ A.offers self.old.allocator }
+        ensures counted { CountsRefusal A.Allocator self.old.allocator self.new.allocator result }
     {
         if A::keeps_first_in_arena() {
             put_behind(&mut self.allocator, &mut self.apart, segment)
@@ -534,37 +518,9 @@ impl<A: Allocator> BuilderArenaImpl<A> {
     }
 
     /// Takes words in a new segment behind the others, and gives its number.
-    #[tactic(auto, using(crate::proofs::TakingLemmas::another))]
     fn take_another(&mut self, amount: u32) -> Result<u32, ErrorKind>
-        ensures number { IfOk result (λ k. k ≡ length (⟦<Self as ReaderArena>⟧.segments self.old)) }
-        ensures taken { OnOk result (message (⟦<Self as ReaderArena>⟧.segments self.new)
-            ≡ with_another (⟦<Self as BuilderArena>⟧.view self.old).words amount) }
-        ensures least { IfOk result (λ k.
-            amount ≤ (⟦<Self as BuilderArena>⟧.view self.new).room k) }
-        ensures size { IfOk result (λ k.
-            IsTrue ((⟦<Self as BuilderArena>⟧.view self.old).offers amount
-            ((⟦<Self as BuilderArena>⟧.view self.new).room k))) }
-        ensures granted { OnOk result ((⟦<Self as BuilderArena>⟧.view self.new).refusals
-            ≡ (⟦<Self as BuilderArena>⟧.view self.old).refusals) }
-        ensures room { SameRoomBelow (length (⟦<Self as ReaderArena>⟧.segments self.old))
-            (⟦<Self as BuilderArena>⟧.view self.old).room
-            (⟦<Self as BuilderArena>⟧.view self.new).room }
-        ensures many { length (⟦<Self as ReaderArena>⟧.segments self.old) ≡ max_segments
-            → result ≡ Err (MessageTooLarge usize.MAX) }
-        ensures large { length (⟦<Self as ReaderArena>⟧.segments self.old) < max_segments
-            → max_segment_words < amount → result ≡ Err (MessageTooLarge amount) }
-        ensures named { IfErr result
-            (IsAllocationRefusal (⟦<Self as BuilderArena>⟧.view self.old)
-            (⟦<Self as BuilderArena>⟧.view self.new)
-            (length (⟦<Self as ReaderArena>⟧.segments self.old)) amount) }
-        ensures refused { OnErr result
-            (⟦<Self as ReaderArena>⟧.segments self.new
-            ≡ ⟦<Self as ReaderArena>⟧.segments self.old) }
-        ensures refused_room { OnErr result
-            ((⟦<Self as BuilderArena>⟧.view self.new).room
-            ≡ (⟦<Self as BuilderArena>⟧.view self.old).room) }
-        ensures offers { (⟦<Self as BuilderArena>⟧.view self.new).offers
-            ≡ (⟦<Self as BuilderArena>⟧.view self.old).offers }
+        ensures { TakesAnother (⟦<Self as BuilderArena>⟧.view self.old)
+            (⟦<Self as BuilderArena>⟧.view self.new) amount result }
     {
         let id = self.len();
         self.allocate_segment(amount)?;
@@ -705,27 +661,20 @@ impl<A: Allocator> BuilderArena for BuilderArenaImpl<A> {
     }
 
     #[tactic(auto, using(crate::proofs::KeptLemmas::keeping))]
-    fn move_words(&mut self, from: u32, from_at: u32, to: u32, to_at: u32, n: u32) {
+    fn move_words(&mut self, from: WordPlace, to: WordPlace, n: u32) {
         if n == 0 {
             return;
         }
-        if from == to {
+        if from.segment == to.segment {
             if A::keeps_first_in_arena() {
-                self.apart.move_words(to, from_at, to_at, n);
+                self.apart.move_words(to.segment, from.at, to.at, n);
             } else {
-                self.listed.move_words(to, from_at, to_at, n);
+                self.listed.move_words(to.segment, from.at, to.at, n);
             }
+        } else if A::keeps_first_in_arena() {
+            self.apart.copy_across(from, to, n);
         } else {
-            let old = Place {
-                row: from,
-                at: from_at,
-            };
-            let new = Place { row: to, at: to_at };
-            if A::keeps_first_in_arena() {
-                self.apart.copy_across(old, new, n);
-            } else {
-                self.listed.copy_across(old, new, n);
-            }
+            self.listed.copy_across(from, to, n);
         }
     }
 

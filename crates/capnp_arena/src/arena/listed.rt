@@ -4,14 +4,14 @@ ghost use Rattle.std.specs.Borrow.{sem, Lends, Array, u8 as byte};
 ghost use Rattle.capnp_format.specs.Bytes.{words_of, message};
 ghost use Rattle.capnp_format.specs.Segments.{segment, word_at, words_at, IsPlace};
 ghost use Rattle.capnp_arena_traits.specs.Allocations.{max_segments};
-ghost use Rattle.capnp_arena.specs.Bounds.{HasBounds, view_of_rows};
+ghost use Rattle.capnp_arena.specs.Bounds.{FindsFit, HasBounds};
+ghost use Rattle.capnp_arena.specs.Rewritten.{RewritesRows};
 ghost use Rattle.capnp_arena.specs.Row.{shown, capacity_at};
-ghost use Rattle.capnp_arena_traits.specs.Taking.{IsFirstFit, IsFull};
 ghost use Rattle.capnp_arena_traits.specs.Written.{extended, with_word, with_words};
 
 use crate::arena::row::Row;
-use crate::arena::rows::{At, Place, allocated_in, copy_across_in};
-use crate::arena::{Segment, bounds};
+use crate::arena::rows::{At, allocated_in, copy_across_in};
+use crate::arena::{Segment, WordPlace, bounds};
 use std::alloc::Global;
 
 /// Rows that all stand in a list.
@@ -63,11 +63,8 @@ impl<S: Segment> Listed<S> {
             + amount ≤ capacity_at S.Segment self.old.rows.items id }
         ensures at { result
             ≡ length (segment (message (shown S.Segment self.old.rows.items)) id) }
-        ensures taken { message (shown S.Segment self.new.rows.items)
-            ≡ extended (message (shown S.Segment self.old.rows.items)) id
-            (replicate amount 0) }
-        ensures room { capacity_at S.Segment self.new.rows.items
-            ≡ capacity_at S.Segment self.old.rows.items }
+        ensures taken { RewritesRows S.Segment self.old.rows.items self.new.rows.items
+            (extended (message (shown S.Segment self.old.rows.items)) id (replicate amount 0)) }
     {
         let row = &mut self.rows[id as usize];
         row.take(amount)
@@ -111,10 +108,8 @@ impl<S: Segment> Listed<S> {
     #[tactic(auto, using(crate::proofs::RowsLemmas::rows_written))]
     pub(crate) fn set_word(&mut self, id: u32, at: u32, word: u64)
         requires { IsPlace (message (shown S.Segment self.old.rows.items)) id at }
-        ensures words { message (shown S.Segment self.new.rows.items)
-            ≡ with_word (message (shown S.Segment self.old.rows.items)) id at word }
-        ensures room { capacity_at S.Segment self.new.rows.items
-            ≡ capacity_at S.Segment self.old.rows.items }
+        ensures { RewritesRows S.Segment self.old.rows.items self.new.rows.items
+            (with_word (message (shown S.Segment self.old.rows.items)) id at word) }
     {
         let row = &mut self.rows[id as usize];
         row.set_word(at, word);
@@ -128,11 +123,8 @@ impl<S: Segment> Listed<S> {
         requires whole { length from.now ≡ 8 * length (words_of from.now) }
         requires inside { at + length (words_of from.now)
             ≤ length (segment (message (shown S.Segment self.old.rows.items)) id) }
-        ensures words { message (shown S.Segment self.new.rows.items)
-            ≡ with_words (message (shown S.Segment self.old.rows.items)) id at
-            (words_of from.now) }
-        ensures room { capacity_at S.Segment self.new.rows.items
-            ≡ capacity_at S.Segment self.old.rows.items }
+        ensures { RewritesRows S.Segment self.old.rows.items self.new.rows.items
+            (with_words (message (shown S.Segment self.old.rows.items)) id at (words_of from.now)) }
     {
         let row = &mut self.rows[id as usize];
         row.copy_words(at, from);
@@ -145,17 +137,15 @@ impl<S: Segment> Listed<S> {
         requires there { id < length self.old.rows.items }
         requires inside { at + n
             ≤ length (segment (message (shown S.Segment self.old.rows.items)) id) }
-        ensures words { message (shown S.Segment self.new.rows.items)
-            ≡ with_words (message (shown S.Segment self.old.rows.items)) id at
-            (replicate n 0) }
-        ensures room { capacity_at S.Segment self.new.rows.items
-            ≡ capacity_at S.Segment self.old.rows.items }
+        ensures { RewritesRows S.Segment self.old.rows.items self.new.rows.items
+            (with_words (message (shown S.Segment self.old.rows.items)) id at (replicate n 0)) }
     {
         let row = &mut self.rows[id as usize];
         row.zero_words(at, n);
     }
 
-    /// Copies `n` words of a row over others of it, as they were before.
+    /// Copies `n` words of a row to another position of the same row. The two ranges may overlap: what
+    /// is copied are the words from before the call.
     #[inline(always)]
     #[tactic(auto, using(crate::proofs::RowsLemmas::rows_written))]
     pub(crate) fn move_words(&mut self, id: u32, from: u32, to: u32, n: u32)
@@ -164,11 +154,9 @@ impl<S: Segment> Listed<S> {
             ≤ length (segment (message (shown S.Segment self.old.rows.items)) id) }
         requires inside { to + n
             ≤ length (segment (message (shown S.Segment self.old.rows.items)) id) }
-        ensures words { message (shown S.Segment self.new.rows.items)
-            ≡ with_words (message (shown S.Segment self.old.rows.items)) id to
-            (words_at (message (shown S.Segment self.old.rows.items)) id from n) }
-        ensures room { capacity_at S.Segment self.new.rows.items
-            ≡ capacity_at S.Segment self.old.rows.items }
+        ensures { RewritesRows S.Segment self.old.rows.items self.new.rows.items
+            (with_words (message (shown S.Segment self.old.rows.items)) id to
+            (words_at (message (shown S.Segment self.old.rows.items)) id from n)) }
     {
         let row = &mut self.rows[id as usize];
         row.move_words(from, to, n);
@@ -176,26 +164,24 @@ impl<S: Segment> Listed<S> {
 
     /// Copies `n` words of one row over those of another.
     #[inline(always)]
-    pub(crate) fn copy_across(&mut self, from: Place, to: Place, n: u32)
-        requires rows { (from.row < length self.old.rows.items)
-            × (to.row < length self.old.rows.items) }
-        requires apart { from.row ≢ to.row }
+    pub(crate) fn copy_across(&mut self, from: WordPlace, to: WordPlace, n: u32)
+        requires rows { (from.segment < length self.old.rows.items)
+            × (to.segment < length self.old.rows.items) }
+        requires apart { from.segment ≢ to.segment }
         requires there { from.at + n
-            ≤ length (segment (message (shown S.Segment self.old.rows.items)) from.row) }
+            ≤ length (segment (message (shown S.Segment self.old.rows.items)) from.segment) }
         requires inside { to.at + n
-            ≤ length (segment (message (shown S.Segment self.old.rows.items)) to.row) }
-        ensures words { message (shown S.Segment self.new.rows.items)
-            ≡ with_words (message (shown S.Segment self.old.rows.items)) to.row to.at
-            (words_at (message (shown S.Segment self.old.rows.items)) from.row from.at n) }
-        ensures room { capacity_at S.Segment self.new.rows.items
-            ≡ capacity_at S.Segment self.old.rows.items }
+            ≤ length (segment (message (shown S.Segment self.old.rows.items)) to.segment) }
+        ensures { RewritesRows S.Segment self.old.rows.items self.new.rows.items
+            (with_words (message (shown S.Segment self.old.rows.items)) to.segment to.at
+            (words_at (message (shown S.Segment self.old.rows.items)) from.segment from.at n)) }
     {
         let old = At {
-            row: from.row as usize,
+            row: from.segment as usize,
             at: from.at,
         };
         let new = At {
-            row: to.row as usize,
+            row: to.segment as usize,
             at: to.at,
         };
         copy_across_in(&mut self.rows, old, new, n);
@@ -226,14 +212,7 @@ impl<S: Segment> Listed<S> {
     /// The first row that has room for so many words more.
     #[inline(always)]
     pub(crate) fn first_fit(&mut self, amount: u32) -> Option<u32>
-        ensures fit { IfSome result
-            (λ k. IsFirstFit (view_of_rows S.Segment self.old.rows.items) amount k) }
-        ensures full { IsNone result
-            → IsFull (view_of_rows S.Segment self.old.rows.items) amount }
-        ensures segments { shown S.Segment self.new.rows.items
-            ≡ shown S.Segment self.old.rows.items }
-        ensures capacity { capacity_at S.Segment self.new.rows.items
-            ≡ capacity_at S.Segment self.old.rows.items }
+        ensures { FindsFit S.Segment self.old.rows.items self.new.rows.items amount result }
     {
         bounds::first_fit(&mut self.rows, amount)
     }

@@ -1,9 +1,10 @@
 //! A segment of a builder arena, and how much of it is allocated.
-ghost use Rattle.std.specs.Prelude.{◌≡◌, ◌<◌, ◌≤◌, ◌+◌, ◌-◌, ◌*◌, ◌/◌, ◌↔◌, ◌++◌, [], ℕ, List, length, take, drop, replicate, slice_set, slice_index, IsTrue};
+ghost use Rattle.std.specs.Prelude.{◌≡◌, ◌<◌, ◌≤◌, ◌+◌, ◌-◌, ◌*◌, ◌/◌, ◌↔◌, ◌++◌, [], ℕ, List, length, take, replicate, slice_set, slice_index, IsTrue};
 ghost use Rattle.capnp_format.specs.Bytes.{words_of};
 ghost use Rattle.capnp_arena_traits.specs.Allocations.{IsRow, max_segment_words, zeros};
 ghost use Rattle.capnp_arena_traits.specs.Written.{overwritten, with_copied, with_front};
 ghost use Rattle.std.specs.Borrow.{sem, Lends, Array, u8 as byte};
+ghost use Rattle.capnp_arena.specs.Front.{RewritesFront};
 
 use crate::arena::{MAX_SEGMENT_WORDS, Segment};
 use capnp_words::words;
@@ -13,9 +14,8 @@ use capnp_words::words;
 fn put_below(bytes: &mut [u8], end: usize, at: usize, word: u64)
     requires inside { at < end }
     requires room { 8 * end ≤ length bytes.old }
-    ensures words { words_of (take (8 * end) bytes.new)
-        ≡ slice_set (words_of (take (8 * end) bytes.old)) at word }
-    ensures rest { drop (8 * end) bytes.new ≡ drop (8 * end) bytes.old }
+    ensures { RewritesFront end bytes.old bytes.new
+        (slice_set (words_of (take (8 * end) bytes.old)) at word) }
 {
     words::put_word(&mut bytes[..8 * end], at, word);
 }
@@ -26,9 +26,8 @@ fn copy_below(bytes: &mut [u8], end: usize, at: usize, from: &[u8])
     requires whole { length from.now ≡ 8 * length (words_of from.now) }
     requires inside { at + length (words_of from.now) ≤ end }
     requires room { 8 * end ≤ length bytes.old }
-    ensures words { words_of (take (8 * end) bytes.new)
-        ≡ overwritten (words_of (take (8 * end) bytes.old)) at (words_of from.now) }
-    ensures rest { drop (8 * end) bytes.new ≡ drop (8 * end) bytes.old }
+    ensures { RewritesFront end bytes.old bytes.new
+        (overwritten (words_of (take (8 * end) bytes.old)) at (words_of from.now)) }
 {
     words::copy_words(&mut bytes[..8 * end], at, from);
 }
@@ -38,9 +37,8 @@ fn copy_below(bytes: &mut [u8], end: usize, at: usize, from: &[u8])
 fn zero_below(bytes: &mut [u8], end: usize, at: usize, n: usize)
     requires inside { at + n ≤ end }
     requires room { 8 * end ≤ length bytes.old }
-    ensures words { words_of (take (8 * end) bytes.new)
-        ≡ overwritten (words_of (take (8 * end) bytes.old)) at (replicate n 0) }
-    ensures rest { drop (8 * end) bytes.new ≡ drop (8 * end) bytes.old }
+    ensures { RewritesFront end bytes.old bytes.new
+        (overwritten (words_of (take (8 * end) bytes.old)) at (replicate n 0)) }
 {
     words::zero_words(&mut bytes[..8 * end], at, n);
 }
@@ -51,10 +49,9 @@ fn move_below(bytes: &mut [u8], end: usize, from: usize, to: usize, n: usize)
     requires there { from + n ≤ end }
     requires inside { to + n ≤ end }
     requires room { 8 * end ≤ length bytes.old }
-    ensures words { words_of (take (8 * end) bytes.new)
-        ≡ with_copied (words_of (take (8 * end) bytes.old)) to
-        (words_of (take (8 * end) bytes.old)) from n }
-    ensures rest { drop (8 * end) bytes.new ≡ drop (8 * end) bytes.old }
+    ensures { RewritesFront end bytes.old bytes.new
+        (with_copied (words_of (take (8 * end) bytes.old)) to
+        (words_of (take (8 * end) bytes.old)) from n) }
 {
     words::move_words(&mut bytes[..8 * end], from, to, n);
 }
@@ -81,6 +78,7 @@ pub(crate) struct Row<S: Segment> {
 
 impl<S: Segment> Row<S> {
     ghost use Rattle.capnp_arena.specs.Bounds.{room};
+    ghost use Rattle.capnp_arena.specs.Rewritten.{RewritesRow};
     ghost use Rattle.capnp_arena.specs.Row.{allocated, capacity, with_allocated};
     ghost use Rattle.capnp_arena.specs.contracts.arena.row.Row.{the_row};
 
@@ -158,11 +156,8 @@ impl<S: Segment> Row<S> {
     #[tactic(auto, using(crate::proofs::RowLemmas::written))]
     pub(crate) fn set_word(&mut self, at: u32, word: u64)
         requires { at < self.old.used }
-        ensures words { words_of (allocated S.Segment self.new)
-            ≡ slice_set (words_of (allocated S.Segment self.old)) at word }
-        ensures used { self.new.used ≡ self.old.used }
-        ensures bound { self.new.bound ≡ self.old.bound }
-        ensures capacity { capacity S.Segment self.new ≡ capacity S.Segment self.old }
+        ensures { RewritesRow S.Segment self.old self.new
+            (slice_set (words_of (allocated S.Segment self.old)) at word) }
     {
         let end = self.used as usize;
         put_below(self.segment.bytes_mut(), end, at as usize, word);
@@ -172,11 +167,8 @@ impl<S: Segment> Row<S> {
     pub(crate) fn copy_words(&mut self, at: u32, from: &[u8])
         requires whole { length from.now ≡ 8 * length (words_of from.now) }
         requires inside { at + length (words_of from.now) ≤ self.old.used }
-        ensures words { words_of (allocated S.Segment self.new)
-            ≡ overwritten (words_of (allocated S.Segment self.old)) at (words_of from.now) }
-        ensures used { self.new.used ≡ self.old.used }
-        ensures bound { self.new.bound ≡ self.old.bound }
-        ensures capacity { capacity S.Segment self.new ≡ capacity S.Segment self.old }
+        ensures { RewritesRow S.Segment self.old self.new
+            (overwritten (words_of (allocated S.Segment self.old)) at (words_of from.now)) }
     {
         let end = self.used as usize;
         copy_below(self.segment.bytes_mut(), end, at as usize, from);
@@ -186,12 +178,9 @@ impl<S: Segment> Row<S> {
     pub(crate) fn move_words(&mut self, from: u32, to: u32, n: u32)
         requires there { from + n ≤ self.old.used }
         requires inside { to + n ≤ self.old.used }
-        ensures words { words_of (allocated S.Segment self.new)
-            ≡ with_copied (words_of (allocated S.Segment self.old)) to
-            (words_of (allocated S.Segment self.old)) from n }
-        ensures used { self.new.used ≡ self.old.used }
-        ensures bound { self.new.bound ≡ self.old.bound }
-        ensures capacity { capacity S.Segment self.new ≡ capacity S.Segment self.old }
+        ensures { RewritesRow S.Segment self.old self.new
+            (with_copied (words_of (allocated S.Segment self.old)) to
+            (words_of (allocated S.Segment self.old)) from n) }
     {
         let end = self.used as usize;
         move_below(
@@ -208,12 +197,9 @@ impl<S: Segment> Row<S> {
     pub(crate) fn copy_from(&mut self, at: u32, row: &Row<S>, from: u32, n: u32)
         requires there { from + n ≤ row.now.used }
         requires inside { at + n ≤ self.old.used }
-        ensures words { words_of (allocated S.Segment self.new)
-            ≡ with_copied (words_of (allocated S.Segment self.old)) at
-            (words_of (allocated S.Segment row.now)) from n }
-        ensures used { self.new.used ≡ self.old.used }
-        ensures bound { self.new.bound ≡ self.old.bound }
-        ensures capacity { capacity S.Segment self.new ≡ capacity S.Segment self.old }
+        ensures { RewritesRow S.Segment self.old self.new
+            (with_copied (words_of (allocated S.Segment self.old)) at
+            (words_of (allocated S.Segment row.now)) from n) }
     {
         let words = words::part(row.allocated(), from as usize, n as usize);
         self.copy_words(at, words);
@@ -222,11 +208,8 @@ impl<S: Segment> Row<S> {
     #[tactic(auto, using(crate::proofs::RowLemmas::written))]
     pub(crate) fn zero_words(&mut self, at: u32, n: u32)
         requires { at + n ≤ self.old.used }
-        ensures words { words_of (allocated S.Segment self.new)
-            ≡ overwritten (words_of (allocated S.Segment self.old)) at (replicate n 0) }
-        ensures used { self.new.used ≡ self.old.used }
-        ensures bound { self.new.bound ≡ self.old.bound }
-        ensures capacity { capacity S.Segment self.new ≡ capacity S.Segment self.old }
+        ensures { RewritesRow S.Segment self.old self.new
+            (overwritten (words_of (allocated S.Segment self.old)) at (replicate n 0)) }
     {
         let end = self.used as usize;
         zero_below(self.segment.bytes_mut(), end, at as usize, n as usize);

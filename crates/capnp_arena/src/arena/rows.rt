@@ -8,13 +8,13 @@ ghost use Rattle.std.specs.Borrow.{sem, Lends, Array, u8 as byte};
 ghost use Rattle.capnp_format.specs.Bytes.{words_of, message};
 ghost use Rattle.capnp_format.specs.Segments.{segment, word_at, words_at, IsPlace};
 ghost use Rattle.capnp_arena_traits.specs.Allocations.{IsFresh};
-ghost use Rattle.capnp_arena.specs.Bounds.{HasBounds, view_of_rows};
+ghost use Rattle.capnp_arena.specs.Bounds.{FindsFit, HasBounds};
+ghost use Rattle.capnp_arena.specs.Rewritten.{KeepsList, RewritesList, RewritesRows};
 ghost use Rattle.capnp_arena.specs.Row.{GainsRow, most_others, shown, capacity_at};
-ghost use Rattle.capnp_arena_traits.specs.Taking.{IsFirstFit, IsFull};
 ghost use Rattle.capnp_arena_traits.specs.Written.{extended, with_word, with_words};
 
 use crate::arena::row::Row;
-use crate::arena::{Segment, bounds};
+use crate::arena::{Segment, WordPlace, bounds};
 use std::alloc::Global;
 use std::mem::replace;
 
@@ -27,11 +27,8 @@ fn take_in<S: Segment>(rows: &mut [Row<S>], id: usize, amount: u32) -> u32
     requires fits { length (segment (message (shown S.Segment rows.old)) id) + amount
         ≤ capacity_at S.Segment rows.old id }
     ensures at { result ≡ length (segment (message (shown S.Segment rows.old)) id) }
-    ensures taken { message (shown S.Segment rows.new)
-        ≡ extended (message (shown S.Segment rows.old)) id (replicate amount 0) }
-    ensures room { capacity_at S.Segment rows.new ≡ capacity_at S.Segment rows.old }
-    ensures many { length rows.new ≡ length rows.old }
-    ensures bounded { HasBounds S.Segment rows.old → HasBounds S.Segment rows.new }
+    ensures taken { RewritesList S.Segment rows.old rows.new
+        (extended (message (shown S.Segment rows.old)) id (replicate amount 0)) }
 {
     let row = &mut rows[id];
     row.take(amount)
@@ -51,9 +48,7 @@ fn allocate_in<S: Segment>(rows: &mut [Row<S>], id: usize, amount: u32) -> Optio
         ≡ extended (message (shown S.Segment rows.old)) id (replicate amount 0))) }
     ensures none { IsNone result
         → message (shown S.Segment rows.new) ≡ message (shown S.Segment rows.old) }
-    ensures room { capacity_at S.Segment rows.new ≡ capacity_at S.Segment rows.old }
-    ensures many { length rows.new ≡ length rows.old }
-    ensures bounded { HasBounds S.Segment rows.old → HasBounds S.Segment rows.new }
+    ensures kept { KeepsList S.Segment rows.old rows.new }
 {
     if rows[id].has_room(amount) {
         Some(take_in(rows, id, amount))
@@ -78,11 +73,8 @@ fn word_in<S: Segment>(rows: &[Row<S>], id: usize, at: u32) -> u64
 #[tactic(auto, using(crate::proofs::RowsLemmas::rows_written))]
 fn set_word_in<S: Segment>(rows: &mut [Row<S>], id: usize, at: u32, word: u64)
     requires { IsPlace (message (shown S.Segment rows.old)) id at }
-    ensures words { message (shown S.Segment rows.new)
-        ≡ with_word (message (shown S.Segment rows.old)) id at word }
-    ensures room { capacity_at S.Segment rows.new ≡ capacity_at S.Segment rows.old }
-    ensures many { length rows.new ≡ length rows.old }
-    ensures bounded { HasBounds S.Segment rows.old → HasBounds S.Segment rows.new }
+    ensures { RewritesList S.Segment rows.old rows.new
+        (with_word (message (shown S.Segment rows.old)) id at word) }
 {
     let row = &mut rows[id];
     row.set_word(at, word);
@@ -97,11 +89,8 @@ fn copy_words_in<S: Segment>(rows: &mut [Row<S>], id: usize, at: u32, from: &[u8
     requires whole { length from.now ≡ 8 * length (words_of from.now) }
     requires inside { at + length (words_of from.now)
         ≤ length (segment (message (shown S.Segment rows.old)) id) }
-    ensures words { message (shown S.Segment rows.new)
-        ≡ with_words (message (shown S.Segment rows.old)) id at (words_of from.now) }
-    ensures room { capacity_at S.Segment rows.new ≡ capacity_at S.Segment rows.old }
-    ensures many { length rows.new ≡ length rows.old }
-    ensures bounded { HasBounds S.Segment rows.old → HasBounds S.Segment rows.new }
+    ensures { RewritesList S.Segment rows.old rows.new
+        (with_words (message (shown S.Segment rows.old)) id at (words_of from.now)) }
 {
     let row = &mut rows[id];
     row.copy_words(at, from);
@@ -114,17 +103,15 @@ fn copy_words_in<S: Segment>(rows: &mut [Row<S>], id: usize, at: u32, from: &[u8
 fn zero_words_in<S: Segment>(rows: &mut [Row<S>], id: usize, at: u32, n: u32)
     requires there { id < length rows.old }
     requires inside { at + n ≤ length (segment (message (shown S.Segment rows.old)) id) }
-    ensures words { message (shown S.Segment rows.new)
-        ≡ with_words (message (shown S.Segment rows.old)) id at (replicate n 0) }
-    ensures room { capacity_at S.Segment rows.new ≡ capacity_at S.Segment rows.old }
-    ensures many { length rows.new ≡ length rows.old }
-    ensures bounded { HasBounds S.Segment rows.old → HasBounds S.Segment rows.new }
+    ensures { RewritesList S.Segment rows.old rows.new
+        (with_words (message (shown S.Segment rows.old)) id at (replicate n 0)) }
 {
     let row = &mut rows[id];
     row.zero_words(at, n);
 }
 
-/// Copies `n` words of a row over others of it, as they were before.
+/// Copies `n` words of a row to another position of the same row. The two ranges may overlap: what
+/// is copied are the words from before the call.
 #[cold]
 #[inline(never)]
 #[tactic(auto, using(crate::proofs::RowsLemmas::rows_written))]
@@ -132,33 +119,12 @@ fn move_words_in<S: Segment>(rows: &mut [Row<S>], id: usize, from: u32, to: u32,
     requires room { id < length rows.old }
     requires there { from + n ≤ length (segment (message (shown S.Segment rows.old)) id) }
     requires inside { to + n ≤ length (segment (message (shown S.Segment rows.old)) id) }
-    ensures words { message (shown S.Segment rows.new)
-        ≡ with_words (message (shown S.Segment rows.old)) id to
-        (words_at (message (shown S.Segment rows.old)) id from n) }
-    ensures room { capacity_at S.Segment rows.new ≡ capacity_at S.Segment rows.old }
-    ensures many { length rows.new ≡ length rows.old }
-    ensures bounded { HasBounds S.Segment rows.old → HasBounds S.Segment rows.new }
+    ensures { RewritesList S.Segment rows.old rows.new
+        (with_words (message (shown S.Segment rows.old)) id to
+        (words_at (message (shown S.Segment rows.old)) id from n)) }
 {
     let row = &mut rows[id];
     row.move_words(from, to, n);
-}
-
-/// Copies `n` words of another row over those of one.
-#[inline(never)]
-#[tactic(auto, using(crate::proofs::RowsLemmas::rows_written))]
-fn copy_in<S: Segment>(rows: &mut [Row<S>], id: usize, to: u32, row: &Row<S>, from: u32, n: u32)
-    requires room { id < length rows.old }
-    requires there { from + n ≤ row.now.used }
-    requires inside { to + n ≤ length (segment (message (shown S.Segment rows.old)) id) }
-    ensures words { message (shown S.Segment rows.new)
-        ≡ with_words (message (shown S.Segment rows.old)) id to
-        (words_at (message (shown S.Segment (row.now ∷ []))) 0 from n) }
-    ensures room { capacity_at S.Segment rows.new ≡ capacity_at S.Segment rows.old }
-    ensures many { length rows.new ≡ length rows.old }
-    ensures bounded { HasBounds S.Segment rows.old → HasBounds S.Segment rows.new }
-{
-    let written = &mut rows[id];
-    written.copy_from(to, row, from, n);
 }
 
 /// A row of those behind the first, and a position in it.
@@ -168,6 +134,22 @@ pub(crate) struct At {
     pub(crate) at: u32,
 }
 
+/// Copies `n` words of another row, from a position on, over those of one.
+#[inline(never)]
+#[tactic(auto, using(crate::proofs::RowsLemmas::rows_written))]
+fn copy_in<S: Segment>(rows: &mut [Row<S>], to: At, row: &Row<S>, from: u32, n: u32)
+    requires row { to.row < length rows.old }
+    requires there { from + n ≤ row.now.used }
+    requires inside { to.at + n
+        ≤ length (segment (message (shown S.Segment rows.old)) to.row) }
+    ensures { RewritesList S.Segment rows.old rows.new
+        (with_words (message (shown S.Segment rows.old)) to.row to.at
+        (words_at (message (shown S.Segment (row.now ∷ []))) 0 from n)) }
+{
+    let written = &mut rows[to.row];
+    written.copy_from(to.at, row, from, n);
+}
+
 /// Copies `n` words of one row over those of another.
 pub(crate) fn copy_across_in<S: Segment>(rows: &mut [Row<S>], from: At, to: At, n: u32)
     requires rows { (from.row < length rows.old) × (to.row < length rows.old) }
@@ -175,12 +157,9 @@ pub(crate) fn copy_across_in<S: Segment>(rows: &mut [Row<S>], from: At, to: At, 
     requires there { from.at + n
         ≤ length (segment (message (shown S.Segment rows.old)) from.row) }
     requires inside { to.at + n ≤ length (segment (message (shown S.Segment rows.old)) to.row) }
-    ensures words { message (shown S.Segment rows.new)
-        ≡ with_words (message (shown S.Segment rows.old)) to.row to.at
-        (words_at (message (shown S.Segment rows.old)) from.row from.at n) }
-    ensures room { capacity_at S.Segment rows.new ≡ capacity_at S.Segment rows.old }
-    ensures many { length rows.new ≡ length rows.old }
-    ensures bounded { HasBounds S.Segment rows.old → HasBounds S.Segment rows.new }
+    ensures { RewritesList S.Segment rows.old rows.new
+        (with_words (message (shown S.Segment rows.old)) to.row to.at
+        (words_at (message (shown S.Segment rows.old)) from.row from.at n)) }
 {
     if from.row < to.row {
         let (front, back) = rows.split_at_mut(to.row);
@@ -204,13 +183,6 @@ pub(crate) fn allocated_in<S: Segment>(rows: &[Row<S>], id: usize) -> Option<&[u
         Some(row) => Some(row.allocated()),
         None => None,
     }
-}
-
-/// A row, and a position in it.
-#[derive(Clone, Copy)]
-pub(crate) struct Place {
-    pub(crate) row: u32,
-    pub(crate) at: u32,
 }
 
 /// Rows of which the first stands apart.
@@ -260,11 +232,9 @@ impl<S: Segment> Rows<S> {
             + amount ≤ capacity_at S.Segment (all S.Segment self.old) id }
         ensures at { result
             ≡ length (segment (message (shown S.Segment (all S.Segment self.old))) id) }
-        ensures taken { message (shown S.Segment (all S.Segment self.new))
-            ≡ extended (message (shown S.Segment (all S.Segment self.old))) id
-            (replicate amount 0) }
-        ensures room { capacity_at S.Segment (all S.Segment self.new)
-            ≡ capacity_at S.Segment (all S.Segment self.old) }
+        ensures taken { RewritesRows S.Segment (all S.Segment self.old) (all S.Segment self.new)
+            (extended (message (shown S.Segment (all S.Segment self.old))) id
+            (replicate amount 0)) }
     {
         if id == 0 {
             self.first.take(amount)
@@ -321,10 +291,8 @@ impl<S: Segment> Rows<S> {
     #[tactic(auto, using(crate::proofs::ListedLemmas::listing))]
     pub(crate) fn set_word(&mut self, id: u32, at: u32, word: u64)
         requires { IsPlace (message (shown S.Segment (all S.Segment self.old))) id at }
-        ensures words { message (shown S.Segment (all S.Segment self.new))
-            ≡ with_word (message (shown S.Segment (all S.Segment self.old))) id at word }
-        ensures room { capacity_at S.Segment (all S.Segment self.new)
-            ≡ capacity_at S.Segment (all S.Segment self.old) }
+        ensures { RewritesRows S.Segment (all S.Segment self.old) (all S.Segment self.new)
+            (with_word (message (shown S.Segment (all S.Segment self.old))) id at word) }
     {
         if id == 0 {
             self.first.set_word(at, word)
@@ -341,11 +309,9 @@ impl<S: Segment> Rows<S> {
         requires whole { length from.now ≡ 8 * length (words_of from.now) }
         requires inside { at + length (words_of from.now)
             ≤ length (segment (message (shown S.Segment (all S.Segment self.old))) id) }
-        ensures words { message (shown S.Segment (all S.Segment self.new))
-            ≡ with_words (message (shown S.Segment (all S.Segment self.old))) id at
-            (words_of from.now) }
-        ensures room { capacity_at S.Segment (all S.Segment self.new)
-            ≡ capacity_at S.Segment (all S.Segment self.old) }
+        ensures { RewritesRows S.Segment (all S.Segment self.old) (all S.Segment self.new)
+            (with_words (message (shown S.Segment (all S.Segment self.old))) id at
+            (words_of from.now)) }
     {
         if id == 0 {
             self.first.copy_words(at, from)
@@ -361,11 +327,9 @@ impl<S: Segment> Rows<S> {
         requires there { id < length (all S.Segment self.old) }
         requires inside { at + n
             ≤ length (segment (message (shown S.Segment (all S.Segment self.old))) id) }
-        ensures words { message (shown S.Segment (all S.Segment self.new))
-            ≡ with_words (message (shown S.Segment (all S.Segment self.old))) id at
-            (replicate n 0) }
-        ensures room { capacity_at S.Segment (all S.Segment self.new)
-            ≡ capacity_at S.Segment (all S.Segment self.old) }
+        ensures { RewritesRows S.Segment (all S.Segment self.old) (all S.Segment self.new)
+            (with_words (message (shown S.Segment (all S.Segment self.old))) id at
+            (replicate n 0)) }
     {
         if id == 0 {
             self.first.zero_words(at, n)
@@ -374,7 +338,8 @@ impl<S: Segment> Rows<S> {
         }
     }
 
-    /// Copies `n` words of a row over others of it, as they were before.
+    /// Copies `n` words of a row to another position of the same row. The two ranges may overlap: what
+    /// is copied are the words from before the call.
     #[tactic(auto, using(crate::proofs::ListedLemmas::listing))]
     pub(crate) fn move_words(&mut self, id: u32, from: u32, to: u32, n: u32)
         requires row { id < length (all S.Segment self.old) }
@@ -382,11 +347,9 @@ impl<S: Segment> Rows<S> {
             ≤ length (segment (message (shown S.Segment (all S.Segment self.old))) id) }
         requires inside { to + n
             ≤ length (segment (message (shown S.Segment (all S.Segment self.old))) id) }
-        ensures words { message (shown S.Segment (all S.Segment self.new))
-            ≡ with_words (message (shown S.Segment (all S.Segment self.old))) id to
-            (words_at (message (shown S.Segment (all S.Segment self.old))) id from n) }
-        ensures room { capacity_at S.Segment (all S.Segment self.new)
-            ≡ capacity_at S.Segment (all S.Segment self.old) }
+        ensures { RewritesRows S.Segment (all S.Segment self.old) (all S.Segment self.new)
+            (with_words (message (shown S.Segment (all S.Segment self.old))) id to
+            (words_at (message (shown S.Segment (all S.Segment self.old))) id from n)) }
     {
         if id == 0 {
             self.first.move_words(from, to, n)
@@ -397,39 +360,34 @@ impl<S: Segment> Rows<S> {
 
     /// Copies `n` words of one row over those of another.
     #[tactic(auto, using(crate::proofs::ListedLemmas::listing))]
-    pub(crate) fn copy_across(&mut self, from: Place, to: Place, n: u32)
-        requires rows { (from.row < length (all S.Segment self.old))
-            × (to.row < length (all S.Segment self.old)) }
-        requires apart { from.row ≢ to.row }
+    pub(crate) fn copy_across(&mut self, from: WordPlace, to: WordPlace, n: u32)
+        requires rows { (from.segment < length (all S.Segment self.old))
+            × (to.segment < length (all S.Segment self.old)) }
+        requires apart { from.segment ≢ to.segment }
         requires there { from.at + n
-            ≤ length (segment (message (shown S.Segment (all S.Segment self.old))) from.row) }
+            ≤ length (segment (message (shown S.Segment (all S.Segment self.old))) from.segment) }
         requires inside { to.at + n
-            ≤ length (segment (message (shown S.Segment (all S.Segment self.old))) to.row) }
-        ensures words { message (shown S.Segment (all S.Segment self.new))
-            ≡ with_words (message (shown S.Segment (all S.Segment self.old))) to.row to.at
-            (words_at (message (shown S.Segment (all S.Segment self.old))) from.row from.at n) }
-        ensures room { capacity_at S.Segment (all S.Segment self.new)
-            ≡ capacity_at S.Segment (all S.Segment self.old) }
+            ≤ length (segment (message (shown S.Segment (all S.Segment self.old))) to.segment) }
+        ensures { RewritesRows S.Segment (all S.Segment self.old) (all S.Segment self.new)
+            (with_words (message (shown S.Segment (all S.Segment self.old))) to.segment to.at
+            (words_at (message (shown S.Segment (all S.Segment self.old))) from.segment from.at n)) }
     {
-        if from.row == 0 {
-            copy_in(
-                &mut self.others,
-                to.row as usize - 1,
-                to.at,
-                &self.first,
-                from.at,
-                n,
-            );
-        } else if to.row == 0 {
+        if from.segment == 0 {
+            let new = At {
+                row: to.segment as usize - 1,
+                at: to.at,
+            };
+            copy_in(&mut self.others, new, &self.first, from.at, n);
+        } else if to.segment == 0 {
             self.first
-                .copy_from(to.at, &self.others[from.row as usize - 1], from.at, n);
+                .copy_from(to.at, &self.others[from.segment as usize - 1], from.at, n);
         } else {
             let old = At {
-                row: from.row as usize - 1,
+                row: from.segment as usize - 1,
                 at: from.at,
             };
             let new = At {
-                row: to.row as usize - 1,
+                row: to.segment as usize - 1,
                 at: to.at,
             };
             copy_across_in(&mut self.others, old, new, n);
@@ -496,14 +454,8 @@ impl<S: Segment> Rows<S> {
     /// no bound is looked at.
     #[inline(always)]
     pub(crate) fn first_fit(&mut self, amount: u32) -> Option<u32>
-        ensures fit { IfSome result
-            (λ k. IsFirstFit (view_of_rows S.Segment (all S.Segment self.old)) amount k) }
-        ensures full { IsNone result
-            → IsFull (view_of_rows S.Segment (all S.Segment self.old)) amount }
-        ensures segments { shown S.Segment (all S.Segment self.new)
-            ≡ shown S.Segment (all S.Segment self.old) }
-        ensures capacity { capacity_at S.Segment (all S.Segment self.new)
-            ≡ capacity_at S.Segment (all S.Segment self.old) }
+        ensures { FindsFit S.Segment (all S.Segment self.old) (all S.Segment self.new)
+            amount result }
     {
         if self.there {
             if self.first.has_room(amount) {

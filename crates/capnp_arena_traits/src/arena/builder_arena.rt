@@ -9,7 +9,7 @@ ghost use Rattle.capnp_arena_traits.specs.View.{View};
 ghost use Rattle.capnp_arena_traits.specs.Taking.{GrowsSegment, IsFull, GainsSegment, IsAllocationRefusal, IsFirstFit, IsTaken, SameRoomBelow};
 ghost use Rattle.capnp_arena_traits.specs.Written.{with_word, with_words};
 
-use crate::arena::{ReaderArena, SegmentId};
+use crate::arena::{ReaderArena, SegmentId, WordPlace};
 use capnp_words::error::ErrorKind;
 
 pub mod sealed {
@@ -59,13 +59,13 @@ pub trait BuilderArena: ReaderArena + sealed::Closed {
             { words = with_words (view self.old).words id at (words_of from.now) } };
 
     /// Copies `n` words over others of the same segment or of another one, as they were before. Where `n` is 0, nothing changes.
-    fn move_words(&mut self, from: u32, from_at: u32, to: u32, to_at: u32, n: u32)
-        requires there { from_at + n ≤ length (segment (view self.old).words from) }
-        requires inside { to_at + n ≤ length (segment (view self.old).words to) }
+    fn move_words(&mut self, from: WordPlace, to: WordPlace, n: u32)
+        requires there { from.at + n ≤ length (segment (view self.old).words from.segment) }
+        requires inside { to.at + n ≤ length (segment (view self.old).words to.segment) }
         ensures { view self.new
             ≡ record (view self.old) {
-              words = with_words (view self.old).words to to_at
-                  (words_at (view self.old).words from from_at n);
+              words = with_words (view self.old).words to.segment to.at
+                  (words_at (view self.old).words from.segment from.at n);
             } };
 
     /// Writes `n` words of zero over others. Where `n` is 0, nothing changes.

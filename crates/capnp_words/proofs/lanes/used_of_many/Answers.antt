@@ -5,14 +5,11 @@ use Rattle.capnp_format.proofs.UsedUp.{used_whole}
 use Rattle.capnp_words.proofs.LaneLemmas.{used_all}
 use Rattle.capnp_words.proofs.lanes.used_of_many.Goals as goal
 
-pub returns-then-word_at-ne0-clause-value : goal.returns-then-word_at-ne0-clause-value
-returns-then-word_at-ne0-clause-value c =
+pub returns-then-word_at-ne0 : goal.returns-then-word_at-ne0
+returns-then-word_at-ne0 c =
     let bs : List ℕ = c.args.bytes.now in
     let n : ℕ = length bs / 8 in
     sym (used_all bs ∙ used_whole (words_of bs) (n - 1) n (omega arith) (omega (arith, words bs)) (λ e. c.if-word_at-ne0.true (c.word_at.ensures ∙ e)))
 
-pub returns-clause-value : goal.returns-clause-value
-returns-clause-value c = c.used_before.ensures.value ∙ sym c.end_of_blocks.ensures.used
-
-pub returns-clause-within : goal.returns-clause-within
-returns-clause-within c = omega (arith, c.used_before.ensures.within, c.end_of_blocks.ensures.within)
+pub returns : goal.returns
+returns c = c.used_before.ensures.value ∙ sym c.end_of_blocks.ensures.used

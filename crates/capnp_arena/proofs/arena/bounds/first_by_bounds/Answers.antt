@@ -1,29 +1,43 @@
-use Rattle.std.proofs.Common.{◌<◌, length, inl, inr, refl, ◌∙◌, arith}
-use Rattle.std.proofs.lemmas.Bool.{cases_lt}
+use Rattle.std.proofs.Common.{◌<◌, length, inl, inr, refl, ◌∙◌, arith, sym}
+use Rattle.std.proofs.lemmas.Bool.{cases_lt, false≢true}
 use Rattle.capnp_arena.specs.Row.{shown}
 use Rattle.capnp_arena_traits.proofs.MessageLemmas.{length-message}
 use Rattle.capnp_arena.proofs.RowsLemmas.{length_shown}
 use Rattle.capnp_arena.proofs.BoundsLemmas.{passed_on, room_as_before, too_full}
 use Rattle.capnp_arena.proofs.arena.bounds.first_by_bounds.Goals as goal
 
-pub returns-clause-full : goal.returns-clause-full
-returns-clause-full g c _ k l =
+pub returns-clause-found : goal.returns-clause-found
+returns-clause-found g c =
     let seg = g.S.Segment in
     let rows = c.args.rows.now in
-    passed_on seg c.loop-at.rows rows c.loop-at.from (length c.loop-at.rows) c.args.amount c.loop-at.invariant.segments c.loop-at.invariant.capacity c.loop-at.invariant.passed (c.in_default.ensures.none refl) k
-    (omega (arith, l, length-message (shown seg rows), length_shown seg rows))
+    let h = c.loop-at.invariant in
+    record {
+      fit = tt;
+      full = λ _ k l.
+          passed_on seg c.loop-at.rows rows c.loop-at.from (length c.loop-at.rows) c.args.amount h.segments h.capacity h.passed (c.in_default.ensures.none refl) k
+          (omega (arith, l, length-message (shown seg rows), length_shown seg rows));
+      segments = h.segments;
+      capacity = h.capacity;
+    }
 
-pub returns-then-has_room-clause-fit : goal.returns-then-has_room-clause-fit
-returns-then-has_room-clause-fit g c =
+pub returns-then-has_room-clause-found : goal.returns-then-has_room-clause-found
+returns-then-has_room-clause-found g c =
     let seg = g.S.Segment in
     let rows = c.args.rows.now in
     let at = c.in-Some.at in
+    let h = c.loop-at.invariant in
     let there : at < length c.loop-at.rows = c.in-Some.ensures.there.1 in
-    let as_before = room_as_before seg c.loop-at.rows rows at c.index-rows-at.result c.loop-at.invariant.segments c.loop-at.invariant.capacity there in (
-      omega (arith, length-message (shown seg rows), length_shown seg rows),
-      omega (arith, as_before.0, as_before.1, c.has_room.ensures.0 c.if-has_room.true),
-      passed_on seg c.loop-at.rows rows c.loop-at.from at c.args.amount c.loop-at.invariant.segments c.loop-at.invariant.capacity c.loop-at.invariant.passed c.in-Some.ensures.passed,
-    )
+    let as_before = room_as_before seg c.loop-at.rows rows at c.index-rows-at.result h.segments h.capacity there in
+    record {
+      fit = (
+        omega (arith, length-message (shown seg rows), length_shown seg rows),
+        omega (arith, as_before.0, as_before.1, c.has_room.ensures.0 c.if-has_room.true),
+        passed_on seg c.loop-at.rows rows c.loop-at.from at c.args.amount h.segments h.capacity h.passed c.in-Some.ensures.passed,
+      );
+      full = λ none. absurd (false≢true (sym none));
+      segments = h.segments;
+      capacity = h.capacity;
+    }
 
 -- The row that was looked at has no room either.
 pub loop-at-preserved : goal.loop-at-preserved

@@ -19,31 +19,6 @@ copy_from-requires-clause-inside g c =
     let cut : IsCut rows front back c.args.to.row = record { parts = c.split_at_mut-front.ensures.value; long = c.split_at_mut-front.ensures.front_len; there = c.requires.rows.1 } in
     room_back g.S.Segment rows front back c.args.to.row _ c.index-back-0.result cut c.index-back-0.is c.requires.inside
 
-pub returns-then-from-to-clause-words : goal.returns-then-from-to-clause-words
-returns-then-from-to-clause-words g c =
-    let rows = c.args.rows.now in
-    let front = c.split_at_mut-front.result.0.now in
-    let back = c.split_at_mut-front.result.1.now in
-    let cut : IsCut rows front back c.args.to.row = record { parts = c.split_at_mut-front.ensures.value; long = c.split_at_mut-front.ensures.front_len; there = c.requires.rows.1 } in
-    copied_back g.S.Segment rows front back c.args.from.row c.args.to.row c.index-front-from.result c.index-back-0.result c.copy_from.new.self c.args.from.at c.args.to.at c.args.n cut c.if-from-to.true c.index-front-from.is
-    c.index-back-0.is c.copy_from.ensures.words
-
-pub returns-then-from-to-clause-room : goal.returns-then-from-to-clause-room
-returns-then-from-to-clause-room g c =
-    let rows = c.args.rows.now in
-    let front = c.split_at_mut-front.result.0.now in
-    let back = c.split_at_mut-front.result.1.now in
-    let cut : IsCut rows front back c.args.to.row = record { parts = c.split_at_mut-front.ensures.value; long = c.split_at_mut-front.ensures.front_len; there = c.requires.rows.1 } in
-    kept_back g.S.Segment rows front back c.args.to.row c.index-back-0.result c.copy_from.new.self cut c.index-back-0.is c.copy_from.ensures.capacity
-
-pub returns-then-from-to-clause-bounded : goal.returns-then-from-to-clause-bounded
-returns-then-from-to-clause-bounded g c =
-    let rows = c.args.rows.now in
-    let front = c.split_at_mut-front.result.0.now in
-    let back = c.split_at_mut-front.result.1.now in
-    let cut : IsCut rows front back c.args.to.row = record { parts = c.split_at_mut-front.ensures.value; long = c.split_at_mut-front.ensures.front_len; there = c.requires.rows.1 } in
-    bounded_back g.S.Segment rows front back c.args.to.row c.index-back-0.result c.copy_from.new.self cut c.index-back-0.is c.copy_from.ensures.capacity c.copy_from.ensures.used c.copy_from.ensures.bound
-
 -- It stands behind the other one: the rows are cut before it.
 pub copy_from-requires-else-from-to-clause-there : goal.copy_from-requires-else-from-to-clause-there
 copy_from-requires-else-from-to-clause-there g c =
@@ -62,43 +37,6 @@ copy_from-requires-else-from-to-clause-inside g c =
     let before : c.args.to.row < c.args.from.row = omega (arith, c.requires.apart, c.if-from-to.false) in
     room_front g.S.Segment rows front back c.args.from.row c.args.to.row _ c.index-front-to.result cut before c.index-front-to.is c.requires.inside
 
-pub returns-else-from-to-clause-words : goal.returns-else-from-to-clause-words
-returns-else-from-to-clause-words g c =
-    let rows = c.args.rows.now in
-    let front = c.split_at_mut-front-else-from-to.result.0.now in
-    let back = c.split_at_mut-front-else-from-to.result.1.now in
-    let cut : IsCut rows front back c.args.from.row = record { parts = c.split_at_mut-front-else-from-to.ensures.value; long = c.split_at_mut-front-else-from-to.ensures.front_len; there = c.requires.rows.0 } in
-    let before : c.args.to.row < c.args.from.row = omega (arith, c.requires.apart, c.if-from-to.false) in
-    copied_front g.S.Segment rows front back c.args.from.row c.args.to.row c.index-back-0-else-from-to.result c.index-front-to.result c.copy_from-else-from-to.new.self c.args.from.at c.args.to.at c.args.n cut before
-    c.index-back-0-else-from-to.is c.index-front-to.is c.copy_from-else-from-to.ensures.words
-
-pub returns-else-from-to-clause-room : goal.returns-else-from-to-clause-room
-returns-else-from-to-clause-room g c =
-    let rows = c.args.rows.now in
-    let front = c.split_at_mut-front-else-from-to.result.0.now in
-    let back = c.split_at_mut-front-else-from-to.result.1.now in
-    let cut : IsCut rows front back c.args.from.row = record { parts = c.split_at_mut-front-else-from-to.ensures.value; long = c.split_at_mut-front-else-from-to.ensures.front_len; there = c.requires.rows.0 } in
-    let before : c.args.to.row < c.args.from.row = omega (arith, c.requires.apart, c.if-from-to.false) in
-    kept_front g.S.Segment rows front back c.args.from.row c.args.to.row c.index-front-to.result c.copy_from-else-from-to.new.self cut before c.index-front-to.is c.copy_from-else-from-to.ensures.capacity
-
-pub returns-else-from-to-clause-bounded : goal.returns-else-from-to-clause-bounded
-returns-else-from-to-clause-bounded g c =
-    let rows = c.args.rows.now in
-    let front = c.split_at_mut-front-else-from-to.result.0.now in
-    let back = c.split_at_mut-front-else-from-to.result.1.now in
-    let cut : IsCut rows front back c.args.from.row = record { parts = c.split_at_mut-front-else-from-to.ensures.value; long = c.split_at_mut-front-else-from-to.ensures.front_len; there = c.requires.rows.0 } in
-    let before : c.args.to.row < c.args.from.row = omega (arith, c.requires.apart, c.if-from-to.false) in
-    bounded_front g.S.Segment rows front back c.args.from.row c.args.to.row c.index-front-to.result c.copy_from-else-from-to.new.self cut before c.index-front-to.is c.copy_from-else-from-to.ensures.capacity
-    c.copy_from-else-from-to.ensures.used c.copy_from-else-from-to.ensures.bound
-
-pub returns-then-from-to-clause-many : goal.returns-then-from-to-clause-many
-returns-then-from-to-clause-many g c =
-    let rows = c.args.rows.now in
-    let front = c.split_at_mut-front.result.0.now in
-    let back = c.split_at_mut-front.result.1.now in
-    let cut : IsCut rows front back c.args.to.row = record { parts = c.split_at_mut-front.ensures.value; long = c.split_at_mut-front.ensures.front_len; there = c.requires.rows.1 } in
-    many_back g.S.Segment rows front back c.args.to.row c.copy_from.new.self cut
-
 pub bounds-back-0 : goal.bounds-back-0
 bounds-back-0 g c =
     let rows = c.args.rows.now in
@@ -106,15 +44,6 @@ bounds-back-0 g c =
     let back = c.split_at_mut-front.result.1.now in
     let cut : IsCut rows front back c.args.to.row = record { parts = c.split_at_mut-front.ensures.value; long = c.split_at_mut-front.ensures.front_len; there = c.requires.rows.1 } in
     back_there rows front back c.args.to.row cut
-
-pub returns-else-from-to-clause-many : goal.returns-else-from-to-clause-many
-returns-else-from-to-clause-many g c =
-    let rows = c.args.rows.now in
-    let front = c.split_at_mut-front-else-from-to.result.0.now in
-    let back = c.split_at_mut-front-else-from-to.result.1.now in
-    let cut : IsCut rows front back c.args.from.row = record { parts = c.split_at_mut-front-else-from-to.ensures.value; long = c.split_at_mut-front-else-from-to.ensures.front_len; there = c.requires.rows.0 } in
-    let before : c.args.to.row < c.args.from.row = omega (arith, c.requires.apart, c.if-from-to.false) in
-    many_front g.S.Segment rows front back c.args.from.row c.args.to.row c.copy_from-else-from-to.new.self cut before
 
 pub bounds-back-0-else-from-to : goal.bounds-back-0-else-from-to
 bounds-back-0-else-from-to g c =
@@ -129,3 +58,47 @@ bounds-front-from g c = omega (arith, c.split_at_mut-front.ensures.front_len, c.
 
 pub bounds-front-to : goal.bounds-front-to
 bounds-front-to g c = omega (arith, c.split_at_mut-front-else-from-to.ensures.front_len, c.requires.apart, c.if-from-to.false)
+
+pub returns-then-from-to : goal.returns-then-from-to
+returns-then-from-to g c =
+    let seg = g.S.Segment in
+    let rows = c.args.rows.now in
+    let front = c.split_at_mut-front.result.0.now in
+    let back = c.split_at_mut-front.result.1.now in
+    let row = c.index-back-0.result in
+    let is = c.index-back-0.is in
+    let new = c.copy_from.new.self in
+    let to = c.args.to.row in
+    let cut : IsCut rows front back to = record { parts = c.split_at_mut-front.ensures.value; long = c.split_at_mut-front.ensures.front_len; there = c.requires.rows.1 } in
+    let h = c.copy_from.ensures in
+    record {
+      words = copied_back seg rows front back c.args.from.row to c.index-front-from.result row new c.args.from.at c.args.to.at c.args.n cut c.if-from-to.true c.index-front-from.is is h.words;
+      kept = record {
+        room = kept_back seg rows front back to row new cut is h.capacity;
+        many = many_back seg rows front back to new cut;
+        bounded = bounded_back seg rows front back to row new cut is h.capacity h.used h.bound;
+      };
+    }
+
+pub returns-else-from-to : goal.returns-else-from-to
+returns-else-from-to g c =
+    let seg = g.S.Segment in
+    let rows = c.args.rows.now in
+    let front = c.split_at_mut-front-else-from-to.result.0.now in
+    let back = c.split_at_mut-front-else-from-to.result.1.now in
+    let row = c.index-front-to.result in
+    let is = c.index-front-to.is in
+    let new = c.copy_from-else-from-to.new.self in
+    let from = c.args.from.row in
+    let to = c.args.to.row in
+    let cut : IsCut rows front back from = record { parts = c.split_at_mut-front-else-from-to.ensures.value; long = c.split_at_mut-front-else-from-to.ensures.front_len; there = c.requires.rows.0 } in
+    let before : to < from = omega (arith, c.requires.apart, c.if-from-to.false) in
+    let h = c.copy_from-else-from-to.ensures in
+    record {
+      words = copied_front seg rows front back from to c.index-back-0-else-from-to.result row new c.args.from.at c.args.to.at c.args.n cut before c.index-back-0-else-from-to.is is h.words;
+      kept = record {
+        room = kept_front seg rows front back from to row new cut before is h.capacity;
+        many = many_front seg rows front back from to new cut before;
+        bounded = bounded_front seg rows front back from to row new cut before is h.capacity h.used h.bound;
+      };
+    }

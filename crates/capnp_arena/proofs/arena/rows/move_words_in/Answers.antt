@@ -1,8 +1,7 @@
-use Rattle.capnp_arena.specs.Row.{capacity}
 use Rattle.capnp_arena_traits.specs.Written.{overwritten}
-use Rattle.std.proofs.Common.{ap, arith, take, drop, sym, ◌∙◌, length-set}
-use Rattle.capnp_arena.proofs.RowsLemmas.{row_old, row_over, room_same}
-use Rattle.capnp_arena.proofs.BoundsLemmas.{bounded_over}
+use Rattle.std.proofs.Common.{ap, arith, take, drop}
+use Rattle.capnp_arena.proofs.RowsLemmas.{row_old}
+use Rattle.capnp_arena.proofs.BoundsLemmas.{list_over}
 use Rattle.capnp_arena.proofs.arena.rows.move_words_in.Goals as goal
 
 pub move_words-requires-clause-there : goal.move_words-requires-clause-there
@@ -19,17 +18,6 @@ move_words-requires-clause-inside g c =
     let row = c.index-rows-id.result in
     omega (arith, ap (λ q. q.used) c.index-rows-id.is, row_old seg rows c.args.id row c.requires.room c.index-rows-id.is, c.requires.inside)
 
-pub returns-clause-bounded : goal.returns-clause-bounded
-returns-clause-bounded g c =
-    bounded_over g.S.Segment c.args.rows.now c.args.id c.index-rows-id.result c.move_words.new.self c.index-rows-id.is c.move_words.ensures.capacity c.move_words.ensures.used c.move_words.ensures.bound
-
-pub returns-clause-words : goal.returns-clause-words
-returns-clause-words g c =
-    row_over g.S.Segment (λ ws. overwritten ws c.args.to (take c.args.n (drop c.args.from ws))) c.args.rows.now c.args.id c.index-rows-id.result c.move_words.new.self c.requires.room c.move_words.ensures.words
-
-pub returns-clause-room : goal.returns-clause-room
-returns-clause-room g c =
-    room_same g.S.Segment c.args.rows.now c.args.id c.index-rows-id.result c.move_words.new.self c.index-rows-id.is (c.move_words.ensures.capacity ∙ ap (capacity g.S.Segment) (sym c.index-rows-id.is))
-
-pub returns-clause-many : goal.returns-clause-many
-returns-clause-many g c = length-set c.args.rows.now c.args.id _
+pub returns : goal.returns
+returns g c =
+    list_over g.S.Segment (λ ws. overwritten ws c.args.to (take c.args.n (drop c.args.from ws))) c.args.rows.now c.args.id c.index-rows-id.result c.move_words.new.self c.requires.room c.index-rows-id.is c.move_words.ensures

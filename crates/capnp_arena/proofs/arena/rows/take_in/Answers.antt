@@ -11,22 +11,22 @@ take-requires g c =
     let row = c.index-rows-id.result in
     omega (arith, ap (λ q. q.used) c.index-rows-id.is, ap (capacity seg) c.index-rows-id.is, row_old seg rows c.args.id row c.requires.there c.index-rows-id.is, room_is seg rows c.args.id row c.requires.there c.index-rows-id.is, c.requires.fits)
 
-pub returns-clause-bounded : goal.returns-clause-bounded
-returns-clause-bounded g c =
-    bounded_grown g.S.Segment c.args.rows.now c.args.id c.args.amount c.index-rows-id.result c.take.new.self c.index-rows-id.is c.take.ensures.capacity c.take.ensures.used c.take.ensures.bound
-
-pub returns-clause-taken : goal.returns-clause-taken
-returns-clause-taken g c =
-    row_over g.S.Segment (λ ws. ws ++ replicate c.args.amount 0) c.args.rows.now c.args.id c.index-rows-id.result c.take.new.self c.requires.there c.take.ensures.taken
-
-pub returns-clause-room : goal.returns-clause-room
-returns-clause-room g c =
-    room_same g.S.Segment c.args.rows.now c.args.id c.index-rows-id.result c.take.new.self c.index-rows-id.is (c.take.ensures.capacity ∙ ap (capacity g.S.Segment) (sym c.index-rows-id.is))
-
 pub returns-clause-at : goal.returns-clause-at
 returns-clause-at g c =
     let row = c.index-rows-id.result in
     omega (arith, c.take.ensures.at, ap (λ q. q.used) c.index-rows-id.is, row_old g.S.Segment c.args.rows.now c.args.id row c.requires.there c.index-rows-id.is)
 
-pub returns-clause-many : goal.returns-clause-many
-returns-clause-many g c = length-set c.args.rows.now c.args.id _
+pub returns-clause-taken : goal.returns-clause-taken
+returns-clause-taken g c =
+    let seg = g.S.Segment in
+    let rows = c.args.rows.now in
+    let row = c.index-rows-id.result in
+    let is = c.index-rows-id.is in
+    record {
+      words = row_over seg (λ ws. ws ++ replicate c.args.amount 0) rows c.args.id row c.take.new.self c.requires.there c.take.ensures.taken;
+      kept = record {
+        room = room_same seg rows c.args.id row c.take.new.self is (c.take.ensures.capacity ∙ ap (capacity seg) (sym is));
+        many = length-set rows c.args.id _;
+        bounded = bounded_grown seg rows c.args.id c.args.amount row c.take.new.self is c.take.ensures.capacity c.take.ensures.used c.take.ensures.bound;
+      };
+    }

@@ -41,7 +41,7 @@ returns-clause-granted g c =
     let seg = g.A.Segment.Segment in
     let f = g.A.Allocator.first_in_arena in
     let b = c.args.self.now in
-    IfOk-equal c.put_last.result _ _ _ c.put_last.ensures.granted c.in_ok-segment.ensures.counted
+    IfOk-equal c.put_last.result _ _ _ c.put_last.ensures.counted.granted c.in_ok-segment.ensures.counted
 
 pub returns-clause-room : goal.returns-clause-room
 returns-clause-room g c =
@@ -68,7 +68,7 @@ returns-clause-named g c =
     let seg = g.A.Segment.Segment in
     let f = g.A.Allocator.first_in_arena in
     let b = c.args.self.now in
-    put_named c.put_last.result (length (shown seg (arena_rows seg f b.listed b.apart))) c.args.min (g.A.Allocator.refusals c.put_last.new.self.allocator) (omega (arith, length_shown seg (arena_rows seg f b.listed b.apart), c.len.ensures, c.if-len-ge-MAX_SEGMENTS.false)) (omega (arith, c.in_ok-segment.ensures.fresh.1, c.in_ok-segment.ensures.fresh.2)) c.in_ok-segment.ensures.counted c.put_last.ensures.named c.put_last.ensures.counted
+    put_named c.put_last.result (length (shown seg (arena_rows seg f b.listed b.apart))) c.args.min (g.A.Allocator.refusals c.put_last.new.self.allocator) (omega (arith, length_shown seg (arena_rows seg f b.listed b.apart), c.len.ensures, c.if-len-ge-MAX_SEGMENTS.false)) (omega (arith, c.in_ok-segment.ensures.fresh.1, c.in_ok-segment.ensures.fresh.2)) c.in_ok-segment.ensures.counted c.put_last.ensures.counted.named c.put_last.ensures.counted.counted
 
 pub returns-clause-refused : goal.returns-clause-refused
 returns-clause-refused g c =
@@ -85,7 +85,7 @@ returns-clause-refused_room g c =
     put_same seg (capacity_at seg) c.put_last.result (arena_rows seg f b.listed b.apart) (arena_rows seg f c.put_last.new.self.listed c.put_last.new.self.apart) c.put_last.ensures.refused
 
 pub returns-clause-offers : goal.returns-clause-offers
-returns-clause-offers g c = c.put_last.ensures.offers ∙ c.allocate_segment.ensures.offers
+returns-clause-offers g c = c.put_last.ensures.counted.offers ∙ c.allocate_segment.ensures.offers
 
 pub returns-in_err-segment-clause-made : goal.returns-in_err-segment-clause-made
 returns-in_err-segment-clause-made g c = let p = err_from_is_err_and c.from_residual.result c.from_residual.ensures.1 in rw p.1 tt

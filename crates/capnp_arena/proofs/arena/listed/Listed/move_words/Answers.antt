@@ -1,7 +1,7 @@
 use Rattle.capnp_arena_traits.specs.Written.{overwritten}
 use Rattle.std.proofs.Common.{arith, take, drop}
-use Rattle.capnp_arena.proofs.RowsLemmas.{row_old, row_written, room_same}
-use Rattle.capnp_arena.proofs.BoundsLemmas.{bounded_same}
+use Rattle.capnp_arena.proofs.RowsLemmas.{row_old}
+use Rattle.capnp_arena.proofs.BoundsLemmas.{bounded_same, rows_rewritten}
 use Rattle.capnp_arena.proofs.arena.listed.Listed.move_words.Goals as goal
 
 pub move_words-requires-clause-there : goal.move_words-requires-clause-there
@@ -22,10 +22,6 @@ pub invariant_of-self-clause-bounded : goal.invariant_of-self-clause-bounded
 invariant_of-self-clause-bounded g c =
     bounded_same g.S.Segment c.args.self.now.rows.items c.args.id c.index_mut-row.result.now c.move_words.new.self c.index_mut-row.ensures.value c.move_words.ensures.capacity c.move_words.ensures.used c.move_words.ensures.bound c.args.self.now.bounded
 
-pub returns-clause-words : goal.returns-clause-words
-returns-clause-words g c =
-    row_written g.S.Segment (λ ws. overwritten ws c.args.to (take c.args.n (drop c.args.from ws))) c.args.self.now.rows.items c.args.id c.index_mut-row.result.now c.move_words.new.self c.requires.row c.index_mut-row.ensures.value c.move_words.ensures.words
-
-pub returns-clause-room : goal.returns-clause-room
-returns-clause-room g c =
-    room_same g.S.Segment c.args.self.now.rows.items c.args.id c.index_mut-row.result.now c.move_words.new.self c.index_mut-row.ensures.value c.move_words.ensures.capacity
+pub returns : goal.returns
+returns g c =
+    rows_rewritten g.S.Segment (λ ws. overwritten ws c.args.to (take c.args.n (drop c.args.from ws))) c.args.self.now.rows.items c.args.id c.index_mut-row.result.now c.move_words.new.self c.requires.row c.index_mut-row.ensures.value c.move_words.ensures

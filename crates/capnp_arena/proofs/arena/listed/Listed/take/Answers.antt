@@ -14,14 +14,16 @@ pub invariant_of-self-clause-bounded : goal.invariant_of-self-clause-bounded
 invariant_of-self-clause-bounded g c =
     bounded_taken g.S.Segment c.args.self.now.rows.items c.args.id c.args.amount c.index_mut-row.result.now c.take.new.self c.index_mut-row.ensures.value c.take.ensures.capacity c.take.ensures.used c.take.ensures.bound c.args.self.now.bounded
 
-pub returns-clause-taken : goal.returns-clause-taken
-returns-clause-taken g c =
-    row_written g.S.Segment (λ ws. ws ++ replicate c.args.amount 0) c.args.self.now.rows.items c.args.id c.index_mut-row.result.now c.take.new.self c.requires.there c.index_mut-row.ensures.value c.take.ensures.taken
-
-pub returns-clause-room : goal.returns-clause-room
-returns-clause-room g c =
-    room_same g.S.Segment c.args.self.now.rows.items c.args.id c.index_mut-row.result.now c.take.new.self c.index_mut-row.ensures.value c.take.ensures.capacity
-
 pub returns-clause-at : goal.returns-clause-at
 returns-clause-at g c =
     omega (arith, c.take.ensures.at, row_old g.S.Segment c.args.self.now.rows.items c.args.id c.index_mut-row.result.now c.requires.there c.index_mut-row.ensures.value)
+
+pub returns-clause-taken : goal.returns-clause-taken
+returns-clause-taken g c =
+    let rows = c.args.self.now.rows.items in
+    let row = c.index_mut-row.result.now in
+    let is = c.index_mut-row.ensures.value in
+    record {
+      words = row_written g.S.Segment (λ ws. ws ++ replicate c.args.amount 0) rows c.args.id row c.take.new.self c.requires.there is c.take.ensures.taken;
+      room = room_same g.S.Segment rows c.args.id row c.take.new.self is c.take.ensures.capacity;
+    }

@@ -1,33 +1,17 @@
-use Rattle.std.proofs.Common.{◌++◌, ◌<◌, ◌-◌, replicate, length, sym, ap, ◌∙◌, arith}
+use Rattle.std.proofs.Common.{◌++◌, ◌<◌, ◌-◌, replicate, length, sym, ap, ◌∙◌, arith, ◌+◌, subst}
 use Rattle.capnp_format.specs.Bytes.{message}
 use Rattle.capnp_format.specs.Segments.{segment}
-use Rattle.capnp_arena.specs.Row.{shown}
-use Rattle.capnp_arena.proofs.ListedLemmas.{others_kept, other_words, first_written, first_kept, first_room, first_used, others_written, others_few, others_bounded}
+use Rattle.capnp_arena.specs.Row.{capacity_at, shown}
+use Rattle.capnp_arena.proofs.ListedLemmas.{other_room, other_words, first_written, first_kept, first_room, first_used, others_few, others_bounded, others_rewritten, other_there}
 use Rattle.capnp_arena.proofs.arena.rows.Rows.take.Goals as goal
-
-pub returns-else-id-eq0-clause-room : goal.returns-else-id-eq0-clause-room
-returns-else-id-eq0-clause-room g c =
-    others_kept g.S.Segment c.args.self.now.there c.args.self.now.first c.args.self.now.others _ _ c.deref_mut.ensures.value c.take_in.ensures.many c.take_in.ensures.room
-
-pub returns-then-id-eq0-clause-taken : goal.returns-then-id-eq0-clause-taken
-returns-then-id-eq0-clause-taken g c =
-    first_written g.S.Segment (λ ws. ws ++ replicate c.args.amount 0) c.args.self.now.there c.args.self.now.first c.take.new.self c.args.self.now.others.items c.args.id c.if-id-eq0.true c.requires.there c.take.ensures.taken
-
-pub returns-then-id-eq0-clause-room : goal.returns-then-id-eq0-clause-room
-returns-then-id-eq0-clause-room g c =
-    first_kept g.S.Segment c.args.self.now.there c.args.self.now.first c.take.new.self c.args.self.now.others.items c.take.ensures.capacity
-
-pub returns-else-id-eq0-clause-taken : goal.returns-else-id-eq0-clause-taken
-returns-else-id-eq0-clause-taken g c =
-    others_written g.S.Segment c.args.self.now.there c.args.self.now.first c.args.self.now.others _ _ c.args.id (λ ws. ws ++ replicate c.args.amount 0) c.args.self.now.few c.deref_mut.ensures.value c.take_in.ensures.many (omega (arith, c.if-id-eq0.false)) c.take_in.ensures.taken
 
 pub invariant_of-self-else-id-eq0-clause-few : goal.invariant_of-self-else-id-eq0-clause-few
 invariant_of-self-else-id-eq0-clause-few g c =
-    others_few g.S.Segment c.args.self.now.others _ _ _ c.deref_mut.ensures.value c.take_in.ensures.many c.args.self.now.few
+    others_few g.S.Segment c.args.self.now.others _ _ _ c.deref_mut.ensures.value c.take_in.ensures.taken.kept.many c.args.self.now.few
 
 pub invariant_of-self-else-id-eq0-clause-bounded : goal.invariant_of-self-else-id-eq0-clause-bounded
 invariant_of-self-else-id-eq0-clause-bounded g c =
-    others_bounded g.S.Segment c.args.self.now.others _ _ c.deref_mut.ensures.value c.take_in.ensures.many c.take_in.ensures.bounded c.args.self.now.bounded
+    others_bounded g.S.Segment c.args.self.now.others _ _ c.deref_mut.ensures.value c.take_in.ensures.taken.kept.many c.take_in.ensures.taken.kept.bounded c.args.self.now.bounded
 
 pub take-requires : goal.take-requires
 take-requires g c =
@@ -47,3 +31,33 @@ returns-else-id-eq0-clause-at g c =
     let b = c.args.self.now in
     let some : 0 < c.args.id = omega (arith, c.if-id-eq0.false) in
     c.take_in.ensures.at ∙ ap (λ rows. length (segment (message (shown seg rows)) (c.args.id - 1))) c.deref_mut.ensures.value ∙ sym (ap length (other_words seg b.there b.first b.others.items c.args.id b.few some))
+
+pub returns-else-id-eq0-clause-taken : goal.returns-else-id-eq0-clause-taken
+returns-else-id-eq0-clause-taken g c =
+    let b = c.args.self.now in
+    others_rewritten g.S.Segment b.there b.first b.others _ _ c.args.id (λ ws. ws ++ replicate c.args.amount 0) b.few c.deref_mut.ensures.value (omega (arith, c.if-id-eq0.false)) c.take_in.ensures.taken
+
+pub returns-then-id-eq0-clause-taken : goal.returns-then-id-eq0-clause-taken
+returns-then-id-eq0-clause-taken g c =
+    let b = c.args.self.now in
+    record {
+      words = first_written g.S.Segment (λ ws. ws ++ replicate c.args.amount 0) b.there b.first c.take.new.self b.others.items c.args.id c.if-id-eq0.true c.requires.there c.take.ensures.taken;
+      room = first_kept g.S.Segment b.there b.first c.take.new.self b.others.items c.take.ensures.capacity;
+    }
+
+pub take_in-requires-clause-there : goal.take_in-requires-clause-there
+take_in-requires-clause-there g c =
+    let seg = g.S.Segment in
+    let b = c.args.self.now in
+    let some : 0 < c.args.id = omega (arith, c.if-id-eq0.false) in
+    subst (λ rows. c.args.id - 1 < length rows) (sym c.deref_mut.ensures.value) (other_there seg b.there b.first b.others.items c.args.id some c.requires.there)
+
+pub take_in-requires-clause-fits : goal.take_in-requires-clause-fits
+take_in-requires-clause-fits g c =
+    let seg = g.S.Segment in
+    let b = c.args.self.now in
+    let is = c.deref_mut.ensures.value in
+    let some : 0 < c.args.id = omega (arith, c.if-id-eq0.false) in
+    let words = ap (λ rows. length (segment (message (shown seg rows)) (c.args.id - 1))) is ∙ sym (ap length (other_words seg b.there b.first b.others.items c.args.id b.few some)) in
+    let room = ap (λ rows. capacity_at seg rows (c.args.id - 1)) is ∙ sym (other_room seg b.there b.first b.others.items c.args.id b.few some) in
+    omega (arith, words, room, c.requires.fits)

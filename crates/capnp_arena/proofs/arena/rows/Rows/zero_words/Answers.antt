@@ -1,35 +1,45 @@
-use Rattle.std.proofs.Common.{◌+◌, replicate, arith}
+use Rattle.std.proofs.Common.{◌+◌, replicate, arith, ◌-◌, ◌<◌, ◌≤◌, length, sym, subst}
 use Rattle.capnp_arena_traits.specs.Written.{overwritten}
-use Rattle.capnp_arena.proofs.ListedLemmas.{others_kept, others_written, first_inside, first_written, first_kept, others_few, others_bounded}
+use Rattle.capnp_arena.proofs.ListedLemmas.{first_inside, others_few, others_bounded, first_rewritten, others_rewritten, other_inside, other_there}
+use Rattle.capnp_format.specs.Bytes.{message}
+use Rattle.capnp_format.specs.Segments.{segment}
+use Rattle.capnp_arena.specs.Row.{shown}
 use Rattle.capnp_arena.proofs.arena.rows.Rows.zero_words.Goals as goal
-
-pub returns-else-id-eq0-clause-words : goal.returns-else-id-eq0-clause-words
-returns-else-id-eq0-clause-words g c =
-    others_written g.S.Segment c.args.self.now.there c.args.self.now.first c.args.self.now.others _ _ c.args.id (λ xs. overwritten xs c.args.at (replicate c.args.n 0)) c.args.self.now.few c.deref_mut.ensures.value c.zero_words_in.ensures.many (omega (arith, c.if-id-eq0.false))
-    c.zero_words_in.ensures.words
-
-pub returns-else-id-eq0-clause-room : goal.returns-else-id-eq0-clause-room
-returns-else-id-eq0-clause-room g c =
-    others_kept g.S.Segment c.args.self.now.there c.args.self.now.first c.args.self.now.others _ _ c.deref_mut.ensures.value c.zero_words_in.ensures.many c.zero_words_in.ensures.room
-
-pub returns-then-id-eq0-clause-words : goal.returns-then-id-eq0-clause-words
-returns-then-id-eq0-clause-words g c =
-    first_written g.S.Segment (λ ws. overwritten ws c.args.at (replicate c.args.n 0)) c.args.self.now.there c.args.self.now.first c.zero_words.new.self c.args.self.now.others.items c.args.id c.if-id-eq0.true c.requires.there c.zero_words.ensures.words
-
-pub returns-then-id-eq0-clause-room : goal.returns-then-id-eq0-clause-room
-returns-then-id-eq0-clause-room g c =
-    first_kept g.S.Segment c.args.self.now.there c.args.self.now.first c.zero_words.new.self c.args.self.now.others.items c.zero_words.ensures.capacity
 
 pub invariant_of-self-else-id-eq0-clause-few : goal.invariant_of-self-else-id-eq0-clause-few
 invariant_of-self-else-id-eq0-clause-few g c =
-    others_few g.S.Segment c.args.self.now.others _ _ _ c.deref_mut.ensures.value c.zero_words_in.ensures.many c.args.self.now.few
+    others_few g.S.Segment c.args.self.now.others _ _ _ c.deref_mut.ensures.value c.zero_words_in.ensures.kept.many c.args.self.now.few
 
 pub invariant_of-self-else-id-eq0-clause-bounded : goal.invariant_of-self-else-id-eq0-clause-bounded
 invariant_of-self-else-id-eq0-clause-bounded g c =
-    others_bounded g.S.Segment c.args.self.now.others _ _ c.deref_mut.ensures.value c.zero_words_in.ensures.many c.zero_words_in.ensures.bounded c.args.self.now.bounded
+    others_bounded g.S.Segment c.args.self.now.others _ _ c.deref_mut.ensures.value c.zero_words_in.ensures.kept.many c.zero_words_in.ensures.kept.bounded c.args.self.now.bounded
 
 pub zero_words-requires : goal.zero_words-requires
 zero_words-requires g c =
     let seg = g.S.Segment in
     let b = c.args.self.now in
     first_inside seg b.there b.first b.others.items c.args.id (c.args.at + c.args.n) c.if-id-eq0.true c.requires.there c.requires.inside
+
+pub returns-else-id-eq0 : goal.returns-else-id-eq0
+returns-else-id-eq0 g c =
+    let b = c.args.self.now in
+    others_rewritten g.S.Segment b.there b.first b.others _ _ c.args.id (λ ws. overwritten ws c.args.at (replicate c.args.n 0)) b.few c.deref_mut.ensures.value (omega (arith, c.if-id-eq0.false)) c.zero_words_in.ensures
+
+pub returns-then-id-eq0 : goal.returns-then-id-eq0
+returns-then-id-eq0 g c =
+    let b = c.args.self.now in
+    first_rewritten g.S.Segment (λ ws. overwritten ws c.args.at (replicate c.args.n 0)) b.there b.first c.zero_words.new.self b.others.items c.args.id c.if-id-eq0.true c.requires.there c.zero_words.ensures
+
+pub zero_words_in-requires-clause-there : goal.zero_words_in-requires-clause-there
+zero_words_in-requires-clause-there g c =
+    let seg = g.S.Segment in
+    let b = c.args.self.now in
+    let some : 0 < c.args.id = omega (arith, c.if-id-eq0.false) in
+    subst (λ rows. c.args.id - 1 < length rows) (sym c.deref_mut.ensures.value) (other_there seg b.there b.first b.others.items c.args.id some c.requires.there)
+
+pub zero_words_in-requires-clause-inside : goal.zero_words_in-requires-clause-inside
+zero_words_in-requires-clause-inside g c =
+    let seg = g.S.Segment in
+    let b = c.args.self.now in
+    let some : 0 < c.args.id = omega (arith, c.if-id-eq0.false) in
+    subst (λ rows. c.args.at + c.args.n ≤ length (segment (message (shown seg rows)) (c.args.id - 1))) (sym c.deref_mut.ensures.value) (other_inside seg b.there b.first b.others.items c.args.id (c.args.at + c.args.n) b.few some c.requires.inside)

@@ -1,0 +1,19 @@
+-- Words taken in a segment of their own, behind the others of a message that is built.
+use Rattle.std.specs.Prelude.{ℕ, ◌≡◌, ◌<◌, ◌-◌, ◌^◌, length, Result, Err, IfOk, OnOk, IfErr, OnErr}
+use Rattle.capnp_words.specs.declared.error.ErrorKind.{ErrorKind}
+use Rattle.capnp_words.specs.declared.error.ErrorKind.TheVariants.{MessageTooLarge}
+use Rattle.capnp_arena_traits.specs.Allocations.{max_segments, max_segment_words}
+use Rattle.capnp_arena_traits.specs.Taking.{GainsSegment, IsAllocationRefusal, SameRoomBelow}
+use Rattle.capnp_arena_traits.specs.View.{View}
+
+-- Words are taken from the start of a segment behind the others, whose number is given. A
+-- refusal has its exact reason, and changes nothing but how often memory was refused.
+pub record TakesAnother (old new : View) (amount : ℕ) (r : Result ℕ ErrorKind) : Type 0 where
+  pub taken : IfOk r (λ k. GainsSegment old new amount k 0)
+  pub room : SameRoomBelow (length old.words) old.room new.room
+  pub granted : OnOk r (new ≡ record old { words = new.words; room = new.room })
+  pub many : length old.words ≡ max_segments → r ≡ Err (MessageTooLarge (2 ^ 64 - 1))
+  pub large : max_segment_words < amount → length old.words < max_segments →
+      r ≡ Err (MessageTooLarge amount)
+  pub named : IfErr r (λ e. IsAllocationRefusal old new (length old.words) amount e)
+  pub refused : OnErr r (new ≡ record old { refusals = new.refusals })

@@ -1,0 +1,32 @@
+-- What is left of a row, and of all rows, when words of one were written.
+use Rattle.std.specs.Prelude.{ℕ, List, ◌≡◌, length}
+use Rattle.capnp_format.specs.Bytes.{words_of, message}
+use Rattle.capnp_format.specs.Segments.{Segments}
+use Rattle.capnp_arena.specs.Bounds.{HasBounds}
+use Rattle.capnp_arena.specs.Row.{allocated, capacity, capacity_at, shown}
+use Rattle.capnp_arena.specs.declared.arena.row.Row.{Row}
+use Rattle.capnp_arena.specs.declared.arena.allocator.Segment.{Ghosts}
+
+module _ {S : Type 0} (g : Ghosts S) where
+  -- A row's allocated words become ws, as many as they were. It can hold as many as before.
+  pub record RewritesRow (old new : Row S g) (ws : List ℕ) : Type 0 where
+    pub words : words_of (allocated g new) ≡ ws
+    pub used : new.used ≡ old.used
+    pub bound : new.bound ≡ old.bound
+    pub capacity : capacity g new ≡ capacity g old
+
+  -- The words of all rows become those of a message. Each row can hold as many as before.
+  pub record RewritesRows (old new : List (Row S g)) (M : Segments) : Type 0 where
+    pub words : message (shown g new) ≡ M
+    pub room : capacity_at g new ≡ capacity_at g old
+
+  -- There are as many rows, each can hold as many words as before, and their bounds still hold.
+  pub record KeepsList (old new : List (Row S g)) : Type 0 where
+    pub room : capacity_at g new ≡ capacity_at g old
+    pub many : length new ≡ length old
+    pub bounded : HasBounds g old → HasBounds g new
+
+  -- The words of rows in a list become those of a message, and nothing else of them changes.
+  pub record RewritesList (old new : List (Row S g)) (M : Segments) : Type 0 where
+    pub words : message (shown g new) ≡ M
+    pub kept : KeepsList old new
