@@ -1,6 +1,6 @@
 -- From the steps of a reading to its outcome: pointers that are followed, objects that are entered, and the refusals of both.
 -- `double_absent`, `double_followed` and `default_refused` take eight or nine arguments: each is a fact that the one answer which cites it has at hand.
-use Rattle.std.proofs.Common.{◌≡◌, ◌≢◌, ◌⊎◌, inl, inr, ℕ, ℤ, zero, suc, ◌+◌, ◌^◌, ◌<◌, ◌≤◌, Bool, true, false, ◌&&◌, cond, nat_eq, nat_lt, is_some, Some, None, Result, Ok, Err, IfOk, IfErr, List, [], ◌∷◌, length, get_or, refl, sym, ap, ap₂, ◌∙◌, subst, arith, lt-ltb, eq-eqb}
+use Rattle.std.proofs.Common.{◌≡◌, ◌≢◌, ◌⊎◌, inl, inr, ℕ, ℤ, zero, suc, ◌+◌, ◌^◌, ◌<◌, ◌≤◌, Bool, true, false, ◌&&◌, cond, nat_eq, nat_lt, is_some, Some, None, Result, Ok, Err, OnOk, IfOk, IfErr, List, [], ◌∷◌, length, get_or, refl, sym, ap, ap₂, ◌∙◌, subst, arith, lt-ltb, eq-eqb}
 use Rattle.std.proofs.lemmas.Bool.{ne_eqb, false≢true}
 use Rattle.std.proofs.lemmas.List.{get_or_past}
 use Rattle.std.proofs.lemmas.Bool.Decides.{nat_tests}
@@ -17,12 +17,13 @@ use Rattle.capnp_objects.specs.declared.source.Source.TheVariants.{Arena, Defaul
 use Rattle.std.specs.Borrow.{Bor}
 use Rattle.capnp_objects.specs.declared.source.Found.{Found}
 use Rattle.capnp_objects.specs.declared.object.Place.{Place}
+use Rattle.capnp_objects.specs.declared.object.PointerWord.{PointerWord}
 use Rattle.capnp_words.specs.declared.wire_pointer.WirePointer.{WirePointer}
 use Rattle.capnp_format.specs.Bytes.{words_of, message}
 use Rattle.capnp_arena_traits.specs.Checks.{IsUnknown}
 use Rattle.capnp_arena_traits.proofs.MessageLemmas.{length-message}
 use Rattle.capnp_objects.proofs.Decided.{within_or_not}
-use Rattle.capnp_objects.specs.Spending.{after, Paid}
+use Rattle.capnp_objects.specs.Spending.{after, Paid, ChargesFor}
 use Rattle.capnp_objects.specs.Source.{default_segments}
 use Rattle.capnp_objects.specs.Follow.{◌>=>◌}
 use Rattle.capnp_format.specs.Means.{Claims}
@@ -31,7 +32,7 @@ use Rattle.capnp_objects.specs.Wanted.{BreaksObject, follow_at, FollowsFor, Foll
 use Rattle.capnp_objects.specs.Objects.{IsObject, IsHeld, IsWordRead}
 use Rattle.capnp_objects.specs.Outcomes.{Entered}
 use Rattle.capnp_objects.specs.Refusals.{landing_words, granted_before, Unfollowed, exceeding, leading_nowhere, Stopped, no_target, broken as stopped_broken, claim_exceeds as stopped_claim, count_exceeds as stopped_count}
-use Rattle.capnp_objects.specs.Landings.{found_target, Following, following, following_far, IsPad, IsFollowed, NotFollowed, nowhere, pads_exceed, Arrival, IsClaimed, IsEntered, NotEntered, broken, claim_exceeds, elements_exceed, IsOpened}
+use Rattle.capnp_objects.specs.Landings.{found_target, Following, following, following_far, IsPad, IsFollowed, NotFollowed, nowhere, pads_exceed, Arrival, IsClaimed, IsEntered, NotEntered, broken, claim_exceeds, elements_exceed, IsOpened, Enters}
 use Rattle.capnp_objects.specs.Wanted.{plain}
 use Rattle.capnp_objects.specs.Reading.{Reading, source_start, reading_at, word_of}
 use Rattle.capnp_objects.specs.declared.object.Purpose.{Purpose}
@@ -66,6 +67,10 @@ paid_charged {charging} {m} {m'} {g} covers e = record { covers = covers; spent 
 pub refuses_at_once : {purpose : Purpose} {o : Arrival} {m : Meter} {k : ErrorKind} → BreaksObject purpose plain o.segments o.levels o.target k → granted_before o.target k ≡ 0 → NotEntered purpose o m m k
 refuses_at_once {o = o} {m = m} h none =
     broken h (subst (Affords o.charging m) (sym none) (affords_none o.charging m)) (sym (charged_none o.charging m) ∙ ap (charged o.charging m) (sym none))
+
+-- an object that is not entered
+pub not_opened : {purpose : Purpose} {o : Arrival} {m m' : Meter} {k : ErrorKind} → NotEntered purpose o m m' k → Enters purpose o m m' (Err k)
+not_opened h = record { object = tt; few = tt; refused = h }
 
 leads_nowhere : {f : Following} {m : Meter} {k : ErrorKind} → f.gives ≡ Err k → landing_words f.segments f.word ≡ 0 → NotFollowed f m m k
 leads_nowhere {f} {m} {k} h none =
@@ -272,7 +277,7 @@ some_segments : (S : Segments) (s p : ℕ) → word_at S s p ≢ 0 → 0 < lengt
 some_segments [] s p some = absurd (some (ap (λ (ws : List ℕ). get_or ws p 0) (get_or_past [] s [] (omega arith)) ∙ get_or_past [] p 0 (omega arith)))
 some_segments (ws ∷ S) s p some = omega arith
 
-pub segments_of_word : {r : Reading} {here : Place} {word : ℕ} → IsWordRead r here word → 0 < length r.segments
+pub segments_of_word : {r : Reading} {pointer : PointerWord} → IsWordRead r pointer → 0 < length r.segments
 segments_of_word {r} w = some_segments r.segments r.segment r.at (λ e. w.some (w.there ∙ e))
 
 pub default_refused : {A : Type 0} (g : Ghosts A) {source : Source A} (here : Place) (m : Meter) (nesting : ℤ) → ((d : Bor (List ℕ)) × (source ≡ Default d)) ⊎ (source ≡ Nothing) → 0 < length (source_start g source).segments →
@@ -349,6 +354,12 @@ stops_entering {purpose} {r} {m} {m'} {m''} {a} {k} o (elements_exceed meets cov
 pub object_refused : {purpose : Purpose} {r : Reading} {m m₁ m₂ m₃ : Meter} {l : Found} {k : ErrorKind} → IsCounted r m m₁ → IsFollowed (following r) m₁ m₂ l →
     NotEntered purpose (arrived r (found_target l)) m₂ m₃ k → Stopped purpose plain r m m₃ k
 object_refused o f h = stops_entering (reached o f) h
+
+-- what asking for the words that an object claims gives
+pub claim_charged : {A : Type 0} (o : Arrival) {m m' : Meter} (n : ℕ) (result : Result A ErrorKind) → n ≡ claim o.target.word → 0 < o.levels → kind o.target.word < 2 → Claims o.segments o.target (claim o.target.word) → ChargesFor n o.charging m m' result →
+    OnOk result (IsClaimed o m m') × IfErr result (λ k. (purpose : Purpose) → (IsVoidList o.target.word → purpose ≡ Value) → NotEntered purpose o m m' k)
+claim_charged o n (Ok x) words levels is_object claims charge = (record { levels = levels; claims = claims; covers = rw words at (charge.exactly.0 refl); paid = rw words at charge.granted }, tt)
+claim_charged o n (Err k) words levels is_object claims charge = (tt, λ purpose sought. claim_exceeds levels is_object claims (λ h. absurd (false≢true (charge.exactly.1 (rw words h)))) charge.refused charge.named)
 
 -- the words that an object claims are charged, and for its elements g more
 pub entered_with : {purpose : Purpose} {o : Arrival} {m m' m'' : Meter} (g : ℕ) → IsClaimed o m m' → Meets purpose o.segments o.levels o.target → amplified purpose o.segments o.target ≡ g → Affords o.charging m' g → m'' ≡ charged o.charging m' g →

@@ -7,10 +7,10 @@ use Rattle.capnp_format.specs.Word.{kind}
 use Rattle.capnp_format.specs.Segments.{Segments, Target}
 use Rattle.capnp_objects.specs.declared.object.Object.{Object}
 use Rattle.capnp_objects.specs.declared.object.Purpose.{Purpose}
-use Rattle.capnp_objects.specs.declared.object.Purpose.TheVariants.{Value, Size}
+use Rattle.capnp_objects.specs.declared.object.Purpose.TheVariants.{Size}
 use Rattle.capnp_objects.specs.declared.source.Found.{Found}
-use Rattle.capnp_objects.specs.Demands.{claim, amplified, own, Meets, IsStructList, IsVoidList}
-use Rattle.capnp_objects.specs.Landings.{found_target, following, IsFollowed, Arrival, IsClaimed, NotEntered}
+use Rattle.capnp_objects.specs.Demands.{claim, amplified, own, Meets, IsStructList}
+use Rattle.capnp_objects.specs.Landings.{found_target, following, IsFollowed, IsClaimed}
 use Rattle.capnp_objects.specs.Measures.{counted_words, NotMeasured, no_level, stopped}
 use Rattle.capnp_objects.specs.Objects.{IsObject, near_at}
 use Rattle.capnp_objects.specs.Outcomes.{Entered}
@@ -19,17 +19,13 @@ use Rattle.capnp_objects.specs.Refusals.{CanBeRead}
 use Rattle.capnp_objects.specs.Sizing.{Tally, tally}
 use Rattle.capnp_objects.specs.Spending.{after, Paid}
 use Rattle.capnp_objects.proofs.Followed.{near_landed}
-use Rattle.capnp_objects.proofs.Landings.{IsCounted, reached, entered, entered_free, lies, object_refused, arrived}
+use Rattle.capnp_objects.proofs.Landings.{IsCounted, reached, entered, entered_free, lies, arrived}
 use Rattle.capnp_objects.proofs.Parts.{charge_of_size}
 use Rattle.capnp_objects.proofs.Refusals.{could_be_read, not_stopped}
 
 -- the tally with the words that an object counts, once it is measured
 abbrev pub with_object_counted : Tally → Target → Segments → Meter → Tally
 with_object_counted from a S m = tally (from.words + counted_words S a) from.caps m
-
--- the words that an object claims are not charged, whatever it is read for, a list of void for its value alone
-abbrev NotClaimed : Arrival → Meter → Meter → ErrorKind → Type 0
-NotClaimed o m m' k = (purpose : Purpose) → (IsVoidList o.target.word → purpose ≡ Value) → NotEntered purpose o m m' k
 
 -- the words of an object that is read for its size: its landing pads and what it claims
 pub paid_words : {r : Reading} {m m' : Meter} {a : Target} → Entered Size r m m' a → Paid r.charging m m' (a.pads + claim a.word) 1
@@ -48,12 +44,6 @@ near_entered purpose {r} {m} {m₁} {m₂} {m₃} {l} o f near untagged free cla
     let word : (found_target l).word ≡ word_of r = ap (λ a. a.word) there in
     let meets : Meets purpose r.segments r.levels (found_target l) = record { levels = claimed.levels; is_object = rw word near; claims = lies purpose r.segments (found_target l) claimed.claims; tagged = λ v. absurd (untagged (rw word at v)) } in
     subst (Entered purpose r m m₃) there (entered (reached o f) (entered_free claimed meets (ap (amplified purpose r.segments) there ∙ free)))
-
-pub near_refused : {r : Reading} {m m₁ m₂ m₃ : Meter} {l : Found} {k : ErrorKind} → 0 < r.levels → IsCounted r m m₁ → IsFollowed (following r) m₁ m₂ l → kind (word_of r) < 2 → (IsVoidList (word_of r) → ⊥) →
-    NotClaimed (arrived r (found_target l)) m₂ m₃ k → NotMeasured r m m₃ k
-near_refused {r} {m} {m₁} {m₂} {m₃} {l} level o f near some refused =
-    let word : (found_target l).word ≡ word_of r = ap (λ a. a.word) (near_landing r f near) in
-    stopped level (object_refused o f (refused Size (λ void. absurd (some (rw word at void)))))
 
 -- what can be read isn't refused
 pub can_not : {r : Reading} {m m' : Meter} {k : ErrorKind} → CanBeRead Size r m → NotMeasured r m m' k → ⊥

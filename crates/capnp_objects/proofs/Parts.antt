@@ -8,7 +8,7 @@ use Rattle.capnp_format.specs.Segments.{Segments, Target}
 use Rattle.capnp_format.specs.Tree.{Tree, Null, Capability, Struct, Flat, Pointers, Structs, Trees, no_trees, tree, Elements, no_elements, element, count, element_count, capabilities, capabilities_all, capabilities_elements}
 use Rattle.capnp_format.specs.Means.{Claims}
 use Rattle.capnp_words.specs.declared.wire_pointer.StructSize.{StructSize}
-use Rattle.capnp_objects.specs.Demands.{claim, tag, count_charge, amplified, own, Meets}
+use Rattle.capnp_objects.specs.Demands.{claim, tag, count_charge, amplified, own, Meets, IsStructList, IsVoidList}
 use Rattle.capnp_objects.specs.Faults.{LeadsTo, child_at, IsPointer, of_struct, of_list, of_element}
 use Rattle.capnp_objects.specs.Outcomes.{MeansThere}
 use Rattle.capnp_objects.specs.Reading.{Reading, word_of, behind, pointers_of}
@@ -64,6 +64,19 @@ extra_flat purpose S a (suc (suc (suc (suc (suc (suc k)))))) h = absurd (omega a
 pub charge_some : (purpose : Purpose) (width n : ℕ) → 0 < width → count_charge purpose width n ≡ 0
 charge_some Value width n some = ap (λ b. cond b n 0) (ne_eqb width 0 (λ e. omega (arith, e, some)))
 charge_some Size width n some = refl
+
+-- so are those of an object that is neither a list of structs nor one of void
+pub charge_near : (purpose : Purpose) (S : Segments) (a : Target) → kind a.word < 2 → (IsVoidList a.word → ⊥) → (IsStructList a.word → ⊥) → amplified purpose S a ≡ 0
+charge_near Size S a near some untagged = refl
+charge_near Value S a near some untagged = go (kind a.word) (element_size a.word) near some untagged
+  where
+    go : (k size : ℕ) → k < 2 → ((k ≡ 1) × (size ≡ 0) → ⊥) → ((k ≡ 1) × (size ≡ 7) → ⊥) → extra Value S a k size ≡ 0
+    go zero size near some untagged = refl
+    go (suc zero) zero near some untagged = absurd (some (refl, refl))
+    go (suc zero) (suc m) near some untagged =
+        ap (λ b. cond b (count_charge Value (data_words (tag S a) + pointer_count (tag S a)) (offset_bits (tag S a))) (count_charge Value (suc m) (list_count a.word))) (ne_eqb (suc m) 7 (λ e. untagged (refl, e)))
+        ∙ charge_some Value (suc m) (list_count a.word) (omega arith)
+    go (suc (suc k)) size near some untagged = absurd (omega arith)
 
 -- for the size all are
 pub charge_of_size : (S : Segments) (a : Target) → amplified Size S a ≡ 0

@@ -1,12 +1,15 @@
 -- Following a pointer to what it leads to, and entering the object there: each step with its checks
 -- and charges.
-use Rattle.std.specs.Prelude.{◌≡◌, ℕ, ◌+◌, ◌%◌, ◌^◌, ◌<◌, ◌≤◌, Bool, Ok, Err, Result, length}
+use Rattle.std.specs.Prelude.{◌≡◌, ℕ, ◌+◌, ◌%◌, ◌^◌, ◌<◌, ◌≤◌, Bool, Ok, Err, Result}
+use Rattle.std.specs.Prelude.{IfOk, IfErr, length}
 use Rattle.capnp_words.specs.declared.error.ErrorKind.{ErrorKind}
 use Rattle.capnp_words.specs.declared.error.ErrorKind.TheVariants.{ReadLimitExceeded}
 use Rattle.capnp_format.specs.Word.{kind, upper_half, far_position, is_double, offset_bits}
 use Rattle.capnp_format.specs.Word.{data_words, pointer_count, element_size, list_count}
 use Rattle.capnp_format.specs.Segments.{Segments, segment, Target}
 use Rattle.capnp_format.specs.Means.{Claims}
+use Rattle.capnp_format.specs.Bytes.{message}
+use Rattle.capnp_words.specs.declared.wire_pointer.WirePointer.{WirePointer}
 use Rattle.capnp_words.specs.Meter.{Meter, Affords, charged}
 use Rattle.capnp_words.specs.Sizes.{size_number}
 use Rattle.capnp_objects.specs.declared.object.Place.{Place}
@@ -26,7 +29,7 @@ use Rattle.capnp_arena_traits.specs.declared.arena.reader_arena.ReaderArena.{Gho
 use Rattle.capnp_objects.specs.declared.object.Purpose.{Purpose}
 use Rattle.capnp_objects.specs.Demands.{claim, tag, amplified, Meets}
 use Rattle.capnp_objects.specs.Wanted.{BreaksObject, follow_at}
-use Rattle.capnp_objects.specs.Objects.{IsHeld, StartsAt}
+use Rattle.capnp_objects.specs.Objects.{IsHeld, StartsAt, IsFew}
 use Rattle.capnp_objects.specs.Wanted.{plain}
 
 -- What following a pointer found, as a target.
@@ -45,10 +48,13 @@ pub record Following : Type 0 where
 abbrev pub following : Reading → Following
 following r = record { segments = r.segments; charging = r.charging; word = word_of r; gives = follow_at r }
 
--- The far pointer x of a message.
+-- The far pointer x of a message, and of that which an arena holds.
 abbrev pub following_far : Segments → Bool → ℕ → Following
 following_far S charging x =
     record { segments = S; charging = charging; word = x; gives = follow_far S x (is_double x) }
+
+abbrev pub far_in : {A : Type 0} (g : Ghosts A) → A → WirePointer → Following
+far_in g arena far = following_far (message (g.segments arena)) (g.charging arena) far.0
 
 -- The landing pad of a far pointer, whose words are checked and charged, from m to m'.
 pub record IsPad (f : Following) (m m' : Meter) (here : Place) : Type 0 where
@@ -155,3 +161,10 @@ IsOpened purpose o m m' (ObjectStructs start size count) =
     IsEntered purpose o m m' × (kind a.word ≡ 1) × (element_size a.word ≡ 7) ×
     StartsAt o.segments a 1 start × (count ≡ offset_bits t)
     × (size.data_words ≡ data_words t) × (size.pointers ≡ pointer_count t)
+
+-- An object is entered, from m to m': what it is and how few elements it has, or why it isn't.
+pub record Enters (purpose : Purpose) (o : Arrival) (m m' : Meter)
+    (result : Result Object ErrorKind) : Type 0 where
+  pub object : IfOk result (IsOpened purpose o m m')
+  pub few : IfOk result IsFew
+  pub refused : IfErr result (NotEntered purpose o m m')

@@ -8,8 +8,7 @@ use Rattle.capnp_format.specs.Segments.{Segments, Target}
 use Rattle.capnp_objects.specs.declared.object.Purpose.TheVariants.{Size}
 use Rattle.capnp_objects.specs.Demands.{claim, tag, element_words}
 use Rattle.capnp_objects.specs.Reading.{Reading, word_of}
-use Rattle.capnp_objects.specs.Refusals.{Stopped}
-use Rattle.capnp_objects.specs.Wanted.{plain}
+use Rattle.capnp_objects.specs.Refusals.{NotRead}
 
 -- The words of its own that an object counts: those that it claims, but for a list of structs its
 -- tag and its elements.
@@ -21,4 +20,4 @@ counted_words S a = if nat_eq (kind a.word) 1 && nat_eq (element_size a.word) 7 
 -- counted; else its reading stops.
 pub data NotMeasured (r : Reading) (m m' : Meter) (k : ErrorKind) : Type 0 where
   no_level : word_of r ≢ 0 → r.levels ≡ 0 → m' ≡ m → k ≡ MessageIsTooDeeplyNested → NotMeasured r m m' k
-  stopped : 0 < r.levels → Stopped Size plain r m m' k → NotMeasured r m m' k
+  stopped : 0 < r.levels → NotRead Size r m m' k → NotMeasured r m m' k

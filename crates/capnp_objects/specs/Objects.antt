@@ -7,6 +7,7 @@ use Rattle.capnp_words.specs.Meter.{Meter, Affords}
 use Rattle.capnp_format.specs.Bytes.{words_of}
 use Rattle.capnp_words.specs.Sizes.{size_number}
 use Rattle.capnp_objects.specs.declared.object.Place.{Place}
+use Rattle.capnp_objects.specs.declared.object.PointerWord.{PointerWord}
 use Rattle.capnp_objects.specs.declared.object.Object.{Object}
 use Rattle.capnp_objects.specs.declared.object.Object.TheVariants.{Null as ObjectNull}
 use Rattle.capnp_objects.specs.declared.object.Object.TheVariants.{Capability as ObjectCapability}
@@ -28,12 +29,12 @@ IsHeld S here =
     (length here.bytes.now ≡ 8 * length (segment S here.segment)) ×
     (length here.bytes.now < 8 * 2 ^ 32)
 
--- The word at a place that is read isn't null, and its segment's bytes are at hand.
-pub record IsWordRead (r : Reading) (here : Place) (word : ℕ) : Type 0 where
-  pub held : IsHeld r.segments here
-  pub there : word ≡ word_of r
-  pub some : word ≢ 0
-  pub small : word < 2 ^ 64
+-- The pointer word of a place that is read isn't null, and its segment's bytes are at hand.
+pub record IsWordRead (r : Reading) (pointer : PointerWord) : Type 0 where
+  pub held : IsHeld r.segments pointer.place
+  pub there : pointer.word.0 ≡ word_of r
+  pub some : pointer.word.0 ≢ 0
+  pub small : pointer.word.0 < 2 ^ 64
 
 -- An object of the target a starts so many words behind it.
 abbrev pub StartsAt : Segments → Target → ℕ → Place → Type 0
@@ -64,6 +65,10 @@ IsObject purpose r m m' (ObjectStructs start size count) =
 -- What the pointer at a place leads to where it is near: an object at a position of the place's own segment.
 abbrev pub near_at : Reading → ℕ → Target
 near_at r at = record { word = word_of r; segment = r.segment; start = at; pads = 0 }
+
+-- What the near pointer at a place leads to is entered, from m to m', at this position.
+abbrev pub EntersNear : Purpose → Reading → Meter → Meter → ℕ → Type 0
+EntersNear purpose r m m' at = Entered purpose r m m' (near_at r at)
 
 -- A list has so few elements that their number fits its bits of a pointer word, and so do the words
 -- of structs.

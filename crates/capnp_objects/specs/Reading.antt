@@ -6,6 +6,7 @@ use Rattle.capnp_format.specs.Word.{data_words, pointer_count}
 use Rattle.capnp_arena_traits.specs.declared.arena.reader_arena.ReaderArena.{Ghosts}
 use Rattle.capnp_words.specs.declared.wire_pointer.StructSize.{StructSize}
 use Rattle.capnp_objects.specs.declared.object.Place.{Place}
+use Rattle.capnp_objects.specs.declared.object.PointerWord.{PointerWord}
 use Rattle.capnp_objects.specs.declared.source.Source.{Source}
 use Rattle.capnp_objects.specs.declared.source.Source.TheVariants.{Arena, Default, Nothing}
 use Rattle.capnp_objects.specs.Source.{default_segment, default_segments, levels}
@@ -52,6 +53,10 @@ reading_at g source place nesting =
       segment = place.segment;
       at = place.at;
     }
+
+-- The place of a pointer word that was read in a source.
+abbrev pub pointer_at : {A : Type 0} (g : Ghosts A) → Source A → PointerWord → Reading
+pointer_at g source pointer = reading_at g source pointer.place pointer.nesting_limit
 
 -- The word there.
 abbrev pub word_of : Reading → ℕ

@@ -22,7 +22,7 @@ use Rattle.capnp_objects.specs.Faults.{child_at}
 use Rattle.capnp_objects.specs.Outcomes.{Entered, ReadsAll, ReadsElements}
 use Rattle.capnp_objects.specs.Reading.{Reading, word_of, behind, pointers_of, tag_size}
 use Rattle.capnp_objects.specs.Spending.{Paid}
-use Rattle.capnp_objects.specs.Wanted.{Form, BreaksObject, follow_at, FollowsTo, FollowsFor}
+use Rattle.capnp_objects.specs.Wanted.{Form, plain, BreaksObject, follow_at, FollowsTo, FollowsFor}
 
 -- The words of the landing pads of a pointer word, where they lie in their segment; else, and of a
 -- near pointer, none.
@@ -72,6 +72,10 @@ pub data Stopped (purpose : Purpose) (form : Form) (r : Reading) (m m' : Meter) 
       Paid r.charging m m' (a.pads + claim a.word) 1 →
       k ≡ ReadLimitExceeded →
       Stopped purpose form r m m' k
+
+-- The reading of whatever object stands at a place, as it stands, stops, from m to m', by the name k.
+abbrev pub NotRead : Purpose → Reading → Meter → Meter → ErrorKind → Type 0
+NotRead purpose r m m' k = Stopped purpose plain r m m' k
 
 -- One object can be read: the demands at the place itself hold, and m covers what the call charges.
 unfoldable pub CanBeRead : Purpose → Reading → Meter → Type 0

@@ -1,9 +1,9 @@
 -- Of which kind the object is that a pointer leads to, by the word that describes it alone.
-use Rattle.std.specs.Prelude.{◌≡◌, ◌≢◌, ◌⊎◌, ℕ, if◌then◌else◌, nat_eq, Result, Ok, Err}
+use Rattle.std.specs.Prelude.{◌≡◌, ◌⊎◌, ℕ, if◌then◌else◌, nat_eq, Result, Ok, Err}
 use Rattle.capnp_words.specs.declared.error.ErrorKind.{ErrorKind}
 use Rattle.capnp_words.specs.declared.error.ErrorKind.TheVariants.{UnexpectedFarPointer}
 use Rattle.capnp_words.specs.declared.error.ErrorKind.TheVariants.{UnknownPointerType}
-use Rattle.capnp_words.specs.Meter.{Meter, Affords}
+use Rattle.capnp_words.specs.Meter.{Meter}
 use Rattle.capnp_format.specs.Word.{kind, lower_half}
 use Rattle.capnp_format.specs.Segments.{Target}
 use Rattle.capnp_words.specs.declared.wire_pointer.PointerType.{PointerType}

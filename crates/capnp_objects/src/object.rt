@@ -42,6 +42,17 @@ impl<'a> Place<'a> {
     }
 }
 
+/// A pointer word that was read, and where it stands.
+#[derive(Clone, Copy)]
+pub struct PointerWord<'a> {
+    /// Where the word stands.
+    pub place: Place<'a>,
+    /// The word.
+    pub word: WirePointer,
+    /// How many levels of structs and lists may be entered from there.
+    pub nesting_limit: i32,
+}
+
 /// One object, whose own words are checked and charged; of its children nothing is known.
 #[derive(Clone, Copy)]
 pub enum Object<'a> {

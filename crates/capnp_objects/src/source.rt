@@ -2,25 +2,24 @@
 //! followed to where it leads, and the object there is entered, each with its checks and charges.
 ghost use Rattle.std.specs.Prelude.{◌≡◌, ◌<◌, ◌≤◌, ◌↔◌, IfOk, IsOk, OnOk, OnErr, IfErr, length};
 ghost use Rattle.capnp_format.specs.Word.{kind, element_size};
-ghost use Rattle.capnp_words.specs.Meter.{Affords, charged, counted_once};
-ghost use Rattle.capnp_words.specs.declared.error.ErrorKind.TheVariants.{ReadLimitExceeded};
+ghost use Rattle.capnp_words.specs.Meter.{counted_once};
 ghost use Rattle.capnp_objects.specs.Source.{levels};
 ghost use Rattle.capnp_format.specs.Bytes.{message};
+ghost use Rattle.capnp_objects.specs.declared.object.Purpose.{Purpose};
 ghost use Rattle.capnp_objects.specs.declared.object.Purpose.TheVariants.{Value, Size};
-ghost use Rattle.capnp_objects.specs.Demands.{claim, count_charge};
-ghost use Rattle.capnp_objects.specs.Reading.{source_start, reading_at};
-ghost use Rattle.capnp_objects.specs.Wanted.{plain};
-ghost use Rattle.capnp_objects.specs.Objects.{near_at, IsObject, IsHeld, IsWordRead, IsFew};
-ghost use Rattle.capnp_objects.specs.Outcomes.{Entered};
-ghost use Rattle.capnp_objects.specs.Refusals.{Stopped, CanBeRead};
-ghost use Rattle.capnp_objects.specs.Landings.{following, following_far, IsPad, IsFollowed, NotFollowed};
+ghost use Rattle.capnp_objects.specs.Demands.{claim, count_charge, IsStructList, IsVoidList};
+ghost use Rattle.capnp_objects.specs.Reading.{source_start, reading_at, pointer_at};
+ghost use Rattle.capnp_objects.specs.Spending.{ChargesFor};
+ghost use Rattle.capnp_objects.specs.Objects.{EntersNear, IsObject, IsHeld, IsWordRead, IsFew};
+ghost use Rattle.capnp_objects.specs.Refusals.{NotRead, CanBeRead};
+ghost use Rattle.capnp_objects.specs.Landings.{following, far_in, IsPad, IsFollowed, NotFollowed};
 
 mod expected;
 mod landing;
 mod measure;
 mod types;
 
-use crate::object::{Object, Place, Purpose};
+use crate::object::{Object, Place, PointerWord, Purpose};
 use capnp_arena_traits::arena::ReaderArena;
 use capnp_words::error::ErrorKind;
 use capnp_words::read_limiter::ReadLimiter;
@@ -81,44 +80,44 @@ impl<'a, A: ReaderArena> Source<'a, A> {
         ensures few { IfOk result IsFew }
         ensures exactly { IsOk result ↔ CanBeRead Value
             (reading_at A.ReaderArena self.entry place.entry nesting_limit) lim.old }
-        ensures refused { IfErr result
-            (Stopped Value plain (reading_at A.ReaderArena self.entry place.entry nesting_limit)
-            lim.old lim.new) }
+        ensures refused { IfErr result (NotRead Value
+            (reading_at A.ReaderArena self.entry place.entry nesting_limit) lim.old lim.new) }
     {
         let word = place.word();
         if word.is_null() {
             return Ok(Object::Null);
         }
-        self.read_pointer(Purpose::Value, place, word, nesting_limit, lim)
+        let pointer = PointerWord {
+            place,
+            word,
+            nesting_limit,
+        };
+        self.read_pointer(Purpose::Value, pointer, lim)
     }
 
-    // Reads the object that the word at a place leads to, which is not zero. For its size a level has
-    // to be left.
+    // Reads the object that a pointer word leads to, which is not zero. For its size a level has to
+    // be left.
     #[inline(always)]
     fn read_pointer(
         self,
         purpose: Purpose,
-        place: Place<'a>,
-        word: WirePointer,
-        nesting_limit: i32,
+        pointer: PointerWord<'a>,
         lim: &mut ReadLimiter,
     ) -> Result<Object<'a>, ErrorKind>
-        requires word { IsWordRead (reading_at A.ReaderArena self place nesting_limit)
-            place word.0 }
-        requires level { purpose ≡ Size → 0 < levels nesting_limit }
+        requires word { IsWordRead (pointer_at A.ReaderArena self pointer) pointer }
+        requires level { purpose ≡ Size → 0 < levels pointer.nesting_limit }
         ensures object { IfOk result (IsObject purpose
-            (reading_at A.ReaderArena self.entry place.entry nesting_limit) lim.old lim.new) }
+            (pointer_at A.ReaderArena self.entry pointer.entry) lim.old lim.new) }
         ensures few { IfOk result IsFew }
-        ensures refused { IfErr result
-            (Stopped purpose plain (reading_at A.ReaderArena self.entry place.entry nesting_limit)
-            lim.old lim.new) }
+        ensures refused { IfErr result (NotRead purpose
+            (pointer_at A.ReaderArena self.entry pointer.entry) lim.old lim.new) }
     {
         self.count(lim);
-        let found = self.follow(place, word, nesting_limit, lim)?;
+        let found = self.follow(pointer, lim)?;
         let entrance = Entrance {
             source: self,
             found,
-            depth: depth_of(nesting_limit),
+            depth: depth_of(pointer.nesting_limit),
         };
         entrance.enter(purpose, lim)
     }
@@ -128,30 +127,17 @@ impl<'a, A: ReaderArena> Source<'a, A> {
     #[inline(always)]
     pub fn read_near_struct(
         self,
-        place: Place<'a>,
-        word: WirePointer,
-        nesting_limit: i32,
+        pointer: PointerWord<'a>,
         lim: &mut ReadLimiter,
     ) -> Result<u32, ErrorKind>
-        requires word { IsWordRead (reading_at A.ReaderArena self place nesting_limit)
-            place word.0 }
-        requires is_struct { kind word.0 ≡ 0 }
-        ensures object { IfOk result (λ at. Entered Value
-            (reading_at A.ReaderArena self.entry place.entry nesting_limit) lim.old lim.new
-            (near_at (reading_at A.ReaderArena self.entry place.entry nesting_limit) at)) }
-        ensures refused { IfErr result
-            (Stopped Value plain (reading_at A.ReaderArena self.entry place.entry nesting_limit)
-            lim.old lim.new) }
+        requires word { IsWordRead (pointer_at A.ReaderArena self pointer) pointer }
+        requires is_struct { kind pointer.word.0 ≡ 0 }
+        ensures object { IfOk result (EntersNear Value
+            (pointer_at A.ReaderArena self.entry pointer.entry) lim.old lim.new) }
+        ensures refused { IfErr result (NotRead Value
+            (pointer_at A.ReaderArena self.entry pointer.entry) lim.old lim.new) }
     {
-        self.count(lim);
-        let found = self.follow(place, word, nesting_limit, lim)?;
-        let entrance = Entrance {
-            source: self,
-            found,
-            depth: depth_of(nesting_limit),
-        };
-        entrance.claim(word.struct_word_size(), lim)?;
-        Ok(found.start.at)
+        self.enter_near(pointer, pointer.word.struct_word_size(), lim)
     }
 
     /// Reads the list of bits or bytes that a near pointer leads to, as `read_object` does: where its
@@ -159,30 +145,48 @@ impl<'a, A: ReaderArena> Source<'a, A> {
     #[inline(always)]
     pub fn read_near_flat(
         self,
-        place: Place<'a>,
-        word: WirePointer,
+        pointer: PointerWord<'a>,
         words: u32,
-        nesting_limit: i32,
         lim: &mut ReadLimiter,
     ) -> Result<u32, ErrorKind>
-        requires word { IsWordRead (reading_at A.ReaderArena self place nesting_limit)
-            place word.0 }
-        requires is_list { kind word.0 ≡ 1 }
-        requires of_bits { (0 < element_size word.0) × (element_size word.0 ≤ 5) }
-        requires claimed { words ≡ claim word.0 }
-        ensures object { IfOk result (λ at. Entered Value
-            (reading_at A.ReaderArena self.entry place.entry nesting_limit) lim.old lim.new
-            (near_at (reading_at A.ReaderArena self.entry place.entry nesting_limit) at)) }
-        ensures refused { IfErr result
-            (Stopped Value plain (reading_at A.ReaderArena self.entry place.entry nesting_limit)
-            lim.old lim.new) }
+        requires word { IsWordRead (pointer_at A.ReaderArena self pointer) pointer }
+        requires is_list { kind pointer.word.0 ≡ 1 }
+        requires of_bits { (0 < element_size pointer.word.0)
+            × (element_size pointer.word.0 ≤ 5) }
+        requires claimed { words ≡ claim pointer.word.0 }
+        ensures object { IfOk result (EntersNear Value
+            (pointer_at A.ReaderArena self.entry pointer.entry) lim.old lim.new) }
+        ensures refused { IfErr result (NotRead Value
+            (pointer_at A.ReaderArena self.entry pointer.entry) lim.old lim.new) }
+    {
+        self.enter_near(pointer, words, lim)
+    }
+
+    // Enters the object that a near pointer leads to, whose elements charge nothing apart: where it
+    // starts in the pointer's own segment, a position in words. It claims so many words.
+    #[inline(always)]
+    fn enter_near(
+        self,
+        pointer: PointerWord<'a>,
+        words: u32,
+        lim: &mut ReadLimiter,
+    ) -> Result<u32, ErrorKind>
+        requires word { IsWordRead (pointer_at A.ReaderArena self pointer) pointer }
+        requires near { kind pointer.word.0 < 2 }
+        requires of_bits { IsVoidList pointer.word.0 → ⊥ }
+        requires untagged { IsStructList pointer.word.0 → ⊥ }
+        requires claimed { words ≡ claim pointer.word.0 }
+        ensures object { (purpose : Purpose) → IfOk result (EntersNear purpose
+            (pointer_at A.ReaderArena self.entry pointer.entry) lim.old lim.new) }
+        ensures refused { (purpose : Purpose) → IfErr result (NotRead purpose
+            (pointer_at A.ReaderArena self.entry pointer.entry) lim.old lim.new) }
     {
         self.count(lim);
-        let found = self.follow(place, word, nesting_limit, lim)?;
+        let found = self.follow(pointer, lim)?;
         let entrance = Entrance {
             source: self,
             found,
-            depth: depth_of(nesting_limit),
+            depth: depth_of(pointer.nesting_limit),
         };
         entrance.claim(words, lim)?;
         Ok(found.start.at)
@@ -204,12 +208,8 @@ impl<'a, A: ReaderArena> Source<'a, A> {
 
     // Charges words, which only an arena does.
     fn charge(self, words: u64, lim: &mut ReadLimiter) -> Result<(), ErrorKind>
-        ensures exactly { IsOk result ↔ Affords (source_start A.ReaderArena self.entry).charging
-            lim.old words }
-        ensures granted { OnOk result (lim.new ≡ charged
-            (source_start A.ReaderArena self.entry).charging lim.old words) }
-        ensures refused { OnErr result (lim.new ≡ lim.old) }
-        ensures named { IfErr result (λ k. k ≡ ReadLimitExceeded) }
+        ensures { ChargesFor words (source_start A.ReaderArena self.entry).charging
+            lim.old lim.new result }
     {
         match self {
             Source::Arena(arena) => arena.amplified_read(words, lim),
@@ -225,13 +225,8 @@ impl<'a, A: ReaderArena> Source<'a, A> {
         count: u32,
         lim: &mut ReadLimiter,
     ) -> Result<(), ErrorKind>
-        ensures exactly { IsOk result ↔ Affords (source_start A.ReaderArena self.entry).charging
-            lim.old (count_charge purpose width count) }
-        ensures granted { OnOk result (lim.new ≡ charged
-            (source_start A.ReaderArena self.entry).charging lim.old
-            (count_charge purpose width count)) }
-        ensures refused { OnErr result (lim.new ≡ lim.old) }
-        ensures named { IfErr result (λ k. k ≡ ReadLimitExceeded) }
+        ensures { ChargesFor (count_charge purpose width count)
+            (source_start A.ReaderArena self.entry).charging lim.old lim.new result }
     {
         if width > 0 {
             return Ok(());
@@ -242,24 +237,17 @@ impl<'a, A: ReaderArena> Source<'a, A> {
         }
     }
 
-    // Follows the word at a place, which is not zero. A default has no segment that a far pointer
-    // could name.
+    // Follows a pointer word, which is not zero. A default has no segment that a far pointer could
+    // name.
     #[inline(always)]
-    fn follow(
-        self,
-        place: Place<'a>,
-        word: WirePointer,
-        nesting_limit: i32,
-        lim: &mut ReadLimiter,
-    ) -> Result<Found<'a>, ErrorKind>
-        requires { IsWordRead (reading_at A.ReaderArena self place nesting_limit) place word.0 }
+    fn follow(self, pointer: PointerWord<'a>, lim: &mut ReadLimiter) -> Result<Found<'a>, ErrorKind>
+        requires { IsWordRead (pointer_at A.ReaderArena self pointer) pointer }
         ensures followed { IfOk result (IsFollowed
-            (following (reading_at A.ReaderArena self.entry place.entry nesting_limit))
-            lim.old lim.new) }
+            (following (pointer_at A.ReaderArena self.entry pointer.entry)) lim.old lim.new) }
         ensures refused { IfErr result (NotFollowed
-            (following (reading_at A.ReaderArena self.entry place.entry nesting_limit))
-            lim.old lim.new) }
+            (following (pointer_at A.ReaderArena self.entry pointer.entry)) lim.old lim.new) }
     {
+        let PointerWord { place, word, .. } = pointer;
         if word.kind() == WirePointerKind::Far {
             return match self {
                 Source::Arena(arena) => follow_far(arena, word, lim),
@@ -286,11 +274,9 @@ fn follow_far<'a, A: ReaderArena>(
 ) -> Result<Found<'a>, ErrorKind>
     requires some { 0 < length (message (A.segments arena.now)) }
     requires is_far { kind far.0 ≡ 2 }
-    ensures followed { IfOk result (IsFollowed
-        (following_far (message (A.segments arena.now)) (A.charging arena.now) far.0)
+    ensures followed { IfOk result (IsFollowed (far_in A.ReaderArena arena.now far)
         lim.old lim.new) }
-    ensures refused { IfErr result (NotFollowed
-        (following_far (message (A.segments arena.now)) (A.charging arena.now) far.0)
+    ensures refused { IfErr result (NotFollowed (far_in A.ReaderArena arena.now far)
         lim.old lim.new) }
 {
     let pad = landing_pad(arena, far, lim)?;
@@ -331,11 +317,8 @@ fn landing_pad<'a, A: ReaderArena>(
 ) -> Result<Place<'a>, ErrorKind>
     requires some { 0 < length (message (A.segments arena.now)) }
     requires is_far { kind far.0 ≡ 2 }
-    ensures pad { IfOk result (IsPad
-        (following_far (message (A.segments arena.now)) (A.charging arena.now) far.0)
-        lim.old lim.new) }
-    ensures refused { IfErr result (NotFollowed
-        (following_far (message (A.segments arena.now)) (A.charging arena.now) far.0)
+    ensures pad { IfOk result (IsPad (far_in A.ReaderArena arena.now far) lim.old lim.new) }
+    ensures refused { IfErr result (NotFollowed (far_in A.ReaderArena arena.now far)
         lim.old lim.new) }
 {
     let id = far.far_segment_id();

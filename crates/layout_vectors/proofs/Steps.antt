@@ -22,12 +22,11 @@ use Rattle.capnp_format.specs.Forest.{row, object_cover, PadsInside}
 use Rattle.layout_vectors.specs.Counts.{Counting, plus, Counts, MeansTidily, AreRead, IsTidyObject, ObjectCounts}
 use Rattle.layout_vectors.specs.Marks.{IsMarkedWithin, TakesRow, TakesEach}
 use Rattle.layout_vectors.specs.Spots.{spots, element_spots}
-use Rattle.layout_vectors.specs.Walks.{Walk, FitsRows, Proceeds, TakesTarget, HasNoObject, Goes, FailsWalk}
+use Rattle.layout_vectors.specs.Walks.{Walk, FitsRows, Proceeds, TakesTarget, HasNoObject, TakesObject, Goes, FailsWalk}
 use Rattle.layout_vectors.specs.declared.vectors.pending.Spot.{Spot}
 use Rattle.layout_vectors.proofs.Counting.{counts_same, counts_least, pushed_read, read_pushed, elements_pushed_read, elements_read_pushed}
 use Rattle.layout_vectors.proofs.Taken.{keeps_itself, keeps_again}
-use Rattle.capnp_words.specs.declared.error.ErrorKind.{ErrorKind}
-use Rattle.std.specs.Prelude.{Result, Ok, Err, IfOk, Bool}
+use Rattle.std.specs.Prelude.{Result, Ok, Err, IfOk, Bool, true, false}
 use Rattle.layout_vectors.proofs.Leading.{there_is, object_of_read, read_of_object}
 
 -- one of the words is taken already
@@ -396,6 +395,11 @@ pub pointer_unwalked : (S : Segments) (j : Spot) (w : Walk) (N : Segments) (a : 
     HasNoObject S a (with_marks w N) → FailsWalk S j w
 pointer_unwalked S j w N a some l pads never F h once = never F ((pointer_goes S (word_at w.marks) (word_at N) j w.pending a some l pads.marks F).0 h) once
 
-pub ok_map : (r : Result Bool ErrorKind) (P Q : Bool → Type 0) → ((b : Bool) → P b → Q b) → IfOk r P → IfOk r Q
+pub ok_map : {E : Type 0} (r : Result Bool E) (P Q : Bool → Type 0) → ((b : Bool) → P b → Q b) → IfOk r P → IfOk r Q
 ok_map (Ok b) P Q f h = f b h
 ok_map (Err e) P Q f h = h
+
+-- an object is taken, or there is none, by the answer
+pub takes_by : {S : Segments} {a : Target} {w v : Walk} (b : Bool) → (b ≡ true → TakesTarget S a w v) → (b ≡ false → HasNoObject S a w) → TakesObject S a w v b
+takes_by true if_so if_not = if_so refl
+takes_by false if_so if_not = if_not refl

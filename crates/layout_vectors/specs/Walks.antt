@@ -1,5 +1,5 @@
 -- What a step of the walk over a message does: each word that is reached is marked once.
-use Rattle.std.specs.Prelude.{◌≡◌, ℕ, ◌+◌, ◌^◌, ◌<◌, ◌≤◌, ◌↔◌, List, ◌∷◌, length}
+use Rattle.std.specs.Prelude.{◌≡◌, ℕ, ◌+◌, ◌^◌, ◌<◌, ◌≤◌, ◌↔◌, List, ◌∷◌, length, Bool, true, false}
 use Rattle.std.specs.Global.{Vec}
 use Rattle.capnp_format.specs.Segments.{Segments, segment, word_at, Target}
 use Rattle.layout_vectors.specs.Counts.{Counts, ObjectCounts, IsOnce, Counting}
@@ -38,6 +38,11 @@ pub record TakesTarget (S : Segments) (a : Target) (w v : Walk) : Type 0 where
 abbrev pub HasNoObject : Segments → Target → Walk → Type 0
 HasNoObject S a w = (F : Counting) → ObjectCounts S a (word_at w.marks) w.pending F → IsOnce F → ⊥
 
+-- From w to v the object where a leads is taken; or there is none.
+abbrev pub TakesObject : Segments → Target → Walk → Walk → Bool → Type 0
+TakesObject S a w v true = TakesTarget S a w v
+TakesObject S a w v false = HasNoObject S a w
+
 -- From w to v what the pointer at j leads to is taken: what is counted with j before is what is
 -- counted without it afterwards.
 pub record Goes (S : Segments) (j : Spot) (w v : Walk) : Type 0 where
@@ -47,3 +52,8 @@ pub record Goes (S : Segments) (j : Spot) (w v : Walk) : Type 0 where
 
 abbrev pub FailsWalk : Segments → Spot → Walk → Type 0
 FailsWalk S j w = (F : Counting) → Counts S (word_at w.marks) (j ∷ w.pending) F → IsOnce F → ⊥
+
+-- From w to v what the pointer at j leads to is taken; or it can't be.
+abbrev pub TakesSpot : Segments → Spot → Walk → Walk → Bool → Type 0
+TakesSpot S j w v true = Goes S j w v
+TakesSpot S j w v false = FailsWalk S j w

@@ -11,7 +11,7 @@ ghost use Rattle.capnp_objects.specs.Entering.{object_misfit, place_byte, IsAtHa
 
 use super::landing::Entrance;
 use super::{Source, depth_of};
-use crate::object::{Expected, Object, Place, Purpose};
+use crate::object::{Expected, Object, Place, PointerWord, Purpose};
 use capnp_arena_traits::arena::ReaderArena;
 use capnp_words::error::ErrorKind;
 use capnp_words::read_limiter::ReadLimiter;
@@ -60,7 +60,12 @@ impl<'a, A: ReaderArena> Source<'a, A> {
             None => {}
         }
         self.count(lim);
-        let found = self.follow(place, word, nesting_limit, lim)?;
+        let pointer = PointerWord {
+            place,
+            word,
+            nesting_limit,
+        };
+        let found = self.follow(pointer, lim)?;
         let entrance = Entrance {
             source: self,
             found,

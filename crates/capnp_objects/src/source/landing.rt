@@ -37,13 +37,12 @@ impl<'a, A: ReaderArena> Clone for Entrance<'a, A> {
 impl<'a, A: ReaderArena> Copy for Entrance<'a, A> {}
 
 impl<'a, A: ReaderArena> Entrance<'a, A> {
-    ghost use Rattle.std.specs.Prelude.{◌<◌, ◌≤◌, IfOk, OnOk, IfErr};
+    ghost use Rattle.std.specs.Prelude.{◌<◌, ◌≤◌, OnOk, IfErr};
     ghost use Rattle.capnp_format.specs.Word.{kind, element_size};
     ghost use Rattle.capnp_words.specs.Sizes.{size_number};
     ghost use Rattle.capnp_objects.specs.declared.object.Purpose.{Purpose};
-    ghost use Rattle.capnp_objects.specs.Demands.{claim, IsVoidList};
-    ghost use Rattle.capnp_objects.specs.Objects.{IsFew};
-    ghost use Rattle.capnp_objects.specs.Landings.{arrival, IsClaimed, NotEntered, IsOpened};
+    ghost use Rattle.capnp_objects.specs.Demands.{claim, IsStructList, IsVoidList};
+    ghost use Rattle.capnp_objects.specs.Landings.{arrival, IsClaimed, NotEntered, Enters};
 
     // Enters the object that a pointer leads to, which takes one of the levels. For its size one
     // has to be left.
@@ -54,11 +53,7 @@ impl<'a, A: ReaderArena> Entrance<'a, A> {
         lim: &mut ReadLimiter,
     ) -> Result<Object<'a>, ErrorKind>
         requires level { purpose ≡ Size → 0 < self.depth }
-        ensures object { IfOk result (IsOpened purpose (arrival A.ReaderArena self.entry)
-            lim.old lim.new) }
-        ensures few { IfOk result IsFew }
-        ensures refused { IfErr result (NotEntered purpose (arrival A.ReaderArena self.entry)
-            lim.old lim.new) }
+        ensures { Enters purpose (arrival A.ReaderArena self.entry) lim.old lim.new result }
     {
         match self.found.word.kind() {
             WirePointerKind::Struct => self.enter_struct(purpose, lim),
@@ -98,12 +93,8 @@ impl<'a, A: ReaderArena> Entrance<'a, A> {
     // Enters a struct.
     #[inline(always)]
     fn enter_struct(self, purpose: Purpose, lim: &mut ReadLimiter) -> Result<Object<'a>, ErrorKind>
-        requires is_struct { kind self.found.word.0 ≡ 0 }
-        ensures object { IfOk result (IsOpened purpose (arrival A.ReaderArena self.entry)
-            lim.old lim.new) }
-        ensures few { IfOk result IsFew }
-        ensures refused { IfErr result (NotEntered purpose (arrival A.ReaderArena self.entry)
-            lim.old lim.new) }
+        requires { kind self.found.word.0 ≡ 0 }
+        ensures { Enters purpose (arrival A.ReaderArena self.entry) lim.old lim.new result }
     {
         self.claim(self.found.word.struct_word_size(), lim)?;
         Ok(Object::Struct {
@@ -117,11 +108,7 @@ impl<'a, A: ReaderArena> Entrance<'a, A> {
     fn enter_list(self, purpose: Purpose, lim: &mut ReadLimiter) -> Result<Object<'a>, ErrorKind>
         requires is_list { kind self.found.word.0 ≡ 1 }
         requires level { purpose ≡ Size → 0 < self.depth }
-        ensures object { IfOk result (IsOpened purpose (arrival A.ReaderArena self.entry)
-            lim.old lim.new) }
-        ensures few { IfOk result IsFew }
-        ensures refused { IfErr result (NotEntered purpose (arrival A.ReaderArena self.entry)
-            lim.old lim.new) }
+        ensures { Enters purpose (arrival A.ReaderArena self.entry) lim.old lim.new result }
     {
         match self.found.word.list_element_size() {
             ElementSize::InlineComposite => self.enter_structs(purpose, lim),
@@ -134,14 +121,9 @@ impl<'a, A: ReaderArena> Entrance<'a, A> {
     // Enters a list of void, which for its size is neither looked for nor charged.
     #[inline(always)]
     fn enter_void(self, purpose: Purpose, lim: &mut ReadLimiter) -> Result<Object<'a>, ErrorKind>
-        requires is_list { kind self.found.word.0 ≡ 1 }
-        requires of_void { element_size self.found.word.0 ≡ 0 }
+        requires of_void { IsVoidList self.found.word.0 }
         requires level { purpose ≡ Size → 0 < self.depth }
-        ensures object { IfOk result (IsOpened purpose (arrival A.ReaderArena self.entry)
-            lim.old lim.new) }
-        ensures few { IfOk result IsFew }
-        ensures refused { IfErr result (NotEntered purpose (arrival A.ReaderArena self.entry)
-            lim.old lim.new) }
+        ensures { Enters purpose (arrival A.ReaderArena self.entry) lim.old lim.new result }
     {
         let start = self.found.start;
         let size = ElementSize::Void;
@@ -165,13 +147,8 @@ impl<'a, A: ReaderArena> Entrance<'a, A> {
     ) -> Result<Object<'a>, ErrorKind>
         requires is_list { kind self.found.word.0 ≡ 1 }
         requires is_size { size_number size ≡ element_size self.found.word.0 }
-        requires some { 0 < size_number size }
-        requires is_flat { size_number size ≤ 5 }
-        ensures object { IfOk result (IsOpened purpose (arrival A.ReaderArena self.entry)
-            lim.old lim.new) }
-        ensures few { IfOk result IsFew }
-        ensures refused { IfErr result (NotEntered purpose (arrival A.ReaderArena self.entry)
-            lim.old lim.new) }
+        requires of_bits { (0 < size_number size) × (size_number size ≤ 5) }
+        ensures { Enters purpose (arrival A.ReaderArena self.entry) lim.old lim.new result }
     {
         let count = self.found.word.list_element_count();
         self.claim(flat_words(size, count), lim)?;
@@ -189,13 +166,8 @@ impl<'a, A: ReaderArena> Entrance<'a, A> {
         purpose: Purpose,
         lim: &mut ReadLimiter,
     ) -> Result<Object<'a>, ErrorKind>
-        requires is_list { kind self.found.word.0 ≡ 1 }
-        requires of_pointers { element_size self.found.word.0 ≡ 6 }
-        ensures object { IfOk result (IsOpened purpose (arrival A.ReaderArena self.entry)
-            lim.old lim.new) }
-        ensures few { IfOk result IsFew }
-        ensures refused { IfErr result (NotEntered purpose (arrival A.ReaderArena self.entry)
-            lim.old lim.new) }
+        requires { (kind self.found.word.0 ≡ 1) × (element_size self.found.word.0 ≡ 6) }
+        ensures { Enters purpose (arrival A.ReaderArena self.entry) lim.old lim.new result }
     {
         let count = self.found.word.list_element_count();
         self.claim(count, lim)?;
@@ -208,13 +180,8 @@ impl<'a, A: ReaderArena> Entrance<'a, A> {
     // Enters a list of structs, whose first word is their tag.
     #[inline(always)]
     fn enter_structs(self, purpose: Purpose, lim: &mut ReadLimiter) -> Result<Object<'a>, ErrorKind>
-        requires is_list { kind self.found.word.0 ≡ 1 }
-        requires of_structs { element_size self.found.word.0 ≡ 7 }
-        ensures object { IfOk result (IsOpened purpose (arrival A.ReaderArena self.entry)
-            lim.old lim.new) }
-        ensures few { IfOk result IsFew }
-        ensures refused { IfErr result (NotEntered purpose (arrival A.ReaderArena self.entry)
-            lim.old lim.new) }
+        requires { IsStructList self.found.word.0 }
+        ensures { Enters purpose (arrival A.ReaderArena self.entry) lim.old lim.new result }
     {
         let words = self.found.word.list_inline_composite_word_count();
         self.claim(words + 1, lim)?;

@@ -3,19 +3,16 @@ ghost use Rattle.std.specs.Prelude.{◌≡◌, ◌<◌, ◌↔◌, IfOk, IsOk, I
 ghost use Rattle.capnp_format.specs.Word.{kind};
 ghost use Rattle.capnp_objects.specs.declared.object.Purpose.TheVariants.{Size};
 ghost use Rattle.capnp_objects.specs.Demands.{claim, IsStructList, IsVoidList};
-ghost use Rattle.capnp_objects.specs.Reading.{source_start, reading_at};
-ghost use Rattle.capnp_objects.specs.Objects.{IsObject, IsHeld, IsWordRead, IsFew, near_at};
-ghost use Rattle.capnp_objects.specs.Outcomes.{Entered};
+ghost use Rattle.capnp_objects.specs.Reading.{source_start, reading_at, pointer_at};
+ghost use Rattle.capnp_objects.specs.Objects.{IsObject, IsHeld, IsWordRead, IsFew, EntersNear};
 ghost use Rattle.capnp_objects.specs.Refusals.{CanBeRead};
 ghost use Rattle.capnp_objects.specs.Measures.{NotMeasured};
 
-use super::landing::Entrance;
 use super::{Source, depth_of};
-use crate::object::{Object, Place, Purpose};
+use crate::object::{Object, Place, PointerWord, Purpose};
 use capnp_arena_traits::arena::ReaderArena;
 use capnp_words::error::ErrorKind;
 use capnp_words::read_limiter::ReadLimiter;
-use capnp_words::wire_pointer::WirePointer;
 
 impl<'a, A: ReaderArena> Source<'a, A> {
     /// Reads the object that the pointer at a place leads to, and nothing below it, for its size
@@ -58,7 +55,12 @@ impl<'a, A: ReaderArena> Source<'a, A> {
         if depth_of(nesting_limit) == 0 {
             return Err(ErrorKind::MessageIsTooDeeplyNested);
         }
-        self.read_pointer(Purpose::Size, place, word, nesting_limit, lim)
+        let pointer = PointerWord {
+            place,
+            word,
+            nesting_limit,
+        };
+        self.read_pointer(Purpose::Size, pointer, lim)
     }
 
     /// Reads, for its size alone, the object that a near pointer leads to, as `measure_object` does:
@@ -67,37 +69,23 @@ impl<'a, A: ReaderArena> Source<'a, A> {
     #[inline(always)]
     pub fn measure_near(
         self,
-        place: Place<'a>,
-        word: WirePointer,
+        pointer: PointerWord<'a>,
         words: u32,
-        nesting_limit: i32,
         lim: &mut ReadLimiter,
     ) -> Result<u32, ErrorKind>
-        requires word { IsWordRead (reading_at A.ReaderArena self place nesting_limit)
-            place word.0 }
-        requires near { kind word.0 < 2 }
-        requires of_bits { IsVoidList word.0 → ⊥ }
-        requires untagged { IsStructList word.0 → ⊥ }
-        requires claimed { words ≡ claim word.0 }
-        ensures object { IfOk result (λ at. Entered Size
-            (reading_at A.ReaderArena self.entry place.entry nesting_limit) lim.old lim.new
-            (near_at (reading_at A.ReaderArena self.entry place.entry nesting_limit) at)) }
-        ensures refused { IfErr result
-            (NotMeasured (reading_at A.ReaderArena self.entry place.entry nesting_limit)
-            lim.old lim.new) }
+        requires word { IsWordRead (pointer_at A.ReaderArena self pointer) pointer }
+        requires near { kind pointer.word.0 < 2 }
+        requires of_bits { IsVoidList pointer.word.0 → ⊥ }
+        requires untagged { IsStructList pointer.word.0 → ⊥ }
+        requires claimed { words ≡ claim pointer.word.0 }
+        ensures object { IfOk result (EntersNear Size
+            (pointer_at A.ReaderArena self.entry pointer.entry) lim.old lim.new) }
+        ensures refused { IfErr result (NotMeasured
+            (pointer_at A.ReaderArena self.entry pointer.entry) lim.old lim.new) }
     {
-        let depth = depth_of(nesting_limit);
-        if depth == 0 {
+        if depth_of(pointer.nesting_limit) == 0 {
             return Err(ErrorKind::MessageIsTooDeeplyNested);
         }
-        self.count(lim);
-        let found = self.follow(place, word, nesting_limit, lim)?;
-        let entrance = Entrance {
-            source: self,
-            found,
-            depth,
-        };
-        entrance.claim(words, lim)?;
-        Ok(found.start.at)
+        self.enter_near(pointer, words, lim)
     }
 }

@@ -7,7 +7,7 @@ ghost use Rattle.capnp_objects.specs.Objects.{IsHeld};
 ghost use Rattle.capnp_objects.specs.Types.{type_of, IsOfType, HasNoType};
 
 use super::Source;
-use crate::object::Place;
+use crate::object::{Place, PointerWord};
 use capnp_arena_traits::arena::ReaderArena;
 use capnp_words::error::ErrorKind;
 use capnp_words::read_limiter::ReadLimiter;
@@ -41,7 +41,12 @@ impl<'a, A: ReaderArena> Source<'a, A> {
             return Ok(PointerType::Null);
         }
         self.count(lim);
-        let found = self.follow(place, word, nesting_limit, lim)?;
+        let pointer = PointerWord {
+            place,
+            word,
+            nesting_limit,
+        };
+        let found = self.follow(pointer, lim)?;
         described(found.word)
     }
 }

@@ -101,7 +101,7 @@ fn follow_far<A: ReaderArena>(arena: &A, word: WirePointer) -> Option<PointerTar
     }
 }
 
-/// Where a far pointer of one landing pad leads.
+/// Where a far pointer to a landing pad of one word leads.
 fn follow_single<A: ReaderArena>(arena: &A, word: WirePointer) -> Option<PointerTarget>
     ensures { option_map target_at result ≡ far (message (A.segments arena.now)) word.0 0 }
 {
@@ -117,7 +117,7 @@ fn follow_single<A: ReaderArena>(arena: &A, word: WirePointer) -> Option<Pointer
     follow_near(arena, id, at, pad, 1)
 }
 
-/// Where a far pointer of two landing pads leads.
+/// Where a far pointer to a landing pad of two words leads.
 fn follow_double<A: ReaderArena>(arena: &A, word: WirePointer) -> Option<PointerTarget>
     ensures { option_map target_at result ≡ far (message (A.segments arena.now)) word.0 1 }
 {

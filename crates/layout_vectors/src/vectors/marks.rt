@@ -1,13 +1,11 @@
 //! Which words of a message are taken.
-ghost use Rattle.std.specs.Prelude.{◌≡◌, ◌≢◌, ℕ, ◌+◌, ◌/◌, ◌<◌, ◌≤◌, List, IsTrue, IfOk, IfErr, Bool, false, length, map, replicate, slice_index, slice_get, vec_items};
+ghost use Rattle.std.specs.Prelude.{◌≡◌, ◌≢◌, ℕ, ◌+◌, ◌/◌, ◌<◌, ◌≤◌, List, IsTrue, IfOk, Bool, false, length, map, replicate, slice_index, slice_get, vec_items};
 ghost use borrow.Rule.Slice.PartMut.{put_mid};
 ghost use Rattle.capnp_format.specs.Segments.{segment, word_at};
 ghost use Rattle.capnp_arena.specs.declared.arena.reader_segments.ReaderSegments.{Ghosts};
-ghost use Rattle.capnp_words.specs.declared.error.ErrorKind.TheVariants.{AllocationFailed};
 ghost use Rattle.layout_vectors.specs.Marks.{rows_of, TakesRow, IsMarkedWithin, AreFreeWithin};
 
-use capnp_words::error::ErrorKind;
-use std::alloc::Global;
+use std::alloc::{AllocError, Global};
 
 /// A byte for each word of a message: 1 where the word is taken, else 0.
 #[derive(Drop)]
@@ -37,29 +35,16 @@ fn fill(row: &mut [u8], start: usize, n: usize)
     row[start..start + n].fill(1);
 }
 
-/// The row of a segment without any word taken.
-fn blank_row(alloc: Global, words: usize) -> Result<Vec<u8>, ErrorKind>
-    ensures free { IfOk result (λ r. r.items ≡ replicate words 0) }
-    ensures named { IfErr result (λ e. e ≡ AllocationFailed) }
-{
-    match Vec::from_elem(alloc, 0u8, words) {
-        Ok(row) => Ok(row),
-        Err(_) => Err(ErrorKind::AllocationFailed),
-    }
-}
-
 impl Marks {
     /// No word of these segments is taken.
-    pub(crate) fn new(alloc: Global, segments: &[&[u8]]) -> Result<Self, ErrorKind>
-        ensures blank { IfOk result (λ m. rows_of m ≡ map (λ s. replicate (length s.now / 8) 0) segments.now) }
-        ensures named { IfErr result (λ e. e ≡ AllocationFailed) }
+    pub(crate) fn new(alloc: Global, segments: &[&[u8]]) -> Result<Self, AllocError>
+        ensures { IfOk result
+            (λ m. rows_of m ≡ map (λ s. replicate (length s.now / 8) 0) segments.now) }
     {
         let mut rows = Vec::new(alloc);
         for segment in segments {
-            let row = blank_row(alloc, segment.len() / 8)?;
-            if rows.push(row).is_err() {
-                return Err(ErrorKind::AllocationFailed);
-            }
+            let row = Vec::from_elem(alloc, 0u8, segment.len() / 8)?;
+            rows.push(row)?;
         }
         Ok(Marks { rows })
     }

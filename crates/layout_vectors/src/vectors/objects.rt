@@ -1,5 +1,5 @@
 //! The object that a pointer leads to, taken word by word.
-ghost use Rattle.std.specs.Prelude.{◌≡◌, ℕ, ◌+◌, ◌<◌, ◌≤◌, ◌^◌, ◌∷◌, [], ◌↔◌, IsTrue, IfOk, IfErr, false, length, slice_index};
+ghost use Rattle.std.specs.Prelude.{◌≡◌, ℕ, ◌+◌, ◌<◌, ◌≤◌, ◌^◌, ◌∷◌, [], ◌↔◌, IsTrue, IfOk, length, slice_index};
 ghost use Rattle.capnp_format.specs.Bytes.{words_of, message};
 ghost use Rattle.capnp_format.specs.Numbers.{words_for};
 ghost use Rattle.capnp_format.specs.Segments.{segment};
@@ -7,18 +7,17 @@ ghost use Rattle.capnp_format.specs.Segments.{HasSmallWords};
 ghost use Rattle.capnp_format.specs.Word.{kind, element_size, list_count};
 ghost use Rattle.capnp_words.specs.Sizes.{size_number};
 ghost use Rattle.capnp_format.specs.Padding.{IsPadded};
-ghost use Rattle.capnp_words.specs.declared.error.ErrorKind.TheVariants.{AllocationFailed};
 ghost use Rattle.layout_vectors.specs.Landings.{target_at};
 ghost use Rattle.layout_vectors.specs.Marks.{rows_of};
-ghost use Rattle.layout_vectors.specs.Walks.{walk, Goes, FailsWalk, TakesTarget, HasNoObject, FitsRows};
+ghost use Rattle.layout_vectors.specs.Walks.{walk, TakesObject, FitsRows};
 
 use crate::vectors::landing::{PointerTarget, word_of};
 use crate::vectors::marks::Marks;
 use crate::vectors::pending::{Spot, put_elements, put_pointers};
 use capnp_arena::arena::ReaderArena;
-use capnp_words::error::ErrorKind;
-use capnp_words::wire_pointer::{ElementSize, WirePointerKind, data_bits_per_element};
+use capnp_words::wire_pointer::{ElementSize, WirePointerKind, data_bits_per_element, flat_words};
 use capnp_words::words::word_at;
+use std::alloc::AllocError;
 
 /// Takes the words of the object that a pointer leads to, and puts the places of its pointers
 /// behind the others. False where there is no such object, or one of its words is taken already,
@@ -28,15 +27,10 @@ pub(crate) fn take_object<A: ReaderArena>(
     marks: &mut Marks,
     pending: &mut Vec<Spot>,
     landing: PointerTarget,
-) -> Result<bool, ErrorKind>
+) -> Result<bool, AllocError>
     requires { FitsRows (message (A.segments arena.now)) (rows_of marks.old) }
-    ensures goes { IfOk result (λ b. IsTrue b
-        → TakesTarget (message (A.segments arena.now)) (target_at landing)
+    ensures { IfOk result (TakesObject (message (A.segments arena.now)) (target_at landing)
         (walk marks.old pending.old) (walk marks.new pending.new)) }
-    ensures fails { IfOk result (λ b. b ≡ false
-        → HasNoObject (message (A.segments arena.now)) (target_at landing)
-        (walk marks.old pending.old)) }
-    ensures named { IfErr result (λ e. e ≡ AllocationFailed) }
 {
     match landing.word.kind() {
         WirePointerKind::Struct => take_struct(arena, marks, pending, landing),
@@ -56,16 +50,11 @@ fn take_struct<A: ReaderArena>(
     marks: &mut Marks,
     pending: &mut Vec<Spot>,
     landing: PointerTarget,
-) -> Result<bool, ErrorKind>
+) -> Result<bool, AllocError>
     requires fits { FitsRows (message (A.segments arena.now)) (rows_of marks.old) }
     requires is_struct { kind landing.word.0 ≡ 0 }
-    ensures goes { IfOk result (λ b. IsTrue b
-        → TakesTarget (message (A.segments arena.now)) (target_at landing)
+    ensures { IfOk result (TakesObject (message (A.segments arena.now)) (target_at landing)
         (walk marks.old pending.old) (walk marks.new pending.new)) }
-    ensures fails { IfOk result (λ b. b ≡ false
-        → HasNoObject (message (A.segments arena.now)) (target_at landing)
-        (walk marks.old pending.old)) }
-    ensures named { IfErr result (λ e. e ≡ AllocationFailed) }
 {
     let size = landing.word.struct_size();
     if !marks.take(landing.segment, landing.start, size.total()) {
@@ -82,17 +71,11 @@ fn take_pointers<A: ReaderArena>(
     marks: &mut Marks,
     pending: &mut Vec<Spot>,
     landing: PointerTarget,
-) -> Result<bool, ErrorKind>
+) -> Result<bool, AllocError>
     requires fits { FitsRows (message (A.segments arena.now)) (rows_of marks.old) }
-    requires is_list { kind landing.word.0 ≡ 1 }
-    requires of_pointers { element_size landing.word.0 ≡ 6 }
-    ensures goes { IfOk result (λ b. IsTrue b
-        → TakesTarget (message (A.segments arena.now)) (target_at landing)
+    requires of_pointers { (kind landing.word.0 ≡ 1) × (element_size landing.word.0 ≡ 6) }
+    ensures { IfOk result (TakesObject (message (A.segments arena.now)) (target_at landing)
         (walk marks.old pending.old) (walk marks.new pending.new)) }
-    ensures fails { IfOk result (λ b. b ≡ false
-        → HasNoObject (message (A.segments arena.now)) (target_at landing)
-        (walk marks.old pending.old)) }
-    ensures named { IfErr result (λ e. e ≡ AllocationFailed) }
 {
     let count = landing.word.list_element_count();
     if !marks.take(landing.segment, landing.start, count) {
@@ -106,7 +89,7 @@ fn take_pointers<A: ReaderArena>(
 fn take_flat<A: ReaderArena>(
     arena: &A,
     marks: &mut Marks,
-    pending: &mut Vec<Spot>,
+    pending: &Vec<Spot>,
     landing: PointerTarget,
     size: ElementSize,
 ) -> bool
@@ -114,25 +97,12 @@ fn take_flat<A: ReaderArena>(
     requires is_list { kind landing.word.0 ≡ 1 }
     requires is_size { size_number size ≡ element_size landing.word.0 }
     requires is_flat { size_number size ≤ 5 }
-    ensures goes { IsTrue result
-        → TakesTarget (message (A.segments arena.now)) (target_at landing)
-        (walk marks.old pending.old) (walk marks.new pending.new) }
-    ensures fails { result ≡ false
-        → HasNoObject (message (A.segments arena.now)) (target_at landing)
-        (walk marks.old pending.old) }
-    ensures kept { pending.new ≡ pending.old }
+    ensures { TakesObject (message (A.segments arena.now)) (target_at landing)
+        (walk marks.old pending.now) (walk marks.new pending.now) result }
 {
     let count = landing.word.list_element_count();
     let words = flat_words(size, count);
     marks.take(landing.segment, landing.start, words) && has_padding(arena, landing, size, count)
-}
-
-/// How many words so many elements take.
-fn flat_words(size: ElementSize, count: u32) -> u32
-    requires { count < 2 ^ 29 }
-    ensures { result ≡ words_for (size_number size) count }
-{
-    ((u64::from(count) * u64::from(data_bits_per_element(size)) + 63) / 64) as u32
 }
 
 /// Whether the bits behind the elements of a list are zero, whose words lie in their segment.
@@ -152,20 +122,9 @@ fn has_padding<A: ReaderArena>(
     ensures small { HasSmallWords (message (A.segments arena.now)) landing.segment }
 {
     match arena.get_segment(landing.segment) {
-        Ok(bytes) => {
-            let _words = whole_words(bytes);
-            is_padded(bytes, landing.start, size, count)
-        }
+        Ok(bytes) => is_padded(bytes, landing.start, size, count),
         Err(_) => true,
     }
-}
-
-/// How many whole words bytes have, each of which is one of 64 bits.
-fn whole_words(bytes: &[u8]) -> usize
-    ensures count { result ≡ length (words_of bytes.now) }
-    ensures small { (i : ℕ) → slice_index (words_of bytes.now) i < 2 ^ 64 }
-{
-    bytes.len() / 8
 }
 
 /// Whether the bits behind the elements of a list are zero, which starts at a word of these bytes and lies
@@ -175,7 +134,9 @@ fn is_padded(bytes: &[u8], start: u32, size: ElementSize, count: u32) -> bool
     requires small { length (words_of bytes.now) < 2 ^ 32 }
     requires is_flat { size_number size ≤ 5 }
     requires few { count < 2 ^ 29 }
-    ensures { IsTrue result ↔ IsPadded (words_of bytes.now ∷ []) 0 start (size_number size) count }
+    ensures exactly { IsTrue result
+        ↔ IsPadded (words_of bytes.now ∷ []) 0 start (size_number size) count }
+    ensures small { (i : ℕ) → slice_index (words_of bytes.now) i < 2 ^ 64 }
 {
     let bits = u64::from(count) * u64::from(data_bits_per_element(size));
     let end = start + (bits / 64) as u32;
@@ -196,17 +157,11 @@ fn take_structs<A: ReaderArena>(
     marks: &mut Marks,
     pending: &mut Vec<Spot>,
     landing: PointerTarget,
-) -> Result<bool, ErrorKind>
+) -> Result<bool, AllocError>
     requires fits { FitsRows (message (A.segments arena.now)) (rows_of marks.old) }
-    requires is_list { kind landing.word.0 ≡ 1 }
-    requires of_structs { element_size landing.word.0 ≡ 7 }
-    ensures goes { IfOk result (λ b. IsTrue b
-        → TakesTarget (message (A.segments arena.now)) (target_at landing)
+    requires of_structs { (kind landing.word.0 ≡ 1) × (element_size landing.word.0 ≡ 7) }
+    ensures { IfOk result (TakesObject (message (A.segments arena.now)) (target_at landing)
         (walk marks.old pending.old) (walk marks.new pending.new)) }
-    ensures fails { IfOk result (λ b. b ≡ false
-        → HasNoObject (message (A.segments arena.now)) (target_at landing)
-        (walk marks.old pending.old)) }
-    ensures named { IfErr result (λ e. e ≡ AllocationFailed) }
 {
     let words = landing.word.list_inline_composite_word_count();
     if !marks.take(landing.segment, landing.start, words + 1) {

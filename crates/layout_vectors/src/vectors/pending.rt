@@ -1,10 +1,9 @@
 //! The places whose pointers are still to be looked at.
-ghost use Rattle.std.specs.Prelude.{◌≡◌, ◌+◌, ◌*◌, ◌^◌, ◌<◌, ◌≤◌, ◌++◌, OnOk, IfErr};
-ghost use Rattle.capnp_words.specs.declared.error.ErrorKind.TheVariants.{AllocationFailed};
+ghost use Rattle.std.specs.Prelude.{◌≡◌, ◌+◌, ◌*◌, ◌^◌, ◌<◌, ◌≤◌, ◌++◌, OnOk};
 ghost use Rattle.layout_vectors.specs.Spots.{spots, element_spots};
 
-use capnp_words::error::ErrorKind;
 use capnp_words::wire_pointer::StructSize;
+use std::alloc::AllocError;
 
 /// The place of a pointer.
 #[derive(Clone, Copy)]
@@ -14,14 +13,11 @@ pub(crate) struct Spot {
 }
 
 /// Puts a place behind the others.
-pub(crate) fn put(pending: &mut Vec<Spot>, segment: u32, at: u32) -> Result<(), ErrorKind>
-    ensures pushed { OnOk result (pending.new.items ≡ pending.old.items ++ spots segment at 1) }
-    ensures named { IfErr result (λ e. e ≡ AllocationFailed) }
+pub(crate) fn put(pending: &mut Vec<Spot>, segment: u32, at: u32) -> Result<(), AllocError>
+    ensures { OnOk result (pending.new.items ≡ pending.old.items ++ spots segment at 1) }
 {
-    match pending.push(Spot { segment, at }) {
-        Ok(()) => Ok(()),
-        Err(_) => Err(ErrorKind::AllocationFailed),
-    }
+    pending.push(Spot { segment, at })?;
+    Ok(())
 }
 
 /// Puts the places of pointers one behind the other behind the others.
@@ -31,11 +27,10 @@ pub(crate) fn put_pointers(
     segment: u32,
     start: u32,
     count: u32,
-) -> Result<(), ErrorKind>
+) -> Result<(), AllocError>
     requires { start + count < 2 ^ 32 }
-    ensures pushed { OnOk result (pending.new.items ≡ pending.old.items
+    ensures { OnOk result (pending.new.items ≡ pending.old.items
         ++ spots segment start count) }
-    ensures named { IfErr result (λ e. e ≡ AllocationFailed) }
 {
     for i in 0..count {
         put(pending, segment, start + i)?;
@@ -51,11 +46,10 @@ pub(crate) fn put_elements(
     start: u32,
     size: StructSize,
     count: u32,
-) -> Result<(), ErrorKind>
+) -> Result<(), AllocError>
     requires { start + count * (size.data_words + size.pointers) < 2 ^ 32 }
-    ensures pushed { OnOk result (pending.new.items ≡ pending.old.items
+    ensures { OnOk result (pending.new.items ≡ pending.old.items
         ++ element_spots segment start size.data_words size.pointers count) }
-    ensures named { IfErr result (λ e. e ≡ AllocationFailed) }
 {
     if size.pointers == 0 {
         return Ok(());

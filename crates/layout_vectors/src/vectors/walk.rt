@@ -1,5 +1,5 @@
 //! The audit: a walk over a message from its root, with each word that is reached marked.
-ghost use Rattle.std.specs.Prelude.{◌≡◌, ℕ, ◌+◌, ◌<◌, ◌↔◌, ◌∷◌, [], IsTrue, IfOk, IfErr, false, length, map, slice_index};
+ghost use Rattle.std.specs.Prelude.{◌≡◌, ℕ, ◌+◌, ◌<◌, ◌↔◌, ◌∷◌, [], IsTrue, IfOk, IfErr, length, map, slice_index};
 ghost use Rattle.capnp_arena_traits.specs.Limits.{AreSmall};
 ghost use Rattle.capnp_format.specs.Bytes.{words_of, message};
 ghost use Rattle.capnp_format.specs.Forest.{IsForest};
@@ -7,7 +7,7 @@ ghost use Rattle.capnp_format.specs.Segments.{IsPlace, segment, word_at};
 ghost use Rattle.capnp_format.specs.Tree.{Tree};
 ghost use Rattle.capnp_words.specs.declared.error.ErrorKind.TheVariants.{AllocationFailed};
 ghost use Rattle.layout_vectors.specs.Marks.{rows_of, TakesPads};
-ghost use Rattle.layout_vectors.specs.Walks.{walk, Goes, FailsWalk, FitsRows};
+ghost use Rattle.layout_vectors.specs.Walks.{walk, TakesSpot, FitsRows};
 
 use crate::vectors::landing::{follow, word_of};
 use crate::vectors::marks::Marks;
@@ -17,7 +17,7 @@ use capnp_arena::arena::{ReaderArena, ReaderArenaImpl, ReaderOptions, SegmentArr
 use capnp_words::error::ErrorKind;
 use capnp_words::wire_pointer::{WirePointer, WirePointerKind};
 use capnp_words::words;
-use std::alloc::Global;
+use std::alloc::{AllocError, Global};
 
 /// Whether segments are those of a message that a builder made: the root pointer means a value; no
 /// word is used twice, whether by an object or by a landing pad, and none outside of its segment;
@@ -35,11 +35,17 @@ pub fn audit(alloc: Global, segments: &[&[u8]]) -> Result<bool, ErrorKind>
         ↔ ((t : Tree) × IsForest (message (map (λ s. s.now) segments.now)) t)) }
     ensures named { IfErr result (λ e. e ≡ AllocationFailed) }
 {
-    let marks = Marks::new(alloc, segments)?;
+    let marks = match Marks::new(alloc, segments) {
+        Ok(marks) => marks,
+        Err(AllocError) => return Err(ErrorKind::AllocationFailed),
+    };
     match SegmentArray::new(segments) {
         Some(array) => {
             let arena = ReaderArenaImpl::new(array, ReaderOptions::default());
-            walk_from_root(alloc, &arena, marks)
+            match walk_from_root(alloc, &arena, marks) {
+                Ok(is_forest) => Ok(is_forest),
+                Err(AllocError) => Err(ErrorKind::AllocationFailed),
+            }
         }
         None => Ok(false),
     }
@@ -50,12 +56,11 @@ fn walk_from_root<A: ReaderArena>(
     alloc: Global,
     arena: &A,
     mut marks: Marks,
-) -> Result<bool, ErrorKind>
+) -> Result<bool, AllocError>
     requires fits { FitsRows (message (A.segments arena.now)) (rows_of marks) }
     requires blank { (u q : ℕ) → word_at (rows_of marks) u q ≡ 0 }
-    ensures exactly { IfOk result (λ b. IsTrue b
+    ensures { IfOk result (λ b. IsTrue b
         ↔ ((t : Tree) × IsForest (message (A.segments arena.now)) t)) }
-    ensures named { IfErr result (λ e. e ≡ AllocationFailed) }
 {
     let mut pending = Vec::new(alloc);
     if !marks.take(0, 0, 1) {
@@ -77,14 +82,10 @@ fn walk_pointer<A: ReaderArena>(
     marks: &mut Marks,
     pending: &mut Vec<Spot>,
     spot: Spot,
-) -> Result<bool, ErrorKind>
+) -> Result<bool, AllocError>
     requires { FitsRows (message (A.segments arena.now)) (rows_of marks.old) }
-    ensures goes { IfOk result (λ b. IsTrue b
-        → Goes (message (A.segments arena.now)) spot (walk marks.old pending.old)
-        (walk marks.new pending.new)) }
-    ensures fails { IfOk result (λ b. b ≡ false
-        → FailsWalk (message (A.segments arena.now)) spot (walk marks.old pending.old)) }
-    ensures named { IfErr result (λ e. e ≡ AllocationFailed) }
+    ensures { IfOk result (TakesSpot (message (A.segments arena.now)) spot
+        (walk marks.old pending.old) (walk marks.new pending.new)) }
 {
     let word = word_of(arena, spot.segment, spot.at);
     if word.is_null() {

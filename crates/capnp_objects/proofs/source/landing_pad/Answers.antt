@@ -44,3 +44,27 @@ returns-in_err-amplified_read-clause-refused g c =
     let charge = c.in_err-amplified_read.ensures in
     let p = err_from_is_err_and c.from_residual-in_err-amplified_read.result c.from_residual-in_err-amplified_read.ensures.1 in
     rw (p.1, p.2) (pad_exceeds c.requires.is_far inside (λ h. false≢true (charge.exactly.1 (rw words h))) charge.refused charge.named)
+
+pub returns-clause-pad : goal.returns-clause-pad
+returns-clause-pad g c =
+    let S : Segments = message (g.A.ReaderArena.segments c.args.arena.now) in
+    let x : ℕ = c.args.far.0 in
+    let some = c.in_ok-bytes.ensures in
+    let words : c.from.result ≡ 1 + is_double x = c.from.ensures ∙ elim c.if-is_double_far.branch [
+      | then-is_double_far w ↦ let one : is_double x ≡ 1 = w.if-is_double_far.ensures.0 refl in omega (arith, w.words-is, one)
+      | else-is_double_far w ↦ let other : is_double x ≢ 1 = λ e. false≢true (w.if-is_double_far.ensures.1 e) in omega (arith, w.words-is, other)
+    ] in
+    let whole = rw c.far_segment_id-id.ensures at some.whole in
+    let inside : far_position x + is_double x < length (segment S (upper_half x)) = omega (arith, whole, words) in
+    let there : c.from-2.result ≡ upper_half x = c.from-2.ensures ∙ c.far_segment_id-id.ensures in
+    let charge = c.in_ok-amplified_read.ensures in
+    record {
+      held = rw c.from-2.ensures (some.words, some.whole, some.small);
+      number = omega (arith, c.far_segment_id-id.ensures, c.far_segment_id-id.type_inv);
+      exists = omega (arith, some.there.0 refl, c.far_segment_id-id.ensures, length-message (g.A.ReaderArena.segments c.args.arena.now));
+      segment_of = there;
+      position_of = c.far_position_in_segment-at.ensures.value;
+      inside = rw (there, c.far_position_in_segment-at.ensures.value) inside;
+      covers = rw words at (charge.exactly.0 refl);
+      paid = rw words at charge.granted;
+    }

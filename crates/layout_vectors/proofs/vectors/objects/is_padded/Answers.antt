@@ -14,23 +14,32 @@ word_at-requires c =
     let told = some_rest (words_of c.args.bytes.now ∷ []) 0 c.args.start sz c.args.count (small_word c.args.bytes.now (λ i. omega (arith, c.type_inv.bytes i))) c.requires.inside (rw bits at c.if-rest-eq0.false) in
     omega (arith, told.0, bits, c.requires.inside, words c.args.bytes.now)
 
-pub returns-then-rest-eq0 : goal.returns-then-rest-eq0
-returns-then-rest-eq0 c =
+pub returns-then-rest-eq0-clause-exactly : goal.returns-then-rest-eq0-clause-exactly
+returns-then-rest-eq0-clause-exactly c =
     let sz : ℕ = size_number c.args.size in
     let bits : c.from.result * c.from-2.result ≡ element_bits sz * c.args.count = ap₂ (λ x y. x * y) c.from.ensures (c.from-2.ensures ∙ c.data_bits_per_element.ensures) ∙ mul_comm c.args.count (element_bits sz) in
     let told = no_rest (words_of c.args.bytes.now ∷ []) 0 c.args.start sz c.args.count (small_word c.args.bytes.now (λ i. omega (arith, c.type_inv.bytes i))) c.requires.inside (rw bits at c.if-rest-eq0.true) in
     (λ _. told.0, λ _. refl)
 
-pub returns-then-word_at-rest-eq0 : goal.returns-then-word_at-rest-eq0
-returns-then-word_at-rest-eq0 c =
+pub returns-then-word_at-rest-eq0-clause-exactly : goal.returns-then-word_at-rest-eq0-clause-exactly
+returns-then-word_at-rest-eq0-clause-exactly c =
     let sz : ℕ = size_number c.args.size in
     let bits : c.from.result * c.from-2.result ≡ element_bits sz * c.args.count = ap₂ (λ x y. x * y) c.from.ensures (c.from-2.ensures ∙ c.data_bits_per_element.ensures) ∙ mul_comm c.args.count (element_bits sz) in
     let told = some_rest (words_of c.args.bytes.now ∷ []) 0 c.args.start sz c.args.count (small_word c.args.bytes.now (λ i. omega (arith, c.type_inv.bytes i))) c.requires.inside (rw bits at c.if-rest-eq0.false) in
     (λ _. told.1.1 (rw (c.word_at.ensures, bits) at c.if-word_at-rest-eq0.true), λ _. refl)
 
-pub returns : goal.returns
-returns c =
+pub returns-clause-exactly : goal.returns-clause-exactly
+returns-clause-exactly c =
     let sz : ℕ = size_number c.args.size in
     let bits : c.from.result * c.from-2.result ≡ element_bits sz * c.args.count = ap₂ (λ x y. x * y) c.from.ensures (c.from-2.ensures ∙ c.data_bits_per_element.ensures) ∙ mul_comm c.args.count (element_bits sz) in
     let told = some_rest (words_of c.args.bytes.now ∷ []) 0 c.args.start sz c.args.count (small_word c.args.bytes.now (λ i. omega (arith, c.type_inv.bytes i))) c.requires.inside (rw bits at c.if-rest-eq0.false) in
     (λ no. absurd (false≢true no), λ padded. absurd ((rw (c.word_at.ensures, bits) at c.if-word_at-rest-eq0.false) (told.1.0 padded)))
+
+pub returns-then-rest-eq0-clause-small : goal.returns-then-rest-eq0-clause-small
+returns-then-rest-eq0-clause-small c = small_word c.args.bytes.now (λ i. omega (arith, c.type_inv.bytes i))
+
+pub returns-then-word_at-rest-eq0-clause-small : goal.returns-then-word_at-rest-eq0-clause-small
+returns-then-word_at-rest-eq0-clause-small c = small_word c.args.bytes.now (λ i. omega (arith, c.type_inv.bytes i))
+
+pub returns-clause-small : goal.returns-clause-small
+returns-clause-small c = small_word c.args.bytes.now (λ i. omega (arith, c.type_inv.bytes i))

@@ -1,34 +1,29 @@
-use Rattle.std.proofs.Common.{◌≡◌, false, true, refl, sym, ◌∙◌, arith}
+use Rattle.std.proofs.Common.{◌≡◌, false, true, refl, sym, ◌∙◌, subst, arith}
 use Rattle.capnp_format.specs.Bytes.{message}
 use Rattle.capnp_format.specs.Segments.{Segments, word_at, Target}
 use Rattle.layout_vectors.specs.Landings.{target_at}
-use Rattle.layout_vectors.specs.Walks.{Walk, walk}
+use Rattle.layout_vectors.specs.Walks.{Walk, walk, TakesObject}
 use Rattle.capnp_words.specs.Sizes.{size_number}
-use Rattle.layout_vectors.proofs.Steps.{flat_taken, flat_words, not_padded, object_refused}
+use Rattle.layout_vectors.proofs.Steps.{flat_taken, flat_words, not_padded, object_refused, takes_by}
 use Rattle.layout_vectors.proofs.vectors.objects.take_flat.Goals as goal
 
-pub returns-then-take-clause-goes : goal.returns-then-take-clause-goes
-returns-then-take-clause-goes g c =
+pub returns-then-take : goal.returns-then-take
+returns-then-take g c =
     let S : Segments = message (g.A.ReaderArena.segments c.args.arena.now) in
     let a : Target = target_at c.args.landing in
     let w : Walk = walk c.args.marks.now c.args.pending.now in
     let inside = c.take.ensures.inside c.if-take.true in
     let taken = c.take.ensures.taken c.if-take.true in
-    λ yes. flat_taken S a w (walk c.take.new.self c.args.pending.now) (size_number c.args.size) c.list_element_count-count.result c.requires.fits c.requires.is_list c.requires.is_size c.list_element_count-count.ensures.value c.requires.is_flat
-    (rw c.flat_words-words.ensures at inside) c.has_padding.ensures.small (c.has_padding.ensures.exactly.0 yes) (rw c.flat_words-words.ensures at taken) refl
+    takes_by c.has_padding.result
+    (λ yes. flat_taken S a w (walk c.take.new.self c.args.pending.now) (size_number c.args.size) c.list_element_count-count.result c.requires.fits c.requires.is_list c.requires.is_size c.list_element_count-count.ensures.value c.requires.is_flat
+    (rw c.flat_words-words.ensures at inside) c.has_padding.ensures.small (c.has_padding.ensures.exactly.0 yes) (rw c.flat_words-words.ensures at taken) refl)
+    (λ no F h once. not_padded S a (word_at w.marks) w.pending (size_number c.args.size) c.list_element_count-count.result c.requires.is_size c.list_element_count-count.ensures.value c.requires.is_list c.requires.is_flat
+    (λ padded. let e : true ≡ false = sym (c.has_padding.ensures.exactly.1 padded) ∙ no in cc) F h)
 
-pub returns-then-take-clause-fails : goal.returns-then-take-clause-fails
-returns-then-take-clause-fails g c =
+pub returns-else-take : goal.returns-else-take
+returns-else-take g c =
     let S : Segments = message (g.A.ReaderArena.segments c.args.arena.now) in
     let a : Target = target_at c.args.landing in
     let w : Walk = walk c.args.marks.now c.args.pending.now in
-    λ no F h once. not_padded S a (word_at w.marks) w.pending (size_number c.args.size) c.list_element_count-count.result c.requires.is_size c.list_element_count-count.ensures.value c.requires.is_list c.requires.is_flat
-    (λ padded. let e : true ≡ false = sym (c.has_padding.ensures.exactly.1 padded) ∙ no in cc) F h
-
-pub returns-else-take-clause-fails : goal.returns-else-take-clause-fails
-returns-else-take-clause-fails g c =
-    let S : Segments = message (g.A.ReaderArena.segments c.args.arena.now) in
-    let a : Target = target_at c.args.landing in
-    let w : Walk = walk c.args.marks.now c.args.pending.now in
-    λ no. object_refused S a w c.flat_words-words.result c.requires.fits (omega (arith, c.requires.is_list))
-    (λ t o. flat_words S a (size_number c.args.size) c.list_element_count-count.result t c.requires.is_size c.list_element_count-count.ensures.value c.requires.is_list c.requires.is_flat o ∙ sym c.flat_words-words.ensures) (c.take.ensures.refused no)
+    subst (TakesObject S a w (walk c.take.new.self c.args.pending.now)) (sym c.if-take.false) (object_refused S a w c.flat_words-words.result c.requires.fits (omega (arith, c.requires.is_list))
+    (λ t o. flat_words S a (size_number c.args.size) c.list_element_count-count.result t c.requires.is_size c.list_element_count-count.ensures.value c.requires.is_list c.requires.is_flat o ∙ sym c.flat_words-words.ensures) (c.take.ensures.refused c.if-take.false))

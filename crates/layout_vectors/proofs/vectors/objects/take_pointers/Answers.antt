@@ -6,21 +6,21 @@ use Rattle.layout_vectors.specs.Walks.{Walk, walk}
 use Rattle.layout_vectors.proofs.Steps.{pointers_taken, pointers_words, object_refused}
 use Rattle.layout_vectors.proofs.vectors.objects.take_pointers.Goals as goal
 
-pub returns-then-not-take-clause-fails : goal.returns-then-not-take-clause-fails
-returns-then-not-take-clause-fails g c =
+pub returns-then-not-take : goal.returns-then-not-take
+returns-then-not-take g c =
     let S : Segments = message (g.A.ReaderArena.segments c.args.arena.now) in
     let a : Target = target_at c.args.landing in
     let w : Walk = walk c.args.marks.now c.args.pending.now in
-    λ _. object_refused S a w c.list_element_count-count.result c.requires.fits (omega (arith, c.requires.is_list))
-    (λ t o. pointers_words S a t c.requires.is_list c.requires.of_pointers o ∙ sym c.list_element_count-count.ensures.value) (c.take.ensures.refused c.if-not-take.true)
+    object_refused S a w c.list_element_count-count.result c.requires.fits (omega (arith, c.requires.of_pointers.0))
+    (λ t o. pointers_words S a t c.requires.of_pointers.0 c.requires.of_pointers.1 o ∙ sym c.list_element_count-count.ensures.value) (c.take.ensures.refused c.if-not-take.true)
 
 pub put_pointers-requires : goal.put_pointers-requires
 put_pointers-requires g c = omega (arith, c.take.ensures.inside c.if-not-take.false, c.requires.fits.words c.args.landing.segment, c.requires.fits.small c.args.landing.segment)
 
-pub returns-clause-goes : goal.returns-clause-goes
-returns-clause-goes g c =
+pub returns : goal.returns
+returns g c =
     let S : Segments = message (g.A.ReaderArena.segments c.args.arena.now) in
     let a : Target = target_at c.args.landing in
     let w : Walk = walk c.args.marks.now c.args.pending.now in
-    λ _. pointers_taken S a w (walk c.take.new.self c.put_pointers.new.pending) c.list_element_count-count.result c.requires.fits c.requires.is_list c.requires.of_pointers c.list_element_count-count.ensures.value
-    (c.take.ensures.inside c.if-not-take.false) (c.take.ensures.taken c.if-not-take.false) c.in_ok-put_pointers.ensures.pushed
+    pointers_taken S a w (walk c.take.new.self c.put_pointers.new.pending) c.list_element_count-count.result c.requires.fits c.requires.of_pointers.0 c.requires.of_pointers.1 c.list_element_count-count.ensures.value
+    (c.take.ensures.inside c.if-not-take.false) (c.take.ensures.taken c.if-not-take.false) c.in_ok-put_pointers.ensures

@@ -6,12 +6,12 @@ use Rattle.layout_vectors.specs.Walks.{Walk, walk}
 use Rattle.layout_vectors.proofs.Steps.{struct_taken, struct_words, object_refused}
 use Rattle.layout_vectors.proofs.vectors.objects.take_struct.Goals as goal
 
-pub returns-then-not-take-clause-fails : goal.returns-then-not-take-clause-fails
-returns-then-not-take-clause-fails g c =
+pub returns-then-not-take : goal.returns-then-not-take
+returns-then-not-take g c =
     let S : Segments = message (g.A.ReaderArena.segments c.args.arena.now) in
     let a : Target = target_at c.args.landing in
     let w : Walk = walk c.args.marks.now c.args.pending.now in
-    λ _. object_refused S a w c.total.result c.requires.fits (omega (arith, c.requires.is_struct))
+    object_refused S a w c.total.result c.requires.fits (omega (arith, c.requires.is_struct))
     (λ t o. struct_words S a t c.requires.is_struct o ∙ sym (c.total.ensures ∙ ap₂ (λ x y. x + y) c.struct_size-size.ensures.data_of c.struct_size-size.ensures.pointers_of)) (c.take.ensures.refused c.if-not-take.true)
 
 pub overflow_add-start : goal.overflow_add-start
@@ -20,8 +20,8 @@ overflow_add-start g c = omega (arith, c.from.ensures, c.total.ensures, c.take.e
 pub put_pointers-requires : goal.put_pointers-requires
 put_pointers-requires g c = omega (arith, c.from.ensures, c.from-2.ensures, c.total.ensures, c.take.ensures.inside c.if-not-take.false, c.requires.fits.words c.args.landing.segment, c.requires.fits.small c.args.landing.segment)
 
-pub returns-clause-goes : goal.returns-clause-goes
-returns-clause-goes g c =
+pub returns : goal.returns
+returns g c =
     let S : Segments = message (g.A.ReaderArena.segments c.args.arena.now) in
     let a : Target = target_at c.args.landing in
     let w : Walk = walk c.args.marks.now c.args.pending.now in
@@ -29,5 +29,5 @@ returns-clause-goes g c =
     let q : ℕ = c.struct_size-size.result.pointers in
     let inside = c.take.ensures.inside c.if-not-take.false in
     let taken = c.take.ensures.taken c.if-not-take.false in
-    λ _. struct_taken S a w (walk c.take.new.self c.put_pointers.new.pending) d q c.requires.fits c.requires.is_struct c.struct_size-size.ensures.data_of c.struct_size-size.ensures.pointers_of
-    (rw c.total.ensures at inside) (rw c.total.ensures at taken) (rw (c.from.ensures, c.from-2.ensures) at c.in_ok-put_pointers.ensures.pushed)
+    struct_taken S a w (walk c.take.new.self c.put_pointers.new.pending) d q c.requires.fits c.requires.is_struct c.struct_size-size.ensures.data_of c.struct_size-size.ensures.pointers_of
+    (rw c.total.ensures at inside) (rw c.total.ensures at taken) (rw (c.from.ensures, c.from-2.ensures) at c.in_ok-put_pointers.ensures)

@@ -8,19 +8,19 @@ use Rattle.capnp_format.specs.Means.{IsTag}
 use Rattle.layout_vectors.proofs.Steps.{structs_taken, structs_words, object_refused}
 use Rattle.layout_vectors.proofs.vectors.objects.take_structs.Goals as goal
 
-pub returns-then-not-take-clause-fails : goal.returns-then-not-take-clause-fails
-returns-then-not-take-clause-fails g c =
+pub returns-then-not-take : goal.returns-then-not-take
+returns-then-not-take g c =
     let S : Segments = message (g.A.ReaderArena.segments c.args.arena.now) in
     let a : Target = target_at c.args.landing in
     let w : Walk = walk c.args.marks.now c.args.pending.now in
-    λ _. object_refused S a w (c.list_inline_composite_word_count-words.result + 1) c.requires.fits (omega (arith, c.requires.is_list))
-    (λ t o. structs_words S a t c.requires.is_list c.requires.of_structs o ∙ ap (λ n. n + 1) (sym c.list_inline_composite_word_count-words.ensures.value)) (c.take.ensures.refused c.if-not-take.true)
+    object_refused S a w (c.list_inline_composite_word_count-words.result + 1) c.requires.fits (omega (arith, c.requires.of_structs.0))
+    (λ t o. structs_words S a t c.requires.of_structs.0 c.requires.of_structs.1 o ∙ ap (λ n. n + 1) (sym c.list_inline_composite_word_count-words.ensures.value)) (c.take.ensures.refused c.if-not-take.true)
 
 pub overflow_add-landing : goal.overflow_add-landing
 overflow_add-landing g c = omega (arith, c.take.ensures.inside c.if-not-take.false, c.requires.fits.words c.args.landing.segment, c.requires.fits.small c.args.landing.segment)
 
-pub returns-clause-goes : goal.returns-clause-goes
-returns-clause-goes g c =
+pub returns : goal.returns
+returns g c =
     let S : Segments = message (g.A.ReaderArena.segments c.args.arena.now) in
     let a : Target = target_at c.args.landing in
     let w : Walk = walk c.args.marks.now c.args.pending.now in
@@ -33,5 +33,5 @@ returns-clause-goes g c =
     let exact : n * (d + q) ≡ list_count c.args.landing.word.0 = ap₂ (λ x y. x * y) (sym c.from.ensures) (sym (c.from-2.ensures ∙ c.total.ensures)) ∙ c.if-taken-from.false ∙ c.from-else-ne.ensures ∙ many in
     let inside = c.take.ensures.inside c.if-not-take.false in
     let taken = c.take.ensures.taken c.if-not-take.false in
-    λ _. structs_taken S a w (walk c.take.new.self c.put_elements.new.pending) n d q c.requires.fits c.requires.is_list c.requires.of_structs (subst (λ x. IsTag x n d q) c.word_of-tag.ensures tag) exact
-    (rw many at inside) (rw many at taken) c.in_ok-put_elements.ensures.pushed
+    structs_taken S a w (walk c.take.new.self c.put_elements.new.pending) n d q c.requires.fits c.requires.of_structs.0 c.requires.of_structs.1 (subst (λ x. IsTag x n d q) c.word_of-tag.ensures tag) exact
+    (rw many at inside) (rw many at taken) c.in_ok-put_elements.ensures

@@ -4,8 +4,8 @@ use Rattle.std.proofs.Common.{append-nil, append_assoc}
 use Rattle.layout_vectors.proofs.SpotsMore.{element_spots_more, element_spots_none}
 use Rattle.layout_vectors.proofs.vectors.pending.put_elements.Goals as goal
 
-pub returns-then-size-eq0-clause-pushed : goal.returns-then-size-eq0-clause-pushed
-returns-then-size-eq0-clause-pushed c =
+pub returns-then-size-eq0 : goal.returns-then-size-eq0
+returns-then-size-eq0 c =
     sym (ap (λ q. c.args.pending.now.items ++ element_spots c.args.segment c.args.start c.args.size.data_words q c.args.count) c.if-size-eq0.true ∙ ap (λ J. c.args.pending.now.items ++ J) (element_spots_none c.args.segment c.args.start c.args.size.data_words c.args.count) ∙ append-nil c.args.pending.now.items)
 
 pub loop-i-preserved : goal.loop-i-preserved
@@ -21,7 +21,7 @@ loop-i-preserved c =
     record {
       place = omega (arith, is_d, is_q, here, next_place (d + q) i);
       put =
-          c.in_ok-put_pointers.ensures.pushed ∙ ap₂ (λ x y. c.loop-i.pending.items ++ spots s x y) (ap₂ (λ x y. x + y) here is_d) c.from.ensures
+          c.in_ok-put_pointers.ensures ∙ ap₂ (λ x y. c.loop-i.pending.items ++ spots s x y) (ap₂ (λ x y. x + y) here is_d) c.from.ensures
           ∙ ap (λ J. J ++ spots s (p + i * (d + q) + d) q) c.loop-i.invariant.put
           ∙ append_assoc c.args.pending.now.items (element_spots s p d q i) (spots s (p + i * (d + q) + d) q)
           ∙ ap (λ J. c.args.pending.now.items ++ J) (sym (element_spots_more s p d q i));

@@ -8,4 +8,4 @@ loop-i-preserved c =
     let s = c.args.segment in
     let p = c.args.start in
     let i = c.loop-i.i in
-    c.in_ok-put.ensures.pushed ∙ ap (λ J. J ++ spots s (p + i) 1) c.loop-i.invariant ∙ append_assoc c.args.pending.now.items (spots s p i) (spots s (p + i) 1) ∙ ap (λ J. c.args.pending.now.items ++ J) (sym (spots_more s p i))
+    c.in_ok-put.ensures ∙ ap (λ J. J ++ spots s (p + i) 1) c.loop-i.invariant ∙ append_assoc c.args.pending.now.items (spots s p i) (spots s (p + i) 1) ∙ ap (λ J. c.args.pending.now.items ++ J) (sym (spots_more s p i))

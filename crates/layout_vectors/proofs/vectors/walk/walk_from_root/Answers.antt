@@ -8,6 +8,7 @@ use Rattle.std.specs.Prelude.{Option, IsSome, ◌↔◌, zero, suc}
 use Rattle.layout_vectors.specs.declared.vectors.pending.Spot.{Spot}
 use Rattle.layout_vectors.specs.Counts.{Counting, Counts}
 use Rattle.layout_vectors.specs.Marks.{rows_of}
+use Rattle.layout_vectors.specs.Walks.{TakesSpot, walk}
 use Rattle.layout_vectors.proofs.Counting.{last_first, first_last}
 use Rattle.layout_vectors.proofs.Taken.{fits_kept}
 use Rattle.layout_vectors.proofs.Whole.{OnlyRoot, forest_counts, counts_forest}
@@ -17,8 +18,8 @@ empty_when : (o : Option Spot) (n : ℕ) → IsSome o ↔ (0 < n) → o ≡ None
 empty_when o zero h e = refl
 empty_when o (suc n) h e = let some : IsSome o = h.1 (omega arith) in absurd (false≢true (subst (λ (x : Option Spot). IsSome x) e some))
 
-pub returns-then-not-branch-clause-exactly : goal.returns-then-not-branch-clause-exactly
-returns-then-not-branch-clause-exactly g c =
+pub returns-then-not-branch : goal.returns-then-not-branch
+returns-then-not-branch g c =
     let S : Segments = message (g.A.ReaderArena.segments c.args.arena.now) in
     let M0 : Segments = rows_of c.take.new.self in
     let M : Segments = rows_of c.loop-spot.marks in
@@ -26,7 +27,7 @@ returns-then-not-branch-clause-exactly g c =
     let J = c.pop.new.self.items in (
       λ no. absurd (false≢true no),
       λ (t, f). let F : Counting = times (root ∷ cover S 0 0 t) in
-          absurd (c.in_ok-walk_pointer.ensures.fails c.if-not-branch.true F (last_first S (word_at M) J c.in-Some.spot F (subst (λ K. Counts S (word_at M) K F) c.in-Some.ensures.items ((c.loop-spot.invariant.same F).0 (forest_counts S M0 t only f)))) f.apart),
+          absurd ((subst (λ b. TakesSpot S c.in-Some.spot (walk c.loop-spot.marks c.pop.new.self) (walk c.walk_pointer.new.marks c.walk_pointer.new.pending) b) c.if-not-branch.true c.in_ok-walk_pointer.ensures) F (last_first S (word_at M) J c.in-Some.spot F (subst (λ K. Counts S (word_at M) K F) c.in-Some.ensures.items ((c.loop-spot.invariant.same F).0 (forest_counts S M0 t only f)))) f.apart),
     )
 
 pub loop-spot-preserved : goal.loop-spot-preserved
@@ -34,7 +35,7 @@ loop-spot-preserved g c =
     let S : Segments = message (g.A.ReaderArena.segments c.args.arena.now) in
     let M : Segments = rows_of c.loop-spot.marks in
     let J = c.pop.new.self.items in
-    let goes = c.in_ok-walk_pointer.ensures.goes c.if-not-branch.false in
+    let goes = subst (λ b. TakesSpot S c.in-Some.spot (walk c.loop-spot.marks c.pop.new.self) (walk c.walk_pointer.new.marks c.walk_pointer.new.pending) b) c.if-not-branch.false c.in_ok-walk_pointer.ensures in
     let inv = c.loop-spot.invariant in
     let items = c.in-Some.ensures.items in
     record {
@@ -43,8 +44,8 @@ loop-spot-preserved g c =
       same = λ F. (λ h. (goes.same F).0 (last_first S (word_at M) J c.in-Some.spot F (subst (λ K. Counts S (word_at M) K F) items ((inv.same F).0 h))), λ h. (inv.same F).1 (subst (λ K. Counts S (word_at M) K F) (sym items) (first_last S (word_at M) J c.in-Some.spot F ((goes.same F).1 h))));
     }
 
-pub returns-clause-exactly : goal.returns-clause-exactly
-returns-clause-exactly g c =
+pub returns : goal.returns
+returns g c =
     let S : Segments = message (g.A.ReaderArena.segments c.args.arena.now) in
     let M0 : Segments = rows_of c.take.new.self in
     let M : Segments = rows_of c.loop-spot.marks in
