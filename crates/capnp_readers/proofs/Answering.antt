@@ -16,7 +16,7 @@ use Rattle.capnp_objects.specs.Expected.{Expectation, list_expected, CanBeGiven,
 use Rattle.capnp_format.specs.Numbers.{element_bits}
 use Rattle.capnp_objects.specs.Reading.{Reading, source_start, word_of, tag_size}
 use Rattle.capnp_objects.specs.Source.{default_segment, levels}
-use Rattle.capnp_readers.specs.Readers.{reading, IsTargetList, IsTarget}
+use Rattle.capnp_readers.specs.Readers.{read_by, IsTargetList, IsTarget}
 use Rattle.capnp_readers.specs.Calls.{Call, IsRead, of_pointer, of_default, short_default, of_null_default, WhereRead}
 use Rattle.capnp_readers.specs.Sections.{HoldsPointer, data_bits}
 use Rattle.capnp_readers.specs.declared.readers.PointerReader.{PointerReader}
@@ -83,12 +83,12 @@ module _ {A : Type 0} (g : Ghosts A) where
 
   -- the pointer of a default, as it is read
   default_read : (p : PointerReader A g) (bytes : Bor (List ℕ)) (n : ℤ) → p.source ≡ Default bytes → p.place.segment ≡ default_segment → p.place.at ≡ 0 → p.nesting_limit ≡ n →
-      reading g p ≡ record (source_start g (Default bytes)) { levels = levels n }
+      read_by g p ≡ record (source_start g (Default bytes)) { levels = levels n }
   default_read p bytes n source segment first nesting = rw (source, segment, first, nesting) refl
 
   -- a call reads at one place
-  pub one_read : {c : Call g} {p q : PointerReader A g} → IsRead g c (Ok p) → IsRead g c (Ok q) → reading g p ≡ reading g q
-  one_read {c} {p} {q} (of_pointer w e) (of_pointer v f) = let same : p ≡ c.from = cc in let too : q ≡ c.from = cc in ap (reading g) (same ∙ sym too)
+  pub one_read : {c : Call g} {p q : PointerReader A g} → IsRead g c (Ok p) → IsRead g c (Ok q) → read_by g p ≡ read_by g q
+  one_read {c} {p} {q} (of_pointer w e) (of_pointer v f) = let same : p ≡ c.from = cc in let too : q ≡ c.from = cc in ap (read_by g) (same ∙ sym too)
   one_read (of_pointer (inl none) e) (of_default null has whole source segment first nesting may f) = absurd (cc (none, has))
   one_read (of_pointer (inr some) e) (of_default null has whole source segment first nesting may f) = absurd (some null)
   one_read (of_default null has whole source segment first nesting may f) (of_pointer (inl none) e) = absurd (cc (none, has))
@@ -97,9 +97,9 @@ module _ {A : Type 0} (g : Ghosts A) where
       let same : p ≡ x = cc (e) in
       let too : q ≡ y = cc (f) in
       let bytes_are : bytes ≡ again = cc (has, given) in
-      ap (reading g) same ∙ default_read x bytes c.from.nesting_limit source segment first nesting
+      ap (read_by g) same ∙ default_read x bytes c.from.nesting_limit source segment first nesting
       ∙ ap (λ (b : Bor (List ℕ)). let start : Reading = source_start g (Default b) in record start { levels = levels c.from.nesting_limit }) bytes_are
-      ∙ sym (default_read y again c.from.nesting_limit origin part start depth) ∙ ap (reading g) (sym too)
+      ∙ sym (default_read y again c.from.nesting_limit origin part start depth) ∙ ap (read_by g) (sym too)
   one_read (of_pointer w e) (short_default null has less f) = absurd (cc (f))
   one_read (of_pointer w e) (of_null_default null has whole none named f) = absurd (cc (f))
   one_read (of_default null has whole source segment first nesting may e) (short_default unset given less f) = absurd (cc (f))
@@ -124,49 +124,49 @@ module _ {A : Type 0} (g : Ghosts A) where
   not_unread (of_null_default null has whole none named e) h = absurd (cc (e))
 
   -- so it is answered exactly where it can be answered there
-  pub answered : {c : Call g} {p : PointerReader A g} (m : Meter) {B : Type 0} → IsRead g c (Ok p) → (B ↔ CanBeGiven c.expected (reading g p) m) → B ↔ WhereRead g c (λ q. CanBeGiven c.expected (reading g q) m)
+  pub answered : {c : Call g} {p : PointerReader A g} (m : Meter) {B : Type 0} → IsRead g c (Ok p) → (B ↔ CanBeGiven c.expected (read_by g p) m) → B ↔ WhereRead g c (λ q. CanBeGiven c.expected (read_by g q) m)
   answered {c} {p = p} m there same =
       ((λ b. (p, there, same.0 b)), (λ (q, here, can). same.1 (subst (λ r. CanBeGiven c.expected r m) (one_read here there) can)))
 
   -- what can be given at the pointer that is read
-  pub given_there : {c : Call g} {p : PointerReader A g} (m : Meter) → IsRead g c (Ok p) → WhereRead g c (λ q. CanBeGiven c.expected (reading g q) m) → CanBeGiven c.expected (reading g p) m
+  pub given_there : {c : Call g} {p : PointerReader A g} (m : Meter) → IsRead g c (Ok p) → WhereRead g c (λ q. CanBeGiven c.expected (read_by g q) m) → CanBeGiven c.expected (read_by g p) m
   given_there {c} m there (q, here, can) = subst (λ r. CanBeGiven c.expected r m) (one_read here there) can
 
   -- An object was read of a pointer, from m to m', and is shown as a target.
   pub record IsShown (p : PointerReader A g) (m m' : Meter) (x : Object) (t : ReadTarget A g) : Type 0 where
-    pub read : IsReadAt (reading g p) m m' x
+    pub read : IsReadAt (read_by g p) m m' x
     pub target : IsTarget g p m m' t
 
   -- a target of another kind than the object that was read is null
-  pub no_struct : {p : PointerReader A g} {m m' : Meter} {x : Object} (t : ReadTarget A g) → IsGiven ExpectsStruct (reading g p).levels x → IsShown p m m' x t → ((r : StructReader A g) → t ≡ StructTarget r → ⊥) → (word_of (reading g p) ≡ 0) × (m' ≡ m)
+  pub no_struct : {p : PointerReader A g} {m m' : Meter} {x : Object} (t : ReadTarget A g) → IsGiven ExpectsStruct (read_by g p).levels x → IsShown p m m' x t → ((r : StructReader A g) → t ≡ StructTarget r → ⊥) → (word_of (read_by g p) ≡ 0) × (m' ≡ m)
   no_struct NullTarget given h other = h.target
   no_struct {p} {x = x} (CapTarget i) given h other = elim (struct_or_null x given h.read) [
     | inl null ↦ null
-    | inr (b, there, z) ↦ absurd (let leads = leads_there (reading g p) h.target.0 h.target.1 (λ f. let low = h.target.2 in omega (arith, f, low)) in let same : h.target.0 ≡ b = same_target (reading g p).segments (reading g p).segment (reading g p).at leads.1 there.1 in let k = rw (← same) at z in let low = h.target.2 in omega (arith, k, low))
+    | inr (b, there, z) ↦ absurd (let leads = leads_there (read_by g p) h.target.0 h.target.1 (λ f. let low = h.target.2 in omega (arith, f, low)) in let same : h.target.0 ≡ b = same_target (read_by g p).segments (read_by g p).segment (read_by g p).at leads.1 there.1 in let k = rw (← same) at z in let low = h.target.2 in omega (arith, k, low))
   ]
   no_struct (StructTarget r) given h other = absurd (other r refl)
   no_struct {p} {x = x} (ListTarget r) given h other = elim (struct_or_null x given h.read) [
     | inl null ↦ null
-    | inr (b, there, z) ↦ absurd (let same : h.target.0 ≡ b = same_target (reading g p).segments (reading g p).segment (reading g p).at (entered_leads h.target.1).1 there.1 in let k = rw (← same) at z in let one = h.target.2 in omega (arith, k, one))
+    | inr (b, there, z) ↦ absurd (let same : h.target.0 ≡ b = same_target (read_by g p).segments (read_by g p).segment (read_by g p).at (entered_leads h.target.1).1 there.1 in let k = rw (← same) at z in let one = h.target.2 in omega (arith, k, one))
   ]
 
-  pub no_list : (size : ElementSize) {p : PointerReader A g} {m m' : Meter} {x : Object} (t : ReadTarget A g) → IsGiven (ExpectsList size) (reading g p).levels x → IsShown p m m' x t → ((r : ListReader A g) → t ≡ ListTarget r → ⊥) → (word_of (reading g p) ≡ 0) × (m' ≡ m)
+  pub no_list : (size : ElementSize) {p : PointerReader A g} {m m' : Meter} {x : Object} (t : ReadTarget A g) → IsGiven (ExpectsList size) (read_by g p).levels x → IsShown p m m' x t → ((r : ListReader A g) → t ≡ ListTarget r → ⊥) → (word_of (read_by g p) ≡ 0) × (m' ≡ m)
   no_list size NullTarget given h other = h.target
   no_list size {p} {x = x} (CapTarget i) given h other = elim (list_or_null size x given h.read) [
     | inl null ↦ null
-    | inr (b, there, z) ↦ absurd (let leads = leads_there (reading g p) h.target.0 h.target.1 (λ f. let low = h.target.2 in omega (arith, f, low)) in let same : h.target.0 ≡ b = same_target (reading g p).segments (reading g p).segment (reading g p).at leads.1 there.1 in let k = rw (← same) at z in let low = h.target.2 in omega (arith, k, low))
+    | inr (b, there, z) ↦ absurd (let leads = leads_there (read_by g p) h.target.0 h.target.1 (λ f. let low = h.target.2 in omega (arith, f, low)) in let same : h.target.0 ≡ b = same_target (read_by g p).segments (read_by g p).segment (read_by g p).at leads.1 there.1 in let k = rw (← same) at z in let low = h.target.2 in omega (arith, k, low))
   ]
   no_list size {p} {x = x} (StructTarget r) given h other = elim (list_or_null size x given h.read) [
     | inl null ↦ null
-    | inr (b, there, z) ↦ absurd (let same : h.target.0 ≡ b = same_target (reading g p).segments (reading g p).segment (reading g p).at (entered_leads h.target.1).1 there.1 in let k = rw (← same) at z in let first = h.target.2 in omega (arith, k, first))
+    | inr (b, there, z) ↦ absurd (let same : h.target.0 ≡ b = same_target (read_by g p).segments (read_by g p).segment (read_by g p).at (entered_leads h.target.1).1 there.1 in let k = rw (← same) at z in let first = h.target.2 in omega (arith, k, first))
   ]
   no_list size (ListTarget r) given h other = absurd (other r refl)
 
   -- the elements of a list that fits are wide enough
-  wide_list : (size : ElementSize) {p : PointerReader A g} {m m' : Meter} {x : Object} {r : ListReader A g} (h : IsShown p m m' x (ListTarget r)) (found : ElementSize) → (list_expected size).misfit (reading g p).segments h.target.0 ≡ None →
-      IsTargetList g found (reading g p).segments r h.target.0 → IsWide size found r.struct_size
+  wide_list : (size : ElementSize) {p : PointerReader A g} {m m' : Meter} {x : Object} {r : ListReader A g} (h : IsShown p m m' x (ListTarget r)) (found : ElementSize) → (list_expected size).misfit (read_by g p).segments h.target.0 ≡ None →
+      IsTargetList g found (read_by g p).segments r h.target.0 → IsWide size found r.struct_size
   wide_list size {p} {r = r} h InlineComposite fits list =
-      (let sections : r.struct_size ≡ tag_size (reading g p).segments h.target.0 = ap₂ (λ i j. record { data_words = i; pointers = j }) list.1.data_of list.1.pointers_of in wide_structs size r.struct_size (rw sections (rw list.0 at fits)))
+      (let sections : r.struct_size ≡ tag_size (read_by g p).segments h.target.0 = ap₂ (λ i j. record { data_words = i; pointers = j }) list.1.data_of list.1.pointers_of in wide_structs size r.struct_size (rw sections (rw list.0 at fits)))
   wide_list size h Void fits list = let wide = wide_elements size 0 (rw list.0 at fits) in (wide.0, λ six. absurd (omega (arith, wide.1 six)), wide.2)
   wide_list size h Bit fits list = let wide = wide_elements size 1 (rw list.0 at fits) in (wide.0, λ six. absurd (omega (arith, wide.1 six)), wide.2)
   wide_list size h Byte fits list = let wide = wide_elements size 2 (rw list.0 at fits) in (wide.0, λ six. absurd (omega (arith, wide.1 six)), wide.2)
@@ -175,5 +175,5 @@ module _ {A : Type 0} (g : Ghosts A) where
   wide_list size h EightBytes fits list = let wide = wide_elements size 5 (rw list.0 at fits) in (wide.0, λ six. absurd (omega (arith, wide.1 six)), wide.2)
   wide_list size h Pointer fits list = let wide = wide_elements size 6 (rw list.0 at fits) in (wide.0, λ six. tt, wide.2)
 
-  pub wide_target : (size : ElementSize) {p : PointerReader A g} {m m' : Meter} {x : Object} {r : ListReader A g} → CanBeGiven (list_expected size) (reading g p) m → IsShown p m m' x (ListTarget r) → IsWide size r.element_size r.struct_size
-  wide_target size {p} {m} {r = r} can h = wide_list size h r.element_size (given_fits (list_expected size) (reading g p) m h.target.0 can (entered_leads h.target.1)) h.target.3
+  pub wide_target : (size : ElementSize) {p : PointerReader A g} {m m' : Meter} {x : Object} {r : ListReader A g} → CanBeGiven (list_expected size) (read_by g p) m → IsShown p m m' x (ListTarget r) → IsWide size r.element_size r.struct_size
+  wide_target size {p} {m} {r = r} can h = wide_list size h r.element_size (given_fits (list_expected size) (read_by g p) m h.target.0 can (entered_leads h.target.1)) h.target.3

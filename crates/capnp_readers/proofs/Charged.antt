@@ -10,8 +10,8 @@ use Rattle.capnp_objects.specs.declared.object.Purpose.TheVariants.{Value}
 use Rattle.capnp_objects.proofs.Budgets.{paid_both, paid_own}
 use Rattle.capnp_objects.proofs.Walked.{paid_none}
 use Rattle.capnp_objects.specs.Refusals.{GoesBefore, in_struct, in_pointers, in_element}
-use Rattle.capnp_readers.specs.Checking.{Progress, FindsAll, FindsElements, TestEnds, here, below, TestsEnd, Unread, IsFault, IsUnfit, no_pointer, other_pointer, empty_elsewhere, elsewhere, not_padded, other_claim, wide_sections, wide_elements}
-use Rattle.capnp_readers.specs.declared.readers.canonical_fault.CanonicalFault.{CanonicalFault}
+use Rattle.capnp_pointers.specs.Checking.{Progress, FindsAll, FindsElements, TestEnds, here, below, TestsEnd, Unread, IsFault, IsUnfit, no_pointer, other_pointer, empty_elsewhere, elsewhere, not_padded, other_claim, wide_sections, wide_elements}
+use Rattle.capnp_pointers.specs.declared.pointers.canonical_fault.CanonicalFault.{CanonicalFault}
 use Rattle.capnp_objects.specs.Spending.{Paid}
 
 -- From m to m' some words were granted and some pointers counted.

@@ -20,7 +20,7 @@ use Rattle.capnp_objects.specs.Outcomes.{Entered}
 use Rattle.capnp_objects.specs.Reading.{Reading, word_of}
 use Rattle.capnp_objects.specs.Source.{default_segment, default_segments}
 use Rattle.capnp_objects.specs.declared.object.Purpose.TheVariants.{Value}
-use Rattle.capnp_readers.specs.Readers.{reading, IsStructThere, IsListThere}
+use Rattle.capnp_readers.specs.Readers.{read_by, IsStructThere, IsListThere}
 use Rattle.capnp_readers.specs.Sections.{HoldsPointer, data_bits}
 use Rattle.capnp_readers.specs.declared.readers.PointerReader.{PointerReader}
 use Rattle.capnp_readers.specs.declared.readers.struct_reader.StructReader.{StructReader}
@@ -38,25 +38,25 @@ module _ {A : Type 0} (g : Ghosts A) where
   -- refused that there is none: a default has no whole word, or its pointer is null where it must
   -- not be.
   pub data IsRead (c : Call) (x : Result (PointerReader A g) ErrorKind) : Type 0 where
-    of_pointer : (c.default ≡ None) ⊎ (word_of (reading g c.from) ≢ 0) → x ≡ Ok c.from → IsRead c x
+    of_pointer : (c.default ≡ None) ⊎ (word_of (read_by g c.from) ≢ 0) → x ≡ Ok c.from → IsRead c x
     of_default :
         {bytes : Bor (List ℕ)} {p : PointerReader A g} →
-        word_of (reading g c.from) ≡ 0 →
+        word_of (read_by g c.from) ≡ 0 →
         c.default ≡ Some bytes →
         8 ≤ length bytes.now →
         p.source ≡ Default bytes →
         p.place.segment ≡ default_segment →
         p.place.at ≡ 0 →
         p.nesting_limit ≡ c.from.nesting_limit →
-        (c.expected.null_default ≡ None) ⊎ (word_of (reading g p) ≢ 0) →
+        (c.expected.null_default ≡ None) ⊎ (word_of (read_by g p) ≢ 0) →
         x ≡ Ok p →
         IsRead c x
     short_default :
-        {bytes : Bor (List ℕ)} → word_of (reading g c.from) ≡ 0 → c.default ≡ Some bytes →
+        {bytes : Bor (List ℕ)} → word_of (read_by g c.from) ≡ 0 → c.default ≡ Some bytes →
         length bytes.now < 8 → x ≡ Err MessageContainsOutOfBoundsPointer → IsRead c x
     of_null_default :
         {bytes : Bor (List ℕ)} {k : ErrorKind} →
-        word_of (reading g c.from) ≡ 0 →
+        word_of (read_by g c.from) ≡ 0 →
         c.default ≡ Some bytes →
         8 ≤ length bytes.now →
         word_at (default_segments bytes.now) default_segment 0 ≡ 0 →
@@ -72,13 +72,13 @@ module _ {A : Type 0} (g : Ghosts A) where
   -- counted or charged; or what it expects is withheld there.
   abbrev pub IsRefused : Call → Meter → Meter → ErrorKind → Type 0
   IsRefused c m m' k =
-      (IsRead c (Err k) × (m' ≡ m)) ⊎ WhereRead c (λ p. Withheld c.expected (reading g p) m m' k)
+      (IsRead c (Err k) × (m' ≡ m)) ⊎ WhereRead c (λ p. Withheld c.expected (read_by g p) m m' k)
 
   -- The struct that a pointer leads to, its words checked and charged, from m to m'; of a null
   -- pointer the struct from nothing.
   abbrev pub IsStructRead : PointerReader A g → Meter → Meter → StructReader A g → Type 0
   IsStructRead p m m' r =
-      ((word_of (reading g p) ≡ 0) × (m' ≡ m) × (r.source ≡ Nothing) × (r.bits ≡ 0) ×
+      ((word_of (read_by g p) ≡ 0) × (m' ≡ m) × (r.source ≡ Nothing) × (r.bits ≡ 0) ×
       (r.pointer_count ≡ 0) × (r.nesting_limit ≡ pos (2 ^ 31 - 1)))
       ⊎ IsStructThere g p m m' r
 
@@ -87,7 +87,7 @@ module _ {A : Type 0} (g : Ghosts A) where
   -- bits are expected. Of a null pointer the list from nothing.
   abbrev pub IsListRead : ElementSize → PointerReader A g → Meter → Meter → ListReader A g → Type 0
   IsListRead expected p m m' r =
-      ((word_of (reading g p) ≡ 0) × (m' ≡ m) × (r.source ≡ Nothing) × (r.element_size ≡ Void) ×
+      ((word_of (read_by g p) ≡ 0) × (m' ≡ m) × (r.source ≡ Nothing) × (r.element_size ≡ Void) ×
       (r.count ≡ 0) × (r.nesting_limit ≡ pos (2 ^ 31 - 1)))
       ⊎ (IsListThere g p m m' r ×
       ((element_bits (size_number expected) ≤ data_bits r.element_size r.struct_size) ×
@@ -97,8 +97,8 @@ module _ {A : Type 0} (g : Ghosts A) where
   -- The bytes that a pointer leads to, in place, but so many at the end; of a null pointer none.
   abbrev pub AreBytesRead : ℕ → PointerReader A g → Meter → Meter → List ℕ → Type 0
   AreBytesRead but p m m' bytes =
-      ((word_of (reading g p) ≡ 0) × (m' ≡ m) × (bytes ≡ []))
-      ⊎ ((a : Target) × Entered Value (record (reading g p) { levels = 1 }) m m' a ×
-      ((all : List ℕ) × (words_of all ≡ words_at (reading g p).segments a.segment a.start
+      ((word_of (read_by g p) ≡ 0) × (m' ≡ m) × (bytes ≡ []))
+      ⊎ ((a : Target) × Entered Value (record (read_by g p) { levels = 1 }) m m' a ×
+      ((all : List ℕ) × (words_of all ≡ words_at (read_by g p).segments a.segment a.start
       (words_for 2 (list_count a.word)))
       × (bytes ≡ take (list_count a.word - but) all) × (length bytes ≡ list_count a.word - but)))

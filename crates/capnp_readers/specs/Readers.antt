@@ -11,7 +11,9 @@ use Rattle.capnp_words.specs.declared.wire_pointer.ElementSize.{ElementSize}
 use Rattle.capnp_words.specs.declared.wire_pointer.ElementSize.TheVariants.{Pointer, InlineComposite}
 use Rattle.capnp_arena_traits.specs.declared.arena.reader_arena.ReaderArena.{Ghosts}
 use Rattle.capnp_objects.specs.Demands.{tag}
-use Rattle.capnp_objects.specs.Reading.{Reading, source_start, reading_at, word_of}
+use Rattle.capnp_objects.specs.Reading.{Reading, source_start, reading_at, word_of, sized, tag_size}
+use Rattle.capnp_pointers.specs.Rows.{Rows, rows_sized}
+use Rattle.capnp_words.specs.declared.wire_pointer.StructSize.{StructSize}
 use Rattle.capnp_objects.specs.Outcomes.{Entered}
 use Rattle.capnp_readers.specs.Sections.{bytes_for, elements_words, step_bits}
 use Rattle.capnp_objects.specs.Spending.{after}
@@ -41,24 +43,25 @@ IsListPlace S place =
     ≤ 8 * length (segment S place.segment))
 
 module _ {A : Type 0} (g : Ghosts A) where
-  -- A reader shows the struct of d data words and q pointers that starts at position p of segment s.
-  pub record ShowsStruct (S : Segments) (r : StructReader A g) (s p d q : ℕ) : Type 0 where
-    pub words_are : words_of r.content.now ≡ words_at S s p d
+  -- A reader shows the struct of these sections that starts at position p of segment s.
+  pub record ShowsStruct (S : Segments) (r : StructReader A g) (s p : ℕ) (size : StructSize) : Type 0 where
+    pub words_are : words_of r.content.now ≡ words_at S s p size.data_words
     pub byte_is : r.byte ≡ 8 * p
-    pub bits_are : r.bits ≡ 64 * d
+    pub bits_are : r.bits ≡ 64 * size.data_words
     pub segment_is : r.pointers.segment ≡ s
-    pub pointers_start : r.pointers.at ≡ p + d
-    pub pointers_are : r.pointer_count ≡ q
+    pub pointers_start : r.pointers.at ≡ p + size.data_words
+    pub pointers_are : r.pointer_count ≡ size.pointers
 
-  -- A reader shows the list of n elements that starts at position p of segment s, with d data words
-  -- and q pointers each where they are structs, and else with 0 of both.
-  pub record ShowsList (S : Segments) (r : ListReader A g) (s p n d q : ℕ) : Type 0 where
-    pub words_are : words_of r.content.now ≡ words_at S s p (elements_words r.element_size n (d + q))
+  -- A reader shows the list of these elements that starts at position p of segment s; where they are
+  -- no structs, their sections are of no words.
+  pub record ShowsList (S : Segments) (r : ListReader A g) (s p : ℕ) (elements : Rows) : Type 0 where
+    pub words_are : words_of r.content.now ≡ words_at S s p (elements_words r.element_size elements.count
+        (elements.size.data_words + elements.size.pointers))
     pub segment_is : r.start.segment ≡ s
     pub elements_start : r.start.at ≡ p
-    pub counts : r.count ≡ n
-    pub data_of : r.struct_size.data_words ≡ d
-    pub pointers_of : r.struct_size.pointers ≡ q
+    pub counts : r.count ≡ elements.count
+    pub data_of : r.struct_size.data_words ≡ elements.size.data_words
+    pub pointers_of : r.struct_size.pointers ≡ elements.size.pointers
 
   -- A struct reader shows element number i of a list, whose elements have this size: a struct's two
   -- sections, one pointer, or the bits of a number.
@@ -66,9 +69,9 @@ module _ {A : Type 0} (g : Ghosts A) where
   ShowsElement InlineComposite list i r =
       let d = list.struct_size.data_words in
       let q = list.struct_size.pointers in
-      ShowsStruct (source_start g list.source).segments r list.start.segment (list.start.at + i * (d + q)) d q
+      ShowsStruct (source_start g list.source).segments r list.start.segment (list.start.at + i * (d + q)) (sized d q)
   ShowsElement Pointer list i r =
-      ShowsStruct (source_start g list.source).segments r list.start.segment (list.start.at + i) 0 1
+      ShowsStruct (source_start g list.source).segments r list.start.segment (list.start.at + i) (sized 0 1)
   ShowsElement size list i r =
       (r.bits ≡ element_bits (size_number size)) × (r.byte ≡ 8 * list.start.at + i * (r.bits / 8))
       × (r.content.now ≡ slice_range list.content.now (i * (r.bits / 8))
@@ -77,39 +80,39 @@ module _ {A : Type 0} (g : Ghosts A) where
   -- The list of a target, by its size: one of structs starts behind its tag.
   abbrev pub IsTargetList : ElementSize → Segments → ListReader A g → Target → Type 0
   IsTargetList InlineComposite S r a =
-      (element_size a.word ≡ 7) × ShowsList S r a.segment (a.start + 1) (offset_bits (tag S a))
-      (data_words (tag S a)) (pointer_count (tag S a))
+      (element_size a.word ≡ 7) × ShowsList S r a.segment (a.start + 1)
+      (rows_sized (tag_size S a) (offset_bits (tag S a)))
   IsTargetList size S r a = (element_size a.word ≡ size_number size) ×
-      ShowsList S r a.segment a.start (list_count a.word) 0 0
+      ShowsList S r a.segment a.start (rows_sized (sized 0 0) (list_count a.word))
 
   -- The bit of a list's words at which element number i starts.
   abbrev pub element_start : ListReader A g → ℕ → ℕ
   element_start list i = i * step_bits list.element_size list.struct_size
 
   -- What a pointer reader reads.
-  abbrev pub reading : PointerReader A g → Reading
-  reading r = reading_at g r.source r.place r.nesting_limit
+  abbrev pub read_by : PointerReader A g → Reading
+  read_by r = reading_at g r.source r.place r.nesting_limit
 
   -- The pointer of a reader leads to the struct that another shows, whose words are checked and
   -- charged, from m to m'. That one reads the same source, with one level less.
   abbrev pub IsStructThere : PointerReader A g → Meter → Meter → StructReader A g → Type 0
   IsStructThere from m m' r =
-      (a : Target) × Entered Value (reading from) m m' a × (kind a.word ≡ 0)
-      × ShowsStruct (reading from).segments r a.segment a.start (data_words a.word) (pointer_count a.word)
+      (a : Target) × Entered Value (read_by from) m m' a × (kind a.word ≡ 0)
+      × ShowsStruct (read_by from).segments r a.segment a.start (sized (data_words a.word) (pointer_count a.word))
       × (r.source ≡ from.source) × (r.nesting_limit ≡ from.nesting_limit -ℤ pos 1)
 
   -- So it leads to a list.
   abbrev pub IsListThere : PointerReader A g → Meter → Meter → ListReader A g → Type 0
   IsListThere from m m' r =
-      (a : Target) × Entered Value (reading from) m m' a × (kind a.word ≡ 1) ×
-      IsTargetList r.element_size (reading from).segments r a
+      (a : Target) × Entered Value (read_by from) m m' a × (kind a.word ≡ 1) ×
+      IsTargetList r.element_size (read_by from).segments r a
       × (r.source ≡ from.source) × (r.nesting_limit ≡ from.nesting_limit -ℤ pos 1)
 
   -- What the pointer of a reader leads to: its words are checked and charged, from m to m'.
   abbrev pub IsTarget : PointerReader A g → Meter → Meter → ReadTarget A g → Type 0
-  IsTarget from m m' Null = (word_of (reading from) ≡ 0) × (m' ≡ m)
+  IsTarget from m m' Null = (word_of (read_by from) ≡ 0) × (m' ≡ m)
   IsTarget from m m' (Cap i) =
-      (a : Target) × FollowsTo (reading from) a × (a.word % 2 ^ 32 ≡ 3) × (i ≡ upper_half a.word)
-      × Affords (reading from).charging m a.pads × (m' ≡ after (reading from).charging m a.pads 1)
+      (a : Target) × FollowsTo (read_by from) a × (a.word % 2 ^ 32 ≡ 3) × (i ≡ upper_half a.word)
+      × Affords (read_by from).charging m a.pads × (m' ≡ after (read_by from).charging m a.pads 1)
   IsTarget from m m' (Struct r) = IsStructThere from m m' r
   IsTarget from m m' (List r) = IsListThere from m m' r

@@ -6,7 +6,7 @@ ghost use Rattle.capnp_format.specs.Segments.{word_at, segment, IsPlace};
 ghost use Rattle.capnp_words.specs.declared.error.ErrorKind.TheVariants.{MessageContainsNonCapabilityPointerWhereCapabilityPointerWasExpected, MessageContainsNullCapabilityPointer, MessageContainsOutOfBoundsPointer, ReadLimitExceeded};
 ghost use Rattle.capnp_arena_traits.specs.Checks.{Holds, misplaced};
 ghost use Rattle.capnp_objects.specs.Source.{default_segment, levels};
-ghost use Rattle.capnp_objects.specs.Refusals.{Stopped, CanBeRead};
+ghost use Rattle.capnp_objects.specs.Refusals.{NotRead, CanBeRead};
 ghost use Rattle.capnp_objects.specs.Objects.{IsHeld};
 ghost use Rattle.capnp_objects.specs.Reading.{source_start, reading_at, word_of};
 ghost use Rattle.capnp_objects.specs.Objects.{IsFew, IsObject};
@@ -14,28 +14,27 @@ ghost use Rattle.capnp_objects.specs.Expected.{expectation, struct_expected, lis
 ghost use Rattle.capnp_words.specs.declared.wire_pointer.PointerType.{PointerType};
 ghost use Rattle.capnp_objects.specs.Types.{IsOfType, HasNoType};
 ghost use Rattle.capnp_format.specs.Word.{lower_half, upper_half};
-ghost use Rattle.capnp_objects.specs.Wanted.{plain};
 ghost use Rattle.capnp_objects.specs.declared.object.Purpose.TheVariants.{Value};
 
 mod canonical;
-mod canonical_answer;
-mod canonical_fault;
 mod list_reader;
 mod primitive_element;
 mod sizes;
 mod struct_reader;
 mod target;
 
-pub use canonical_fault::{CanonicalFault, CanonicalFaultReason};
 use capnp_arena_traits::arena::ReaderArena;
 use capnp_objects::object::{Expected, Object, Place};
 use capnp_objects::source::Source;
+use capnp_pointers::pointers::Pointer;
+pub use capnp_pointers::pointers::{
+    CanonicalFault, CanonicalFaultReason, MessageSize, PointerPlace,
+};
 use capnp_words::error::ErrorKind;
 use capnp_words::read_limiter::ReadLimiter;
 use capnp_words::wire_pointer::{ElementSize, PointerType, StructSize};
 pub use list_reader::{ListPlace, ListReader};
 pub use primitive_element::PrimitiveElement;
-pub use sizes::MessageSize;
 use std::alloc::AllocError;
 pub use struct_reader::{StructPlace, StructReader};
 pub use target::Target;
@@ -48,15 +47,6 @@ const NO_SECTIONS: StructSize = StructSize {
     data_words: 0,
     pointers: 0,
 };
-
-/// Where a pointer is in an arena.
-#[derive(Clone, Copy, Debug, PartialEq, Eq)]
-pub struct PointerPlace {
-    /// The number of the segment.
-    pub segment: u32,
-    /// The position of the pointer, in words.
-    pub word: u32,
-}
 
 /// A pointer that is read, with the segment that it is in at hand.
 pub struct PointerReader<'a, A: ReaderArena> {
@@ -82,7 +72,7 @@ impl<'a, A: ReaderArena> Clone for PointerReader<'a, A> {
 impl<'a, A: ReaderArena> Copy for PointerReader<'a, A> {}
 
 impl<'a, A: ReaderArena> PointerReader<'a, A> {
-    ghost use Rattle.capnp_readers.specs.Readers.{IsTarget, reading};
+    ghost use Rattle.capnp_readers.specs.Readers.{IsTarget, read_by};
     ghost use Rattle.capnp_readers.specs.Calls.{IsRead, IsRefused, WhereRead, IsListRead, IsStructRead, AreBytesRead};
 
     /// The pointer from nothing, which is null: at word 0 of segment 0, of which there is none. Its nesting
@@ -92,15 +82,7 @@ impl<'a, A: ReaderArena> PointerReader<'a, A> {
         ensures place { (result.place.segment ≡ 0) × (result.place.at ≡ 0) }
         ensures nesting { result.nesting_limit ≡ i32.MAX }
     {
-        PointerReader {
-            source: Source::Nothing,
-            place: Place {
-                segment: 0,
-                bytes: &[],
-                at: 0,
-            },
-            nesting_limit: i32::MAX,
-        }
+        Self::of_pointer(Pointer::new_default())
     }
 
     /// The root of a message, word 0 of segment 0 ("Messages"), after this one word is charged. Its
@@ -122,12 +104,7 @@ impl<'a, A: ReaderArena> PointerReader<'a, A> {
         ensures place { IfOk result (λ r. (r.place.segment ≡ 0) × (r.place.at ≡ 0)) }
         ensures nesting { IfOk result (λ r. r.nesting_limit ≡ A.nesting arena.now) }
     {
-        arena.contains_interval(0, 0, 1, lim)?;
-        let place = PointerPlace {
-            segment: 0,
-            word: 0,
-        };
-        Ok(Self::at(arena, place, arena.nesting_limit()))
+        Ok(Self::of_pointer(Pointer::get_root_from_arena(arena, lim)?))
     }
 
     /// The pointer at a place of an arena. The place lies in the arena.
@@ -137,18 +114,7 @@ impl<'a, A: ReaderArena> PointerReader<'a, A> {
         ensures place { (result.place.segment ≡ place.segment) × (result.place.at ≡ place.word) }
         ensures nesting { result.nesting_limit ≡ nesting_limit }
     {
-        let Ok(bytes) = arena.get_segment(place.segment) else {
-            return Self::new_default();
-        };
-        PointerReader {
-            source: Source::Arena(arena),
-            place: Place {
-                segment: u64::from(place.segment),
-                bytes,
-                at: place.word,
-            },
-            nesting_limit,
-        }
+        Self::of_pointer(Pointer::at(arena, place, nesting_limit))
     }
 
     /// The pointer in word 0 of a default, whose bytes are one segment that no far pointer leads to.
@@ -188,9 +154,37 @@ impl<'a, A: ReaderArena> PointerReader<'a, A> {
         *self
     }
 
+    /// The plain pointer, which is copied, measured and tested.
+    #[inline(always)]
+    pub fn pointer(self) -> Pointer<'a, A>
+        ensures source { result.source ≡ self.entry.source }
+        ensures place { result.place ≡ self.entry.place }
+        ensures nesting { result.nesting_limit ≡ self.entry.nesting_limit }
+    {
+        Pointer {
+            source: self.source,
+            place: self.place,
+            nesting_limit: self.nesting_limit,
+        }
+    }
+
+    /// A reader of a plain pointer.
+    #[inline(always)]
+    pub fn of_pointer(pointer: Pointer<'a, A>) -> Self
+        ensures source { result.source ≡ pointer.entry.source }
+        ensures place { result.place ≡ pointer.entry.place }
+        ensures nesting { result.nesting_limit ≡ pointer.entry.nesting_limit }
+    {
+        PointerReader {
+            source: pointer.source,
+            place: pointer.place,
+            nesting_limit: pointer.nesting_limit,
+        }
+    }
+
     /// Whether the pointer is zero, or from nothing.
     pub fn is_null(&self) -> bool
-        ensures { IsTrue result ↔ (word_of (reading A.ReaderArena self.now) ≡ 0) }
+        ensures { IsTrue result ↔ (word_of (read_by A.ReaderArena self.now) ≡ 0) }
     {
         self.place.word().is_null()
     }
@@ -198,7 +192,7 @@ impl<'a, A: ReaderArena> PointerReader<'a, A> {
     // The pointer of a default, which stands for this one, that is null.
     #[inline(never)]
     fn default_of(self, expected: Expected, bytes: &'a [u8]) -> Result<Self, ErrorKind>
-        requires null { word_of (reading A.ReaderArena self) ≡ 0 }
+        requires null { word_of (read_by A.ReaderArena self) ≡ 0 }
         requires small { length bytes.now / 8 < 2 ^ 32 }
         ensures { let default = Some bytes.entry in IsRead A.ReaderArena
             (record { from = self.entry; expected = expectation expected; default = default })
@@ -254,11 +248,11 @@ impl<'a, A: ReaderArena> PointerReader<'a, A> {
         ensures object { IfOk result (λ x.
             IsObject Value (reading_at A.ReaderArena x.0.source x.0.place (pos 1))
             lim.old lim.new x.1) }
-        ensures given { IfOk result (λ x. IsGiven expected (reading A.ReaderArena x.0).levels x.1) }
+        ensures given { IfOk result (λ x. IsGiven expected (read_by A.ReaderArena x.0).levels x.1) }
         ensures few { IfOk result (λ x. IsFew x.1) }
         ensures exactly { IsOk result ↔ WhereRead A.ReaderArena
             (record { from = self.entry; expected = expectation expected; default = default.entry })
-            (λ p. CanBeGiven (expectation expected) (reading A.ReaderArena p) lim.old) }
+            (λ p. CanBeGiven (expectation expected) (read_by A.ReaderArena p) lim.old) }
         ensures refused { IfErr result (IsRefused A.ReaderArena
             (record { from = self.entry; expected = expectation expected; default = default.entry })
             lim.old lim.new) }
@@ -294,7 +288,7 @@ impl<'a, A: ReaderArena> PointerReader<'a, A> {
             (λ p. IsStructRead A.ReaderArena p lim.old lim.new r)) }
         ensures exactly { IsOk result ↔ WhereRead A.ReaderArena
             (record { from = self.entry; expected = struct_expected; default = default.entry })
-            (λ p. CanBeGiven struct_expected (reading A.ReaderArena p) lim.old) }
+            (λ p. CanBeGiven struct_expected (read_by A.ReaderArena p) lim.old) }
         ensures refused { IfErr result (IsRefused A.ReaderArena
             (record { from = self.entry; expected = struct_expected; default = default.entry })
             lim.old lim.new) }
@@ -334,7 +328,7 @@ impl<'a, A: ReaderArena> PointerReader<'a, A> {
             (λ p. IsListRead A.ReaderArena size p lim.old lim.new r)) }
         ensures exactly { let size = expected_element_size in IsOk result ↔ WhereRead A.ReaderArena
             (record { from = self.entry; expected = list_expected size; default = default.entry })
-            (λ p. CanBeGiven (list_expected size) (reading A.ReaderArena p) lim.old) }
+            (λ p. CanBeGiven (list_expected size) (read_by A.ReaderArena p) lim.old) }
         ensures refused { let size = expected_element_size in IfErr result (IsRefused A.ReaderArena
             (record { from = self.entry; expected = list_expected size; default = default.entry })
             lim.old lim.new) }
@@ -370,7 +364,7 @@ impl<'a, A: ReaderArena> PointerReader<'a, A> {
             (λ p. AreBytesRead A.ReaderArena 1 p lim.old lim.new bytes.now)) }
         ensures exactly { IsOk result ↔ WhereRead A.ReaderArena
             (record { from = self.entry; expected = text_expected; default = default.entry })
-            (λ p. CanBeGiven text_expected (reading A.ReaderArena p) lim.old) }
+            (λ p. CanBeGiven text_expected (read_by A.ReaderArena p) lim.old) }
         ensures refused { IfErr result (IsRefused A.ReaderArena
             (record { from = self.entry; expected = text_expected; default = default.entry })
             lim.old lim.new) }
@@ -399,7 +393,7 @@ impl<'a, A: ReaderArena> PointerReader<'a, A> {
             (λ p. AreBytesRead A.ReaderArena 0 p lim.old lim.new bytes.now)) }
         ensures exactly { IsOk result ↔ WhereRead A.ReaderArena
             (record { from = self.now; expected = data_expected; default = default.entry })
-            (λ p. CanBeGiven data_expected (reading A.ReaderArena p) lim.old) }
+            (λ p. CanBeGiven data_expected (read_by A.ReaderArena p) lim.old) }
         ensures refused { IfErr result (IsRefused A.ReaderArena
             (record { from = self.now; expected = data_expected; default = default.entry })
             lim.old lim.new) }
@@ -418,13 +412,13 @@ impl<'a, A: ReaderArena> PointerReader<'a, A> {
     /// `MessageContainsNonCapabilityPointerWhereCapabilityPointerWasExpected`, a far pointer to a
     /// capability too.
     pub fn get_capability(&self) -> Result<u32, ErrorKind>
-        ensures exactly { IsOk result ↔ (lower_half (word_of (reading A.ReaderArena self.now))
+        ensures exactly { IsOk result ↔ (lower_half (word_of (read_by A.ReaderArena self.now))
             ≡ 3) }
         ensures index { IfOk result (λ i. i ≡ upper_half
-            (word_of (reading A.ReaderArena self.now))) }
-        ensures null { IfErr result (λ k. word_of (reading A.ReaderArena self.now) ≡ 0
+            (word_of (read_by A.ReaderArena self.now))) }
+        ensures null { IfErr result (λ k. word_of (read_by A.ReaderArena self.now) ≡ 0
             → k ≡ MessageContainsNullCapabilityPointer) }
-        ensures another { IfErr result (λ k. word_of (reading A.ReaderArena self.now) ≢ 0
+        ensures another { IfErr result (λ k. word_of (read_by A.ReaderArena self.now) ≢ 0
             → k ≡ MessageContainsNonCapabilityPointerWhereCapabilityPointerWasExpected) }
     {
         let word = self.place.word();
@@ -446,11 +440,11 @@ impl<'a, A: ReaderArena> PointerReader<'a, A> {
     /// charged. A landing pad that is a far pointer again is `UnexpectedFarPointer`, a word of no
     /// kind `UnknownPointerType`; a pointer that can't be followed is refused as by `next`.
     pub fn get_pointer_type(&self, lim: &mut ReadLimiter) -> Result<PointerType, ErrorKind>
-        ensures of_type { IfOk result (IsOfType (reading A.ReaderArena self.now) lim.old lim.new) }
+        ensures of_type { IfOk result (IsOfType (read_by A.ReaderArena self.now) lim.old lim.new) }
         ensures exactly { IsOk result ↔ (t : PointerType) × (left : Meter)
-            × IsOfType (reading A.ReaderArena self.now) lim.old left t }
+            × IsOfType (read_by A.ReaderArena self.now) lim.old left t }
         ensures refused { IfErr result
-            (HasNoType (reading A.ReaderArena self.now) lim.old lim.new) }
+            (HasNoType (read_by A.ReaderArena self.now) lim.old lim.new) }
     {
         self.source.read_type(self.place, self.nesting_limit, lim)
     }
@@ -464,9 +458,9 @@ impl<'a, A: ReaderArena> PointerReader<'a, A> {
     /// by the first fault that is met; it keeps what was charged.
     pub fn next(&self, lim: &mut ReadLimiter) -> Result<Target<'a, A>, ErrorKind>
         ensures target { IfOk result (IsTarget A.ReaderArena self.now lim.old lim.new) }
-        ensures exactly { IsOk result ↔ CanBeRead Value (reading A.ReaderArena self.now) lim.old }
+        ensures exactly { IsOk result ↔ CanBeRead Value (read_by A.ReaderArena self.now) lim.old }
         ensures refused { IfErr result
-            (Stopped Value plain (reading A.ReaderArena self.now) lim.old lim.new) }
+            (NotRead Value (read_by A.ReaderArena self.now) lim.old lim.new) }
     {
         let object = self
             .source
@@ -477,9 +471,9 @@ impl<'a, A: ReaderArena> PointerReader<'a, A> {
     // An object that the pointer leads to, as readers of the same source with one level less.
     fn target_of(self, object: Object<'a>) -> Target<'a, A>
         requires read { (m : Meter) × (m' : Meter)
-            × IsObject Value (reading A.ReaderArena self) m m' object }
+            × IsObject Value (read_by A.ReaderArena self) m m' object }
         ensures { (m : Meter) (m' : Meter)
-            → IsObject Value (reading A.ReaderArena self.entry) m m' object.entry
+            → IsObject Value (read_by A.ReaderArena self.entry) m m' object.entry
             → IsTarget A.ReaderArena self.entry m m' result }
     {
         match object {

@@ -1,30 +1,16 @@
-//! The test for canonical form, in place.
-ghost use Rattle.std.specs.Prelude.{ℕ, ◌≡◌, ◌≢◌, ◌<◌, ◌≤◌, ◌+◌, ◌*◌, ◌/◌, ◌-◌, ◌⊎◌, ◌↔◌, pred, ◌^◌, None, IsOk, IsTrue, IsNone, Ok, true, false, Some, Err, IfOk, IfErr, IfNone, IfSome, OnOk, OnErr, length, slice_index};
-ghost use Rattle.capnp_format.specs.Bytes.{words_of};
-ghost use Rattle.capnp_format.specs.Word.{kind, element_size};
-ghost use Rattle.capnp_format.specs.Numbers.{words_for};
-ghost use Rattle.capnp_words.specs.Sizes.{size_number};
-ghost use Rattle.capnp_objects.specs.Reading.{behind, segment_read, word_of};
-ghost use Rattle.capnp_objects.specs.Source.{levels};
-ghost use Rattle.capnp_readers.specs.Faults.{FaultIs};
-ghost use Rattle.capnp_readers.specs.Readers.{reading};
-ghost use Rattle.capnp_readers.specs.Sizes.{pointers_read, reading_on};
-ghost use Rattle.capnp_readers.specs.Checking.{progress, level_refusal_name, IsFound, AreFound, IsCanonicalAt, AreCanonicalAt, IsTested, StartsRight, Tells, TellsAll, TellsFlat, TellsStruct, TellsRows, CanBeFound, CanAllBeFound, Unread, TestStops, TestEnds, IsFault, IsUnfit, TestsEnd, RowTestsEnd, SectionsFail, RowsFail, StartsWhole, IsDataUsed, ArePointersUsed, head_behind};
+//! The test for canonical form, of what a reader is at.
+ghost use Rattle.std.specs.Prelude.{◌≡◌, ◌≢◌, ◌↔◌, None, IsOk, IsTrue, IsNone, Ok, true, false, IfOk, IfErr, IfNone, IfSome};
+ghost use Rattle.capnp_readers.specs.Readers.{read_by};
+ghost use Rattle.capnp_readers.specs.Sizes.{pointers_read};
+ghost use Rattle.capnp_pointers.specs.Checking.{progress, IsFound, AreFound, IsCanonicalAt, AreCanonicalAt, CanBeFound, CanAllBeFound, Unread, TestStops, TestEnds, IsFault, IsUnfit, TestsEnd};
+ghost use Rattle.capnp_readers.specs.Checking.{StartsWhole, IsDataUsed, ArePointersUsed, head_behind};
 
-use crate::readers::canonical_answer::{Answer, Stopped, fault_at, reason_of, refused, unanswered};
-use crate::readers::canonical_fault::{CanonicalFault, CanonicalFaultReason};
 use crate::readers::{PointerReader, StructReader};
 use capnp_arena_traits::arena::ReaderArena;
-use capnp_objects::object::{Object, Place};
 use capnp_objects::source::Source;
+use capnp_pointers::pointers::{CanonicalFault, ends_used};
 use capnp_words::error::ErrorKind;
-use capnp_words::lanes;
 use capnp_words::read_limiter::ReadLimiter;
-use capnp_words::wire_pointer::{
-    ElementSize, StructSize, WirePointer, WirePointerKind, data_bits_per_element, flat_words,
-    is_of_bits,
-};
-use capnp_words::words::word_at;
 
 impl<'a, A: ReaderArena> PointerReader<'a, A> {
     /// Whether the pointer leads to a value in canonical form, whose first object starts at the head,
@@ -49,17 +35,17 @@ impl<'a, A: ReaderArena> PointerReader<'a, A> {
     /// canonical, and what was charged until then stays charged.
     pub fn is_canonical(&self, lim: &mut ReadLimiter, head: &mut u32) -> Result<bool, ErrorKind>
         ensures exactly { IfOk result (λ b. IsTrue b
-            ↔ IsCanonicalAt (reading A.ReaderArena self.now) head.old) }
+            ↔ IsCanonicalAt (read_by A.ReaderArena self.now) head.old) }
         ensures found { IfOk result (λ b. IsTrue b
-            → IsFound (reading A.ReaderArena self.now) (progress head.old lim.old)
+            → IsFound (read_by A.ReaderArena self.now) (progress head.old lim.old)
             (progress head.new lim.new)) }
-        ensures answered { CanBeFound (reading A.ReaderArena self.now) (progress head.old lim.old)
+        ensures answered { CanBeFound (read_by A.ReaderArena self.now) (progress head.old lim.old)
             → IsOk result }
         ensures refused { IfErr result
-            (λ k. TestStops k (reading A.ReaderArena self.now)
+            (λ k. TestStops k (read_by A.ReaderArena self.now)
             (progress head.old lim.old) lim.new) }
         ensures failed { result ≡ Ok false
-            → TestEnds IsUnfit (reading A.ReaderArena self.now) (progress head.old lim.old)
+            → TestEnds IsUnfit (read_by A.ReaderArena self.now) (progress head.old lim.old)
             lim.new }
         ensures kept { (result ≡ Ok true → ⊥) → head.new ≡ head.old }
     {
@@ -79,29 +65,21 @@ impl<'a, A: ReaderArena> PointerReader<'a, A> {
         head: &mut u32,
     ) -> Result<Option<CanonicalFault>, ErrorKind>
         ensures exactly { IfOk result (λ o. IsNone o
-            ↔ IsCanonicalAt (reading A.ReaderArena self.now) head.old) }
+            ↔ IsCanonicalAt (read_by A.ReaderArena self.now) head.old) }
         ensures found { IfOk result (λ o. IfNone o
-            (IsFound (reading A.ReaderArena self.now) (progress head.old lim.old)
+            (IsFound (read_by A.ReaderArena self.now) (progress head.old lim.old)
             (progress head.new lim.new))) }
-        ensures answered { CanBeFound (reading A.ReaderArena self.now) (progress head.old lim.old)
+        ensures answered { CanBeFound (read_by A.ReaderArena self.now) (progress head.old lim.old)
             → IsOk result }
         ensures refused { IfErr result
-            (λ k. TestStops k (reading A.ReaderArena self.now)
+            (λ k. TestStops k (read_by A.ReaderArena self.now)
             (progress head.old lim.old) lim.new) }
         ensures fault { IfOk result (λ o. IfSome o
-            (λ f. TestEnds (IsFault f) (reading A.ReaderArena self.now)
+            (λ f. TestEnds (IsFault f) (read_by A.ReaderArena self.now)
             (progress head.old lim.old) lim.new)) }
         ensures kept { (result ≡ Ok None → ⊥) → head.new ≡ head.old }
     {
-        let mut answer = unanswered();
-        let nesting_limit = self.nesting_limit;
-        match test_place(self, self.place.at, nesting_limit, *head, lim, &mut answer) {
-            Ok(end) => {
-                *head = end;
-                Ok(None)
-            }
-            Err(Stopped) => Ok(Some(answer?)),
-        }
+        self.pointer().canonical_fault(lim, head)
     }
 }
 
@@ -161,33 +139,14 @@ impl<'a, A: ReaderArena> StructReader<'a, A> {
         if self.bits % 64 != 0 || self.byte != 8 * u64::from(*read_head) {
             return Ok(false);
         }
-        let first = PointerReader {
-            source: self.source,
-            place: self.pointers,
-            nesting_limit: self.nesting_limit,
-        };
         let count = u32::from(self.pointer_count);
-        let mut answer = unanswered();
-        let end = match test_children(
-            &first,
-            self.pointers.at,
-            count,
-            self.nesting_limit,
-            *ptr_head,
-            lim,
-            &mut answer,
-        ) {
-            Ok(end) => end,
-            Err(Stopped) => {
-                answer?;
-                return Ok(false);
-            }
-        };
+        if !self.pointers().are_canonical(count, lim, ptr_head)? {
+            return Ok(false);
+        }
         let data_words = self.bits / 64;
         *data_trunc = ends_used(self.pointers, *read_head, data_words);
         *ptr_trunc = ends_used(self.pointers, self.pointers.at, count);
         *read_head = read_head.saturating_add(data_words + count);
-        *ptr_head = end;
         Ok(true)
     }
 
@@ -251,534 +210,5 @@ impl<'a, A: ReaderArena> StructReader<'a, A> {
             Source::Nothing => false,
             Source::Arena(_) | Source::Default(_) => true,
         }
-    }
-}
-
-/// Tests the pointer at a position, the first object being at a head: the head behind the canonical
-/// words, if there are any. All lies in one segment, whose reader serves every level.
-#[cycle(tests)]
-#[inline(always)]
-fn test_place<A: ReaderArena>(
-    from: &PointerReader<'_, A>,
-    at: u32,
-    nesting_limit: i32,
-    head: u32,
-    lim: &mut ReadLimiter,
-    answer: &mut Answer,
-) -> Result<u32, Stopped>
-    ensures tells { IfOk result (λ end.
-        Tells (reading_on A.ReaderArena from.now at nesting_limit)
-        (progress head lim.old) lim.new (Some end)) }
-    ensures never { OnErr result (OnOk answer.new
-        (Tells (reading_on A.ReaderArena from.now at nesting_limit)
-        (progress head lim.old) lim.new None)) }
-    ensures refused { OnErr result (IfErr answer.new
-        (λ k. TestStops k (reading_on A.ReaderArena from.now at nesting_limit)
-        (progress head lim.old) lim.new)) }
-    ensures failed { OnErr result (IfOk answer.new (λ f. TestEnds (IsFault f)
-        (reading_on A.ReaderArena from.now at nesting_limit)
-        (progress head lim.old) lim.new)) }
-{
-    let word = Place { at, ..from.place }.word();
-    if at as usize >= whole_words(from.place.bytes) {
-        return Err(fault_at(answer, from.place, at, CanonicalFaultReason::NoPointer));
-    }
-    if !word.is_positional() {
-        return Err(fault_at(answer, from.place, at, reason_of(word)));
-    }
-    if word.is_null() {
-        return Ok(head);
-    }
-    match word.kind() {
-        WirePointerKind::Struct => test_struct(from, at, word, nesting_limit, head, lim, answer),
-        _ if is_of_bits(word) => test_near_flat(from, at, word, nesting_limit, head, lim, answer),
-        _ => test_list(from, at, word, nesting_limit, head, lim, answer),
-    }
-}
-
-/// Tests so many pointers, one behind the other from a position on.
-#[cycle(tests)]
-fn test_children<A: ReaderArena>(
-    from: &PointerReader<'_, A>,
-    at: u32,
-    count: u32,
-    nesting_limit: i32,
-    first: u32,
-    lim: &mut ReadLimiter,
-    answer: &mut Answer,
-) -> Result<u32, Stopped>
-    requires inside { at + count ≤ length (segment_read (reading A.ReaderArena from.now)) }
-    ensures tells { IfOk result (λ end.
-        TellsAll (reading_on A.ReaderArena from.now at nesting_limit) count
-        (progress first lim.old) lim.new (Some end)) }
-    ensures never { OnErr result (OnOk answer.new
-        (TellsAll (reading_on A.ReaderArena from.now at nesting_limit) count
-        (progress first lim.old) lim.new None)) }
-    ensures refused { OnErr result (IfErr answer.new (λ k. TestsEnd (Unread k)
-        (reading_on A.ReaderArena from.now at nesting_limit) count
-        (progress first lim.old) lim.new)) }
-    ensures failed { OnErr result (IfOk answer.new (λ f. TestsEnd (IsFault f)
-        (reading_on A.ReaderArena from.now at nesting_limit) count
-        (progress first lim.old) lim.new)) }
-{
-    let mut head = first;
-    for i in 0..count {
-        head = test_place(from, at + i, nesting_limit, head, lim, answer)?;
-    }
-    Ok(head)
-}
-
-/// Tests the struct that the word at a position describes.
-#[cycle(tests)]
-#[inline(always)]
-fn test_struct<A: ReaderArena>(
-    from: &PointerReader<'_, A>,
-    at: u32,
-    word: WirePointer,
-    nesting_limit: i32,
-    head: u32,
-    lim: &mut ReadLimiter,
-    answer: &mut Answer,
-) -> Result<u32, Stopped>
-    requires tested { IsTested (reading_on A.ReaderArena from.now at nesting_limit) }
-    requires there { word.0 ≡ word_of (reading_on A.ReaderArena from.now at nesting_limit) }
-    requires some { word.0 ≢ 0 }
-    requires is_struct { kind word.0 ≡ 0 }
-    ensures tells { IfOk result (λ end.
-        Tells (reading_on A.ReaderArena from.now at nesting_limit)
-        (progress head lim.old) lim.new (Some end)) }
-    ensures never { OnErr result (OnOk answer.new
-        (Tells (reading_on A.ReaderArena from.now at nesting_limit)
-        (progress head lim.old) lim.new None)) }
-    ensures refused { OnErr result (IfErr answer.new
-        (λ k. TestStops k (reading_on A.ReaderArena from.now at nesting_limit)
-        (progress head lim.old) lim.new)) }
-    ensures failed { OnErr result (IfOk answer.new (λ f. TestEnds (IsFault f)
-        (reading_on A.ReaderArena from.now at nesting_limit)
-        (progress head lim.old) lim.new)) }
-{
-    let place = Place { at, ..from.place };
-    let start = match from
-        .source
-        .read_near_struct(place, word, nesting_limit, lim)
-    {
-        Ok(start) => start,
-        Err(kind) => return Err(refused(answer, word, kind)),
-    };
-    let size = word.struct_size();
-    if size.total() == 0 {
-        if start == at {
-            return Ok(head);
-        }
-        return Err(fault_at(
-            answer,
-            from.place,
-            at,
-            CanonicalFaultReason::EmptyStructPlace,
-        ));
-    }
-    if start != head {
-        return Err(fault_at(answer, from.place, at, CanonicalFaultReason::ObjectPlace));
-    }
-    test_sections(from, start, size, less(nesting_limit), lim, answer)
-}
-
-/// Tests the sections of a struct that starts at a position, its first object being right behind it.
-#[cycle(tests)]
-#[inline(always)]
-fn test_sections<A: ReaderArena>(
-    from: &PointerReader<'_, A>,
-    start: u32,
-    size: StructSize,
-    nesting_limit: i32,
-    lim: &mut ReadLimiter,
-    answer: &mut Answer,
-) -> Result<u32, Stopped>
-    requires inside { start + (size.data_words + size.pointers)
-        ≤ length (segment_read (reading A.ReaderArena from.now)) }
-    ensures tells { IfOk result (λ end.
-        TellsStruct (reading_on A.ReaderArena from.now start nesting_limit) size
-        lim.old lim.new (Some end)) }
-    ensures never { OnErr result (OnOk answer.new
-        (TellsStruct (reading_on A.ReaderArena from.now start nesting_limit) size
-        lim.old lim.new None)) }
-    ensures refused { OnErr result (IfErr answer.new (λ k. TestsEnd (Unread k)
-        (behind (reading_on A.ReaderArena from.now start nesting_limit) size.data_words)
-        size.pointers (progress (start + size.data_words + size.pointers) lim.old) lim.new)) }
-    ensures failed { OnErr result (IfOk answer.new (λ f. SectionsFail f
-        (reading_on A.ReaderArena from.now start nesting_limit) size lim.old lim.new)) }
-{
-    let data_words = u32::from(size.data_words);
-    let pointers = u32::from(size.pointers);
-    let first = start + data_words;
-    let behind = first + pointers;
-    let end = test_row(from, first, pointers, nesting_limit, behind, lim, answer)?;
-    if !ends_used(from.place, start, data_words) {
-        return Err(fault_at(
-            answer,
-            from.place,
-            first - 1,
-            CanonicalFaultReason::DataSection,
-        ));
-    }
-    if !ends_used(from.place, first, pointers) {
-        return Err(fault_at(
-            answer,
-            from.place,
-            behind - 1,
-            CanonicalFaultReason::PointerSection,
-        ));
-    }
-    Ok(end)
-}
-
-/// Tests the list of bits or bytes that the word at a position describes, as `test_list` does.
-#[inline(always)]
-fn test_near_flat<A: ReaderArena>(
-    from: &PointerReader<'_, A>,
-    at: u32,
-    word: WirePointer,
-    nesting_limit: i32,
-    head: u32,
-    lim: &mut ReadLimiter,
-    answer: &mut Answer,
-) -> Result<u32, Stopped>
-    requires tested { IsTested (reading_on A.ReaderArena from.now at nesting_limit) }
-    requires there { word.0 ≡ word_of (reading_on A.ReaderArena from.now at nesting_limit) }
-    requires small { word.0 < 2 ^ 64 }
-    requires is_list { kind word.0 ≡ 1 }
-    requires of_bits { (0 < element_size word.0) × (element_size word.0 ≤ 5) }
-    ensures tells { IfOk result (λ end.
-        Tells (reading_on A.ReaderArena from.now at nesting_limit)
-        (progress head lim.old) lim.new (Some end)) }
-    ensures never { OnErr result (OnOk answer.new
-        (Tells (reading_on A.ReaderArena from.now at nesting_limit)
-        (progress head lim.old) lim.new None)) }
-    ensures refused { OnErr result (IfErr answer.new
-        (λ k. TestStops k (reading_on A.ReaderArena from.now at nesting_limit)
-        (progress head lim.old) lim.new)) }
-    ensures failed { OnErr result (IfOk answer.new (λ f. TestEnds (IsFault f)
-        (reading_on A.ReaderArena from.now at nesting_limit)
-        (progress head lim.old) lim.new)) }
-{
-    let size = word.list_element_size();
-    let count = word.list_element_count();
-    let place = Place { at, ..from.place };
-    let words = flat_words(size, count);
-    let start = match from
-        .source
-        .read_near_flat(place, word, words, nesting_limit, lim)
-    {
-        Ok(start) => start,
-        Err(kind) => return Err(refused(answer, word, kind)),
-    };
-    if start != head {
-        return Err(fault_at(answer, from.place, at, CanonicalFaultReason::ObjectPlace));
-    }
-    let first = Place {
-        at: start,
-        ..from.place
-    };
-    test_flat(first, size, count, answer)
-}
-
-/// Tests the list that the word at a position describes.
-#[cycle(tests)]
-#[inline(never)]
-fn test_list<A: ReaderArena>(
-    from: &PointerReader<'_, A>,
-    at: u32,
-    word: WirePointer,
-    nesting_limit: i32,
-    head: u32,
-    lim: &mut ReadLimiter,
-    answer: &mut Answer,
-) -> Result<u32, Stopped>
-    requires tested { IsTested (reading_on A.ReaderArena from.now at nesting_limit) }
-    requires there { word.0 ≡ word_of (reading_on A.ReaderArena from.now at nesting_limit) }
-    requires is_list { kind word.0 ≡ 1 }
-    ensures tells { IfOk result (λ end.
-        Tells (reading_on A.ReaderArena from.now at nesting_limit)
-        (progress head lim.old) lim.new (Some end)) }
-    ensures never { OnErr result (OnOk answer.new
-        (Tells (reading_on A.ReaderArena from.now at nesting_limit)
-        (progress head lim.old) lim.new None)) }
-    ensures refused { OnErr result (IfErr answer.new
-        (λ k. TestStops k (reading_on A.ReaderArena from.now at nesting_limit)
-        (progress head lim.old) lim.new)) }
-    ensures failed { OnErr result (IfOk answer.new (λ f. TestEnds (IsFault f)
-        (reading_on A.ReaderArena from.now at nesting_limit)
-        (progress head lim.old) lim.new)) }
-{
-    let place = Place { at, ..from.place };
-    let object = match from.source.read_object(place, nesting_limit, lim) {
-        Ok(object) => object,
-        Err(kind) => return Err(refused(answer, word, kind)),
-    };
-    if !starts_right(object, at, head) {
-        return Err(fault_at(answer, from.place, at, CanonicalFaultReason::ObjectPlace));
-    }
-    match object {
-        Object::Flat { start, size, count } => test_flat(start, size, count, answer),
-        Object::Pointers { start, count } => {
-            let end = start.at + count;
-            test_children(from, start.at, count, less(nesting_limit), end, lim, answer)
-        }
-        Object::Structs { start, size, count } => {
-            let claimed = word.list_inline_composite_word_count();
-            let inner = less(nesting_limit);
-            test_structs(from, start.at, size, count, inner, claimed, lim, answer)
-        }
-        _ => Err(fault_at(answer, from.place, at, CanonicalFaultReason::ObjectPlace)),
-    }
-}
-
-/// Tests the elements of a list of structs that start at a place, where the list claims so many words.
-#[cycle(tests)]
-fn test_structs<A: ReaderArena>(
-    from: &PointerReader<'_, A>,
-    start: u32,
-    size: StructSize,
-    count: u32,
-    nesting_limit: i32,
-    claimed: u32,
-    lim: &mut ReadLimiter,
-    answer: &mut Answer,
-) -> Result<u32, Stopped>
-    requires inside { start + claimed ≤ length (segment_read (reading A.ReaderArena from.now)) }
-    requires tagged { 0 < start }
-    ensures tells { IfOk result (λ end. (count * (size.data_words + size.pointers) ≡ claimed)
-        × TellsRows (reading_on A.ReaderArena from.now start nesting_limit) size count
-        (progress (start + claimed) lim.old) lim.new (Some end)) }
-    ensures never { OnErr result (OnOk answer.new
-        (count * (size.data_words + size.pointers) ≡ claimed
-        → TellsRows (reading_on A.ReaderArena from.now start nesting_limit) size count
-        (progress (start + claimed) lim.old) lim.new None)) }
-    ensures exact { OnErr result (OnErr answer.new
-        (count * (size.data_words + size.pointers) ≡ claimed)) }
-    ensures refused { OnErr result (IfErr answer.new (λ k. RowTestsEnd (Unread k)
-        (reading_on A.ReaderArena from.now start nesting_limit) size count
-        (progress (start + claimed) lim.old) lim.new)) }
-    ensures failed { OnErr result (IfOk answer.new (λ f.
-        (FaultIs f CanonicalFaultReason.ElementWords from.now.place.segment (start - 1)
-        × (count * (size.data_words + size.pointers) ≢ claimed) × (lim.new ≡ lim.old))
-        ⊎ ((count * (size.data_words + size.pointers) ≡ claimed)
-        × RowsFail f (reading_on A.ReaderArena from.now start nesting_limit) size count
-        lim.old lim.new))) }
-{
-    if u64::from(count) * u64::from(size.total()) != u64::from(claimed) {
-        return Err(fault_at(
-            answer,
-            from.place,
-            start - 1,
-            CanonicalFaultReason::ElementWords,
-        ));
-    }
-    if size.total() == 0 {
-        return Ok(start);
-    }
-    test_rows(from, start, size, count, nesting_limit, lim, answer)
-}
-
-/// Tests so many elements of a list of structs, one behind the other from a place on, their first
-/// object being right behind them.
-#[cycle(tests)]
-fn test_rows<A: ReaderArena>(
-    from: &PointerReader<'_, A>,
-    start: u32,
-    size: StructSize,
-    count: u32,
-    nesting_limit: i32,
-    lim: &mut ReadLimiter,
-    answer: &mut Answer,
-) -> Result<u32, Stopped>
-    requires inside { start + count * (size.data_words + size.pointers)
-        ≤ length (segment_read (reading A.ReaderArena from.now)) }
-    requires tagged { 0 < start }
-    ensures tells { IfOk result (λ end.
-        TellsRows (reading_on A.ReaderArena from.now start nesting_limit) size count
-        (progress (start + count * (size.data_words + size.pointers)) lim.old) lim.new (Some end)) }
-    ensures never { OnErr result (OnOk answer.new
-        (TellsRows (reading_on A.ReaderArena from.now start nesting_limit) size count
-        (progress (start + count * (size.data_words + size.pointers)) lim.old) lim.new None)) }
-    ensures refused { OnErr result (IfErr answer.new (λ k. RowTestsEnd (Unread k)
-        (reading_on A.ReaderArena from.now start nesting_limit) size count
-        (progress (start + count * (size.data_words + size.pointers)) lim.old) lim.new)) }
-    ensures failed { OnErr result (IfOk answer.new (λ f. RowsFail f
-        (reading_on A.ReaderArena from.now start nesting_limit) size count
-        lim.old lim.new)) }
-{
-    let data_words = u32::from(size.data_words);
-    let pointers = u32::from(size.pointers);
-    let width = data_words + pointers;
-    let mut head = start + count * width;
-    let mut is_data_used = data_words == 0;
-    let mut are_pointers_used = pointers == 0;
-    for i in 0..count {
-        let at = start + i * width;
-        let first = at + data_words;
-        head = test_row(from, first, pointers, nesting_limit, head, lim, answer)?;
-        is_data_used = is_data_used || ends_used(from.place, at, data_words);
-        are_pointers_used = are_pointers_used || ends_used(from.place, first, pointers);
-    }
-    if !is_data_used {
-        return Err(fault_at(
-            answer,
-            from.place,
-            start - 1,
-            CanonicalFaultReason::ElementData,
-        ));
-    }
-    if !are_pointers_used {
-        return Err(fault_at(
-            answer,
-            from.place,
-            start - 1,
-            CanonicalFaultReason::ElementPointers,
-        ));
-    }
-    Ok(head)
-}
-
-/// Tests so many pointers of a struct, one behind the other from a position on. Where there are none
-/// nothing is called.
-#[cycle(tests)]
-#[inline(always)]
-fn test_row<A: ReaderArena>(
-    from: &PointerReader<'_, A>,
-    at: u32,
-    count: u32,
-    nesting_limit: i32,
-    first: u32,
-    lim: &mut ReadLimiter,
-    answer: &mut Answer,
-) -> Result<u32, Stopped>
-    requires inside { at + count ≤ length (segment_read (reading A.ReaderArena from.now)) }
-    ensures tells { IfOk result (λ end.
-        TellsAll (reading_on A.ReaderArena from.now at nesting_limit) count
-        (progress first lim.old) lim.new (Some end)) }
-    ensures never { OnErr result (OnOk answer.new
-        (TellsAll (reading_on A.ReaderArena from.now at nesting_limit) count
-        (progress first lim.old) lim.new None)) }
-    ensures refused { OnErr result (IfErr answer.new (λ k. TestsEnd (Unread k)
-        (reading_on A.ReaderArena from.now at nesting_limit) count
-        (progress first lim.old) lim.new)) }
-    ensures failed { OnErr result (IfOk answer.new (λ f. TestsEnd (IsFault f)
-        (reading_on A.ReaderArena from.now at nesting_limit) count
-        (progress first lim.old) lim.new)) }
-{
-    if count == 0 {
-        return Ok(first);
-    }
-    test_children(from, at, count, nesting_limit, first, lim, answer)
-}
-
-/// Tests a list of numbers that starts at a place: the bits behind the last one have to be zero.
-#[inline(always)]
-fn test_flat(
-    start: Place,
-    size: ElementSize,
-    count: u32,
-    answer: &mut Answer,
-) -> Result<u32, Stopped>
-    requires inside { start.at + words_for (size_number size) count
-        ≤ length (words_of start.bytes.now) }
-    requires small { length (words_of start.bytes.now) < 2 ^ 32 }
-    requires is_flat { size_number size ≤ 5 }
-    requires few { count < 2 ^ 29 }
-    ensures tells { IfOk result (λ end.
-        TellsFlat (words_of start.entry.bytes.now) start.entry.at size count (Some end)) }
-    ensures never { OnErr result
-        (TellsFlat (words_of start.entry.bytes.now) start.entry.at size count None) }
-    ensures failed { OnErr result (answer.new ≡ Ok (record {
-      segment = start.entry.segment;
-      word = start.entry.at + words_for (size_number size) count - 1;
-      reason = CanonicalFaultReason.Padding;
-    })) }
-{
-    match padded_end(start.bytes, start.at, size, count) {
-        Ok(end) => Ok(end),
-        Err(word) => Err(fault_at(answer, start, word, CanonicalFaultReason::Padding)),
-    }
-}
-
-/// The position behind a list of numbers that starts at one, or that of the word which has other bits than
-/// zeros behind the last number.
-#[inline(always)]
-fn padded_end(bytes: &[u8], start: u32, size: ElementSize, count: u32) -> Result<u32, u32>
-    requires inside { start + words_for (size_number size) count ≤ length (words_of bytes.now) }
-    requires small { length (words_of bytes.now) < 2 ^ 32 }
-    requires is_flat { size_number size ≤ 5 }
-    requires few { count < 2 ^ 29 }
-    ensures tells { IfOk result (λ end.
-        TellsFlat (words_of bytes.now) start size count (Some end)) }
-    ensures never { OnErr result (TellsFlat (words_of bytes.now) start size count None) }
-    ensures word { IfErr result (λ i. i ≡ start + words_for (size_number size) count - 1) }
-{
-    let bits = u64::from(count) * u64::from(data_bits_per_element(size));
-    let end = start + (bits / 64) as u32;
-    let rest = bits % 64;
-    if rest == 0 {
-        return Ok(end);
-    }
-    if !is_zero_from(word_at(bytes, end as usize), rest) {
-        return Err(end);
-    }
-    Ok(end + 1)
-}
-
-/// Whether the bits of a word from a position on are zero.
-#[inline(always)]
-fn is_zero_from(word: u64, position: u64) -> bool
-    requires { position < 64 }
-    ensures { IsTrue result ↔ (word / 2 ^ position ≡ 0) }
-{
-    lanes::is_zero((word >> position).to_le_bytes().as_slice())
-}
-
-/// How many whole words bytes have, each of which is one of 64 bits.
-fn whole_words(bytes: &[u8]) -> usize
-    ensures count { result ≡ length (words_of bytes.now) }
-    ensures small { (i : ℕ) → slice_index (words_of bytes.now) i < 2 ^ 64 }
-{
-    bytes.len() / 8
-}
-
-/// Whether there are none of so many words from a position on, or the last isn't zero.
-fn ends_used(place: Place, at: u32, count: u32) -> bool
-    requires { at + count < 2 ^ 32 }
-    ensures { IsTrue result
-        ↔ (count ≡ 0) ⊎ (slice_index (words_of place.entry.bytes.now) (at + count - 1) ≢ 0) }
-{
-    if count == 0 {
-        return true;
-    }
-    let last = Place {
-        at: at + count - 1,
-        ..place
-    };
-    !last.word().is_null()
-}
-
-/// A nesting limit of one level less.
-fn less(nesting_limit: i32) -> i32
-    ensures { levels result ≡ pred (levels nesting_limit) }
-{
-    nesting_limit.saturating_sub(1)
-}
-
-/// Whether the object of the pointer at a position starts where canonical form has it: a struct of no
-/// words at the pointer itself, and any other at the head, a list of structs with its tag.
-fn starts_right(object: Object, at: u32, head: u32) -> bool
-    ensures { IsTrue result ↔ StartsRight object.entry at head }
-{
-    match object {
-        Object::Null => true,
-        Object::Capability(_) => false,
-        Object::Struct { start, size } if size.total() == 0 => start.at == at,
-        Object::Struct { start, .. } => start.at == head,
-        Object::Flat { start, .. } => start.at == head,
-        Object::Pointers { start, .. } => start.at == head,
-        Object::Structs { start, .. } => u64::from(start.at) == u64::from(head) + 1,
     }
 }

@@ -6,6 +6,7 @@ ghost use Rattle.capnp_words.specs.declared.wire_pointer.ElementSize.TheVariants
 ghost use Rattle.capnp_format.specs.Numbers.{element_bits, from_digits};
 ghost use Rattle.capnp_words.specs.Sizes.{size_number};
 ghost use Rattle.capnp_objects.specs.Reading.{source_start};
+ghost use Rattle.capnp_pointers.specs.Rows.{rows_sized};
 ghost use Rattle.capnp_objects.specs.Objects.{IsHeld};
 ghost use Rattle.capnp_readers.specs.Sections.{IsPart, HasWordsFrom, HoldsPointer, elements_words, pointers_behind, bit_at, step_bits, data_bits, low_data};
 
@@ -164,8 +165,7 @@ impl<'a, A: ReaderArena> ListReader<'a, A> {
         ensures source { result.source ≡ source.entry }
         ensures size { result.element_size ≡ element_size }
         ensures shows { ShowsList A.ReaderArena (source_start A.ReaderArena source.entry).segments
-            result start.entry.segment start.entry.at count struct_size.data_words
-            struct_size.pointers }
+            result start.entry.segment start.entry.at (rows_sized struct_size count) }
         ensures nesting { result.nesting_limit ≡ nesting_limit }
     {
         let first = 8 * start.at as usize;

@@ -2,7 +2,8 @@
 ghost use Rattle.std.specs.Prelude.{◌≡◌, ◌<◌, ◌≤◌, ◌+◌, ◌*◌, ◌/◌, ◌^◌, ◌↔◌, ℕ, pos, [], true, false, ⊤, IsTrue, length, take, drop, slice_range};
 ghost use Rattle.capnp_format.specs.Bytes.{message};
 ghost use Rattle.capnp_format.specs.Segments.{word_at, segment};
-ghost use Rattle.capnp_objects.specs.Reading.{source_start};
+ghost use Rattle.capnp_objects.specs.Reading.{source_start, sized};
+ghost use Rattle.capnp_pointers.specs.Rows.{rows_sized};
 ghost use Rattle.capnp_objects.specs.Objects.{IsHeld};
 ghost use Rattle.capnp_readers.specs.Sections.{IsPart, IsInside, HasWordsFrom, bit_at, bytes_for};
 
@@ -10,6 +11,7 @@ use crate::readers::{ListReader, NO_SECTIONS, PointerReader};
 use capnp_arena_traits::arena::ReaderArena;
 use capnp_objects::object::Place;
 use capnp_objects::source::Source;
+use capnp_pointers::pointers::Pointer;
 use capnp_words::mask::Mask;
 use capnp_words::primitive::Primitive;
 use capnp_words::wire_pointer::{ElementSize, StructSize};
@@ -132,7 +134,7 @@ impl<'a, A: ReaderArena> StructReader<'a, A> {
             (size.data_words + size.pointers) }
         ensures source { result.source ≡ source.entry }
         ensures shows { ShowsStruct A.ReaderArena (source_start A.ReaderArena source.entry).segments
-            result start.entry.segment start.entry.at size.data_words size.pointers }
+            result start.entry.segment start.entry.at size }
         ensures nesting { result.nesting_limit ≡ nesting_limit }
     {
         let first = 8 * start.at as usize;
@@ -163,6 +165,20 @@ impl<'a, A: ReaderArena> StructReader<'a, A> {
         ensures { result ≡ self.now.pointer_count }
     {
         self.pointer_count
+    }
+
+    // The first pointer of the pointer section, or where it would stand.
+    #[inline(always)]
+    pub(crate) fn pointers(&self) -> Pointer<'a, A>
+        ensures source { result.source ≡ self.now.source }
+        ensures place { result.place ≡ self.now.pointers }
+        ensures nesting { result.nesting_limit ≡ self.now.nesting_limit }
+    {
+        Pointer {
+            source: self.source,
+            place: self.pointers,
+            nesting_limit: self.nesting_limit,
+        }
     }
 
     /// A pointer of the pointer section, and from nothing where it doesn't have so many.
@@ -199,7 +215,8 @@ impl<'a, A: ReaderArena> StructReader<'a, A> {
         ensures size { result.element_size ≡ ElementSize.Pointer }
         ensures shows { ShowsList A.ReaderArena
             (source_start A.ReaderArena self.now.source).segments
-            result self.now.pointers.segment self.now.pointers.at self.now.pointer_count 0 0 }
+            result self.now.pointers.segment self.now.pointers.at
+            (rows_sized (sized 0 0) self.now.pointer_count) }
         ensures nesting { result.nesting_limit ≡ self.now.nesting_limit }
     {
         ListReader::of_words(

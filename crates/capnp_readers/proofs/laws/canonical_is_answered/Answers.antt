@@ -1,4 +1,4 @@
-use Rattle.capnp_readers.proofs.NeverStops.{stops_never, row_stops_never}
+use Rattle.capnp_pointers.proofs.NeverStops.{stops_never, row_stops_never}
 use Rattle.capnp_readers.proofs.laws.canonical_is_answered.Goals as goal
 
 pub returns-clause-place : goal.returns-clause-place

@@ -1,6 +1,6 @@
 use Rattle.std.proofs.Common.{inl, inr}
 use Rattle.capnp_objects.proofs.Expecting.{IsReadAt, struct_given}
-use Rattle.capnp_readers.specs.Readers.{reading}
+use Rattle.capnp_readers.specs.Readers.{read_by}
 use Rattle.capnp_readers.proofs.Answering.{IsShown, no_struct}
 use Rattle.capnp_readers.proofs.readers.PointerReader.get_struct.Goals as goal
 
@@ -8,21 +8,21 @@ pub target_of-requires : goal.target_of-requires
 target_of-requires g c =
     let m = c.args.lim.now in
     let m' = c.expect.new.lim in
-    let read : IsReadAt (reading g.A.ReaderArena c.in_ok-found.found.0) m m' c.in_ok-found.found.1 = record { object = c.in_ok-found.ensures.object } in
+    let read : IsReadAt (read_by g.A.ReaderArena c.in_ok-found.found.0) m m' c.in_ok-found.found.1 = record { object = c.in_ok-found.ensures.object } in
     record { read = (m, m', struct_given c.in_ok-found.found.1 c.in_ok-found.ensures.given read) }
 
 pub returns-in-Struct-clause-read : goal.returns-in-Struct-clause-read
 returns-in-Struct-clause-read g c =
     let m = c.args.lim.now in
     let m' = c.expect.new.lim in
-    let read : IsReadAt (reading g.A.ReaderArena c.in_ok-found.found.0) m m' c.in_ok-found.found.1 = record { object = c.in_ok-found.ensures.object } in
+    let read : IsReadAt (read_by g.A.ReaderArena c.in_ok-found.found.0) m m' c.in_ok-found.found.1 = record { object = c.in_ok-found.ensures.object } in
     (c.in_ok-found.found.0, c.in_ok-found.ensures.read, inr (rw c.in-Struct.is at (c.target_of.ensures m m' (struct_given c.in_ok-found.found.1 c.in_ok-found.ensures.given read))))
 
 pub returns-in_default-clause-read : goal.returns-in_default-clause-read
 returns-in_default-clause-read g c =
     let m = c.args.lim.now in
     let m' = c.expect.new.lim in
-    let read : IsReadAt (reading g.A.ReaderArena c.in_ok-found.found.0) m m' c.in_ok-found.found.1 = record { object = c.in_ok-found.ensures.object } in
+    let read : IsReadAt (read_by g.A.ReaderArena c.in_ok-found.found.0) m m' c.in_ok-found.found.1 = record { object = c.in_ok-found.ensures.object } in
     let target = c.target_of.ensures m m' (struct_given c.in_ok-found.found.1 c.in_ok-found.ensures.given read) in
     let shown : IsShown g.A.ReaderArena c.in_ok-found.found.0 m m' c.in_ok-found.found.1 c.target_of.result = record { read = read; target = target } in
     let null = no_struct g.A.ReaderArena c.target_of.result c.in_ok-found.ensures.given shown c.in_default.not-Struct in

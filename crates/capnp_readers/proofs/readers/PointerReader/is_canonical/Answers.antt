@@ -1,4 +1,4 @@
-use Rattle.capnp_readers.proofs.Fails.{some_unfit}
+use Rattle.capnp_pointers.proofs.Fails.{some_unfit}
 use Rattle.capnp_readers.proofs.readers.PointerReader.is_canonical.Goals as goal
 
 pub returns-clause-failed : goal.returns-clause-failed

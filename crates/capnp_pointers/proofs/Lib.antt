@@ -1,0 +1,12 @@
+pub mod Walking
+pub mod Chains
+pub mod Used
+pub mod Growing
+pub mod Accepts
+pub mod Found
+pub mod Exactly
+pub mod Takes
+pub mod NearRead
+pub mod Checks
+pub mod Fails
+pub mod NeverStops

@@ -1,0 +1,34 @@
+use Rattle.std.proofs.Common.{◌+◌, ◌*◌}
+use Rattle.capnp_objects.specs.Reading.{sized}
+use Rattle.capnp_objects.specs.Source.{levels}
+use Rattle.capnp_objects.specs.Sizing.{WalksPointers}
+use Rattle.capnp_pointers.specs.Pointers.{reading, reading_on}
+use Rattle.capnp_pointers.specs.Sizes.{so_far}
+use Rattle.capnp_pointers.proofs.pointers.sizes.+sizes.Given as goal
+use Rattle.capnp_objects.proofs.Shorthands.{WalksRows}
+
+abbrev pub decreases-add_pointers : goal.decreases-add_pointers
+decreases-add_pointers g l = 6 * levels l.nesting_limit + 4
+
+abbrev pub decreases-add_row : goal.decreases-add_row
+decreases-add_row g l = 6 * levels l.nesting_limit + 3
+
+abbrev pub decreases-add_pointer : goal.decreases-add_pointer
+decreases-add_pointer g l = 6 * levels l.nesting_limit + 2
+
+abbrev pub decreases-add_struct : goal.decreases-add_struct
+decreases-add_struct g l = 6 * levels l.nesting_limit + 1
+
+abbrev pub decreases-add_object : goal.decreases-add_object
+decreases-add_object g l = 6 * levels l.nesting_limit + 1
+
+abbrev pub decreases-add_rows : goal.decreases-add_rows
+decreases-add_rows g l = 6 * levels l.from.now.nesting_limit + 4
+
+abbrev pub invariant-add_row-loop-i : goal.invariant-add_row-loop-i
+invariant-add_row-loop-i g l =
+    WalksPointers (reading_on g.A.ReaderArena l.from l.at l.nesting_limit) l.i (so_far l.fn.walk.sums.size l.fn.walk.lim) (so_far l.walk.sums.size l.walk.lim)
+
+abbrev pub invariant-add_rows-loop-i : goal.invariant-add_rows-loop-i
+invariant-add_rows-loop-i g l =
+    WalksRows (reading g.A.ReaderArena l.from) (sized l.data_words l.pointers) l.i (so_far l.fn.walk.sums.size l.fn.walk.lim) (so_far l.walk.sums.size l.walk.lim)

@@ -1,0 +1,45 @@
+-- What a fault of a message in canonical form says, and its text ("Canonicalization").
+use Rattle.std.specs.Prelude.{◌≡◌, ℕ, List, codes, if◌then◌else◌, nat_eq}
+use Rattle.capnp_format.specs.Word.{kind, lower_half}
+use Rattle.capnp_pointers.specs.declared.pointers.canonical_fault.CanonicalFault.{CanonicalFault}
+use Rattle.capnp_pointers.specs.declared.pointers.canonical_fault.CanonicalFaultReason.{CanonicalFaultReason}
+use Rattle.capnp_pointers.specs.declared.pointers.canonical_fault.CanonicalFaultReason.TheVariants.{SegmentCount}
+use Rattle.capnp_pointers.specs.declared.pointers.canonical_fault.CanonicalFaultReason.TheVariants.{NoPointer}
+use Rattle.capnp_pointers.specs.declared.pointers.canonical_fault.CanonicalFaultReason.TheVariants.{FarPointer}
+use Rattle.capnp_pointers.specs.declared.pointers.canonical_fault.CanonicalFaultReason.TheVariants.{Capability}
+use Rattle.capnp_pointers.specs.declared.pointers.canonical_fault.CanonicalFaultReason.TheVariants.{UnknownPointer}
+use Rattle.capnp_pointers.specs.declared.pointers.canonical_fault.CanonicalFaultReason.TheVariants.{EmptyStructPlace}
+use Rattle.capnp_pointers.specs.declared.pointers.canonical_fault.CanonicalFaultReason.TheVariants.{ObjectPlace}
+use Rattle.capnp_pointers.specs.declared.pointers.canonical_fault.CanonicalFaultReason.TheVariants.{Padding}
+use Rattle.capnp_pointers.specs.declared.pointers.canonical_fault.CanonicalFaultReason.TheVariants.{DataSection}
+use Rattle.capnp_pointers.specs.declared.pointers.canonical_fault.CanonicalFaultReason.TheVariants.{PointerSection}
+use Rattle.capnp_pointers.specs.declared.pointers.canonical_fault.CanonicalFaultReason.TheVariants.{ElementWords}
+use Rattle.capnp_pointers.specs.declared.pointers.canonical_fault.CanonicalFaultReason.TheVariants.{ElementData}
+use Rattle.capnp_pointers.specs.declared.pointers.canonical_fault.CanonicalFaultReason.TheVariants.{ElementPointers}
+use Rattle.capnp_pointers.specs.declared.pointers.canonical_fault.CanonicalFaultReason.TheVariants.{WordsBehind}
+
+-- the text of a reason
+abbrev pub fault_reason_text : CanonicalFaultReason → List ℕ
+fault_reason_text SegmentCount = codes "not exactly one segment"
+fault_reason_text NoPointer = codes "no word for a pointer"
+fault_reason_text FarPointer = codes "a far pointer"
+fault_reason_text Capability = codes "a capability"
+fault_reason_text UnknownPointer = codes "a pointer of no known kind"
+fault_reason_text EmptyStructPlace = codes "an empty struct that isn't at its pointer"
+fault_reason_text ObjectPlace = codes "an object that isn't where the last one ended"
+fault_reason_text Padding = codes "padding that isn't zero"
+fault_reason_text DataSection = codes "a data section whose last word is zero"
+fault_reason_text PointerSection = codes "a pointer section whose last pointer is null"
+fault_reason_text ElementWords = codes "a struct list that claims other words than it has"
+fault_reason_text ElementData = codes "a struct list that could do with less data"
+fault_reason_text ElementPointers = codes "a struct list that could do with fewer pointers"
+fault_reason_text WordsBehind = codes "words behind the value"
+
+-- A fault names a word of a segment, for this reason.
+abbrev pub FaultIs : CanonicalFault → CanonicalFaultReason → ℕ → ℕ → Type 0
+FaultIs f reason s p = (f.reason ≡ reason) × (f.segment ≡ s) × (f.word ≡ p)
+
+-- Why a pointer that is neither of a struct nor of a list isn't canonical, by its word.
+abbrev pub other_reason : ℕ → CanonicalFaultReason
+other_reason w = if nat_eq (kind w) 2 then FarPointer else if nat_eq (lower_half w) 3 then
+    Capability else UnknownPointer

@@ -1,0 +1,611 @@
+//! The test for canonical form, in place.
+ghost use Rattle.std.specs.Prelude.{ℕ, ◌≡◌, ◌≢◌, ◌<◌, ◌≤◌, ◌+◌, ◌*◌, ◌/◌, ◌-◌, ◌⊎◌, ◌↔◌, pred, ◌^◌, None, IsOk, IsTrue, IsNone, Ok, true, false, Some, Err, IfOk, IfErr, IfNone, IfSome, OnOk, OnErr, length, slice_index};
+ghost use Rattle.capnp_format.specs.Bytes.{words_of};
+ghost use Rattle.capnp_format.specs.Word.{kind, element_size};
+ghost use Rattle.capnp_format.specs.Numbers.{words_for};
+ghost use Rattle.capnp_words.specs.Sizes.{size_number};
+ghost use Rattle.capnp_objects.specs.Reading.{behind, segment_read, word_of};
+ghost use Rattle.capnp_objects.specs.Source.{levels};
+ghost use Rattle.capnp_pointers.specs.Faults.{FaultIs};
+ghost use Rattle.capnp_pointers.specs.Pointers.{reading, reading_on};
+ghost use Rattle.capnp_pointers.specs.Rows.{rows_sized};
+ghost use Rattle.capnp_pointers.specs.Checking.{progress, level_refusal_name, IsFound, AreFound, IsCanonicalAt, AreCanonicalAt, IsTestedWord, StartsRight, TellsFlat, TellsStruct, TellsRows, CanBeFound, CanAllBeFound, Unread, TestStops, TestEnds, TestsPlace, TestsPointers, IsFault, IsUnfit, TestsEnd, RowTestsEnd, SectionsFail, RowsFail};
+
+use crate::pointers::Pointer;
+use crate::pointers::canonical_answer::{Answer, Stopped, Test, fault_at, reason_of, refused};
+use crate::pointers::canonical_fault::{CanonicalFault, CanonicalFaultReason};
+use capnp_arena_traits::arena::ReaderArena;
+use capnp_objects::object::{Object, Place, PointerWord};
+use capnp_objects::source::Source;
+use capnp_words::error::ErrorKind;
+use capnp_words::lanes;
+use capnp_words::read_limiter::ReadLimiter;
+use capnp_words::wire_pointer::{
+    ElementSize, StructSize, WirePointer, WirePointerKind, data_bits_per_element, flat_words,
+    is_of_bits,
+};
+use capnp_words::words::word_at;
+
+impl<'a, A: ReaderArena> Pointer<'a, A> {
+    /// Where and why the pointer doesn't lead to a value in canonical form whose first object starts at
+    /// the head, a position in words in the pointer's segment, or `None` where it does
+    /// ("Canonicalization").
+    ///
+    /// `None` is said exactly where the words from the head on are the canonical words of a value, and
+    /// the pointer is the one that canonical form has for it: near pointers in order, no capability,
+    /// sections and elements cut to what they use, zeros behind the elements of a list. Words behind
+    /// these, and other segments, don't matter. A null pointer is canonical, and a pointer from
+    /// nothing is not. With `None` the head is moved behind the words, and else it stays.
+    ///
+    /// The pointers are tested in order. Each but the null is counted, and the words that its object
+    /// claims, and for elements without width their number, are charged; a struct and a list take a
+    /// level. It is answered wherever a canonical value stands at a head in the segment, the limiter
+    /// covers these charges, and the nesting limit is at least the value's depth. Else it may be
+    /// refused by the first fault that is met. What was charged before it stays charged, and so it is
+    /// with a fault.
+    ///
+    /// The fault is the first that is met, and its reason is true of the word that it names. Where both
+    /// sections of a struct or of elements are wider than they need be, it names the data.
+    pub fn canonical_fault(
+        &self,
+        lim: &mut ReadLimiter,
+        head: &mut u32,
+    ) -> Result<Option<CanonicalFault>, ErrorKind>
+        ensures exactly { IfOk result (λ o. IsNone o
+            ↔ IsCanonicalAt (reading A.ReaderArena self.now) head.old) }
+        ensures found { IfOk result (λ o. IfNone o
+            (IsFound (reading A.ReaderArena self.now) (progress head.old lim.old)
+            (progress head.new lim.new))) }
+        ensures answered { CanBeFound (reading A.ReaderArena self.now) (progress head.old lim.old)
+            → IsOk result }
+        ensures refused { IfErr result
+            (λ k. TestStops k (reading A.ReaderArena self.now)
+            (progress head.old lim.old) lim.new) }
+        ensures fault { IfOk result (λ o. IfSome o
+            (λ f. TestEnds (IsFault f) (reading A.ReaderArena self.now)
+            (progress head.old lim.old) lim.new)) }
+        ensures kept { (result ≡ Ok None → ⊥) → head.new ≡ head.old }
+    {
+        let mut test = Test::begin(lim);
+        let (at, nesting_limit) = (self.place.at, self.nesting_limit);
+        match test_place(self, at, nesting_limit, *head, &mut test) {
+            Ok(end) => {
+                *lim = test.lim;
+                *head = end;
+                Ok(None)
+            }
+            Err(Stopped) => {
+                *lim = test.lim;
+                Ok(Some(test.answer?))
+            }
+        }
+    }
+
+    /// Whether so many pointers, of which this is the first and which stand one behind the other, lead to
+    /// values in canonical form, the first of whose objects starts at the head.
+    ///
+    /// On a yes the head is moved behind the last of these words, and else it stays. The pointers are
+    /// tested, charged, answered and refused as by `canonical_fault`.
+    pub fn are_canonical(
+        &self,
+        count: u32,
+        lim: &mut ReadLimiter,
+        head: &mut u32,
+    ) -> Result<bool, ErrorKind>
+        requires inside { self.now.place.at + count
+            ≤ length (segment_read (reading A.ReaderArena self.now)) }
+        ensures exactly { IfOk result (λ b. IsTrue b
+            ↔ AreCanonicalAt (reading A.ReaderArena self.now) count head.old) }
+        ensures found { IfOk result (λ b. IsTrue b
+            → AreFound (reading A.ReaderArena self.now) count
+            (progress head.old lim.old) (progress head.new lim.new)) }
+        ensures answered { CanAllBeFound (reading A.ReaderArena self.now) count
+            (progress head.old lim.old) → IsOk result }
+        ensures refused { IfErr result (λ k. TestsEnd (Unread k)
+            (reading A.ReaderArena self.now) count (progress head.old lim.old) lim.new) }
+        ensures failed { result ≡ Ok false → TestsEnd IsUnfit
+            (reading A.ReaderArena self.now) count (progress head.old lim.old) lim.new }
+        ensures kept { (result ≡ Ok true → ⊥) → head.new ≡ head.old }
+    {
+        let mut test = Test::begin(lim);
+        let (at, nesting_limit) = (self.place.at, self.nesting_limit);
+        match test_children(self, at, count, nesting_limit, *head, &mut test) {
+            Ok(behind) => {
+                *lim = test.lim;
+                *head = behind;
+                Ok(true)
+            }
+            Err(Stopped) => {
+                *lim = test.lim;
+                test.answer?;
+                Ok(false)
+            }
+        }
+    }
+}
+
+/// Tests the pointer at a position, the first object being at a head: the head behind the canonical
+/// words, if there are any. All lies in one segment, whose reader serves every level.
+#[cycle(tests)]
+#[inline(always)]
+fn test_place<A: ReaderArena>(
+    from: &Pointer<'_, A>,
+    at: u32,
+    nesting_limit: i32,
+    head: u32,
+    test: &mut Test,
+) -> Result<u32, Stopped>
+    ensures { TestsPlace (reading_on A.ReaderArena from.now at nesting_limit)
+        (progress head test.old.lim) test.new result }
+{
+    let word = Place { at, ..from.place }.word();
+    if at as usize >= whole_words(from.place.bytes) {
+        return Err(fault_at(
+            &mut test.answer,
+            from.place,
+            at,
+            CanonicalFaultReason::NoPointer,
+        ));
+    }
+    if !word.is_positional() {
+        return Err(fault_at(&mut test.answer, from.place, at, reason_of(word)));
+    }
+    if word.is_null() {
+        return Ok(head);
+    }
+    match word.kind() {
+        WirePointerKind::Struct => test_struct(from, at, word, nesting_limit, head, test),
+        _ if is_of_bits(word) => test_near_flat(from, at, word, nesting_limit, head, test),
+        _ => test_list(from, at, word, nesting_limit, head, test),
+    }
+}
+
+/// Tests so many pointers, one behind the other from a position on.
+#[cycle(tests)]
+fn test_children<A: ReaderArena>(
+    from: &Pointer<'_, A>,
+    at: u32,
+    count: u32,
+    nesting_limit: i32,
+    first: u32,
+    test: &mut Test,
+) -> Result<u32, Stopped>
+    requires inside { at + count ≤ length (segment_read (reading A.ReaderArena from.now)) }
+    ensures { TestsPointers (reading_on A.ReaderArena from.now at nesting_limit) count
+        (progress first test.old.lim) test.new result }
+{
+    let mut head = first;
+    for i in 0..count {
+        head = test_place(from, at + i, nesting_limit, head, test)?;
+    }
+    Ok(head)
+}
+
+/// Tests the struct that the word at a position describes.
+#[cycle(tests)]
+#[inline(always)]
+fn test_struct<A: ReaderArena>(
+    from: &Pointer<'_, A>,
+    at: u32,
+    word: WirePointer,
+    nesting_limit: i32,
+    head: u32,
+    test: &mut Test,
+) -> Result<u32, Stopped>
+    requires tested { IsTestedWord word.0 (reading_on A.ReaderArena from.now at nesting_limit) }
+    requires some { word.0 ≢ 0 }
+    requires is_struct { kind word.0 ≡ 0 }
+    ensures { TestsPlace (reading_on A.ReaderArena from.now at nesting_limit)
+        (progress head test.old.lim) test.new result }
+{
+    let pointer = PointerWord {
+        place: Place { at, ..from.place },
+        word,
+        nesting_limit,
+    };
+    let start = match from.source.read_near_struct(pointer, &mut test.lim) {
+        Ok(start) => start,
+        Err(kind) => return Err(refused(&mut test.answer, word, kind)),
+    };
+    let size = word.struct_size();
+    if size.total() == 0 {
+        if start == at {
+            return Ok(head);
+        }
+        return Err(fault_at(
+            &mut test.answer,
+            from.place,
+            at,
+            CanonicalFaultReason::EmptyStructPlace,
+        ));
+    }
+    if start != head {
+        return Err(fault_at(
+            &mut test.answer,
+            from.place,
+            at,
+            CanonicalFaultReason::ObjectPlace,
+        ));
+    }
+    test_sections(from, start, size, less(nesting_limit), test)
+}
+
+/// Tests the sections of a struct that starts at a position, its first object being right behind it.
+#[cycle(tests)]
+#[inline(always)]
+fn test_sections<A: ReaderArena>(
+    from: &Pointer<'_, A>,
+    start: u32,
+    size: StructSize,
+    nesting_limit: i32,
+    test: &mut Test,
+) -> Result<u32, Stopped>
+    requires inside { start + (size.data_words + size.pointers)
+        ≤ length (segment_read (reading A.ReaderArena from.now)) }
+    ensures tells { IfOk result (λ end.
+        TellsStruct (reading_on A.ReaderArena from.now start nesting_limit) size
+        test.old.lim test.new.lim (Some end)) }
+    ensures never { OnErr result (OnOk test.new.answer
+        (TellsStruct (reading_on A.ReaderArena from.now start nesting_limit) size
+        test.old.lim test.new.lim None)) }
+    ensures refused { OnErr result (IfErr test.new.answer (λ k. TestsEnd (Unread k)
+        (behind (reading_on A.ReaderArena from.now start nesting_limit) size.data_words)
+        size.pointers (progress (start + size.data_words + size.pointers) test.old.lim)
+        test.new.lim)) }
+    ensures failed { OnErr result (IfOk test.new.answer (λ f. SectionsFail f
+        (reading_on A.ReaderArena from.now start nesting_limit) size test.old.lim test.new.lim)) }
+{
+    let data_words = u32::from(size.data_words);
+    let pointers = u32::from(size.pointers);
+    let first = start + data_words;
+    let behind = first + pointers;
+    let end = test_row(from, first, pointers, nesting_limit, behind, test)?;
+    if !ends_used(from.place, start, data_words) {
+        return Err(fault_at(
+            &mut test.answer,
+            from.place,
+            first - 1,
+            CanonicalFaultReason::DataSection,
+        ));
+    }
+    if !ends_used(from.place, first, pointers) {
+        return Err(fault_at(
+            &mut test.answer,
+            from.place,
+            behind - 1,
+            CanonicalFaultReason::PointerSection,
+        ));
+    }
+    Ok(end)
+}
+
+/// Tests the list of bits or bytes that the word at a position describes, as `test_list` does.
+#[inline(always)]
+fn test_near_flat<A: ReaderArena>(
+    from: &Pointer<'_, A>,
+    at: u32,
+    word: WirePointer,
+    nesting_limit: i32,
+    head: u32,
+    test: &mut Test,
+) -> Result<u32, Stopped>
+    requires tested { IsTestedWord word.0 (reading_on A.ReaderArena from.now at nesting_limit) }
+    requires is_list { kind word.0 ≡ 1 }
+    requires of_bits { (0 < element_size word.0) × (element_size word.0 ≤ 5) }
+    ensures { TestsPlace (reading_on A.ReaderArena from.now at nesting_limit)
+        (progress head test.old.lim) test.new result }
+{
+    let size = word.list_element_size();
+    let count = word.list_element_count();
+    let pointer = PointerWord {
+        place: Place { at, ..from.place },
+        word,
+        nesting_limit,
+    };
+    let words = flat_words(size, count);
+    let start = match from.source.read_near_flat(pointer, words, &mut test.lim) {
+        Ok(start) => start,
+        Err(kind) => return Err(refused(&mut test.answer, word, kind)),
+    };
+    if start != head {
+        return Err(fault_at(
+            &mut test.answer,
+            from.place,
+            at,
+            CanonicalFaultReason::ObjectPlace,
+        ));
+    }
+    let first = Place {
+        at: start,
+        ..from.place
+    };
+    test_flat(first, size, count, &mut test.answer)
+}
+
+/// Tests the list that the word at a position describes.
+#[cycle(tests)]
+#[inline(never)]
+fn test_list<A: ReaderArena>(
+    from: &Pointer<'_, A>,
+    at: u32,
+    word: WirePointer,
+    nesting_limit: i32,
+    head: u32,
+    test: &mut Test,
+) -> Result<u32, Stopped>
+    requires tested { IsTestedWord word.0 (reading_on A.ReaderArena from.now at nesting_limit) }
+    requires is_list { kind word.0 ≡ 1 }
+    ensures { TestsPlace (reading_on A.ReaderArena from.now at nesting_limit)
+        (progress head test.old.lim) test.new result }
+{
+    let place = Place { at, ..from.place };
+    let object = match from.source.read_object(place, nesting_limit, &mut test.lim) {
+        Ok(object) => object,
+        Err(kind) => return Err(refused(&mut test.answer, word, kind)),
+    };
+    if !starts_right(object, at, head) {
+        return Err(fault_at(
+            &mut test.answer,
+            from.place,
+            at,
+            CanonicalFaultReason::ObjectPlace,
+        ));
+    }
+    match object {
+        Object::Flat { start, size, count } => test_flat(start, size, count, &mut test.answer),
+        Object::Pointers { start, count } => {
+            let end = start.at + count;
+            test_children(from, start.at, count, less(nesting_limit), end, test)
+        }
+        Object::Structs { start, size, count } => {
+            let claimed = word.list_inline_composite_word_count();
+            let inner = less(nesting_limit);
+            test_structs(from, start.at, size, count, inner, claimed, test)
+        }
+        _ => Err(fault_at(
+            &mut test.answer,
+            from.place,
+            at,
+            CanonicalFaultReason::ObjectPlace,
+        )),
+    }
+}
+
+/// Tests the elements of a list of structs that start at a place, where the list claims so many words.
+#[cycle(tests)]
+fn test_structs<A: ReaderArena>(
+    from: &Pointer<'_, A>,
+    start: u32,
+    size: StructSize,
+    count: u32,
+    nesting_limit: i32,
+    claimed: u32,
+    test: &mut Test,
+) -> Result<u32, Stopped>
+    requires inside { start + claimed ≤ length (segment_read (reading A.ReaderArena from.now)) }
+    requires tagged { 0 < start }
+    ensures tells { IfOk result (λ end. (count * (size.data_words + size.pointers) ≡ claimed)
+        × TellsRows (reading_on A.ReaderArena from.now start nesting_limit) (rows_sized size count)
+        (progress (start + claimed) test.old.lim) test.new.lim (Some end)) }
+    ensures never { OnErr result (OnOk test.new.answer
+        (count * (size.data_words + size.pointers) ≡ claimed
+        → TellsRows (reading_on A.ReaderArena from.now start nesting_limit) (rows_sized size count)
+        (progress (start + claimed) test.old.lim) test.new.lim None)) }
+    ensures exact { OnErr result (OnErr test.new.answer
+        (count * (size.data_words + size.pointers) ≡ claimed)) }
+    ensures refused { OnErr result (IfErr test.new.answer (λ k. RowTestsEnd (Unread k)
+        (reading_on A.ReaderArena from.now start nesting_limit) (rows_sized size count)
+        (progress (start + claimed) test.old.lim) test.new.lim)) }
+    ensures failed { OnErr result (IfOk test.new.answer (λ f.
+        (FaultIs f CanonicalFaultReason.ElementWords from.now.place.segment (start - 1)
+        × (count * (size.data_words + size.pointers) ≢ claimed) × (test.new.lim ≡ test.old.lim))
+        ⊎ ((count * (size.data_words + size.pointers) ≡ claimed)
+        × RowsFail f (reading_on A.ReaderArena from.now start nesting_limit) (rows_sized size count)
+        test.old.lim test.new.lim))) }
+{
+    if u64::from(count) * u64::from(size.total()) != u64::from(claimed) {
+        return Err(fault_at(
+            &mut test.answer,
+            from.place,
+            start - 1,
+            CanonicalFaultReason::ElementWords,
+        ));
+    }
+    if size.total() == 0 {
+        return Ok(start);
+    }
+    test_rows(from, start, size, count, nesting_limit, test)
+}
+
+/// Tests so many elements of a list of structs, one behind the other from a place on, their first
+/// object being right behind them.
+#[cycle(tests)]
+fn test_rows<A: ReaderArena>(
+    from: &Pointer<'_, A>,
+    start: u32,
+    size: StructSize,
+    count: u32,
+    nesting_limit: i32,
+    test: &mut Test,
+) -> Result<u32, Stopped>
+    requires inside { start + count * (size.data_words + size.pointers)
+        ≤ length (segment_read (reading A.ReaderArena from.now)) }
+    requires tagged { 0 < start }
+    ensures tells { IfOk result (λ end.
+        TellsRows (reading_on A.ReaderArena from.now start nesting_limit) (rows_sized size count)
+        (progress (start + count * (size.data_words + size.pointers)) test.old.lim)
+        test.new.lim (Some end)) }
+    ensures never { OnErr result (OnOk test.new.answer
+        (TellsRows (reading_on A.ReaderArena from.now start nesting_limit) (rows_sized size count)
+        (progress (start + count * (size.data_words + size.pointers)) test.old.lim)
+        test.new.lim None)) }
+    ensures refused { OnErr result (IfErr test.new.answer (λ k. RowTestsEnd (Unread k)
+        (reading_on A.ReaderArena from.now start nesting_limit) (rows_sized size count)
+        (progress (start + count * (size.data_words + size.pointers)) test.old.lim) test.new.lim)) }
+    ensures failed { OnErr result (IfOk test.new.answer (λ f. RowsFail f
+        (reading_on A.ReaderArena from.now start nesting_limit) (rows_sized size count)
+        test.old.lim test.new.lim)) }
+{
+    let data_words = u32::from(size.data_words);
+    let pointers = u32::from(size.pointers);
+    let width = data_words + pointers;
+    let mut head = start + count * width;
+    let mut is_data_used = data_words == 0;
+    let mut are_pointers_used = pointers == 0;
+    for i in 0..count {
+        let at = start + i * width;
+        let first = at + data_words;
+        head = test_row(from, first, pointers, nesting_limit, head, test)?;
+        is_data_used = is_data_used || ends_used(from.place, at, data_words);
+        are_pointers_used = are_pointers_used || ends_used(from.place, first, pointers);
+    }
+    if !is_data_used {
+        return Err(fault_at(
+            &mut test.answer,
+            from.place,
+            start - 1,
+            CanonicalFaultReason::ElementData,
+        ));
+    }
+    if !are_pointers_used {
+        return Err(fault_at(
+            &mut test.answer,
+            from.place,
+            start - 1,
+            CanonicalFaultReason::ElementPointers,
+        ));
+    }
+    Ok(head)
+}
+
+/// Tests so many pointers of a struct, one behind the other from a position on. Where there are none
+/// nothing is called.
+#[cycle(tests)]
+#[inline(always)]
+fn test_row<A: ReaderArena>(
+    from: &Pointer<'_, A>,
+    at: u32,
+    count: u32,
+    nesting_limit: i32,
+    first: u32,
+    test: &mut Test,
+) -> Result<u32, Stopped>
+    requires inside { at + count ≤ length (segment_read (reading A.ReaderArena from.now)) }
+    ensures { TestsPointers (reading_on A.ReaderArena from.now at nesting_limit) count
+        (progress first test.old.lim) test.new result }
+{
+    if count == 0 {
+        return Ok(first);
+    }
+    test_children(from, at, count, nesting_limit, first, test)
+}
+
+/// Tests a list of numbers that starts at a place: the bits behind the last one have to be zero.
+#[inline(always)]
+fn test_flat(
+    start: Place,
+    size: ElementSize,
+    count: u32,
+    answer: &mut Answer,
+) -> Result<u32, Stopped>
+    requires inside { start.at + words_for (size_number size) count
+        ≤ length (words_of start.bytes.now) }
+    requires small { length (words_of start.bytes.now) < 2 ^ 32 }
+    requires is_flat { size_number size ≤ 5 }
+    requires few { count < 2 ^ 29 }
+    ensures tells { IfOk result (λ end.
+        TellsFlat (words_of start.entry.bytes.now) start.entry.at size count (Some end)) }
+    ensures never { OnErr result
+        (TellsFlat (words_of start.entry.bytes.now) start.entry.at size count None) }
+    ensures failed { OnErr result (answer.new ≡ Ok (record {
+      segment = start.entry.segment;
+      word = start.entry.at + words_for (size_number size) count - 1;
+      reason = CanonicalFaultReason.Padding;
+    })) }
+{
+    match padded_end(start.bytes, start.at, size, count) {
+        Ok(end) => Ok(end),
+        Err(word) => Err(fault_at(answer, start, word, CanonicalFaultReason::Padding)),
+    }
+}
+
+/// The position behind a list of numbers that starts at one, or that of the word which has other bits than
+/// zeros behind the last number.
+#[inline(always)]
+fn padded_end(bytes: &[u8], start: u32, size: ElementSize, count: u32) -> Result<u32, u32>
+    requires inside { start + words_for (size_number size) count ≤ length (words_of bytes.now) }
+    requires small { length (words_of bytes.now) < 2 ^ 32 }
+    requires is_flat { size_number size ≤ 5 }
+    requires few { count < 2 ^ 29 }
+    ensures tells { IfOk result (λ end.
+        TellsFlat (words_of bytes.now) start size count (Some end)) }
+    ensures never { OnErr result (TellsFlat (words_of bytes.now) start size count None) }
+    ensures word { IfErr result (λ i. i ≡ start + words_for (size_number size) count - 1) }
+{
+    let bits = u64::from(count) * u64::from(data_bits_per_element(size));
+    let end = start + (bits / 64) as u32;
+    let rest = bits % 64;
+    if rest == 0 {
+        return Ok(end);
+    }
+    if !is_zero_from(word_at(bytes, end as usize), rest) {
+        return Err(end);
+    }
+    Ok(end + 1)
+}
+
+/// Whether the bits of a word from a position on are zero.
+#[inline(always)]
+fn is_zero_from(word: u64, position: u64) -> bool
+    requires { position < 64 }
+    ensures { IsTrue result ↔ (word / 2 ^ position ≡ 0) }
+{
+    lanes::is_zero((word >> position).to_le_bytes().as_slice())
+}
+
+/// How many whole words bytes have, each of which is one of 64 bits.
+fn whole_words(bytes: &[u8]) -> usize
+    ensures count { result ≡ length (words_of bytes.now) }
+    ensures small { (i : ℕ) → slice_index (words_of bytes.now) i < 2 ^ 64 }
+{
+    bytes.len() / 8
+}
+
+/// Whether there are none of so many words from a position on, or the last isn't zero.
+pub fn ends_used(place: Place, at: u32, count: u32) -> bool
+    requires { at + count < 2 ^ 32 }
+    ensures { IsTrue result
+        ↔ (count ≡ 0) ⊎ (slice_index (words_of place.entry.bytes.now) (at + count - 1) ≢ 0) }
+{
+    if count == 0 {
+        return true;
+    }
+    let last = Place {
+        at: at + count - 1,
+        ..place
+    };
+    !last.word().is_null()
+}
+
+/// A nesting limit of one level less.
+fn less(nesting_limit: i32) -> i32
+    ensures { levels result ≡ pred (levels nesting_limit) }
+{
+    nesting_limit.saturating_sub(1)
+}
+
+/// Whether the object of the pointer at a position starts where canonical form has it: a struct of no
+/// words at the pointer itself, and any other at the head, a list of structs with its tag.
+fn starts_right(object: Object, at: u32, head: u32) -> bool
+    ensures { IsTrue result ↔ StartsRight object.entry at head }
+{
+    match object {
+        Object::Null => true,
+        Object::Capability(_) => false,
+        Object::Struct { start, size } if size.total() == 0 => start.at == at,
+        Object::Struct { start, .. } => start.at == head,
+        Object::Flat { start, .. } => start.at == head,
+        Object::Pointers { start, .. } => start.at == head,
+        Object::Structs { start, .. } => u64::from(start.at) == u64::from(head) + 1,
+    }
+}

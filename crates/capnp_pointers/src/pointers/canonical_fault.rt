@@ -1,0 +1,98 @@
+//! Where and why a message isn't in canonical form ("Canonicalization").
+ghost use Rattle.std.specs.Prelude.{◌≡◌, ◌++◌, codes, Some};
+ghost use Rattle.std.specs.Fmt.{decimal};
+ghost use Rattle.capnp_pointers.specs.Faults.{fault_reason_text};
+
+use std::fmt;
+use thiserror::Error;
+
+/// The word at which a test for canonical form stopped, and why. `{}` writes
+/// `REASON at segment SEGMENT, word WORD`.
+#[derive(Clone, Copy, Debug, PartialEq, Eq, Error)]
+pub struct CanonicalFault {
+    /// The number of the segment, below 2^32 in an arena; a default is the segment of number 2^32.
+    pub segment: u64,
+    /// The position in the segment, in words. Which word it is, each reason says.
+    pub word: u32,
+    /// Why the test stopped there.
+    pub reason: CanonicalFaultReason,
+}
+
+/// Why a word isn't that of a message in canonical form. `{}` writes the text.
+#[derive(Clone, Copy, Debug, PartialEq, Eq, Error)]
+pub enum CanonicalFaultReason {
+    /// There isn't exactly one segment. The word is the first of segment 1, or of segment 0 where there
+    /// is no segment.
+    SegmentCount,
+    /// There is no word for the pointer. The word is where it would stand.
+    NoPointer,
+    /// The word is a far pointer.
+    FarPointer,
+    /// The word is a capability.
+    Capability,
+    /// The word is a pointer of no known kind.
+    UnknownPointer,
+    /// A struct without words starts elsewhere than at its pointer. The word is the pointer.
+    EmptyStructPlace,
+    /// An object starts elsewhere than behind the last one. The word is the pointer to it.
+    ObjectPlace,
+    /// The bits behind the last number of a list aren't zero. The word is the one with these bits.
+    Padding,
+    /// The last word of a data section is zero. The word is this one.
+    DataSection,
+    /// The last pointer of a pointer section is null. The word is this one.
+    PointerSection,
+    /// The elements of a list of structs take other words than its pointer claims. The word is the tag.
+    ElementWords,
+    /// The elements of a list of structs have more data words than any of them uses. The word is the
+    /// tag.
+    ElementData,
+    /// The elements of a list of structs have more pointers than any of them uses. The word is the tag.
+    ElementPointers,
+    /// There are words behind the value. The word is the first of these.
+    WordsBehind,
+}
+
+impl CanonicalFaultReason {
+    /// What is wrong, in words.
+    pub fn text(&self) -> &'static str
+        ensures { result.now ≡ fault_reason_text self.now }
+    {
+        match self {
+            CanonicalFaultReason::SegmentCount => "not exactly one segment",
+            CanonicalFaultReason::NoPointer => "no word for a pointer",
+            CanonicalFaultReason::FarPointer => "a far pointer",
+            CanonicalFaultReason::Capability => "a capability",
+            CanonicalFaultReason::UnknownPointer => "a pointer of no known kind",
+            CanonicalFaultReason::EmptyStructPlace => "an empty struct that isn't at its pointer",
+            CanonicalFaultReason::ObjectPlace => "an object that isn't where the last one ended",
+            CanonicalFaultReason::Padding => "padding that isn't zero",
+            CanonicalFaultReason::DataSection => "a data section whose last word is zero",
+            CanonicalFaultReason::PointerSection => "a pointer section whose last pointer is null",
+            CanonicalFaultReason::ElementWords =>
+                "a struct list that claims other words than it has",
+            CanonicalFaultReason::ElementData => "a struct list that could do with less data",
+            CanonicalFaultReason::ElementPointers =>
+                "a struct list that could do with fewer pointers",
+            CanonicalFaultReason::WordsBehind => "words behind the value",
+        }
+    }
+}
+
+impl fmt::Display for CanonicalFaultReason {
+    ghost output = { λ e. Some (fault_reason_text e) };
+
+    fn fmt<W: fmt::Write>(&self, f: &mut fmt::Formatter<W>) -> fmt::Result {
+        write!(f, "{}", self.text())
+    }
+}
+
+impl fmt::Display for CanonicalFault {
+    ghost output = { λ e. Some (fault_reason_text e.reason ++ codes " at segment "
+        ++ decimal e.segment ++ codes ", word " ++ decimal e.word) };
+
+    fn fmt<W: fmt::Write>(&self, f: &mut fmt::Formatter<W>) -> fmt::Result {
+        let (segment, word, text) = (self.segment, self.word, self.reason.text());
+        write!(f, "{text} at segment {segment}, word {word}")
+    }
+}

@@ -1,0 +1,362 @@
+//! How many words and capabilities a value has, without reading its data.
+ghost use Rattle.std.specs.Prelude.{◌≡◌, ◌≢◌, ◌<◌, ◌≤◌, ◌+◌, ◌*◌, ◌-◌, ◌^◌, ◌↔◌, length, IsTrue, MatchOption, IsOk, IfOk, OnOk, IfErr, OnErr};
+ghost use Rattle.capnp_format.specs.Word.{kind, element_size, list_count};
+ghost use Rattle.capnp_format.specs.Numbers.{words_for};
+ghost use Rattle.capnp_words.specs.Sizes.{size_number};
+ghost use Rattle.capnp_words.specs.declared.error.ErrorKind.TheVariants.{MessageTooLarge};
+ghost use Rattle.capnp_objects.specs.Objects.{IsFew};
+ghost use Rattle.capnp_objects.specs.Reading.{segment_read, sized, word_of};
+ghost use Rattle.capnp_format.specs.Tree.{Elements, element_count};
+ghost use Rattle.capnp_objects.specs.Sizing.{FitSize, Tally, tally, WalksPlace, WalksPointers, WalksElements, SizeStops, SizesStop, RowsStop};
+ghost use Rattle.capnp_pointers.specs.Pointers.{reading, reading_on};
+ghost use Rattle.capnp_pointers.specs.declared.pointers.sizes.MeasuredRows.{MeasuredRows};
+ghost use Rattle.capnp_pointers.specs.Sizes.{so_far, object_words, AddsPlace, AddsPointers, HasRows, IsWordAt};
+
+use crate::pointers::Pointer;
+use crate::pointers::walk::{Stopped, Walk};
+use capnp_arena_traits::arena::ReaderArena;
+use capnp_objects::object::{Object, Place, PointerWord};
+use capnp_words::error::ErrorKind;
+use capnp_words::read_limiter::ReadLimiter;
+use capnp_words::wire_pointer::{WirePointer, WirePointerKind, flat_words, is_of_bits};
+
+/// The size of a value: of its objects, itself and all below, without landing pads.
+#[derive(Clone, Copy, Debug, PartialEq, Eq)]
+pub struct MessageSize {
+    /// How many words.
+    pub word_count: u64,
+    /// How many capabilities.
+    pub cap_count: u32,
+}
+
+impl<'a, A: ReaderArena> Pointer<'a, A> {
+    /// How many words the value takes that the pointer leads to, itself and all below, without
+    /// landing pads, and how many capabilities it has ("Structs", "Lists").
+    ///
+    /// A null pointer has none of both. A list of structs takes its tag and its elements, even where
+    /// it claims more. Each pointer but the null is counted as followed, takes a level, also to a
+    /// capability, and charges the words of its landing pads and those that its object claims, each
+    /// before it is read; a list of void is not looked at, and elements without width are free. So
+    /// an answer doesn't say that the pointer leads to a value. A default and an arena that is
+    /// built count and charge nothing.
+    ///
+    /// A refusal is named by the first fault that is met: `MessageIsTooDeeplyNested`,
+    /// `InvalidSegmentId`, `MessageContainsOutOfBoundsPointer`, `MalformedDoubleFarPointer`,
+    /// `UnknownPointerType`, `CantHandleNonStructInlineComposite`,
+    /// `InlineCompositeListsElementsOverrunItsWordCount`, `TriedToReadFromNullArena` for a far
+    /// pointer of a default, `ReadLimitExceeded`, or `MessageTooLarge(usize::MAX)` where the words
+    /// don't fit 64 bits or the capabilities 32. It keeps what was charged.
+    pub fn total_size(&self, lim: &mut ReadLimiter) -> Result<MessageSize, ErrorKind>
+        ensures sized { IfOk result (λ z. WalksPlace (reading A.ReaderArena self.now)
+            (tally 0 0 lim.old) (so_far z lim.new)) }
+        ensures exactly { IsOk result ↔ (to : Tally)
+            × WalksPlace (reading A.ReaderArena self.now) (tally 0 0 lim.old) to
+            × FitSize to.words to.caps }
+        ensures refused { IfErr result (λ k. SizeStops k (reading A.ReaderArena self.now)
+            (tally 0 0 lim.old) lim.new) }
+    {
+        let mut walk = Walk::begin(0, lim);
+        match add_object(self, self.place.at, self.nesting_limit, &mut walk) {
+            Ok(()) => {
+                *lim = walk.lim;
+                Ok(walk.sums.size)
+            }
+            Err(Stopped) => {
+                *lim = walk.lim;
+                Err(walk.sums.refusal)
+            }
+        }
+    }
+
+    /// The size of an object that has so many words of its own and so many pointers, of which this is the
+    /// first: itself and all below.
+    ///
+    /// Its own words aren't charged, and take no level. The pointers stand one behind the other; each is
+    /// counted, charged and refused as `total_size` does it, in order, with the sums begun at the
+    /// object's own words.
+    pub fn total_size_of(
+        &self,
+        count: u32,
+        own_words: u64,
+        lim: &mut ReadLimiter,
+    ) -> Result<MessageSize, ErrorKind>
+        requires inside { self.now.place.at + count
+            ≤ length (segment_read (reading A.ReaderArena self.now)) }
+        ensures sized { IfOk result (λ z. WalksPointers (reading A.ReaderArena self.now) count
+            (tally own_words 0 lim.old) (so_far z lim.new)) }
+        ensures exactly { IsOk result ↔ (to : Tally)
+            × WalksPointers (reading A.ReaderArena self.now) count (tally own_words 0 lim.old) to
+            × FitSize to.words to.caps }
+        ensures refused { IfErr result (SizesStop (reading A.ReaderArena self.now) count
+            (tally own_words 0 lim.old) lim.new) }
+    {
+        let mut walk = Walk::begin(own_words, lim);
+        match add_pointers(self, self.place.at, count, self.nesting_limit, &mut walk) {
+            Ok(()) => {
+                *lim = walk.lim;
+                Ok(walk.sums.size)
+            }
+            Err(Stopped) => {
+                *lim = walk.lim;
+                Err(walk.sums.refusal)
+            }
+        }
+    }
+}
+
+// The pointers of an object, in elements of equal size: a struct and a list of pointers are one
+// element, so that all pointers are gone over in one place.
+#[derive(Clone, Copy)]
+struct MeasuredRows<'a> {
+    // The first word of the first element.
+    start: Place<'a>,
+    // How many words stand before the pointers of an element.
+    data_words: u32,
+    // How many pointers an element has.
+    pointers: u32,
+    // How many elements there are.
+    count: u32,
+}
+
+// Adds the sizes of so many pointers, one behind the other from a position on. A struct in the same
+// segment is entered by its position alone, and the reader of the segment serves it too.
+#[cycle(sizes)]
+#[inline(never)]
+fn add_pointers<A: ReaderArena>(
+    from: &Pointer<'_, A>,
+    at: u32,
+    count: u32,
+    nesting_limit: i32,
+    walk: &mut Walk,
+) -> Result<(), Stopped>
+    requires inside { at + count ≤ length (segment_read (reading A.ReaderArena from.now)) }
+    ensures { AddsPointers (reading_on A.ReaderArena from.now at nesting_limit) count
+        walk.old walk.new result }
+{
+    add_row(from, at, count, nesting_limit, walk)
+}
+
+// Does what `add_pointers` does, in line: so the loop over the elements of a list calls nothing for
+// pointers to bits or bytes.
+#[cycle(sizes)]
+#[inline(always)]
+fn add_row<A: ReaderArena>(
+    from: &Pointer<'_, A>,
+    at: u32,
+    count: u32,
+    nesting_limit: i32,
+    walk: &mut Walk,
+) -> Result<(), Stopped>
+    requires inside { at + count ≤ length (segment_read (reading A.ReaderArena from.now)) }
+    ensures { AddsPointers (reading_on A.ReaderArena from.now at nesting_limit) count
+        walk.old walk.new result }
+{
+    for i in 0..count {
+        add_pointer(from, at + i, nesting_limit, walk)?;
+    }
+    Ok(())
+}
+
+// Adds the size of what the pointer at a position leads to.
+#[cycle(sizes)]
+#[inline(always)]
+fn add_pointer<A: ReaderArena>(
+    from: &Pointer<'_, A>,
+    at: u32,
+    nesting_limit: i32,
+    walk: &mut Walk,
+) -> Result<(), Stopped>
+    ensures { AddsPlace (reading_on A.ReaderArena from.now at nesting_limit)
+        walk.old walk.new result }
+{
+    let word = Place { at, ..from.place }.word();
+    if word.is_null() {
+        return Ok(());
+    }
+    match word.kind() {
+        WirePointerKind::Struct => add_struct(from, at, word, nesting_limit, walk),
+        WirePointerKind::List if is_of_bits(word) => {
+            add_flat(from, at, word, nesting_limit, walk)
+        }
+        _ => add_object(from, at, nesting_limit, walk),
+    }
+}
+
+// Adds the size of the struct that the word at a position describes.
+#[cycle(sizes)]
+#[inline(always)]
+fn add_struct<A: ReaderArena>(
+    from: &Pointer<'_, A>,
+    at: u32,
+    word: WirePointer,
+    nesting_limit: i32,
+    walk: &mut Walk,
+) -> Result<(), Stopped>
+    requires word { IsWordAt word.0 (reading_on A.ReaderArena from.now at nesting_limit) }
+    requires is_struct { kind word.0 ≡ 0 }
+    ensures { AddsPlace (reading_on A.ReaderArena from.now at nesting_limit)
+        walk.old walk.new result }
+{
+    let pointer = PointerWord {
+        place: Place { at, ..from.place },
+        word,
+        nesting_limit,
+    };
+    let words = word.struct_word_size();
+    let start = match from.source.measure_near(pointer, words, &mut walk.lim) {
+        Ok(start) => start,
+        Err(k) => {
+            walk.sums.refusal = k;
+            return Err(Stopped);
+        }
+    };
+    walk.sums.add_words(u64::from(words))?;
+    let size = word.struct_size();
+    let first = start + u32::from(size.data_words);
+    let count = u32::from(size.pointers);
+    if count == 0 {
+        return Ok(());
+    }
+    add_pointers(from, first, count, nesting_limit - 1, walk)
+}
+
+// Adds the size of the list of bits or bytes that the word at a position describes.
+#[inline(always)]
+fn add_flat<A: ReaderArena>(
+    from: &Pointer<'_, A>,
+    at: u32,
+    word: WirePointer,
+    nesting_limit: i32,
+    walk: &mut Walk,
+) -> Result<(), Stopped>
+    requires word { IsWordAt word.0 (reading_on A.ReaderArena from.now at nesting_limit) }
+    requires is_list { kind word.0 ≡ 1 }
+    requires of_bits { (0 < element_size word.0) × (element_size word.0 ≤ 5) }
+    ensures { AddsPlace (reading_on A.ReaderArena from.now at nesting_limit)
+        walk.old walk.new result }
+{
+    let pointer = PointerWord {
+        place: Place { at, ..from.place },
+        word,
+        nesting_limit,
+    };
+    let words = flat_words(word.list_element_size(), word.list_element_count());
+    match from.source.measure_near(pointer, words, &mut walk.lim) {
+        Ok(_) => walk.sums.add_words(u64::from(words)),
+        Err(k) => {
+            walk.sums.refusal = k;
+            Err(Stopped)
+        }
+    }
+}
+
+// Adds the size of what the pointer at a position leads to, be it near or far, and of any kind. It
+// stands apart from the loop over pointers, so that a level in the same segment takes little stack.
+#[cycle(sizes)]
+#[inline(never)]
+fn add_object<A: ReaderArena>(
+    from: &Pointer<'_, A>,
+    at: u32,
+    nesting_limit: i32,
+    walk: &mut Walk,
+) -> Result<(), Stopped>
+    ensures { AddsPlace (reading_on A.ReaderArena from.now at nesting_limit)
+        walk.old walk.new result }
+{
+    let place = Place { at, ..from.place };
+    let object = match from
+        .source
+        .measure_object(place, nesting_limit, &mut walk.lim)
+    {
+        Ok(object) => object,
+        Err(k) => {
+            walk.sums.refusal = k;
+            return Err(Stopped);
+        }
+    };
+    walk.sums.add_words(words_of_object(object))?;
+    if let Object::Capability(_) = object {
+        return walk.sums.add_capability();
+    }
+    let Some(rows) = rows_of_object(object) else {
+        return Ok(());
+    };
+    let inner = Pointer {
+        source: from.source,
+        place: rows.start,
+        nesting_limit: nesting_limit - 1,
+    };
+    add_rows(&inner, rows.data_words, rows.pointers, rows.count, walk)
+}
+
+// Adds the sizes of the pointers of so many elements, one behind the other, each of so many data
+// words and pointers.
+#[cycle(sizes)]
+fn add_rows<A: ReaderArena>(
+    from: &Pointer<'_, A>,
+    data_words: u32,
+    pointers: u32,
+    count: u32,
+    walk: &mut Walk,
+) -> Result<(), Stopped>
+    requires inside { from.now.place.at + count * (data_words + pointers)
+        ≤ length (segment_read (reading A.ReaderArena from.now)) }
+    ensures sized { OnOk result ((es : Elements) × (element_count es ≡ count)
+        × WalksElements (reading A.ReaderArena from.now) (sized data_words pointers)
+        (so_far walk.old.sums.size walk.old.lim) (so_far walk.new.sums.size walk.new.lim) es) }
+    ensures refused { OnErr result
+        (RowsStop (reading A.ReaderArena from.now) (sized data_words pointers) count
+        (so_far walk.old.sums.size walk.old.lim) walk.new.lim walk.new.sums.refusal) }
+{
+    if pointers == 0 {
+        return Ok(());
+    }
+    let width = u64::from(data_words) + u64::from(pointers);
+    for i in 0..count {
+        let at = u64::from(from.place.at) + u64::from(i) * width + u64::from(data_words);
+        add_row(from, at as u32, pointers, from.nesting_limit, walk)?;
+    }
+    Ok(())
+}
+
+// How many words of its own an object counts; a list of structs its tag and its elements.
+fn words_of_object(object: Object) -> u64
+    requires { IsFew object }
+    ensures { result ≡ object_words object.entry }
+{
+    match object {
+        Object::Null | Object::Capability(_) => 0,
+        Object::Flat { size, count, .. } => u64::from(flat_words(size, count)),
+        Object::Struct { size, .. } => u64::from(size.total()),
+        Object::Pointers { count, .. } => u64::from(count),
+        Object::Structs { size, count, .. } => 1 + u64::from(count) * u64::from(size.total()),
+    }
+}
+
+// The pointers of an object; there are none of what is null, a capability, or a list of bits.
+fn rows_of_object(object: Object) -> Option<MeasuredRows>
+    ensures { MatchOption result ((rows : MeasuredRows) → HasRows object.entry rows → ⊥)
+        (HasRows object.entry) }
+{
+    match object {
+        Object::Null | Object::Capability(_) | Object::Flat { .. } => None,
+        Object::Struct { start, size } => Some(MeasuredRows {
+            start,
+            data_words: u32::from(size.data_words),
+            pointers: u32::from(size.pointers),
+            count: 1,
+        }),
+        Object::Pointers { start, count } => Some(MeasuredRows {
+            start,
+            data_words: 0,
+            pointers: count,
+            count: 1,
+        }),
+        Object::Structs { start, size, count } => Some(MeasuredRows {
+            start,
+            data_words: u32::from(size.data_words),
+            pointers: u32::from(size.pointers),
+            count,
+        }),
+    }
+}
