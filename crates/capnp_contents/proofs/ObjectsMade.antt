@@ -7,8 +7,10 @@ use Rattle.capnp_arena_traits.specs.View.{View, KeepsLimits}
 use Rattle.capnp_making.specs.Makes.{Allocates, CallAt, MakesObject, ObjectStartsAt, call_at}
 use Rattle.capnp_making.specs.Path.{extent}
 use Rattle.capnp_making.specs.Stored.{IsReplaced, Puts}
-use Rattle.capnp_making.specs.Zeroed.{IsApart, IsPruned, IsZeroed}
+use Rattle.capnp_making.specs.Zeroed.{IsApart, IsPruned, IsZeroed, Zeroes}
 use Rattle.capnp_making.specs.declared.making.Start.{Start}
+use Rattle.capnp_contents.specs.Initialized.{GivesObject}
+use Rattle.capnp_making.proofs.Outcomes.{on_made_so}
 use Rattle.capnp_making.proofs.Memory.{keeps_both, keeps_written, refused_after, room_left}
 use Rattle.capnp_contents.proofs.OldWords.{old_zeroed}
 use Rattle.capnp_making.proofs.Placed.{zeroed_replaced}
@@ -53,6 +55,15 @@ makes_after_zeros (Err k) old mid new id at n t zeroed limits pruned made start 
   memory = allocates_after (Err k) old mid new id at n limits pruned memory;
   refused = subst (λ (R : Segments). Puts old.words R id at Null) (sym same) (λ u stored. zeroed_replaced old.words mid.words id at u zeroed stored);
   only = subst (IsPruned old.words) (sym same) pruned;
+}
+
+-- And so it is given.
+pub gives_after_zeros : (result : Result Start ErrorKind) (old mid new : View) (id at n : ℕ) (t : Tree) → Zeroes old mid (IsApart old.words id at) (extent old.words id at) →
+    OnOk result (IsReplaced mid.words new.words id at Null t) → IfOk result (ObjectStartsAt (call_at id at mid new) n) → Allocates result (call_at id at mid new) n → OnErr result (new.words ≡ mid.words) → GivesObject result (call_at id at old new) t n
+gives_after_zeros result old mid new id at n t z made start memory same = record {
+  object = makes_after_zeros result old mid new id at n t z.zeroed z.limits z.pruned made start memory same;
+  once_zeroed = on_made_so result _ _ made (λ m. (mid.words, z.pruned, m));
+  start = starts_after_zeros result old mid new id at n z.limits z.pruned start;
 }
 
 -- What is made stays so, whatever the call gives for it; and so does a refusal.

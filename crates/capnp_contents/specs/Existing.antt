@@ -2,7 +2,7 @@
 -- capability ("Lists", "Capabilities (Interfaces)").
 use Rattle.std.specs.Prelude.{ℕ, ◌+◌, ◌-◌, ◌<◌, ◌≤◌, Bool, true, false, if◌then◌else◌, ◌&&◌, nat_eq}
 use Rattle.std.specs.Prelude.{nat_le, List, [], ◌∷◌, length, get_or, take, drop, Option, Some, None}
-use Rattle.std.specs.Prelude.{Result, Ok, Err}
+use Rattle.std.specs.Prelude.{◌≡◌, ◌^◌, Result, Ok, Err, IfErr, IfOk, IfSome}
 use Rattle.capnp_format.specs.Numbers.{element_bits, words_for, unpacked}
 use Rattle.capnp_format.specs.Segments.{Segments, segment, Target}
 use Rattle.capnp_format.specs.Tree.{Tree, Null, Capability, Struct, Flat, Pointers, Structs, count}
@@ -25,7 +25,9 @@ use Rattle.capnp_words.specs.declared.error.ErrorKind.TheVariants.{
   MessageContainsOutOfBoundsPointer,
   TextBlobMissingNULTerminator,
 }
+use Rattle.capnp_format.specs.Forest.{target}
 use Rattle.capnp_making.specs.Landings.{target_of}
+use Rattle.capnp_making.specs.Stored.{IsStored}
 use Rattle.capnp_making.specs.declared.landing.Landing.{Landing}
 use Rattle.capnp_contents.specs.declared.existing.ExistingList.{ExistingList}
 use Rattle.capnp_contents.specs.declared.existing.ExistingBytes.{ExistingBytes}
@@ -147,9 +149,29 @@ struct_in a (Struct ws ts) =
     })
 struct_in a t = None
 
+-- What is found at a place: where it stores a value, what find says of that. A refusal is by one of
+-- these names.
+pub record FindsAt {B : Type 0} (S : Segments) (s p : ℕ) (find : Target → Tree → Result B ErrorKind)
+    (result : Result B ErrorKind) : Type 0 where
+  pub found : (t : Tree) → IsStored S s p t → result ≡ find (target S s p) t
+  pub named : IfErr result (λ k. is_unfound k ≡ true)
+
+-- The list that is found at a place, of elements as wide as expected ones. It has fewer elements
+-- than its count has bits for.
+pub record FindsListAt (S : Segments) (s p : ℕ) (expected : ElementSize)
+    (result : Result (Option ExistingList) ErrorKind) : Type 0 where
+  pub found : (t : Tree) → IsStored S s p t → result ≡ list_in (target S s p) expected t
+  pub named : IfErr result (λ k. is_unfound k ≡ true)
+  pub few : IfOk result (λ found. IfSome found (λ list. list.count < 2 ^ 30))
+
 -- The sections of a struct lie in their segment.
 abbrev pub StructLiesIn : Segments → ExistingStruct → Type 0
 StructLiesIn S e = e.start + e.size.data_words + e.size.pointers ≤ length (segment S e.segment)
+
+-- The struct that is found at a place, as wide as it is; its sections lie in their segment.
+pub record FindsStructAt (S : Segments) (s p : ℕ) (result : Option ExistingStruct) : Type 0 where
+  pub found : (t : Tree) → IsStored S s p t → result ≡ struct_in (target S s p) t
+  pub inside : IfSome result (StructLiesIn S)
 
 -- So many bytes from where a pointer leads.
 abbrev pub bytes_at : Target → ℕ → ExistingBytes

@@ -1,2 +1,3 @@
 pub mod Existing
 pub mod InPlace
+pub mod Initialized

@@ -75,8 +75,7 @@ fn set_bytes<A: BuilderArena>(
     count: u32,
 ) -> Result<(), ErrorKind>
     requires place { IsPlace (A.view arena.old).words id at }
-    requires enough { length from.now ≤ count }
-    requires few { count < 2 ^ 29 }
+    requires few { (length from.now ≤ count) × (count < 2 ^ 29) }
     ensures object { MakesObject result (call_at id at (A.view arena.old) (A.view arena.new))
         (Flat 2 (from.now ++ words_of_zero (count - length from.now))) (words_for 2 count) }
     ensures once_zeroed { OnOk result (PutsOnceZeroed (A.view arena.old).words

@@ -10,7 +10,7 @@ ghost use Rattle.capnp_format.specs.Word.{data_words, list_count, offset_bits, p
 ghost use Rattle.capnp_words.specs.Sizes.{size_number};
 ghost use Rattle.capnp_making.specs.Landings.{target_of};
 ghost use Rattle.capnp_making.specs.Stored.{IsStored};
-ghost use Rattle.capnp_contents.specs.Existing.{BytesLieIn, capability_of, capability_in, listed, landing_in, is_unfound, plain_misfit, structs_misfit, unless, plain_list, struct_list, list_in, data_in, text_in, struct_in, AreInside, StructLiesIn, bytes_in, ends_in_zero};
+ghost use Rattle.capnp_contents.specs.Existing.{BytesLieIn, capability_of, capability_in, listed, landing_in, is_unfound, plain_misfit, structs_misfit, unless, plain_list, struct_list, data_in, text_in, AreInside, FindsAt, FindsListAt, FindsStructAt, bytes_in, ends_in_zero};
 
 use capnp_arena_traits::arena::BuilderArena;
 use capnp_making::landing::{Landing, landing_of, length_of, word_of};
@@ -84,9 +84,7 @@ pub fn get_capability<A: BuilderArena>(arena: &A, id: u32, at: u32) -> Result<u3
 /// pointer is null, or leads to anything else.
 #[inline(always)]
 pub fn get_struct<A: BuilderArena>(arena: &A, id: u32, at: u32) -> Option<ExistingStruct>
-    ensures found { (t : Tree) → IsStored (A.view arena.now).words id at t
-        → result ≡ struct_in (target (A.view arena.now).words id at) t }
-    ensures inside { IfSome result (StructLiesIn (A.view arena.now).words) }
+    ensures { FindsStructAt (A.view arena.now).words id at result }
 {
     let word = word_of(arena, id, at);
     if word.is_null() {
@@ -112,9 +110,7 @@ fn struct_of<A: BuilderArena>(
 ) -> Option<ExistingStruct>
     requires is { word.0 ≡ word_at (A.view arena.now).words id at }
     requires some { word.0 ≢ 0 }
-    ensures found { (t : Tree) → IsStored (A.view arena.now).words id at t
-        → result ≡ struct_in (target (A.view arena.now).words id at) t }
-    ensures inside { IfSome result (StructLiesIn (A.view arena.now).words) }
+    ensures { FindsStructAt (A.view arena.now).words id at result }
 {
     match landing_of(arena, id, at, word) {
         Some(landing) => {
@@ -147,9 +143,7 @@ fn struct_behind_pad<A: BuilderArena>(
 ) -> Option<ExistingStruct>
     requires is { word.0 ≡ word_at (A.view arena.now).words id at }
     requires some { word.0 ≢ 0 }
-    ensures found { (t : Tree) → IsStored (A.view arena.now).words id at t
-        → result ≡ struct_in (target (A.view arena.now).words id at) t }
-    ensures inside { IfSome result (StructLiesIn (A.view arena.now).words) }
+    ensures { FindsStructAt (A.view arena.now).words id at result }
 {
     struct_of(arena, id, at, word)
 }
@@ -168,10 +162,7 @@ pub fn get_list<A: BuilderArena>(
     expected: ElementSize,
 ) -> Result<Option<ExistingList>, ErrorKind>
     requires plain { size_number expected ≤ 6 }
-    ensures found { (t : Tree) → IsStored (A.view arena.now).words id at t
-        → result ≡ list_in (target (A.view arena.now).words id at) expected t }
-    ensures named { IfErr result (λ k. is_unfound k ≡ true) }
-    ensures few { IfOk result (λ found. IfSome found (λ list. list.count < 2 ^ 30)) }
+    ensures { FindsListAt (A.view arena.now).words id at expected result }
 {
     match follow_list(arena, id, at)? {
         Some(landing) => {
@@ -191,9 +182,7 @@ pub fn get_list<A: BuilderArena>(
 /// Anything else is `ExistingPointerIsNotAList`, and a pointer that leads out of the message, which no
 /// stored value has, `MessageContainsOutOfBoundsPointer`.
 fn follow_list<A: BuilderArena>(arena: &A, id: u32, at: u32) -> Result<Option<Landing>, ErrorKind>
-    ensures found { (t : Tree) → IsStored (A.view arena.now).words id at t
-        → listed result ≡ landing_in (target (A.view arena.now).words id at) t }
-    ensures named { IfErr result (λ k. is_unfound k ≡ true) }
+    ensures { FindsAt (A.view arena.now).words id at landing_in (listed result) }
 {
     let word = word_of(arena, id, at);
     if word.is_null() {
@@ -219,7 +208,6 @@ fn plain_list_at(
 ) -> Result<Option<ExistingList>, ErrorKind>
     ensures found { result ≡ unless (plain_misfit expected size)
         (plain_list (target_of landing) size (list_count landing.word.0)) }
-    ensures named { IfErr result (λ k. is_unfound k ≡ true) }
     ensures few { IfOk result (λ found. IfSome found (λ list. list.count < 2 ^ 30)) }
 {
     if data_bits_per_element(size) < data_bits_per_element(expected)
@@ -319,9 +307,7 @@ pub fn get_data<A: BuilderArena>(
     id: u32,
     at: u32,
 ) -> Result<Option<ExistingBytes>, ErrorKind>
-    ensures found { (t : Tree) → IsStored (A.view arena.now).words id at t
-        → result ≡ data_in (target (A.view arena.now).words id at) t }
-    ensures named { IfErr result (λ k. is_unfound k ≡ true) }
+    ensures { FindsAt (A.view arena.now).words id at data_in result }
 {
     match follow_list(arena, id, at)? {
         Some(landing) => {
@@ -348,9 +334,7 @@ pub fn get_text<A: BuilderArena>(
     id: u32,
     at: u32,
 ) -> Result<Option<ExistingBytes>, ErrorKind>
-    ensures found { (t : Tree) → IsStored (A.view arena.now).words id at t
-        → result ≡ text_in (target (A.view arena.now).words id at) t }
-    ensures named { IfErr result (λ k. is_unfound k ≡ true) }
+    ensures { FindsAt (A.view arena.now).words id at text_in result }
 {
     match get_data(arena, id, at)? {
         Some(bytes) => {

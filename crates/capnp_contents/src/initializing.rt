@@ -8,10 +8,11 @@ ghost use Rattle.capnp_format.specs.Word.{struct_word, capability_word};
 ghost use Rattle.capnp_words.specs.Sizes.{size_number};
 ghost use Rattle.capnp_arena_traits.specs.View.{KeepsLimits};
 ghost use Rattle.capnp_making.specs.Made.{zero_struct, zero_structs, zero_list, list_words};
-ghost use Rattle.capnp_making.specs.Makes.{MakesObject, ObjectStartsAt, call_at};
+ghost use Rattle.capnp_making.specs.Makes.{call_at};
 ghost use Rattle.capnp_making.specs.Near.{HasOwnRoom, StartsBehind};
-ghost use Rattle.capnp_making.specs.Stored.{Puts, PutsOnceZeroed};
+ghost use Rattle.capnp_making.specs.Stored.{Puts};
 ghost use Rattle.capnp_making.specs.Zeroed.{IsPrunedBut};
+ghost use Rattle.capnp_contents.specs.Initialized.{GivesObject};
 
 use capnp_arena_traits::arena::BuilderArena;
 use capnp_making::making::{Start, make_list, make_struct, make_struct_list};
@@ -44,13 +45,8 @@ pub fn init_struct<A: BuilderArena>(
     size: StructSize,
 ) -> Result<Start, ErrorKind>
     requires place { IsPlace (A.view arena.old).words id at }
-    ensures object { MakesObject result (call_at id at (A.view arena.old) (A.view arena.new))
+    ensures gives { GivesObject result (call_at id at (A.view arena.old) (A.view arena.new))
         (zero_struct size) (size.data_words + size.pointers) }
-    ensures once_zeroed { OnOk result (PutsOnceZeroed (A.view arena.old).words
-        (A.view arena.new).words id at (zero_struct size)) }
-    ensures start { IfOk result
-        (ObjectStartsAt (call_at id at (A.view arena.old) (A.view arena.new))
-        (size.data_words + size.pointers)) }
     ensures empty { size.data_words + size.pointers ≡ 0
         → OnOk result (word_at (A.view arena.new).words id at ≡ struct_word (2 ^ 30 - 1) 0 0) }
 {
@@ -72,13 +68,8 @@ pub fn init_list<A: BuilderArena>(
     requires place { IsPlace (A.view arena.old).words id at }
     requires few { count < 2 ^ 29 }
     requires plain { size_number size ≤ 6 }
-    ensures object { MakesObject result (call_at id at (A.view arena.old) (A.view arena.new))
+    ensures gives { GivesObject result (call_at id at (A.view arena.old) (A.view arena.new))
         (zero_list (size_number size) count) (list_words (size_number size) count) }
-    ensures once_zeroed { OnOk result (PutsOnceZeroed (A.view arena.old).words
-        (A.view arena.new).words id at (zero_list (size_number size) count)) }
-    ensures start { IfOk result
-        (ObjectStartsAt (call_at id at (A.view arena.old) (A.view arena.new))
-        (list_words (size_number size) count)) }
     ensures at_end { HasOwnRoom (A.view arena.old) id (list_words (size_number size) count)
         → IfOk result (StartsBehind (A.view arena.old).words id) }
 {
@@ -99,13 +90,8 @@ pub fn init_struct_list<A: BuilderArena>(
     requires place { IsPlace (A.view arena.old).words id at }
     requires few { count < 2 ^ 30 }
     requires words { count * (size.data_words + size.pointers) < 2 ^ 29 }
-    ensures object { MakesObject result (call_at id at (A.view arena.old) (A.view arena.new))
+    ensures { GivesObject result (call_at id at (A.view arena.old) (A.view arena.new))
         (zero_structs count size) (1 + count * (size.data_words + size.pointers)) }
-    ensures once_zeroed { OnOk result (PutsOnceZeroed (A.view arena.old).words
-        (A.view arena.new).words id at (zero_structs count size)) }
-    ensures start { IfOk result
-        (ObjectStartsAt (call_at id at (A.view arena.old) (A.view arena.new))
-        (1 + count * (size.data_words + size.pointers))) }
 {
     zero_object(arena, id, at);
     make_struct_list(arena, id, at, count, size)

@@ -104,8 +104,7 @@ fn init_bytes<A: BuilderArena>(
     size: u32,
 ) -> Result<&mut [u8], ErrorKind>
     requires place { IsPlace (A.view arena.old).words id at }
-    requires few { count < 2 ^ 29 }
-    requires enough { size ≤ count }
+    requires few { (size ≤ count) × (count < 2 ^ 29) }
     ensures count { IfOk result (λ bytes. length bytes.now ≡ size) }
     ensures zero { IfOk result (λ bytes. AreZeroOnce (A.view arena.old).words id at bytes.now) }
     ensures made { ReachesArena (LendsBytes A.segments)

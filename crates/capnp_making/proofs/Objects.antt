@@ -3,12 +3,12 @@ use Rattle.std.proofs.Common.{◌≡◌, ◌≢◌, ℕ, pred, ◌+◌, ◌*◌,
 use Rattle.std.proofs.lemmas.Bool.Decides.{nat_tests}
 use Rattle.capnp_format.specs.Word.{kind, upper_half, data_words, pointer_count, element_size, list_count}
 use Rattle.capnp_format.specs.Segments.{Segments, segment, word_at, Target, Grows, leads}
-use Rattle.capnp_format.specs.Tree.{Tree, Null, Capability, Struct, Flat, Pointers, Structs, Trees, count, Elements, element_count}
+use Rattle.capnp_format.specs.Tree.{Tree, Null, Capability, Struct, Flat, Pointers, Structs, Trees, count, element_count}
 use Rattle.capnp_format.specs.Means.{MeansAll, IsTag}
 use Rattle.capnp_format.specs.Forest.{times, pads_of, object_of, cover_all, cover_elements}
 use Rattle.capnp_format.proofs.Frame.{Agree, times-append, agree_here, agree_rest, frame_all, frame_elements}
 use Rattle.capnp_making.specs.Path.{word_interval, extent}
-use Rattle.capnp_making.specs.Zeroed.{row, IsZeroed, PadsInside, IsApart, AreApart, AreApartElements, IsObjectAt, object_cover, IsObjectApart}
+use Rattle.capnp_making.specs.Zeroed.{row, IsZeroed, PadsInside, IsApart, AreApart, IsObjectAt, object_cover, IsObjectApart, IsStructListApart, struct_list_cover}
 use Rattle.capnp_making.proofs.Zeros.{zeroed_again}
 use Rattle.capnp_format.proofs.ZeroWords.{zero_is_null}
 use Rattle.capnp_making.proofs.Below.{split_row, zeroed_grows, pads_inside, place_object}
@@ -69,7 +69,7 @@ null_done S s p t e a = let n = zero_is_null S s p t a.means.0 a.means.1 e a.mea
 
 -- the object of each kind
 pub landed_struct : (S L : Segments) (a : Target) (d q : ℕ) (t : Tree) → kind a.word ≡ 0 → d ≡ data_words a.word → q ≡ pointer_count a.word →
-    ((ts : Trees) → count ts ≡ q → a.start + (d + q) ≤ length (segment S a.segment) → AreApart S a.segment (a.start + d) ts → IsZeroed S L (row a.segment a.start (d + q) ∷ cover_all S a.segment (a.start + d) ts)) →
+    ((ts : Trees) → (count ts ≡ q) × (a.start + (d + q) ≤ length (segment S a.segment)) × AreApart S a.segment (a.start + d) ts → IsZeroed S L (row a.segment a.start (d + q) ∷ cover_all S a.segment (a.start + d) ts)) →
     IsObjectApart S a t → IsZeroed S L (object_cover S a t)
 landed_struct S L a d q t x ed eq h o = go t o.stands.0 o.stands.1 o.apart
   where
@@ -82,13 +82,13 @@ landed_struct S L a d q t x ed eq h o = go t o.stands.0 o.stands.1 o.apart
         let same : (v r : ℕ) → times (row a.segment (a.start + d) (count ts) ∷ cover_all S a.segment (a.start + d) ts) v r ≤ times (object_cover S a (Struct ws ts)) v r = λ v r.
         let i = split_row a.segment a.start (length ws) (count ts) v r in rw e (omega (arith, i)) in
         subst (λ m. IsZeroed S L (row a.segment a.start (m + count ts) ∷ cover_all S a.segment (a.start + m) ts)) e (subst (λ m. IsZeroed S L (row a.segment a.start (d + m) ∷ cover_all S a.segment (a.start + d) ts)) f
-        (h ts (sym f) (omega arith) (record { mean = (n, k, subst (λ m. MeansAll S n a.segment (a.start + m) ts k) (sym e) all); apart = λ v r. le_trans (same v r) (apart v r) })))
+        (h ts (sym f, omega arith, record { mean = (n, k, subst (λ m. MeansAll S n a.segment (a.start + m) ts k) (sym e) all); apart = λ v r. le_trans (same v r) (apart v r) })))
     go (Flat size ns) n o apart = absurd (omega (arith, o.0))
     go (Pointers ts) n o apart = absurd (omega (arith, o.1, o.2))
     go (Structs d q es) n o apart = absurd (omega (arith, o.1, o.2))
 
 pub landed_pointers : (S L : Segments) (a : Target) (c : ℕ) (t : Tree) → kind a.word ≡ 1 → element_size a.word ≡ 6 → c ≡ list_count a.word →
-    ((ts : Trees) → count ts ≡ c → a.start + c ≤ length (segment S a.segment) → AreApart S a.segment a.start ts → IsZeroed S L (row a.segment a.start c ∷ cover_all S a.segment a.start ts)) →
+    ((ts : Trees) → (count ts ≡ c) × (a.start + c ≤ length (segment S a.segment)) × AreApart S a.segment a.start ts → IsZeroed S L (row a.segment a.start c ∷ cover_all S a.segment a.start ts)) →
     IsObjectApart S a t → IsZeroed S L (object_cover S a t)
 landed_pointers S L a c t x six ec h o = go t o.stands.0 o.stands.1 o.apart
   where
@@ -99,12 +99,11 @@ landed_pointers S L a c t x six ec h o = go t o.stands.0 o.stands.1 o.apart
     go (Flat size ns) n o apart = absurd (omega (arith, o.1, o.2))
     go (Pointers ts) n (k, y, e, counts, claim, all) apart =
         let f : c ≡ count ts = ec ∙ counts in
-        subst (λ m. IsZeroed S L (row a.segment a.start m ∷ cover_all S a.segment a.start ts)) f (h ts (sym f) (omega arith) (record { mean = (n, k, all); apart = apart }))
+        subst (λ m. IsZeroed S L (row a.segment a.start m ∷ cover_all S a.segment a.start ts)) f (h ts (sym f, omega arith, record { mean = (n, k, all); apart = apart }))
     go (Structs d q es) n o apart = absurd (omega (arith, o.1, o.2))
 
 pub landed_structs : (S L : Segments) (a : Target) (t : Tree) → kind a.word ≡ 1 → element_size a.word ≡ 7 →
-    ((d q : ℕ) (es : Elements) → IsTag (word_at S a.segment a.start) (element_count es) d q → a.start + (1 + element_count es * (d + q)) ≤ length (segment S a.segment) → AreApartElements S a.segment (a.start + 1) d q es →
-    IsZeroed S L (row a.segment a.start (1 + element_count es * (d + q)) ∷ cover_elements S a.segment (a.start + 1) d q es)) → IsObjectApart S a t → IsZeroed S L (object_cover S a t)
+    ((u : Tree) → IsStructListApart S a.segment a.start u → IsZeroed S L (struct_list_cover S a.segment a.start u)) → IsObjectApart S a t → IsZeroed S L (object_cover S a t)
 landed_structs S L a t x seven h o = go t o.stands.0 o.stands.1 o.apart
   where
     go : (t : Tree) (n : ℕ) → IsObjectAt S n a t → ((v r : ℕ) → times (object_cover S a t) v r ≤ 1) → IsZeroed S L (object_cover S a t)
@@ -114,4 +113,4 @@ landed_structs S L a t x seven h o = go t o.stands.0 o.stands.1 o.apart
     go (Flat size ns) n o apart = absurd (omega (arith, o.1, o.2))
     go (Pointers ts) n o apart = absurd (omega (arith, o.1, o.2))
     go (Structs d q es) n (k, y, e, tag, claim, all) apart =
-        h d q es tag claim (record { mean = (n, k, all); apart = λ v r. let i = split_row a.segment a.start 1 (element_count es * (d + q)) v r in let f = apart v r in omega (arith, i, f) })
+        h (Structs d q es) (tag, claim, record { mean = (n, k, all); apart = λ v r. let i = split_row a.segment a.start 1 (element_count es * (d + q)) v r in let f = apart v r in omega (arith, i, f) })

@@ -1,5 +1,5 @@
 -- A call that makes an object at the place of a pointer.
-use Rattle.std.specs.Prelude.{◌≡◌, ◌+◌, ◌<◌, ◌≤◌, ℕ, length, Result, Err, IsOk, IsOkAnd, IfErr, OnOk}
+use Rattle.std.specs.Prelude.{◌≡◌, ◌+◌, ◌<◌, ◌≤◌, ℕ, length, Result, Err, IsOk, IsOkAnd, IfOk, IfErr, OnOk}
 use Rattle.std.specs.Prelude.{OnErr, MatchResult}
 use Rattle.capnp_words.specs.declared.error.ErrorKind.{ErrorKind}
 use Rattle.capnp_format.specs.Forest.{cover, target, times}
@@ -7,7 +7,9 @@ use Rattle.capnp_format.specs.Segments.{segment, word_at, Target}
 use Rattle.capnp_format.specs.Tree.{Tree, Null}
 use Rattle.capnp_arena_traits.specs.View.{View}
 use Rattle.capnp_making.specs.Made.{LeadsToStart, IsMade, IsShape}
+use Rattle.capnp_arena_traits.specs.Taking.{IsFirstFit}
 use Rattle.capnp_making.specs.Memory.{HasRoom, KeepsMemory, TakesWords, StandsBehind, start_of, IsRefusedFor}
+use Rattle.capnp_making.specs.Memory.{IsNextRoom, Lengthens}
 use Rattle.capnp_making.specs.Stored.{IsStored, Puts}
 use Rattle.capnp_making.specs.Zeroed.{IsPruned}
 use Rattle.capnp_making.specs.declared.making.Shape.{Shape}
@@ -50,6 +52,19 @@ pub record MakesObject {A : Type 0} (result : Result A ErrorKind) (c : CallAt) (
 abbrev pub IsMadeAt : CallAt → Shape → ℕ → Start → Type 0
 IsMadeAt c shape n h = (a : Target) × IsMade c.old.words c.new.words c.segment c.at a n ×
     IsShape shape a.word × (h.segment ≡ a.segment) × (h.at ≡ a.start)
+
+-- A call makes an object of n words behind a landing pad, where the arena has room next for both;
+-- or that is refused, and no word is written.
+pub record MakesFar (result : Result Start ErrorKind) (c : CallAt) (shape : Shape) (n : ℕ) : Type 0 where
+  pub made : IfOk result (IsMadeAt c shape n)
+  pub fits : (k : ℕ) → IsFirstFit c.old (n + 1) k → IsOk result
+  pub granted : OnOk result (KeepsMemory c.old c.new)
+  pub taken :
+      IfOk result
+      (λ h. IsNextRoom c.old (n + 1) h.segment × Lengthens c.old.words c.new.words h.segment (n + 1) ×
+      (h.at ≡ length (segment c.old.words h.segment) + 1))
+  pub named : IfErr result (IsRefusedFor c.old c.new n)
+  pub refused : OnErr result (c.new.words ≡ c.old.words)
 
 -- The object of n words that a call made starts at h: its pointer leads there, its words are there,
 -- and they stand behind all that were there.

@@ -1,13 +1,16 @@
 -- Words made zero, and what stands where a pointer leads.
 use Rattle.std.specs.Prelude.{◌≡◌, ◌⊎◌, ℕ, ◌+◌, ◌*◌, ◌<◌, ◌≤◌, List, [], ◌∷◌, ◌++◌, length}
 use Rattle.capnp_format.specs.Word.{kind, data_words, pointer_count, element_size, list_count}
+use Rattle.capnp_format.specs.Word.{upper_half, far_position, is_double}
 use Rattle.capnp_format.specs.Numbers.{words_for}
 use Rattle.capnp_format.specs.Segments.{Segments, segment, word_at, Target}
 use Rattle.capnp_format.specs.Tree.{Tree, Null, Capability, Struct, Flat, Pointers, Structs, Trees}
 use Rattle.capnp_format.specs.Tree.{Elements, no_elements, element, count, element_count}
 use Rattle.capnp_format.specs.Means.{Means, MeansAll, MeansElements, Claims, IsTag}
 pub use Rattle.capnp_format.specs.Forest.{row, PadsInside, object_cover}
-use Rattle.capnp_format.specs.Forest.{Interval, times, cover_all, cover_elements}
+use Rattle.capnp_format.specs.Forest.{Interval, times, pads_of, cover_all, cover_elements}
+use Rattle.capnp_words.specs.declared.wire_pointer.StructSize.{StructSize}
+use Rattle.capnp_arena_traits.specs.View.{View, KeepsLimits}
 use Rattle.capnp_making.specs.Path.{word_interval, extent}
 
 -- From S to R the words in these intervals become zero; all others stay.
@@ -42,9 +45,14 @@ pub record AreApart (S : Segments) (s p : ℕ) (ts : Trees) : Type 0 where
   pub apart : (v r : ℕ) → times (row s p (count ts) ∷ cover_all S s p ts) v r ≤ 1
 
 -- The pointers of elements one behind the other mean values whose words are all held once.
-pub record AreApartElements (S : Segments) (s p d q : ℕ) (es : Elements) : Type 0 where
-  pub mean : (n : ℕ) × (c : ℕ) × MeansElements S n s p d q es c
-  pub apart : (v r : ℕ) → times (row s p (element_count es * (d + q)) ∷ cover_elements S s p d q es) v r ≤ 1
+pub record AreApartElements (S : Segments) (s p : ℕ) (size : StructSize) (es : Elements) : Type 0 where
+  pub mean : (n : ℕ) × (c : ℕ) × MeansElements S n s p size.data_words size.pointers es c
+  pub apart :
+      (v r : ℕ) →
+      times
+      (row s p (element_count es * (size.data_words + size.pointers)) ∷
+      cover_elements S s p size.data_words size.pointers es) v r
+      ≤ 1
 
 -- Where the target a leads, a value stands.
 abbrev pub IsObjectAt : Segments → ℕ → Target → Tree → Type 0
@@ -71,7 +79,42 @@ pub record IsObjectApart (S : Segments) (a : Target) (t : Tree) : Type 0 where
   pub apart : (v r : ℕ) → times (object_cover S a t) v r ≤ 1
 
 -- The pointers of elements one behind the other, with what is reached from them.
-abbrev pub element_extents : Segments → ℕ → ℕ → ℕ → ℕ → Elements → List Interval
-element_extents S s p d q no_elements = []
-element_extents S s p d q (element ws ts es) =
-    (row s (p + d) q ∷ cover_all S s (p + d) ts) ++ element_extents S s (p + d + q) d q es
+abbrev pub element_extents : Segments → ℕ → ℕ → StructSize → Elements → List Interval
+element_extents S s p size no_elements = []
+element_extents S s p size (element ws ts es) =
+    (row s (p + size.data_words) size.pointers ∷ cover_all S s (p + size.data_words) ts) ++
+    element_extents S s (p + size.data_words + size.pointers) size es
+
+-- Sections of so many words of data and so many pointers.
+abbrev pub sections : ℕ → ℕ → StructSize
+sections d q = record { data_words = d; pointers = q }
+
+-- From position p on a list of structs stands: its tag, and elements that hold no word twice.
+abbrev pub IsStructListApart : Segments → ℕ → ℕ → Tree → Type 0
+IsStructListApart S s p (Structs d q es) =
+    IsTag (word_at S s p) (element_count es) d q
+    × (p + (1 + element_count es * (d + q)) ≤ length (segment S s))
+    × AreApartElements S s (p + 1) (sections d q) es
+IsStructListApart S s p t = ⊥
+
+-- The words of a list of structs that stands from position p on, with what is reached from it.
+abbrev pub struct_list_cover : Segments → ℕ → ℕ → Tree → List Interval
+struct_list_cover S s p (Structs d q es) =
+    row s p (1 + element_count es * (d + q)) ∷ cover_elements S s (p + 1) d q es
+struct_list_cover S s p t = []
+
+-- A call makes words zero, and changes nothing else. Where Holds is so of x, they are just those
+-- of the intervals of x.
+pub record Zeroes {B : Type 0} (old new : View) (Holds : B → Type 0) (held : B → List Interval)
+    : Type 0 where
+  pub zeroed : (x : B) → Holds x → IsZeroed old.words new.words (held x)
+  pub pruned : IsPruned old.words new.words
+  pub limits : KeepsLimits old new
+
+-- A call makes the landing pads of a pointer word zero, if it is a far pointer and they lie in
+-- their segment; else it changes nothing.
+pub record ZeroesPads (old new : View) (x : ℕ) : Type 0 where
+  pub zeroed : PadsInside old.words x → IsZeroed old.words new.words (pads_of x)
+  pub beyond : length (segment old.words (upper_half x)) < far_position x + (1 + is_double x) → new ≡ old
+  pub pruned : IsPruned old.words new.words
+  pub limits : KeepsLimits old new

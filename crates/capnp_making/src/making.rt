@@ -12,7 +12,7 @@ ghost use Rattle.capnp_words.specs.Sizes.{size_number};
 ghost use Rattle.capnp_arena_traits.specs.Taking.{IsFirstFit};
 ghost use Rattle.capnp_arena_traits.specs.View.{KeepsLimits};
 ghost use Rattle.capnp_making.specs.Made.{IsShape, CountFits, AsksWords, zero_struct, zero_structs, zero_list, list_words, words_of_zero};
-ghost use Rattle.capnp_making.specs.Makes.{Allocates, IsMadeAt, ObjectStartsAt, call_at};
+ghost use Rattle.capnp_making.specs.Makes.{Allocates, IsMadeAt, MakesFar, ObjectStartsAt, call_at};
 ghost use Rattle.capnp_making.specs.Memory.{KeepsMemory, IsNextRoom, Lengthens, StandsBehind, IsRefusedFor};
 ghost use Rattle.capnp_making.specs.Near.{HasOwnRoom, StartsBehind, offset_behind, shape_word, with_object};
 ghost use Rattle.capnp_making.specs.declared.making.Shape.TheVariants.{Struct as StructShape, List as ListShape};
@@ -121,15 +121,7 @@ fn put_far<A: BuilderArena>(
     requires place { IsPlace (A.view arena.old).words id at }
     requires few { CountFits shape }
     requires small { amount < 2 ^ 31 }
-    ensures made { IfOk result
-        (IsMadeAt (call_at id at (A.view arena.old) (A.view arena.new)) shape amount) }
-    ensures fits { (k : ℕ) → IsFirstFit (A.view arena.old) (amount + 1) k → IsOk result }
-    ensures granted { OnOk result (KeepsMemory (A.view arena.old) (A.view arena.new)) }
-    ensures taken { IfOk result (λ h. IsNextRoom (A.view arena.old) (amount + 1) h.segment
-        × Lengthens (A.view arena.old).words (A.view arena.new).words h.segment (amount + 1)
-        × (h.at ≡ length (segment (A.view arena.old).words h.segment) + 1)) }
-    ensures named { IfErr result (IsRefusedFor (A.view arena.old) (A.view arena.new) amount) }
-    ensures refused { OnErr result ((A.view arena.new).words ≡ (A.view arena.old).words) }
+    ensures { MakesFar result (call_at id at (A.view arena.old) (A.view arena.new)) shape amount }
 {
     // No `?`: with it lists and trees of structs are built slower (docs/SPEED.md).
     match arena.allocate_anywhere(amount + 1) {

@@ -9,7 +9,7 @@ ghost use Rattle.capnp_format.specs.Word.{far_position, is_double, kind, upper_h
 ghost use Rattle.capnp_format.specs.Forest.{pads_of, row, PadsInside, object_cover, cover_all, cover_elements};
 ghost use Rattle.capnp_making.specs.Path.{extent};
 ghost use Rattle.capnp_making.specs.Landings.{target_of};
-ghost use Rattle.capnp_making.specs.Zeroed.{IsZeroed, IsPruned, IsApart, IsObjectApart, AreApart, AreApartElements, element_extents};
+ghost use Rattle.capnp_making.specs.Zeroed.{IsZeroed, IsPruned, Zeroes, ZeroesPads, IsApart, IsObjectApart, AreApart, AreApartElements, IsStructListApart, element_extents, struct_list_cover};
 
 use crate::landing::{Landing, follow, length_of, word_of};
 use capnp_arena_traits::arena::BuilderArena;
@@ -44,13 +44,7 @@ fn holds_some<A: BuilderArena>(arena: &A, id: u32, start: u32, n: u64) -> bool
 /// Makes the landing pads of a word zero, if it is a far pointer. Where they don't lie in their segment,
 /// nothing is changed.
 pub fn zero_pads<A: BuilderArena>(arena: &mut A, word: WirePointer)
-    ensures zeroed { PadsInside (A.view arena.old).words word.0
-        → IsZeroed (A.view arena.old).words (A.view arena.new).words (pads_of word.0) }
-    ensures beyond { length (segment (A.view arena.old).words (upper_half word.0))
-        < far_position word.0 + (1 + is_double word.0)
-        → A.view arena.new ≡ A.view arena.old }
-    ensures pruned { IsPruned (A.view arena.old).words (A.view arena.new).words }
-    ensures limits { KeepsLimits (A.view arena.old) (A.view arena.new) }
+    ensures { ZeroesPads (A.view arena.old) (A.view arena.new) word.0 }
 {
     if word.kind() == WirePointerKind::Far {
         zero_far_pads(arena, word);
@@ -62,13 +56,7 @@ pub fn zero_pads<A: BuilderArena>(arena: &mut A, word: WirePointer)
 #[inline(never)]
 fn zero_far_pads<A: BuilderArena>(arena: &mut A, word: WirePointer)
     requires { kind word.0 ≡ 2 }
-    ensures zeroed { PadsInside (A.view arena.old).words word.0
-        → IsZeroed (A.view arena.old).words (A.view arena.new).words (pads_of word.0) }
-    ensures beyond { length (segment (A.view arena.old).words (upper_half word.0))
-        < far_position word.0 + (1 + is_double word.0)
-        → A.view arena.new ≡ A.view arena.old }
-    ensures pruned { IsPruned (A.view arena.old).words (A.view arena.new).words }
-    ensures limits { KeepsLimits (A.view arena.old) (A.view arena.new) }
+    ensures { ZeroesPads (A.view arena.old) (A.view arena.new) word.0 }
 {
     let words = if word.is_double_far() { 2 } else { 1 };
     zero_part(
@@ -86,12 +74,9 @@ fn zero_far_pads<A: BuilderArena>(arena: &mut A, word: WirePointer)
 #[inline(always)]
 pub fn zero_object<A: BuilderArena>(arena: &mut A, id: u32, at: u32)
     requires { IsPlace (A.view arena.old).words id at }
-    ensures zeroed { (t : Tree) → IsApart (A.view arena.old).words id at t
-        → IsZeroed (A.view arena.old).words (A.view arena.new).words
-        (extent (A.view arena.old).words id at t) }
-    ensures pruned { IsPruned (A.view arena.old).words (A.view arena.new).words }
+    ensures zeroes { Zeroes (A.view arena.old) (A.view arena.new)
+        (IsApart (A.view arena.old).words id at) (extent (A.view arena.old).words id at) }
     ensures null { word_at (A.view arena.new).words id at ≡ 0 }
-    ensures limits { KeepsLimits (A.view arena.old) (A.view arena.new) }
 {
     let word = WirePointer(arena.get_word(id, at));
     if word.is_null() {
@@ -114,11 +99,9 @@ pub fn zero_object<A: BuilderArena>(arena: &mut A, id: u32, at: u32)
 #[cold]
 #[inline(never)]
 fn zero_landed<A: BuilderArena>(arena: &mut A, landing: Landing)
-    ensures zeroed { (t : Tree) → IsObjectApart (A.view arena.old).words (target_of landing) t
-        → IsZeroed (A.view arena.old).words (A.view arena.new).words
-        (object_cover (A.view arena.old).words (target_of landing) t) }
-    ensures pruned { IsPruned (A.view arena.old).words (A.view arena.new).words }
-    ensures limits { KeepsLimits (A.view arena.old) (A.view arena.new) }
+    ensures { Zeroes (A.view arena.old) (A.view arena.new)
+        (IsObjectApart (A.view arena.old).words (target_of landing))
+        (object_cover (A.view arena.old).words (target_of landing)) }
 {
     let Landing {
         word,
@@ -146,14 +129,12 @@ fn zero_landed<A: BuilderArena>(arena: &mut A, landing: Landing)
 /// Makes a struct zero, and all below it, if its pointers mean values.
 #[cycle(zeroing)]
 fn zero_struct<A: BuilderArena>(arena: &mut A, id: u32, start: u32, size: StructSize)
-    ensures zeroed { (ts : Trees) → number ts ≡ size.pointers
-        → start + (size.data_words + size.pointers) ≤ length (segment (A.view arena.old).words id)
-        → AreApart (A.view arena.old).words id (start + size.data_words) ts
-        → IsZeroed (A.view arena.old).words (A.view arena.new).words
-        (row id start (size.data_words + size.pointers)
+    ensures { Zeroes (A.view arena.old) (A.view arena.new)
+        (λ (ts : Trees). (number ts ≡ size.pointers)
+        × (start + (size.data_words + size.pointers) ≤ length (segment (A.view arena.old).words id))
+        × AreApart (A.view arena.old).words id (start + size.data_words) ts)
+        (λ (ts : Trees). row id start (size.data_words + size.pointers)
         ∷ cover_all (A.view arena.old).words id (start + size.data_words) ts) }
-    ensures pruned { IsPruned (A.view arena.old).words (A.view arena.new).words }
-    ensures limits { KeepsLimits (A.view arena.old) (A.view arena.new) }
 {
     let pointers = u64::from(start) + u64::from(size.data_words);
     if pointers + u64::from(size.pointers) <= u64::from(length_of(arena, id)) {
@@ -166,13 +147,11 @@ fn zero_struct<A: BuilderArena>(arena: &mut A, id: u32, start: u32, size: Struct
 #[cycle(zeroing)]
 #[tactic(auto, using(crate::proofs::Zeros::fewer))]
 fn zero_pointers<A: BuilderArena>(arena: &mut A, id: u32, start: u32, count: u32)
-    ensures zeroed { (ts : Trees) → number ts ≡ count
-        → start + count ≤ length (segment (A.view arena.old).words id)
-        → AreApart (A.view arena.old).words id start ts
-        → IsZeroed (A.view arena.old).words (A.view arena.new).words
-        (row id start count ∷ cover_all (A.view arena.old).words id start ts) }
-    ensures pruned { IsPruned (A.view arena.old).words (A.view arena.new).words }
-    ensures limits { KeepsLimits (A.view arena.old) (A.view arena.new) }
+    ensures { Zeroes (A.view arena.old) (A.view arena.new)
+        (λ (ts : Trees). (number ts ≡ count)
+        × (start + count ≤ length (segment (A.view arena.old).words id))
+        × AreApart (A.view arena.old).words id start ts)
+        (λ (ts : Trees). row id start count ∷ cover_all (A.view arena.old).words id start ts) }
 {
     if u64::from(start) + u64::from(count) <= u64::from(length_of(arena, id)) {
         for i in 0..count {
@@ -184,15 +163,9 @@ fn zero_pointers<A: BuilderArena>(arena: &mut A, id: u32, start: u32, count: u32
 /// Makes a list of structs zero, its tag, and all below it, if its pointers mean values.
 #[cycle(zeroing)]
 fn zero_structs<A: BuilderArena>(arena: &mut A, id: u32, start: u32)
-    ensures zeroed { (d q : ℕ) (es : Elements)
-        → IsTag (word_at (A.view arena.old).words id start) (element_count es) d q
-        → start + (1 + element_count es * (d + q)) ≤ length (segment (A.view arena.old).words id)
-        → AreApartElements (A.view arena.old).words id (start + 1) d q es
-        → IsZeroed (A.view arena.old).words (A.view arena.new).words
-        (row id start (1 + element_count es * (d + q))
-        ∷ cover_elements (A.view arena.old).words id (start + 1) d q es) }
-    ensures pruned { IsPruned (A.view arena.old).words (A.view arena.new).words }
-    ensures limits { KeepsLimits (A.view arena.old) (A.view arena.new) }
+    ensures { Zeroes (A.view arena.old) (A.view arena.new)
+        (IsStructListApart (A.view arena.old).words id start)
+        (struct_list_cover (A.view arena.old).words id start) }
 {
     let tag = word_of(arena, id, start);
     let count = tag.inline_composite_list_element_count();
@@ -210,12 +183,9 @@ fn zero_structs<A: BuilderArena>(arena: &mut A, id: u32, start: u32)
 fn zero_elements<A: BuilderArena>(arena: &mut A, id: u32, start: u32, size: StructSize, count: u32)
     requires { start + count * (size.data_words + size.pointers)
         ≤ length (segment (A.view arena.old).words id) }
-    ensures zeroed { (es : Elements) → element_count es ≡ count
-        → AreApartElements (A.view arena.old).words id start size.data_words size.pointers es
-        → IsZeroed (A.view arena.old).words (A.view arena.new).words
-        (element_extents (A.view arena.old).words id start size.data_words size.pointers es) }
-    ensures pruned { IsPruned (A.view arena.old).words (A.view arena.new).words }
-    ensures limits { KeepsLimits (A.view arena.old) (A.view arena.new) }
+    ensures { Zeroes (A.view arena.old) (A.view arena.new)
+        (λ (es : Elements). (element_count es ≡ count) × AreApartElements (A.view arena.old).words id start size es)
+        (element_extents (A.view arena.old).words id start size) }
 {
     if size.pointers > 0 {
         let mut at = start;

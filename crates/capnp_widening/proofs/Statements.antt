@@ -178,7 +178,7 @@ abbrev pub rows_moves : ℕ → ℕ → ℕ → ℕ → ℕ → ℕ → ℕ → 
 rows_moves s p w v r z k n = rows_of_moves (record { segment = s; at = p; step = w }) (record { segment = v; at = r; step = z }) k n
 
 abbrev pub CopiedRows : Segments → Segments → ℕ → ℕ → ℕ → ℕ → ℕ → ℕ → ℕ → ℕ → Type 0
-CopiedRows S R s p w v r z d n = AreRowsCopied S R (record { segment = s; at = p; step = w }) (record { segment = v; at = r; step = z }) d n
+CopiedRows S R s p w v r z d n = AreRowsCopied S R (record { from = record { segment = s; at = p; step = w }; to = record { segment = v; at = r; step = z }; words = d; count = n })
 
 -- numbers copied, of which so many are
 pub record CopiedNumbers (S R : Segments) (s p width v r z n : ℕ) : Type 0 where

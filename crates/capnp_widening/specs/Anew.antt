@@ -14,7 +14,10 @@ use Rattle.capnp_making.specs.Makes.{CallAt}
 use Rattle.capnp_making.specs.Memory.{KeepsMemory, SpendsMemory, RefusesWords}
 use Rattle.capnp_making.specs.Memory.{StandsBehind, TakesWords, start_of}
 use Rattle.capnp_making.specs.Stored.{IsReplaced}
-use Rattle.capnp_widening.specs.Moved.{CanMove, Move, Moves, MovesSome, moves_into, near_pointers}
+use Rattle.capnp_making.specs.Zeroed.{IsPruned}
+use Rattle.capnp_making.specs.declared.making.Start.{Start}
+use Rattle.capnp_widening.specs.Moved.{CanMove, Move, Moves, MovesSome, Unmoves, moves_into, near_pointers}
+use Rattle.capnp_widening.specs.Moved.{row_of_moves}
 use Rattle.capnp_widening.specs.Rooms.{GrowsByAtMost, HasPadRoom, widened_words}
 use Rattle.capnp_widening.specs.Widened.{GrowsByZeros, widened}
 
@@ -61,6 +64,10 @@ WritesAnew old new ms =
     (S : Segments) → CanMove S old.words ms →
     AreWrittenAnew S new.words ms × TakesPadsInTurn S old new ms
 
+-- The place of a call.
+abbrev pub call_place : CallAt → Start
+call_place c = record { segment = c.segment; at = c.at }
+
 -- A call moves n pointers in turn, and takes at most two words for each. Or two words are refused:
 -- then some of the first pointers are moved.
 pub record MovesInTurn {A : Type 0} (result : Result A ErrorKind) (old new : View) (ms : List Move)
@@ -83,6 +90,21 @@ pub record MovesApart {A : Type 0} (result : Result A ErrorKind) (old new : View
       HasPadRoom new k n
   pub kept : OnOk result ((y : ℕ) → y < length (segment old.words k) →
       word_at new.words k y ≡ word_at old.words k y)
+
+-- A call moves n pointers, one behind the other from its place on, to others from h on, in turn.
+-- Within a segment it is granted.
+pub record MovesRow {A : Type 0} (result : Result A ErrorKind) (c : CallAt) (h : Start) (n : ℕ)
+    : Type 0 where
+  pub moves : MovesInTurn result c.old c.new (row_of_moves (call_place c) h n) n
+  pub near : c.segment ≡ h.segment → IsOk result
+  pub apart : c.segment ≢ h.segment →
+      MovesApart result c.old c.new c.segment (row_of_moves (call_place c) h n)
+
+-- A call makes the pads zero that were written for these pointers, and changes nothing else.
+pub record TakesBack (old new : View) (ms : List Move) : Type 0 where
+  pub zeroed : Unmoves old.words new.words ms
+  pub pruned : IsPruned old.words new.words
+  pub limits : KeepsLimits old new
 
 -- A call makes an object of n words anew, to which its place leads, behind all words that were
 -- there, and writes these pointers into it. Its words are taken first, then those of the landing

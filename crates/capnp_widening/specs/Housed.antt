@@ -1,13 +1,19 @@
 -- New words for an object that is made anew, and its pointer set to it.
-use Rattle.std.specs.Prelude.{◌≡◌, ◌⊎◌, ℕ, ◌+◌, ◌<◌, [], ◌∷◌, length}
+use Rattle.std.specs.Prelude.{◌≡◌, ◌≢◌, ◌⊎◌, ℕ, ◌+◌, ◌<◌, ◌≤◌, [], ◌∷◌, length}
+use Rattle.std.specs.Prelude.{Result, IsOk, IfOk, IfErr, OnOk, OnErr}
+use Rattle.capnp_words.specs.declared.error.ErrorKind.{ErrorKind}
 use Rattle.capnp_format.specs.Segments.{Segments, segment, word_at, Target}
 use Rattle.capnp_format.specs.Means.{Leads}
 use Rattle.capnp_format.specs.Forest.{times, pads_of}
 use Rattle.capnp_making.specs.Path.{word_interval}
 use Rattle.capnp_making.specs.Zeroed.{row}
 use Rattle.capnp_making.specs.Made.{IsShape, IsGrown}
+use Rattle.capnp_arena_traits.specs.View.{View, KeepsLimits}
+use Rattle.capnp_making.specs.Memory.{KeepsMemory, SpendsMemory, RefusesWords}
+use Rattle.capnp_making.specs.Memory.{StandsBehind, TakesWords}
 use Rattle.capnp_making.specs.declared.making.Shape.{Shape}
 use Rattle.capnp_making.specs.declared.making.Start.{Start}
+use Rattle.capnp_widening.specs.Rooms.{GrowsByAtMost, HasPadRoom, HasRoomAndPads}
 use Rattle.capnp_widening.specs.declared.widening.Room.{Room}
 
 -- From S to T the words of a room for n words are new, all zero: in segment id, or behind a landing pad.
@@ -19,12 +25,32 @@ IsRoom S T id n h =
 abbrev pub object_start : Room → Start
 object_start h = record { segment = h.segment; at = h.at + h.pads }
 
+-- A call takes n words for an object behind all words that were there, and a pad where that stands
+-- in another segment than id; or these are refused, and no word is written. It is granted where
+-- there is room for them. Where there was room for pads of m objects in segment k too, it is left.
+pub record TakesRoom (result : Result Room ErrorKind) (old new : View) (id n : ℕ) : Type 0 where
+  pub words : OnOk result (TakesWords old new id n)
+  pub behind : IfOk result (λ room. StandsBehind old id n (object_start room))
+  pub granted : OnOk result (KeepsMemory old new)
+  pub memory : IfErr result (SpendsMemory old new)
+  pub full : IfErr result (RefusesWords old new n)
+  pub refused : OnErr result (new.words ≡ old.words)
+  pub few : GrowsByAtMost old.words new.words (n + 1)
+  pub fits : (k m : ℕ) → HasRoomAndPads old id n k m → IsOk result ×
+      IfOk result
+      (λ room. k < length old.words → room.segment ≢ k → m ≤ n → HasPadRoom new k m)
+
 -- From S to R so many words are copied to others: only these are written.
 pub record AreWordsCopied (S R : Segments) (from to : Start) (n : ℕ) : Type 0 where
   pub segments : length R ≡ length S
   pub words : (x : ℕ) → length (segment R x) ≡ length (segment S x)
   pub here : (i : ℕ) → i < n → word_at R to.segment (to.at + i) ≡ word_at S from.segment (from.at + i)
   pub kept : (x y : ℕ) → times (row to.segment to.at n ∷ []) x y ≡ 0 → word_at R x y ≡ word_at S x y
+
+-- A call copies so many words to others, and changes nothing else.
+pub record CopiesWords (old new : View) (from to : Start) (n : ℕ) : Type 0 where
+  pub copied : AreWordsCopied old.words new.words from to n
+  pub limits : KeepsLimits old new
 
 -- From S to R the pointer at a place is overwritten, and leads to the object of this shape that
 -- stands in a room, behind the room's pads.

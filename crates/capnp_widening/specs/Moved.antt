@@ -1,6 +1,6 @@
 -- Pointers written anew at other places, to what the old ones lead to ("Inter-Segment Pointers").
 use Rattle.std.specs.List.{AllByRecursion}
-use Rattle.std.specs.Prelude.{flat_map, map, ◌≡◌, ℕ, zero, suc, ◌+◌, ◌%◌, ◌^◌, ◌<◌, ◌≤◌, ◌⊎◌}
+use Rattle.std.specs.Prelude.{flat_map, map, ◌≡◌, ℕ, zero, suc, ◌+◌, ◌*◌, ◌%◌, ◌^◌, ◌<◌, ◌≤◌, ◌⊎◌}
 use Rattle.std.specs.Prelude.{if◌then◌else◌, nat_eq, nat_lt, List, [], ◌∷◌, ◌++◌, length}
 use Rattle.capnp_format.specs.Word.{kind, upper_half}
 use Rattle.capnp_format.specs.Segments.{Segments, Grows, segment, word_at, Target}
@@ -38,6 +38,17 @@ row_of_moves from to zero = []
 row_of_moves from to (suc k) =
     record { from = from; to = to }
     ∷ row_of_moves (record from { at = from.at + 1 }) (record to { at = to.at + 1 }) k
+
+-- As many words from each of two places lie in their segments.
+pub record BothLieInside (S : Segments) (a b : Start) (n : ℕ) : Type 0 where
+  pub from : a.at + n ≤ length (segment S a.segment)
+  pub to : b.at + n ≤ length (segment S b.segment)
+
+-- n rows of k pointers lie in their segments, and so do n others.
+pub record RowsLieInside (S : Segments) (a b : PointerRows) (k n : ℕ) : Type 0 where
+  pub from : a.at + n * a.step + k ≤ length (segment S a.segment) + a.step
+  pub to : b.at + n * b.step + k ≤ length (segment S b.segment) + b.step
+  pub small : (a.step < 2 ^ 18) × (b.step < 2 ^ 18)
 
 -- n rows of k pointers, written anew in other rows.
 abbrev pub rows_of_moves : PointerRows → PointerRows → ℕ → ℕ → List Move

@@ -27,8 +27,8 @@ pub record PointsTo (S R : Segments) (shape : Shape) (h at : Start) : Type 0 whe
   pub starts : ((object.segment ≡ h.segment) × (object.start ≡ h.at)) ⊎
       ((kind object.word ≡ 0) × (upper_half object.word ≡ 0))
 
--- Where a word is a far pointer to two landing pads, the first is a far pointer to one, and the
--- second a tag with the offset 0 ("Inter-Segment Pointers").
+-- Where a word is a far pointer to a landing pad of two words, the first of these is a far pointer in
+-- the form for one word, and the second a tag with the offset 0 ("Inter-Segment Pointers").
 abbrev pub HasPlainPads : Segments → ℕ → Type 0
 HasPlainPads S x =
     kind x ≡ 2 → is_double x ≡ 1 →

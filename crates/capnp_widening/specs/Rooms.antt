@@ -1,14 +1,14 @@
 -- The words that making an object wider takes, and the room for them.
 use Rattle.std.specs.Prelude.{◌≡◌, ◌≢◌, ◌⊎◌, ℕ, ◌+◌, ◌-◌, ◌*◌, ◌<◌, ◌≤◌, Bool, true, false, Result, Ok, List}
-use Rattle.std.specs.Prelude.{length, sum_by}
+use Rattle.std.specs.Prelude.{length, sum_by, IfErr, OnErr, OnOk}
 use Rattle.capnp_words.specs.declared.error.ErrorKind.{ErrorKind}
 use Rattle.capnp_words.specs.declared.error.ErrorKind.TheVariants.{AllocationFailed, MessageTooLarge}
-use Rattle.capnp_format.specs.Segments.{Segments, segment, word_at}
+use Rattle.capnp_format.specs.Segments.{Segments, Grows, segment, word_at}
 use Rattle.capnp_format.specs.Tree.{Tree, Struct, Pointers, Structs, Trees, count, element_count}
 use Rattle.capnp_format.specs.Forest.{target}
 use Rattle.capnp_words.specs.declared.wire_pointer.StructSize.{StructSize}
 use Rattle.capnp_arena_traits.specs.View.{View}
-use Rattle.capnp_making.specs.Memory.{HasRoom, SpendsMemory, RefusesWords, start_of}
+use Rattle.capnp_making.specs.Memory.{HasRoom, KeepsMemory, SpendsMemory, RefusesWords, start_of}
 use Rattle.capnp_making.specs.Near.{HasOwnRoom}
 use Rattle.capnp_making.specs.Stored.{IsStored}
 use Rattle.capnp_making.specs.declared.making.Start.{Start}
@@ -18,6 +18,21 @@ use Rattle.capnp_widening.specs.Widened.{widened, list_widened}
 -- From S to R at most n words are taken.
 abbrev pub GrowsByAtMost : Segments → Segments → ℕ → Type 0
 GrowsByAtMost S R n = sum_by length R ≤ sum_by length S + n
+
+-- A call changes nothing but words, and the room of segments that are new; where it is refused,
+-- also how often memory was refused.
+pub record UsesMemory {A : Type 0} (result : Result A ErrorKind) (old new : View) : Type 0 where
+  pub granted : OnOk result (KeepsMemory old new)
+  pub refused : IfErr result (SpendsMemory old new)
+
+-- A call takes at most the two words of a landing pad; or these are refused, and no word is written.
+pub record TakesPad {A : Type 0} (result : Result A ErrorKind) (old new : View) : Type 0 where
+  pub granted : OnOk result (KeepsMemory old new)
+  pub memory : IfErr result (SpendsMemory old new)
+  pub full : IfErr result (RefusesWords old new 1)
+  pub refused : OnErr result (new.words ≡ old.words)
+  pub longer : Grows old.words new.words
+  pub few : GrowsByAtMost old.words new.words 2
 
 -- There is room for landing pads of n objects in segment k: one word each in that segment, as far as
 -- it has room, and for the others two words each in another one.

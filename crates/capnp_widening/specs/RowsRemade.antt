@@ -1,5 +1,5 @@
 -- Lists of structs made anew of the elements of other lists, as rows of words ("Lists").
-use Rattle.std.specs.Prelude.{◌≡◌, ◌≢◌, ◌⊎◌, ℕ, zero, suc, ◌+◌, ◌*◌, ◌<◌, ◌≤◌, Option, Some, None}
+use Rattle.std.specs.Prelude.{◌≡◌, ◌≢◌, ◌⊎◌, ℕ, zero, suc, ◌+◌, ◌*◌, ◌^◌, ◌<◌, ◌≤◌, Option, Some, None}
 use Rattle.std.specs.Prelude.{IfErr, IfOk, IsOk, Ok, Err, List, OnErr, OnOk, Result, [], ◌∷◌, length}
 use Rattle.capnp_words.specs.Sizes.{size_number}
 use Rattle.capnp_words.specs.declared.error.ErrorKind.{ErrorKind}
@@ -30,16 +30,24 @@ use Rattle.capnp_widening.specs.Rooms.{direct_pointers, widened_words}
 use Rattle.capnp_widening.specs.Widened.{GrowsByZeros, HasSections, fill_elements, struct_for_each}
 use Rattle.capnp_widening.specs.Widened.{struct_for_each_tree, limited, list_widened}
 
--- From S to R the first d words of each of n rows are copied over those of other rows, and nothing
--- else is written.
-pub record AreRowsCopied (S R : Segments) (from to : PointerRows) (d n : ℕ) : Type 0 where
+-- The first words of each of so many rows, copied over those of other rows.
+pub record RowCopy : Type 0 where
+  pub from : PointerRows
+  pub to : PointerRows
+  pub words : ℕ
+  pub count : ℕ
+
+-- From S to R the words of rows are copied, and nothing else is written.
+pub record AreRowsCopied (S R : Segments) (c : RowCopy) : Type 0 where
   pub segments : length R ≡ length S
   pub words : (x : ℕ) → length (segment R x) ≡ length (segment S x)
-  pub here : (i j : ℕ) → i < n → j < d →
-      word_at R to.segment (to.at + i * to.step + j) ≡ word_at S from.segment (from.at + i * from.step + j)
-  pub behind : (i j : ℕ) → i < n → d ≤ j → j < to.step →
-      word_at R to.segment (to.at + i * to.step + j) ≡ word_at S to.segment (to.at + i * to.step + j)
-  pub kept : (x y : ℕ) → times (row to.segment to.at (n * to.step) ∷ []) x y ≡ 0 →
+  pub here : (i j : ℕ) → i < c.count → j < c.words →
+      word_at R c.to.segment (c.to.at + i * c.to.step + j)
+      ≡ word_at S c.from.segment (c.from.at + i * c.from.step + j)
+  pub behind : (i j : ℕ) → i < c.count → c.words ≤ j → j < c.to.step →
+      word_at R c.to.segment (c.to.at + i * c.to.step + j)
+      ≡ word_at S c.to.segment (c.to.at + i * c.to.step + j)
+  pub kept : (x y : ℕ) → times (row c.to.segment c.to.at (c.count * c.to.step) ∷ []) x y ≡ 0 →
       word_at R x y ≡ word_at S x y
 
 -- From S to R the tag of a list of n structs is written at h, and nothing else.
@@ -61,12 +69,15 @@ abbrev pub CopiesData : Segments → Segments → ElementRows → Start → Stru
 CopiesData S R old h size =
     AreRowsCopied S R
     (record {
-      segment = old.segment;
-      at = old.at + old.tag;
-      step = old.size.data_words + old.size.pointers;
+      from = record {
+        segment = old.segment;
+        at = old.at + old.tag;
+        step = old.size.data_words + old.size.pointers;
+      };
+      to = record { segment = h.segment; at = h.at; step = size.data_words + size.pointers };
+      words = old.size.data_words;
+      count = old.count;
     })
-    (record { segment = h.segment; at = h.at; step = size.data_words + size.pointers })
-    old.size.data_words old.count
 
 -- The pointers of elements, written anew in these structs.
 abbrev pub element_moves : ElementRows → Start → StructSize → List Move
@@ -152,6 +163,13 @@ as_structs size (Structs d q es) =
     Structs size.data_words size.pointers (fill_elements size.data_words size.pointers es)
 as_structs size t = t
 
+-- Elements can be made structs of a size: it has room for their sections, and a count of structs
+-- without words fits a tag.
+pub record CanBecome (rows : ElementRows) (size : StructSize) : Type 0 where
+  pub few : size.data_words + size.pointers ≡ 0 → rows.count < 2 ^ 30
+  pub data_words : rows.size.data_words ≤ size.data_words
+  pub pointers : rows.size.pointers ≤ size.pointers
+
 -- The place stores t in S, a list of these elements.
 abbrev pub StoresRows : Segments → ℕ → ℕ → ElementRows → Tree → Type 0
 StoresRows S s p rows t = IsStored S s p t × (rows_in (target S s p) t ≡ Some rows)
@@ -196,6 +214,15 @@ pub record MakesListAnew (result : Result ExistingList ErrorKind) (Stands : Tree
   pub memory : IfErr result (SpendsMemory c.old c.new)
   pub refused : OnErr result ((t : Tree) → Stands t → GrowsByZeros c.old.words c.new.words)
 
+-- A call makes the list of these elements that stands at a place anew, as structs of a size. No
+-- more words are taken than the structs have, their tag, a pad, and two for each pointer.
+pub record RemakesRows (result : Result ExistingList ErrorKind) (rows : ElementRows)
+    (size : StructSize) (c : CallAt) : Type 0 where
+  pub made : MakesListAnew result (StoresRows c.old.words c.segment c.at rows) size c
+  pub few :
+      GrowsByAtMost c.old.words c.new.words
+      (structs_words rows.count size + 1 + 2 * (rows.count * rows.size.pointers))
+
 -- A call makes the list that stands at a place one of structs of at least a size, anew where it
 -- isn't; or that is refused, and the list stands as it stood. It never is where there is room. No
 -- more words are taken than the new list has, a pad, and two for each pointer of the old one.
@@ -215,3 +242,10 @@ pub record MakesListWider {B : Type 0} (result : Result B ErrorKind) (Stands : T
   pub fits : WiderListFits Stands c.old c.segment c.at size → IsOk result
   pub few : (t u : Tree) → Stands t → list_widened size.data_words size.pointers t ≡ Ok u →
       GrowsByAtMost c.old.words c.new.words (widened_words u + 1 + 2 * direct_pointers t)
+
+-- A call makes the list l that stands at a place one of structs of at least a size, and gives where
+-- it lies.
+pub record WidensList (result : Result ExistingList ErrorKind) (l : ExistingList) (size : StructSize)
+    (c : CallAt) : Type 0 where
+  pub widened : IfOk result (WidensTo l size c)
+  pub wider : MakesListWider result (IsList c.old.words c.segment c.at l) size c

@@ -6,7 +6,7 @@ ghost use Rattle.capnp_words.specs.Sizes.{size_number};
 ghost use Rattle.capnp_making.specs.Makes.{call_at};
 ghost use Rattle.capnp_making.specs.Stored.{IsStored, IsReplaced};
 ghost use Rattle.capnp_widening.specs.Opening.{LeadsToAll};
-ghost use Rattle.capnp_widening.specs.RowsRemade.{IsList, MakesListWider, WidensTo};
+ghost use Rattle.capnp_widening.specs.RowsRemade.{MakesListWider, WidensList};
 ghost use Rattle.capnp_widening.specs.Widened.{list_widened};
 ghost use Rattle.capnp_words.specs.declared.wire_pointer.ElementSize.TheVariants.{InlineComposite};
 
@@ -81,10 +81,7 @@ fn widen_list<A: BuilderArena>(
     requires few { old.count < 2 ^ 30 }
     requires narrow { size_number old.size ≡ 7 → size.data_words ≤ old.struct_size.data_words
         → size.pointers ≤ old.struct_size.pointers → ⊥ }
-    ensures widened { IfOk result (WidensTo old size
-        (call_at id at (A.view arena.old) (A.view arena.new))) }
-    ensures wider { MakesListWider result (IsList (A.view arena.old).words id at old) size
-        (call_at id at (A.view arena.old) (A.view arena.new)) }
+    ensures { WidensList result old size (call_at id at (A.view arena.old) (A.view arena.new)) }
 {
     match old.size {
         ElementSize::Void => widen_void(arena, id, at, old, size),
@@ -114,10 +111,7 @@ fn widen_structs<A: BuilderArena>(
     requires kind { size_number old.size ≡ 7 }
     requires narrow { size.data_words ≤ old.struct_size.data_words
         → size.pointers ≤ old.struct_size.pointers → ⊥ }
-    ensures widened { IfOk result (WidensTo old size
-        (call_at id at (A.view arena.old) (A.view arena.new))) }
-    ensures wider { MakesListWider result (IsList (A.view arena.old).words id at old) size
-        (call_at id at (A.view arena.old) (A.view arena.new)) }
+    ensures { WidensList result old size (call_at id at (A.view arena.old) (A.view arena.new)) }
 {
     let had = old.struct_size;
     let rows = ElementRows {
@@ -145,10 +139,7 @@ fn widen_pointers<A: BuilderArena>(
 ) -> Result<ExistingList, ErrorKind>
     requires place { IsPlace (A.view arena.old).words id at }
     requires kind { size_number old.size ≡ 6 }
-    ensures widened { IfOk result (WidensTo old size
-        (call_at id at (A.view arena.old) (A.view arena.new))) }
-    ensures wider { MakesListWider result (IsList (A.view arena.old).words id at old) size
-        (call_at id at (A.view arena.old) (A.view arena.new)) }
+    ensures { WidensList result old size (call_at id at (A.view arena.old) (A.view arena.new)) }
 {
     let rows = ElementRows {
         segment: old.segment,
@@ -179,10 +170,7 @@ fn widen_void<A: BuilderArena>(
     requires place { IsPlace (A.view arena.old).words id at }
     requires kind { size_number old.size ≡ 0 }
     requires few { old.count < 2 ^ 30 }
-    ensures widened { IfOk result (WidensTo old size
-        (call_at id at (A.view arena.old) (A.view arena.new))) }
-    ensures wider { MakesListWider result (IsList (A.view arena.old).words id at old) size
-        (call_at id at (A.view arena.old) (A.view arena.new)) }
+    ensures { WidensList result old size (call_at id at (A.view arena.old) (A.view arena.new)) }
 {
     let rows = ElementRows {
         segment: old.segment,

@@ -14,10 +14,11 @@ ghost use Rattle.capnp_making.specs.Made.{IsShape, CountFits, AsksWords};
 ghost use Rattle.capnp_making.specs.Memory.{KeepsMemory, SpendsMemory, RefusesWords, TakesWords};
 ghost use Rattle.capnp_making.specs.Path.{word_interval};
 ghost use Rattle.capnp_making.specs.Zeroed.{IsPruned};
-ghost use Rattle.capnp_widening.specs.Anew.{IsWrittenAnew, MovesApart, MovesInTurn, WritesAnew, pad_words};
-ghost use Rattle.capnp_widening.specs.Moved.{row_of_moves, Moves, Unmoves, rows_of_moves};
+ghost use Rattle.capnp_making.specs.Makes.{call_at};
+ghost use Rattle.capnp_widening.specs.Anew.{IsWrittenAnew, MovesApart, MovesInTurn, MovesRow, TakesBack, WritesAnew, pad_words};
+ghost use Rattle.capnp_widening.specs.Moved.{BothLieInside, RowsLieInside, row_of_moves, Moves, rows_of_moves};
 ghost use Rattle.capnp_widening.specs.Pointed.{HasPlainPads, PointsTo};
-ghost use Rattle.capnp_widening.specs.Rooms.{GrowsByAtMost, HasPadRoom};
+ghost use Rattle.capnp_widening.specs.Rooms.{HasPadRoom, TakesPad};
 
 use capnp_arena_traits::arena::BuilderArena;
 use capnp_making::landing::{length_of, word_of};
@@ -37,15 +38,10 @@ pub fn move_pointer<A: BuilderArena>(arena: &mut A, from: Start, to: Start) -> R
         (row_of_moves from to 1)) }
     ensures written { OnOk result (WritesAnew (A.view arena.old) (A.view arena.new)
         (row_of_moves from to 1)) }
-    ensures granted { OnOk result (KeepsMemory (A.view arena.old) (A.view arena.new)) }
+    ensures memory { TakesPad result (A.view arena.old) (A.view arena.new) }
     ensures only { OnOk result ((x y : ℕ) → times (word_interval to.segment to.at ∷ []) x y ≡ 0
         → y < length (segment (A.view arena.old).words x)
         → word_at (A.view arena.new).words x y ≡ word_at (A.view arena.old).words x y) }
-    ensures longer { Grows (A.view arena.old).words (A.view arena.new).words }
-    ensures memory { IfErr result (SpendsMemory (A.view arena.old) (A.view arena.new)) }
-    ensures full { IfErr result (RefusesWords (A.view arena.old) (A.view arena.new) 1) }
-    ensures refused { OnErr result ((A.view arena.new).words ≡ (A.view arena.old).words) }
-    ensures few { GrowsByAtMost (A.view arena.old).words (A.view arena.new).words 2 }
     ensures near { from.segment ≡ to.segment → IsOk result }
     ensures apart { from.segment ≢ to.segment
         → MovesApart result (A.view arena.old) (A.view arena.new) from.segment
@@ -103,12 +99,7 @@ fn point_to<A: BuilderArena>(
     ensures taken { OnOk result ((x : ℕ) → IsShape shape x → x ≢ 0
         → TakesWords (A.view arena.old) (A.view arena.new) object.segment
         (pad_words object.segment to.segment x)) }
-    ensures granted { OnOk result (KeepsMemory (A.view arena.old) (A.view arena.new)) }
-    ensures longer { Grows (A.view arena.old).words (A.view arena.new).words }
-    ensures memory { IfErr result (SpendsMemory (A.view arena.old) (A.view arena.new)) }
-    ensures full { IfErr result (RefusesWords (A.view arena.old) (A.view arena.new) 1) }
-    ensures refused { OnErr result ((A.view arena.new).words ≡ (A.view arena.old).words) }
-    ensures few { GrowsByAtMost (A.view arena.old).words (A.view arena.new).words 2 }
+    ensures memory { TakesPad result (A.view arena.old) (A.view arena.new) }
     ensures near { object.segment ≡ to.segment → IsOk result }
     ensures fits { HasPadRoom (A.view arena.old) object.segment 1 → IsOk result }
     ensures pads { OnOk result (HasPlainPads (A.view arena.new).words
@@ -193,14 +184,9 @@ pub fn move_row<A: BuilderArena>(
     to: Start,
     count: u32,
 ) -> Result<(), ErrorKind>
-    requires from { from.at + count ≤ length (segment (A.view arena.old).words from.segment) }
-    requires to { to.at + count ≤ length (segment (A.view arena.old).words to.segment) }
-    ensures moves { MovesInTurn result (A.view arena.old) (A.view arena.new)
-        (row_of_moves from to count) count }
-    ensures near { from.segment ≡ to.segment → IsOk result }
-    ensures apart { from.segment ≢ to.segment
-        → MovesApart result (A.view arena.old) (A.view arena.new) from.segment
-        (row_of_moves from to count) }
+    requires { BothLieInside (A.view arena.old).words from to count }
+    ensures { MovesRow result
+        (call_at from.segment from.at (A.view arena.old) (A.view arena.new)) to count }
 {
     if from.segment == to.segment {
         move_each(arena, from, to, count)
@@ -218,14 +204,9 @@ fn move_row_apart<A: BuilderArena>(
     to: Start,
     count: u32,
 ) -> Result<(), ErrorKind>
-    requires from { from.at + count ≤ length (segment (A.view arena.old).words from.segment) }
-    requires to { to.at + count ≤ length (segment (A.view arena.old).words to.segment) }
-    ensures moves { MovesInTurn result (A.view arena.old) (A.view arena.new)
-        (row_of_moves from to count) count }
-    ensures near { from.segment ≡ to.segment → IsOk result }
-    ensures apart { from.segment ≢ to.segment
-        → MovesApart result (A.view arena.old) (A.view arena.new) from.segment
-        (row_of_moves from to count) }
+    requires { BothLieInside (A.view arena.old).words from to count }
+    ensures { MovesRow result
+        (call_at from.segment from.at (A.view arena.old) (A.view arena.new)) to count }
 {
     move_each(arena, from, to, count)
 }
@@ -238,14 +219,9 @@ fn move_each<A: BuilderArena>(
     to: Start,
     count: u32,
 ) -> Result<(), ErrorKind>
-    requires from { from.at + count ≤ length (segment (A.view arena.old).words from.segment) }
-    requires to { to.at + count ≤ length (segment (A.view arena.old).words to.segment) }
-    ensures moves { MovesInTurn result (A.view arena.old) (A.view arena.new)
-        (row_of_moves from to count) count }
-    ensures near { from.segment ≡ to.segment → IsOk result }
-    ensures apart { from.segment ≢ to.segment
-        → MovesApart result (A.view arena.old) (A.view arena.new) from.segment
-        (row_of_moves from to count) }
+    requires { BothLieInside (A.view arena.old).words from to count }
+    ensures { MovesRow result
+        (call_at from.segment from.at (A.view arena.old) (A.view arena.new)) to count }
 {
     for i in 0..count {
         let source = Start {
@@ -265,12 +241,8 @@ fn move_each<A: BuilderArena>(
 #[cold]
 #[inline(never)]
 pub fn unmove_row<A: BuilderArena>(arena: &mut A, from: Start, to: Start, count: u32)
-    requires from { from.at + count ≤ length (segment (A.view arena.old).words from.segment) }
-    requires to { to.at + count ≤ length (segment (A.view arena.old).words to.segment) }
-    ensures zeroed { Unmoves (A.view arena.old).words (A.view arena.new).words
-        (row_of_moves from to count) }
-    ensures pruned { IsPruned (A.view arena.old).words (A.view arena.new).words }
-    ensures limits { KeepsLimits (A.view arena.old) (A.view arena.new) }
+    requires { BothLieInside (A.view arena.old).words from to count }
+    ensures { TakesBack (A.view arena.old) (A.view arena.new) (row_of_moves from to count) }
 {
     for i in 0..count {
         unmove_pointer(arena, from.segment, from.at + i, to.segment, to.at + i);
@@ -280,11 +252,9 @@ pub fn unmove_row<A: BuilderArena>(arena: &mut A, from: Start, to: Start, count:
 /// Makes the landing pads zero that were written for a moved pointer. Of one that was copied as it is,
 /// they are the old pointer's still.
 fn unmove_pointer<A: BuilderArena>(arena: &mut A, id: u32, at: u32, to_id: u32, to_at: u32)
-    ensures zeroed { Unmoves (A.view arena.old).words (A.view arena.new).words
+    ensures { TakesBack (A.view arena.old) (A.view arena.new)
         (row_of_moves (record { segment = id; at = at }) (record { segment = to_id; at = to_at })
         1) }
-    ensures pruned { IsPruned (A.view arena.old).words (A.view arena.new).words }
-    ensures limits { KeepsLimits (A.view arena.old) (A.view arena.new) }
 {
     if word_of(arena, id, at).kind() != WirePointerKind::Far {
         let word = word_of(arena, to_id, to_at);
@@ -313,11 +283,7 @@ pub fn move_rows<A: BuilderArena>(
     pointers: u32,
     count: u32,
 ) -> Result<(), ErrorKind>
-    requires from { from.at + count * from.step + pointers
-        ≤ length (segment (A.view arena.old).words from.segment) + from.step }
-    requires to { to.at + count * to.step + pointers
-        ≤ length (segment (A.view arena.old).words to.segment) + to.step }
-    requires small { (from.step < 2 ^ 18) × (to.step < 2 ^ 18) }
+    requires { RowsLieInside (A.view arena.old).words from to pointers count }
     ensures moves { MovesInTurn result (A.view arena.old) (A.view arena.new)
         (rows_of_moves from to pointers count)
         (count * pointers) }
@@ -352,15 +318,9 @@ pub fn unmove_rows<A: BuilderArena>(
     pointers: u32,
     count: u32,
 )
-    requires from { from.at + count * from.step + pointers
-        ≤ length (segment (A.view arena.old).words from.segment) + from.step }
-    requires to { to.at + count * to.step + pointers
-        ≤ length (segment (A.view arena.old).words to.segment) + to.step }
-    requires small { (from.step < 2 ^ 18) × (to.step < 2 ^ 18) }
-    ensures zeroed { Unmoves (A.view arena.old).words (A.view arena.new).words
+    requires { RowsLieInside (A.view arena.old).words from to pointers count }
+    ensures { TakesBack (A.view arena.old) (A.view arena.new)
         (rows_of_moves from to pointers count) }
-    ensures pruned { IsPruned (A.view arena.old).words (A.view arena.new).words }
-    ensures limits { KeepsLimits (A.view arena.old) (A.view arena.new) }
 {
     let mut source = from.at;
     let mut place = to.at;

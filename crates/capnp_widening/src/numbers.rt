@@ -9,7 +9,7 @@ ghost use Rattle.capnp_making.specs.Fields.{field_in};
 ghost use Rattle.capnp_making.specs.Makes.{call_at};
 ghost use Rattle.capnp_making.specs.Memory.{HasRoom, RefusesWords};
 ghost use Rattle.capnp_widening.specs.Rooms.{GrowsByAtMost};
-ghost use Rattle.capnp_widening.specs.RowsRemade.{AreNumbersCopied, IsList, MakesListAnew, MakesListWider, NumbersInside, WidensTo};
+ghost use Rattle.capnp_widening.specs.RowsRemade.{AreNumbersCopied, IsList, MakesListAnew, NumbersInside, WidensList};
 
 use crate::remaking::begin_list;
 use crate::widening::{greater, settle};
@@ -32,10 +32,7 @@ pub(crate) fn widen_numbers<A: BuilderArena>(
 ) -> Result<ExistingList, ErrorKind>
     requires place { IsPlace (A.view arena.old).words id at }
     requires kind { (2 ≤ size_number old.size) × (size_number old.size ≤ 5) }
-    ensures widened { IfOk result (WidensTo old size
-        (call_at id at (A.view arena.old) (A.view arena.new))) }
-    ensures wider { MakesListWider result (IsList (A.view arena.old).words id at old) size
-        (call_at id at (A.view arena.old) (A.view arena.new)) }
+    ensures { WidensList result old size (call_at id at (A.view arena.old) (A.view arena.new)) }
 {
     let wide = StructSize {
         data_words: greater(1, size.data_words),

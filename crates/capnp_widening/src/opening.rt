@@ -9,7 +9,7 @@ ghost use Rattle.capnp_making.specs.Memory.{HasRoom, KeepsMemory, SpendsMemory, 
 ghost use Rattle.capnp_making.specs.Stored.{IsStored};
 ghost use Rattle.capnp_making.specs.Makes.{call_at};
 ghost use Rattle.capnp_widening.specs.Opening.{IsNoWider, LeadsToOne, OpensStruct, struct_opened, OpensExistingList, existing_struct};
-ghost use Rattle.capnp_widening.specs.Rooms.{RefusesToBecome, WiderListFits, OpeningFits, WiderStructFits};
+ghost use Rattle.capnp_widening.specs.Rooms.{RefusesToBecome, UsesMemory, WiderListFits, OpeningFits, WiderStructFits};
 ghost use Rattle.capnp_widening.specs.RowsRemade.{RefusesWider};
 ghost use Rattle.capnp_widening.specs.Widened.{IsAtLeast};
 
@@ -40,8 +40,7 @@ pub fn open_struct<A: BuilderArena>(
         → OpensStruct LeadsToOne size result
         (call_at id at (A.view arena.old) (A.view arena.new)) t }
     ensures wide { IfOk result (IsAtLeast size) }
-    ensures granted { OnOk result (KeepsMemory (A.view arena.old) (A.view arena.new)) }
-    ensures memory { IfErr result (SpendsMemory (A.view arena.old) (A.view arena.new)) }
+    ensures memory { UsesMemory result (A.view arena.old) (A.view arena.new) }
     ensures named { (word_at (A.view arena.old).words id at ≡ 0 → ⊥)
         → IfErr result (IsNoWider size (call_at id at (A.view arena.old) (A.view arena.new))) }
     ensures fits { OpeningFits (A.view arena.old) id at size → IsOk result }
@@ -65,7 +64,7 @@ pub fn open_struct<A: BuilderArena>(
                 segment: old.segment,
                 at: old.start,
             };
-            open_narrow_struct(arena, id, at, start, old.size, size)
+            open_narrow_struct(arena, Start { segment: id, at }, start, old.size, size)
         }
         None => {
             if !word_of(arena, id, at).is_null() {
@@ -89,8 +88,7 @@ fn new_struct<A: BuilderArena>(
     ensures opened { OpensStruct LeadsToOne size result
         (call_at id at (A.view arena.old) (A.view arena.new)) Null }
     ensures wide { IfOk result (IsAtLeast size) }
-    ensures granted { OnOk result (KeepsMemory (A.view arena.old) (A.view arena.new)) }
-    ensures memory { IfErr result (SpendsMemory (A.view arena.old) (A.view arena.new)) }
+    ensures memory { UsesMemory result (A.view arena.old) (A.view arena.new) }
     ensures fits { HasRoom (A.view arena.old) id (size.data_words + size.pointers) → IsOk result }
     ensures taken { OnOk result (TakesWords (A.view arena.old) (A.view arena.new) id
         (size.data_words + size.pointers)) }
@@ -113,36 +111,35 @@ fn new_struct<A: BuilderArena>(
 #[inline(never)]
 fn open_narrow_struct<A: BuilderArena>(
     arena: &mut A,
-    id: u32,
-    at: u32,
+    place: Start,
     start: Start,
     narrow: StructSize,
     size: StructSize,
 ) -> Result<ExistingStruct, ErrorKind>
-    requires place { IsPlace (A.view arena.old).words id at }
+    requires place { IsPlace (A.view arena.old).words place.segment place.at }
     requires inside { StructLiesIn (A.view arena.old).words (existing_struct start narrow) }
-    requires known { (t : Tree) → IsStored (A.view arena.old).words id at t
-        → struct_in (target (A.view arena.old).words id at) t
+    requires known { (t : Tree) → IsStored (A.view arena.old).words place.segment place.at t
+        → struct_in (target (A.view arena.old).words place.segment place.at) t
         ≡ Some (existing_struct start narrow) }
     requires narrow { size.data_words ≤ narrow.data_words → size.pointers ≤ narrow.pointers → ⊥ }
-    ensures opened { (t : Tree) → IsStored (A.view arena.old).words id at t
-        → struct_in (target (A.view arena.old).words id at) t ≡ Some (existing_struct start narrow)
+    ensures opened { (t : Tree) → IsStored (A.view arena.old).words place.segment place.at t
+        → struct_in (target (A.view arena.old).words place.segment place.at) t
+        ≡ Some (existing_struct start narrow)
         → OpensStruct LeadsToOne size result
-        (call_at id at (A.view arena.old) (A.view arena.new)) t }
+        (call_at place.segment place.at (A.view arena.old) (A.view arena.new)) t }
     ensures wide { IfOk result (IsAtLeast size) }
-    ensures granted { OnOk result (KeepsMemory (A.view arena.old) (A.view arena.new)) }
-    ensures memory { IfErr result (SpendsMemory (A.view arena.old) (A.view arena.new)) }
+    ensures memory { UsesMemory result (A.view arena.old) (A.view arena.new) }
     ensures named { IfErr result (RefusesToBecome
-        (IsStored (A.view arena.old).words id at) (struct_opened size)
+        (IsStored (A.view arena.old).words place.segment place.at) (struct_opened size)
         (A.view arena.old) (A.view arena.new)) }
-    ensures fits { WiderStructFits (A.view arena.old) id at size → IsOk result }
+    ensures fits { WiderStructFits (A.view arena.old) place.segment place.at size → IsOk result }
 {
     let old = ExistingStruct {
         segment: start.segment,
         start: start.at,
         size: narrow,
     };
-    widen_known(arena, id, at, old, size)
+    widen_known(arena, place.segment, place.at, old, size)
 }
 
 /// The list that the pointer at a place leads to, as a list of structs with sections at least as large as
@@ -161,8 +158,7 @@ pub fn open_struct_list<A: BuilderArena>(
     requires place { IsPlace (A.view arena.old).words id at }
     ensures opened { (t : Tree) → IsStored (A.view arena.old).words id at t
         → OpensExistingList size result (call_at id at (A.view arena.old) (A.view arena.new)) t }
-    ensures granted { OnOk result (KeepsMemory (A.view arena.old) (A.view arena.new)) }
-    ensures memory { IfErr result (SpendsMemory (A.view arena.old) (A.view arena.new)) }
+    ensures memory { UsesMemory result (A.view arena.old) (A.view arena.new) }
     ensures named { IfErr result (RefusesWider (IsStored (A.view arena.old).words id at) size
         (A.view arena.old) (A.view arena.new)) }
     ensures fits { WiderListFits (IsStored (A.view arena.old).words id at)

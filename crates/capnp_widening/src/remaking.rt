@@ -6,10 +6,10 @@ ghost use Rattle.capnp_format.specs.Segments.{Segments, segment, IsPlace, Grows}
 ghost use Rattle.capnp_making.specs.Made.{structs_words};
 ghost use Rattle.capnp_making.specs.Memory.{KeepsMemory, SpendsMemory, RefusesWords, StandsBehind, TakesWords};
 ghost use Rattle.capnp_words.specs.declared.error.ErrorKind.TheVariants.{MessageTooLarge};
-ghost use Rattle.capnp_widening.specs.Rooms.{GrowsByAtMost, HasPadRoom, HasRoomAndPads, RefusesGrowth};
-ghost use Rattle.capnp_widening.specs.Housed.{IsRoom, object_start};
+ghost use Rattle.capnp_widening.specs.Rooms.{GrowsByAtMost, HasPadRoom, HasRoomAndPads, RefusesGrowth, UsesMemory};
+ghost use Rattle.capnp_widening.specs.Housed.{IsRoom, TakesRoom, object_start};
 ghost use Rattle.capnp_widening.specs.Moved.{MovesSome, Unmoves, near_pointers};
-ghost use Rattle.capnp_widening.specs.RowsRemade.{AreRowsCopied, CopiesData, FillsRows, IsTagWritten, MakesListAnew, RowsInside, RefusesRows, StoresRows, element_moves};
+ghost use Rattle.capnp_widening.specs.RowsRemade.{AreRowsCopied, CanBecome, CopiesData, FillsRows, IsTagWritten, RowsInside, RefusesRows, RemakesRows, element_moves};
 ghost use Rattle.capnp_making.specs.Makes.{call_at};
 ghost use Rattle.capnp_making.specs.declared.making.Start.{Start};
 
@@ -52,7 +52,7 @@ fn copy_rows<A: BuilderArena>(
     requires apart { from.segment ≡ to.segment → from.at + count * from.step ≤ to.at }
     requires within { (words ≤ from.step) × (words ≤ to.step) }
     ensures copied { AreRowsCopied (A.view arena.old).words (A.view arena.new).words
-        from to words count }
+        (record { from = from; to = to; words = words; count = count }) }
     ensures limits { KeepsLimits (A.view arena.old) (A.view arena.new) }
 {
     if words == 0 {
@@ -88,20 +88,8 @@ pub(crate) fn begin_list<A: BuilderArena>(
     ensures begun { IfOk result (λ room. (T : Segments)
         × IsRoom (A.view arena.old).words T id (structs_words count size) room
         × IsTagWritten T (A.view arena.new).words (object_start room) count size) }
-    ensures words { OnOk result
-        (TakesWords (A.view arena.old) (A.view arena.new) id (structs_words count size)) }
-    ensures behind { IfOk result (λ room.
-        StandsBehind (A.view arena.old) id (structs_words count size) (object_start room)) }
-    ensures granted { OnOk result (KeepsMemory (A.view arena.old) (A.view arena.new)) }
-    ensures memory { IfErr result (SpendsMemory (A.view arena.old) (A.view arena.new)) }
-    ensures full { IfErr result
-        (RefusesWords (A.view arena.old) (A.view arena.new) (structs_words count size)) }
-    ensures refused { OnErr result ((A.view arena.new).words ≡ (A.view arena.old).words) }
-    ensures few { GrowsByAtMost (A.view arena.old).words (A.view arena.new).words
-        (structs_words count size + 1) }
-    ensures fits { (k n : ℕ) → HasRoomAndPads (A.view arena.old) id (structs_words count size) k n
-        → IsOk result × IfOk result (λ room. k < length (A.view arena.old).words
-        → room.segment ≢ k → n ≤ structs_words count size → HasPadRoom (A.view arena.new) k n) }
+    ensures room { TakesRoom result (A.view arena.old) (A.view arena.new) id
+        (structs_words count size) }
 {
     let words = count * size.total();
     let room = take(arena, id, 1 + words)?;
@@ -134,8 +122,7 @@ fn fill_rows<A: BuilderArena>(
         × MovesSome D P (element_moves old first size)
         × Unmoves P (A.view arena.new).words (element_moves old first size)) }
     ensures longer { Grows (A.view arena.old).words (A.view arena.new).words }
-    ensures granted { OnOk result (KeepsMemory (A.view arena.old) (A.view arena.new)) }
-    ensures memory { IfErr result (SpendsMemory (A.view arena.old) (A.view arena.new)) }
+    ensures memory { UsesMemory result (A.view arena.old) (A.view arena.new) }
     ensures full { IfErr result (λ k. (0 < old.count * old.size.pointers)
         × RefusesWords (A.view arena.old) (A.view arena.new) 1 k) }
     ensures few { GrowsByAtMost (A.view arena.old).words (A.view arena.new).words
@@ -196,10 +183,8 @@ pub(crate) fn widen_rows<A: BuilderArena>(
     size: StructSize,
 ) -> Result<ExistingList, ErrorKind>
     requires place { IsPlace (A.view arena.old).words id at }
-    requires few { size.data_words + size.pointers ≡ 0 → old.count < 2 ^ 30 }
-    requires data { old.size.data_words ≤ size.data_words }
-    requires pointers { old.size.pointers ≤ size.pointers }
-    ensures made { MakesListAnew result (StoresRows (A.view arena.old).words id at old) size
+    requires wider { CanBecome old size }
+    ensures remakes { RemakesRows result old size
         (call_at id at (A.view arena.old) (A.view arena.new)) }
     ensures small { OnOk result (old.count * (size.data_words + size.pointers) < 2 ^ 29) }
     ensures large { 2 ^ 29 ≤ old.count * (size.data_words + size.pointers)
@@ -207,8 +192,6 @@ pub(crate) fn widen_rows<A: BuilderArena>(
         × IfErr result (λ k. k ≡ MessageTooLarge (old.count * (size.data_words + size.pointers))) }
     ensures named { IfErr result
         (RefusesRows old size (call_at id at (A.view arena.old) (A.view arena.new))) }
-    ensures few { GrowsByAtMost (A.view arena.old).words (A.view arena.new).words
-        (structs_words old.count size + 1 + 2 * (old.count * old.size.pointers)) }
     ensures fits { RowsInside (A.view arena.old).words old → (to : Start)
         → HasRoomAndPads (A.view arena.old) id (structs_words old.count size) old.segment
         (near_pointers (A.view arena.old).words (element_moves old to size)) → IsOk result }
@@ -242,16 +225,12 @@ fn remake_rows<A: BuilderArena>(
 ) -> Result<ExistingList, ErrorKind>
     requires place { IsPlace (A.view arena.old).words id at }
     requires inside { RowsInside (A.view arena.old).words old }
-    requires few { size.data_words + size.pointers ≡ 0 → old.count < 2 ^ 30 }
+    requires wider { CanBecome old size }
     requires small { old.count * (size.data_words + size.pointers) < 2 ^ 29 }
-    requires data { old.size.data_words ≤ size.data_words }
-    requires pointers { old.size.pointers ≤ size.pointers }
-    ensures made { MakesListAnew result (StoresRows (A.view arena.old).words id at old) size
+    ensures remakes { RemakesRows result old size
         (call_at id at (A.view arena.old) (A.view arena.new)) }
     ensures full { IfErr result (RefusesGrowth (A.view arena.old) (A.view arena.new)
         (structs_words old.count size) (old.count * old.size.pointers)) }
-    ensures few { GrowsByAtMost (A.view arena.old).words (A.view arena.new).words
-        (structs_words old.count size + 1 + 2 * (old.count * old.size.pointers)) }
     ensures fits { (to : Start)
         → HasRoomAndPads (A.view arena.old) id (structs_words old.count size) old.segment
         (near_pointers (A.view arena.old).words (element_moves old to size)) → IsOk result }

@@ -13,13 +13,13 @@ ghost use Rattle.capnp_making.specs.Makes.{call_at};
 ghost use Rattle.capnp_making.specs.declared.making.Start.{Start};
 ghost use Rattle.capnp_making.specs.Stored.{IsStored};
 ghost use Rattle.capnp_widening.specs.Anew.{MakesStructWider};
-ghost use Rattle.capnp_widening.specs.Housed.{IsRoom, AreWordsCopied, Settles, object_start};
-ghost use Rattle.capnp_widening.specs.Moved.{near_pointers, row_of_moves};
+ghost use Rattle.capnp_widening.specs.Housed.{IsRoom, CopiesWords, Settles, TakesRoom};
+ghost use Rattle.capnp_widening.specs.Moved.{BothLieInside, near_pointers, row_of_moves};
 ghost use Rattle.capnp_widening.specs.Rooms.{GrowsByAtMost, HasPadRoom, HasRoomAndPads, RefusesGrowth, WiderStructFits, widened_words};
 ghost use Rattle.capnp_widening.specs.Widened.{IsStruct, widened};
 
 use crate::moving::{move_row, unmove_row};
-use capnp_arena_traits::arena::BuilderArena;
+use capnp_arena_traits::arena::{BuilderArena, WordPlace};
 use capnp_contents::existing::ExistingStruct;
 use capnp_making::landing::word_of;
 use capnp_making::making::{Shape, Start, pointer_to};
@@ -46,17 +46,7 @@ pub(crate) fn take<A: BuilderArena>(arena: &mut A, id: u32, amount: u32) -> Resu
     requires small { amount < 2 ^ 31 }
     ensures taken { IfOk result (IsRoom (A.view arena.old).words
         (A.view arena.new).words id amount) }
-    ensures words { OnOk result (TakesWords (A.view arena.old) (A.view arena.new) id amount) }
-    ensures behind { IfOk result (λ room.
-        StandsBehind (A.view arena.old) id amount (object_start room)) }
-    ensures granted { OnOk result (KeepsMemory (A.view arena.old) (A.view arena.new)) }
-    ensures memory { IfErr result (SpendsMemory (A.view arena.old) (A.view arena.new)) }
-    ensures full { IfErr result (RefusesWords (A.view arena.old) (A.view arena.new) amount) }
-    ensures refused { OnErr result ((A.view arena.new).words ≡ (A.view arena.old).words) }
-    ensures few { GrowsByAtMost (A.view arena.old).words (A.view arena.new).words (amount + 1) }
-    ensures fits { (k n : ℕ) → HasRoomAndPads (A.view arena.old) id amount k n → IsOk result
-        × IfOk result (λ room. k < length (A.view arena.old).words → room.segment ≢ k → n ≤ amount
-        → HasPadRoom (A.view arena.new) k n) }
+    ensures room { TakesRoom result (A.view arena.old) (A.view arena.new) id amount }
 {
     match arena.allocate(id, amount) {
         Some(at) => Ok(Room {
@@ -79,12 +69,9 @@ pub(crate) fn take<A: BuilderArena>(arena: &mut A, id: u32, amount: u32) -> Resu
 /// more in one copy.
 #[inline(always)]
 pub(crate) fn copy_words<A: BuilderArena>(arena: &mut A, from: Start, to: Start, count: u32)
-    requires from { from.at + count ≤ length (segment (A.view arena.old).words from.segment) }
-    requires to { to.at + count ≤ length (segment (A.view arena.old).words to.segment) }
+    requires inside { BothLieInside (A.view arena.old).words from to count }
     requires apart { from.segment ≡ to.segment → from.at + count ≤ to.at }
-    ensures copied { AreWordsCopied (A.view arena.old).words (A.view arena.new).words
-        from to count }
-    ensures limits { KeepsLimits (A.view arena.old) (A.view arena.new) }
+    ensures { CopiesWords (A.view arena.old) (A.view arena.new) from to count }
 {
     if count == 1 {
         let word = word_of(arena, from.segment, from.at);
@@ -97,13 +84,18 @@ pub(crate) fn copy_words<A: BuilderArena>(arena: &mut A, from: Start, to: Start,
 /// Copies words one behind the other over others, in one copy.
 #[inline(never)]
 fn copy_many<A: BuilderArena>(arena: &mut A, from: Start, to: Start, count: u32)
-    requires from { from.at + count ≤ length (segment (A.view arena.old).words from.segment) }
-    requires to { to.at + count ≤ length (segment (A.view arena.old).words to.segment) }
-    ensures copied { AreWordsCopied (A.view arena.old).words (A.view arena.new).words
-        from to count }
-    ensures limits { KeepsLimits (A.view arena.old) (A.view arena.new) }
+    requires { BothLieInside (A.view arena.old).words from to count }
+    ensures { CopiesWords (A.view arena.old) (A.view arena.new) from to count }
 {
-    arena.move_words(from.segment, from.at, to.segment, to.at, count);
+    let old = WordPlace {
+        segment: from.segment,
+        at: from.at,
+    };
+    let new = WordPlace {
+        segment: to.segment,
+        at: to.at,
+    };
+    arena.move_words(old, new, count);
 }
 
 /// Sets the pointer at a place to an object that stands in a room, and writes its landing pad, if any.

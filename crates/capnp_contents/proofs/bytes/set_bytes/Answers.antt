@@ -26,8 +26,8 @@ leads : (g : _) (c : goal.After-write_bytes g) → LeadsToStart (g.A.BuilderAren
 leads g c =
     let M : Segments = (g.A.BuilderArena.view c.init_list.new.arena).words in
     let R : Segments = (g.A.BuilderArena.view c.write_bytes.new.arena).words in
-    let (N, pruned, made) = c.in_ok-start.ensures.once_zeroed in
-    bytes_target M R c.args.id c.args.at c.args.count c.in_ok-start.start c.args.from.now (writes g c) made.stored c.in_ok-start.ensures.start.leads c.requires.enough
+    let (N, pruned, made) = c.in_ok-start.ensures.gives.once_zeroed in
+    bytes_target M R c.args.id c.args.at c.args.count c.in_ok-start.start c.args.from.now (writes g c) made.stored c.in_ok-start.ensures.gives.start.leads c.requires.few.0
 
 -- The list is made of zero bytes, and then its first ones are written: no segment is longer or shorter for these.
 pub returns-clause-object : goal.returns-clause-object
@@ -38,11 +38,11 @@ returns-clause-object g c =
     let id : ℕ = c.args.id in
     let at : ℕ = c.args.at in
     let k : ℕ = words_for 2 c.args.count in
-    let e = c.in_ok-start.ensures in
-    let enough : length c.args.from.now ≤ 8 * k = omega (arith, c.requires.enough) in
+    let e = c.in_ok-start.ensures.gives in
+    let enough : length c.args.from.now ≤ 8 * k = omega (arith, c.requires.few.0) in
     let long = written_lengths mid.words new.words c.in_ok-start.start c.args.from.now k (writes g c) enough e.start.inside.1 in
     record {
-      made = λ t stored. bytes_written old.words mid.words new.words id at c.args.count t c.in_ok-start.start c.args.from.now (writes g c) (e.object.made t stored) e.start.leads c.requires.enough;
+      made = λ t stored. bytes_written old.words mid.words new.words id at c.args.count t c.in_ok-start.start c.args.from.now (writes g c) (e.object.made t stored) e.start.leads c.requires.few.0;
       behind = leads_behind old new id at k c.in_ok-start.start (leads g c) e.start.behind;
       zeroed = old_beside old mid.words new.words id at k c.in_ok-start.start c.args.from.now e.object.zeroed e.start.behind (writes g c) enough e.start.inside.1;
       memory = record {
@@ -59,8 +59,8 @@ pub returns-clause-once_zeroed : goal.returns-clause-once_zeroed
 returns-clause-once_zeroed g c =
     let M : Segments = (g.A.BuilderArena.view c.init_list.new.arena).words in
     let R : Segments = (g.A.BuilderArena.view c.write_bytes.new.arena).words in
-    let (N, pruned, made) = c.in_ok-start.ensures.once_zeroed in
-    (N, pruned, bytes_written N M R c.args.id c.args.at c.args.count Null c.in_ok-start.start c.args.from.now (writes g c) made c.in_ok-start.ensures.start.leads c.requires.enough)
+    let (N, pruned, made) = c.in_ok-start.ensures.gives.once_zeroed in
+    (N, pruned, bytes_written N M R c.args.id c.args.at c.args.count Null c.in_ok-start.start c.args.from.now (writes g c) made c.in_ok-start.ensures.gives.start.leads c.requires.few.0)
 
 pub returns-clause-at_end : goal.returns-clause-at_end
 returns-clause-at_end g c =

@@ -2,35 +2,23 @@ use Rattle.capnp_format.specs.Segments.{Segments}
 use Rattle.capnp_words.specs.Sizes.{size_number}
 use Rattle.capnp_arena_traits.specs.View.{View}
 use Rattle.capnp_making.specs.Made.{zero_list, list_words}
-use Rattle.capnp_contents.proofs.ObjectsMade.{makes_after_zeros, starts_after_zeros}
+use Rattle.capnp_contents.proofs.ObjectsMade.{gives_after_zeros}
 use Rattle.capnp_making.proofs.Outcomes.{if_ok_so, on_made_so}
 use Rattle.capnp_making.proofs.Taken.{ends_after, starts_after}
 use Rattle.capnp_contents.proofs.initializing.init_list.Goals as goal
 
 -- The old object becomes zero, and then the new one is made.
-pub returns-clause-object : goal.returns-clause-object
-returns-clause-object g c =
+pub returns-clause-gives : goal.returns-clause-gives
+returns-clause-gives g c =
     let old : View = g.A.BuilderArena.view c.args.arena.now in
     let mid : View = g.A.BuilderArena.view c.zero_object.new.arena in
     let new : View = g.A.BuilderArena.view c.make_list.new.arena in
     let e = c.make_list.ensures in
-    makes_after_zeros c.make_list.result old mid new c.args.id c.args.at (list_words (size_number c.args.size) c.args.count) (zero_list (size_number c.args.size) c.args.count) c.zero_object.ensures.zeroed c.zero_object.ensures.limits c.zero_object.ensures.pruned e.made e.start e.memory e.refused
-
-pub returns-clause-start : goal.returns-clause-start
-returns-clause-start g c =
-    let old : View = g.A.BuilderArena.view c.args.arena.now in
-    let mid : View = g.A.BuilderArena.view c.zero_object.new.arena in
-    let new : View = g.A.BuilderArena.view c.make_list.new.arena in
-    starts_after_zeros c.make_list.result old mid new c.args.id c.args.at (list_words (size_number c.args.size) c.args.count) c.zero_object.ensures.limits c.zero_object.ensures.pruned c.make_list.ensures.start
-
-pub returns-clause-once_zeroed : goal.returns-clause-once_zeroed
-returns-clause-once_zeroed g c =
-    let M : Segments = (g.A.BuilderArena.view c.zero_object.new.arena).words in
-    on_made_so c.make_list.result _ _ c.make_list.ensures.made (λ made. (M, c.zero_object.ensures.pruned, made))
+    gives_after_zeros c.make_list.result old mid new c.args.id c.args.at (list_words (size_number c.args.size) c.args.count) (zero_list (size_number c.args.size) c.args.count) c.zero_object.ensures.zeroes e.made e.start e.memory e.refused
 
 pub returns-clause-at_end : goal.returns-clause-at_end
 returns-clause-at_end g c = λ fits.
     (let old : View = g.A.BuilderArena.view c.args.arena.now in
     let mid : View = g.A.BuilderArena.view c.zero_object.new.arena in
-    let pruned = c.zero_object.ensures.pruned in
-    if_ok_so c.make_list.result _ _ (c.make_list.ensures.at_end (ends_after old mid c.args.id _ c.zero_object.ensures.limits pruned fits)) (λ h. starts_after old.words mid.words c.args.id h pruned))
+    let pruned = c.zero_object.ensures.zeroes.pruned in
+    if_ok_so c.make_list.result _ _ (c.make_list.ensures.at_end (ends_after old mid c.args.id _ c.zero_object.ensures.zeroes.limits pruned fits)) (λ h. starts_after old.words mid.words c.args.id h pruned))

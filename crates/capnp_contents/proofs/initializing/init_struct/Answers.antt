@@ -3,34 +3,22 @@ use Rattle.capnp_format.specs.Segments.{Segments}
 use Rattle.capnp_arena_traits.specs.View.{View}
 use Rattle.capnp_making.specs.Made.{zero_struct}
 use Rattle.capnp_making.proofs.MadeWords.{word_put}
-use Rattle.capnp_contents.proofs.ObjectsMade.{makes_after_zeros, starts_after_zeros}
+use Rattle.capnp_contents.proofs.ObjectsMade.{gives_after_zeros}
 use Rattle.capnp_making.proofs.Outcomes.{on_made_so}
 use Rattle.capnp_contents.proofs.initializing.init_struct.Goals as goal
 
 -- The old object becomes zero, and then the new one is made.
-pub returns-clause-object : goal.returns-clause-object
-returns-clause-object g c =
+pub returns-clause-gives : goal.returns-clause-gives
+returns-clause-gives g c =
     let old : View = g.A.BuilderArena.view c.args.arena.now in
     let mid : View = g.A.BuilderArena.view c.zero_object.new.arena in
     let new : View = g.A.BuilderArena.view c.make_struct.new.arena in
     let e = c.make_struct.ensures in
-    makes_after_zeros c.make_struct.result old mid new c.args.id c.args.at (c.args.size.data_words + c.args.size.pointers) (zero_struct c.args.size) c.zero_object.ensures.zeroed c.zero_object.ensures.limits c.zero_object.ensures.pruned e.made e.start e.memory e.refused
-
-pub returns-clause-start : goal.returns-clause-start
-returns-clause-start g c =
-    let old : View = g.A.BuilderArena.view c.args.arena.now in
-    let mid : View = g.A.BuilderArena.view c.zero_object.new.arena in
-    let new : View = g.A.BuilderArena.view c.make_struct.new.arena in
-    starts_after_zeros c.make_struct.result old mid new c.args.id c.args.at (c.args.size.data_words + c.args.size.pointers) c.zero_object.ensures.limits c.zero_object.ensures.pruned c.make_struct.ensures.start
-
-pub returns-clause-once_zeroed : goal.returns-clause-once_zeroed
-returns-clause-once_zeroed g c =
-    let M : Segments = (g.A.BuilderArena.view c.zero_object.new.arena).words in
-    on_made_so c.make_struct.result _ _ c.make_struct.ensures.made (λ made. (M, c.zero_object.ensures.pruned, made))
+    gives_after_zeros c.make_struct.result old mid new c.args.id c.args.at (c.args.size.data_words + c.args.size.pointers) (zero_struct c.args.size) c.zero_object.ensures.zeroes e.made e.start e.memory e.refused
 
 pub returns-clause-empty : goal.returns-clause-empty
 returns-clause-empty g c = λ none.
     (let M : Segments = (g.A.BuilderArena.view c.zero_object.new.arena).words in
     let R : Segments = (g.A.BuilderArena.view c.make_struct.new.arena).words in
-    let place = rw (sym (c.zero_object.ensures.pruned.words c.args.id)) at c.requires.place in
+    let place = rw (sym (c.zero_object.ensures.zeroes.pruned.words c.args.id)) at c.requires.place in
     on_made_so c.make_struct.result _ _ (c.make_struct.ensures.empty none) (λ set. (word_put M R c.args.id c.args.at _ place set).here))

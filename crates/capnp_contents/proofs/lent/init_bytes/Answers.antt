@@ -17,8 +17,8 @@ returns-clause-zero g c =
     let B : List (List ℕ) = g.A.ReaderArena.segments c.init_list.new.arena in
     let b : ExistingBytes = record { segment = c.in_ok-start.start.segment; start = c.in_ok-start.start.at; length = c.args.size } in
     let now : c.bytes_mut.result.now ≡ bytes_there B b = c.bytes_mut.ensures.now in
-    λ t stored. now ∙ made_zero Q S B c.args.id c.args.at c.args.count t b (g.met.A.BuilderArena.read c.init_list.new.arena) (c.in_ok-start.ensures.object.made t stored)
-    c.in_ok-start.ensures.start.leads.0 c.in_ok-start.ensures.start.leads.1 c.in_ok-start.ensures.start.inside.1 c.requires.enough
+    λ t stored. now ∙ made_zero Q S B c.args.id c.args.at c.args.count t b (g.met.A.BuilderArena.read c.init_list.new.arena) (c.in_ok-start.ensures.gives.object.made t stored)
+    c.in_ok-start.ensures.gives.start.leads.0 c.in_ok-start.ensures.gives.start.leads.1 c.in_ok-start.ensures.gives.start.inside.1 c.requires.few.0
     ∙ ap (λ (xs : List ℕ). words_of_zero (length xs)) (sym now)
 
 -- The list is that of the call that keeps the arena, and so is the refusal.
@@ -31,8 +31,8 @@ returns-clause-made g c =
       now = now;
       found = Ok b;
       does = record {
-        object = made_as c.in_ok-start.start b call (zero_list 2 c.args.count) (words_for 2 c.args.count) c.in_ok-start.ensures.object;
-        leads = c.in_ok-start.ensures.start.leads;
+        object = made_as c.in_ok-start.start b call (zero_list 2 c.args.count) (words_for 2 c.args.count) c.in_ok-start.ensures.gives.object;
+        leads = c.in_ok-start.ensures.gives.start.leads;
         first = refl;
       };
       gives = c.bytes_mut.ensures.now;
@@ -46,6 +46,6 @@ returns-in_err-start-clause-made g c =
     rw (p.1, p.2) (record {
       now = now;
       found = Err c.in_err-start.field-0.0;
-      does = record { object = refused_as c.in_err-start.field-0.0 call (zero_list 2 c.args.count) (words_for 2 c.args.count) c.in_err-start.ensures.object; leads = tt; first = tt };
+      does = record { object = refused_as c.in_err-start.field-0.0 call (zero_list 2 c.args.count) (words_for 2 c.args.count) c.in_err-start.ensures.gives.object; leads = tt; first = tt };
       gives = refl;
     })

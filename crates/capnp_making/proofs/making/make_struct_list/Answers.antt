@@ -21,7 +21,7 @@ returns-clause-made g c =
     let x : ℕ = c.new_tag-tag.result.0 in
     let list : IsListMade S M c.args.id c.args.at a (c.args.count * (c.args.size.data_words + c.args.size.pointers)) =
     rw (sym c.total.ensures) (record { made = m; is_list = shape.0; is_size = shape.1; counts = shape.2 }) in
-    let tag : IsTag x c.args.count c.args.size.data_words c.args.size.pointers = record { is_struct = c.new_tag-tag.ensures.kind_of; counts = c.new_tag-tag.ensures.count_of; data_of = c.new_tag-tag.ensures.data_of; pointers = c.new_tag-tag.ensures.pointers_of } in
+    let tag : IsTag x c.args.count c.args.size.data_words c.args.size.pointers = record { is_struct = c.new_tag-tag.ensures.kind_of; counts = c.new_tag-tag.ensures.bits_of; data_of = c.new_tag-tag.ensures.data_of; pointers = c.new_tag-tag.ensures.pointers_of } in
     let written : R ≡ with_word M a.segment a.start x = ap words_in c.set_word.ensures ∙ ap₂ (λ u b. with_word M u b x) is_segment is_start in
     structs_made S M R c.args.id c.args.at c.args.size.data_words c.args.size.pointers c.args.count x a c.requires.place list tag written
 

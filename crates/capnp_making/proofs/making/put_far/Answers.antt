@@ -24,13 +24,17 @@ set_word-requires-in-Ok g c =
     let put = word_put T _ c.in-Ok.segment c.in-Ok.pad c.pointer_to-word.result.0 (omega (arith, grown.room)) (ap words_in c.set_word.ensures) in
     omega (arith, c.requires.place, grown.grows.words c.args.id, put.words c.args.id)
 
--- A far pointer to a landing pad before the words.
-pub returns-in-Ok-clause-made : goal.returns-in-Ok-clause-made
-returns-in-Ok-clause-made g c =
-    let S : Segments = (g.A.BuilderArena.view c.args.arena.now).words in
-    let T : Segments = (g.A.BuilderArena.view c.allocate_anywhere.new.self).words in
+-- A far pointer to a landing pad before the words. A word more than the object has is taken where
+-- there is room next, or in a new segment.
+pub returns-in-Ok : goal.returns-in-Ok
+returns-in-Ok g c =
+    let old : View = g.A.BuilderArena.view c.args.arena.now in
+    let mid : View = g.A.BuilderArena.view c.allocate_anywhere.new.self in
+    let new : View = g.A.BuilderArena.view c.set_word-in-Ok.new.self in
+    let S : Segments = old.words in
+    let T : Segments = mid.words in
     let U : Segments = (g.A.BuilderArena.view c.set_word.new.self).words in
-    let R : Segments = (g.A.BuilderArena.view c.set_word-in-Ok.new.self).words in
+    let R : Segments = new.words in
     let k : ℕ = c.in-Ok.segment in
     let q : ℕ = c.in-Ok.pad in
     let n : ℕ = c.args.amount in
@@ -39,42 +43,34 @@ returns-in-Ok-clause-made g c =
     let grown : IsGrown S T k q (n + 1) = taken_grown S T (n + 1) k q c.in-Ok.ensures.taken in
     let whole = made_far S T U R c.args.id c.args.at k q n x c.new_far.result.0 c.requires.place grown (ap words_in c.set_word.ensures) (ap words_in c.set_word-in-Ok.ensures) (shape_near c.args.shape x shaped) (next_reached q)
     c.pointer_to-word.ensures.offset c.new_far.ensures.kind_of c.new_far.ensures.pads c.new_far.ensures.position_of c.new_far.ensures.segment_of in
-    (record { word = x; segment = k; start = q + 1; pads = 1 }, whole, shaped, refl, refl)
-
--- A word more than the object has is taken where there is room next, or in a new segment.
-pub returns-in-Ok-clause-taken : goal.returns-in-Ok-clause-taken
-returns-in-Ok-clause-taken g c =
-    let old : View = g.A.BuilderArena.view c.args.arena.now in
-    let T : Segments = (g.A.BuilderArena.view c.allocate_anywhere.new.self).words in
-    let U : Segments = (g.A.BuilderArena.view c.set_word.new.self).words in
-    let R : Segments = (g.A.BuilderArena.view c.set_word-in-Ok.new.self).words in
-    let k : ℕ = c.in-Ok.segment in
-    let n : ℕ = c.args.amount + 1 in
-    let (next, long, start) = anywhere_lengthens old (g.A.BuilderArena.view c.allocate_anywhere.new.self) n k c.in-Ok.pad c.in-Ok.ensures.first c.in-Ok.ensures.another in
-    let pad = word_put T U k c.in-Ok.pad c.pointer_to-word.result.0 (omega (arith, start, long.gained)) (ap words_in c.set_word.ensures) in
-    let put = word_put U R c.args.id c.args.at c.new_far.result.0 (omega (arith, c.requires.place, lengthens_more old.words T k n c.args.id long, pad.words c.args.id)) (ap words_in c.set_word-in-Ok.ensures) in
-    let all = lengthens_written old.words T R k n long (put.segments ∙ pad.segments) (λ v. put.words v ∙ pad.words v) in
-    (next, all, ap (λ m. m + 1) start)
-
-pub returns-in-Ok-clause-granted : goal.returns-in-Ok-clause-granted
-returns-in-Ok-clause-granted g c =
-    let old : View = g.A.BuilderArena.view c.args.arena.now in
-    let mid : View = g.A.BuilderArena.view c.allocate_anywhere.new.self in
-    let new : View = g.A.BuilderArena.view c.set_word-in-Ok.new.self in
-    let grown : IsGrown old.words mid.words c.in-Ok.segment c.in-Ok.pad (c.args.amount + 1) = taken_grown old.words mid.words (c.args.amount + 1) c.in-Ok.segment c.in-Ok.pad c.in-Ok.ensures.taken in
-    keeps_both old mid new grown.grows.segments (c.in-Ok.ensures.granted, c.in-Ok.ensures.room)
-    (keeps_written mid new _ (c.set_word-in-Ok.ensures ∙ ap (λ (v : View). record v { words = with_word v.words c.args.id c.args.at c.new_far.result.0 }) c.set_word.ensures))
+    let (next, long, start) = anywhere_lengthens old mid (n + 1) k q c.in-Ok.ensures.first c.in-Ok.ensures.another in
+    let pad = word_put T U k q x (omega (arith, start, long.gained)) (ap words_in c.set_word.ensures) in
+    let put = word_put U R c.args.id c.args.at c.new_far.result.0 (omega (arith, c.requires.place, lengthens_more S T k (n + 1) c.args.id long, pad.words c.args.id)) (ap words_in c.set_word-in-Ok.ensures) in
+    let all = lengthens_written S T R k (n + 1) long (put.segments ∙ pad.segments) (λ v. put.words v ∙ pad.words v) in
+    record {
+      made = (record { word = x; segment = k; start = q + 1; pads = 1 }, whole, shaped, refl, refl);
+      fits = λ _ _. refl;
+      granted = keeps_both old mid new grown.grows.segments (c.in-Ok.ensures.granted, c.in-Ok.ensures.room)
+          (keeps_written mid new _ (c.set_word-in-Ok.ensures ∙ ap (λ (v : View). record v { words = with_word v.words c.args.id c.args.at c.new_far.result.0 }) c.set_word.ensures));
+      taken = (next, all, ap (λ m. m + 1) start);
+      named = tt;
+      refused = tt;
+    }
 
 -- A refusal is that of the arena.
-pub returns-in-Err-clause-named : goal.returns-in-Err-clause-named
-returns-in-Err-clause-named g c =
+pub returns-in-Err : goal.returns-in-Err
+returns-in-Err g c =
     let old : View = g.A.BuilderArena.view c.args.arena.now in
     let new : View = g.A.BuilderArena.view c.allocate_anywhere.new.self in
     let same : new ≡ record old { refusals = new.refusals } = c.in-Err.ensures.refused in
-    (c.in-Err.ensures.named, same ∙ ap (λ (S : Segments). record old { words = S; refusals = new.refusals }) (sym (ap words_in same)))
-
-pub returns-in-Err-clause-fits : goal.returns-in-Err-clause-fits
-returns-in-Err-clause-fits g c = λ k first. absurd (c.in-Err.ensures.first k first)
+    record {
+      made = tt;
+      fits = λ k first. absurd (c.in-Err.ensures.first k first);
+      granted = tt;
+      taken = tt;
+      named = (c.in-Err.ensures.named, same ∙ ap (λ (S : Segments). record old { words = S; refusals = new.refusals }) (sym (ap words_in same)));
+      refused = ap words_in same;
+    }
 
 -- The words that are taken are fewer than a segment holds.
 next_fits : (S T : Segments) (n s p room : ℕ) → IsTaken S T (n + 1) s p → length (segment T s) ≤ room → room < 2 ^ 29 → p + 1 < 2 ^ 32

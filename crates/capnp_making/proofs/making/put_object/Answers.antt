@@ -1,4 +1,4 @@
-use Rattle.std.proofs.Common.{◌≡◌, ◌∙◌, ◌<◌, ◌≤◌, ℕ, length, replicate, refl, sym, ap, subst, arith, ◌+◌, inl, inr, Result, Ok, IsOk, IfOk, OnOk, OnErr, IfErr}
+use Rattle.std.proofs.Common.{◌≡◌, ◌∙◌, ◌<◌, ◌≤◌, ℕ, length, replicate, refl, sym, ap, subst, arith, inl, inr, Result, Ok}
 use Rattle.capnp_format.specs.Canonical.{Reaches, offset_to}
 use Rattle.capnp_format.specs.Segments.{Segments, segment, IsPlace}
 use Rattle.capnp_arena_traits.specs.View.{View}
@@ -12,9 +12,9 @@ use Rattle.capnp_making.proofs.Shapes.{shape_some, shape_near}
 use Rattle.capnp_making.proofs.Zeros.{there}
 use Rattle.std.proofs.lemmas.Bool.{false≢true}
 use Rattle.capnp_words.specs.declared.error.ErrorKind.{ErrorKind}
-use Rattle.capnp_arena_traits.specs.Taking.{IsFirstFit}
-use Rattle.capnp_making.specs.Makes.{Allocates, IsMadeAt, call_at}
-use Rattle.capnp_making.specs.Memory.{IsNextRoom, IsRefusedFor, KeepsMemory, Lengthens}
+use Rattle.capnp_making.specs.Makes.{Allocates, CallAt, MakesFar, call_at}
+use Rattle.capnp_making.specs.Memory.{Lengthens}
+use Rattle.capnp_making.specs.declared.making.Shape.{Shape}
 use Rattle.capnp_making.specs.declared.making.Start.{Start}
 use Rattle.capnp_making.proofs.Outcomes.{if_ok_so, on_ok_so}
 use Rattle.capnp_making.proofs.Taken.{extended_lengthens, lengthens_written}
@@ -63,24 +63,15 @@ near_allocates old mid new id at n x h place room made put =
       named = tt;
     }
 
--- An object that its pointer's segment has no room for, as one behind a landing pad.
-record IsPutFar (r : Result Start ErrorKind) (old new : View) (n : ℕ) : Type 0 where
-  fits : (k : ℕ) → IsFirstFit old (n + 1) k → IsOk r
-  granted : OnOk r (KeepsMemory old new)
-  taken : IfOk r (λ h. IsNextRoom old (n + 1) h.segment × Lengthens old.words new.words h.segment (n + 1) × (h.at ≡ length (segment old.words h.segment) + 1))
-  named : IfErr r (IsRefusedFor old new n)
-
-is_put_far : (g : _) (c : goal.After-put_far g) → IsPutFar c.put_far.result (g.A.BuilderArena.view c.args.arena.now) (g.A.BuilderArena.view c.put_far.new.arena) c.args.amount
+is_put_far : (g : _) (c : goal.After-put_far g) → MakesFar c.put_far.result (call_at c.args.id c.args.at (g.A.BuilderArena.view c.args.arena.now) (g.A.BuilderArena.view c.put_far.new.arena)) c.args.shape c.args.amount
 is_put_far g c =
-    let e = c.put_far.ensures in
-    subst (λ (v : View). IsPutFar c.put_far.result v (g.A.BuilderArena.view c.put_far.new.arena) c.args.amount) (c.in-None.ensures.none refl)
-    (record { fits = e.fits; granted = e.granted; taken = e.taken; named = e.named })
+    subst (λ (v : View). MakesFar c.put_far.result (call_at c.args.id c.args.at v (g.A.BuilderArena.view c.put_far.new.arena)) c.args.shape c.args.amount) (c.in-None.ensures.none refl) c.put_far.ensures
 
 no_room : (g : _) (c : goal.After-put_far g) → HasOwnRoom (g.A.BuilderArena.view c.args.arena.now) c.args.id c.args.amount → ⊥
 no_room g c = λ own. false≢true (c.in-None.ensures.exactly.1 own)
 
-far_allocates : (r : Result Start ErrorKind) (old new : View) (id at n : ℕ) → (HasOwnRoom old id n → ⊥) → IsPutFar r old new n → Allocates r (call_at id at old new) n
-far_allocates r old new id at n full x = record {
+far_allocates : (r : Result Start ErrorKind) (c : CallAt) (shape : Shape) (n : ℕ) → (HasOwnRoom c.old c.segment n → ⊥) → MakesFar r c shape n → Allocates r c n
+far_allocates r c shape n full x = record {
   fits = λ room. elim room [ inl own ↦ absurd (full own) | inr (k, first) ↦ x.fits k first ];
   granted = x.granted;
   taken = on_ok_so r _ _ x.taken (λ h took. record { near = λ own. absurd (full own); far = λ _. (h.segment, took.0, took.1) });
@@ -100,7 +91,7 @@ returns-in-Some-clause-behind g c = record { near = λ _ _. (refl, c.in-Some.ens
 
 pub returns-in-None-clause-memory : goal.returns-in-None-clause-memory
 returns-in-None-clause-memory g c =
-    far_allocates c.put_far.result (g.A.BuilderArena.view c.args.arena.now) (g.A.BuilderArena.view c.put_far.new.arena) c.args.id c.args.at c.args.amount (no_room g c) (is_put_far g c)
+    far_allocates c.put_far.result _ c.args.shape c.args.amount (no_room g c) (is_put_far g c)
 
 pub returns-in-None-clause-behind : goal.returns-in-None-clause-behind
 returns-in-None-clause-behind g c =
@@ -113,9 +104,7 @@ pub returns-in-None-clause-at_end : goal.returns-in-None-clause-at_end
 returns-in-None-clause-at_end g c = λ own. absurd (no_room g c own)
 
 pub returns-in-None-clause-made : goal.returns-in-None-clause-made
-returns-in-None-clause-made g c =
-    subst (λ (v : View). IfOk c.put_far.result (IsMadeAt (call_at c.args.id c.args.at v (g.A.BuilderArena.view c.put_far.new.arena)) c.args.shape c.args.amount)) (c.in-None.ensures.none refl) c.put_far.ensures.made
+returns-in-None-clause-made g c = (is_put_far g c).made
 
 pub returns-in-None-clause-refused : goal.returns-in-None-clause-refused
-returns-in-None-clause-refused g c =
-    subst (λ (v : View). OnErr c.put_far.result ((g.A.BuilderArena.view c.put_far.new.arena).words ≡ v.words)) (c.in-None.ensures.none refl) c.put_far.ensures.refused
+returns-in-None-clause-refused g c = (is_put_far g c).refused

@@ -40,10 +40,10 @@ invariant-zero_pointers-loop-i g l = record {
 abbrev pub invariant-zero_elements-loop-i : goal.invariant-zero_elements-loop-i
 invariant-zero_elements-loop-i g l = record {
   zeroed :
-      (es : Elements) → element_count es ≡ l.count → AreApartElements (g.A.BuilderArena.view l.fn.arena).words l.id l.start l.size.data_words l.size.pointers es →
+      (es : Elements) → element_count es ≡ l.count → AreApartElements (g.A.BuilderArena.view l.fn.arena).words l.id l.start l.size es →
       (is : List Interval) × IsZeroed (g.A.BuilderArena.view l.fn.arena).words (g.A.BuilderArena.view l.arena).words is
-      × ((v r : ℕ) → times is v r + times (element_extents (g.A.BuilderArena.view l.fn.arena).words l.id l.at l.size.data_words l.size.pointers (rest_elements l.i es)) v r
-      ≡ times (element_extents (g.A.BuilderArena.view l.fn.arena).words l.id l.start l.size.data_words l.size.pointers es) v r);
+      × ((v r : ℕ) → times is v r + times (element_extents (g.A.BuilderArena.view l.fn.arena).words l.id l.at l.size (rest_elements l.i es)) v r
+      ≡ times (element_extents (g.A.BuilderArena.view l.fn.arena).words l.id l.start l.size es) v r);
   place : l.at ≡ l.start + l.i * (l.size.data_words + l.size.pointers);
   pruned : IsPruned (g.A.BuilderArena.view l.fn.arena).words (g.A.BuilderArena.view l.arena).words;
   limits : KeepsLimits (g.A.BuilderArena.view l.fn.arena) (g.A.BuilderArena.view l.arena);

@@ -1,4 +1,4 @@
-use Rattle.std.proofs.Common.{◌≡◌, ◌≢◌, ℕ, ◌+◌, ◌<◌, ◌≤◌, [], ◌∷◌, refl, sym, ap, subst, arith, rules}
+use Rattle.std.proofs.Common.{◌≡◌, ◌≢◌, ℕ, ◌+◌, ◌<◌, ◌≤◌, [], ◌∷◌, refl, sym, ap, subst, le_of_eq, arith, rules}
 use Rattle.capnp_format.specs.Segments.{Segments, word_at}
 use Rattle.capnp_format.specs.Word.{kind}
 use Rattle.std.proofs.Common.{inl, inr, ◌∙◌}
@@ -71,9 +71,16 @@ returns-then-not-is_positional-clause-only g c = λ x y e l.
 pub returns-in-Some-clause-only : goal.returns-in-Some-clause-only
 returns-in-Some-clause-only g c = on_made_so c.point_to.result _ _ c.point_to.ensures.points (λ w. λ x y e l. w.kept x y e l)
 
-pub returns-then-not-is_positional-clause-few : goal.returns-then-not-is_positional-clause-few
-returns-then-not-is_positional-clause-few g c =
-    omega (arith, words_put (g.A.BuilderArena.view c.args.arena.now).words (g.A.BuilderArena.view c.set_word.new.self).words c.args.to.segment c.args.to.at c.word_of-word.result.0 (ap words_in c.set_word.ensures))
+pub returns-then-not-is_positional-clause-memory : goal.returns-then-not-is_positional-clause-memory
+returns-then-not-is_positional-clause-memory g c = record {
+  granted = search rules;
+  memory = search rules;
+  full = search rules;
+  refused = search rules;
+  longer = (let put = word_put (g.A.BuilderArena.view c.args.arena.now).words (g.A.BuilderArena.view c.set_word.new.self).words c.args.to.segment c.args.to.at c.word_of-word.result.0 c.requires.to (ap words_in c.set_word.ensures) in
+      record { segments = le_of_eq (sym put.segments); words = λ v. le_of_eq (sym (put.words v)) });
+  few = (omega (arith, words_put (g.A.BuilderArena.view c.args.arena.now).words (g.A.BuilderArena.view c.set_word.new.self).words c.args.to.segment c.args.to.at c.word_of-word.result.0 (ap words_in c.set_word.ensures)));
+}
 
 -- Null stays null.
 pub returns-then-is_null-clause-written : goal.returns-then-is_null-clause-written
@@ -105,7 +112,7 @@ returns-in-Some-clause-written g c =
     let some : x ≢ 0 = λ e. search rules in
     let near : kind x < 2 = search rules in
     on_both_so c.point_to.result ((y : ℕ) → IsShape c.shape_of.result y → y ≢ 0 → WritesPointer c.args.from.segment y (call_at c.args.to.segment c.args.to.at a b)) _ _
-    (on_both_so c.point_to.result _ _ _ c.point_to.ensures.written c.point_to.ensures.taken (λ form taken. λ y its none. record { form = form y its none; taken = taken y its none })) c.point_to.ensures.granted
+    (on_both_so c.point_to.result _ _ _ c.point_to.ensures.written c.point_to.ensures.taken (λ form taken. λ y its none. record { form = form y its none; taken = taken y its none })) c.point_to.ensures.memory.granted
     (λ w kept. writes_one a b c.args.from.segment c.args.from.at c.args.to.segment c.args.to.at kept (λ none. subst (λ y. WritesPointer c.args.from.segment y (call_at c.args.to.segment c.args.to.at a b)) is (w x (c.shape_of.ensures.shape near) some)))
 
 -- One that leads nowhere means nothing.
@@ -156,7 +163,7 @@ returns-in-Some-clause-apart g c =
           (let room : HasPadRoom a k (1 + n) = subst (λ i. HasPadRoom a k (i + n)) one h in
           let goes = c.point_to.ensures.fits (fewer_pads a k 1 (1 + n) (omega arith) room) in (
             goes,
-            granted_so c.point_to.result (HasPadRoom b k n) goes (on_both_so c.point_to.result _ _ _ c.point_to.ensures.taken c.point_to.ensures.granted
+            granted_so c.point_to.result (HasPadRoom b k n) goes (on_both_so c.point_to.result _ _ _ c.point_to.ensures.taken c.point_to.ensures.memory.granted
                 (λ w kept. pad_taken a b k n (there a.words k c.args.from.at c.requires.from) kept
                 (subst (λ i. TakesWords a b k i) (pad_far k c.args.to.segment x other some near) (w x shaped some)) room)),
           ));

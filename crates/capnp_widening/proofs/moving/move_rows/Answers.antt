@@ -39,17 +39,15 @@ overflow_add-place g c =
     }
 
 -- One row of all lies where these do.
-pub move_row-requires-clause-from : goal.move_row-requires-clause-from
-move_row-requires-clause-from g c =
-    row_inside c.args.from.at c.args.from.step c.args.pointers c.args.count c.loop-i.i c.loop-i.source _ _
-    c.requires.from c.loop-i-test.true c.loop-i.invariant.source_at
-    (c.loop-i.invariant.longer.words c.args.from.segment)
-
-pub move_row-requires-clause-to : goal.move_row-requires-clause-to
-move_row-requires-clause-to g c =
-    row_inside c.args.to.at c.args.to.step c.args.pointers c.args.count c.loop-i.i c.loop-i.place _ _
-    c.requires.to c.loop-i-test.true c.loop-i.invariant.place_at
-    (c.loop-i.invariant.longer.words c.args.to.segment)
+pub move_row-requires : goal.move_row-requires
+move_row-requires g c = record {
+  from = (row_inside c.args.from.at c.args.from.step c.args.pointers c.args.count c.loop-i.i c.loop-i.source _ _
+      c.requires.from c.loop-i-test.true c.loop-i.invariant.source_at
+      (c.loop-i.invariant.longer.words c.args.from.segment));
+  to = (row_inside c.args.to.at c.args.to.step c.args.pointers c.args.count c.loop-i.i c.loop-i.place _ _
+      c.requires.to c.loop-i-test.true c.loop-i.invariant.place_at
+      (c.loop-i.invariant.longer.words c.args.to.segment));
+}
 
 pub loop-i-init : goal.loop-i-init
 loop-i-init g c =

@@ -133,56 +133,110 @@ returns-in_ok-segment-in-None-clause-points g c =
       inl (refl, refl),
     )
 
-pub returns-in_ok-segment-in-None-clause-longer : goal.returns-in_ok-segment-in-None-clause-longer
-returns-in_ok-segment-in-None-clause-longer g c = (returns-in_ok-segment-in-None-clause-points g c).grows
+pub returns-in_ok-segment-in-None-clause-memory : goal.returns-in_ok-segment-in-None-clause-memory
+returns-in_ok-segment-in-None-clause-memory g c = record {
+  granted = (let old : View = g.A.BuilderArena.view c.args.arena.now in
+      let mid : View = g.A.BuilderArena.view c.allocate_anywhere.new.self in
+      let new : View = g.A.BuilderArena.view c.set_word-in-None-3.new.self in
+      let k : ℕ = c.in_ok-segment-in-None.segment in
+      let q : ℕ = c.in_ok-segment-in-None.pad in
+      let before : g.A.BuilderArena.view c.allocate.new.self ≡ old = c.in-None.ensures.none refl in
+      let grown : IsGrown old.words mid.words k q 2 =
+      taken_grown old.words mid.words 2 k q (rw (ap words_in before) at c.in_ok-segment-in-None.ensures.taken)
+      in
+      let kept : KeepsMemory old mid = subst (λ (v : View). KeepsMemory v mid) before
+      (c.in_ok-segment-in-None.ensures.granted, c.in_ok-segment-in-None.ensures.room) in
+      let U : Segments = with_word mid.words k q c.new_far-start.result.0 in
+      let V : Segments = with_word U k (q + 1) c.tag_of-tag.result.0 in
+      let W : Segments = with_word V c.args.to.segment c.args.to.at c.new_double_far-far.result.0 in
+      let whole : new ≡ record mid { words = W } =
+      c.set_word-in-None-3.ensures
+      ∙ ap (λ (v : View). record v {
+        words = with_word v.words c.args.to.segment c.args.to.at c.new_double_far-far.result.0;
+      }) (c.set_word-in-None-2.ensures ∙ ap (λ (v : View). record v {
+        words = with_word v.words k (q + 1) c.tag_of-tag.result.0;
+      }) c.set_word-in-None.ensures) in
+      keeps_both old mid new grown.grows.segments kept (keeps_written mid new W whole));
+  memory = search rules;
+  full = search rules;
+  refused = search rules;
+  longer = ((returns-in_ok-segment-in-None-clause-points g c).grows);
+  few = (let S : Segments = (g.A.BuilderArena.view c.args.arena.now).words in
+      let T : Segments = (g.A.BuilderArena.view c.allocate_anywhere.new.self).words in
+      let U : Segments = (g.A.BuilderArena.view c.set_word-in-None.new.self).words in
+      let V : Segments = (g.A.BuilderArena.view c.set_word-in-None-2.new.self).words in
+      let R : Segments = (g.A.BuilderArena.view c.set_word-in-None-3.new.self).words in
+      let k : ℕ = c.in_ok-segment-in-None.segment in
+      let q : ℕ = c.in_ok-segment-in-None.pad in
+      let same : (g.A.BuilderArena.view c.allocate.new.self).words ≡ S = ap words_in (c.in-None.ensures.none refl) in
+      let two = words_taken S T 2 k q (rw same at c.in_ok-segment-in-None.ensures.taken) in
+      let first = words_put T U k q c.new_far-start.result.0 (ap words_in c.set_word-in-None.ensures) in
+      let second = words_put U V k (q + 1) c.tag_of-tag.result.0 (ap words_in c.set_word-in-None-2.ensures) in
+      let third = words_put V R c.args.to.segment c.args.to.at c.new_double_far-far.result.0 (ap words_in c.set_word-in-None-3.ensures) in
+      omega (arith, two, first, second, third));
+}
 
 -- No segment has room for two words more.
-pub returns-in_err-segment-in-None-clause-full : goal.returns-in_err-segment-in-None-clause-full
-returns-in_err-segment-in-None-clause-full g c =
-    let mid : View = g.A.BuilderArena.view c.allocate.new.self in
-    let b : View = g.A.BuilderArena.view c.allocate_anywhere.new.self in
-    let e = c.in_err-segment-in-None.ensures in
-    let p = err_from_is_err_and c.from_residual.result c.from_residual.ensures.1 in
-    rw (p.1, p.2) (anywhere_refused (g.A.BuilderArena.view c.args.arena.now) mid b c.args.object.segment 1 _ (c.in-None.ensures.none refl) (λ l. not_true (c.in-None.ensures.exactly.1 l)) e.named e.refused (λ j fit. e.first j fit))
+pub returns-in_err-segment-in-None-clause-memory : goal.returns-in_err-segment-in-None-clause-memory
+returns-in_err-segment-in-None-clause-memory g c = record {
+  granted = search rules;
+  memory = search rules;
+  full = (let mid : View = g.A.BuilderArena.view c.allocate.new.self in
+      let b : View = g.A.BuilderArena.view c.allocate_anywhere.new.self in
+      let e = c.in_err-segment-in-None.ensures in
+      let p = err_from_is_err_and c.from_residual.result c.from_residual.ensures.1 in
+      rw (p.1, p.2) (anywhere_refused (g.A.BuilderArena.view c.args.arena.now) mid b c.args.object.segment 1 _ (c.in-None.ensures.none refl) (λ l. not_true (c.in-None.ensures.exactly.1 l)) e.named e.refused (λ j fit. e.first j fit)));
+  refused = (let p = err_from_is_err_and c.from_residual.result c.from_residual.ensures.1 in
+      rw p.1 (ap words_in c.in_err-segment-in-None.ensures.refused ∙ ap words_in (c.in-None.ensures.none refl)));
+  longer = search rules;
+  few = (omega (arith, ap all_words (ap words_in c.in_err-segment-in-None.ensures.refused ∙ ap words_in (c.in-None.ensures.none refl))));
+}
 
 -- No words are taken for a near pointer, one for a pad, or two.
-pub returns-then-object-to-clause-few : goal.returns-then-object-to-clause-few
-returns-then-object-to-clause-few g c =
-    let S : Segments = (g.A.BuilderArena.view c.args.arena.now).words in
-    omega (arith, words_put S (g.A.BuilderArena.view c.set_word.new.self).words c.args.to.segment c.args.to.at c.near_word-word.result.0 (ap words_in c.set_word.ensures))
+pub returns-then-object-to-clause-memory : goal.returns-then-object-to-clause-memory
+returns-then-object-to-clause-memory g c = record {
+  granted = (let old : View = g.A.BuilderArena.view c.args.arena.now in
+      keeps_written old (g.A.BuilderArena.view c.set_word.new.self)
+      (with_word old.words c.args.to.segment c.args.to.at c.near_word-word.result.0) c.set_word.ensures);
+  memory = search rules;
+  full = search rules;
+  refused = search rules;
+  longer = ((returns-then-object-to-clause-points g c).grows);
+  few = (let S : Segments = (g.A.BuilderArena.view c.args.arena.now).words in
+      omega (arith, words_put S (g.A.BuilderArena.view c.set_word.new.self).words c.args.to.segment c.args.to.at c.near_word-word.result.0 (ap words_in c.set_word.ensures)));
+}
 
-pub returns-in-Some-clause-few : goal.returns-in-Some-clause-few
-returns-in-Some-clause-few g c =
-    let S : Segments = (g.A.BuilderArena.view c.args.arena.now).words in
-    let T : Segments = (g.A.BuilderArena.view c.allocate.new.self).words in
-    let U : Segments = (g.A.BuilderArena.view c.set_word-in-Some.new.self).words in
-    let R : Segments = (g.A.BuilderArena.view c.set_word-in-Some-2.new.self).words in
-    let v : ℕ = c.args.object.segment in
-    let (at, made) = c.in-Some.ensures.taken in
-    let taken : T ≡ extended S v (replicate 1 0) = ap words_in made in
-    let one = words_extended S v (replicate 1 0) c.requires.there in
-    let first = words_put T U v c.in-Some.pad c.pointer_to-word.result.0 (ap words_in c.set_word-in-Some.ensures) in
-    let second = words_put U R c.args.to.segment c.args.to.at c.new_far-far.result.0 (ap words_in c.set_word-in-Some-2.ensures) in
-    omega (arith, ap all_words taken, one, first, second)
-
-pub returns-in_ok-segment-in-None-clause-few : goal.returns-in_ok-segment-in-None-clause-few
-returns-in_ok-segment-in-None-clause-few g c =
-    let S : Segments = (g.A.BuilderArena.view c.args.arena.now).words in
-    let T : Segments = (g.A.BuilderArena.view c.allocate_anywhere.new.self).words in
-    let U : Segments = (g.A.BuilderArena.view c.set_word-in-None.new.self).words in
-    let V : Segments = (g.A.BuilderArena.view c.set_word-in-None-2.new.self).words in
-    let R : Segments = (g.A.BuilderArena.view c.set_word-in-None-3.new.self).words in
-    let k : ℕ = c.in_ok-segment-in-None.segment in
-    let q : ℕ = c.in_ok-segment-in-None.pad in
-    let same : (g.A.BuilderArena.view c.allocate.new.self).words ≡ S = ap words_in (c.in-None.ensures.none refl) in
-    let two = words_taken S T 2 k q (rw same at c.in_ok-segment-in-None.ensures.taken) in
-    let first = words_put T U k q c.new_far-start.result.0 (ap words_in c.set_word-in-None.ensures) in
-    let second = words_put U V k (q + 1) c.tag_of-tag.result.0 (ap words_in c.set_word-in-None-2.ensures) in
-    let third = words_put V R c.args.to.segment c.args.to.at c.new_double_far-far.result.0 (ap words_in c.set_word-in-None-3.ensures) in
-    omega (arith, two, first, second, third)
-
-pub returns-in_err-segment-in-None-clause-few : goal.returns-in_err-segment-in-None-clause-few
-returns-in_err-segment-in-None-clause-few g c = omega (arith, ap all_words (ap words_in c.in_err-segment-in-None.ensures.refused ∙ ap words_in (c.in-None.ensures.none refl)))
+pub returns-in-Some-clause-memory : goal.returns-in-Some-clause-memory
+returns-in-Some-clause-memory g c = record {
+  granted = (let old : View = g.A.BuilderArena.view c.args.arena.now in
+      let new : View = g.A.BuilderArena.view c.set_word-in-Some-2.new.self in
+      let T : Segments = extended old.words c.args.object.segment (replicate 1 0) in
+      let U : Segments = with_word T c.args.object.segment c.in-Some.pad c.pointer_to-word.result.0 in
+      let W : Segments = with_word U c.args.to.segment c.args.to.at c.new_far-far.result.0 in
+      let whole : new ≡ record old { words = W } =
+      c.set_word-in-Some-2.ensures
+      ∙ ap (λ (v : View). record v
+      { words = with_word v.words c.args.to.segment c.args.to.at c.new_far-far.result.0 })
+      (c.set_word-in-Some.ensures ∙ ap (λ (v : View). record v {
+        words = with_word v.words c.args.object.segment c.in-Some.pad c.pointer_to-word.result.0;
+      }) c.in-Some.ensures.taken.1) in
+      keeps_written old new W whole);
+  memory = search rules;
+  full = search rules;
+  refused = search rules;
+  longer = ((returns-in-Some-clause-points g c).grows);
+  few = (let S : Segments = (g.A.BuilderArena.view c.args.arena.now).words in
+      let T : Segments = (g.A.BuilderArena.view c.allocate.new.self).words in
+      let U : Segments = (g.A.BuilderArena.view c.set_word-in-Some.new.self).words in
+      let R : Segments = (g.A.BuilderArena.view c.set_word-in-Some-2.new.self).words in
+      let v : ℕ = c.args.object.segment in
+      let (at, made) = c.in-Some.ensures.taken in
+      let taken : T ≡ extended S v (replicate 1 0) = ap words_in made in
+      let one = words_extended S v (replicate 1 0) c.requires.there in
+      let first = words_put T U v c.in-Some.pad c.pointer_to-word.result.0 (ap words_in c.set_word-in-Some.ensures) in
+      let second = words_put U R c.args.to.segment c.args.to.at c.new_far-far.result.0 (ap words_in c.set_word-in-Some-2.ensures) in
+      omega (arith, ap all_words taken, one, first, second));
+}
 
 -- Where words are refused, no segment has room for two.
 pub returns-in_err-segment-in-None-clause-fits : goal.returns-in_err-segment-in-None-clause-fits
@@ -329,65 +383,3 @@ returns-in_ok-segment-in-None-clause-pads g c =
     let stand = pads_stand S T U V R c.args.to.segment c.args.to.at k q f x h c.requires.to grown (ap words_in c.set_word-in-None.ensures) (ap words_in c.set_word-in-None-2.ensures) (ap words_in c.set_word-in-None-3.ensures) in
     two_pads R _ h k q f x stand.0 c.new_double_far-far.ensures.segment_of c.new_double_far-far.ensures.position_of stand.1 stand.2
     (c.new_far-start.ensures.kind_of, c.new_far-start.ensures.pads, c.tag_of-tag.ensures.offset)
-
--- Nothing but words is changed beside the room that is taken.
-pub returns-then-object-to-clause-granted : goal.returns-then-object-to-clause-granted
-returns-then-object-to-clause-granted g c =
-    let old : View = g.A.BuilderArena.view c.args.arena.now in
-    keeps_written old (g.A.BuilderArena.view c.set_word.new.self)
-    (with_word old.words c.args.to.segment c.args.to.at c.near_word-word.result.0) c.set_word.ensures
-
-pub returns-in-Some-clause-granted : goal.returns-in-Some-clause-granted
-returns-in-Some-clause-granted g c =
-    let old : View = g.A.BuilderArena.view c.args.arena.now in
-    let new : View = g.A.BuilderArena.view c.set_word-in-Some-2.new.self in
-    let T : Segments = extended old.words c.args.object.segment (replicate 1 0) in
-    let U : Segments = with_word T c.args.object.segment c.in-Some.pad c.pointer_to-word.result.0 in
-    let W : Segments = with_word U c.args.to.segment c.args.to.at c.new_far-far.result.0 in
-    let whole : new ≡ record old { words = W } =
-    c.set_word-in-Some-2.ensures
-    ∙ ap (λ (v : View). record v
-    { words = with_word v.words c.args.to.segment c.args.to.at c.new_far-far.result.0 })
-    (c.set_word-in-Some.ensures ∙ ap (λ (v : View). record v {
-      words = with_word v.words c.args.object.segment c.in-Some.pad c.pointer_to-word.result.0;
-    }) c.in-Some.ensures.taken.1) in
-    keeps_written old new W whole
-
--- No segment has become shorter.
-pub returns-then-object-to-clause-longer : goal.returns-then-object-to-clause-longer
-returns-then-object-to-clause-longer g c =
-    (returns-then-object-to-clause-points g c).grows
-
-pub returns-in-Some-clause-longer : goal.returns-in-Some-clause-longer
-returns-in-Some-clause-longer g c =
-    (returns-in-Some-clause-points g c).grows
-
-pub returns-in_err-segment-in-None-clause-refused : goal.returns-in_err-segment-in-None-clause-refused
-returns-in_err-segment-in-None-clause-refused g c =
-    let p = err_from_is_err_and c.from_residual.result c.from_residual.ensures.1 in
-    rw p.1 (ap words_in c.in_err-segment-in-None.ensures.refused ∙ ap words_in (c.in-None.ensures.none refl))
-
-pub returns-in_ok-segment-in-None-clause-granted : goal.returns-in_ok-segment-in-None-clause-granted
-returns-in_ok-segment-in-None-clause-granted g c =
-    let old : View = g.A.BuilderArena.view c.args.arena.now in
-    let mid : View = g.A.BuilderArena.view c.allocate_anywhere.new.self in
-    let new : View = g.A.BuilderArena.view c.set_word-in-None-3.new.self in
-    let k : ℕ = c.in_ok-segment-in-None.segment in
-    let q : ℕ = c.in_ok-segment-in-None.pad in
-    let before : g.A.BuilderArena.view c.allocate.new.self ≡ old = c.in-None.ensures.none refl in
-    let grown : IsGrown old.words mid.words k q 2 =
-    taken_grown old.words mid.words 2 k q (rw (ap words_in before) at c.in_ok-segment-in-None.ensures.taken)
-    in
-    let kept : KeepsMemory old mid = subst (λ (v : View). KeepsMemory v mid) before
-    (c.in_ok-segment-in-None.ensures.granted, c.in_ok-segment-in-None.ensures.room) in
-    let U : Segments = with_word mid.words k q c.new_far-start.result.0 in
-    let V : Segments = with_word U k (q + 1) c.tag_of-tag.result.0 in
-    let W : Segments = with_word V c.args.to.segment c.args.to.at c.new_double_far-far.result.0 in
-    let whole : new ≡ record mid { words = W } =
-    c.set_word-in-None-3.ensures
-    ∙ ap (λ (v : View). record v {
-      words = with_word v.words c.args.to.segment c.args.to.at c.new_double_far-far.result.0;
-    }) (c.set_word-in-None-2.ensures ∙ ap (λ (v : View). record v {
-      words = with_word v.words k (q + 1) c.tag_of-tag.result.0;
-    }) c.set_word-in-None.ensures) in
-    keeps_both old mid new grown.grows.segments kept (keeps_written mid new W whole)

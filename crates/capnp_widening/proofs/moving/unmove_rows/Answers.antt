@@ -1,4 +1,4 @@
-use Rattle.std.proofs.Common.{◌≡◌, refl, subst, le_antisymm, le_of_eq, sym}
+use Rattle.std.proofs.Common.{◌≡◌, refl, subst, le_antisymm, le_of_eq, sym, rules}
 use Rattle.capnp_format.specs.Segments.{Segments}
 use Rattle.capnp_making.proofs.Zeros.{nothing_zeroed, pruned_again}
 use Rattle.capnp_widening.specs.Moved.{Unmoves}
@@ -32,17 +32,15 @@ overflow_add-place g c =
     }
 
 -- One row of all lies where these do.
-pub unmove_row-requires-clause-from : goal.unmove_row-requires-clause-from
-unmove_row-requires-clause-from g c =
-    row_inside c.args.from.at c.args.from.step c.args.pointers c.args.count c.loop-i.i c.loop-i.source _ _
-    c.requires.from c.loop-i-test.true c.loop-i.invariant.source_at
-    (le_of_eq (sym (c.loop-i.invariant.pruned.words c.args.from.segment)))
-
-pub unmove_row-requires-clause-to : goal.unmove_row-requires-clause-to
-unmove_row-requires-clause-to g c =
-    row_inside c.args.to.at c.args.to.step c.args.pointers c.args.count c.loop-i.i c.loop-i.place _ _
-    c.requires.to c.loop-i-test.true c.loop-i.invariant.place_at
-    (le_of_eq (sym (c.loop-i.invariant.pruned.words c.args.to.segment)))
+pub unmove_row-requires : goal.unmove_row-requires
+unmove_row-requires g c = record {
+  from = (row_inside c.args.from.at c.args.from.step c.args.pointers c.args.count c.loop-i.i c.loop-i.source _ _
+      c.requires.from c.loop-i-test.true c.loop-i.invariant.source_at
+      (le_of_eq (sym (c.loop-i.invariant.pruned.words c.args.from.segment))));
+  to = (row_inside c.args.to.at c.args.to.step c.args.pointers c.args.count c.loop-i.i c.loop-i.place _ _
+      c.requires.to c.loop-i-test.true c.loop-i.invariant.place_at
+      (le_of_eq (sym (c.loop-i.invariant.pruned.words c.args.to.segment))));
+}
 
 -- No row is done.
 pub loop-i-init : goal.loop-i-init
@@ -75,11 +73,14 @@ loop-i-preserved g c =
     }
 
 -- All rows are done.
-pub returns-clause-zeroed : goal.returns-clause-zeroed
-returns-clause-zeroed g c =
-    let all : c.loop-i.i ≡ c.args.count = le_antisymm c.loop-i.auto.i-end c.loop-i-test.false in
-    subst (λ n. Unmoves (g.A.BuilderArena.view c.args.arena.now).words
-    (g.A.BuilderArena.view c.loop-i.arena).words
-    (rows_moves c.args.from.segment c.args.from.at c.args.from.step c.args.to.segment c.args.to.at
-    c.args.to.step
-    c.args.pointers n)) all c.loop-i.invariant.zeroed
+pub returns : goal.returns
+returns g c = record {
+  zeroed = (let all : c.loop-i.i ≡ c.args.count = le_antisymm c.loop-i.auto.i-end c.loop-i-test.false in
+      subst (λ n. Unmoves (g.A.BuilderArena.view c.args.arena.now).words
+      (g.A.BuilderArena.view c.loop-i.arena).words
+      (rows_moves c.args.from.segment c.args.from.at c.args.from.step c.args.to.segment c.args.to.at
+      c.args.to.step
+      c.args.pointers n)) all c.loop-i.invariant.zeroed);
+  pruned = search rules;
+  limits = search rules;
+}

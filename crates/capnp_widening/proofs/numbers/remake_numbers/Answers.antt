@@ -111,15 +111,15 @@ settle-requires-clause-few g c =
 pub returns-in_err-room-clause-refused : goal.returns-in_err-room-clause-refused
 returns-in_err-room-clause-refused g c =
     let p = err_from_is_err_and c.from_residual.result c.from_residual.ensures.1 in rw p.1
-    c.in_err-room.ensures.refused
+    c.in_err-room.ensures.room.refused
 
 pub returns-in_err-room-clause-full : goal.returns-in_err-room-clause-full
 returns-in_err-room-clause-full g c =
     let p = err_from_is_err_and c.from_residual.result c.from_residual.ensures.1 in
-    rw (p.1, p.2) c.in_err-room.ensures.full
+    rw (p.1, p.2) c.in_err-room.ensures.room.full
 
 pub returns-in_err-room-clause-few : goal.returns-in_err-room-clause-few
-returns-in_err-room-clause-few g c = c.begin_list.ensures.few
+returns-in_err-room-clause-few g c = c.begin_list.ensures.room.few
 
 pub returns-clause-made : goal.returns-clause-made
 returns-clause-made g c =
@@ -148,14 +148,14 @@ returns-clause-made g c =
     record {
       remade = numbers_made s.words T b.words d.words r.words z.words q.words c.args.id c.args.at c.args.old c.args.size c.in_ok-room.room c.requires.kind.0 c.requires.kind.1 c.requires.data steps;
       anew = numbers_made_anew s b d r z q T c.args.id c.args.at c.args.old c.args.size c.in_ok-room.room c.requires.kind.0 c.requires.kind.1 c.requires.data steps (record {
-        kept = c.in_ok-room.ensures.granted;
-        taken = c.in_ok-room.ensures.words;
-        behind = c.in_ok-room.ensures.behind;
+        kept = c.in_ok-room.ensures.room.granted;
+        taken = c.in_ok-room.ensures.room.words;
+        behind = c.in_ok-room.ensures.room.behind;
         first = first;
         last = last;
       });
       granted = keeps_both s b q (le_trans room.0.grows.segments (le_of_eq (sym tagged.segments)))
-          c.in_ok-room.ensures.granted (keeps_writes b q (writes_both b d q first last));
+          c.in_ok-room.ensures.room.granted (keeps_writes b q (writes_both b d q first last));
       memory = tt;
       refused = tt;
     }
@@ -163,7 +163,7 @@ returns-clause-made g c =
 pub returns-in_err-room-clause-made : goal.returns-in_err-room-clause-made
 returns-in_err-room-clause-made g c =
     let p = err_from_is_err_and c.from_residual.result c.from_residual.ensures.1 in
-    let e = c.in_err-room.ensures in
+    let e = c.in_err-room.ensures.room in
     rw (p.1, p.2) (record {
       remade = tt;
       anew = tt;
@@ -185,11 +185,11 @@ returns-clause-few g c =
     let set = same_words D R settled.segments settled.words in
     let zeroed = same_words R Z c.zero_part.ensures.pruned.segments c.zero_part.ensures.pruned.words in
     let cleared = same_words Z Q c.zero_pads.ensures.pruned.segments c.zero_pads.ensures.pruned.words in
-    few_after _ _ _ _ c.begin_list.ensures.few (cleared ∙ zeroed ∙ set ∙ copied)
+    few_after _ _ _ _ c.begin_list.ensures.room.few (cleared ∙ zeroed ∙ set ∙ copied)
 
 pub returns-in_err-room-clause-fits : goal.returns-in_err-room-clause-fits
 returns-in_err-room-clause-fits g c =
     let p = err_from_is_err_and c.from_residual.result c.from_residual.ensures.1 in rw p.1 (λ h.
     (let v : View = g.A.BuilderArena.view c.args.arena.now in
     let n : ℕ = 1 + c.args.old.count * (c.args.size.data_words + c.args.size.pointers) in
-    (c.in_err-room.ensures.fits c.args.id 0 (no_pads v c.args.id n c.args.id h)).0))
+    (c.in_err-room.ensures.room.fits c.args.id 0 (no_pads v c.args.id n c.args.id h)).0))

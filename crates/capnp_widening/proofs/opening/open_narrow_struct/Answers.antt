@@ -9,7 +9,7 @@ use Rattle.capnp_widening.proofs.opening.open_narrow_struct.Goals as goal
 pub returns-clause-opened : goal.returns-clause-opened
 returns-clause-opened g c = λ t stored found.
     (let e = c.widen_known.ensures in
-    known_opened (g.A.BuilderArena.view c.args.arena.now) (g.A.BuilderArena.view c.widen_known.new.arena) c.args.id c.args.at t (existing_struct c.args.start c.args.narrow) c.args.size c.widen_known.result stored found c.requires.known
+    known_opened (g.A.BuilderArena.view c.args.arena.now) (g.A.BuilderArena.view c.widen_known.new.arena) c.args.place.segment c.args.place.at t (existing_struct c.args.start c.args.narrow) c.args.size c.widen_known.result stored found c.requires.known
     c.requires.narrow e.wider e.size e.full e.few)
 
 pub returns-clause-wide : goal.returns-clause-wide
@@ -20,10 +20,10 @@ returns-clause-named g c =
     let a : View = g.A.BuilderArena.view c.args.arena.now in
     let b : View = g.A.BuilderArena.view c.widen_known.new.arena in
     if_err_both c.widen_known.result _ _ _ c.widen_known.ensures.wider.memory c.widen_known.ensures.full
-    (λ k memory full. struct_unwidened a b c.args.id c.args.at (existing_struct c.args.start c.args.narrow) c.args.size k c.requires.known memory full)
-
-pub returns-clause-granted : goal.returns-clause-granted
-returns-clause-granted g c = c.widen_known.ensures.wider.granted
+    (λ k memory full. struct_unwidened a b c.args.place.segment c.args.place.at (existing_struct c.args.start c.args.narrow) c.args.size k c.requires.known memory full)
 
 pub returns-clause-memory : goal.returns-clause-memory
-returns-clause-memory g c = c.widen_known.ensures.wider.memory
+returns-clause-memory g c = record {
+  granted = (c.widen_known.ensures.wider.granted);
+  refused = (c.widen_known.ensures.wider.memory);
+}

@@ -10,11 +10,11 @@ returns-clause-opened g c = λ t stored.
       stays = c.get_struct_list.ensures.stays;
     })
 
-pub returns-clause-granted : goal.returns-clause-granted
-returns-clause-granted g c = c.get_struct_list.ensures.wider.granted
-
 pub returns-clause-memory : goal.returns-clause-memory
-returns-clause-memory g c = c.get_struct_list.ensures.wider.memory
+returns-clause-memory g c = record {
+  granted = (c.get_struct_list.ensures.wider.granted);
+  refused = (c.get_struct_list.ensures.wider.memory);
+}
 
 pub returns-clause-named : goal.returns-clause-named
 returns-clause-named g c = c.get_struct_list.ensures.wider.named

@@ -35,17 +35,15 @@ overflow_add-place g c =
     }
 
 -- One row of all lies where these do.
-pub copy_words-requires-clause-from : goal.copy_words-requires-clause-from
-copy_words-requires-clause-from g c =
-    step_inside c.args.from.at c.args.from.step c.args.words c.args.count c.loop-i.i c.loop-i.source _ _
-    c.requires.from c.requires.within.0 c.loop-i-test.true c.loop-i.invariant.source_at
-    (le_of_eq (sym (c.loop-i.invariant.copied.words c.args.from.segment)))
-
-pub copy_words-requires-clause-to : goal.copy_words-requires-clause-to
-copy_words-requires-clause-to g c =
-    step_inside c.args.to.at c.args.to.step c.args.words c.args.count c.loop-i.i c.loop-i.place _ _
-    c.requires.to c.requires.within.1 c.loop-i-test.true c.loop-i.invariant.place_at
-    (le_of_eq (sym (c.loop-i.invariant.copied.words c.args.to.segment)))
+pub copy_words-requires-clause-inside : goal.copy_words-requires-clause-inside
+copy_words-requires-clause-inside g c = record {
+  from = (step_inside c.args.from.at c.args.from.step c.args.words c.args.count c.loop-i.i c.loop-i.source _ _
+      c.requires.from c.requires.within.0 c.loop-i-test.true c.loop-i.invariant.source_at
+      (le_of_eq (sym (c.loop-i.invariant.copied.words c.args.from.segment))));
+  to = (step_inside c.args.to.at c.args.to.step c.args.words c.args.count c.loop-i.i c.loop-i.place _ _
+      c.requires.to c.requires.within.1 c.loop-i-test.true c.loop-i.invariant.place_at
+      (le_of_eq (sym (c.loop-i.invariant.copied.words c.args.to.segment))));
+}
 
 pub copy_words-requires-clause-apart : goal.copy_words-requires-clause-apart
 copy_words-requires-clause-apart g c = λ same.

@@ -135,95 +135,116 @@ zero_part-requires g c = sum_small (rows_small c.args.old.at c.args.old.tag c.ar
     (g.met.A.BuilderArena.small c.args.arena.now c.args.old.segment))
     c.from.ensures c.from-in-Ok.ensures (c.from-step.ensures ∙ c.total-in-Ok.ensures)
 
-pub returns-in-Ok-clause-made : goal.returns-in-Ok-clause-made
-returns-in-Ok-clause-made g c =
-    let s : View = g.A.BuilderArena.view c.args.arena.now in
-    let b : View = g.A.BuilderArena.view c.begin_list.new.arena in
-    let p : View = g.A.BuilderArena.view c.fill_rows.new.arena in
-    let r : View = g.A.BuilderArena.view c.settle.new.arena in
-    let z : View = g.A.BuilderArena.view c.zero_part.new.arena in
-    let q : View = g.A.BuilderArena.view c.zero_pads.new.arena in
-    let (T, room, tagged) = c.in_ok-room.ensures.begun in
-    let filled = c.in-Ok.ensures.filled in
-    let d : View = filled.between in
-    let (o, settled, shaped, segment_of, start_of) = settled_room c.settle.ensures.settled in
-    let set : OnlyWrites p r = record { limits = c.settle.ensures.limits; segments = settled.segments; words = settled.words } in
-    let zeroed = pruned_writes r z c.zero_part.ensures.limits c.zero_part.ensures.pruned in
-    let cleared = pruned_writes z q c.zero_pads.ensures.limits c.zero_pads.ensures.pruned in
-    let last = writes_both p r q set (writes_both r z q zeroed cleared) in
-    let begun : length s.words ≤ length b.words = le_trans room.0.grows.segments
-    (le_of_eq (sym tagged.segments)) in
-    let steps : ListSteps s.words T b.words d.words p.words r.words z.words q.words c.args.id c.args.at c.args.old c.args.size c.in_ok-room.room = record {
-      place = c.requires.place;
-      room = room;
-      tagged = tagged;
-      copied = filled.copied;
-      moves = filled.moved;
-      settled = rw c.total.ensures at (settled_room c.settle.ensures.settled);
-      object_zeroed = rw (c.from.ensures, c.from-in-Ok.ensures, c.from-step.ensures, c.total-in-Ok.ensures) at c.zero_part.ensures.zeroed;
-      pads_zeroed = rw c.word_of-pointer.ensures at c.zero_pads.ensures.zeroed;
-      wider = (c.requires.data, c.requires.pointers);
-    } in
-    record {
-      remade = rows_remade s.words T b.words d.words p.words r.words z.words q.words c.args.id c.args.at c.args.old c.args.size c.in_ok-room.room steps;
-      anew = rows_anew s b d p r z q T c.args.id c.args.at c.args.old c.args.size c.in_ok-room.room steps (record {
-        kept = c.in_ok-room.ensures.granted;
-        taken = c.in_ok-room.ensures.words;
-        behind = c.in_ok-room.ensures.behind;
-        first = filled.only;
-        written = filled.written;
-        last = last;
+pub returns-in-Ok-clause-remakes : goal.returns-in-Ok-clause-remakes
+returns-in-Ok-clause-remakes g c = record {
+  made = (let s : View = g.A.BuilderArena.view c.args.arena.now in
+      let b : View = g.A.BuilderArena.view c.begin_list.new.arena in
+      let p : View = g.A.BuilderArena.view c.fill_rows.new.arena in
+      let r : View = g.A.BuilderArena.view c.settle.new.arena in
+      let z : View = g.A.BuilderArena.view c.zero_part.new.arena in
+      let q : View = g.A.BuilderArena.view c.zero_pads.new.arena in
+      let (T, room, tagged) = c.in_ok-room.ensures.begun in
+      let filled = c.in-Ok.ensures.filled in
+      let d : View = filled.between in
+      let (o, settled, shaped, segment_of, start_of) = settled_room c.settle.ensures.settled in
+      let set : OnlyWrites p r = record { limits = c.settle.ensures.limits; segments = settled.segments; words = settled.words } in
+      let zeroed = pruned_writes r z c.zero_part.ensures.limits c.zero_part.ensures.pruned in
+      let cleared = pruned_writes z q c.zero_pads.ensures.limits c.zero_pads.ensures.pruned in
+      let last = writes_both p r q set (writes_both r z q zeroed cleared) in
+      let begun : length s.words ≤ length b.words = le_trans room.0.grows.segments
+      (le_of_eq (sym tagged.segments)) in
+      let steps : ListSteps s.words T b.words d.words p.words r.words z.words q.words c.args.id c.args.at c.args.old c.args.size c.in_ok-room.room = record {
+        place = c.requires.place;
+        room = room;
+        tagged = tagged;
+        copied = filled.copied;
+        moves = filled.moved;
+        settled = rw c.total.ensures at (settled_room c.settle.ensures.settled);
+        object_zeroed = rw (c.from.ensures, c.from-in-Ok.ensures, c.from-step.ensures, c.total-in-Ok.ensures) at c.zero_part.ensures.zeroed;
+        pads_zeroed = rw c.word_of-pointer.ensures at c.zero_pads.ensures.zeroed;
+        wider = (c.requires.wider.data_words, c.requires.wider.pointers);
+      } in
+      record {
+        remade = rows_remade s.words T b.words d.words p.words r.words z.words q.words c.args.id c.args.at c.args.old c.args.size c.in_ok-room.room steps;
+        anew = rows_anew s b d p r z q T c.args.id c.args.at c.args.old c.args.size c.in_ok-room.room steps (record {
+          kept = c.in_ok-room.ensures.room.granted;
+          taken = c.in_ok-room.ensures.room.words;
+          behind = c.in_ok-room.ensures.room.behind;
+          first = filled.only;
+          written = filled.written;
+          last = last;
+        });
+        granted = keeps_both s p q (le_trans begun c.fill_rows.ensures.longer.segments)
+            (keeps_both s b p begun c.in_ok-room.ensures.room.granted c.in-Ok.ensures.memory.granted)
+            (keeps_writes p q last);
+        memory = tt;
+        refused = tt;
       });
-      granted = keeps_both s p q (le_trans begun c.fill_rows.ensures.longer.segments)
-          (keeps_both s b p begun c.in_ok-room.ensures.granted c.in-Ok.ensures.granted)
-          (keeps_writes p q last);
-      memory = tt;
-      refused = tt;
-    }
+  few = (let P : Segments = (g.A.BuilderArena.view c.fill_rows.new.arena).words in
+      let R : Segments = (g.A.BuilderArena.view c.settle.new.arena).words in
+      let Z : Segments = (g.A.BuilderArena.view c.zero_part.new.arena).words in
+      let Q : Segments = (g.A.BuilderArena.view c.zero_pads.new.arena).words in
+      let (b, settled, shaped, segment_of, start_of) = settled_room c.settle.ensures.settled in
+      let set = same_words P R settled.segments settled.words in
+      let zeroed = same_words R Z c.zero_part.ensures.pruned.segments c.zero_part.ensures.pruned.words in
+      let cleared = same_words Z Q c.zero_pads.ensures.pruned.segments c.zero_pads.ensures.pruned.words in
+      few_after _ _ _ _ (few_again _ _ _ (structs_words c.args.old.count c.args.size + 1)
+      (2 * (c.args.old.count * c.args.old.size.pointers)) c.begin_list.ensures.room.few c.fill_rows.ensures.few)
+      (cleared ∙ zeroed ∙ set));
+}
 
-pub returns-in-Err-clause-made : goal.returns-in-Err-clause-made
-returns-in-Err-clause-made g c =
-    let s : View = g.A.BuilderArena.view c.args.arena.now in
-    let b : View = g.A.BuilderArena.view c.begin_list.new.arena in
-    let u : View = g.A.BuilderArena.view c.fill_rows.new.arena in
-    let z : View = g.A.BuilderArena.view c.zero_part-in-Err.new.arena in
-    let k = c.in-Err.k in
-    let (T, room, tagged) = c.in_ok-room.ensures.begun in
-    let (D, P, copied, some, unmoves) = c.in-Err.ensures.undone in
-    let begun : length s.words ≤ length b.words = le_trans room.0.grows.segments
-    (le_of_eq (sym tagged.segments)) in
-    let steps : ListUndone s.words T b.words D P u.words z.words c.args.id c.args.old c.args.size c.in_ok-room.room = record {
-      room = room;
-      tagged = tagged;
-      copied = copied;
-      some = some;
-      unmoves = unmoves;
-      zeroed = rw (c.from-in-Err.ensures, c.total.ensures) at c.zero_part-in-Err.ensures.zeroed;
-      wider = (c.requires.data, c.requires.pointers);
-    } in
-    record {
-      remade = tt;
-      anew = tt;
-      granted = tt;
-      memory = spends_then_limits s u z k (keeps_then_spends s b u k begun c.in_ok-room.ensures.granted c.in-Err.ensures.memory) c.zero_part-in-Err.ensures.limits;
-      refused = rows_left s.words T b.words D P u.words z.words c.args.id c.args.at c.args.old c.args.size c.in_ok-room.room steps;
-    }
+pub returns-in-Err-clause-remakes : goal.returns-in-Err-clause-remakes
+returns-in-Err-clause-remakes g c = record {
+  made = (let s : View = g.A.BuilderArena.view c.args.arena.now in
+      let b : View = g.A.BuilderArena.view c.begin_list.new.arena in
+      let u : View = g.A.BuilderArena.view c.fill_rows.new.arena in
+      let z : View = g.A.BuilderArena.view c.zero_part-in-Err.new.arena in
+      let k = c.in-Err.k in
+      let (T, room, tagged) = c.in_ok-room.ensures.begun in
+      let (D, P, copied, some, unmoves) = c.in-Err.ensures.undone in
+      let begun : length s.words ≤ length b.words = le_trans room.0.grows.segments
+      (le_of_eq (sym tagged.segments)) in
+      let steps : ListUndone s.words T b.words D P u.words z.words c.args.id c.args.old c.args.size c.in_ok-room.room = record {
+        room = room;
+        tagged = tagged;
+        copied = copied;
+        some = some;
+        unmoves = unmoves;
+        zeroed = rw (c.from-in-Err.ensures, c.total.ensures) at c.zero_part-in-Err.ensures.zeroed;
+        wider = (c.requires.wider.data_words, c.requires.wider.pointers);
+      } in
+      record {
+        remade = tt;
+        anew = tt;
+        granted = tt;
+        memory = spends_then_limits s u z k (keeps_then_spends s b u k begun c.in_ok-room.ensures.room.granted c.in-Err.ensures.memory.refused) c.zero_part-in-Err.ensures.limits;
+        refused = rows_left s.words T b.words D P u.words z.words c.args.id c.args.at c.args.old c.args.size c.in_ok-room.room steps;
+      });
+  few = (let U : Segments = (g.A.BuilderArena.view c.fill_rows.new.arena).words in
+      let Z : Segments = (g.A.BuilderArena.view c.zero_part-in-Err.new.arena).words in
+      few_after _ _ _ _ (few_again _ _ _ (structs_words c.args.old.count c.args.size + 1)
+      (2 * (c.args.old.count * c.args.old.size.pointers)) c.begin_list.ensures.room.few c.fill_rows.ensures.few)
+      (same_words U Z c.zero_part-in-Err.ensures.pruned.segments c.zero_part-in-Err.ensures.pruned.words));
+}
 
-pub returns-in_err-room-clause-made : goal.returns-in_err-room-clause-made
-returns-in_err-room-clause-made g c =
-    let p = err_from_is_err_and c.from_residual.result c.from_residual.ensures.1 in
-    let e = c.in_err-room.ensures in
-    rw (p.1, p.2) (record {
-      remade = tt;
-      anew = tt;
-      granted = tt;
-      memory = e.memory;
-      refused = λ t i. nothing_grown (g.A.BuilderArena.view c.args.arena.now).words (g.A.BuilderArena.view c.begin_list.new.arena).words e.refused;
-    })
+pub returns-in_err-room-clause-remakes : goal.returns-in_err-room-clause-remakes
+returns-in_err-room-clause-remakes g c = record {
+  made = (let p = err_from_is_err_and c.from_residual.result c.from_residual.ensures.1 in
+      let e = c.in_err-room.ensures.room in
+      rw (p.1, p.2) (record {
+        remade = tt;
+        anew = tt;
+        granted = tt;
+        memory = e.memory;
+        refused = λ t i. nothing_grown (g.A.BuilderArena.view c.args.arena.now).words (g.A.BuilderArena.view c.begin_list.new.arena).words e.refused;
+      }));
+  few = (few_at_most _ _ (structs_words c.args.old.count c.args.size + 1) _
+      c.begin_list.ensures.room.few);
+}
 
 pub returns-in_err-room-clause-full : goal.returns-in_err-room-clause-full
 returns-in_err-room-clause-full g c =
-    let p = err_from_is_err_and c.from_residual.result c.from_residual.ensures.1 in rw (p.1, p.2) (inl (c.in_err-room.ensures.full, c.in_err-room.ensures.refused))
+    let p = err_from_is_err_and c.from_residual.result c.from_residual.ensures.1 in rw (p.1, p.2) (inl (c.in_err-room.ensures.room.full, c.in_err-room.ensures.room.refused))
 
 pub returns-in-Err-clause-full : goal.returns-in-Err-clause-full
 returns-in-Err-clause-full g c =
@@ -233,40 +254,13 @@ returns-in-Err-clause-full g c =
     let Z : View = g.A.BuilderArena.view c.zero_part-in-Err.new.arena in
     let k = c.in-Err.k in
     let (some, refused) = c.in-Err.ensures.full in
-    inr (some, words_refused_before S U Z 1 k (words_refused_after S B U 1 k c.in_ok-room.ensures.granted refused) c.zero_part-in-Err.ensures.limits c.zero_part-in-Err.ensures.pruned)
-
--- The words of the list are taken, a pad at most, and two words for a pointer at most.
-pub returns-in-Ok-clause-few : goal.returns-in-Ok-clause-few
-returns-in-Ok-clause-few g c =
-    let P : Segments = (g.A.BuilderArena.view c.fill_rows.new.arena).words in
-    let R : Segments = (g.A.BuilderArena.view c.settle.new.arena).words in
-    let Z : Segments = (g.A.BuilderArena.view c.zero_part.new.arena).words in
-    let Q : Segments = (g.A.BuilderArena.view c.zero_pads.new.arena).words in
-    let (b, settled, shaped, segment_of, start_of) = settled_room c.settle.ensures.settled in
-    let set = same_words P R settled.segments settled.words in
-    let zeroed = same_words R Z c.zero_part.ensures.pruned.segments c.zero_part.ensures.pruned.words in
-    let cleared = same_words Z Q c.zero_pads.ensures.pruned.segments c.zero_pads.ensures.pruned.words in
-    few_after _ _ _ _ (few_again _ _ _ (structs_words c.args.old.count c.args.size + 1)
-    (2 * (c.args.old.count * c.args.old.size.pointers)) c.begin_list.ensures.few c.fill_rows.ensures.few)
-    (cleared ∙ zeroed ∙ set)
-
-pub returns-in-Err-clause-few : goal.returns-in-Err-clause-few
-returns-in-Err-clause-few g c =
-    let U : Segments = (g.A.BuilderArena.view c.fill_rows.new.arena).words in
-    let Z : Segments = (g.A.BuilderArena.view c.zero_part-in-Err.new.arena).words in
-    few_after _ _ _ _ (few_again _ _ _ (structs_words c.args.old.count c.args.size + 1)
-    (2 * (c.args.old.count * c.args.old.size.pointers)) c.begin_list.ensures.few c.fill_rows.ensures.few)
-    (same_words U Z c.zero_part-in-Err.ensures.pruned.segments c.zero_part-in-Err.ensures.pruned.words)
-
-pub returns-in_err-room-clause-few : goal.returns-in_err-room-clause-few
-returns-in_err-room-clause-few g c = few_at_most _ _ (structs_words c.args.old.count c.args.size + 1) _
-    c.begin_list.ensures.few
+    inr (some, words_refused_before S U Z 1 k (words_refused_after S B U 1 k c.in_ok-room.ensures.room.granted refused) c.zero_part-in-Err.ensures.limits c.zero_part-in-Err.ensures.pruned)
 
 -- Where there is room for the list and for the landing pads that its pointers need, nothing is refused.
 pub returns-in_err-room-clause-fits : goal.returns-in_err-room-clause-fits
 returns-in_err-room-clause-fits g c =
     let p = err_from_is_err_and c.from_residual.result c.from_residual.ensures.1 in
-    rw p.1 (λ to h. (c.in_err-room.ensures.fits c.args.old.segment _ h).0)
+    rw p.1 (λ to h. (c.in_err-room.ensures.room.fits c.args.old.segment _ h).0)
 
 pub returns-in-Err-clause-fits : goal.returns-in-Err-clause-fits
 returns-in-Err-clause-fits g c = λ to h.
@@ -287,11 +281,11 @@ returns-in-Err-clause-fits g c = λ to h.
     let few : n ≤ structs_words old.count size = omega (
       arith,
       near_rows_few S.words k p w to.segment (to.at + size.data_words) z old.size.pointers old.count,
-      mul-le-mul_left old.count c.requires.pointers,
+      mul-le-mul_left old.count c.requires.wider.pointers,
     ) in
     elim (cases_eq k v) [
       | inl here ↦ c.in-Err.ensures.near here
-      | inr other ↦ (let left = (c.in_ok-room.ensures.fits k n h).1 exists (λ e. other (sym e)) few in
+      | inr other ↦ (let left = (c.in_ok-room.ensures.room.fits k n h).1 exists (λ e. other (sym e)) few in
           let same = near_same_rows S.words B.words k p w v r z to.segment (to.at + size.data_words) z old.size.pointers old.count (length (segment S.words k)) (omega (arith, c.requires.inside))
           (λ y l. tagged.kept k y (none_elsewhere _ _ _ k y other) ∙ room.0.kept k y l) in
           c.in-Err.ensures.fits other (subst (λ i. HasPadRoom B k i) (sym same) left))

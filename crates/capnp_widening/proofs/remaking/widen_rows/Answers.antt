@@ -37,15 +37,19 @@ pub returns-then-not-are_inside-clause-fits : goal.returns-then-not-are_inside-c
 returns-then-not-are_inside-clause-fits g c = λ inside to h. absurd (search (rules, inside))
 
 -- Nothing is changed then.
-pub returns-then-words-ge536870912-clause-made : goal.returns-then-words-ge536870912-clause-made
-returns-then-words-ge536870912-clause-made g c =
-    let v : View = g.A.BuilderArena.view c.args.arena.now in
-    record { remade = tt; anew = tt; granted = tt; memory = too_large_spent v 0; refused = λ t h. nothing_grown v.words _ refl }
+pub returns-then-words-ge536870912-clause-remakes : goal.returns-then-words-ge536870912-clause-remakes
+returns-then-words-ge536870912-clause-remakes g c = record {
+  made = (let v : View = g.A.BuilderArena.view c.args.arena.now in
+      record { remade = tt; anew = tt; granted = tt; memory = too_large_spent v 0; refused = λ t h. nothing_grown v.words _ refl });
+  few = search rules;
+}
 
-pub returns-then-not-are_inside-clause-made : goal.returns-then-not-are_inside-clause-made
-returns-then-not-are_inside-clause-made g c =
-    let v : View = g.A.BuilderArena.view c.args.arena.now in
-    record { remade = tt; anew = tt; granted = tt; memory = outside_spent v; refused = λ t h. nothing_grown v.words _ refl }
+pub returns-then-not-are_inside-clause-remakes : goal.returns-then-not-are_inside-clause-remakes
+returns-then-not-are_inside-clause-remakes g c = record {
+  made = (let v : View = g.A.BuilderArena.view c.args.arena.now in
+      record { remade = tt; anew = tt; granted = tt; memory = outside_spent v; refused = λ t h. nothing_grown v.words _ refl });
+  few = search rules;
+}
 
 -- So many words are refused at once.
 pub returns-then-words-ge536870912-clause-large : goal.returns-then-words-ge536870912-clause-large

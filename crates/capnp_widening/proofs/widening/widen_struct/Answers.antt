@@ -68,19 +68,17 @@ pointers_of-to-requires g c =
     (g.met.A.BuilderArena.within c.take.new.arena c.in_ok-room.room.segment)
     (g.met.A.BuilderArena.small c.take.new.arena c.in_ok-room.room.segment)
 
-pub copy_words-requires-clause-from : goal.copy_words-requires-clause-from
-copy_words-requires-clause-from g c =
-    let (grown, near) = c.in_ok-room.ensures.taken in
-    rw (c.data_of.ensures, c.from.ensures)
-    (le_trans (data_inside c.args.old.start c.args.old.size.data_words c.args.old.size.pointers
-    c.requires.inside) (grown.grows.words c.args.old.segment))
-
-pub copy_words-requires-clause-to : goal.copy_words-requires-clause-to
-copy_words-requires-clause-to g c =
-    let (grown, near) = c.in_ok-room.ensures.taken in
-    rw (c.data_of-2.ensures, c.from.ensures)
-    (new_data c.in_ok-room.room.at c.in_ok-room.room.pads c.args.size.data_words c.args.size.pointers
-    grown.room c.total.ensures c.requires.data)
+pub copy_words-requires-clause-inside : goal.copy_words-requires-clause-inside
+copy_words-requires-clause-inside g c = record {
+  from = (let (grown, near) = c.in_ok-room.ensures.taken in
+      rw (c.data_of.ensures, c.from.ensures)
+      (le_trans (data_inside c.args.old.start c.args.old.size.data_words c.args.old.size.pointers
+      c.requires.inside) (grown.grows.words c.args.old.segment)));
+  to = (let (grown, near) = c.in_ok-room.ensures.taken in
+      rw (c.data_of-2.ensures, c.from.ensures)
+      (new_data c.in_ok-room.room.at c.in_ok-room.room.pads c.args.size.data_words c.args.size.pointers
+      grown.room c.total.ensures c.requires.data));
+}
 
 pub copy_words-requires-clause-apart : goal.copy_words-requires-clause-apart
 copy_words-requires-clause-apart g c =
@@ -91,21 +89,19 @@ copy_words-requires-clause-apart g c =
     c.in_ok-room.room.pads
     c.requires.inside (ap (λ s. length (segment S s)) e) grown.behind)
 
-pub move_row-requires-clause-from : goal.move_row-requires-clause-from
-move_row-requires-clause-from g c =
-    let (grown, near) = c.in_ok-room.ensures.taken in
-    let s : ℕ = c.args.old.segment in
-    rw (c.pointers_of-from.ensures, c.from-count.ensures) (le_trans c.requires.inside
-    (le_trans (grown.grows.words s) (le_of_eq (sym (c.copy_words.ensures.copied.words s)))))
-
-pub move_row-requires-clause-to : goal.move_row-requires-clause-to
-move_row-requires-clause-to g c =
-    let (grown, near) = c.in_ok-room.ensures.taken in
-    rw (c.pointers_of-to.ensures, c.from-count.ensures)
-    (le_trans
-    (new_pointers c.in_ok-room.room.at c.in_ok-room.room.pads c.args.size.data_words c.args.size.pointers
-    grown.room c.total.ensures c.requires.pointers)
-    (le_of_eq (sym (c.copy_words.ensures.copied.words c.in_ok-room.room.segment))))
+pub move_row-requires : goal.move_row-requires
+move_row-requires g c = record {
+  from = (let (grown, near) = c.in_ok-room.ensures.taken in
+      let s : ℕ = c.args.old.segment in
+      rw (c.pointers_of-from.ensures, c.from-count.ensures) (le_trans c.requires.inside
+      (le_trans (grown.grows.words s) (le_of_eq (sym (c.copy_words.ensures.copied.words s))))));
+  to = (let (grown, near) = c.in_ok-room.ensures.taken in
+      rw (c.pointers_of-to.ensures, c.from-count.ensures)
+      (le_trans
+      (new_pointers c.in_ok-room.room.at c.in_ok-room.room.pads c.args.size.data_words c.args.size.pointers
+      grown.room c.total.ensures c.requires.pointers)
+      (le_of_eq (sym (c.copy_words.ensures.copied.words c.in_ok-room.room.segment)))));
+}
 
 pub settle-requires-clause-place : goal.settle-requires-clause-place
 settle-requires-clause-place g c =
@@ -133,23 +129,21 @@ settle-requires-clause-apart g c = λ e.
 pub settle-requires-clause-near : goal.settle-requires-clause-near
 settle-requires-clause-near g c = near_or_behind c.in_ok-room.ensures.taken.1
 
-pub unmove_row-requires-clause-from : goal.unmove_row-requires-clause-from
-unmove_row-requires-clause-from g c =
-    let (grown, near) = c.in_ok-room.ensures.taken in
-    let s : ℕ = c.args.old.segment in
-    rw (c.pointers_of-from.ensures, c.from-count.ensures) (le_trans c.requires.inside
-    (le_trans (grown.grows.words s) (le_trans (le_of_eq (sym (c.copy_words.ensures.copied.words s)))
-    (c.in-Err.ensures.moves.longer.words s))))
-
-pub unmove_row-requires-clause-to : goal.unmove_row-requires-clause-to
-unmove_row-requires-clause-to g c =
-    let (grown, near) = c.in_ok-room.ensures.taken in
-    let v : ℕ = c.in_ok-room.room.segment in
-    rw (c.pointers_of-to.ensures, c.from-count.ensures)
-    (le_trans
-    (new_pointers c.in_ok-room.room.at c.in_ok-room.room.pads c.args.size.data_words c.args.size.pointers
-    grown.room c.total.ensures c.requires.pointers)
-    (le_trans (le_of_eq (sym (c.copy_words.ensures.copied.words v))) (c.in-Err.ensures.moves.longer.words v)))
+pub unmove_row-requires : goal.unmove_row-requires
+unmove_row-requires g c = record {
+  from = (let (grown, near) = c.in_ok-room.ensures.taken in
+      let s : ℕ = c.args.old.segment in
+      rw (c.pointers_of-from.ensures, c.from-count.ensures) (le_trans c.requires.inside
+      (le_trans (grown.grows.words s) (le_trans (le_of_eq (sym (c.copy_words.ensures.copied.words s)))
+      (c.in-Err.ensures.moves.longer.words s)))));
+  to = (let (grown, near) = c.in_ok-room.ensures.taken in
+      let v : ℕ = c.in_ok-room.room.segment in
+      rw (c.pointers_of-to.ensures, c.from-count.ensures)
+      (le_trans
+      (new_pointers c.in_ok-room.room.at c.in_ok-room.room.pads c.args.size.data_words c.args.size.pointers
+      grown.room c.total.ensures c.requires.pointers)
+      (le_trans (le_of_eq (sym (c.copy_words.ensures.copied.words v))) (c.in-Err.ensures.moves.longer.words v))));
+}
 
 pub zero_part-requires : goal.zero_part-requires
 zero_part-requires g c =
@@ -178,7 +172,7 @@ returns-in-Ok-clause-wider g c =
     let last = writes_both p r q set (writes_both r z q zeroed cleared) in
     let copied : length s.words ≤ length d.words = le_trans grown.grows.segments
     (le_of_eq (sym first.segments)) in
-    let kept = keeps_both s t d grown.grows.segments c.in_ok-room.ensures.granted (keeps_writes t d first) in
+    let kept = keeps_both s t d grown.grows.segments c.in_ok-room.ensures.room.granted (keeps_writes t d first) in
     let steps : StructSteps s.words t.words d.words p.words r.words z.words q.words c.args.id c.args.at c.args.old c.args.size c.in_ok-room.room = record {
       place = c.requires.place;
       room = rw c.total.ensures at c.in_ok-room.ensures.taken;
@@ -193,9 +187,9 @@ returns-in-Ok-clause-wider g c =
       replaced = struct_rehoused s.words t.words d.words p.words r.words z.words q.words c.args.id c.args.at c.args.old c.args.size c.in_ok-room.room steps;
       leads = struct_leads s.words t.words d.words p.words r.words z.words q.words c.args.id c.args.at c.args.old c.args.size c.in_ok-room.room steps;
       anew = struct_anew s t d p r z q c.args.id c.args.at c.args.old c.args.size c.in_ok-room.room steps (record {
-        kept = c.in_ok-room.ensures.granted;
-        taken = rw c.total.ensures at c.in_ok-room.ensures.words;
-        behind = rw c.total.ensures at c.in_ok-room.ensures.behind;
+        kept = c.in_ok-room.ensures.room.granted;
+        taken = rw c.total.ensures at c.in_ok-room.ensures.room.words;
+        behind = rw c.total.ensures at c.in_ok-room.ensures.room.behind;
         first = first;
         written = rw (c.pointers_of-from.ensures, c.pointers_of-to.ensures, c.from-count.ensures) at moves.written;
         last = last;
@@ -219,7 +213,7 @@ returns-in-Err-clause-wider g c =
     let moves = c.in-Err.ensures.moves in
     let copied : length s.words ≤ length d.words =
     le_trans grown.grows.segments (le_of_eq (sym c.copy_words.ensures.copied.segments)) in
-    let kept = keeps_both s t d grown.grows.segments c.in_ok-room.ensures.granted (keeps_written t d d.words c.copy_words.ensures.limits) in
+    let kept = keeps_both s t d grown.grows.segments c.in_ok-room.ensures.room.granted (keeps_written t d d.words c.copy_words.ensures.limits) in
     let steps : StructUndone s.words t.words d.words p.words u.words z.words c.args.id c.args.old c.args.size c.in_ok-room.room = record {
       room = rw c.total.ensures at c.in_ok-room.ensures.taken;
       copied = rw (c.data_of.ensures, c.data_of-2.ensures, c.from.ensures) at c.copy_words.ensures.copied;
@@ -240,7 +234,7 @@ returns-in-Err-clause-wider g c =
 pub returns-in_err-room-clause-wider : goal.returns-in_err-room-clause-wider
 returns-in_err-room-clause-wider g c =
     let p = err_from_is_err_and c.from_residual.result c.from_residual.ensures.1 in
-    let e = c.in_err-room.ensures in
+    let e = c.in_err-room.ensures.room in
     rw (p.1, p.2) (record {
       replaced = tt;
       leads = tt;
@@ -252,7 +246,7 @@ returns-in_err-room-clause-wider g c =
 
 pub returns-in_err-room-clause-full : goal.returns-in_err-room-clause-full
 returns-in_err-room-clause-full g c =
-    let p = err_from_is_err_and c.from_residual.result c.from_residual.ensures.1 in rw (p.1, p.2) (inl (rw c.total.ensures at c.in_err-room.ensures.full, c.in_err-room.ensures.refused))
+    let p = err_from_is_err_and c.from_residual.result c.from_residual.ensures.1 in rw (p.1, p.2) (inl (rw c.total.ensures at c.in_err-room.ensures.room.full, c.in_err-room.ensures.room.refused))
 
 pub returns-in-Err-clause-full : goal.returns-in-Err-clause-full
 returns-in-Err-clause-full g c =
@@ -265,7 +259,7 @@ returns-in-Err-clause-full g c =
     let k = c.in-Err.k in
     let (some, refused) = c.in-Err.ensures.moves.full in
     let (grown, near) = c.in_ok-room.ensures.taken in
-    let keeps = keeps_both old T D grown.grows.segments c.in_ok-room.ensures.granted (keeps_written T D D.words c.copy_words.ensures.limits) in
+    let keeps = keeps_both old T D grown.grows.segments c.in_ok-room.ensures.room.granted (keeps_written T D D.words c.copy_words.ensures.limits) in
     let undone = words_refused_before old P U 1 k (words_refused_after old D P 1 k keeps refused) c.unmove_row.ensures.limits c.unmove_row.ensures.pruned in
     inr (rw c.from-count.ensures at some, words_refused_before old U Z 1 k undone c.zero_part-in-Err.ensures.limits c.zero_part-in-Err.ensures.pruned)
 
@@ -279,7 +273,7 @@ returns-in-Ok-clause-few g c =
     let Z : Segments = (g.A.BuilderArena.view c.zero_part.new.arena).words in
     let Q : Segments = (g.A.BuilderArena.view c.zero_pads.new.arena).words in
     let (b, settled, shaped, segment_of, start_of) = settled_room c.settle.ensures.settled in
-    let taken = rw c.total.ensures at c.take.ensures.few in
+    let taken = rw c.total.ensures at c.take.ensures.room.few in
     let moved = rw c.from-count.ensures at c.move_row.ensures.moves.few in
     let copied = same_words T D c.copy_words.ensures.copied.segments c.copy_words.ensures.copied.words in
     let set = same_words P R settled.segments settled.words in
@@ -295,7 +289,7 @@ returns-in-Err-clause-few g c =
     let P : Segments = (g.A.BuilderArena.view c.move_row.new.arena).words in
     let U : Segments = (g.A.BuilderArena.view c.unmove_row.new.arena).words in
     let Z : Segments = (g.A.BuilderArena.view c.zero_part-in-Err.new.arena).words in
-    let taken = rw c.total.ensures at c.take.ensures.few in
+    let taken = rw c.total.ensures at c.take.ensures.room.few in
     let moved = rw c.from-count.ensures at c.move_row.ensures.moves.few in
     let copied = same_words T D c.copy_words.ensures.copied.segments c.copy_words.ensures.copied.words in
     let undone = same_words P U c.unmove_row.ensures.pruned.segments c.unmove_row.ensures.pruned.words in
@@ -304,7 +298,7 @@ returns-in-Err-clause-few g c =
     (2 * c.args.old.size.pointers) taken (few_before _ copied moved)) (zeroed ∙ undone)
 
 pub returns-in_err-room-clause-few : goal.returns-in_err-room-clause-few
-returns-in_err-room-clause-few g c = let taken = rw c.total.ensures at c.take.ensures.few in few_at_most _ _
+returns-in_err-room-clause-few g c = let taken = rw c.total.ensures at c.take.ensures.room.few in few_at_most _ _
     (c.args.size.data_words + c.args.size.pointers + 1) _ taken
 
 -- Where there is room for the struct and for the landing pads that its pointers need, neither is refused.
@@ -314,7 +308,7 @@ returns-in_err-room-clause-fits g c =
     let p = err_from_is_err_and c.from_residual.result c.from_residual.ensures.1 in rw p.1 (λ to h.
     (let old = c.args.old in
     let n : ℕ = near_pointers v.words (row_moves old.segment (old.start + old.size.data_words) to.segment to.at old.size.pointers) in
-    (c.in_err-room.ensures.fits old.segment n (subst (λ m. HasRoomAndPads v c.args.id m old.segment n) (sym c.total.ensures) h)).0))
+    (c.in_err-room.ensures.room.fits old.segment n (subst (λ m. HasRoomAndPads v c.args.id m old.segment n) (sym c.total.ensures) h)).0))
 
 pub returns-in-Err-clause-fits : goal.returns-in-Err-clause-fits
 returns-in-Err-clause-fits g c = λ to h.
@@ -336,7 +330,7 @@ returns-in-Err-clause-fits g c = λ to h.
     elim (cases_eq k v) [
       | inl here ↦ c.in-Err.ensures.near (ap (λ (x : Start). x.segment) c.pointers_of-from.ensures ∙ (here ∙ sym (ap (λ (x : Start). x.segment) c.pointers_of-to.ensures)))
       | inr other ↦ (let moved = rw (c.pointers_of-from.ensures, c.pointers_of-to.ensures, c.from-count.ensures) at c.in-Err.ensures.apart in
-          let left = (c.in_ok-room.ensures.fits k n (subst (λ m. HasRoomAndPads S c.args.id m k n) (sym c.total.ensures) h)).1 exists (λ e. other (sym e)) few in
+          let left = (c.in_ok-room.ensures.room.fits k n (subst (λ m. HasRoomAndPads S c.args.id m k n) (sym c.total.ensures) h)).1 exists (λ e. other (sym e)) few in
           let first = pads_written T D k n (record { limits = c.copy_words.ensures.limits; segments = copied.segments; words = copied.words }) left in
           let same = near_same_row S.words D.words k p v r to.segment to.at old.size.pointers
           (λ y l. copied.kept k y (none_elsewhere v _ _ k y other) ∙ grown.kept k y (lt_of_lt_of_le l c.requires.inside)) in
