@@ -23,7 +23,7 @@ use Rattle.capnp_making.proofs.Placed.{count-nulls}
 use Rattle.capnp_making.proofs.Replace.{put_tree-count}
 use Rattle.capnp_making.proofs.Replaced.{replaced_again}
 use Rattle.capnp_readers.specs.declared.readers.struct_reader.StructPlace.{StructPlace}
-use Rattle.capnp_builders.specs.Content.{content_byte, with_fields, with_content, AreCleared, HoldContent, up_to, TakesBytes}
+use Rattle.capnp_builders.specs.Content.{content_byte, with_fields, fields_from, with_content, AreCleared, HoldContent, up_to, TakesBytes}
 use Rattle.capnp_widening.specs.Opening.{existing_struct}
 use Rattle.capnp_builders.specs.Places.{struct_place}
 use Rattle.capnp_builders.proofs.StructPlaces.{StructStartsAt, struct_starts}
@@ -98,12 +98,12 @@ pub record IsContent (F : List ℕ → Trees → Tree) (path : ℕ → List Step
       Turns S (with_field S a.segment (64 * c + b) w v) s p a (F ws ts) (F (put_field ws b w v) ts)
 
 bytes_put : (F : List ℕ → Trees → Tree) (path : ℕ → List Step) (S : Segments) (s p d q : ℕ) (a : Target) (c o : ℕ) (ws : List ℕ) (ts : Trees) (f : ℕ → ℕ) (n : ℕ) → IsContent F path s p d q a c o → Holds (F ws) S s p a ts → length ws ≡ d → count ts ≡ q → n ≤ 8 * d →
-    Turns S (with_fields S a.segment (64 * c) 8 f n) s p a (F ws ts) (F (put_bytes ws f n) ts)
+    Turns S (with_fields S a.segment (fields_from (64 * c) 8 f) n) s p a (F ws ts) (F (put_bytes ws f n) ts)
 bytes_put F path S s p d q a c o ws ts f zero h y long len fits = (unchanged S s p (F ws ts) y.stored, y.leads)
 bytes_put F path S s p d q a c o ws ts f (suc n) h y long len fits =
     let before = bytes_put F path S s p d q a c o ws ts f n h y long len (omega (arith, fits)) in
     turns_again before
-    (h.field (with_fields S a.segment (64 * c) 8 f n) (put_bytes ws f n) ts (n * 8) 8 (f n) (record { stored = before.0.stored; leads = before.1 }) (put_bytes-length ws f n ∙ long) len (omega (arith, fits)))
+    (h.field (with_fields S a.segment (fields_from (64 * c) 8 f) n) (put_bytes ws f n) ts (n * 8) 8 (f n) (record { stored = before.0.stored; leads = before.1 }) (put_bytes-length ws f n ∙ long) len (omega (arith, fits)))
 
 -- the first n children become null
 abbrev clear_first : Trees → ℕ → Trees
@@ -171,12 +171,12 @@ pub filled : (F : List ℕ → Trees → Tree) (path : ℕ → List Step) (S M R
 filled F path S M R s p d q a c n ws ts us place bits bytes h y wide len (of_segment, of_byte, of_bits, of_pointers, of_count) takes fills few =
     let f : ℕ → ℕ = content_byte bits bytes in
     let vs : List ℕ = put_bytes ws f (8 * d) in
-    let T : Segments = with_fields S a.segment (64 * c) 8 f (8 * d) in
+    let T : Segments = with_fields S a.segment (fields_from (64 * c) 8 f) (8 * d) in
     let long : length vs ≡ d = put_bytes-length ws f (8 * d) ∙ wide in
     let content : with_content S place bits bytes ≡ T =
-    ap (λ k. with_fields (with_fields S place.segment (8 * place.byte) 8 f (place.bits / 8)) place.segment (8 * place.byte + place.bits / 8 * 8) 1 (λ j. f (place.bits / 8) / 2 ^ j % 2) k) (let e : place.bits % 8 ≡ 0 = omega (arith, of_bits) in e)
-    ∙ ap (λ z. with_fields S z (8 * place.byte) 8 f (place.bits / 8)) of_segment
-    ∙ ap₂ (λ b k. with_fields S a.segment b 8 f k) (let e : 8 * place.byte ≡ 64 * c = omega (arith, of_byte) in e) (let e : place.bits / 8 ≡ 8 * d = omega (arith, of_bits) in e) in
+    ap (λ k. with_fields (with_fields S place.segment (fields_from (8 * place.byte) 8 f) (place.bits / 8)) place.segment (fields_from (8 * place.byte + place.bits / 8 * 8) 1 (λ j. f (place.bits / 8) / 2 ^ j % 2)) k) (let e : place.bits % 8 ≡ 0 = omega (arith, of_bits) in e)
+    ∙ ap (λ z. with_fields S z (fields_from (8 * place.byte) 8 f) (place.bits / 8)) of_segment
+    ∙ ap₂ (λ b k. with_fields S a.segment (fields_from b 8 f) k) (let e : 8 * place.byte ≡ 64 * c = omega (arith, of_byte) in e) (let e : place.bits / 8 ≡ 8 * d = omega (arith, of_bits) in e) in
     let holder : IsHolder (F vs) path s p q a (c + d) n = h.holder vs long in
     let first : Turns S T s p a (F ws ts) (F vs ts) = bytes_put F path S s p d q a c n ws ts f (8 * d) h y wide len (omega arith) in
     let clears : AreCleared T M a.segment (c + d) q = rw (content, of_segment, of_pointers, of_count) at takes in

@@ -14,31 +14,31 @@ use Rattle.capnp_readers.specs.Readers.{IsStructPlace}
 use Rattle.capnp_copies.specs.Changes.{Change, CopiesChildren, CopiesFirst}
 use Rattle.capnp_copies.specs.Forms.{kept_each}
 use Rattle.capnp_readers.specs.declared.readers.struct_reader.StructPlace.{StructPlace}
-use Rattle.capnp_builders.specs.Content.{content_byte, with_fields, with_content}
+use Rattle.capnp_builders.specs.Content.{content_byte, with_fields, fields_from, with_content}
 
 -- fields that are written change no length
 
-pub fields_long : (S : Segments) (s b w : ℕ) (f : ℕ → ℕ) (n v : ℕ) → length (segment (with_fields S s b w f n) v) ≡ length (segment S v)
+pub fields_long : (S : Segments) (s b w : ℕ) (f : ℕ → ℕ) (n v : ℕ) → length (segment (with_fields S s (fields_from b w f) n) v) ≡ length (segment S v)
 fields_long S s b w f zero v = refl
 fields_long S s b w f (suc n) v =
-    let T : Segments = with_fields S s b w f n in
+    let T : Segments = with_fields S s (fields_from b w f) n in
     let at : ℕ = b + n * w in
     lengths_kept T s (put_field (segment T s) at w (f n)) (length-set (segment T s) (at / 64) (with_bits (get_or (segment T s) (at / 64) 0) (at % 64) w (f n))) v ∙ fields_long S s b w f n v
 
-pub fields_many : (S : Segments) (s b w : ℕ) (f : ℕ → ℕ) (n : ℕ) → length (with_fields S s b w f n) ≡ length S
+pub fields_many : (S : Segments) (s b w : ℕ) (f : ℕ → ℕ) (n : ℕ) → length (with_fields S s (fields_from b w f) n) ≡ length S
 fields_many S s b w f zero = refl
 fields_many S s b w f (suc n) =
-    let T : Segments = with_fields S s b w f n in
+    let T : Segments = with_fields S s (fields_from b w f) n in
     length-set T s (put_field (segment T s) (b + n * w) w (f n)) ∙ fields_many S s b w f n
 
 pub content_long : (S : Segments) (place : StructPlace) (bits : ℕ) (bytes : List ℕ) (v : ℕ) → length (segment (with_content S place bits bytes) v) ≡ length (segment S v)
 content_long S place bits bytes v =
-    fields_long (with_fields S place.segment (8 * place.byte) 8 (content_byte bits bytes) (place.bits / 8)) place.segment (8 * place.byte + place.bits / 8 * 8) 1 (λ j. content_byte bits bytes (place.bits / 8) / 2 ^ j % 2) (place.bits % 8) v
+    fields_long (with_fields S place.segment (fields_from (8 * place.byte) 8 (content_byte bits bytes)) (place.bits / 8)) place.segment (8 * place.byte + place.bits / 8 * 8) 1 (λ j. content_byte bits bytes (place.bits / 8) / 2 ^ j % 2) (place.bits % 8) v
     ∙ fields_long S place.segment (8 * place.byte) 8 (content_byte bits bytes) (place.bits / 8) v
 
 pub content_many : (S : Segments) (place : StructPlace) (bits : ℕ) (bytes : List ℕ) → length (with_content S place bits bytes) ≡ length S
 content_many S place bits bytes =
-    fields_many (with_fields S place.segment (8 * place.byte) 8 (content_byte bits bytes) (place.bits / 8)) place.segment (8 * place.byte + place.bits / 8 * 8) 1 (λ j. content_byte bits bytes (place.bits / 8) / 2 ^ j % 2) (place.bits % 8)
+    fields_many (with_fields S place.segment (fields_from (8 * place.byte) 8 (content_byte bits bytes)) (place.bits / 8)) place.segment (8 * place.byte + place.bits / 8 * 8) 1 (λ j. content_byte bits bytes (place.bits / 8) / 2 ^ j % 2) (place.bits % 8)
     ∙ fields_many S place.segment (8 * place.byte) 8 (content_byte bits bytes) (place.bits / 8)
 
 -- the bits of a byte that count

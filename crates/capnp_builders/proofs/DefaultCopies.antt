@@ -15,10 +15,10 @@ use Rattle.capnp_builders.specs.Defaults.{default_root, DropsDefault, PutsDefaul
 
 -- The copy of a default to position at of segment id.
 abbrev pub default_copy : ℕ → ℕ → View → View → Change
-default_copy id at old new = change of_default id at old new (unused None) (unused None)
+default_copy id at old new = change of_default (call_at id at old new) (unused None) (unused None)
 
 -- reading a default spends nothing, whether it ends or breaks off
-pub nothing_spent : {X E : Type 0} (o : Result X E) (bytes : List ℕ) (id at : ℕ) (old new : View) (m m' : Meter) → TakesAtMost o (value_original (default_root bytes)) (change of_default id at old new m m') → m' ≡ m
+pub nothing_spent : {X E : Type 0} (o : Result X E) (bytes : List ℕ) (id at : ℕ) (old new : View) (m m' : Meter) → TakesAtMost o (value_original (default_root bytes)) (change of_default (call_at id at old new) m m') → m' ≡ m
 nothing_spent (Ok x) bytes id at old new m m' taken = taken.1.spent
 nothing_spent (Err k) bytes id at old new m m' taken = let (g, r, covers, spent, few) = breaks_off_spends taken.0 in spent
 

@@ -1,5 +1,6 @@
 -- A pointer of a message that is built.
-use Rattle.std.specs.Prelude.{IfErr, OnOk, ◌≡◌, ℕ, true, Result}
+use Rattle.std.specs.Prelude.{IfErr, OnOk, ◌≡◌, ◌<◌, ◌≤◌, ℕ, true, Result}
+use Rattle.std.specs.Borrow.{MutBor}
 use Rattle.capnp_words.specs.declared.error.ErrorKind.{ErrorKind}
 use Rattle.capnp_format.specs.Segments.{Segments, word_at, IsPlace}
 use Rattle.capnp_format.specs.Tree.{Tree}
@@ -8,6 +9,8 @@ use Rattle.capnp_contents.specs.Existing.{is_unfound}
 use Rattle.capnp_making.specs.Memory.{KeepsMemory, SpendsMemory}
 use Rattle.capnp_making.specs.Stored.{IsStored}
 use Rattle.capnp_making.specs.Makes.{CallAt, call_at}
+use Rattle.capnp_readers.specs.Readers.{IsStructPlace, IsListPlace}
+use Rattle.capnp_readers.specs.Sections.{IsInside, data_bits}
 use Rattle.capnp_readers.specs.declared.readers.list_reader.ListPlace.{ListPlace}
 use Rattle.capnp_readers.specs.declared.readers.struct_reader.StructPlace.{StructPlace}
 use Rattle.capnp_builders.specs.declared.builders.PointerBuilder.{PointerBuilder}
@@ -45,14 +48,51 @@ pub record KeepsBuilder {A : Type 0} (old new : PointerBuilder A) : Type 0 where
   pub segment : new.segment ≡ old.segment
   pub at : new.at ≡ old.at
 
--- The same of the builder of a struct, and of that of a list.
-pub record KeepsStructBuilder {A : Type 0} (old new : StructBuilder A) : Type 0 where
-  pub same : new.arena.ghost_name ≡ old.arena.ghost_name
-  pub place : new.place ≡ old.place
+-- A call leaves a builder over the same arena, at the same place, and that is there.
+pub record StaysThere {A : Type 0} (view : A → View) (old new : PointerBuilder A) : Type 0 where
+  pub builder : KeepsBuilder old new
+  pub there : IsThere (built view new)
 
-pub record KeepsListBuilder {A : Type 0} (old new : ListBuilder A) : Type 0 where
+-- A call leaves the builder of a struct, or of a list, over the same arena, at the same place, which
+-- lies in the message.
+pub record KeepsStructBuilder {A : Type 0} (view : A → View) (old new : StructBuilder A) : Type 0 where
   pub same : new.arena.ghost_name ≡ old.arena.ghost_name
   pub place : new.place ≡ old.place
+  pub inside : IsStructPlace (view new.arena.now).words new.place
+
+pub record KeepsListBuilder {A : Type 0} (view : A → View) (old new : ListBuilder A) : Type 0 where
+  pub same : new.arena.ghost_name ≡ old.arena.ghost_name
+  pub place : new.place ≡ old.place
+  pub inside : IsListPlace (view new.arena.now).words new.place
+
+-- A struct lies in the message, and so does a field of its data section, the offset counting fields
+-- of so many bits.
+pub record HoldsField {A : Type 0} (view : A → View) (b : StructBuilder A) (width offset : ℕ) : Type 0
+  where
+    pub inside : IsStructPlace (view b.arena.now).words b.place
+    pub field : IsInside b.place.bits width offset
+
+-- A struct lies in the message, and so does a bit of its data section.
+pub record HoldsBit {A : Type 0} (view : A → View) (b : StructBuilder A) (offset : ℕ) : Type 0 where
+  pub inside : IsStructPlace (view b.arena.now).words b.place
+  pub field : offset < b.place.bits
+
+-- A list lies in the message, and has an element of this index, of at least so many bits of data.
+pub record HoldsElement {A : Type 0} (view : A → View) (b : ListBuilder A) (index width : ℕ) : Type 0
+  where
+    pub inside : IsListPlace (view b.arena.now).words b.place
+    pub range : index < b.place.count
+    pub wide : width ≤ data_bits b.place.size b.place.struct_size
+
+-- A call hands on the arena that it was given, as it is.
+pub record IsSameArena {A : Type 0} (old new : MutBor A) : Type 0 where
+  pub same : new.ghost_name ≡ old.ghost_name
+  pub now : new.now ≡ old.now
+
+-- A call hands on the arena that it was given, for which no memory was refused.
+pub record HandsOn {A : Type 0} (view : A → View) (old new : MutBor A) : Type 0 where
+  pub same : new.ghost_name ≡ old.ghost_name
+  pub granted : KeepsMemory (view old.now) (view new.now)
 
 -- A call changes nothing but words, and the room of segments that are new; where it is refused,
 -- also how often memory was refused.

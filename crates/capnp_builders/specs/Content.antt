@@ -17,16 +17,21 @@ use Rattle.capnp_readers.specs.Sizes.{pointers_read}
 use Rattle.capnp_copies.specs.Changes.{Change, CopiesChildren, change, CopiesFirst}
 use Rattle.capnp_copies.specs.Rooms.{CanBeCopied}
 use Rattle.capnp_copies.specs.Originals.{children_original}
+use Rattle.capnp_making.specs.Makes.{call_at}
+use Rattle.capnp_builders.specs.Places.{Field}
 
 -- Byte number i of content of so many bits: the bits behind these are zero.
 abbrev pub content_byte : ℕ → List ℕ → ℕ → ℕ
 content_byte bits bytes i = slice_index bytes i % 2 ^ min 8 (bits - 8 * i)
 
--- A message with the numbers of f in n fields of w bits each, one behind the other from bit b of
--- segment s on.
-abbrev pub with_fields : Segments → ℕ → ℕ → ℕ → (ℕ → ℕ) → ℕ → Segments
-with_fields S s b w f zero = S
-with_fields S s b w f (suc n) = with_field (with_fields S s b w f n) s (b + n * w) w (f n)
+-- Fields of w bits each, one behind the other from bit b on, with the numbers of f.
+abbrev pub fields_from : ℕ → ℕ → (ℕ → ℕ) → ℕ → Field
+fields_from b w f i = record { start = b + i * w; bits = w; value = f i }
+
+-- A message with the first n of such fields written in segment s.
+abbrev pub with_fields : Segments → ℕ → (ℕ → Field) → ℕ → Segments
+with_fields S s F zero = S
+with_fields S s F (suc n) = with_field (with_fields S s F n) s (F n).start (F n).bits (F n).value
 
 -- A message with content in the data section of a struct: in its whole bytes, and then in the bits
 -- behind these.
@@ -34,9 +39,9 @@ abbrev pub with_content : Segments → StructPlace → ℕ → List ℕ → Segm
 with_content S place bits bytes =
     let start = 8 * place.byte in
     let whole = place.bits / 8 in
-    let written = with_fields S place.segment start 8 (content_byte bits bytes) whole in
-    with_fields written place.segment (start + whole * 8) 1
-    (λ j. content_byte bits bytes whole / 2 ^ j % 2) (place.bits % 8)
+    let written = with_fields S place.segment (fields_from start 8 (content_byte bits bytes)) whole in
+    with_fields written place.segment
+    (fields_from (start + whole * 8) 1 (λ j. content_byte bits bytes whole / 2 ^ j % 2)) (place.bits % 8)
 
 -- From S to R n pointers become null, one after the other from position p of segment s on.
 abbrev pub AreCleared : Segments → Segments → ℕ → ℕ → ℕ → Type 0
@@ -45,7 +50,7 @@ AreCleared S R s p (suc n) = (M : Segments) × AreCleared S M s p n × Puts M R 
 
 -- Pointers are copied, as they stand, from the first pointer of a struct on.
 abbrev pub pointers_copied : StructPlace → View → View → Meter → Meter → Change
-pointers_copied place old new before after = change plain place.segment place.pointers_at old new before after
+pointers_copied place old new before after = change plain (call_at place.segment place.pointers_at old new) before after
 
 -- From S to M content is written in the data section of a struct, and then all its pointers become null.
 abbrev pub TakesBytes : Segments → Segments → StructPlace → ℕ → List ℕ → Type 0

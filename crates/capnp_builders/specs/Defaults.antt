@@ -9,10 +9,11 @@ use Rattle.capnp_words.specs.declared.error.ErrorKind.TheVariants.{ExistingPoint
 use Rattle.capnp_words.specs.declared.error.ErrorKind.TheVariants.{MessageContainsOutOfBoundsPointer}
 use Rattle.capnp_words.specs.Meter.{unused}
 use Rattle.capnp_format.specs.Bytes.{words_of}
+use Rattle.capnp_format.specs.Segments.{word_at, Grows}
 use Rattle.capnp_format.specs.Tree.{Tree, Null, capabilities}
 use Rattle.capnp_arena_traits.specs.View.{View}
 use Rattle.capnp_making.specs.Memory.{KeepsMemory, SpendsMemory}
-use Rattle.capnp_making.specs.Stored.{IsReplaced}
+use Rattle.capnp_making.specs.Stored.{IsReplaced, IsStored}
 use Rattle.capnp_objects.specs.Faults.{HasFault}
 use Rattle.capnp_objects.specs.Outcomes.{MeansThere}
 use Rattle.capnp_objects.specs.Reading.{Reading}
@@ -23,6 +24,7 @@ use Rattle.capnp_copies.specs.Growth.{MakesAtMost}
 use Rattle.capnp_copies.specs.Originals.{value_original}
 use Rattle.capnp_copies.specs.Rooms.{CanBeCopied}
 use Rattle.capnp_making.specs.Makes.{CallAt, call_at}
+use Rattle.capnp_builders.specs.Building.{Building, ChangesWords, IsThere}
 
 -- The first word of a default, whose bytes are one segment. Nothing is charged there, and as many
 -- levels may be entered as a nesting limit can say.
@@ -41,7 +43,7 @@ default_root bytes =
 -- a capability is one; or there is no room for an object of it.
 abbrev pub RefusesDefault : List ℕ → CallAt → ErrorKind → Type 0
 RefusesDefault bytes c k =
-    let copy = change of_default c.segment c.at c.old c.new (unused None) (unused None) in
+    let copy = change of_default c (unused None) (unused None) in
     HasFault of_default (default_root bytes) k
     ⊎ (LacksRoom (value_original (default_root bytes)) copy k ×
     IsTooLarge (value_original (default_root bytes)) copy)
@@ -49,6 +51,11 @@ RefusesDefault bytes c k =
 -- A default is of fewer than 2^32 words.
 abbrev pub IsShortDefault : Option (Bor (List ℕ)) → Type 0
 IsShortDefault default = IfSome default (λ d. length d.now / 8 < 2 ^ 32)
+
+-- The place of a call that takes a default is there, and the default is short.
+pub record TakesDefault (b : Building) (default : Option (Bor (List ℕ))) : Type 0 where
+  pub there : IsThere b
+  pub few : IsShortDefault default
 
 -- What a call does with its default: nothing; or it is refused by a name; or the value of these
 -- bytes is copied in place of null.
@@ -128,3 +135,12 @@ FitsWithDefault (copied bytes) v s p Fits =
 -- A default is put where the call uses one, and nothing else is done.
 abbrev pub PutsDefaultOver : DefaultUse → CallAt → Tree → Result ⊤ ErrorKind → Type 0
 PutsDefaultOver w c t result = WithDefault w c t (λ d u. IsOk result × (d.new ≡ d.old)) result
+
+-- A call puts a default in place of null, by its use of one where a value stands, whatever it is. What
+-- isn't null stays, and no segment becomes shorter.
+pub record PutsDefaultBy (use_of : Tree → DefaultUse) (c : CallAt) (result : Result ⊤ ErrorKind)
+    : Type 0 where
+  pub put : (t : Tree) → IsStored c.old.words c.segment c.at t → PutsDefaultOver (use_of t) c t result
+  pub stays : (word_at c.old.words c.segment c.at ≡ 0 → ⊥) → IsOk result × (c.new ≡ c.old)
+  pub longer : Grows c.old.words c.new.words
+  pub memory : ChangesWords result c.old c.new

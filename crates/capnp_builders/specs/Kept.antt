@@ -1,24 +1,18 @@
 -- What a copy to the place of a builder leaves there.
-use Rattle.std.specs.Prelude.{◌≡◌, Bool, [], ◌∷◌, length}
+use Rattle.std.specs.Prelude.{◌≡◌, [], ◌∷◌, length}
 use Rattle.capnp_words.specs.declared.error.ErrorKind.{ErrorKind}
-use Rattle.capnp_words.specs.Meter.{Meter}
 use Rattle.capnp_format.specs.Segments.{segment}
 use Rattle.capnp_format.specs.Tree.{Tree, Null}
 use Rattle.capnp_format.specs.Canonical.{encoding, word_count}
 use Rattle.capnp_arena_traits.specs.View.{View, KeepsLimits}
-use Rattle.capnp_making.specs.Makes.{CallAt}
 use Rattle.capnp_making.specs.Memory.{KeepsMemory, SpendsMemory}
 use Rattle.capnp_making.specs.Stored.{Puts}
 use Rattle.capnp_making.specs.Zeroed.{IsPruned}
 use Rattle.capnp_objects.specs.Outcomes.{Reads}
 use Rattle.capnp_objects.specs.Reading.{Reading}
-use Rattle.capnp_copies.specs.Changes.{Change, StayInSegment, IsCopiedInRoom, RefusesToCopy, change}
-use Rattle.capnp_copies.specs.Forms.{form_of, kept}
+use Rattle.capnp_copies.specs.Changes.{Change, StayInSegment, IsCopiedInRoom, RefusesToCopy}
+use Rattle.capnp_copies.specs.Forms.{kept}
 use Rattle.capnp_copies.specs.Originals.{Original}
-
--- A call that copies, as it stands or in canonical form, with the read limiter before it and after it.
-abbrev pub copying : CallAt → Bool → Meter → Meter → Change
-copying c canonicalize m m' = change (form_of canonicalize) c.segment c.at c.old c.new m m'
 
 -- What is copied is read, and whatever value the place had, what is kept of the value that was read
 -- stands in its stead. What the place held becomes zero first, and its words stay allocated; then the

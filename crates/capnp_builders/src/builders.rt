@@ -16,16 +16,16 @@ ghost use Rattle.capnp_making.specs.Stored.{Puts};
 ghost use Rattle.capnp_making.specs.Zeroed.{IsPruned, IsPrunedBut};
 ghost use Rattle.capnp_builders.specs.Places.{IsAligned, IsStructOf, IsListOf};
 ghost use Rattle.capnp_words.specs.declared.error.ErrorKind.{ErrorKind};
-ghost use Rattle.capnp_builders.specs.Reads.{IsArenaOf};
+ghost use Rattle.capnp_builders.specs.Reads.{IsArenaOf, IsPointerReader};
 ghost use Rattle.capnp_objects.specs.Wanted.{canonical, plain};
-ghost use Rattle.capnp_copies.specs.Changes.{MakesCopy};
+ghost use Rattle.capnp_copies.specs.Changes.{MakesCopy, change};
 ghost use Rattle.capnp_copies.specs.Rooms.{CanBeCopied};
 ghost use Rattle.capnp_copies.specs.Forms.{form_of};
 ghost use Rattle.capnp_copies.specs.Growth.{TakesAtMost};
-ghost use Rattle.capnp_copies.specs.ListValues.{list_read};
+ghost use Rattle.capnp_value_copies.specs.ListValues.{list_read};
 ghost use Rattle.capnp_copies.specs.Originals.{value_original};
-ghost use Rattle.capnp_copies.specs.StructValues.{struct_read};
-ghost use Rattle.capnp_readers.specs.Readers.{reading};
+ghost use Rattle.capnp_value_copies.specs.StructValues.{struct_read};
+ghost use Rattle.capnp_readers.specs.Readers.{read_by};
 
 mod content;
 pub mod defaults;
@@ -39,7 +39,7 @@ mod struct_builder;
 use capnp_arena_traits::arena::{BuilderArena, ReaderArena};
 use capnp_contents::existing::ExistingBytes;
 use capnp_contents::{bytes, existing, initializing, lent};
-use capnp_making::making;
+use capnp_making::making::{self, Start};
 use capnp_objects::object::Place;
 use capnp_objects::source::Source;
 use capnp_readers::readers::{ListPlace, ListReader, PointerReader, StructPlace, StructReader};
@@ -72,8 +72,8 @@ pub struct PointerBuilder<'a, A> {
 impl<'a, A: BuilderArena> PointerBuilder<'a, A> {
     ghost use Rattle.std.specs.Borrow.{sem, follows, Array, u8 as byte};
     ghost use Rattle.capnp_arena_traits.specs.View.{KeepsLimits};
-    ghost use Rattle.capnp_builders.specs.Building.{ChangesWords, GivesList, GivesStruct, IsNull, IsThere, KeepsBuilder, built, calling, calling_last};
-    ghost use Rattle.capnp_builders.specs.Kept.{PutsCopy, LeavesCleared, FillsSegment, FillsMessage, copying};
+    ghost use Rattle.capnp_builders.specs.Building.{GivesList, GivesStruct, HandsOn, IsNull, IsSameArena, IsThere, KeepsBuilder, StaysThere, built, calling, calling_last};
+    ghost use Rattle.capnp_builders.specs.Kept.{PutsCopy, LeavesCleared, FillsSegment, FillsMessage};
     ghost use Rattle.capnp_builders.specs.contracts.builders.PointerBuilder.{the_row};
     ghost use mir.Syntax.{named};
 
@@ -116,10 +116,7 @@ impl<'a, A: BuilderArena> PointerBuilder<'a, A> {
 
     /// The pointer, to be read: nothing is charged, and `i32::MAX` levels may be entered.
     pub fn as_reader(&self) -> PointerReader<'_, A>
-        ensures reads { IsArenaOf result.source self.now.arena.now }
-        ensures place { (result.place.segment ≡ self.now.segment)
-            × (result.place.at ≡ self.now.at) }
-        ensures nesting { result.nesting_limit ≡ i32.MAX }
+        ensures { IsPointerReader A.ReaderArena self.now result }
     {
         reader_at(&*self.arena, self.segment, self.at)
     }
@@ -127,10 +124,7 @@ impl<'a, A: BuilderArena> PointerBuilder<'a, A> {
     /// The pointer, to be read once building is over: nothing is charged, and `i32::MAX` levels
     /// may be entered.
     pub fn into_reader(self) -> PointerReader<'a, A>
-        ensures reads { IsArenaOf result.source self.entry.arena.now }
-        ensures place { (result.place.segment ≡ self.entry.segment)
-            × (result.place.at ≡ self.entry.at) }
-        ensures nesting { result.nesting_limit ≡ i32.MAX }
+        ensures { IsPointerReader A.ReaderArena self.entry result }
     {
         let PointerBuilder { arena, segment, at } = self;
         reader_at(arena, segment, at)
@@ -145,9 +139,8 @@ impl<'a, A: BuilderArena> PointerBuilder<'a, A> {
         ensures null { IsNull (built A.view self.new) }
         ensures only { IsPruned (A.view self.old.arena.now).words
             (A.view self.new.arena.now).words }
-        ensures there { IsThere (built A.view self.new) }
         ensures limits { KeepsLimits (A.view self.old.arena.now) (A.view self.new.arena.now) }
-        ensures builder { KeepsBuilder self.old self.new }
+        ensures stays { StaysThere A.view self.old self.new }
     {
         making::clear(&mut *self.arena, self.segment, self.at);
     }
@@ -159,9 +152,8 @@ impl<'a, A: BuilderArena> PointerBuilder<'a, A> {
             (A.view self.new.arena.now).words self.old.segment self.old.at (Capability index) }
         ensures only { IsPrunedBut (A.view self.old.arena.now).words
             (A.view self.new.arena.now).words self.old.segment self.old.at (capability_word index) }
-        ensures there { IsThere (built A.view self.new) }
         ensures limits { KeepsLimits (A.view self.old.arena.now) (A.view self.new.arena.now) }
-        ensures builder { KeepsBuilder self.old self.new }
+        ensures stays { StaysThere A.view self.old self.new }
     {
         initializing::set_capability(&mut *self.arena, self.segment, self.at, index);
     }
@@ -199,8 +191,7 @@ impl<'a, A: BuilderArena> PointerBuilder<'a, A> {
     /// The builder of a struct of the message.
     pub fn into_struct(self, place: StructPlace) -> StructBuilder<'a, A>
         requires { IsAligned place }
-        ensures same { result.arena.ghost_name ≡ self.entry.arena.ghost_name }
-        ensures now { result.arena.now ≡ self.entry.arena.now }
+        ensures arena { IsSameArena self.entry.arena result.arena }
         ensures place { result.place ≡ place }
     {
         let PointerBuilder {
@@ -218,7 +209,7 @@ impl<'a, A: BuilderArena> PointerBuilder<'a, A> {
     #[inline(always)]
     pub fn init_struct(mut self, size: StructSize) -> Result<StructBuilder<'a, A>, ErrorKind>
         requires { IsThere (built A.view self) }
-        ensures same { IfOk result (λ b. b.arena.ghost_name ≡ self.entry.arena.ghost_name) }
+        ensures arena { IfOk result (λ b. HandsOn A.view self.entry.arena b.arena) }
         ensures object { ReachesArena GivesStruct
             (λ now r. MakesObject r (calling_last A.view self.entry now)
             (zero_struct size) (size.data_words + size.pointers)) result }
@@ -264,8 +255,7 @@ impl<'a, A: BuilderArena> PointerBuilder<'a, A> {
 
     /// The builder of a list of the message.
     pub fn into_list(self, place: ListPlace) -> ListBuilder<'a, A>
-        ensures same { result.arena.ghost_name ≡ self.entry.arena.ghost_name }
-        ensures now { result.arena.now ≡ self.entry.arena.now }
+        ensures arena { IsSameArena self.entry.arena result.arena }
         ensures place { result.place ≡ place }
     {
         let PointerBuilder {
@@ -289,7 +279,7 @@ impl<'a, A: BuilderArena> PointerBuilder<'a, A> {
         requires there { IsThere (built A.view self) }
         requires few { count < 2 ^ 29 }
         requires plain { size_number size ≤ 6 }
-        ensures same { IfOk result (λ b. b.arena.ghost_name ≡ self.entry.arena.ghost_name) }
+        ensures arena { IfOk result (λ b. HandsOn A.view self.entry.arena b.arena) }
         ensures object { ReachesArena GivesList
             (λ now r. MakesObject r (calling_last A.view self.entry now)
             (zero_list (size_number size) count) (list_words (size_number size) count)) result }
@@ -347,7 +337,7 @@ impl<'a, A: BuilderArena> PointerBuilder<'a, A> {
         requires there { IsThere (built A.view self) }
         requires few { count < 2 ^ 30 }
         requires words { count * (size.data_words + size.pointers) < 2 ^ 29 }
-        ensures same { IfOk result (λ b. b.arena.ghost_name ≡ self.entry.arena.ghost_name) }
+        ensures arena { IfOk result (λ b. HandsOn A.view self.entry.arena b.arena) }
         ensures object { ReachesArena GivesList
             (λ now r. MakesObject r (calling_last A.view self.entry now)
             (zero_structs count size) (1 + count * (size.data_words + size.pointers))) result }
@@ -489,37 +479,40 @@ impl<'a, A: BuilderArena> PointerBuilder<'a, A> {
     ) -> Result<(), ErrorKind>
         requires place { IsThere (built A.view self.old) }
         ensures copied { IfOk result (λ _. PutsCopy
-            (value_original (reading B.ReaderArena from.entry))
-            (copying (calling A.view self.old self.new) canonicalize lim.old lim.new)) }
+            (value_original (read_by B.ReaderArena from.entry))
+            (change (form_of canonicalize) (calling A.view self.old self.new) lim.old lim.new)) }
         ensures near { IsNull (built A.view self.old)
             → IfOk result
-            (λ _. MakesCopy (value_original (reading B.ReaderArena from.entry))
-            (copying (calling A.view self.old self.new) canonicalize lim.old lim.new)) }
+            (λ _. MakesCopy (value_original (read_by B.ReaderArena from.entry))
+            (change (form_of canonicalize) (calling A.view self.old self.new) lim.old lim.new)) }
         ensures fresh { segment (A.view self.old.arena.now).words self.old.segment ≡ 0 ∷ []
             → IfOk result
-            (λ _. FillsSegment (reading B.ReaderArena from.entry)
-            (copying (calling A.view self.old self.new) canonicalize lim.old lim.new)) }
+            (λ _. FillsSegment (read_by B.ReaderArena from.entry)
+            (change (form_of canonicalize) (calling A.view self.old self.new) lim.old lim.new)) }
         ensures alone { (A.view self.old.arena.now).words ≡ (0 ∷ []) ∷ []
             → IfOk result
-            (λ _. FillsMessage (reading B.ReaderArena from.entry)
-            (copying (calling A.view self.old self.new) canonicalize lim.old lim.new)) }
-        ensures fits { CanBeCopied (value_original (reading B.ReaderArena from.entry))
+            (λ _. FillsMessage (read_by B.ReaderArena from.entry)
+            (change (form_of canonicalize) (calling A.view self.old self.new) lim.old lim.new)) }
+        ensures fits { CanBeCopied (value_original (read_by B.ReaderArena from.entry))
             (form_of canonicalize) lim.old (A.view self.old.arena.now) self.old.segment
             → IsOk result }
         ensures refused { IfErr result (LeavesCleared
-            (value_original (reading B.ReaderArena from.entry))
-            (copying (calling A.view self.old self.new) canonicalize lim.old lim.new)) }
-        ensures taken { TakesAtMost result (value_original (reading B.ReaderArena from.entry))
-            (copying (calling A.view self.old self.new) canonicalize lim.old lim.new) }
-        ensures there { IsThere (built A.view self.new) }
-        ensures builder { KeepsBuilder self.old self.new }
+            (value_original (read_by B.ReaderArena from.entry))
+            (change (form_of canonicalize) (calling A.view self.old self.new) lim.old lim.new)) }
+        ensures taken { TakesAtMost result (value_original (read_by B.ReaderArena from.entry))
+            (change (form_of canonicalize) (calling A.view self.old self.new) lim.old lim.new) }
+        ensures stays { StaysThere A.view self.old self.new }
     {
-        let at = self.at;
+        let to = Start {
+            segment: self.segment,
+            at: self.at,
+        };
+        let value = from.pointer();
         if self.is_null() {
-            return copy::copy_value(&mut *self.arena, self.segment, at, from, lim, canonicalize);
+            return copy::copy_value(&mut *self.arena, to, value, lim, canonicalize);
         }
-        making::clear(&mut *self.arena, self.segment, at);
-        copy::copy_value(&mut *self.arena, self.segment, at, from, lim, canonicalize)
+        making::clear(&mut *self.arena, to.segment, to.at);
+        copy::copy_value(&mut *self.arena, to, value, lim, canonicalize)
     }
 
     /// Makes the pointer a copy of a struct that is read: as it stands, its data section padded with zeros
@@ -545,29 +538,24 @@ impl<'a, A: BuilderArena> PointerBuilder<'a, A> {
     ) -> Result<(), ErrorKind>
         requires place { IsThere (built A.view self.old) }
         ensures copied { IfOk result (λ _. PutsCopy (struct_read B.ReaderArena value.now)
-            (copying (calling A.view self.old self.new) canonicalize lim.old lim.new)) }
+            (change (form_of canonicalize) (calling A.view self.old self.new) lim.old lim.new)) }
         ensures fits { CanBeCopied (struct_read B.ReaderArena value.now)
             (form_of canonicalize) lim.old (A.view self.old.arena.now) self.old.segment
             → IsOk result }
         ensures refused { IfErr result (LeavesCleared (struct_read B.ReaderArena value.now)
-            (copying (calling A.view self.old self.new) canonicalize lim.old lim.new)) }
+            (change (form_of canonicalize) (calling A.view self.old self.new) lim.old lim.new)) }
         ensures taken { TakesAtMost result (struct_read B.ReaderArena value.now)
-            (copying (calling A.view self.old self.new) canonicalize lim.old lim.new) }
+            (change (form_of canonicalize) (calling A.view self.old self.new) lim.old lim.new) }
         ensures wide { (k : ErrorKind) → (struct_read B.ReaderArena value.now).exceeds
             (form_of canonicalize) k → (result ≡ Err k) × (lim.new ≡ lim.old) }
-        ensures there { IsThere (built A.view self.new) }
-        ensures builder { KeepsBuilder self.old self.new }
+        ensures stays { StaysThere A.view self.old self.new }
     {
-        let at = self.at;
-        making::clear(&mut *self.arena, self.segment, at);
-        copy::copy_struct_value(
-            &mut *self.arena,
-            self.segment,
-            at,
-            *value,
-            lim,
-            canonicalize,
-        )
+        let to = Start {
+            segment: self.segment,
+            at: self.at,
+        };
+        making::clear(&mut *self.arena, to.segment, to.at);
+        copy::copy_struct_value(&mut *self.arena, to, *value, lim, canonicalize)
     }
 
     /// Makes the pointer a copy of a list that is read, as it stands or in canonical form ("Lists",
@@ -594,29 +582,24 @@ impl<'a, A: BuilderArena> PointerBuilder<'a, A> {
     ) -> Result<(), ErrorKind>
         requires place { IsThere (built A.view self.old) }
         ensures copied { IfOk result (λ _. PutsCopy (list_read B.ReaderArena value.now)
-            (copying (calling A.view self.old self.new) canonicalize lim.old lim.new)) }
+            (change (form_of canonicalize) (calling A.view self.old self.new) lim.old lim.new)) }
         ensures fits { CanBeCopied (list_read B.ReaderArena value.now)
             (form_of canonicalize) lim.old (A.view self.old.arena.now) self.old.segment
             → IsOk result }
         ensures refused { IfErr result (LeavesCleared (list_read B.ReaderArena value.now)
-            (copying (calling A.view self.old self.new) canonicalize lim.old lim.new)) }
+            (change (form_of canonicalize) (calling A.view self.old self.new) lim.old lim.new)) }
         ensures taken { TakesAtMost result (list_read B.ReaderArena value.now)
-            (copying (calling A.view self.old self.new) canonicalize lim.old lim.new) }
+            (change (form_of canonicalize) (calling A.view self.old self.new) lim.old lim.new) }
         ensures long { (k : ErrorKind) → (list_read B.ReaderArena value.now).exceeds
             (form_of canonicalize) k → (result ≡ Err k) × (lim.new ≡ lim.old) }
-        ensures there { IsThere (built A.view self.new) }
-        ensures builder { KeepsBuilder self.old self.new }
+        ensures stays { StaysThere A.view self.old self.new }
     {
-        let at = self.at;
-        making::clear(&mut *self.arena, self.segment, at);
-        copy::copy_list(
-            &mut *self.arena,
-            self.segment,
-            at,
-            *value,
-            lim,
-            canonicalize,
-        )
+        let to = Start {
+            segment: self.segment,
+            at: self.at,
+        };
+        making::clear(&mut *self.arena, to.segment, to.at);
+        copy::copy_list(&mut *self.arena, to, *value, lim, canonicalize)
     }
 }
 

@@ -33,6 +33,7 @@ use Rattle.capnp_copies.proofs.Shapes.{rows_laid}
 use Rattle.capnp_copies.proofs.KeptChildren.{kept_each-count, kept_no_elements, cut_kept-count}
 use Rattle.capnp_copies.proofs.KeptForms.{SourceKept, one_more, stops_sooner, blank_elements, nothing_filled}
 use Rattle.capnp_objects.proofs.Shorthands.{RefusedAll}
+use Rattle.capnp_making.specs.Makes.{call_at}
 
 -- one element
 
@@ -62,8 +63,8 @@ element_made : {r : Reading} {sizes : ElementSizes} {old mid : View} {s p : ℕ}
 element_made {r} {sizes} {old} {mid} {s} {p} new ts put f =
     record { written = mid.words; writes = ap (λ (v : View). v.words) put.writes; filled = subst (λ i. AreFilled mid.words new.words s (p + i) ts) (sym (data_long put)) f }
 
-pub element_copied : {r : Reading} {sizes : ElementSizes} {b : Form} {s p : ℕ} {old mid new : View} {m m' : Meter} → DataWritten r sizes old mid s p → CopiesChildren (behind r sizes.source.data_words) sizes.kept.pointers (change b s (p + sizes.kept.data_words) mid new m m') →
-    CopiesElement r sizes (change b s p old new m m')
+pub element_copied : {r : Reading} {sizes : ElementSizes} {b : Form} {s p : ℕ} {old mid new : View} {m m' : Meter} → DataWritten r sizes old mid s p → CopiesChildren (behind r sizes.source.data_words) sizes.kept.pointers (change b (call_at s (p + sizes.kept.data_words) mid new) m m') →
+    CopiesElement r sizes (change b (call_at s p old new) m m')
 element_copied {r} {sizes} {b} {s} {p} {old} {mid} {new} put children = record {
   children = children.children;
   counts = children.counts;
@@ -85,9 +86,9 @@ element_too_large b from n {r} {sizes} {s} {p} {old} {mid} put large =
     subst (AreTooLarge b from n (length (segment old.words s))) (data_room_as put) (subst (λ k. AreTooLarge b from n k (mid.room s)) (data_long_as put) large)
 
 pub element_stops : {r : Reading} {sizes : ElementSizes} {b : Form} {s p : ℕ} {old mid new : View} {m m' : Meter} {k : ErrorKind} → DataWritten r sizes old mid s p →
-    StopsAtChildren (behind r sizes.source.data_words) sizes.kept.pointers (change b s (p + sizes.kept.data_words) mid new m m') k → StopsAtElement r sizes (change b s p old new m m') k
+    StopsAtChildren (behind r sizes.source.data_words) sizes.kept.pointers (change b (call_at s (p + sizes.kept.data_words) mid new) m m') k → StopsAtElement r sizes (change b (call_at s p old new) m m') k
 element_stops {r} {sizes} {b} {s} {p} {old} {mid} {new} {m} {m'} {k} put stop = record {
-  why = refuses_children (behind r sizes.source.data_words) sizes.kept.pointers (change b s p old new m m') k (elim (children_refused (behind r sizes.source.data_words) sizes.kept.pointers (change b s (p + sizes.kept.data_words) mid new m m') k stop.why) [
+  why = refuses_children (behind r sizes.source.data_words) sizes.kept.pointers (change b (call_at s p old new) m m') k (elim (children_refused (behind r sizes.source.data_words) sizes.kept.pointers (change b (call_at s (p + sizes.kept.data_words) mid new) m m') k stop.why) [
     | inl x ↦ inl (
       (x.0.0, x.0.1, (words_refused_after old mid new x.0.0 k (keeps_written old mid _ put.writes) x.0.2.0, omega (arith, x.0.2.1, data_long_as put, data_room_as put))),
       element_too_large b (behind r sizes.source.data_words) sizes.kept.pointers put x.1,
@@ -108,7 +109,7 @@ elements_more S R Q s p d q no_elements ws ts e long len one =
 elements_more S R Q s p d q (element vs us es) ws ts (M, a, b, first, rest) long len one =
     (M, a, b, first, elements_more M R Q s (p + d + q) d q es ws ts rest long len (subst (λ i. IsElementFilled R Q s i ws ts) (let f : p + suc (element_count es) * (d + q) ≡ p + d + q + element_count es * (d + q) = grind arith in f) one))
 
-pub no_row : (r : Reading) (sizes : ElementSizes) (n : ℕ) (b : Form) (s p : ℕ) (v : View) (m : Meter) → CopiesRows r sizes 0 n (change b s p v v m m)
+pub no_row : (r : Reading) (sizes : ElementSizes) (n : ℕ) (b : Form) (s p : ℕ) (v : View) (m : Meter) → CopiesRows r sizes 0 n (change b (call_at s p v v) m m)
 no_row r sizes n b s p v m = record {
   elements = no_elements;
   counts = refl;
@@ -125,7 +126,7 @@ no_row r sizes n b s p v m = record {
     none _ = refl
 
 -- where no section is kept, there is nothing to copy
-pub no_width : (r : Reading) (sizes : ElementSizes) (n : ℕ) (b : Form) (s p : ℕ) (v : View) (m : Meter) → SourceKept b r sizes n → sizes.kept.data_words + sizes.kept.pointers ≡ 0 → CopiesRows r sizes n 0 (change b s p v v m m)
+pub no_width : (r : Reading) (sizes : ElementSizes) (n : ℕ) (b : Form) (s p : ℕ) (v : View) (m : Meter) → SourceKept b r sizes n → sizes.kept.data_words + sizes.kept.pointers ≡ 0 → CopiesRows r sizes n 0 (change b (call_at s p v v) m m)
 no_width r sizes n b s p v m fits none =
     let no_data : 0 ≡ sizes.kept.data_words = omega arith in
     let no_pointers : 0 ≡ sizes.kept.pointers = omega arith in
@@ -147,7 +148,7 @@ pub record AtRow (r : Reading) (sizes : ElementSizes) (n i : ℕ) (b : Form) (s 
   pub zero : (j : ℕ) → j < n * (sizes.kept.data_words + sizes.kept.pointers) → word_at old.words s (p + j) ≡ 0
   pub wide : 0 < sizes.kept.data_words + sizes.kept.pointers
   pub more : i < n
-  pub rows : CopiesRows r sizes i (n - i) (change b s p old mid m m')
+  pub rows : CopiesRows r sizes i (n - i) (change b (call_at s p old mid) m m')
 
 module _ {r : Reading} {sizes : ElementSizes} {n i : ℕ} {b : Form} {s p : ℕ} {old mid : View} {m m' : Meter} (here : AtRow r sizes n i b s p old mid m m') where
   abbrev pub d : ℕ
@@ -198,7 +199,7 @@ module _ {r : Reading} {sizes : ElementSizes} {n i : ℕ} {b : Form} {s p : ℕ}
       DataWritten (behind r (i * (sizes.source.data_words + sizes.source.pointers))) sizes mid put s (p + i * (d + q))
   row_written writes = record { inside = omega (arith, next_inside, here.fits.less_data); room = omega (arith, next_room); writes = writes }
 
-  pub row_copied : {new : View} {m'' : Meter} → CopiesElement (behind r (i * (sizes.source.data_words + sizes.source.pointers))) sizes (change b s (p + i * (d + q)) mid new m' m'') → CopiesRows r sizes (i + 1) (n - (i + 1)) (change b s p old new m m'')
+  pub row_copied : {new : View} {m'' : Meter} → CopiesElement (behind r (i * (sizes.source.data_words + sizes.source.pointers))) sizes (change b (call_at s (p + i * (d + q)) mid new) m' m'') → CopiesRows r sizes (i + 1) (n - (i + 1)) (change b (call_at s p old new) m m'')
   row_copied {new} {m''} next =
       let es : Elements = here.rows.elements in
       let one : ReadsAll b (pointers_of r sizes.source (element_count es)) m' m'' next.children = rw here.rows.counts next.are_read in
@@ -216,12 +217,12 @@ module _ {r : Reading} {sizes : ElementSizes} {n i : ℕ} {b : Form} {s p : ℕ}
         stands = row_tight {r = r} {sizes = sizes} b row_place rows_grow.segments (element_grows mid.words new.words s (p + i * (d + q)) next_words (kept_each b next.children) next.made (omega (arith, next_room, next_long))).segments here.fits here.wide here.more here.rows next a.all shape;
       }
 
-  pub row_stops : {new : View} {m'' : Meter} {k : ErrorKind} → TakesForCopy (elements_original r sizes i) (change b s p old mid m m') → StopsAtElement (behind r (i * (sizes.source.data_words + sizes.source.pointers))) sizes (change b s (p + i * (d + q)) mid new m' m'') k → StopsAtElements r sizes n (change b s p old new m m'') k
+  pub row_stops : {new : View} {m'' : Meter} {k : ErrorKind} → TakesForCopy (elements_original r sizes i) (change b (call_at s p old mid) m m') → StopsAtElement (behind r (i * (sizes.source.data_words + sizes.source.pointers))) sizes (change b (call_at s (p + i * (d + q)) mid new) m' m'') k → StopsAtElements r sizes n (change b (call_at s p old new) m m'') k
   row_stops {new} {m''} {k} taken stop =
       let es : Elements = here.rows.elements in
       let fewer : element_count es < n = omega (arith, here.rows.counts, here.more) in
       record {
-        why = elim (children_refused (pointers_of r sizes.source i) q (change b s (p + i * (d + q)) mid new m' m'') k stop.why) [
+        why = elim (children_refused (pointers_of r sizes.source i) q (change b (call_at s (p + i * (d + q)) mid new) m' m'') k stop.why) [
           | inl x ↦ inl (
             row_comes new here.fits (there old.words s p row_place) here.more here.rows.memory taken x.0,
             λ last. elements_large b r sizes n (length (segment old.words s)) (old.room s) (row_too_large {new = new} {m'' = m''} b here.fits here.wide here.more here.rows x.1 last),

@@ -26,7 +26,7 @@ use Rattle.capnp_copies.specs.Changes.{change, ComesToObject, FindsNoRoom, Makes
 use Rattle.capnp_copies.proofs.Copying.{StopsHalfway}
 use Rattle.capnp_copies.specs.Forms.{kept, kept_each}
 use Rattle.capnp_copies.specs.Originals.{kept_count, children_original, sections_original}
-use Rattle.capnp_copies.proofs.DataSections.{kept_count-le}
+use Rattle.capnp_copies.proofs.KeptForms.{kept_count-le}
 use Rattle.capnp_copies.proofs.FilledChildren.{children_grow}
 use Rattle.capnp_copies.proofs.KeptChildren.{kept_each-count}
 use Rattle.capnp_copies.proofs.KeptForms.{stops_sooner, SectionsCut, sections_meant}
@@ -37,6 +37,7 @@ use Rattle.capnp_copies.proofs.SegmentsWritten.{length-with_words}
 use Rattle.capnp_copies.proofs.TooLarge.{ObjectMade, sections_too_large}
 use Rattle.capnp_copies.proofs.TightObjects.{StructMade, struct_tight}
 use Rattle.capnp_copies.proofs.UsedChildren.{used_children, trim-struct, fill_nulls, null_behind}
+use Rattle.capnp_making.specs.Makes.{call_at}
 
 -- The kept children of a struct were read, and so were all of them, at a cost of n words and k pointers; and a struct of them is
 -- kept so.
@@ -132,7 +133,7 @@ module _ {b : Form} {ws : List ℕ} {r : Reading} {q : ℕ} {least : StructSize}
   pub sections_inside : r.at + least.pointers ≤ length (segment_read r)
   sections_inside = omega (arith, fewer, o.cut.inside)
 
-  pub sections_copied : {new : View} {m m' : Meter} → CopiesChildren r least.pointers (change b h.segment (h.at + least.data_words) mid new m m') → MakesCopy (sections_original ws r q) (change b s p old new m m')
+  pub sections_copied : {new : View} {m m' : Meter} → CopiesChildren r least.pointers (change b (call_at h.segment (h.at + least.data_words) mid new) m m') → MakesCopy (sections_original ws r q) (change b (call_at s p old new) m m')
   sections_copied {new} {m} {m'} children =
       let f = sections_kept b ws r q m m' children.children o.cut.inside (children.counts ∙ o.cut.of_pointers) children.are_read in
       let whole = struct_whole old.words made.words mid.words new.words s p least.pointers h section (kept_each b children.children) is_begun writes (rw (sym long) at children.made) (kept_each-count b children.children ∙ children.counts) in
@@ -159,14 +160,14 @@ module _ {b : Form} {ws : List ℕ} {r : Reading} {q : ℕ} {least : StructSize}
   begins = struct_begins s p least old made h o.place o.taken o.memory o.behind o.begun.start o.empty
 
   -- what finds no room behind its data words finds none behind it
-  before : (new : View) {m m' : Meter} {k : ErrorKind} → ComesToObject (children_original r least.pointers) b m m' (FindsNoRoom (change b h.segment (h.at + least.data_words) mid new m m') k) →
-      ComesToObject (children_original r least.pointers) b m m' (FindsNoRoom (change b h.segment (h.at + least.data_words) made new m m') k)
+  before : (new : View) {m m' : Meter} {k : ErrorKind} → ComesToObject (children_original r least.pointers) b m m' (FindsNoRoom (change b (call_at h.segment (h.at + least.data_words) mid new) m m') k) →
+      ComesToObject (children_original r least.pointers) b m m' (FindsNoRoom (change b (call_at h.segment (h.at + least.data_words) made new) m m') k)
   before new {k = k} (w, stops, (refused, full)) = (w, stops, (words_refused_after made mid new w k (keeps_written made mid _ o.writes) refused, omega (arith, full, same_long, same_room)))
 
-  pub sections_stop : {new : View} {m m' : Meter} {k : ErrorKind} → StopsAtChildren r least.pointers (change b h.segment (h.at + least.data_words) mid new m m') k → StopsHalfway (sections_original ws r q) (change b s p old new m m') k
+  pub sections_stop : {new : View} {m m' : Meter} {k : ErrorKind} → StopsAtChildren r least.pointers (change b (call_at h.segment (h.at + least.data_words) mid new) m m') k → StopsHalfway (sections_original ws r q) (change b (call_at s p old new) m m') k
   sections_stop {new} {m} {m'} {k} stop =
       halfway (
-      elim (children_refused r least.pointers (change b h.segment (h.at + least.data_words) mid new m m') k stop.why) [
+      elim (children_refused r least.pointers (change b (call_at h.segment (h.at + least.data_words) mid new) m m') k stop.why) [
         | inl x ↦ inl (inr (sections_come ws new fewer less begins (before new x.0)), sections_large b ws r q (length (segment old.words s)) (old.room s) (exceeds x.1))
         | inr x ↦ inr (inl (stops_sooner fewer x))
       ]

@@ -54,6 +54,7 @@ use Rattle.capnp_copies.proofs.ObjectsRead.{inside, stopped_in, capability_stopp
 use Rattle.capnp_copies.proofs.StayingNear.{stay_fewer}
 use Rattle.capnp_objects.proofs.Unreadable.{Spends}
 use Rattle.capnp_objects.proofs.Shorthands.{ReadsBefore}
+use Rattle.capnp_making.specs.Makes.{call_at}
 
 -- The words of all segments.
 
@@ -176,61 +177,61 @@ taken_so (Err k) P P' Q Q' f h taken = h taken
 
 -- Pointers one behind the other: none yet, one more, and one that is refused.
 
-pub none_taken : (r : Reading) (b : Form) (s : ℕ) (v : View) (m : Meter) → TakesForCopy (children_original r 0) (change b s 0 v v m m)
+pub none_taken : (r : Reading) (b : Form) (s : ℕ) (v : View) (m : Meter) → TakesForCopy (children_original r 0) (change b (call_at s 0 v v) m m)
 unfolding read_none
 none_taken r b s v m = (no_trees, refl, read_none b r m, made_more (omega arith) (omega arith) (made_none (none_itself v)))
 
-pub one_taken : {r : Reading} {b : Form} {s i : ℕ} {old mid new : View} {m m' m'' : Meter} → TakesForCopy (children_original r i) (change b s 0 old mid m m') → TakesForCopy (value_original (behind r i)) (change b s 0 mid new m' m'') →
-    TakesForCopy (children_original r (i + 1)) (change b s 0 old new m m'')
+pub one_taken : {r : Reading} {b : Form} {s i : ℕ} {old mid new : View} {m m' m'' : Meter} → TakesForCopy (children_original r i) (change b (call_at s 0 old mid) m m') → TakesForCopy (value_original (behind r i)) (change b (call_at s 0 mid new) m' m'') →
+    TakesForCopy (children_original r (i + 1)) (change b (call_at s 0 old new) m m'')
 unfolding read_more
 one_taken {r} {b} {s} {mid = mid} {new} {m' = m'} {m''} (ts, counts, are_read, made) next =
     let t = next.0 in
     let here : (one : Reads b (behind r (count ts)) m' m'' t) × MakesAtMost s mid new one.cost (pointers_in t) = rw counts (next.1, next.2) in
     (with_last ts t, count-with_last ts t ∙ omega (arith, counts), read_more are_read here.0, made_more (omega arith) (omega (arith, pointers_in-with_last ts t)) (made_both made here.1))
 
-pub stop_taken : {r : Reading} {b : Form} {s i n : ℕ} {old mid new : View} {m m' m'' : Meter} → i < n → TakesForCopy (children_original r i) (change b s 0 old mid m m') → TakesUntilStop (value_original (behind r i)) (change b s 0 mid new m' m'') →
-    TakesUntilStop (children_original r n) (change b s 0 old new m m'')
+pub stop_taken : {r : Reading} {b : Form} {s i n : ℕ} {old mid new : View} {m m' m'' : Meter} → i < n → TakesForCopy (children_original r i) (change b (call_at s 0 old mid) m m') → TakesUntilStop (value_original (behind r i)) (change b (call_at s 0 mid new) m' m'') →
+    TakesUntilStop (children_original r n) (change b (call_at s 0 old new) m m'')
 stop_taken {r} {b} {s} {mid = mid} {new} {m' = m'} {m''} less (ts, counts, are_read, made) stop =
     let here : (one : StopsWithin b (IsTried b) (behind r (count ts)) m' m'') × MakesAtMost s mid new (spent_until one).words (spent_until one).pointers = rw counts (stop.0, stop.1) in
     (record { first = ts; fewer = omega (arith, counts, less); mid = m'; are_read = are_read; stops = here.0 }, made_more (omega arith) (omega arith) (made_both made here.1))
 
-pub all_taken : {r : Reading} {b : Form} {s i j : ℕ} {old new : View} {m m' : Meter} → i ≡ j → TakesForCopy (children_original r i) (change b s 0 old new m m') → TakesForCopy (children_original r j) (change b s 0 old new m m')
+pub all_taken : {r : Reading} {b : Form} {s i j : ℕ} {old new : View} {m m' : Meter} → i ≡ j → TakesForCopy (children_original r i) (change b (call_at s 0 old new) m m') → TakesForCopy (children_original r j) (change b (call_at s 0 old new) m m')
 all_taken same (ts, counts, are_read, made) = (ts, counts ∙ same, are_read, made)
 
 -- The pointers of elements: none yet, those of one element more, and one that is refused.
 
-pub no_row_taken : (r : Reading) (sizes : ElementSizes) (b : Form) (s : ℕ) (v : View) (m : Meter) → TakesForCopy (elements_original r sizes 0) (change b s 0 v v m m)
+pub no_row_taken : (r : Reading) (sizes : ElementSizes) (b : Form) (s : ℕ) (v : View) (m : Meter) → TakesForCopy (elements_original r sizes 0) (change b (call_at s 0 v v) m m)
 unfolding read_no_element
 no_row_taken r sizes b s v m = (no_elements, refl, read_no_element b r sizes.source m, made_more (omega arith) (omega arith) (made_none (none_itself v)))
 
-pub blank_taken : (r : Reading) (sizes : ElementSizes) (n : ℕ) (b : Form) (s : ℕ) (v : View) (m : Meter) → SourceKept b r sizes n → sizes.kept.data_words + sizes.kept.pointers ≡ 0 → TakesForCopy (elements_original r sizes n) (change b s 0 v v m m)
+pub blank_taken : (r : Reading) (sizes : ElementSizes) (n : ℕ) (b : Form) (s : ℕ) (v : View) (m : Meter) → SourceKept b r sizes n → sizes.kept.data_words + sizes.kept.pointers ≡ 0 → TakesForCopy (elements_original r sizes n) (change b (call_at s 0 v v) m m)
 blank_taken r sizes n b s v m fits none =
     let x = blank_elements b r sizes n m n (omega arith) fits (omega (arith, none)) in
     (x.all, x.counts, x.are_read, made_more (omega arith) (omega arith) (made_none (none_itself v)))
 
-pub row_taken : {r : Reading} {sizes : ElementSizes} {b : Form} {s i n : ℕ} {old mid new : View} {m m' m'' : Meter} → SourceKept b r sizes n → i < n → TakesForCopy (elements_original r sizes i) (change b s 0 old mid m m') →
-    TakesForCopy (children_original (pointers_of r sizes.source i) sizes.kept.pointers) (change b s 0 mid new m' m'') → TakesForCopy (elements_original r sizes (i + 1)) (change b s 0 old new m m'')
+pub row_taken : {r : Reading} {sizes : ElementSizes} {b : Form} {s i n : ℕ} {old mid new : View} {m m' m'' : Meter} → SourceKept b r sizes n → i < n → TakesForCopy (elements_original r sizes i) (change b (call_at s 0 old mid) m m') →
+    TakesForCopy (children_original (pointers_of r sizes.source i) sizes.kept.pointers) (change b (call_at s 0 mid new) m' m'') → TakesForCopy (elements_original r sizes (i + 1)) (change b (call_at s 0 old new) m m'')
 row_taken {r} {sizes} {b} {s} {n = n} {mid = mid} {new} {m} {m'} {m''} fits less (es, counts, are_read, made) (ts, all, next, more) =
     let here : (one : ReadsAll b (pointers_of r sizes.source (element_count es)) m' m'' ts) × MakesAtMost s mid new one.cost (pointers_in_all ts) = rw counts (next, more) in
     let a = one_row_more b r sizes n m m' m'' es ts fits are_read (omega (arith, counts, less)) all here.0 in
     (a.all, a.counts ∙ omega (arith, counts), a.are_read, made_more (omega (arith, a.costs)) (omega (arith, a.follows)) (made_both made here.1))
 
-pub row_stop_taken : {r : Reading} {sizes : ElementSizes} {b : Form} {s i n : ℕ} {old mid new : View} {m m' m'' : Meter} → SourceKept b r sizes n → i < n → TakesForCopy (elements_original r sizes i) (change b s 0 old mid m m') →
-    TakesUntilStop (children_original (pointers_of r sizes.source i) sizes.kept.pointers) (change b s 0 mid new m' m'') → TakesUntilStop (elements_original r sizes n) (change b s 0 old new m m'')
+pub row_stop_taken : {r : Reading} {sizes : ElementSizes} {b : Form} {s i n : ℕ} {old mid new : View} {m m' m'' : Meter} → SourceKept b r sizes n → i < n → TakesForCopy (elements_original r sizes i) (change b (call_at s 0 old mid) m m') →
+    TakesUntilStop (children_original (pointers_of r sizes.source i) sizes.kept.pointers) (change b (call_at s 0 mid new) m' m'') → TakesUntilStop (elements_original r sizes n) (change b (call_at s 0 old new) m m'')
 unfolding stops_sooner
 row_stop_taken {r} {sizes} {b} {s} {mid = mid} {new} {m' = m'} {m''} fits less (es, counts, are_read, made) stop =
     let here : (one : StopsAmong b (IsTried b) (pointers_of r sizes.source (element_count es)) sizes.kept.pointers m' m'') × MakesAtMost s mid new (spent_among one).words (spent_among one).pointers = rw counts (stop.0, stop.1) in
     (record { first = es; fewer = omega (arith, counts, less); mid = m'; are_read = are_read; stops = stops_sooner fits.less_pointers here.0 }, made_more (omega arith) (omega arith) (made_both made here.1))
 
-pub rows_taken : {r : Reading} {b : Form} {s i j : ℕ} {old new : View} {m m' : Meter} (sizes : ElementSizes) → i ≡ j → TakesForCopy (elements_original r sizes i) (change b s 0 old new m m') → TakesForCopy (elements_original r sizes j) (change b s 0 old new m m')
+pub rows_taken : {r : Reading} {b : Form} {s i j : ℕ} {old new : View} {m m' : Meter} (sizes : ElementSizes) → i ≡ j → TakesForCopy (elements_original r sizes i) (change b (call_at s 0 old new) m m') → TakesForCopy (elements_original r sizes j) (change b (call_at s 0 old new) m m')
 rows_taken sizes same (es, counts, are_read, made) = (es, counts ∙ same, are_read, made)
 
 -- No words are taken before something is copied, and none behind.
 
-pub all_within : {r : Reading} {b : Form} {s i : ℕ} {old mid last new : View} {m m' : Meter} → TakesNone old mid → TakesNone last new → TakesForCopy (children_original r i) (change b s 0 mid last m m') → TakesForCopy (children_original r i) (change b s 0 old new m m')
+pub all_within : {r : Reading} {b : Form} {s i : ℕ} {old mid last new : View} {m m' : Meter} → TakesNone old mid → TakesNone last new → TakesForCopy (children_original r i) (change b (call_at s 0 mid last) m m') → TakesForCopy (children_original r i) (change b (call_at s 0 old new) m m')
 all_within before after (ts, counts, are_read, made) = (ts, counts, are_read, made_within before after made)
 
-pub among_within : {r : Reading} {b : Form} {s i j : ℕ} {old mid last new : View} {m m' : Meter} → i ≤ j → TakesNone old mid → TakesNone last new → TakesUntilStop (children_original r i) (change b s 0 mid last m m') → TakesUntilStop (children_original r j) (change b s 0 old new m m')
+pub among_within : {r : Reading} {b : Form} {s i j : ℕ} {old mid last new : View} {m m' : Meter} → i ≤ j → TakesNone old mid → TakesNone last new → TakesUntilStop (children_original r i) (change b (call_at s 0 mid last) m m') → TakesUntilStop (children_original r j) (change b (call_at s 0 old new) m m')
 unfolding stops_sooner
 among_within fewer before after (off, made) = (stops_sooner fewer off, made_within before after made)
 
@@ -283,30 +284,30 @@ list_until_within size sections n r c d before after same x = list_until_more si
 
 -- An object is made before pointers are copied to it.
 
-pub pointers_behind : (r : Reading) (i : ℕ) (b : Form) (s k : ℕ) (old mid new : View) (m m' : Meter) → Begins s k i old mid → TakesForCopy (children_original r i) (change b k 0 mid new m m') → TakesForCopy (pointers_original i r) (change b s 0 old new m m')
+pub pointers_behind : (r : Reading) (i : ℕ) (b : Form) (s k : ℕ) (old mid new : View) (m m' : Meter) → Begins s k i old mid → TakesForCopy (children_original r i) (change b (call_at k 0 mid new) m m') → TakesForCopy (pointers_original i r) (change b (call_at s 0 old new) m m')
 pointers_behind r i b s k old mid new m m' begun (ts, counts, are_read, made) = (ts, counts, are_read, made_object begun made)
 
-pub pointers_stop_behind : (r : Reading) (i : ℕ) (b : Form) (s k : ℕ) (old mid new : View) (m m' : Meter) → Begins s k i old mid → TakesUntilStop (children_original r i) (change b k 0 mid new m m') → TakesUntilStop (pointers_original i r) (change b s 0 old new m m')
+pub pointers_stop_behind : (r : Reading) (i : ℕ) (b : Form) (s k : ℕ) (old mid new : View) (m m' : Meter) → Begins s k i old mid → TakesUntilStop (children_original r i) (change b (call_at k 0 mid new) m m') → TakesUntilStop (pointers_original i r) (change b (call_at s 0 old new) m m')
 pointers_stop_behind r i b s k old mid new m m' begun (off, made) = inr (off, made_object begun made)
 
-pub structs_behind : (r : Reading) (sizes : ElementSizes) (i n : ℕ) (b : Form) (s k : ℕ) (old mid new : View) (m m' : Meter) → Begins s k n old mid → n ≤ structs_words i sizes.source → TakesForCopy (elements_original r sizes i) (change b k 0 mid new m m') →
-    TakesForCopy (structs_original sizes.source i r) (change b s 0 old new m m')
+pub structs_behind : (r : Reading) (sizes : ElementSizes) (i n : ℕ) (b : Form) (s k : ℕ) (old mid new : View) (m m' : Meter) → Begins s k n old mid → n ≤ structs_words i sizes.source → TakesForCopy (elements_original r sizes i) (change b (call_at k 0 mid new) m m') →
+    TakesForCopy (structs_original sizes.source i r) (change b (call_at s 0 old new) m m')
 structs_behind r sizes i n b s k old mid new m m' begun less (es, counts, are_read, made) = (es, counts, are_read, made_more (omega (arith, less)) (omega arith) (made_object begun made))
 
-pub structs_stop_behind : (r : Reading) (sizes : ElementSizes) (i n : ℕ) (b : Form) (s k : ℕ) (old mid new : View) (m m' : Meter) → Begins s k n old mid → n ≤ structs_words i sizes.source → TakesUntilStop (elements_original r sizes i) (change b k 0 mid new m m') →
-    TakesUntilStop (structs_original sizes.source i r) (change b s 0 old new m m')
+pub structs_stop_behind : (r : Reading) (sizes : ElementSizes) (i n : ℕ) (b : Form) (s k : ℕ) (old mid new : View) (m m' : Meter) → Begins s k n old mid → n ≤ structs_words i sizes.source → TakesUntilStop (elements_original r sizes i) (change b (call_at k 0 mid new) m m') →
+    TakesUntilStop (structs_original sizes.source i r) (change b (call_at s 0 old new) m m')
 structs_stop_behind r sizes i n b s k old mid new m m' begun less (off, made) = inr (off, made_more (omega (arith, less)) (omega arith) (made_object begun made))
 
 -- A struct is made of the pointers that are kept: all of them are read.
 
 pub sections_behind : (ws : List ℕ) (r : Reading) (q used n : ℕ) (b : Form) (s k : ℕ) (old mid new : View) (m m' : Meter) → r.at + q ≤ length (segment_read r) → used ≡ kept_count b (words_from r q) → Begins s k n old mid → n ≤ length ws + q →
-    TakesForCopy (children_original r used) (change b k 0 mid new m m') → TakesForCopy (sections_original ws r q) (change b s 0 old new m m')
+    TakesForCopy (children_original r used) (change b (call_at k 0 mid new) m m') → TakesForCopy (sections_original ws r q) (change b (call_at s 0 old new) m m')
 sections_behind ws r q used n b s k old mid new m m' room cut begun less (ts, counts, are_read, made) =
     let f = sections_kept b [] r q m m' ts room (counts ∙ cut) are_read in
     (f.all, f.counts, f.are_read, made_more (omega (arith, less, f.costs)) (omega (arith, f.follows)) (made_object begun made))
 
-pub sections_stop_behind : (ws : List ℕ) (r : Reading) (q used n : ℕ) (b : Form) (s k : ℕ) (old mid new : View) (m m' : Meter) → used ≤ q → Begins s k n old mid → n ≤ length ws + q → TakesUntilStop (children_original r used) (change b k 0 mid new m m') →
-    TakesUntilStop (sections_original ws r q) (change b s 0 old new m m')
+pub sections_stop_behind : (ws : List ℕ) (r : Reading) (q used n : ℕ) (b : Form) (s k : ℕ) (old mid new : View) (m m' : Meter) → used ≤ q → Begins s k n old mid → n ≤ length ws + q → TakesUntilStop (children_original r used) (change b (call_at k 0 mid new) m m') →
+    TakesUntilStop (sections_original ws r q) (change b (call_at s 0 old new) m m')
 unfolding stops_sooner
 sections_stop_behind ws r q used n b s k old mid new m m' fewer begun less (off, made) = inr (stops_sooner fewer off, made_more (omega (arith, less)) (omega arith) (made_object begun made))
 
@@ -316,38 +317,38 @@ no_wider n a b c d l m = mul-le-mul_left n (omega (arith, l, m))
 
 -- What a pointer leads to.
 
-pub read_stop_taken : {r : Reading} {b : Form} {s : ℕ} {v : View} {m m' : Meter} {k : ErrorKind} → Stopped Value plain r m m' k → TakesUntilStop (value_original r) (change b s 0 v v m m')
+pub read_stop_taken : {r : Reading} {b : Form} {s : ℕ} {v : View} {m m' : Meter} {k : ErrorKind} → Stopped Value plain r m m' k → TakesUntilStop (value_original r) (change b (call_at s 0 v v) m m')
 read_stop_taken {b = b} {v = v} {k = k} stopped = (here (inl (k, stopped_in b stopped)), made_none (none_itself v))
 
-pub null_takes : {r : Reading} {b : Form} {s : ℕ} {v : View} {m m' : Meter} → IsObject Value r m m' ObjectNull → TakesForCopy (value_original r) (change b s 0 v v m m')
+pub null_takes : {r : Reading} {b : Form} {s : ℕ} {v : View} {m m' : Meter} → IsObject Value r m m' ObjectNull → TakesForCopy (value_original r) (change b (call_at s 0 v v) m m')
 unfolding read_null
-null_takes {r} {b} {s} {v} {m} object = subst (λ n. TakesForCopy (value_original r) (change b s 0 v v m n)) (sym object.1) (Null, read_null m object.0, made_more (omega arith) (omega arith) (made_none (none_itself v)))
+null_takes {r} {b} {s} {v} {m} object = subst (λ n. TakesForCopy (value_original r) (change b (call_at s 0 v v) m n)) (sym object.1) (Null, read_null m object.0, made_more (omega arith) (omega arith) (made_none (none_itself v)))
 
-pub capability_takes : {r : Reading} {s i : ℕ} {old new : View} {m m' : Meter} → IsObject Value r m m' (ObjectCapability i) → TakesNone old new → TakesForCopy (value_original r) (change plain s 0 old new m m')
+pub capability_takes : {r : Reading} {s i : ℕ} {old new : View} {m m' : Meter} → IsObject Value r m m' (ObjectCapability i) → TakesNone old new → TakesForCopy (value_original r) (change plain (call_at s 0 old new) m m')
 unfolding capability_read
 capability_takes {i = i} {m = m} {m'} object none = (Capability i, capability_read m m' i object, made_more (omega arith) (omega arith) (made_none none))
 
-pub capability_stop_takes : {r : Reading} {s i : ℕ} {v : View} {m m' : Meter} → IsObject Value r m m' (ObjectCapability i) → TakesUntilStop (value_original r) (change canonical s 0 v v m m')
+pub capability_stop_takes : {r : Reading} {s i : ℕ} {v : View} {m m' : Meter} → IsObject Value r m m' (ObjectCapability i) → TakesUntilStop (value_original r) (change canonical (call_at s 0 v v) m m')
 capability_stop_takes {i = i} {v} {m} {m'} object = (here (inl (CannotCreateACanonicalMessageWithACapability, capability_stopped m m' i object)), made_none (none_itself v))
 
-pub default_stop_takes : {r : Reading} {s i : ℕ} {v : View} {m m' : Meter} → IsObject Value r m m' (ObjectCapability i) → TakesUntilStop (value_original r) (change of_default s 0 v v m m')
+pub default_stop_takes : {r : Reading} {s i : ℕ} {v : View} {m m' : Meter} → IsObject Value r m m' (ObjectCapability i) → TakesUntilStop (value_original r) (change of_default (call_at s 0 v v) m m')
 default_stop_takes {i = i} {v} {m} {m'} object = (here (inl (UnknownPointerType, default_stopped m m' i object)), made_none (none_itself v))
 
-pub capability_value_takes : {b : Form} {s p i : ℕ} {old new : View} (r : Reading) (m m' : Meter) (result : Result (Unit {0}) ErrorKind) → IsObject Value r m m' (ObjectCapability i) → CapabilityCopied result b s p i old new → TakesAtMost result (value_original r) (change b s p old new m m')
+pub capability_value_takes : {b : Form} {s p i : ℕ} {old new : View} (r : Reading) (m m' : Meter) (result : Result (Unit {0}) ErrorKind) → IsObject Value r m m' (ObjectCapability i) → CapabilityCopied result b s p i old new → TakesAtMost result (value_original r) (change b (call_at s p old new) m m')
 capability_value_takes {b} {s} {p} {i} {old} {new} r m m' (Ok x) object o =
-    subst (λ f. TakesForCopy (value_original r) (change f s 0 old new m m')) (sym o.as_it_stands) (capability_takes object (none_word old new s p (capability_word i) o.copied))
+    subst (λ f. TakesForCopy (value_original r) (change f (call_at s 0 old new) m m')) (sym o.as_it_stands) (capability_takes object (none_word old new s p (capability_word i) o.copied))
 capability_value_takes {b} {s} {p} {i} {old} {new} r m m' (Err k) object o = elim o.refused [
   | inl x ↦ rw (x.0, o.unchanged) (capability_stop_takes object)
   | inr x ↦ rw (x.0, o.unchanged) (default_stop_takes object)
 ]
 
 -- an object is read, and there is no room for it
-entered_takes : (r : Reading) (b : Form) (s : ℕ) (old new : View) (m m' m'' : Meter) {a : Target} → Entered Value r m m' a → m'' ≡ m' → MakesAtMost s old new 0 0 → TakesUntilStop (value_original r) (change b s 0 old new m m'')
+entered_takes : (r : Reading) (b : Form) (s : ℕ) (old new : View) (m m' m'' : Meter) {a : Target} → Entered Value r m m' a → m'' ≡ m' → MakesAtMost s old new 0 0 → TakesUntilStop (value_original r) (change b (call_at s 0 old new) m m'')
 entered_takes r b s old new m m' m'' {a} o same none =
-    subst (λ n. TakesUntilStop (value_original r) (change b s 0 old new m n)) (sym same) (here (inr (a, o)), none)
+    subst (λ n. TakesUntilStop (value_original r) (change b (call_at s 0 old new) m n)) (sym same) (here (inr (a, o)), none)
 
 pub struct_takes : {r : Reading} {b : Form} {s levels : ℕ} {old new : View} {m m' m'' : Meter} {size : StructSize} (start : Place) → (0 < r.levels → levels ≡ pred r.levels) → IsObject Value r m m' (ObjectStruct start size) →
-    TakesForCopy (sections_original (words_from (inside r levels start) size.data_words) (behind (inside r levels start) size.data_words) size.pointers) (change b s 0 old new m' m'') → TakesForCopy (value_original r) (change b s 0 old new m m'')
+    TakesForCopy (sections_original (words_from (inside r levels start) size.data_words) (behind (inside r levels start) size.data_words) size.pointers) (change b (call_at s 0 old new) m' m'') → TakesForCopy (value_original r) (change b (call_at s 0 old new) m m'')
 unfolding read_struct
 struct_takes {r} {b} {s} {levels = levels} {old} {new} {m' = m'} {m''} {size} start less (a, o, z, (held, es, eb), ed, eq) (ts, counts, read, made) =
     let en = less o.meets.levels in
@@ -358,7 +359,7 @@ struct_takes {r} {b} {s} {levels = levels} {old} {new} {m' = m'} {m''} {size} st
     (Struct (words_at r.segments a.segment a.start (data_words a.word)) ts, read_struct o z (counts ∙ eq) all.0, made_more (omega (arith, own_struct r.segments a z)) (omega arith) all.1)
 
 pub struct_stop_takes : {r : Reading} {b : Form} {s levels : ℕ} {old new : View} {m m' m'' : Meter} {size : StructSize} (start : Place) → (0 < r.levels → levels ≡ pred r.levels) → IsObject Value r m m' (ObjectStruct start size) →
-    TakesUntilStop (sections_original (words_from (inside r levels start) size.data_words) (behind (inside r levels start) size.data_words) size.pointers) (change b s 0 old new m' m'') → TakesUntilStop (value_original r) (change b s 0 old new m m'')
+    TakesUntilStop (sections_original (words_from (inside r levels start) size.data_words) (behind (inside r levels start) size.data_words) size.pointers) (change b (call_at s 0 old new) m' m'') → TakesUntilStop (value_original r) (change b (call_at s 0 old new) m m'')
 unfolding stops_struct
 struct_stop_takes {r} {b} {s} {levels} {old} {new} {m} {m'} {m''} {size} start less (a, o, z, (held, es, eb), ed, eq) tried =
     let en = less o.meets.levels in
@@ -371,8 +372,8 @@ struct_stop_takes {r} {b} {s} {levels} {old} {new} {m} {m'} {m''} {size} start l
           (stops_struct o z off.0, made_more (omega (arith, own_struct r.segments a z)) (omega arith) off.1))
     ]
 
-pub pointers_take : {r : Reading} {b : Form} {s levels i : ℕ} {old new : View} {m m' m'' : Meter} (start : Place) → (0 < r.levels → levels ≡ pred r.levels) → IsObject Value r m m' (ObjectPointers start i) → TakesForCopy (pointers_original i (inside r levels start)) (change b s 0 old new m' m'') →
-    TakesForCopy (value_original r) (change b s 0 old new m m'')
+pub pointers_take : {r : Reading} {b : Form} {s levels i : ℕ} {old new : View} {m m' m'' : Meter} (start : Place) → (0 < r.levels → levels ≡ pred r.levels) → IsObject Value r m m' (ObjectPointers start i) → TakesForCopy (pointers_original i (inside r levels start)) (change b (call_at s 0 old new) m' m'') →
+    TakesForCopy (value_original r) (change b (call_at s 0 old new) m m'')
 unfolding read_pointers
 pointers_take {r} {b} {s} {levels = levels} {i} {old} {new} {m' = m'} {m''} start less (a, o, z, six, (held, es, eb), ei) (ts, counts, read, made) =
     let en = less o.meets.levels in
@@ -382,7 +383,7 @@ pointers_take {r} {b} {s} {levels = levels} {i} {old} {new} {m' = m'} {m''} star
     (Pointers ts, read_pointers o z six (counts ∙ ei) all.0, made_more (omega (arith, own_pointers r.segments a z six, ei)) (omega arith) all.1)
 
 pub pointers_stop_take : {r : Reading} {b : Form} {s levels i : ℕ} {old new : View} {m m' m'' : Meter} (start : Place) → (0 < r.levels → levels ≡ pred r.levels) → IsObject Value r m m' (ObjectPointers start i) →
-    TakesUntilStop (pointers_original i (inside r levels start)) (change b s 0 old new m' m'') → TakesUntilStop (value_original r) (change b s 0 old new m m'')
+    TakesUntilStop (pointers_original i (inside r levels start)) (change b (call_at s 0 old new) m' m'') → TakesUntilStop (value_original r) (change b (call_at s 0 old new) m m'')
 unfolding stops_pointers
 pointers_stop_take {r} {b} {s} {levels} {i} {old} {new} {m} {m'} {m''} start less (a, o, z, six, (held, es, eb), ei) tried =
     let en = less o.meets.levels in
@@ -396,7 +397,7 @@ pointers_stop_take {r} {b} {s} {levels} {i} {old} {new} {m} {m'} {m''} start les
     ]
 
 pub structs_take : {r : Reading} {b : Form} {s levels i : ℕ} {old new : View} {m m' m'' : Meter} {size : StructSize} (start : Place) → (0 < r.levels → levels ≡ pred r.levels) → IsObject Value r m m' (ObjectStructs start size i) →
-    TakesForCopy (structs_original size i (inside r levels start)) (change b s 0 old new m' m'') → TakesForCopy (value_original r) (change b s 0 old new m m'')
+    TakesForCopy (structs_original size i (inside r levels start)) (change b (call_at s 0 old new) m' m'') → TakesForCopy (value_original r) (change b (call_at s 0 old new) m m'')
 unfolding read_structs
 structs_take {r} {b} {s} {levels = levels} {i} {old} {new} {m' = m'} {m''} {size} start less (a, o, z, seven, (held, eu, eb), ei, ed, eq) (es, counts, read, made) =
     let en = less o.meets.levels in
@@ -406,7 +407,7 @@ structs_take {r} {b} {s} {levels = levels} {i} {old} {new} {m' = m'} {m''} {size
     (Structs (data_words (tag r.segments a)) (pointer_count (tag r.segments a)) es, read_structs o z seven (counts ∙ ei) all.0, made_more (omega (arith, own_structs r.segments a z seven, (o.meets.tagged (z, seven)).1)) (omega arith) all.1)
 
 pub structs_stop_take : {r : Reading} {b : Form} {s levels i : ℕ} {old new : View} {m m' m'' : Meter} {size : StructSize} (start : Place) → (0 < r.levels → levels ≡ pred r.levels) → IsObject Value r m m' (ObjectStructs start size i) →
-    TakesUntilStop (structs_original size i (inside r levels start)) (change b s 0 old new m' m'') → TakesUntilStop (value_original r) (change b s 0 old new m m'')
+    TakesUntilStop (structs_original size i (inside r levels start)) (change b (call_at s 0 old new) m' m'') → TakesUntilStop (value_original r) (change b (call_at s 0 old new) m m'')
 unfolding stops_structs
 structs_stop_take {r} {b} {s} {levels} {i} {old} {new} {m} {m'} {m''} {size} start less (a, o, z, seven, (held, eu, eb), ei, ed, eq) tried =
     let en = less o.meets.levels in
@@ -419,13 +420,13 @@ structs_stop_take {r} {b} {s} {levels} {i} {old} {new} {m} {m'} {m''} {size} sta
           (stops_structs o z seven off.0, made_more (omega (arith, own_structs r.segments a z seven, (o.meets.tagged (z, seven)).1)) (omega arith) off.1))
     ]
 
-pub flat_takes : {r : Reading} {b : Form} {s i : ℕ} {old new : View} {m m' : Meter} (size : ElementSize) (start : Place) → IsObject Value r m m' (ObjectFlat start size i) → MakesAtMost s old new (words_for (size_number size) i) 1 → TakesForCopy (value_original r) (change b s 0 old new m m')
+pub flat_takes : {r : Reading} {b : Form} {s i : ℕ} {old new : View} {m m' : Meter} (size : ElementSize) (start : Place) → IsObject Value r m m' (ObjectFlat start size i) → MakesAtMost s old new (words_for (size_number size) i) 1 → TakesForCopy (value_original r) (change b (call_at s 0 old new) m m')
 unfolding read_flat
 flat_takes {r} size start (a, o, z, small, at, es, ec) made =
     let given = rw (es, ec) at made in
     (Flat (element_size a.word) (unpacked (element_size a.word) (list_count a.word) (words_at r.segments a.segment a.start (words_for (element_size a.word) (list_count a.word)))), read_flat o z small, made_more (omega (arith, own_flat r.segments a z small)) (omega arith) given)
 
-pub flat_stop_takes : {r : Reading} {b : Form} {s i : ℕ} {old new : View} {m m' : Meter} (size : ElementSize) (start : Place) → IsObject Value r m m' (ObjectFlat start size i) → TakesNone old new → TakesUntilStop (value_original r) (change b s 0 old new m m')
+pub flat_stop_takes : {r : Reading} {b : Form} {s i : ℕ} {old new : View} {m m' : Meter} (size : ElementSize) (start : Place) → IsObject Value r m m' (ObjectFlat start size i) → TakesNone old new → TakesUntilStop (value_original r) (change b (call_at s 0 old new) m m')
 flat_stop_takes {r} {b} {s} {old = old} {new} {m} {m'} size start (a, o, z, small, at, es, ec) none = entered_takes r b s old new m m' m' o refl (made_none none)
 
 -- A list that is read of which nothing is taken, as of one that is too long; and one of numbers.
@@ -441,7 +442,7 @@ nothing_for_list FourBytes sections n r b m P none = (refl, none)
 nothing_for_list EightBytes sections n r b m P none = (refl, none)
 
 pub numbers_take : {A E : Type 0} (result : Result A E) (size : ElementSize) (n : ℕ) (r : Reading) (b : Form) (s p : ℕ) (old new : View) (m : Meter) → MatchResult result (λ _. MakesAtMost s old new (words_for (size_number size) n) 1) (λ _. TakesNone old new) →
-    TakesAtMost result (numbers_original size n r) (change b s p old new m m)
+    TakesAtMost result (numbers_original size n r) (change b (call_at s p old new) m m)
 numbers_take (Ok x) size n r b s p old new m made = (refl, made)
 numbers_take (Err k) size n r b s p old new m none = (refl, made_none none)
 

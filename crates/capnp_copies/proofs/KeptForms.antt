@@ -29,6 +29,12 @@ use Rattle.capnp_copies.proofs.ListSteps.{AreLeast, trimmed_list}
 use Rattle.capnp_copies.proofs.UsedChildren.{used_children, means_taken, trim-struct}
 use Rattle.capnp_objects.proofs.Shorthands.{MeanThere, ElementsMean}
 
+-- words
+
+pub kept_count-le : (b : Form) (ws : List ℕ) → kept_count b ws ≤ length ws
+kept_count-le canonical ws = used_words-le ws
+kept_count-le _ ws = omega arith
+
 -- children
 
 -- what stops among the first pointers stops among them all

@@ -33,7 +33,6 @@ pub mod TightObjects
 pub mod TooLarge
 pub mod FilledObjects
 pub mod FilledValues
-pub mod DataSections
 pub mod FilledSections
 pub mod Growth
 pub mod NoRoom

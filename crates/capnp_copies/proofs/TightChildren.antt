@@ -18,13 +18,14 @@ use Rattle.capnp_copies.proofs.ChildrenSteps.{child_put, now, now_long}
 use Rattle.capnp_copies.proofs.Copying.{there}
 use Rattle.capnp_copies.proofs.KeptChildren.{kept_words-with_last}
 use Rattle.capnp_copies.proofs.StayingNear.{stay_first, stay_later}
+use Rattle.capnp_making.specs.Makes.{call_at}
 
 -- the room of a segment that was there
 pub room_kept : (old new : View) (s p : ℕ) → IsPlace old.words s p → KeepsMemory old new → new.room s ≡ old.room s
 room_kept old new s p place memory = memory.1 s (there old.words s p place)
 
-pub child_tight : {r : Reading} {s p i : ℕ} {old mid new : View} {m m' m'' : Meter} (b : Form) → IsPlace old.words s (p + i) → length (segment mid.words s) < 2 ^ 29 → length old.words ≤ length mid.words → length mid.words ≤ length new.words → (first : CopiesChildren r i (change b s p old mid m m')) →
-    (next : MakesCopy (value_original (behind r i)) (change b s (p + i) mid new m' m'')) → StayInSegment old new s (word_count_all (kept_each b (with_last first.children next.value))) → AreCopied old.words new.words s p (kept_each b (with_last first.children next.value))
+pub child_tight : {r : Reading} {s p i : ℕ} {old mid new : View} {m m' m'' : Meter} (b : Form) → IsPlace old.words s (p + i) → length (segment mid.words s) < 2 ^ 29 → length old.words ≤ length mid.words → length mid.words ≤ length new.words → (first : CopiesChildren r i (change b (call_at s p old mid) m m')) →
+    (next : MakesCopy (value_original (behind r i)) (change b (call_at s (p + i) mid new) m' m'')) → StayInSegment old new s (word_count_all (kept_each b (with_last first.children next.value))) → AreCopied old.words new.words s p (kept_each b (with_last first.children next.value))
 child_tight {r} {s} {p} {i} {old} {mid} {new} {m} {m'} {m''} b place few grows more first next fits =
     let ts : Trees = first.children in
     let u : Tree = next.value in

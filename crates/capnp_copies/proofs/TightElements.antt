@@ -26,6 +26,7 @@ use Rattle.capnp_copies.proofs.KeptChildren.{cut_kept}
 use Rattle.capnp_copies.proofs.KeptForms.{SourceKept}
 use Rattle.capnp_copies.proofs.SegmentsWritten.{not_written, length-with_words}
 use Rattle.capnp_copies.proofs.StayingNear.{stay_first, stay_later}
+use Rattle.capnp_making.specs.Makes.{call_at}
 
 -- one element
 
@@ -52,7 +53,7 @@ pub record IsPut (r : Reading) (sizes : ElementSizes) (old mid : View) (s p : �
   pub room : p + sizes.kept.data_words ≤ length (segment old.words s)
   pub writes : mid ≡ record old { words = with_words old.words s p (words_from r sizes.kept.data_words) }
 
-pub element_tight : {r : Reading} {sizes : ElementSizes} {s p : ℕ} {old mid new : View} {m m' : Meter} (b : Form) → IsPut r sizes old mid s p → (children : CopiesChildren (behind r sizes.source.data_words) sizes.kept.pointers (change b s (p + sizes.kept.data_words) mid new m m')) →
+pub element_tight : {r : Reading} {sizes : ElementSizes} {s p : ℕ} {old mid new : View} {m m' : Meter} (b : Form) → IsPut r sizes old mid s p → (children : CopiesChildren (behind r sizes.source.data_words) sizes.kept.pointers (change b (call_at s (p + sizes.kept.data_words) mid new) m m')) →
     IsPlace old.words s p → StayInSegment old new s (word_count_all (kept_each b children.children)) →
     new.words ≡ with_segment old.words s (with_children (overwritten (segment old.words s) p (words_from r sizes.kept.data_words)) (p + sizes.kept.data_words) (kept_each b children.children))
 element_tight {r} {sizes} {s} {p} {old} {mid} {new} {m} {m'} b put children place fits =
@@ -66,14 +67,14 @@ element_tight {r} {sizes} {s} {p} {old} {mid} {new} {m} {m'} b put children plac
 
 -- elements, one after the other
 
-pub no_row_tight : (b : Form) (sizes : ElementSizes) (s p n : ℕ) (v : View) (m : Meter) → EndsInZeros (change b s p v v m m) ((0 + n) * (sizes.kept.data_words + sizes.kept.pointers)) →
+pub no_row_tight : (b : Form) (sizes : ElementSizes) (s p n : ℕ) (v : View) (m : Meter) → EndsInZeros (change b (call_at s p v v) m m) ((0 + n) * (sizes.kept.data_words + sizes.kept.pointers)) →
     v.words ≡ with_segment v.words s (rows_laid (take p (segment v.words s)) sizes.kept.data_words sizes.kept.pointers no_elements n)
 no_row_tight b sizes s p n v m last =
     let none : 0 + n ≡ n = omega arith in
     not_written v.words s
     ∙ ap (with_segment v.words s) (rows_begun (segment v.words s) p n sizes.kept (subst (λ k. p + k * (sizes.kept.data_words + sizes.kept.pointers) ≡ length (segment v.words s)) none last.ends) last.zero)
 
-pub no_width_tight : (b : Form) (sizes : ElementSizes) (s p n : ℕ) (v : View) (m : Meter) (es : Elements) → sizes.kept.data_words + sizes.kept.pointers ≡ 0 → EndsInZeros (change b s p v v m m) ((n + 0) * (sizes.kept.data_words + sizes.kept.pointers)) →
+pub no_width_tight : (b : Form) (sizes : ElementSizes) (s p n : ℕ) (v : View) (m : Meter) (es : Elements) → sizes.kept.data_words + sizes.kept.pointers ≡ 0 → EndsInZeros (change b (call_at s p v v) m m) ((n + 0) * (sizes.kept.data_words + sizes.kept.pointers)) →
     v.words ≡ with_segment v.words s (rows_laid (take p (segment v.words s)) sizes.kept.data_words sizes.kept.pointers (cut_kept b sizes es) 0)
 no_width_tight b sizes s p n v m es none last =
     let W : List ℕ = segment v.words s in
@@ -81,11 +82,11 @@ no_width_tight b sizes s p n v m es none last =
     let end : length W ≤ p = omega (arith, last.ends, nothing) in
     not_written v.words s ∙ ap (with_segment v.words s) (sym (blank_rows sizes.kept.data_words sizes.kept.pointers (take p W) (kept_elements b es) none ∙ take_all p W end))
 
-pub row_tight : {r : Reading} {sizes : ElementSizes} {n i s p : ℕ} {old mid new : View} {m m' m'' : Meter} (b : Form) → IsPlace old.words s p → length old.words ≤ length mid.words → length mid.words ≤ length new.words → SourceKept b r sizes n → 0 < sizes.kept.data_words + sizes.kept.pointers → i < n → (first : CopiesRows r sizes i (n - i) (change b s p old mid m m')) →
-    (next : CopiesElement (behind r (i * (sizes.source.data_words + sizes.source.pointers))) sizes (change b s (p + i * (sizes.kept.data_words + sizes.kept.pointers)) mid new m' m'')) → (all : Elements) →
+pub row_tight : {r : Reading} {sizes : ElementSizes} {n i s p : ℕ} {old mid new : View} {m m' m'' : Meter} (b : Form) → IsPlace old.words s p → length old.words ≤ length mid.words → length mid.words ≤ length new.words → SourceKept b r sizes n → 0 < sizes.kept.data_words + sizes.kept.pointers → i < n → (first : CopiesRows r sizes i (n - i) (change b (call_at s p old mid) m m')) →
+    (next : CopiesElement (behind r (i * (sizes.source.data_words + sizes.source.pointers))) sizes (change b (call_at s (p + i * (sizes.kept.data_words + sizes.kept.pointers)) mid new) m' m'')) → (all : Elements) →
     cut_to sizes.kept.data_words sizes.kept.pointers (kept_elements b all)
     ≡ with_last_element (cut_to sizes.kept.data_words sizes.kept.pointers (kept_elements b first.elements)) (words_from (behind r (i * (sizes.source.data_words + sizes.source.pointers))) sizes.kept.data_words) (kept_each b next.children) →
-    EndsInZeros (change b s p old new m m'') ((i + 1 + (n - (i + 1))) * (sizes.kept.data_words + sizes.kept.pointers)) → StayInSegment old new s (word_count_elements (cut_kept b sizes all)) →
+    EndsInZeros (change b (call_at s p old new) m m'') ((i + 1 + (n - (i + 1))) * (sizes.kept.data_words + sizes.kept.pointers)) → StayInSegment old new s (word_count_elements (cut_kept b sizes all)) →
     new.words ≡ with_segment old.words s (rows_laid (take p (segment old.words s)) sizes.kept.data_words sizes.kept.pointers (cut_kept b sizes all) (n - (i + 1)))
 row_tight {r} {sizes} {n} {i} {s} {p} {old} {mid} {new} {m} {m'} {m''} b place grows longer fit wide more first next all shape last fits =
     let w : ℕ = sizes.kept.data_words + sizes.kept.pointers in
@@ -96,7 +97,7 @@ row_tight {r} {sizes} {n} {i} {s} {p} {old} {mid} {new} {m} {m'} {m''} b place g
     let to_n : i + 1 + (n - (i + 1)) ≡ n = omega (arith, more) in
     let to_i : n ≡ i + (n - i) = omega (arith, more) in
     let ends : p + n * w ≡ length (segment old.words s) = subst (λ k. p + k * w ≡ length (segment old.words s)) to_n last.ends in
-    let before : EndsInZeros (change b s p old mid m m') ((i + (n - i)) * w) = record { ends = subst (λ k. p + k * w ≡ length (segment old.words s)) to_i ends; zero = last.zero } in
+    let before : EndsInZeros (change b (call_at s p old mid) m m') ((i + (n - i)) * w) = record { ends = subst (λ k. p + k * w ≡ length (segment old.words s)) to_i ends; zero = last.zero } in
     let rows : RowsCopied r sizes i (n - i) (call_of b old mid s m m') p =
     record { elements = first.elements; counts = first.counts; are_read = first.are_read; made = first.stands before (stay_first old mid new s p (word_count_elements (cut_kept b sizes all)) (word_count_elements fs) (omega (arith, words)) place grows longer fits) } in
     let fitting : ElementsFit r sizes n (segment old.words s) p = record { room = ends; inside = fit.inside; less_data = fit.less_data; less_pointers = fit.less_pointers } in
@@ -107,8 +108,8 @@ row_tight {r} {sizes} {n} {i} {s} {p} {old} {mid} {new} {m} {m'} {m''} b place g
     record { children = next.children; counts = next.counts; are_read = next.are_read; made = next.stands (omega (arith, x.room, wide)) (stay_later old mid new s s (word_count_elements (cut_kept b sizes all)) (word_count_all ts) (λ f. omega (arith, f, words, x.long, room)) fits) } in
     row_put here one ∙ ap (λ y. with_segment old.words s (rows_laid (take p (segment old.words s)) sizes.kept.data_words sizes.kept.pointers y (n - (i + 1)))) (sym shape)
 
-pub all_rows : {r : Reading} {sizes : ElementSizes} {i n s p : ℕ} {b : Form} {old new : View} {m m' : Meter} → n ≤ i → i ≤ n → CopiesRows r sizes i (n - i) (change b s p old new m m') → CopiesRows r sizes n 0 (change b s p old new m m')
+pub all_rows : {r : Reading} {sizes : ElementSizes} {i n s p : ℕ} {b : Form} {old new : View} {m m' : Meter} → n ≤ i → i ≤ n → CopiesRows r sizes i (n - i) (change b (call_at s p old new) m m') → CopiesRows r sizes n 0 (change b (call_at s p old new) m m')
 all_rows {r} {sizes} {i} {n} {s} {p} {b} {old} {new} {m} {m'} le ge rows =
     let same : i ≡ n = omega (arith, le, ge) in
     let none : n - i ≡ 0 = omega (arith, le) in
-    subst (λ j. CopiesRows r sizes j 0 (change b s p old new m m')) same (subst (λ k. CopiesRows r sizes i k (change b s p old new m m')) none rows)
+    subst (λ j. CopiesRows r sizes j 0 (change b (call_at s p old new) m m')) same (subst (λ k. CopiesRows r sizes i k (change b (call_at s p old new) m m')) none rows)

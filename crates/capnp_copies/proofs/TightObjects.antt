@@ -37,6 +37,7 @@ use Rattle.capnp_copies.proofs.SegmentsWritten.{begun, not_written, words_writte
 use Rattle.capnp_copies.proofs.StructSteps.{StructBegun, struct_put, pointers_put}
 use Rattle.capnp_copies.proofs.StayingNear.{stay_fewer, stay_later, own_room}
 use Rattle.capnp_copies.proofs.TightChildren.{room_kept}
+use Rattle.capnp_making.specs.Makes.{call_at}
 
 -- the pointer stands still, where children were written behind it
 pub stays : {N : Segments} (S : Segments) (s p x h : ℕ) (ws B C D : List ℕ) → IsPlace S s p → p < h → h ≤ length (segment (extended (with_word S s p x) s ws) s) →
@@ -122,7 +123,7 @@ module _ {us : List ℕ} {least : StructSize} {s p : ℕ} {old made mid : View} 
       stays S s p x (H + least.data_words) ws (pointers k ts) (drop (H + least.data_words + count ts) V) (bodies ts) o.place (omega (arith, same_long, o.place)) (omega (arith, width, o.long)) children_there in
       pointer_first S s p (Struct us ts) o.place is all
 
-  empty_stands : {r : Reading} {new : View} {m m' : Meter} (b : Form) → least.data_words + least.pointers ≡ 0 → (children : CopiesChildren r least.pointers (change b h.segment (h.at + least.data_words) mid new m m')) →
+  empty_stands : {r : Reading} {new : View} {m m' : Meter} (b : Form) → least.data_words + least.pointers ≡ 0 → (children : CopiesChildren r least.pointers (change b (call_at h.segment (h.at + least.data_words) mid new) m m')) →
       new.words ≡ with_segment S s (copied W p (Struct us (kept_each b children.children)))
   empty_stands {r} {new} b none children =
       let ts : Trees = children.children in
@@ -139,7 +140,7 @@ module _ {us : List ℕ} {least : StructSize} {s p : ℕ} {old made mid : View} 
       kept_mid ∙ kept_made ∙ o.empty none ∙ ap (λ ws. with_segment S s (set ws p e)) (sym (append-nil W))
       ∙ ap₂ (λ (xs : List ℕ) t. with_segment S s (copied W p (Struct xs t))) (sym no_words) (sym (ap (kept_each b) no_kids ∙ kept_none b))
 
-  pub struct_tight : {r : Reading} {new : View} {m m' : Meter} (b : Form) → length made.words ≤ length new.words → (children : CopiesChildren r least.pointers (change b h.segment (h.at + least.data_words) mid new m m')) → (t : Tree) →
+  pub struct_tight : {r : Reading} {new : View} {m m' : Meter} (b : Form) → length made.words ≤ length new.words → (children : CopiesChildren r least.pointers (change b (call_at h.segment (h.at + least.data_words) mid new) m m')) → (t : Tree) →
       kept b t ≡ Struct us (kept_each b children.children) → IsCopiedInRoom old new s p (kept b t)
   struct_tight {r} {new} {m} {m'} b longer children t form fits =
       cases_of (least.data_words + least.pointers) refl ∙ ap (λ y. with_segment S s (copied W p y)) (sym form)
@@ -169,7 +170,7 @@ pub record PointersMade (i s p : ℕ) (old mid : View) (h : Start) : Type 0 wher
   pub near : HasOwnRoom old s i → mid.words ≡ with_list old.words s p 6 i
   pub at_end : HasOwnRoom old s i → StartsBehind old.words s h
 
-pub pointers_tight : {r : Reading} {i s p : ℕ} {old mid new : View} {h : Start} {m m' : Meter} (b : Form) → length mid.words ≤ length new.words → PointersMade i s p old mid h → (children : CopiesChildren r i (change b h.segment h.at mid new m m')) → IsCopiedInRoom old new s p (kept b (Pointers children.children))
+pub pointers_tight : {r : Reading} {i s p : ℕ} {old mid new : View} {h : Start} {m m' : Meter} (b : Form) → length mid.words ≤ length new.words → PointersMade i s p old mid h → (children : CopiesChildren r i (change b (call_at h.segment h.at mid new) m m')) → IsCopiedInRoom old new s p (kept b (Pointers children.children))
 pointers_tight {r} {i} {s} {p} {old} {mid} {new} {h} {m} {m'} b longer o children fits =
     let S : Segments = old.words in
     let x : ℕ = list_word (offset_behind S s p) 6 i in
@@ -213,7 +214,7 @@ pub record StructsMade (i s p : ℕ) (least : StructSize) (old mid : View) (h : 
   pub near : HasStructsRoom old s i least → mid.words ≡ with_struct_list old.words s p i least
 
 -- the words of its elements are the last of the segment
-pub ends_in_zeros : {i s p : ℕ} {least : StructSize} {old mid new : View} {h : Start} {m m' : Meter} (b : Form) → StructsMade i s p least old mid h → HasStructsRoom old s i least → EndsInZeros (change b h.segment (h.at + 1) mid new m m') (i * (least.data_words + least.pointers))
+pub ends_in_zeros : {i s p : ℕ} {least : StructSize} {old mid new : View} {h : Start} {m m' : Meter} (b : Form) → StructsMade i s p least old mid h → HasStructsRoom old s i least → EndsInZeros (change b (call_at h.segment (h.at + 1) mid new) m m') (i * (least.data_words + least.pointers))
 ends_in_zeros {i} {s} {p} {least} {old} {mid} {new} {h} {m} {m'} b o room =
     let S : Segments = old.words in
     let d : ℕ = least.data_words in
@@ -239,7 +240,7 @@ ends_in_zeros {i} {s} {p} {least} {old} {mid} {new} {h} {m} {m'} b o room =
     record { ends = omega (arith, first, width, ap length here); zero = zero }
 
 pub structs_tight : {r : Reading} {sizes : ElementSizes} {i s p : ℕ} {old mid new : View} {h : Start} {m m' : Meter} (b : Form) → length mid.words ≤ length new.words → r.at + i * (sizes.source.data_words + sizes.source.pointers) ≤ length (segment_read r) → KeepsWidths b r sizes.source i sizes.kept → StructsMade i s p sizes.kept old mid h →
-    (elements : CopiesRows r sizes i 0 (change b h.segment (h.at + 1) mid new m m')) → IsCopiedInRoom old new s p (kept b (Structs sizes.source.data_words sizes.source.pointers elements.elements))
+    (elements : CopiesRows r sizes i 0 (change b (call_at h.segment (h.at + 1) mid new) m m')) → IsCopiedInRoom old new s p (kept b (Structs sizes.source.data_words sizes.source.pointers elements.elements))
 structs_tight {r} {sizes} {i} {s} {p} {old} {mid} {new} {h} {m} {m'} b longer inside widths o elements fits =
     let S : Segments = old.words in
     let d : ℕ = sizes.kept.data_words in
@@ -269,7 +270,7 @@ structs_tight {r} {sizes} {i} {s} {p} {old} {mid} {new} {h} {m} {m'} b longer in
     let width : length V ≡ H + (1 + i * w) = ap length shape ∙ length-append (segment P s) ws ∙ (let f : length ws ≡ 1 + i * w = omega (arith, length-replicate {A = ℕ} (i * w) 0) in ap (λ k. H + k) f) in
     let here : segment mid.words h.segment ≡ V = ap₂ (λ T k. segment T k) mids start.0 in
     let no_more : (i + 0) * w ≡ i * w = ap (λ k. k * w) (let f : i + 0 ≡ i = omega arith in f) in
-    let zeros : EndsInZeros (change b h.segment (h.at + 1) mid new m m') ((i + 0) * w) = subst (EndsInZeros (change b h.segment (h.at + 1) mid new m m')) (sym no_more) (ends_in_zeros {new = new} {m = m} {m' = m'} b o room) in
+    let zeros : EndsInZeros (change b (call_at h.segment (h.at + 1) mid new) m m') ((i + 0) * w) = subst (EndsInZeros (change b (call_at h.segment (h.at + 1) mid new) m m')) (sym no_more) (ends_in_zeros {new = new} {m = m} {m' = m'} b o room) in
     let same_room : mid.room h.segment ≡ old.room s = ap mid.room start.0 ∙ room_kept old mid s p o.place o.memory in
     let stand : new.words ≡ with_segment mid.words h.segment (rows_laid (take (h.at + 1) (segment mid.words h.segment)) d q fs 0) = elements.stands zeros (stay_later old mid new s h.segment all_words (word_count_elements fs) (λ f. omega (arith, f, words, same_room, width, same_long, ap length here)) fits) in
     let stands : new.words ≡ with_segment mid.words s (rows_laid (take (H + 1) (segment mid.words s)) d q fs 0) = stand ∙ ap₂ (λ u a. with_segment mid.words u (rows_laid (take (a + 1) (segment mid.words u)) d q fs 0)) start.0 first in

@@ -39,9 +39,10 @@ use Rattle.capnp_copies.proofs.RoomLemmas.{next_words}
 use Rattle.capnp_copies.proofs.TightChildren.{room_kept}
 use Rattle.capnp_objects.proofs.Followed.{entered_leads}
 use Rattle.capnp_objects.proofs.Shorthands.{MeanThere}
+use Rattle.capnp_making.specs.Makes.{call_at}
 
 -- a child
-pub child_too_large : {r : Reading} {s p i n : ℕ} {old mid : View} {m m' : Meter} (b : Form) → IsPlace old.words s (p + i) → i < n → (first : CopiesChildren r i (change b s p old mid m m')) →
+pub child_too_large : {r : Reading} {s p i n : ℕ} {old mid : View} {m m' : Meter} (b : Form) → IsPlace old.words s (p + i) → i < n → (first : CopiesChildren r i (change b (call_at s p old mid) m m')) →
     ExceedsRoom b (value_original (behind r i)) (length (segment mid.words s)) (mid.room s) → AreTooLarge b r n (length (segment old.words s)) (old.room s)
 child_too_large {r} {s} {p} {i} {n} {old} {mid} {m} {m'} b place less first large = λ us c len all.
     (let ts : Trees = first.children in
@@ -57,8 +58,8 @@ child_too_large {r} {s} {p} {i} {n} {old} {mid} {m} {m'} b place less first larg
 
 -- an element
 pub row_too_large : {r : Reading} {sizes : ElementSizes} {i n s p : ℕ} {old mid new : View} {m m' m'' : Meter} (b : Form) → SourceKept b r sizes n → 0 < sizes.kept.data_words + sizes.kept.pointers → i < n →
-    (first : CopiesRows r sizes i (n - i) (change b s p old mid m m')) → AreTooLarge b (pointers_of r sizes.source i) sizes.kept.pointers (length (segment mid.words s)) (mid.room s) →
-    EndsInZeros (change b s p old new m m'') (n * (sizes.kept.data_words + sizes.kept.pointers)) → AreTooLargeElements b r sizes n (length (segment old.words s)) (old.room s)
+    (first : CopiesRows r sizes i (n - i) (change b (call_at s p old mid) m m')) → AreTooLarge b (pointers_of r sizes.source i) sizes.kept.pointers (length (segment mid.words s)) (mid.room s) →
+    EndsInZeros (change b (call_at s p old new) m m'') (n * (sizes.kept.data_words + sizes.kept.pointers)) → AreTooLargeElements b r sizes n (length (segment old.words s)) (old.room s)
 row_too_large {r} {sizes} {i} {n} {s} {p} {old} {mid} {new} {m} {m'} {m''} b fit wide more first large last = λ us c len all.
     (let w : ℕ = sizes.kept.data_words + sizes.kept.pointers in
     let q : ℕ = sizes.kept.pointers in
@@ -66,7 +67,7 @@ row_too_large {r} {sizes} {i} {n} {s} {p} {old} {mid} {new} {m} {m'} {m''} b fit
     let z = next_element_words b r sizes es us ((first.are_read.cost, first.are_read.means), (c, all)) (omega (arith, first.counts, len, more)) in
     let no : (length (segment old.words s) + word_count_elements (cut_kept b sizes us) ≤ old.room s) → ⊥ = λ fits.
     (let to_i : n ≡ i + (n - i) = omega (arith, more) in
-    let before : EndsInZeros (change b s p old mid m m') ((i + (n - i)) * w) = record { ends = subst (λ k. p + k * w ≡ length (segment old.words s)) to_i last.ends; zero = last.zero } in
+    let before : EndsInZeros (change b (call_at s p old mid) m m') ((i + (n - i)) * w) = record { ends = subst (λ k. p + k * w ≡ length (segment old.words s)) to_i last.ends; zero = last.zero } in
     let rows : RowsCopied r sizes i (n - i) (call_of b old mid s m m') p =
     record { elements = es; counts = first.counts; are_read = first.are_read; made = first.stands before (inl (omega (arith, fits, z.4))) } in
     let fitting : ElementsFit r sizes n (segment old.words s) p = record { room = last.ends; inside = fit.inside; less_data = fit.less_data; less_pointers = fit.less_pointers } in

@@ -1,9 +1,9 @@
 -- What a copy into a message of any number of segments leaves, and why it stops.
-use Rattle.std.specs.Prelude.{◌≡◌, ◌⊎◌, ℕ, pred, ◌+◌, ◌*◌, ◌<◌, ◌≤◌, ◌++◌, take, length, replicate}
+use Rattle.std.specs.Prelude.{◌≡◌, ◌≢◌, ◌⊎◌, ℕ, pred, ◌+◌, ◌*◌, ◌^◌, ◌<◌, ◌≤◌, ◌++◌, take, length, replicate}
 use Rattle.capnp_words.specs.declared.error.ErrorKind.{ErrorKind}
 use Rattle.capnp_words.specs.Meter.{Meter}
 use Rattle.capnp_format.specs.Numbers.{words_for}
-use Rattle.capnp_format.specs.Segments.{Segments, Target, segment, words_at, word_at}
+use Rattle.capnp_format.specs.Segments.{Segments, Target, segment, words_at, word_at, IsPlace}
 use Rattle.capnp_format.specs.Word.{kind, offset_bits, data_words, pointer_count, element_size, list_count}
 use Rattle.capnp_format.specs.Tree.{Tree, Null, Trees, Elements, count, element_count}
 use Rattle.capnp_format.specs.Canonical.{cut_to, rows, element_bodies, word_count, word_count_all, word_count_elements}
@@ -18,7 +18,7 @@ use Rattle.capnp_objects.specs.Demands.{IsStructList, tag}
 use Rattle.capnp_objects.specs.Faults.{child_at}
 use Rattle.capnp_objects.specs.Outcomes.{Entered, ReadsAll, ReadsElements}
 use Rattle.capnp_objects.specs.Refusals.{Stopped, Refused, StopsAmongElements}
-use Rattle.capnp_objects.specs.Reading.{Reading, behind, tag_size}
+use Rattle.capnp_objects.specs.Reading.{Reading, behind, segment_read, tag_size, word_of}
 use Rattle.capnp_objects.specs.Wanted.{Form}
 use Rattle.capnp_objects.specs.declared.object.Purpose.TheVariants.{Value}
 use Rattle.capnp_copies.specs.Forms.{form_in, kept, kept_each, kept_elements}
@@ -28,6 +28,7 @@ use Rattle.capnp_copies.specs.Originals.{elements_original, kept_count}
 use Rattle.capnp_copies.specs.Widths.{widths_kept}
 use Rattle.capnp_copies.specs.declared.form.Destination.{Destination}
 use Rattle.capnp_copies.specs.declared.widths.ElementSizes.{ElementSizes}
+use Rattle.capnp_making.specs.Makes.{CallAt, call_at}
 
 -- A call that copies to a place, or from a place of a segment on: the arena and the read limiter,
 -- before it and after it.
@@ -40,14 +41,15 @@ pub record Change : Type 0 where
   pub before : Meter
   pub after : Meter
 
-abbrev pub change : Form → ℕ → ℕ → View → View → Meter → Meter → Change
-change form s p old new before after =
+-- A call at a place that copies in a form, with the read limiter before it and after it.
+abbrev pub change : Form → CallAt → Meter → Meter → Change
+change form c before after =
     record {
       form = form;
-      segment = s;
-      at = p;
-      old = old;
-      new = new;
+      segment = c.segment;
+      at = c.at;
+      old = c.old;
+      new = c.new;
       before = before;
       after = after;
     }
@@ -55,12 +57,29 @@ change form s p old new before after =
 -- A call that copies to a destination.
 abbrev pub change_to : Destination → View → View → Meter → Meter → Change
 change_to to old new before after =
-    change (form_in to.form) to.place.segment to.place.at old new before after
+    change (form_in to.form) (call_at to.place.segment to.place.at old new) before after
 
 -- n null pointers stand from position p of segment id on.
 pub record HasNulls (S : Segments) (id p n : ℕ) : Type 0 where
   pub room : p + n ≤ length (segment S id)
   pub null : (i : ℕ) → i < n → word_at S id (p + i) ≡ 0
+
+-- A pointer stands at position p of segment s, and is null.
+pub record IsNullPlace (S : Segments) (s p : ℕ) : Type 0 where
+  pub place : IsPlace S s p
+  pub null : word_at S s p ≡ 0
+
+-- n pointers are there to be read from the place of r on, and as many nulls for their copies from
+-- position p of segment s on.
+pub record HasNullsFor (r : Reading) (n : ℕ) (S : Segments) (s p : ℕ) : Type 0 where
+  pub nulls : HasNulls S s p n
+  pub inside : r.at + n ≤ length (segment_read r)
+
+-- A word is that of the pointer which is read, and isn't zero.
+pub record IsPointerRead (r : Reading) (word : ℕ) : Type 0 where
+  pub there : word ≡ word_of r
+  pub small : word < 2 ^ 64
+  pub some : word ≢ 0
 
 -- n words fit behind those of segment id, or the message has but one segment once they are written:
 -- they stay in the segment.

@@ -5,6 +5,4 @@ pub mod Originals
 pub mod Rooms
 pub mod Changes
 pub mod Costs
-pub mod ListValues
-pub mod StructValues
 pub mod Growth

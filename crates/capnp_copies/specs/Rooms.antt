@@ -1,10 +1,13 @@
--- When a copy has room in a segment.
-use Rattle.std.specs.Prelude.{ℕ}
+-- When a copy has room in a segment, and what a call makes that copies a value.
+use Rattle.std.specs.Prelude.{◌≡◌, ℕ, Result, ⊤, Err, IsOk, IfOk, IfErr}
 use Rattle.capnp_words.specs.declared.error.ErrorKind.{ErrorKind}
 use Rattle.capnp_words.specs.Meter.{Meter}
 use Rattle.capnp_arena_traits.specs.View.{View}
 use Rattle.capnp_making.specs.Near.{HasOwnRoom}
+use Rattle.capnp_format.specs.Tree.{Tree, Null}
 use Rattle.capnp_objects.specs.Wanted.{Form}
+use Rattle.capnp_copies.specs.Changes.{Change, MakesCopy, StopsCopy}
+use Rattle.capnp_copies.specs.Growth.{TakesAtMost}
 use Rattle.capnp_copies.specs.Originals.{Original}
 
 -- It is no larger than an object can be, a limiter lets it be read in the form, and the words to be
@@ -16,3 +19,12 @@ pub record CanBeCopied {V : Type 0} (o : Original V) (form : Form) (m : Meter) (
   pub after : Meter
   pub is_read : o.reads form m after value
   pub room : HasOwnRoom v id (o.words form value)
+
+-- A call copies what is read, as it does wherever that can be copied, or is refused and leaves null;
+-- and what it takes of the message. Of what is larger than an object can be nothing is read.
+pub record CopiesOrClears (result : Result ⊤ ErrorKind) (o : Original Tree) (c : Change) : Type 0 where
+  pub copied : IfOk result (λ _. MakesCopy o c)
+  pub fits : CanBeCopied o c.form c.before c.old c.segment → IsOk result
+  pub refused : IfErr result (StopsCopy o c Null)
+  pub taken : TakesAtMost result o c
+  pub large : (k : ErrorKind) → o.exceeds c.form k → (result ≡ Err k) × (c.after ≡ c.before)

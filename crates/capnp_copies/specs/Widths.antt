@@ -1,5 +1,5 @@
 -- How many words of each section the elements of a list of structs use, and which sections a copy keeps.
-use Rattle.std.specs.Prelude.{ℕ, zero, suc, ◌+◌, List, take, drop, max}
+use Rattle.std.specs.Prelude.{ℕ, zero, suc, ◌+◌, ◌≤◌, List, take, drop, max}
 use Rattle.capnp_words.specs.declared.wire_pointer.StructSize.{StructSize}
 use Rattle.capnp_format.specs.Canonical.{used_words}
 use Rattle.capnp_objects.specs.Reading.{Reading, segment_read, sized}
@@ -11,6 +11,11 @@ abbrev pub most_used : List ℕ → ℕ → ℕ → ℕ → ℕ → ℕ
 most_used ws p words stride zero = 0
 most_used ws p words stride (suc n) =
     max (used_words (take words (drop p ws))) (most_used ws (p + stride) words stride n)
+
+-- No section of a size is longer than that of the other.
+pub record IsAtMost (less more : StructSize) : Type 0 where
+  pub data_words : less.data_words ≤ more.data_words
+  pub pointers : less.pointers ≤ more.pointers
 
 -- The sections that a copy in a form keeps of each of i elements from a place on: in canonical form
 -- the least that lose nothing.

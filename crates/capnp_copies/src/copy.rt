@@ -3,19 +3,19 @@
 //!
 //! Each object is made before its children: in the segment of its pointer where it fits, else behind
 //! a landing pad. So the place holds a value at each moment.
-ghost use Rattle.std.specs.Prelude.{◌≡◌, ◌⊎◌, IsOk, IfOk, IfErr, OnOk, OnErr};
+ghost use Rattle.std.specs.Prelude.{◌≡◌, ◌⊎◌, IfErr, OnOk, OnErr};
 ghost use Rattle.capnp_words.specs.declared.error.ErrorKind.TheVariants.{CannotCreateACanonicalMessageWithACapability, UnknownPointerType};
-ghost use Rattle.capnp_format.specs.Segments.{word_at, IsPlace};
+ghost use Rattle.capnp_format.specs.Segments.{IsPlace};
 ghost use Rattle.capnp_format.specs.Word.{capability_word};
 ghost use Rattle.capnp_arena_traits.specs.Written.{with_word};
 ghost use Rattle.capnp_objects.specs.Wanted.{plain, canonical, of_default};
-ghost use Rattle.capnp_format.specs.Tree.{Null};
-ghost use Rattle.capnp_readers.specs.Readers.{reading};
-ghost use Rattle.capnp_copies.specs.Growth.{CopiesOrLeaves, TakesAtMost};
-ghost use Rattle.capnp_copies.specs.Changes.{change, MakesCopy, StopsCopy};
+ghost use Rattle.capnp_pointers.specs.Pointers.{reading};
+ghost use Rattle.capnp_copies.specs.Growth.{CopiesOrLeaves};
+ghost use Rattle.capnp_copies.specs.Changes.{change, change_to, IsNullPlace};
 ghost use Rattle.capnp_copies.specs.Forms.{form_of, form_in};
-ghost use Rattle.capnp_copies.specs.Rooms.{CanBeCopied};
+ghost use Rattle.capnp_copies.specs.Rooms.{CopiesOrClears};
 ghost use Rattle.capnp_copies.specs.Originals.{value_original};
+ghost use Rattle.capnp_making.specs.Makes.{call_at};
 
 mod children;
 mod elements;
@@ -28,7 +28,7 @@ use crate::widths::StructList;
 use capnp_arena_traits::arena::{BuilderArena, ReaderArena};
 use capnp_making::making::{Start, clear};
 use capnp_objects::object::Object;
-use capnp_readers::readers::PointerReader;
+use capnp_pointers::pointers::Pointer;
 use capnp_words::error::ErrorKind;
 use capnp_words::read_limiter::ReadLimiter;
 use capnp_words::wire_pointer::WirePointer;
@@ -42,30 +42,18 @@ pub use lists::{copy_pointers, copy_structs};
 /// `copy_in_form` does.
 pub fn copy_value<A: BuilderArena, B: ReaderArena>(
     arena: &mut A,
-    id: u32,
-    at: u32,
-    from: PointerReader<'_, B>,
+    to: Start,
+    from: Pointer<'_, B>,
     lim: &mut ReadLimiter,
     canonicalize: bool,
 ) -> Result<(), ErrorKind>
-    requires place { IsPlace (A.view arena.old).words id at }
-    requires null { word_at (A.view arena.old).words id at ≡ 0 }
-    ensures copied { IfOk result
-        (λ _. MakesCopy (value_original (reading B.ReaderArena from.entry))
-        (change (form_of canonicalize) id at (A.view arena.old)
-        (A.view arena.new) lim.old lim.new)) }
-    ensures fits { CanBeCopied (value_original (reading B.ReaderArena from.entry))
-        (form_of canonicalize) lim.old (A.view arena.old) id → IsOk result }
-    ensures refused { IfErr result
-        (StopsCopy (value_original (reading B.ReaderArena from.entry))
-        (change (form_of canonicalize) id at (A.view arena.old)
-        (A.view arena.new) lim.old lim.new) Null) }
-    ensures taken { TakesAtMost result
-        (value_original (reading B.ReaderArena from.entry))
-        (change (form_of canonicalize) id at (A.view arena.old)
-        (A.view arena.new) lim.old lim.new) }
+    requires { IsNullPlace (A.view arena.old).words to.segment to.at }
+    ensures { CopiesOrClears result (value_original (reading B.ReaderArena from.entry))
+        (change (form_of canonicalize)
+        (call_at to.segment to.at (A.view arena.old) (A.view arena.new)) lim.old lim.new) }
 {
-    copy_in_form(arena, id, at, from, lim, CopyForm::of(canonicalize))
+    let form = CopyForm::of(canonicalize);
+    copy_in_form(arena, Destination { place: to, form }, from, lim)
 }
 
 /// Copies what a pointer means to the null pointer at a place, in a form: as it stands or in canonical
@@ -88,29 +76,17 @@ pub fn copy_value<A: BuilderArena, B: ReaderArena>(
 /// charged.
 pub fn copy_in_form<A: BuilderArena, B: ReaderArena>(
     arena: &mut A,
-    id: u32,
-    at: u32,
-    from: PointerReader<'_, B>,
+    to: Destination,
+    from: Pointer<'_, B>,
     lim: &mut ReadLimiter,
-    form: CopyForm,
 ) -> Result<(), ErrorKind>
-    requires place { IsPlace (A.view arena.old).words id at }
-    requires null { word_at (A.view arena.old).words id at ≡ 0 }
-    ensures copied { IfOk result
-        (λ _. MakesCopy (value_original (reading B.ReaderArena from.entry))
-        (change (form_in form) id at (A.view arena.old) (A.view arena.new) lim.old lim.new)) }
-    ensures fits { CanBeCopied (value_original (reading B.ReaderArena from.entry))
-        (form_in form) lim.old (A.view arena.old) id → IsOk result }
-    ensures refused { IfErr result
-        (StopsCopy (value_original (reading B.ReaderArena from.entry))
-        (change (form_in form) id at (A.view arena.old) (A.view arena.new) lim.old lim.new)
-        Null) }
-    ensures taken { TakesAtMost result
-        (value_original (reading B.ReaderArena from.entry))
-        (change (form_in form) id at (A.view arena.old) (A.view arena.new) lim.old lim.new) }
+    requires { IsNullPlace (A.view arena.old).words to.place.segment to.place.at }
+    ensures { CopiesOrClears result (value_original (reading B.ReaderArena from.entry))
+        (change_to to (A.view arena.old) (A.view arena.new) lim.old lim.new) }
 {
-    let to = Start { segment: id, at };
-    match copy_object(arena, to, from, lim, form) {
+    let Start { segment: id, at } = to.place;
+    let form = to.form;
+    match copy_object(arena, to.place, from, lim, form) {
         Ok(()) => Ok(()),
         Err(k) => {
             clear(arena, id, at);
@@ -125,15 +101,14 @@ pub fn copy_in_form<A: BuilderArena, B: ReaderArena>(
 fn copy_object<A: BuilderArena, B: ReaderArena>(
     arena: &mut A,
     to: Start,
-    from: PointerReader<'_, B>,
+    from: Pointer<'_, B>,
     lim: &mut ReadLimiter,
     form: CopyForm,
 ) -> Result<(), ErrorKind>
-    requires place { IsPlace (A.view arena.old).words to.segment to.at }
-    requires null { word_at (A.view arena.old).words to.segment to.at ≡ 0 }
+    requires { IsNullPlace (A.view arena.old).words to.segment to.at }
     ensures { CopiesOrLeaves result (value_original (reading B.ReaderArena from.entry))
-        (change (form_in form) to.segment to.at (A.view arena.old)
-        (A.view arena.new) lim.old lim.new) }
+        (change (form_in form)
+        (call_at to.segment to.at (A.view arena.old) (A.view arena.new)) lim.old lim.new) }
 {
     let source = from.source;
     let object = source.read_object(from.place, from.nesting_limit, lim)?;
@@ -142,7 +117,7 @@ fn copy_object<A: BuilderArena, B: ReaderArena>(
         Object::Null => Ok(()),
         Object::Capability(index) => copy_capability(arena, destination, index),
         Object::Struct { start, size } => {
-            let inner = PointerReader {
+            let inner = Pointer {
                 source,
                 place: start,
                 nesting_limit: from.nesting_limit - 1,
@@ -155,7 +130,7 @@ fn copy_object<A: BuilderArena, B: ReaderArena>(
             flat::copy_flat(arena, to, size, count, elements)
         }
         Object::Pointers { start, count } => {
-            let inner = PointerReader {
+            let inner = Pointer {
                 source,
                 place: start,
                 nesting_limit: from.nesting_limit - 1,
@@ -163,7 +138,7 @@ fn copy_object<A: BuilderArena, B: ReaderArena>(
             lists::copy_pointers(arena, destination, inner, count, lim)
         }
         Object::Structs { start, size, count } => {
-            let inner = PointerReader {
+            let inner = Pointer {
                 source,
                 place: start,
                 nesting_limit: from.nesting_limit - 1,

@@ -2,7 +2,7 @@
 ghost use Rattle.std.specs.Prelude.{◌≡◌, ◌+◌, ◌*◌, ◌≤◌, length, max, take, drop};
 ghost use Rattle.capnp_format.specs.Bytes.{words_of};
 ghost use Rattle.capnp_format.specs.Canonical.{used_words};
-ghost use Rattle.capnp_copies.specs.Widths.{most_used};
+ghost use Rattle.capnp_copies.specs.Widths.{most_used, IsAtMost};
 
 use capnp_words::wire_pointer::StructSize;
 use capnp_words::words;
@@ -38,8 +38,7 @@ pub(crate) fn least_widths(bytes: &[u8], start: u32, count: u32, size: StructSiz
         start size.data_words (size.data_words + size.pointers) count }
     ensures pointers { result.pointers ≡ most_used (words_of bytes.now)
         (start + size.data_words) size.pointers (size.data_words + size.pointers) count }
-    ensures no_more_data { result.data_words ≤ size.data_words }
-    ensures no_more_pointers { result.pointers ≤ size.pointers }
+    ensures less { IsAtMost result size }
 {
     let StructSize {
         data_words,

@@ -29,7 +29,7 @@ use Rattle.capnp_contents.proofs.FieldsWritten.{data_field_written, element_has_
 use Rattle.capnp_making.proofs.Placed.{count-nulls}
 use Rattle.capnp_making.proofs.PlacedStructs.{count-zero_elements}
 use Rattle.capnp_making.proofs.Replaced.{forest_stored, forest_updated, stored_within}
-use Rattle.capnp_readers.specs.declared.readers.PointerPlace.{PointerPlace}
+use Rattle.capnp_pointers.specs.declared.pointers.PointerPlace.{PointerPlace}
 use Rattle.capnp_widening.specs.Rooms.{is_allocation_name}
 use Rattle.capnp_words.specs.declared.wire_pointer.StructSize.{StructSize}
 use Rattle.capnp_edits.specs.declared.edit.Edit.{Edit}
@@ -264,7 +264,7 @@ at_pointer S R e place making r t x makes leads end_value forest does = stands d
     stands None left same = (t, subst (λ Q. IsForest Q t) (sym same) forest, takes e r t (leads_to (PointerTo x) None end_value left refl))
 
 pub applied_pointer : (S R : Segments) (e : Edit) (place : PointerPlace) (task : Task) (r : Option ErrorKind) → task_of e.op ≡ Some task →
-    ((t : Tree) → IsStored S 0 0 t → IsPathFound S 0 0 t (map step_of e.path.now) (Some (AtPointer place))) → Does S R place task r → IsApplied (Takes e r) S R
+    ((t : Tree) → IsStored S 0 0 t → IsPathFound S (record { segment = 0; word = 0 }) t (map step_of e.path.now) (Some (AtPointer place))) → Does S R place task r → IsApplied (Takes e r) S R
 applied_pointer S R e place task r is leads does t forest =
     let stored = forest_stored S t forest in
     let f = leads t stored in
@@ -364,7 +364,7 @@ out_applied S e out t forest = (t, forest, end (found t (map step_of e.path.now)
     end None is = takes e (Some NoSuchPlace) t (leads_nowhere is refl refl)
 
 -- nowhere
-pub applied_nowhere : (S : Segments) (e : Edit) → ((t : Tree) → IsStored S 0 0 t → IsPathFound S 0 0 t (map step_of e.path.now) None) → IsApplied (Takes e (Some NoSuchPlace)) S S
+pub applied_nowhere : (S : Segments) (e : Edit) → ((t : Tree) → IsStored S 0 0 t → IsPathFound S (record { segment = 0; word = 0 }) t (map step_of e.path.now) None) → IsApplied (Takes e (Some NoSuchPlace)) S S
 applied_nowhere S e none t forest =
     (t, forest, takes e (Some NoSuchPlace) t (leads_nowhere (ap (found t) (sym (append-nil (map step_of e.path.now))) ∙ none t (forest_stored S t forest) []) refl refl))
 

@@ -20,7 +20,7 @@ use Rattle.capnp_making.specs.Stored.{IsStored, IsReplaced}
 use Rattle.capnp_contents.proofs.FieldsWritten.{flat_part_written, element_field_written}
 use Rattle.capnp_making.proofs.Zeros.{there}
 use Rattle.capnp_readers.specs.Sections.{step_bits, data_bits}
-use Rattle.capnp_readers.specs.declared.readers.PointerPlace.{PointerPlace}
+use Rattle.capnp_pointers.specs.declared.pointers.PointerPlace.{PointerPlace}
 use Rattle.capnp_builders.specs.Places.{field}
 use Rattle.capnp_builders.proofs.FoundBytes.{data_inside, text_inside}
 use Rattle.capnp_builders.proofs.FoundLists.{found_inside}
@@ -286,14 +286,14 @@ record Looks (look : Target → Tree → Result (Option ExistingBytes) ErrorKind
   written : (S R : Segments) (s p : ℕ) (t : Tree) (b : ExistingBytes) → Ok (Some b) ≡ look (target S s p) t → IsStored S s p t → i < b.length → R ≡ with_field S b.segment (8 * (8 * b.start + i)) 8 v → IsReplaced S R s p t (with_lowest i 8 v t)
 
 byte_does : (S R : Segments) (place : PointerPlace) (i v : ℕ) (look : Target → Tree → Result (Option ExistingBytes) ErrorKind) (r : Option ErrorKind) (looked : Result (Option ExistingBytes) ErrorKind) (t : Tree) →
-    IsPlace S place.segment place.word → Looks look i v → IsStored S place.segment place.word t → looked ≡ look (target S place.segment place.word) t → PutsByte S R looked i v r →
+    IsPlace S place.segment place.word → Looks look i v → IsStored S place.segment place.word t → looked ≡ look (target S place.segment place.word) t → PutsByte S R looked (record { size = Byte; index = i; value = v }) r →
     DoesAt S R place (if_reached (λ b. b.length) i (with_lowest i 8 v t) (look nowhere t)) t r
 byte_does S R place i v look r looked t inside looks stored found puts = does puts
   where
     counted : length_in (look nowhere t) ≡ length_in looked
     counted = looks.long nowhere (target S place.segment place.word) t ∙ ap length_in (sym found)
 
-    does : PutsByte S R looked i v r → DoesAt S R place (if_reached (λ b. b.length) i (with_lowest i 8 v t) (look nowhere t)) t r
+    does : PutsByte S R looked (record { size = Byte; index = i; value = v }) r → DoesAt S R place (if_reached (λ b. b.length) i (with_lowest i 8 v t) (look nowhere t)) t r
     does (byte_put b is_b less done written) = rw done (
         reached_done (λ (b : ExistingBytes). b.length) S R place t (with_lowest i 8 v t) i b.length (look nowhere t) (counted ∙ ap length_in is_b) less
         (looks.written S R place.segment place.word t b (sym is_b ∙ found) stored less written))
@@ -306,13 +306,13 @@ byte_does S R place i v look r looked t inside looks stored found puts = does pu
         reached_denied (λ (b : ExistingBytes). b.length) S place t (with_lowest i 8 v t) i k (look nowhere t) (counted ∙ ap length_in is_k))
 
 pub text_does : (S R : Segments) (place : PointerPlace) (i v : ℕ) (r : Option ErrorKind) (looked : Result (Option ExistingBytes) ErrorKind) → IsPlace S place.segment place.word → v < 256 →
-    ((t : Tree) → IsStored S place.segment place.word t → looked ≡ text_in (target S place.segment place.word) t) → PutsByte S R looked i v r → Does S R place (Write (TextByte i v)) r
+    ((t : Tree) → IsStored S place.segment place.word t → looked ≡ text_in (target S place.segment place.word) t) → PutsByte S R looked (record { size = Byte; index = i; value = v }) r → Does S R place (Write (TextByte i v)) r
 text_does S R place i v r looked inside small is_found puts t stored =
     byte_does S R place i v text_in r looked t inside
     (record { long = text_anywhere length_in (λ b c e. ap Ok e); inside = text_inside; written = λ S R s p t b is_b stored less written. text_written_at S R s p t b i v is_b stored less small written }) stored (is_found t stored) puts
 
 pub data_does : (S R : Segments) (place : PointerPlace) (i v : ℕ) (r : Option ErrorKind) (looked : Result (Option ExistingBytes) ErrorKind) → IsPlace S place.segment place.word → v < 256 →
-    ((t : Tree) → IsStored S place.segment place.word t → looked ≡ data_in (target S place.segment place.word) t) → PutsByte S R looked i v r → Does S R place (Write (DataByte i v)) r
+    ((t : Tree) → IsStored S place.segment place.word t → looked ≡ data_in (target S place.segment place.word) t) → PutsByte S R looked (record { size = Byte; index = i; value = v }) r → Does S R place (Write (DataByte i v)) r
 data_does S R place i v r looked inside small is_found puts t stored =
     byte_does S R place i v data_in r looked t inside
     (record { long = data_anywhere length_in (λ b c e. ap Ok e); inside = data_inside; written = λ S R s p t b is_b stored less written. data_written_at S R s p t b i v is_b stored less small written }) stored (is_found t stored) puts

@@ -26,21 +26,21 @@ use Rattle.capnp_objects.proofs.Expecting.{not_withheld, one_level}
 use Rattle.capnp_objects.proofs.Limits.{not_for_memory, not_for_place}
 use Rattle.capnp_objects.proofs.Refusals.{unreadable}
 use Rattle.capnp_readers.specs.Calls.{IsRead, of_pointer, of_default, short_default, of_null_default, WhereRead, IsRefused, IsStructRead, IsListRead}
-use Rattle.capnp_readers.specs.Readers.{reading}
+use Rattle.capnp_readers.specs.Readers.{read_by}
 use Rattle.capnp_readers.specs.Sections.{bytes_for}
 use Rattle.capnp_readers.specs.Sizes.{pointers_read}
 use Rattle.capnp_readers.specs.declared.readers.PointerReader.{PointerReader}
 use Rattle.capnp_readers.specs.declared.readers.struct_reader.StructReader.{StructReader}
 use Rattle.capnp_readers.specs.declared.readers.list_reader.ListReader.{ListReader}
-use Rattle.capnp_readers.specs.declared.readers.PointerPlace.{PointerPlace}
+use Rattle.capnp_pointers.specs.declared.pointers.PointerPlace.{PointerPlace}
 use Rattle.capnp_copies.specs.Changes.{Change, RefusesToCopy, change}
 use Rattle.capnp_copies.specs.Forms.{form_of, kept}
 use Rattle.capnp_copies.specs.Growth.{TakesAtMost}
 use Rattle.capnp_copies.specs.Originals.{Original, value_original, sections_original, list_original}
 use Rattle.capnp_copies.proofs.Originals.{value_beyond, refused_words}
 use Rattle.capnp_making.specs.Makes.{CallAt, call_at}
-use Rattle.capnp_copies.specs.ListValues.{list_read}
-use Rattle.capnp_copies.specs.StructValues.{data_of, struct_read}
+use Rattle.capnp_value_copies.specs.ListValues.{list_read}
+use Rattle.capnp_value_copies.specs.StructValues.{data_of, struct_read}
 use Rattle.capnp_builders.specs.Kept.{PutsCopy, LeavesCleared}
 use Rattle.capnp_edits.specs.declared.edit.path.PathEnd.TheVariants.{Pointer as AtPointer}
 use Rattle.capnp_edits.specs.declared.edit.Source.{Source}
@@ -62,7 +62,7 @@ use Rattle.capnp_widening.specs.Rooms.{is_allocation_name}
 
 -- A reader is at the root, whose word is charged.
 abbrev pub IsRootReader : {A : Type 0} (g : Ghosts A) → Source → PointerReader A g → Meter → Type 0
-IsRootReader g source from m = HasRoot source × (reading g from ≡ root_of source) × (m ≡ once_at_root source)
+IsRootReader g source from m = HasRoot source × (read_by g from ≡ root_of source) × (m ≡ once_at_root source)
 
 -- What a copy from another message leaves at a place: it is there; or null, the copy being refused; or there is nothing to be copied.
 root_copied : {S R : Segments} {place : PointerPlace} {c : Copying} {r : Option ErrorKind} (u : Tree) → Copies c u → r ≡ None → Puts S R place.segment place.word u → Does S R place (CopyRoot c) r
@@ -100,27 +100,27 @@ IsDone c after S R place =
 
 -- A copy is refused for want of memory, or its value can't be read; and never for a place.
 
-value_refused : (b : Bool) (id at : ℕ) (old new : View) (r : Reading) (m m' : Meter) (k : ErrorKind) → RefusesToCopy (value_original r) (change (form_of b) id at old new m m') k → (is_allocation_name k ≡ true) ⊎ Refused (form_of b) r m m' k
+value_refused : (b : Bool) (id at : ℕ) (old new : View) (r : Reading) (m m' : Meter) (k : ErrorKind) → RefusesToCopy (value_original r) (change (form_of b) (call_at id at old new) m m') k → (is_allocation_name k ≡ true) ⊎ Refused (form_of b) r m m' k
 value_refused b id at old new r m m' k (inl (lacks, large)) =
-    let x = refused_words (value_original r) (change (form_of b) id at old new m m') k lacks in
+    let x = refused_words (value_original r) (change (form_of b) (call_at id at old new) m m') k lacks in
     inl (of_allocation old new (length new.words) (x.0 + 1) k x.1.0)
 value_refused b id at old new r m m' k (inr (inl refused)) = inr refused
 value_refused b id at old new r m m' k (inr (inr none)) = absurd none
 
-copy_refused_as : (w : Wanted) (b : Bool) (id at : ℕ) (old new : View) (r : Reading) (m m' : Meter) (k : ErrorKind) → OfWanted w r (change (form_of b) id at old new m m') (λ o d. RefusesToCopy o d k) →
+copy_refused_as : (w : Wanted) (b : Bool) (id at : ℕ) (old new : View) (r : Reading) (m m' : Meter) (k : ErrorKind) → OfWanted w r (change (form_of b) (call_at id at old new) m m') (λ o d. RefusesToCopy o d k) →
     (is_allocation_name k ≡ true) ⊎ Refused (form_of b) r m m' k
 copy_refused_as Value b id at old new r m m' k refuses = value_refused b id at old new r m m' k refuses
 copy_refused_as AStruct b id at old new r m m' k (s, leads, refuses) = struct_refused b id at old new r m m' s k leads refuses
 copy_refused_as AList b id at old new r m m' k (l, n, leads, refuses) = list_refused b id at old new r m n m' l k leads refuses
 
-copy_nowhere_as : (w : Wanted) (b : Bool) (id at : ℕ) (old new : View) (r : Reading) (m m' : Meter) (k : ErrorKind) → OfWanted w r (change (form_of b) id at old new m m') (λ o d. RefusesToCopy o d k) → k ≡ NoSuchPlace → ⊥
+copy_nowhere_as : (w : Wanted) (b : Bool) (id at : ℕ) (old new : View) (r : Reading) (m m' : Meter) (k : ErrorKind) → OfWanted w r (change (form_of b) (call_at id at old new) m m') (λ o d. RefusesToCopy o d k) → k ≡ NoSuchPlace → ⊥
 copy_nowhere_as w b id at old new r m m' k refuses e = elim (copy_refused_as w b id at old new r m m' k refuses) [
   | inl memory ↦ of_no_place k memory e
   | inr refused ↦ not_for_place (subst (λ y. Refused (form_of b) r m m' y) e refused)
 ]
 
 copy_fits_as : (w : Wanted) (c : Copying) (id at : ℕ) (old new : View) (r : Reading) (m m' : Meter) (k : ErrorKind) → c.wanted ≡ w → (c.wanted ≡ AList → AreWords r.segments) →
-    CanBeCopiedAs c r m (length (segment old.words id)) (old.room id) → OfWanted w r (change (form_of c.canonicalize) id at old new m m') (λ o d. RefusesToCopy o d k) → ⊥
+    CanBeCopiedAs c r m (length (segment old.words id)) (old.room id) → OfWanted w r (change (form_of c.canonicalize) (call_at id at old new) m m') (λ o d. RefusesToCopy o d k) → ⊥
 copy_fits_as Value c id at old new r m m' k is small can (inl (lacks, large)) =
     let same : can.value ≡ can.copied = same_some can.value can.copied (subst (λ w. as_wanted w can.value ≡ Some can.copied) is can.is_wanted) in
     omega (arith, can.fits, value_beyond (form_of c.canonicalize) r (length (segment old.words id)) (old.room id) large can.value can.cost can.means, ap (λ t. word_count (kept (form_of c.canonicalize) t)) same)
@@ -142,7 +142,7 @@ pub record Tried {A : Type 0} (result : Result A ErrorKind) (c : Copying) (old n
   pub root : HasRoot c.source
   pub after : Meter
   pub done : IfOk result (λ x. IsDone c after old.words new.words place)
-  pub copies : OfWanted c.wanted (root_of c.source) (change (form_of c.canonicalize) place.segment place.word old new (once_at_root c.source) after) (Says (refusal_of result))
+  pub copies : OfWanted c.wanted (root_of c.source) (change (form_of c.canonicalize) (call_at place.segment place.word old new) (once_at_root c.source) after) (Says (refusal_of result))
 
 -- so it is refused
 wanted_so : (w : Wanted) (r : Reading) (c : Change) (P Q : Original Tree → Change → Type 0) → ((o : Original Tree) (d : Change) → P o d → Q o d) → OfWanted w r c P → OfWanted w r c Q
@@ -151,7 +151,7 @@ wanted_so AStruct r c P Q so (s, leads, h) = (s, leads, so _ _ h)
 wanted_so AList r c P Q so (l, m, leads, h) = (l, m, leads, so _ _ h)
 
 tried_refused : {A : Type 0} (k : ErrorKind) (c : Copying) (old new : View) (place : PointerPlace) (tried : Tried {A = A} (Err k) c old new place) →
-    OfWanted c.wanted (root_of c.source) (change (form_of c.canonicalize) place.segment place.word old new (once_at_root c.source) tried.after) (λ o d. RefusesToCopy o d k)
+    OfWanted c.wanted (root_of c.source) (change (form_of c.canonicalize) (call_at place.segment place.word old new) (once_at_root c.source) tried.after) (λ o d. RefusesToCopy o d k)
 tried_refused k c old new place tried = wanted_so c.wanted (root_of c.source) _ (Says (Some k)) (λ o d. RefusesToCopy o d k) (λ o d h. h.1) tried.copies
 
 pub tried_done : {A : Type 0} (result : Result A ErrorKind) (c : Copying) (old new : View) (place : PointerPlace) → Tried result c old new place → OnErr result (Puts old.words new.words place.segment place.word Null) →
@@ -178,53 +178,53 @@ tried_fits (Err k) c old new place tried fits = absurd (copy_fits_as c.wanted c 
 
 -- of what the root means
 pub value_tried : {A : Type 0} (result : Result A ErrorKind) (c : Copying) (r : Reading) (m m' : Meter) (old new : View) (place : PointerPlace) → c.wanted ≡ Value → r ≡ root_of c.source → m ≡ once_at_root c.source → HasRoot c.source →
-    IfOk result (λ x. PutsCopy (value_original r) (change (form_of c.canonicalize) place.segment place.word old new m m')) → IfErr result (LeavesCleared (value_original r) (change (form_of c.canonicalize) place.segment place.word old new m m')) →
-    TakesAtMost result (value_original r) (change (form_of c.canonicalize) place.segment place.word old new m m') → Tried result c old new place
+    IfOk result (λ x. PutsCopy (value_original r) (change (form_of c.canonicalize) (call_at place.segment place.word old new) m m')) → IfErr result (LeavesCleared (value_original r) (change (form_of c.canonicalize) (call_at place.segment place.word old new) m m')) →
+    TakesAtMost result (value_original r) (change (form_of c.canonicalize) (call_at place.segment place.word old new) m m') → Tried result c old new place
 value_tried result c r m m' old new place is is_r is_m has done refused taken = record { root = has; after = m'; done = good result done; copies = copies }
   where
-    good : {A : Type 0} (q : Result A ErrorKind) → IfOk q (λ x. PutsCopy (value_original r) (change (form_of c.canonicalize) place.segment place.word old new m m')) → IfOk q (λ x. IsDone c m' old.words new.words place)
+    good : {A : Type 0} (q : Result A ErrorKind) → IfOk q (λ x. PutsCopy (value_original r) (change (form_of c.canonicalize) (call_at place.segment place.word old new) m m')) → IfOk q (λ x. IsDone c m' old.words new.words place)
     good (Ok x) h =
         (h.value, h.value, subst (λ y. Reads (form_of c.canonicalize) (root_of c.source) y m' h.value) is_m (subst (λ y. Reads (form_of c.canonicalize) y m m' h.value) is_r h.is_read), ap (λ w. as_wanted w h.value) is, h.put)
     good (Err k) h = tt
 
-    copies : OfWanted c.wanted (root_of c.source) (change (form_of c.canonicalize) place.segment place.word old new (once_at_root c.source) m') (Says (refusal_of result))
+    copies : OfWanted c.wanted (root_of c.source) (change (form_of c.canonicalize) (call_at place.segment place.word old new) (once_at_root c.source) m') (Says (refusal_of result))
     copies =
-        let ch : Meter → Change = λ y. change (form_of c.canonicalize) place.segment place.word old new y m' in
+        let ch : Meter → Change = λ y. change (form_of c.canonicalize) (call_at place.segment place.word old new) y m' in
         subst (λ w. OfWanted w (root_of c.source) (ch (once_at_root c.source)) (Says (refusal_of result))) (sym is)
         (subst (λ y. Says (refusal_of result) (value_original (root_of c.source)) (ch y)) is_m (subst (λ y. Says (refusal_of result) (value_original y) (ch m)) is_r (says result (value_original r) (ch m) done taken refused)))
 
 -- of the struct that it leads to
 struct_tried : {A : Type 0} (result : Result A ErrorKind) (c : Copying) (s : Sections) (m' : Meter) (old new : View) (place : PointerPlace) → c.wanted ≡ AStruct → HasRoot c.source → LeadsToStruct (root_of c.source) (once_at_root c.source) s →
-    IfOk result (λ x. PutsCopy (sections_original s.words s.first s.pointers) (change (form_of c.canonicalize) place.segment place.word old new s.limiter m')) →
-    IfErr result (LeavesCleared (sections_original s.words s.first s.pointers) (change (form_of c.canonicalize) place.segment place.word old new s.limiter m')) →
-    TakesAtMost result (sections_original s.words s.first s.pointers) (change (form_of c.canonicalize) place.segment place.word old new s.limiter m') → Tried result c old new place
+    IfOk result (λ x. PutsCopy (sections_original s.words s.first s.pointers) (change (form_of c.canonicalize) (call_at place.segment place.word old new) s.limiter m')) →
+    IfErr result (LeavesCleared (sections_original s.words s.first s.pointers) (change (form_of c.canonicalize) (call_at place.segment place.word old new) s.limiter m')) →
+    TakesAtMost result (sections_original s.words s.first s.pointers) (change (form_of c.canonicalize) (call_at place.segment place.word old new) s.limiter m') → Tried result c old new place
 struct_tried result c s m' old new place is has leads done refused taken = record { root = has; after = m'; done = good result done; copies = copies }
   where
-    good : {A : Type 0} (q : Result A ErrorKind) → IfOk q (λ x. PutsCopy (sections_original s.words s.first s.pointers) (change (form_of c.canonicalize) place.segment place.word old new s.limiter m')) → IfOk q (λ x. IsDone c m' old.words new.words place)
+    good : {A : Type 0} (q : Result A ErrorKind) → IfOk q (λ x. PutsCopy (sections_original s.words s.first s.pointers) (change (form_of c.canonicalize) (call_at place.segment place.word old new) s.limiter m')) → IfOk q (λ x. IsDone c m' old.words new.words place)
     good (Ok x) h =
         let (ts, same, counts, all) = h.is_read in
         let (t, reads, wanted) = struct_reads (form_of c.canonicalize) (root_of c.source) (once_at_root c.source) m' s ts leads counts all in
         (t, h.value, reads, ap (λ w. as_wanted w t) is ∙ wanted ∙ ap Some (sym same), h.put)
     good (Err k) h = tt
 
-    copies : OfWanted c.wanted (root_of c.source) (change (form_of c.canonicalize) place.segment place.word old new (once_at_root c.source) m') (Says (refusal_of result))
-    copies = subst (λ w. OfWanted w (root_of c.source) (change (form_of c.canonicalize) place.segment place.word old new (once_at_root c.source) m') (Says (refusal_of result))) (sym is) (s, leads, says result (sections_original s.words s.first s.pointers) (change (form_of c.canonicalize) place.segment place.word old new s.limiter m') done taken refused)
+    copies : OfWanted c.wanted (root_of c.source) (change (form_of c.canonicalize) (call_at place.segment place.word old new) (once_at_root c.source) m') (Says (refusal_of result))
+    copies = subst (λ w. OfWanted w (root_of c.source) (change (form_of c.canonicalize) (call_at place.segment place.word old new) (once_at_root c.source) m') (Says (refusal_of result))) (sym is) (s, leads, says result (sections_original s.words s.first s.pointers) (change (form_of c.canonicalize) (call_at place.segment place.word old new) s.limiter m') done taken refused)
 
 -- of the list
 list_tried : {A : Type 0} (result : Result A ErrorKind) (c : Copying) (l : ListElements) (m m' : Meter) (old new : View) (place : PointerPlace) → c.wanted ≡ AList → HasRoot c.source →
-    LeadsToList (root_of c.source) (once_at_root c.source) m l → IfOk result (λ x. PutsCopy (list_original l.size l.sections l.count l.first) (change (form_of c.canonicalize) place.segment place.word old new m m')) →
-    IfErr result (LeavesCleared (list_original l.size l.sections l.count l.first) (change (form_of c.canonicalize) place.segment place.word old new m m')) → TakesAtMost result (list_original l.size l.sections l.count l.first) (change (form_of c.canonicalize) place.segment place.word old new m m') → Tried result c old new place
+    LeadsToList (root_of c.source) (once_at_root c.source) m l → IfOk result (λ x. PutsCopy (list_original l.size l.sections l.count l.first) (change (form_of c.canonicalize) (call_at place.segment place.word old new) m m')) →
+    IfErr result (LeavesCleared (list_original l.size l.sections l.count l.first) (change (form_of c.canonicalize) (call_at place.segment place.word old new) m m')) → TakesAtMost result (list_original l.size l.sections l.count l.first) (change (form_of c.canonicalize) (call_at place.segment place.word old new) m m') → Tried result c old new place
 list_tried result c l m m' old new place is has leads done refused taken = record { root = has; after = m'; done = good result done; copies = copies }
   where
-    good : {A : Type 0} (q : Result A ErrorKind) → IfOk q (λ x. PutsCopy (list_original l.size l.sections l.count l.first) (change (form_of c.canonicalize) place.segment place.word old new m m')) → IfOk q (λ x. IsDone c m' old.words new.words place)
+    good : {A : Type 0} (q : Result A ErrorKind) → IfOk q (λ x. PutsCopy (list_original l.size l.sections l.count l.first) (change (form_of c.canonicalize) (call_at place.segment place.word old new) m m')) → IfOk q (λ x. IsDone c m' old.words new.words place)
     good (Ok x) h =
         let all = list_read_as (form_of c.canonicalize) l l.size m m' h.value refl h.is_read in
         let (u, reads, wanted) = list_reads (form_of c.canonicalize) (root_of c.source) (once_at_root c.source) m m' l h.value leads all in
         (u, h.value, reads, ap (λ w. as_wanted w u) is ∙ wanted, h.put)
     good (Err k) h = tt
 
-    copies : OfWanted c.wanted (root_of c.source) (change (form_of c.canonicalize) place.segment place.word old new (once_at_root c.source) m') (Says (refusal_of result))
-    copies = subst (λ w. OfWanted w (root_of c.source) (change (form_of c.canonicalize) place.segment place.word old new (once_at_root c.source) m') (Says (refusal_of result))) (sym is) (l, m, leads, says result (list_original l.size l.sections l.count l.first) (change (form_of c.canonicalize) place.segment place.word old new m m') done taken refused)
+    copies : OfWanted c.wanted (root_of c.source) (change (form_of c.canonicalize) (call_at place.segment place.word old new) (once_at_root c.source) m') (Says (refusal_of result))
+    copies = subst (λ w. OfWanted w (root_of c.source) (change (form_of c.canonicalize) (call_at place.segment place.word old new) (once_at_root c.source) m') (Says (refusal_of result))) (sym is) (l, m, leads, says result (list_original l.size l.sections l.count l.first) (change (form_of c.canonicalize) (call_at place.segment place.word old new) m m') done taken refused)
 
 -- A call without a default reads the pointer itself.
 own_pointer : {A : Type 0} (g : Ghosts A) (expected : Expectation) (from p : PointerReader A g) → IsRead g (record { from = from; expected = expected; default = None }) (Ok p) → p ≡ from
@@ -242,36 +242,36 @@ never_unread g expected from k (of_null_default null has whole none named e) = a
 pub where_read : {A : Type 0} (g : Ghosts A) (expected : Expectation) (from : PointerReader A g) (P : PointerReader A g → Type 0) → WhereRead g (record { from = from; expected = expected; default = None }) P → P from
 where_read g expected from P (p, is, h) = subst P (own_pointer g expected from p is) h
 
-answered : {A : Type 0} (g : Ghosts A) (expected : Expectation) (from : PointerReader A g) (m : Meter) → CanBeGiven expected (reading g from) m →
-    WhereRead g (record { from = from; expected = expected; default = None }) (λ p. CanBeGiven expected (reading g p) m)
+answered : {A : Type 0} (g : Ghosts A) (expected : Expectation) (from : PointerReader A g) (m : Meter) → CanBeGiven expected (read_by g from) m →
+    WhereRead g (record { from = from; expected = expected; default = None }) (λ p. CanBeGiven expected (read_by g p) m)
 answered g expected from m given = (from, of_pointer (inl refl) refl, given)
 
-withheld_at : {A : Type 0} (g : Ghosts A) (expected : Expectation) (from : PointerReader A g) (m m' : Meter) (k : ErrorKind) → IsRefused g (record { from = from; expected = expected; default = None }) m m' k → Withheld expected (reading g from) m m' k
+withheld_at : {A : Type 0} (g : Ghosts A) (expected : Expectation) (from : PointerReader A g) (m m' : Meter) (k : ErrorKind) → IsRefused g (record { from = from; expected = expected; default = None }) m m' k → Withheld expected (read_by g from) m m' k
 withheld_at g expected from m m' k (inl (unread, same)) = absurd (never_unread g expected from k unread)
-withheld_at g expected from m m' k (inr h) = where_read g expected from (λ p. Withheld expected (reading g p) m m' k) h
+withheld_at g expected from m m' k (inr h) = where_read g expected from (λ p. Withheld expected (read_by g p) m m' k) h
 
 -- The calls on a root's reader.
 pub struct_copied : {A B : Type 0} (result : Result B ErrorKind) (c : Copying) (g : Ghosts A) (from : PointerReader A g) (v : StructReader A g) (m n m' : Meter) (old new : View) (place : PointerPlace) → c.wanted ≡ AStruct → IsRootReader g c.source from m →
-    length v.content.now ≡ bytes_for v.bits → WhereRead g (record { from = from; expected = struct_expected; default = None }) (λ p. IsStructRead g p m n v) → IfOk result (λ x. PutsCopy (struct_read g v) (change (form_of c.canonicalize) place.segment place.word old new n m')) →
-    IfErr result (LeavesCleared (struct_read g v) (change (form_of c.canonicalize) place.segment place.word old new n m')) → TakesAtMost result (struct_read g v) (change (form_of c.canonicalize) place.segment place.word old new n m') → Tried result c old new place
+    length v.content.now ≡ bytes_for v.bits → WhereRead g (record { from = from; expected = struct_expected; default = None }) (λ p. IsStructRead g p m n v) → IfOk result (λ x. PutsCopy (struct_read g v) (change (form_of c.canonicalize) (call_at place.segment place.word old new) n m')) →
+    IfErr result (LeavesCleared (struct_read g v) (change (form_of c.canonicalize) (call_at place.segment place.word old new) n m')) → TakesAtMost result (struct_read g v) (change (form_of c.canonicalize) (call_at place.segment place.word old new) n m') → Tried result c old new place
 struct_copied result c g from v m n m' old new place is here long read done refused taken =
     let s : Sections = record { words = data_of g v; first = pointers_read g v; pointers = v.pointer_count; limiter = n } in
     let there : IsStructRead g from m n v = where_read g struct_expected from (λ p. IsStructRead g p m n v) read in
-    let leads : LeadsToStruct (reading g from) m s = struct_at g from m n v long there in
+    let leads : LeadsToStruct (read_by g from) m s = struct_at g from m n v long there in
     struct_tried result c s m' old new place is here.0 (subst (λ y. LeadsToStruct (root_of c.source) y s) here.2 (subst (λ r. LeadsToStruct r m s) here.1 leads)) done refused taken
 
 pub list_copied : {A B : Type 0} (result : Result B ErrorKind) (c : Copying) (g : Ghosts A) (from : PointerReader A g) (v : ListReader A g) (m n m' : Meter) (old new : View) (place : PointerPlace) → c.wanted ≡ AList → IsRootReader g c.source from m →
-    WhereRead g (record { from = from; expected = list_expected Void; default = None }) (λ p. IsListRead g Void p m n v) → IfOk result (λ x. PutsCopy (list_read g v) (change (form_of c.canonicalize) place.segment place.word old new n m')) →
-    IfErr result (LeavesCleared (list_read g v) (change (form_of c.canonicalize) place.segment place.word old new n m')) → TakesAtMost result (list_read g v) (change (form_of c.canonicalize) place.segment place.word old new n m') → Tried result c old new place
+    WhereRead g (record { from = from; expected = list_expected Void; default = None }) (λ p. IsListRead g Void p m n v) → IfOk result (λ x. PutsCopy (list_read g v) (change (form_of c.canonicalize) (call_at place.segment place.word old new) n m')) →
+    IfErr result (LeavesCleared (list_read g v) (change (form_of c.canonicalize) (call_at place.segment place.word old new) n m')) → TakesAtMost result (list_read g v) (change (form_of c.canonicalize) (call_at place.segment place.word old new) n m') → Tried result c old new place
 list_copied result c g from v m n m' old new place is here read done refused taken =
     let l : ListElements = elements_read g v in
-    let leads : LeadsToList (reading g from) m n l = list_at g from m n v (where_read g (list_expected Void) from (λ p. IsListRead g Void p m n v) read) in
+    let leads : LeadsToList (read_by g from) m n l = list_at g from m n v (where_read g (list_expected Void) from (λ p. IsListRead g Void p m n v) read) in
     list_tried result c l n m' old new place is here.0 (subst (λ y. LeadsToList (root_of c.source) y n l) here.2 (subst (λ r. LeadsToList r m n l) here.1 leads)) done refused taken
 
 unread_as : {A : Type 0} (g : Ghosts A) (c : Copying) (expected : Expectation) (from : PointerReader A g) (m m' : Meter) (k : ErrorKind) → ((r : Reading) (i j : Meter) → Withheld expected r i j k → IsWithheld c.wanted r i j k) → IsRootReader g c.source from m →
     IsRefused g (record { from = from; expected = expected; default = None }) m m' k → HasNothingToCopy c.source c.wanted k
 unread_as g c expected from m m' k wanted here refused =
-    let h = wanted (reading g from) m m' (withheld_at g expected from m m' k refused) in
+    let h = wanted (read_by g from) m m' (withheld_at g expected from m m' k refused) in
     inr (here.0, (m', subst (λ y. IsWithheld c.wanted (root_of c.source) y m' k) here.2 (subst (λ r. IsWithheld c.wanted r m m' k) here.1 h)))
 
 pub struct_unread : {A : Type 0} (g : Ghosts A) (c : Copying) (from : PointerReader A g) (m m' : Meter) (k : ErrorKind) → c.wanted ≡ AStruct → IsRootReader g c.source from m → IsRefused g (record { from = from; expected = struct_expected; default = None }) m m' k → HasNothingToCopy c.source c.wanted k
@@ -280,15 +280,15 @@ struct_unread g c from m m' k is here refused = unread_as g c struct_expected fr
 pub list_unread : {A : Type 0} (g : Ghosts A) (c : Copying) (from : PointerReader A g) (m m' : Meter) (k : ErrorKind) → c.wanted ≡ AList → IsRootReader g c.source from m → IsRefused g (record { from = from; expected = list_expected Void; default = None }) m m' k → HasNothingToCopy c.source c.wanted k
 list_unread g c from m m' k is here refused = unread_as g c (list_expected Void) from m m' k (λ r i j h. subst (λ w. IsWithheld w r i j k) (sym is) h) here refused
 
-pub struct_found : {A : Type 0} (g : Ghosts A) (c : Copying) (from : PointerReader A g) (m : Meter) (v : View) (id : ℕ) → c.wanted ≡ AStruct → IsRootReader g c.source from m → FitsBehind v id c → WhereRead g (record { from = from; expected = struct_expected; default = None }) (λ p. CanBeGiven struct_expected (reading g p) m)
+pub struct_found : {A : Type 0} (g : Ghosts A) (c : Copying) (from : PointerReader A g) (m : Meter) (v : View) (id : ℕ) → c.wanted ≡ AStruct → IsRootReader g c.source from m → FitsBehind v id c → WhereRead g (record { from = from; expected = struct_expected; default = None }) (λ p. CanBeGiven struct_expected (read_by g p) m)
 struct_found g c from m v id is here fits =
     let given = struct_given c (root_of c.source) (once_at_root c.source) (length (segment v.words id)) (v.room id) is (can_be_copied v id c fits) in
-    answered g struct_expected from m (subst (λ y. CanBeGiven struct_expected (reading g from) y) (sym here.2) (subst (λ r. CanBeGiven struct_expected r (once_at_root c.source)) (sym here.1) given))
+    answered g struct_expected from m (subst (λ y. CanBeGiven struct_expected (read_by g from) y) (sym here.2) (subst (λ r. CanBeGiven struct_expected r (once_at_root c.source)) (sym here.1) given))
 
-pub list_found : {A : Type 0} (g : Ghosts A) (c : Copying) (from : PointerReader A g) (m : Meter) (v : View) (id : ℕ) → c.wanted ≡ AList → IsRootReader g c.source from m → FitsBehind v id c → WhereRead g (record { from = from; expected = list_expected Void; default = None }) (λ p. CanBeGiven (list_expected Void) (reading g p) m)
+pub list_found : {A : Type 0} (g : Ghosts A) (c : Copying) (from : PointerReader A g) (m : Meter) (v : View) (id : ℕ) → c.wanted ≡ AList → IsRootReader g c.source from m → FitsBehind v id c → WhereRead g (record { from = from; expected = list_expected Void; default = None }) (λ p. CanBeGiven (list_expected Void) (read_by g p) m)
 list_found g c from m v id is here fits =
     let given = list_given c (root_of c.source) (once_at_root c.source) (length (segment v.words id)) (v.room id) is (can_be_copied v id c fits) in
-    answered g (list_expected Void) from m (subst (λ y. CanBeGiven (list_expected Void) (reading g from) y) (sym here.2) (subst (λ r. CanBeGiven (list_expected Void) r (once_at_root c.source)) (sym here.1) given))
+    answered g (list_expected Void) from m (subst (λ y. CanBeGiven (list_expected Void) (read_by g from) y) (sym here.2) (subst (λ r. CanBeGiven (list_expected Void) r (once_at_root c.source)) (sym here.1) given))
 
 -- The names by which a source isn't read: none of them is a call's own.
 abbrev is_of_call : ErrorKind → Bool

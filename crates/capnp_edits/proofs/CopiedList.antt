@@ -34,7 +34,8 @@ use Rattle.capnp_objects.proofs.Objects.{read_null, read_flat, read_pointers, re
 use Rattle.capnp_objects.proofs.Parts.{claim_list, claim_flat}
 use Rattle.capnp_objects.proofs.Refusals.{stops_pointers, stops_structs, unreadable, affords_less}
 use Rattle.capnp_readers.specs.Calls.{IsListRead}
-use Rattle.capnp_readers.specs.Readers.{reading, IsTargetList, ShowsList}
+use Rattle.capnp_pointers.specs.Rows.{rows_sized}
+use Rattle.capnp_readers.specs.Readers.{read_by, IsTargetList, ShowsList}
 use Rattle.capnp_readers.specs.declared.readers.PointerReader.{PointerReader}
 use Rattle.capnp_readers.specs.declared.readers.list_reader.ListReader.{ListReader}
 use Rattle.capnp_copies.specs.Changes.{RefusesToCopy, change}
@@ -52,24 +53,25 @@ use Rattle.capnp_edits.proofs.ListReads.{ReadsList, RefusedList, as_list_read, l
 use Rattle.capnp_edits.proofs.Steps.{same_some}
 use Rattle.capnp_objects.proofs.Followed.{leads_to, entered_leads}
 use Rattle.capnp_objects.proofs.Shorthands.{RefusedAll, RefusedElements}
+use Rattle.capnp_making.specs.Makes.{call_at}
 
 -- the elements of a list that is read
 abbrev pub elements_read : {A : Type 0} (g : Ghosts A) → ListReader A g → ListElements
 elements_read g v = record { size = v.element_size; sections = v.struct_size; count = v.count; first = first_read g v }
 
 -- what a list reader shows is the list that the place leads to
-plain_there : {A : Type 0} (g : Ghosts A) (p : PointerReader A g) (m m' : Meter) (v : ListReader A g) (a : Target) → Entered Value (reading g p) m m' a → kind a.word ≡ 1 → v.source ≡ p.source →
+plain_there : {A : Type 0} (g : Ghosts A) (p : PointerReader A g) (m m' : Meter) (v : ListReader A g) (a : Target) → Entered Value (read_by g p) m m' a → kind a.word ≡ 1 → v.source ≡ p.source →
     v.nesting_limit ≡ (p.nesting_limit -ℤ pos 1) →
     (size : ElementSize) → v.element_size ≡ size → size_number size ≤ 6 → nat_eq (size_number size) 1 ≡ false →
-    (element_size a.word ≡ size_number size) × ShowsList g (reading g p).segments v a.segment a.start (list_count a.word) 0 0 → LeadsToList (reading g p) m m' (elements_read g v)
+    (element_size a.word ≡ size_number size) × ShowsList g (read_by g p).segments v a.segment a.start (rows_sized (sized 0 0) (list_count a.word)) → LeadsToList (read_by g p) m m' (elements_read g v)
 plain_there g p m m' v a o z source nesting size e small no_bits (is, shows) =
     let level : levels v.nesting_limit ≡ pred (levels p.nesting_limit) = ap levels nesting ∙ level_less p.nesting_limit o.meets.levels in
     let number : size_number size ≡ size_number v.element_size = ap size_number (sym e) in
     a_plain_list a o z (is ∙ number) (subst (λ i. i ≤ 6) number small) (subst (λ i. nat_eq i 1 ≡ false) number no_bits) (rw (source, shows.segment_is, shows.elements_start, level) refl) shows.counts
 
-list_there : {A : Type 0} (g : Ghosts A) (p : PointerReader A g) (m m' : Meter) (v : ListReader A g) (a : Target) → Entered Value (reading g p) m m' a → kind a.word ≡ 1 → v.source ≡ p.source →
+list_there : {A : Type 0} (g : Ghosts A) (p : PointerReader A g) (m m' : Meter) (v : ListReader A g) (a : Target) → Entered Value (read_by g p) m m' a → kind a.word ≡ 1 → v.source ≡ p.source →
     v.nesting_limit ≡ (p.nesting_limit -ℤ pos 1) →
-    (size : ElementSize) → v.element_size ≡ size → (size_number size ≡ 1 → ⊥) → IsTargetList g size (reading g p).segments v a → LeadsToList (reading g p) m m' (elements_read g v)
+    (size : ElementSize) → v.element_size ≡ size → (size_number size ≡ 1 → ⊥) → IsTargetList g size (read_by g p).segments v a → LeadsToList (read_by g p) m m' (elements_read g v)
 list_there g p m m' v a o z source nesting InlineComposite e no_bits (seven, shows) =
     let level : levels v.nesting_limit ≡ pred (levels p.nesting_limit) = ap levels nesting ∙ level_less p.nesting_limit o.meets.levels in
     a_struct_list a o (z, seven) e (ap₂ sized shows.data_of shows.pointers_of) (rw (source, shows.segment_is, shows.elements_start, level) refl) shows.counts
@@ -81,7 +83,7 @@ list_there g p m m' v a o z source nesting FourBytes e no_bits h = plain_there g
 list_there g p m m' v a o z source nesting EightBytes e no_bits h = plain_there g p m m' v a o z source nesting EightBytes e (omega arith) refl h
 list_there g p m m' v a o z source nesting Pointer e no_bits h = plain_there g p m m' v a o z source nesting Pointer e (omega arith) refl h
 
-pub list_at : {A : Type 0} (g : Ghosts A) (p : PointerReader A g) (m m' : Meter) (v : ListReader A g) → IsListRead g Void p m m' v → LeadsToList (reading g p) m m' (elements_read g v)
+pub list_at : {A : Type 0} (g : Ghosts A) (p : PointerReader A g) (m m' : Meter) (v : ListReader A g) → IsListRead g Void p m m' v → LeadsToList (read_by g p) m m' (elements_read g v)
 list_at g p m m' v (inl (null, same, nothing, void, none, nesting)) = no_list null void none same
 list_at g p m m' v (inr ((a, o, z, is, source, nesting), wide)) = list_there g p m m' v a o z source nesting v.element_size refl (λ bits. absurd (omega (arith, wide.2 bits))) is
 
@@ -142,9 +144,9 @@ list_stops form r m n m' l k (a_struct_list a o z s sections first counts) (inr 
 
 -- or there is no room
 pub list_refused : (b : Bool) (id at : ℕ) (old new : View) (r : Reading) (m n m' : Meter) (l : ListElements) (k : ErrorKind) → LeadsToList r m n l →
-    RefusesToCopy (list_original l.size l.sections l.count l.first) (change (form_of b) id at old new n m') k → (is_allocation_name k ≡ true) ⊎ Refused (form_of b) r m m' k
+    RefusesToCopy (list_original l.size l.sections l.count l.first) (change (form_of b) (call_at id at old new) n m') k → (is_allocation_name k ≡ true) ⊎ Refused (form_of b) r m m' k
 list_refused b id at old new r m n m' l k leads (inl (lacks, exceeds)) =
-    let x = refused_words (list_original l.size l.sections l.count l.first) (change (form_of b) id at old new n m') k lacks in
+    let x = refused_words (list_original l.size l.sections l.count l.first) (change (form_of b) (call_at id at old new) n m') k lacks in
     inl (of_allocation old new (length new.words) (x.0 + 1) k x.1.0)
 list_refused b id at old new r m n m' l k leads (inr (inl refused)) = inr (list_stops (form_of b) r m n m' l k leads (list_refused_as (form_of b) l l.size n m' k refl refused))
 list_refused b id at old new r m n m' l k leads (inr (inr large)) = inl (ap is_allocation_name (exceeding l.size l.sections l.count l.first (form_of b) k large).1)
@@ -379,7 +381,7 @@ list_small r m n l words (a_struct_list a o z s sections first counts) =
 -- so it isn't refused
 pub list_fits : (c : Copying) (r : Reading) (m n m' : Meter) (l : ListElements) (id at : ℕ) (old new : View) (k : ErrorKind) → c.wanted ≡ AList → LeadsToList r m n l →
     FitsListPointer l.size l.count (l.sections.data_words + l.sections.pointers) → CanBeCopiedAs c r m (length (segment old.words id)) (old.room id) →
-    RefusesToCopy (list_original l.size l.sections l.count l.first) (change (form_of c.canonicalize) id at old new n m') k → ⊥
+    RefusesToCopy (list_original l.size l.sections l.count l.first) (change (form_of c.canonicalize) (call_at id at old new) n m') k → ⊥
 list_fits c r m n m' l id at old new k is leads small can refuses =
     let x = list_matches (form_of c.canonicalize) r m n l can.value can.cost can.copied leads can.means can.takes can.covers (subst (λ w. as_wanted w can.value ≡ Some can.copied) is can.is_wanted) in
     elim refuses [

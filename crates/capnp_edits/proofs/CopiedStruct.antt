@@ -29,7 +29,7 @@ use Rattle.capnp_objects.proofs.Objects.{read_null, read_struct, own_struct}
 use Rattle.capnp_objects.proofs.Parts.{claim_struct}
 use Rattle.capnp_objects.proofs.Refusals.{stops_struct, unreadable, affords_less}
 use Rattle.capnp_readers.specs.Calls.{IsStructRead}
-use Rattle.capnp_readers.specs.Readers.{reading}
+use Rattle.capnp_readers.specs.Readers.{read_by}
 use Rattle.capnp_readers.specs.Sections.{bytes_for}
 use Rattle.capnp_readers.specs.Sizes.{pointers_read}
 use Rattle.capnp_readers.specs.declared.readers.PointerReader.{PointerReader}
@@ -37,12 +37,13 @@ use Rattle.capnp_readers.specs.declared.readers.struct_reader.StructReader.{Stru
 use Rattle.capnp_copies.specs.Forms.{form_of, kept}
 use Rattle.capnp_copies.specs.Changes.{RefusesToCopy, change}
 use Rattle.capnp_copies.specs.Originals.{sections_original}
-use Rattle.capnp_copies.specs.StructValues.{section_words, data_of}
+use Rattle.capnp_value_copies.specs.StructValues.{section_words, data_of}
 use Rattle.capnp_format.specs.Bytes.{words_of}
 use Rattle.capnp_objects.specs.declared.object.Purpose.TheVariants.{Value}
 use Rattle.capnp_format.proofs.WordsOf.{words}
 use Rattle.capnp_copies.proofs.Originals.{refused_words}
-use Rattle.capnp_copies.proofs.DataSections.{whole_section, kept_count-le}
+use Rattle.capnp_value_copies.proofs.DataSections.{whole_section}
+use Rattle.capnp_copies.proofs.KeptForms.{kept_count-le}
 use Rattle.capnp_edits.specs.declared.edit.copying.Copying.{Copying}
 use Rattle.capnp_edits.specs.declared.edit.copying.Wanted.TheVariants.{Struct as AStruct}
 use Rattle.capnp_widening.specs.Rooms.{is_allocation_name}
@@ -51,6 +52,7 @@ use Rattle.capnp_edits.proofs.Applied.{of_allocation}
 use Rattle.capnp_edits.proofs.Steps.{same_some}
 use Rattle.capnp_objects.proofs.Followed.{leads_to, entered_leads}
 use Rattle.capnp_objects.proofs.Shorthands.{RefusedAll}
+use Rattle.capnp_making.specs.Makes.{call_at}
 
 -- A place means a value that is as wanted, in canonical form one without capabilities, at a cost that the limiter covers, and the words to be kept of it fit behind so many words of a segment with this room.
 pub record CanBeCopiedAs (c : Copying) (r : Reading) (m : Meter) (used room : ℕ) : Type 0 where
@@ -71,7 +73,7 @@ level_less (negsuc n) some = absurd (omega arith)
 
 -- what a struct reader shows is the struct that the place leads to
 pub struct_at : {A : Type 0} (g : Ghosts A) (p : PointerReader A g) (m m' : Meter) (v : StructReader A g) → length v.content.now ≡ bytes_for v.bits → IsStructRead g p m m' v →
-    LeadsToStruct (reading g p) m (record { words = data_of g v; first = pointers_read g v; pointers = v.pointer_count; limiter = m' })
+    LeadsToStruct (read_by g p) m (record { words = data_of g v; first = pointers_read g v; pointers = v.pointer_count; limiter = m' })
 struct_at g p m m' v long (inl (null, same, nothing, no_bits, none, nesting)) = no_struct null (rw no_bits refl) none same
 struct_at g p m m' v long (inr (a, o, z, shows, source, nesting)) =
     let bits = shows.bits_are in
@@ -117,10 +119,10 @@ struct_stops form r m m' s k (a_struct a o z ws first q) refused =
     stops_struct o z (subst (λ i. RefusedAll form (child_at r a (pred r.levels) (a.start + data_words a.word)) i s.limiter m' k) q (subst (λ x. RefusedAll form x s.pointers s.limiter m' k) first refused))
 
 -- or there is no room
-pub struct_refused : (b : Bool) (id at : ℕ) (old new : View) (r : Reading) (m m' : Meter) (s : Sections) (k : ErrorKind) → LeadsToStruct r m s → RefusesToCopy (sections_original s.words s.first s.pointers) (change (form_of b) id at old new s.limiter m') k →
+pub struct_refused : (b : Bool) (id at : ℕ) (old new : View) (r : Reading) (m m' : Meter) (s : Sections) (k : ErrorKind) → LeadsToStruct r m s → RefusesToCopy (sections_original s.words s.first s.pointers) (change (form_of b) (call_at id at old new) s.limiter m') k →
     (is_allocation_name k ≡ true) ⊎ Refused (form_of b) r m m' k
 struct_refused b id at old new r m m' s k leads (inl (lacks, exceeds)) =
-    let x = refused_words (sections_original s.words s.first s.pointers) (change (form_of b) id at old new s.limiter m') k lacks in
+    let x = refused_words (sections_original s.words s.first s.pointers) (change (form_of b) (call_at id at old new) s.limiter m') k lacks in
     inl (of_allocation old new (length new.words) (x.0 + 1) k x.1.0)
 struct_refused b id at old new r m m' s k leads (inr (inl refused)) = inr (struct_stops (form_of b) r m m' s k leads refused)
 struct_refused b id at old new r m m' s k leads (inr (inr (wide, named))) = inl (ap is_allocation_name named)
@@ -201,7 +203,7 @@ struct_matches form r m s (Structs d q es) c copied leads means takes covers e =
 
 -- so it isn't refused
 pub struct_fits : (c : Copying) (r : Reading) (m m' : Meter) (s : Sections) (id at : ℕ) (old new : View) (k : ErrorKind) → c.wanted ≡ AStruct → LeadsToStruct r m s → CanBeCopiedAs c r m (length (segment old.words id)) (old.room id) →
-    RefusesToCopy (sections_original s.words s.first s.pointers) (change (form_of c.canonicalize) id at old new s.limiter m') k → ⊥
+    RefusesToCopy (sections_original s.words s.first s.pointers) (change (form_of c.canonicalize) (call_at id at old new) s.limiter m') k → ⊥
 struct_fits c r m m' s id at old new k is leads can refuses =
     let x = struct_matches (form_of c.canonicalize) r m s can.value can.cost can.copied leads can.means can.takes can.covers (subst (λ w. as_wanted w can.value ≡ Some can.copied) is can.is_wanted) in
     elim refuses [

@@ -32,16 +32,16 @@ use Rattle.capnp_objects.proofs.Expecting.{not_withheld}
 use Rattle.capnp_objects.proofs.Faultless.{same_target}
 use Rattle.capnp_objects.proofs.Refusals.{unreadable}
 use Rattle.capnp_readers.specs.Calls.{WhereRead, IsStructRead}
-use Rattle.capnp_readers.specs.Readers.{reading}
+use Rattle.capnp_readers.specs.Readers.{read_by}
 use Rattle.capnp_readers.specs.Sections.{bytes_for}
 use Rattle.capnp_readers.specs.Sizes.{pointers_read}
-use Rattle.capnp_readers.specs.declared.readers.PointerPlace.{PointerPlace}
+use Rattle.capnp_pointers.specs.declared.pointers.PointerPlace.{PointerPlace}
 use Rattle.capnp_readers.specs.declared.readers.PointerReader.{PointerReader}
 use Rattle.capnp_readers.specs.declared.readers.struct_reader.StructPlace.{StructPlace}
 use Rattle.capnp_readers.specs.declared.readers.struct_reader.StructReader.{StructReader}
 use Rattle.capnp_copies.specs.Growth.{TakesAtMost}
 use Rattle.capnp_copies.specs.Originals.{children_original}
-use Rattle.capnp_copies.specs.StructValues.{data_of}
+use Rattle.capnp_value_copies.specs.StructValues.{data_of}
 use Rattle.capnp_copies.proofs.Growth.{none_taken, all_taken}
 use Rattle.capnp_builders.specs.Content.{TakesContent, StopsAtContent, ContentFits, pointers_copied}
 use Rattle.capnp_builders.specs.Content.{up_to}
@@ -96,9 +96,9 @@ source_struct : {A : Type 0} (g : Ghosts A) (source : Source) (from : PointerRea
 source_struct g source from v m n opened long read =
     let there : IsStructRead g from m n v = where_read g struct_expected from (λ p. IsStructRead g p m n v) read in
     let all = whole_words v.content.now v.bits long (whole_bits g from m n v there) in
-    let leads : LeadsToStruct (reading g from) m (record { words = data_of g v; first = pointers_read g v; pointers = v.pointer_count; limiter = n }) = source_at g from m n v long there in
-    let of_words : LeadsToStruct (reading g from) m (record { words = words_of v.content.now; first = pointers_read g v; pointers = v.pointer_count; limiter = n }) =
-    subst (λ w. LeadsToStruct (reading g from) m (record { words = w; first = pointers_read g v; pointers = v.pointer_count; limiter = n })) all.0 leads in
+    let leads : LeadsToStruct (read_by g from) m (record { words = data_of g v; first = pointers_read g v; pointers = v.pointer_count; limiter = n }) = source_at g from m n v long there in
+    let of_words : LeadsToStruct (read_by g from) m (record { words = words_of v.content.now; first = pointers_read g v; pointers = v.pointer_count; limiter = n }) =
+    subst (λ w. LeadsToStruct (read_by g from) m (record { words = w; first = pointers_read g v; pointers = v.pointer_count; limiter = n })) all.0 leads in
     record {
       leads =
           subst (λ y. LeadsToStruct (root_of source) y (record { words = words_of v.content.now; first = pointers_read g v; pointers = v.pointer_count; limiter = n })) opened.2

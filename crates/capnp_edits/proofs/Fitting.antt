@@ -18,7 +18,7 @@ use Rattle.capnp_making.proofs.Extents.{once_held, times-first}
 use Rattle.capnp_making.proofs.Replaced.{forest_stored, stored_within}
 use Rattle.capnp_widening.specs.Anew.{OnlyWrites}
 use Rattle.capnp_widening.specs.Rooms.{is_allocation_name}
-use Rattle.capnp_readers.specs.declared.readers.PointerPlace.{PointerPlace}
+use Rattle.capnp_pointers.specs.declared.pointers.PointerPlace.{PointerPlace}
 use Rattle.capnp_edits.specs.declared.edit.Edit.{Edit}
 use Rattle.capnp_edits.specs.declared.edit.path.PathEnd.{PathEnd}
 use Rattle.capnp_edits.specs.declared.edit.path.PathEnd.TheVariants.{Pointer as AtPointer, Element as AtElement}
@@ -146,8 +146,8 @@ one_fits old new edit r t forest first asks fits s = by_task s.path_end (task_of
     by_task (Some there) (Some task) found is asks fits =
         let stored = forest_stored old.words t forest in
         let root : 0 < length (segment old.words 0) = omega (arith, stored.inside 0 0 (omega (arith, times-first (word_interval 0 0) (cover old.words 0 0 t) 0 0, once_held 0 0))) in
-        let leads : IsPathFound old.words 0 0 t (map step_of edit.path.now) (Some there) = subst (IsPathFound old.words 0 0 t (map step_of edit.path.now)) found (s.leads t stored) in
-        at_place old new there task r (some_segment old.words root) first (λ place e. place_first place (subst (λ x. IsPathFound old.words 0 0 t (map step_of edit.path.now) (Some x)) e leads)) asks fits (record {
+        let leads : IsPathFound old.words (record { segment = 0; word = 0 }) t (map step_of edit.path.now) (Some there) = subst (IsPathFound old.words (record { segment = 0; word = 0 }) t (map step_of edit.path.now)) found (s.leads t stored) in
+        at_place old new there task r (some_segment old.words root) first (λ place e. place_first place (subst (λ x. IsPathFound old.words (record { segment = 0; word = 0 }) t (map step_of edit.path.now) (Some x)) e leads)) asks fits (record {
           fits = λ room. s.fits (subst (λ x. IfSome x (λ y. IfSome (task_of edit.op) (λ z. FitsAt old z y))) (sym found) (subst (λ x. IfSome x (λ z. FitsAt old z there)) (sym is) room));
           named = λ k e. elim (s.named k e) [
             | inl h ↦ inl h
@@ -160,7 +160,7 @@ one_fits old new edit r t forest first asks fits s = by_task s.path_end (task_of
         some_segment [] h = absurd (omega (arith, h))
         some_segment (x ∷ S) h = omega arith
 
-        place_first : (place : PointerPlace) → IsPathFound old.words 0 0 t (map step_of edit.path.now) (Some (AtPointer place)) → place.segment ≡ 0
+        place_first : (place : PointerPlace) → IsPathFound old.words (record { segment = 0; word = 0 }) t (map step_of edit.path.now) (Some (AtPointer place)) → place.segment ≡ 0
         place_first place f =
             held_first old.words place.segment place.word f.0 first (stored_within old.words 0 0 t (map step_of edit.path.now) place.segment place.word f.0 f.1 (forest_stored old.words t forest))
 

@@ -35,7 +35,7 @@ use Rattle.capnp_objects.proofs.Faultless.{no_fault}
 use Rattle.capnp_copies.specs.Rooms.{CanBeCopied}
 use Rattle.capnp_copies.specs.Originals.{value_original}
 use Rattle.capnp_copies.proofs.Originals.{refused_words}
-use Rattle.capnp_readers.specs.declared.readers.PointerPlace.{PointerPlace}
+use Rattle.capnp_pointers.specs.declared.pointers.PointerPlace.{PointerPlace}
 use Rattle.capnp_readers.specs.declared.readers.list_reader.ListPlace.{ListPlace}
 use Rattle.capnp_readers.specs.declared.readers.struct_reader.StructPlace.{StructPlace}
 use Rattle.capnp_making.specs.Makes.{CallAt, call_at}

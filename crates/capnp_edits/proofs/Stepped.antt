@@ -25,7 +25,7 @@ use Rattle.capnp_edits.proofs.Walks.{found-append}
 
 -- an edit at its place
 pub step_at : (old new : View) (edit : Edit) (there : PathEnd) (task : Task) (r : Option ErrorKind) → task_of edit.op ≡ Some task → 1 ≤ length (segment old.words 0) → IsApplied (Takes edit r) old.words new.words → new.refusals ≡ refusals_after r old.refusals →
-    ((t : Tree) → IsStored old.words 0 0 t → IsPathFound old.words 0 0 t (map step_of edit.path.now) (Some there)) → ((k : ErrorKind) → r ≡ Some k → ((is_of_path k ≡ true) × (new ≡ old)) ⊎ IsRefusedAt old new task k there) →
+    ((t : Tree) → IsStored old.words 0 0 t → IsPathFound old.words (record { segment = 0; word = 0 }) t (map step_of edit.path.now) (Some there)) → ((k : ErrorKind) → r ≡ Some k → ((is_of_path k ≡ true) × (new ≡ old)) ⊎ IsRefusedAt old new task k there) →
     (FitsAt old task there → (k : ErrorKind) → r ≡ Some k → is_of_path k ≡ true) → (r ≡ Some NoSuchPlace → new ≡ old) → ((r ≡ Some NoSuchPlace → ⊥) → TakesAt old new task r there) → DoesThere old.words new.words there task r → IsStep old new edit r
 step_at old new edit there task r is root applied counted leads named fits nowhere taken done = record {
   applied = applied;
@@ -49,7 +49,7 @@ step_at old new edit there task r is root applied counted leads named fits nowhe
 of_missing : (k : ErrorKind) → Some NoSuchPlace ≡ Some k → is_of_path k ≡ true
 of_missing k e = sym (ap is_of_path (same_some NoSuchPlace k e))
 
-pub nothing_done : (v : View) (edit : Edit) (place : Option PathEnd) → IsApplied (Takes edit (Some NoSuchPlace)) v.words v.words → ((t : Tree) → IsStored v.words 0 0 t → IsPathFound v.words 0 0 t (map step_of edit.path.now) place) →
+pub nothing_done : (v : View) (edit : Edit) (place : Option PathEnd) → IsApplied (Takes edit (Some NoSuchPlace)) v.words v.words → ((t : Tree) → IsStored v.words 0 0 t → IsPathFound v.words (record { segment = 0; word = 0 }) t (map step_of edit.path.now) place) →
     IfSome place (λ there. IfSome (task_of edit.op) (λ task. DoesThere v.words v.words there task (Some NoSuchPlace))) → IsStep v v edit (Some NoSuchPlace)
 nothing_done v edit place applied leads done = record {
   applied = applied;
@@ -125,7 +125,7 @@ step_is_there old new edit r t x u q s forest leads = go s.path_end (s.leads t (
     end_value : found t path ≡ Some (PointerTo x)
     end_value = leads_value old.words 0 0 t path u q x leads
 
-    go : (place : Option PathEnd) → IsPathFound old.words 0 0 t path place → place ≡ Some (AtPointer (record { segment = u; word = q }))
+    go : (place : Option PathEnd) → IsPathFound old.words (record { segment = 0; word = 0 }) t path place → place ≡ Some (AtPointer (record { segment = u; word = q }))
     go None none = absurd (no_value x (sym end_value ∙ ap (found t) (sym (append-nil path)) ∙ none []))
     go (Some (AtPointer place)) f =
         let same = same_end old.words 0 0 t path place.segment place.word f.0 u q x f.1 leads in

@@ -44,7 +44,7 @@ same_some x y h = cc
 abbrev pub struct_of : ℕ → ℕ → ℕ → ℕ → ExistingStruct
 struct_of u b d q = record { segment = u; start = b; size = record { data_words = d; pointers = q } }
 
-pub struct_child : (S : Segments) (s p i : ℕ) (t : Tree) (e : ExistingStruct) (r : Option PathEnd) → Some e ≡ struct_in (target S s p) t → IsStored S s p t → (IfSome (child_in e i) (EndLiesIn S) → r ≡ child_in e i) → IsPathFound S s p t (Child i ∷ []) r
+pub struct_child : (S : Segments) (s p i : ℕ) (t : Tree) (e : ExistingStruct) (r : Option PathEnd) → Some e ≡ struct_in (target S s p) t → IsStored S s p t → (IfSome (child_in e i) (EndLiesIn S) → r ≡ child_in e i) → IsPathFound S (record { segment = s; word = p }) t (Child i ∷ []) r
 struct_child S s p i (Struct ws ts) e r is_e stored exactly =
     let a = target S s p in
     let f = struct_of a.segment a.start (length ws) (count ts) in
@@ -55,11 +55,11 @@ struct_child S s p i (Struct ws ts) e r is_e stored exactly =
           let is_there : child_in f i ≡ Some (AtPointer (record { segment = a.segment; word = a.start + length ws + i })) = first i (count ts) _ _ l in
           let leads : PathLeads S s p (Struct ws ts) (Child i ∷ []) a.segment (a.start + length ws + i) (tree_at ts i) = (l, (refl, refl, refl)) in
           let inside = place_inside S s p (Struct ws ts) (Child i ∷ []) a.segment (a.start + length ws + i) (tree_at ts i) leads stored in
-          subst (IsPathFound S s p (Struct ws ts) (Child i ∷ [])) (sym (known (subst (λ (o : Option PathEnd). IfSome o (EndLiesIn S)) (sym is_there) inside) ∙ is_there))
+          subst (IsPathFound S (record { segment = s; word = p }) (Struct ws ts) (Child i ∷ [])) (sym (known (subst (λ (o : Option PathEnd). IfSome o (EndLiesIn S)) (sym is_there) inside) ∙ is_there))
           (tree_at ts i, leads, first i (count ts) _ _ l)
       | inr l ↦
           let none : child_in f i ≡ None = second i (count ts) _ _ l in
-          subst (IsPathFound S s p (Struct ws ts) (Child i ∷ [])) (sym (known (subst (λ (o : Option PathEnd). IfSome o (EndLiesIn S)) (sym none) tt) ∙ none)) (λ more. second i (count ts) _ _ l)
+          subst (IsPathFound S (record { segment = s; word = p }) (Struct ws ts) (Child i ∷ [])) (sym (known (subst (λ (o : Option PathEnd). IfSome o (EndLiesIn S)) (sym none) tt) ∙ none)) (λ more. second i (count ts) _ _ l)
     ]
 struct_child S s p i Null e r is_e stored exactly = absurd (cc)
 struct_child S s p i (Capability j) e r is_e stored exactly = absurd (cc)
@@ -67,7 +67,7 @@ struct_child S s p i (Flat size ns) e r is_e stored exactly = absurd (cc)
 struct_child S s p i (Pointers ts) e r is_e stored exactly = absurd (cc)
 struct_child S s p i (Structs d q es) e r is_e stored exactly = absurd (cc)
 
-pub no_struct : (S : Segments) (s p i : ℕ) (t : Tree) → None ≡ struct_in (target S s p) t → IsPathFound S s p t (Child i ∷ []) None
+pub no_struct : (S : Segments) (s p i : ℕ) (t : Tree) → None ≡ struct_in (target S s p) t → IsPathFound S (record { segment = s; word = p }) t (Child i ∷ []) None
 no_struct S s p i (Struct ws ts) e = absurd (cc)
 no_struct S s p i Null e = λ more. refl
 no_struct S s p i (Capability j) e = λ more. refl
@@ -99,7 +99,7 @@ row_inside d m n i l h = omega (arith, nonlinear i n d l)
     nonlinear (suc i) (suc n) d l = omega (arith, nonlinear i n d (omega arith))
 
 pub list_element : (S : Segments) (s p i : ℕ) (t : Tree) (l : ExistingList) (r : Option PathEnd) → Ok (Some l) ≡ list_in (target S s p) Void t → IsStored S s p t → i < l.count →
-    (IfSome (element_in l i) (EndLiesIn S) → r ≡ element_in l i) → IsPathFound S s p t (Element i ∷ []) r
+    (IfSome (element_in l i) (EndLiesIn S) → r ≡ element_in l i) → IsPathFound S (record { segment = s; word = p }) t (Element i ∷ []) r
 list_element S s p i Null l r is_l stored few exactly = absurd (cc)
 list_element S s p i (Capability j) l r is_l stored few exactly = absurd (cc)
 list_element S s p i (Struct ws ts) l r is_l stored few exactly = absurd (cc)
@@ -109,7 +109,7 @@ list_element S s p i (Flat size ns) l r is_l stored few exactly =
     let (b, some, small, o, claim, given, costs) = m.2 in
     let same = (chosen (plain_misfit Void (size_of size)) (plain_list a (size_of size) (length ns)) l is_l).1 in
     let none : element_in l i ≡ None = ap (λ k. element_in k i) same ∙ flat_element a.segment a.start size (length ns) i small in
-    subst (IsPathFound S s p (Flat size ns) (Element i ∷ [])) (sym (exactly (subst (λ (o : Option PathEnd). IfSome o (EndLiesIn S)) (sym none) tt) ∙ none)) (λ more. refl)
+    subst (IsPathFound S (record { segment = s; word = p }) (Flat size ns) (Element i ∷ [])) (sym (exactly (subst (λ (o : Option PathEnd). IfSome o (EndLiesIn S)) (sym none) tt) ∙ none)) (λ more. refl)
 list_element S s p i (Pointers ts) l r is_l stored few exactly =
     let a = target S s p in
     let same = same_list l (plain_list a Pointer (count ts)) is_l in
@@ -117,7 +117,7 @@ list_element S s p i (Pointers ts) l r is_l stored few exactly =
     let less : i < count ts = subst (λ x. i < x.count) same few in
     let leads : PathLeads S s p (Pointers ts) (Element i ∷ []) a.segment (a.start + i) (tree_at ts i) = (less, (refl, refl, refl)) in
     let inside = place_inside S s p (Pointers ts) (Element i ∷ []) a.segment (a.start + i) (tree_at ts i) leads stored in
-    subst (IsPathFound S s p (Pointers ts) (Element i ∷ [])) (sym (known inside)) (tree_at ts i, leads, first i (count ts) _ _ less)
+    subst (IsPathFound S (record { segment = s; word = p }) (Pointers ts) (Element i ∷ [])) (sym (known inside)) (tree_at ts i, leads, first i (count ts) _ _ less)
 list_element S s p i (Structs d q es) l r is_l stored few exactly =
     let a = target S s p in
     let same = same_list l (struct_list a d q (element_count es)) is_l in
@@ -127,7 +127,7 @@ list_element S s p i (Structs d q es) l r is_l stored few exactly =
     let (b, m, k, some, o, claim, tag, fits, all, costs) = means.2 in
     let is_a : a ≡ b = ap target_in o.leads_to.1 in
     let inside : a.start + 1 + i * (d + q) + d + q ≤ length (segment S a.segment) = rw is_a (omega (arith, claim, row_inside (d + q) m (element_count es) i less fits)) in
-    subst (IsPathFound S s p (Structs d q es) (Element i ∷ [])) (sym (known inside)) (record {
+    subst (IsPathFound S (record { segment = s; word = p }) (Structs d q es) (Element i ∷ [])) (sym (known inside)) (record {
       front = [];
       index = i;
       path_is = refl;
@@ -142,7 +142,7 @@ list_element S s p i (Structs d q es) l r is_l stored few exactly =
     })
 
 -- what isn't a list
-pub null_list : (S : Segments) (s p i : ℕ) (t : Tree) → Ok None ≡ list_in (target S s p) Void t → IsPathFound S s p t (Element i ∷ []) None
+pub null_list : (S : Segments) (s p i : ℕ) (t : Tree) → Ok None ≡ list_in (target S s p) Void t → IsPathFound S (record { segment = s; word = p }) t (Element i ∷ []) None
 null_list S s p i Null e = λ more. refl
 null_list S s p i (Capability j) e = λ more. refl
 null_list S s p i (Struct ws ts) e = λ more. refl
@@ -150,7 +150,7 @@ null_list S s p i (Flat size ns) e = λ more. refl
 null_list S s p i (Pointers ts) e = absurd (cc)
 null_list S s p i (Structs d q es) e = absurd (cc)
 
-pub no_list : (S : Segments) (s p i : ℕ) (t : Tree) (k : ErrorKind) → Err k ≡ list_in (target S s p) Void t → IsPathFound S s p t (Element i ∷ []) None
+pub no_list : (S : Segments) (s p i : ℕ) (t : Tree) (k : ErrorKind) → Err k ≡ list_in (target S s p) Void t → IsPathFound S (record { segment = s; word = p }) t (Element i ∷ []) None
 no_list S s p i Null k e = λ more. refl
 no_list S s p i (Capability j) k e = λ more. refl
 no_list S s p i (Struct ws ts) k e = λ more. refl
@@ -159,8 +159,8 @@ no_list S s p i (Pointers ts) k e = absurd (cc)
 no_list S s p i (Structs d q es) k e = absurd (cc)
 
 -- one step more, from a pointer
-pub pointer_further : (S : Segments) (s p : ℕ) (t : Tree) (path : List Step) (u q : ℕ) (step : Step) (r : Option PathEnd) → IsPathFound S s p t path (Some (AtPointer (record { segment = u; word = q }))) → IsStored S s p t →
-    ((x : Tree) → IsStored S u q x → IsPathFound S u q x (step ∷ []) r) → IsPathFound S s p t (path ++ step ∷ []) r
+pub pointer_further : (S : Segments) (s p : ℕ) (t : Tree) (path : List Step) (u q : ℕ) (step : Step) (r : Option PathEnd) → IsPathFound S (record { segment = s; word = p }) t path (Some (AtPointer (record { segment = u; word = q }))) → IsStored S s p t →
+    ((x : Tree) → IsStored S u q x → IsPathFound S (record { segment = u; word = q }) x (step ∷ []) r) → IsPathFound S (record { segment = s; word = p }) t (path ++ step ∷ []) r
 pointer_further S s p t path u q step (Some (AtPointer place)) f stored then =
     let g = then f.0 (stored_within S s p t path u q f.0 f.1 stored) in
     (g.0, leads_further S s p t path (step ∷ []) u q f.0 place.segment place.word g.0 f.1 g.1, found-append t path (step ∷ []) f.0 f.2 ∙ g.2)
@@ -190,7 +190,7 @@ behind_element d q es i j more l = ap (λ b. cond (b && nat_lt j q) (found (next
 
 -- and from an element
 pub element_child : (S : Segments) (s p : ℕ) (t : Tree) (path : List Step) (e : ExistingStruct) (j : ℕ) (r : Option PathEnd) → IsElementFound S s p t path e → IsStored S s p t →
-    (IfSome (child_in e j) (EndLiesIn S) → r ≡ child_in e j) → IsPathFound S s p t (path ++ Child j ∷ []) r
+    (IfSome (child_in e j) (EndLiesIn S) → r ≡ child_in e j) → IsPathFound S (record { segment = s; word = p }) t (path ++ Child j ∷ []) r
 element_child S s p t path e j r f stored exactly =
     let d = e.size.data_words in
     let q = e.size.pointers in
@@ -208,41 +208,41 @@ element_child S s p t path e j r f stored exactly =
           (f.counts, l, (sym f.segment_is, ap (λ b. b + d + j) (sym f.start_is), refl)) in
           let leads = leads_further S s p t f.front (Element f.index ∷ Child j ∷ []) f.list_segment f.list_at list e.segment (e.start + d + j) child f.leads near in
           let inside = place_inside S s p t (f.front ++ Element f.index ∷ Child j ∷ []) e.segment (e.start + d + j) child leads stored in
-          subst (IsPathFound S s p t (path ++ Child j ∷ [])) (sym (exactly (subst (λ (o : Option PathEnd). IfSome o (EndLiesIn S)) (sym is_there) inside) ∙ is_there))
+          subst (IsPathFound S (record { segment = s; word = p }) t (path ++ Child j ∷ [])) (sym (exactly (subst (λ (o : Option PathEnd). IfSome o (EndLiesIn S)) (sym is_there) inside) ∙ is_there))
           (child, subst (λ x. PathLeads S s p t x e.segment (e.start + d + j) child) (sym (joined [])) leads, all [] ∙ first j q _ _ l)
       | inr l ↦
           let none : child_in e j ≡ None = second j q _ _ l in
-          subst (IsPathFound S s p t (path ++ Child j ∷ [])) (sym (exactly (subst (λ (o : Option PathEnd). IfSome o (EndLiesIn S)) (sym none) tt) ∙ none))
+          subst (IsPathFound S (record { segment = s; word = p }) t (path ++ Child j ∷ [])) (sym (exactly (subst (λ (o : Option PathEnd). IfSome o (EndLiesIn S)) (sym none) tt) ∙ none))
           (λ more. ap (found t) (append_assoc path (Child j ∷ []) more) ∙ all more ∙ second j q _ _ l)
     ]
 
-pub element_element : (S : Segments) (s p : ℕ) (t : Tree) (path : List Step) (e : ExistingStruct) (j : ℕ) → IsElementFound S s p t path e → IsPathFound S s p t (path ++ Element j ∷ []) None
+pub element_element : (S : Segments) (s p : ℕ) (t : Tree) (path : List Step) (e : ExistingStruct) (j : ℕ) → IsElementFound S s p t path e → IsPathFound S (record { segment = s; word = p }) t (path ++ Element j ∷ []) None
 element_element S s p t path e j f more =
     let list = Structs e.size.data_words e.size.pointers f.elements in
     ap (found t) (append_assoc path (Element j ∷ []) more ∙ ap (λ x. x ++ Element j ∷ more) f.path_is ∙ append_assoc f.front (Element f.index ∷ []) (Element j ∷ more))
     ∙ found-append t f.front (Element f.index ∷ Element j ∷ more) list f.end_value
 
 -- whatever the place
-pub step_further : (S : Segments) (s p : ℕ) (t : Tree) (path : List Step) (here : PathEnd) (step : Step) (r : Option PathEnd) → IsPathFound S s p t path (Some here) → IsStored S s p t → Steps S here step r →
-    IsPathFound S s p t (path ++ step ∷ []) r
+pub step_further : (S : Segments) (s p : ℕ) (t : Tree) (path : List Step) (here : PathEnd) (step : Step) (r : Option PathEnd) → IsPathFound S (record { segment = s; word = p }) t path (Some here) → IsStored S s p t → Steps S here step r →
+    IsPathFound S (record { segment = s; word = p }) t (path ++ step ∷ []) r
 step_further S s p t path (AtPointer place) step r f stored h = pointer_further S s p t path place.segment place.word step r f stored h
 step_further S s p t path (AtElement e) (Child j) r f stored h = element_child S s p t path e j r f stored h
-step_further S s p t path (AtElement e) (Element j) r f stored h = subst (IsPathFound S s p t (path ++ Element j ∷ [])) (sym h) (element_element S s p t path e j f)
+step_further S s p t path (AtElement e) (Element j) r f stored h = subst (IsPathFound S (record { segment = s; word = p }) t (path ++ Element j ∷ [])) (sym h) (element_element S s p t path e j f)
 
 steps-append : (xs ys : List EditStep) → map step_of (xs ++ ys) ≡ map step_of xs ++ map step_of ys
 steps-append [] ys = refl
 steps-append (x ∷ xs) ys = ap (λ p. step_of x ∷ p) (steps-append xs ys)
 
 -- step number i of a path is taken
-pub step_taken : (S : Segments) (s p : ℕ) (t : Tree) (i : ℕ) (path : List EditStep) (here next : PathEnd) → i < length path → IsPathFound S s p t (map step_of (take i path)) (Some here) → IsStored S s p t → (d : EditStep) →
-    Steps S here (step_of (get_or path i d)) (Some next) → IsPathFound S s p t (map step_of (take (i + 1) path)) (Some next)
+pub step_taken : (S : Segments) (s p : ℕ) (t : Tree) (i : ℕ) (path : List EditStep) (here next : PathEnd) → i < length path → IsPathFound S (record { segment = s; word = p }) t (map step_of (take i path)) (Some here) → IsStored S s p t → (d : EditStep) →
+    Steps S here (step_of (get_or path i d)) (Some next) → IsPathFound S (record { segment = s; word = p }) t (map step_of (take (i + 1) path)) (Some next)
 step_taken S s p t i path here next l f stored d h =
     let same : map step_of (take (i + 1) path) ≡ map step_of (take i path) ++ step_of (get_or path i d) ∷ [] = ap (map step_of) (take_more path i d l) ∙ steps-append (take i path) (get_or path i d ∷ []) in
-    subst (λ x. IsPathFound S s p t x (Some next)) (sym same) (step_further S s p t (map step_of (take i path)) here (step_of (get_or path i d)) (Some next) f stored h)
+    subst (λ x. IsPathFound S (record { segment = s; word = p }) t x (Some next)) (sym same) (step_further S s p t (map step_of (take i path)) here (step_of (get_or path i d)) (Some next) f stored h)
 
 -- or leads nowhere, and so does the path
-pub step_nowhere : (S : Segments) (s p : ℕ) (t : Tree) (i : ℕ) (path : List EditStep) (here : PathEnd) → i < length path → IsPathFound S s p t (map step_of (take i path)) (Some here) → IsStored S s p t → (d : EditStep) →
-    Steps S here (step_of (get_or path i d)) None → IsPathFound S s p t (map step_of path) None
+pub step_nowhere : (S : Segments) (s p : ℕ) (t : Tree) (i : ℕ) (path : List EditStep) (here : PathEnd) → i < length path → IsPathFound S (record { segment = s; word = p }) t (map step_of (take i path)) (Some here) → IsStored S s p t → (d : EditStep) →
+    Steps S here (step_of (get_or path i d)) None → IsPathFound S (record { segment = s; word = p }) t (map step_of path) None
 step_nowhere S s p t i path here l f stored d h =
     let front = map step_of (take i path) in
     let step = step_of (get_or path i d) in

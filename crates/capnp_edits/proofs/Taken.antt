@@ -17,6 +17,7 @@ use Rattle.capnp_edits.specs.declared.edit.tasks.Number.{Number}
 use Rattle.capnp_edits.specs.Steps.{result_of}
 use Rattle.capnp_arena_traits.specs.View.{View, KeepsLimits}
 use Rattle.capnp_widening.specs.Anew.{OnlyWrites}
+use Rattle.capnp_words.specs.declared.wire_pointer.ElementSize.TheVariants.{Byte}
 
 -- Every segment has as many words as before.
 abbrev pub KeepsLengths : Segments → Segments → Type 0
@@ -43,7 +44,7 @@ element_lengths S R looked n r (element_past l is past named same) = same_length
 element_lengths S R looked n r (no_list none named same) = same_lengths S R same
 element_lengths S R looked n r (list_denied k is named same) = same_lengths S R same
 
-pub byte_lengths : (S R : Segments) (looked : Result (Option ExistingBytes) ErrorKind) (i v : ℕ) (r : Option ErrorKind) → PutsByte S R looked i v r → KeepsLengths S R
+pub byte_lengths : (S R : Segments) (looked : Result (Option ExistingBytes) ErrorKind) (i v : ℕ) (r : Option ErrorKind) → PutsByte S R looked (record { size = Byte; index = i; value = v }) r → KeepsLengths S R
 byte_lengths S R looked i v r (byte_put b is less done written) = field_lengths S R b.segment (8 * (8 * b.start + i)) 8 v written
 byte_lengths S R looked i v r (byte_past b is past named same) = same_lengths S R same
 byte_lengths S R looked i v r (no_bytes_there none named same) = same_lengths S R same

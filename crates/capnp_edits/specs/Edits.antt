@@ -2,7 +2,7 @@
 use Rattle.std.specs.Option.{option_map_or}
 use Rattle.std.specs.Prelude.{MatchOption, ◌≡◌, ◌⊎◌, ℕ, min, ◌+◌, ◌*◌, ◌^◌, ◌<◌, ◌≤◌, Bool, true}
 use Rattle.std.specs.Prelude.{if◌then◌else◌, ◌&&◌, nat_le, nat_lt, List, ◌++◌, [], ◌∷◌, length, get_or, map}
-use Rattle.std.specs.Prelude.{slice_set, Option, Some, None, unwrap_or, Result, Ok, Err}
+use Rattle.std.specs.Prelude.{slice_set, Option, Some, None, unwrap_or, Result, Ok, Err, OnErr, ⊤}
 use Rattle.std.specs.Borrow.{Bor}
 use Rattle.capnp_words.specs.declared.error.ErrorKind.{ErrorKind}
 use Rattle.capnp_words.specs.declared.error.ErrorKind.TheVariants.{ExistingPointerIsNotAList}
@@ -42,7 +42,7 @@ use Rattle.capnp_widening.specs.Opening.{struct_opened}
 use Rattle.capnp_builders.specs.Content.{HoldContent, TakesBytes, up_to}
 use Rattle.capnp_edits.specs.declared.edit.Source.{Source}
 use Rattle.capnp_readers.specs.Sections.{step_bits, data_bits}
-use Rattle.capnp_readers.specs.declared.readers.PointerPlace.{PointerPlace}
+use Rattle.capnp_pointers.specs.declared.pointers.PointerPlace.{PointerPlace}
 use Rattle.capnp_builders.specs.declared.builders.PointerBuilder.{PointerBuilder}
 use Rattle.capnp_builders.specs.Places.{Field, list_place}
 use Rattle.capnp_edits.specs.declared.edit.Edit.{Edit}
@@ -77,6 +77,7 @@ use Rattle.capnp_edits.specs.Tasks.{is_number, is_small_default}
 use Rattle.capnp_edits.specs.Sources.{Copies, ContentRead, IsNextUnreadable}
 use Rattle.capnp_edits.specs.Sources.{HasNothingToCopy, IsUnreadable}
 use Rattle.capnp_edits.specs.Paths.{EndValue, PointerTo, ElementOf, step_of, found}
+use Rattle.capnp_arena_traits.specs.View.{View, KeepsLimits}
 
 -- The name by which a call is refused, if it is.
 abbrev pub refusal_of : {A : Type 0} → Result A ErrorKind → Option ErrorKind
@@ -316,6 +317,11 @@ pub record DoesAt (S R : Segments) (place : PointerPlace) (making : Making) (t :
   pub leaves : Leaves making r left
   pub stands : MatchOption left (R ≡ S) (IsReplaced S R place.segment place.word t)
 
+-- A call writes words alone, and none where it is refused.
+pub record WritesWords (result : Result ⊤ ErrorKind) (old new : View) : Type 0 where
+  pub limits : KeepsLimits old new
+  pub kept : OnErr result (new ≡ old)
+
 -- What writing bits leaves of the data section of a struct, with its outcome: they are written, or
 -- they aren't there.
 pub data PutsBits (S R : Segments) (e : ExistingStruct) (f : Field) (r : Option ErrorKind) : Type 0 where
@@ -366,14 +372,14 @@ pub data PutsElement (S R : Segments) (looked : Result (Option ExistingList) Err
   list_denied : (k : ErrorKind) → looked ≡ Err k → r ≡ Some k → R ≡ S → PutsElement S R looked n r
 
 -- The same of a byte of a text or data.
-pub data PutsByte (S R : Segments) (looked : Result (Option ExistingBytes) ErrorKind) (i v : ℕ)
+pub data PutsByte (S R : Segments) (looked : Result (Option ExistingBytes) ErrorKind) (n : Number)
     (r : Option ErrorKind) : Type 0 where
-  byte_put : (b : ExistingBytes) → looked ≡ Ok (Some b) → i < b.length → r ≡ None →
-      R ≡ with_field S b.segment (8 * (8 * b.start + i)) 8 v → PutsByte S R looked i v r
-  byte_past : (b : ExistingBytes) → looked ≡ Ok (Some b) → (BytesLieIn S b → b.length ≤ i) →
-      r ≡ Some NoSuchPlace → R ≡ S → PutsByte S R looked i v r
-  no_bytes_there : looked ≡ Ok None → r ≡ Some NoSuchPlace → R ≡ S → PutsByte S R looked i v r
-  bytes_denied : (k : ErrorKind) → looked ≡ Err k → r ≡ Some k → R ≡ S → PutsByte S R looked i v r
+  byte_put : (b : ExistingBytes) → looked ≡ Ok (Some b) → n.index < b.length → r ≡ None →
+      R ≡ with_field S b.segment (8 * (8 * b.start + n.index)) 8 n.value → PutsByte S R looked n r
+  byte_past : (b : ExistingBytes) → looked ≡ Ok (Some b) → (BytesLieIn S b → b.length ≤ n.index) →
+      r ≡ Some NoSuchPlace → R ≡ S → PutsByte S R looked n r
+  no_bytes_there : looked ≡ Ok None → r ≡ Some NoSuchPlace → R ≡ S → PutsByte S R looked n r
+  bytes_denied : (k : ErrorKind) → looked ≡ Err k → r ≡ Some k → R ≡ S → PutsByte S R looked n r
 
 -- An edit with its outcome takes the value t of a message to u. Its path leads nowhere, and it is
 -- NoSuchPlace; or the path leads to a value, and what is left comes in its stead, if anything is

@@ -15,6 +15,7 @@ use Rattle.capnp_edits.specs.declared.edit.Step.TheVariants.{Child as ToChild, E
 use Rattle.capnp_edits.specs.declared.edit.path.PathEnd.{PathEnd}
 use Rattle.capnp_edits.specs.declared.edit.path.PathEnd.TheVariants.{Pointer as AtPointer}
 use Rattle.capnp_edits.specs.declared.edit.path.PathEnd.TheVariants.{Element as AtElement}
+use Rattle.capnp_readers.specs.declared.readers.PointerPlace.{PointerPlace}
 
 -- The steps of an edit's path.
 abbrev pub step_of : EditStep → Step
@@ -57,17 +58,22 @@ pub record IsElementFound (S : Segments) (s p : ℕ) (t : Tree) (path : List Ste
 
 -- Where a path leads: to a pointer, which means a value, or to an element; if nowhere, then no longer
 -- path leads anywhere.
-abbrev pub IsPathFound : Segments → ℕ → ℕ → Tree → List Step → Option PathEnd → Type 0
-IsPathFound S s p t path (Some (AtPointer place)) =
-    (x : Tree) × PathLeads S s p t path place.segment place.word x ×
+abbrev pub IsPathFound : Segments → PointerPlace → Tree → List Step → Option PathEnd → Type 0
+IsPathFound S from t path (Some (AtPointer place)) =
+    (x : Tree) × PathLeads S from.segment from.word t path place.segment place.word x ×
     (found t path ≡ Some (PointerTo x))
-IsPathFound S s p t path (Some (AtElement e)) = IsElementFound S s p t path e
-IsPathFound S s p t path None = (more : List Step) → found t (path ++ more) ≡ None
+IsPathFound S from t path (Some (AtElement e)) = IsElementFound S from.segment from.word t path e
+IsPathFound S from t path None = (more : List Step) → found t (path ++ more) ≡ None
 
 -- The end of a path lies in the message.
 abbrev pub EndLiesIn : Segments → PathEnd → Type 0
 EndLiesIn S (AtPointer place) = IsPlace S place.segment place.word
 EndLiesIn S (AtElement e) = StructLiesIn S e
+
+-- What is found, r, lies in the message, and is what is there where that does.
+pub record IsEndFound (S : Segments) (there r : Option PathEnd) : Type 0 where
+  pub exactly : IfSome there (EndLiesIn S) → r ≡ there
+  pub inside : IfSome r (EndLiesIn S)
 
 -- The pointer of a struct by its index, if there is one.
 abbrev pub child_in : ExistingStruct → ℕ → Option PathEnd
@@ -92,6 +98,6 @@ element_in l i =
 abbrev pub Steps : Segments → PathEnd → Step → Option PathEnd → Type 0
 Steps S (AtPointer place) step r =
     (t : Tree) → IsStored S place.segment place.word t →
-    IsPathFound S place.segment place.word t (step ∷ []) r
+    IsPathFound S place t (step ∷ []) r
 Steps S (AtElement e) (Child i) r = IfSome (child_in e i) (EndLiesIn S) → r ≡ child_in e i
 Steps S (AtElement e) (Element i) r = r ≡ None

@@ -23,7 +23,7 @@ use Rattle.capnp_contents.specs.declared.existing.ExistingStruct.{ExistingStruct
 use Rattle.capnp_objects.specs.Reading.{behind}
 use Rattle.capnp_objects.specs.Refusals.{Refused}
 use Rattle.capnp_objects.specs.Wanted.{plain}
-use Rattle.capnp_readers.specs.declared.readers.PointerPlace.{PointerPlace}
+use Rattle.capnp_pointers.specs.declared.pointers.PointerPlace.{PointerPlace}
 use Rattle.capnp_readers.specs.declared.readers.struct_reader.StructPlace.{StructPlace}
 use Rattle.capnp_copies.specs.Changes.{ComesToObject, CopiesChildren, FindsNoRoom, IsTooLarge}
 use Rattle.capnp_copies.specs.Changes.{RefusesToCopy, change}
@@ -61,8 +61,9 @@ use Rattle.capnp_edits.specs.Paths.{PointerTo, step_of, IsPathFound}
 use Rattle.capnp_edits.specs.Sources.{root_of, once_at_root, Sections, LeadsToStruct}
 use Rattle.capnp_edits.specs.Sources.{ContentRead, Copies, HasNothingToCopy}
 use Rattle.capnp_edits.specs.Sources.{OfWanted}
-use Rattle.capnp_edits.specs.Edits.{is_of_path, refusals_after, value_of, looked_for, Yields}
+use Rattle.capnp_edits.specs.Edits.{is_of_path, refusals_after, value_of, looked_for, Yields, place_of}
 use Rattle.capnp_edits.specs.Edits.{DoesAt, FillsAt, PutsBits, bits_of, default_for, made_at, IsApplied, Takes}
+use Rattle.capnp_builders.specs.declared.builders.PointerBuilder.{PointerBuilder}
 
 -- Where an object is made that has no words: the pointer of a struct has the offset -1, and that of
 -- a list leads behind the words of its segment.
@@ -108,8 +109,8 @@ result_of (Some k) = Err k
 abbrev pub CopiesWhole : CallAt → Copying → Option ErrorKind → Type 0
 CopiesWhole call c r =
     (IsSomeAnd r (HasNothingToCopy c.source c.wanted) × (call.new ≡ call.old)) ⊎
-    ((m : Meter) × OfWanted c.wanted (root_of c.source) (change (form_of c.canonicalize)
-    call.segment call.at call.old call.new (once_at_root c.source) m)
+    ((m : Meter) × OfWanted c.wanted (root_of c.source)
+    (change (form_of c.canonicalize) call (once_at_root c.source) m)
     (λ o d. TakesAtMost (result_of r) o d × MatchOption r (PutsCopy o d) (RefusesToCopy o d)))
 
 -- Room.
@@ -266,6 +267,12 @@ pub record IsDoneAt (old new : View) (there : PathEnd) (task : Task) (r : Option
   pub nowhere : r ≡ Some NoSuchPlace → new ≡ old
   pub taken : (r ≡ Some NoSuchPlace → ⊥) → TakesAt old new task r there
 
+-- A call on a builder does so at its pointer, and leaves it over the same arena.
+pub record IsDoneBy {A : Type 0} (view : A → View) (old new : PointerBuilder A) (task : Task)
+    (r : Option ErrorKind) : Type 0 where
+  pub done : IsDoneAt (view old.arena.now) (view new.arena.now) (AtPointer (place_of old)) task r
+  pub same : new.arena.ghost_name ≡ old.arena.ghost_name
+
 -- Steps.
 
 -- From old to new an edit is done, with its outcome: whatever forest the message is, it is one
@@ -280,7 +287,7 @@ pub record IsStep (old new : View) (edit : Edit) (r : Option ErrorKind) : Type 0
   pub done : IfSome path_end (λ there. IfSome (task_of edit.op)
       (λ task. DoesThere old.words new.words there task r))
   pub leads : (t : Tree) → IsStored old.words 0 0 t →
-      IsPathFound old.words 0 0 t (map step_of edit.path.now) path_end
+      IsPathFound old.words (record { segment = 0; word = 0 }) t (map step_of edit.path.now) path_end
   pub missing : path_end ≡ None → r ≡ Some NoSuchPlace
   pub out_of_range : task_of edit.op ≡ None → r ≡ Some NoSuchPlace
   pub rootless : length (segment old.words 0) ≡ 0 → r ≡ Some NoSuchPlace

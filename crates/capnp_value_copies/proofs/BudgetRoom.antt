@@ -21,7 +21,7 @@ use Rattle.capnp_copies.specs.Originals.{value_original}
 use Rattle.capnp_copies.proofs.NoRoom.{WantsWords}
 use Rattle.capnp_copies.specs.Costs.{spent_before, spent_until}
 use Rattle.capnp_copies.specs.Widths.{most_used, widths_kept}
-use Rattle.capnp_copies.proofs.DataSections.{kept_count-le}
+use Rattle.capnp_copies.proofs.KeptForms.{kept_count-le}
 use Rattle.capnp_copies.proofs.Growth.{covered_below, covered_by, no_wider}
 
 -- A copy keeps no more of an element than there is.

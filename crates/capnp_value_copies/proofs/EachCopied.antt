@@ -23,9 +23,10 @@ use Rattle.capnp_copies.proofs.Copying.{there}
 use Rattle.capnp_copies.proofs.ObjectsMade.{TakesForCopy, full_before}
 use Rattle.capnp_copies.proofs.RoomLemmas.{same_cost}
 use Rattle.capnp_copies.proofs.TooLarge.{child_too_large}
+use Rattle.capnp_making.specs.Makes.{call_at}
 
-pub each_stops : {r : Reading} {s p i n : ℕ} {old mid new : View} {m m' m'' : Meter} {k : ErrorKind} → IsPlace old.words s (p + i) → i < n → CopiesChildren r i (change plain s p old mid m m') → TakesForCopy (children_original r i) (change plain s p old mid m m') → StopsCopy (value_original (behind r i)) (change plain s (p + i) mid new m' m'') Null k →
-    CopiesFirst r n (change plain s p old new m m'') k
+pub each_stops : {r : Reading} {s p i n : ℕ} {old mid new : View} {m m' m'' : Meter} {k : ErrorKind} → IsPlace old.words s (p + i) → i < n → CopiesChildren r i (change plain (call_at s p old mid) m m') → TakesForCopy (children_original r i) (change plain (call_at s p old mid) m m') → StopsCopy (value_original (behind r i)) (change plain (call_at s (p + i) mid new) m' m'') Null k →
+    CopiesFirst r n (change plain (call_at s p old new) m m'') k
 each_stops {r} {s} {p} {i} {n} {old} {mid} {new} {m} {m'} {m''} {k} place less first (us, counts, read, made) stop = record {
   first = first.children;
   fewer = omega (arith, first.counts);
@@ -51,7 +52,7 @@ each_stops {r} {s} {p} {i} {n} {old} {mid} {new} {m} {m'} {m''} {k} place less f
 }
 
 -- pointers that can be read, and of which what is kept has room, are not refused
-pub each_refused_rightly : {r : Reading} {s p i : ℕ} {old new : View} {m m' : Meter} {k : ErrorKind} → CopiesFirst r i (change plain s p old new m m') k → CanBeCopied (children_original r i) plain m old s → ⊥
+pub each_refused_rightly : {r : Reading} {s p i : ℕ} {old new : View} {m m' : Meter} {k : ErrorKind} → CopiesFirst r i (change plain (call_at s p old new) m m') k → CanBeCopied (children_original r i) plain m old s → ⊥
 each_refused_rightly {m = m} stop can = elim stop.why [
   | inl x ↦ (let beyond = x.1 plain m can.after can.value can.is_read in omega (arith, beyond, can.room))
   | inr refused ↦ (let all = can.is_read.1 in (read_stop _ stop.are_read stop.fewer (unreadable refused)).only can.value all.cost can.is_read.0 all.means all.takes all.covers)

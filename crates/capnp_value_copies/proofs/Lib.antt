@@ -1,4 +1,5 @@
 pub mod EachCopied
 pub mod ListValues
 pub mod OneReading
+pub mod DataSections
 pub mod BudgetRoom

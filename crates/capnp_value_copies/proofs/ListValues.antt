@@ -34,6 +34,7 @@ use Rattle.capnp_copies.proofs.FlatRead.{word_count-flat}
 use Rattle.capnp_copies.proofs.Originals.{ExceedsRoom, halfway, list_exceeds}
 use Rattle.capnp_arena_traits.specs.declared.arena.reader_arena.ReaderArena.{Ghosts}
 use Rattle.capnp_readers.specs.declared.readers.list_reader.ListReader.{ListReader}
+use Rattle.capnp_making.specs.Makes.{call_at}
 
 -- the place of the first element of a list that is read
 abbrev pub first_read : {A : Type 0} (g : Ghosts A) → ListReader A g → Reading
@@ -41,7 +42,7 @@ first_read g value = reading_at g value.source value.start value.nesting_limit
 
 -- one that is too long leaves all as it was
 pub too_long : (size : ElementSize) (sections : StructSize) (n : ℕ) (r : Reading) {b : Form} {s p : ℕ} {v : View} {m : Meter} → IsPlace v.words s p → word_at v.words s p ≡ 0 → (FitsListPointer size n (sections.data_words + sections.pointers) → ⊥) →
-    StopsHalfway (list_original size sections n r) (change b s p v v m m) (MessageTooLarge (2 ^ 64 - 1))
+    StopsHalfway (list_original size sections n r) (change b (call_at s p v v) m m) (MessageTooLarge (2 ^ 64 - 1))
 too_long size sections n r {b} {s} {p} {v} place null long =
     halfway (inr (inr (list_exceeds size sections n r b long)))
     ((Null, nothing_left v.words v.words s p place null refl), spends_nothing v v (MessageTooLarge (2 ^ 64 - 1)) (λ n. refl) (keeps_itself v))

@@ -10,7 +10,7 @@ ghost use Rattle.capnp_objects.specs.Refusals.{Refused};
 ghost use Rattle.capnp_copies.specs.Changes.{Change, StayInSegment, RefusesToCopy};
 ghost use Rattle.capnp_copies.specs.Growth.{Makes, MakesAtMost, TakesAtMost};
 ghost use Rattle.capnp_copies.specs.Originals.{value_original};
-ghost use Rattle.capnp_copies.specs.StructValues.{section_words};
+ghost use Rattle.capnp_value_copies.specs.StructValues.{section_words};
 
 /// A data section of whole words has the words of its bytes ("Structs").
 pub fn whole_sections()

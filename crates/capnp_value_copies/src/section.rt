@@ -6,7 +6,7 @@ ghost use Rattle.capnp_format.specs.Segments.{segment};
 ghost use Rattle.capnp_arena_traits.specs.Written.{with_words};
 ghost use Rattle.capnp_readers.specs.Sections.{bytes_for};
 ghost use Rattle.capnp_copies.specs.Forms.{form_of};
-ghost use Rattle.capnp_copies.specs.StructValues.{section_words};
+ghost use Rattle.capnp_value_copies.specs.StructValues.{section_words};
 ghost use Rattle.capnp_copies.specs.Originals.{kept_count};
 
 use capnp_arena_traits::arena::BuilderArena;

@@ -5,7 +5,7 @@ ghost use Rattle.capnp_format.specs.Segments.{segment, word_at};
 ghost use Rattle.capnp_making.specs.Zeroed.{IsPruned};
 ghost use Rattle.capnp_readers.specs.Readers.{IsStructPlace};
 ghost use Rattle.capnp_readers.specs.Sections.{bytes_for};
-ghost use Rattle.capnp_builders.specs.Content.{content_byte, with_fields, with_content, AreCleared};
+ghost use Rattle.capnp_builders.specs.Content.{content_byte, with_fields, fields_from, with_content, AreCleared};
 
 use capnp_arena_traits::arena::BuilderArena;
 use capnp_contents::numbers::{set_bit, set_number};
@@ -27,7 +27,7 @@ pub(crate) fn write_content<A: BuilderArena>(
         { words = with_content (A.view arena.old).words place bits bytes.now } }
 {
     let whole = place.bits / 8;
-    write_bytes(arena, place.segment, place.byte, whole, bytes, bits);
+    write_bytes(arena, place, bytes, bits);
     let bit = 8 * place.byte + u64::from(whole) * 8;
     let left = place.bits % 8;
     if left > 0 {
@@ -49,23 +49,19 @@ pub(crate) fn clear_pointers<A: BuilderArena>(arena: &mut A, id: u32, at: u32, c
     }
 }
 
-/// Writes the first bytes of content of so many bits over bytes of a segment.
-fn write_bytes<A: BuilderArena>(
-    arena: &mut A,
-    id: u32,
-    start: u64,
-    count: u32,
-    bytes: &[u8],
-    bits: u32,
-)
-    requires inside { start + count ≤ 8 * length (segment (A.view arena.old).words id) }
+/// Writes content of so many bits over the whole bytes of the data section of a struct.
+fn write_bytes<A: BuilderArena>(arena: &mut A, place: StructPlace, bytes: &[u8], bits: u32)
+    requires inside { IsStructPlace (A.view arena.old).words place }
     requires long { length bytes.now ≡ bytes_for bits }
     ensures { A.view arena.new
         ≡ record (A.view arena.old) {
-          words = with_fields (A.view arena.old).words id (8 * start) 8
-              (content_byte bits bytes.now) count;
+          words = with_fields (A.view arena.old).words place.segment
+              (fields_from (8 * place.byte) 8 (content_byte bits bytes.now)) (place.bits / 8);
         } }
 {
+    let id = place.segment;
+    let start = place.byte;
+    let count = place.bits / 8;
     let both = count.min(bits / 8);
     copy_bytes(arena, id, start, &bytes[..both as usize]);
     if both < count {
@@ -81,8 +77,8 @@ fn copy_bytes<A: BuilderArena>(arena: &mut A, id: u32, start: u64, from: &[u8])
     requires inside { start + length from.now ≤ 8 * length (segment (A.view arena.old).words id) }
     ensures { A.view arena.new
         ≡ record (A.view arena.old) {
-          words = with_fields (A.view arena.old).words id (8 * start) 8 (slice_index from.now)
-              (length from.now);
+          words = with_fields (A.view arena.old).words id
+              (fields_from (8 * start) 8 (slice_index from.now)) (length from.now);
         } }
 {
     if !from.is_empty() {
@@ -97,8 +93,10 @@ fn copy_bytes<A: BuilderArena>(arena: &mut A, id: u32, start: u64, from: &[u8])
 fn zero_bytes<A: BuilderArena>(arena: &mut A, id: u32, start: u64, count: u32)
     requires inside { start + count ≤ 8 * length (segment (A.view arena.old).words id) }
     ensures { A.view arena.new
-        ≡ record (A.view arena.old)
-        { words = with_fields (A.view arena.old).words id (8 * start) 8 (λ i. 0) count } }
+        ≡ record (A.view arena.old) {
+          words = with_fields (A.view arena.old).words id (fields_from (8 * start) 8 (λ i. 0))
+              count;
+        } }
 {
     if count > 0 {
         let first = start as usize;
@@ -113,8 +111,10 @@ fn write_bits<A: BuilderArena>(arena: &mut A, id: u32, start: u64, count: u32, b
     requires inside { start + count ≤ 64 * length (segment (A.view arena.old).words id) }
     requires few { count < 8 }
     ensures { A.view arena.new
-        ≡ record (A.view arena.old)
-        { words = with_fields (A.view arena.old).words id start 1 (λ j. byte / 2 ^ j % 2) count } }
+        ≡ record (A.view arena.old) {
+          words = with_fields (A.view arena.old).words id
+              (fields_from start 1 (λ j. byte / 2 ^ j % 2)) count;
+        } }
 {
     for j in 0..count {
         set_bit(arena, id, start + u64::from(j), byte >> j & 1 == 1);

@@ -1,16 +1,17 @@
 //! Defaults, which are copied in place of null pointers ("Default Values").
 ghost use Rattle.std.specs.Prelude.{◌≡◌, ◌↔◌, ◌/◌, ◌^◌, ◌<◌, ◌≤◌, length, IsTrue, IsNone, IsOk, IfErr, OnOk, IsSomeAnd, Some, slice_get};
 ghost use Rattle.capnp_format.specs.Bytes.{words_of};
-ghost use Rattle.capnp_format.specs.Segments.{word_at, Grows, IsPlace};
+ghost use Rattle.capnp_format.specs.Segments.{IsPlace};
 ghost use Rattle.capnp_format.specs.Tree.{Tree};
-ghost use Rattle.capnp_making.specs.Stored.{IsStored};
 ghost use Rattle.capnp_making.specs.Makes.{call_at};
+ghost use Rattle.capnp_copies.specs.Changes.{IsNullPlace};
 ghost use Rattle.capnp_builders.specs.Building.{ChangesWords};
-ghost use Rattle.capnp_builders.specs.Defaults.{DropsDefault, PutsDefault, IsShortDefault, object_default, blob_default, PutsDefaultOver, DefaultCopyFits, DefaultFits};
+ghost use Rattle.capnp_builders.specs.Defaults.{DropsDefault, PutsDefault, PutsDefaultBy, IsShortDefault, object_default, blob_default, DefaultCopyFits, DefaultFits};
 
 use capnp_arena_traits::arena::BuilderArena;
-use capnp_copies::form::CopyForm;
+use capnp_copies::form::{CopyForm, Destination};
 use capnp_making::landing::word_of;
+use capnp_making::making::Start;
 use capnp_readers::readers::PointerReader;
 use capnp_value_copies::copy;
 use capnp_words::error::ErrorKind;
@@ -31,8 +32,7 @@ pub fn copy_default<A: BuilderArena>(
     at: u32,
     default: &[u8],
 ) -> Result<(), ErrorKind>
-    requires place { IsPlace (A.view arena.old).words id at }
-    requires null { word_at (A.view arena.old).words id at ≡ 0 }
+    requires null { IsNullPlace (A.view arena.old).words id at }
     requires some { 8 ≤ length default.now }
     requires few { length default.now / 8 < 2 ^ 32 }
     ensures copied { OnOk result ((value : Tree) × PutsDefault default.now
@@ -44,7 +44,11 @@ pub fn copy_default<A: BuilderArena>(
 {
     let from: PointerReader<'_, A> = PointerReader::from_default(default)?;
     let mut lim = ReadLimiter::new(None);
-    copy::copy_in_form(arena, id, at, from, &mut lim, CopyForm::OfDefault)
+    let to = Destination {
+        place: Start { segment: id, at },
+        form: CopyForm::OfDefault,
+    };
+    copy::copy_in_form(arena, to, from.pointer(), &mut lim)
 }
 
 /// Puts the value of a default in place of the null pointer at a place, as `copy_default` does. What isn't
@@ -60,15 +64,10 @@ pub(crate) fn put_default<A: BuilderArena>(
 ) -> Result<(), ErrorKind>
     requires place { IsPlace (A.view arena.old).words id at }
     requires few { IsShortDefault default }
-    ensures put { (t : Tree) → IsStored (A.view arena.old).words id at t
-        → PutsDefaultOver (object_default default.entry t)
-        (call_at id at (A.view arena.old) (A.view arena.new)) t result }
-    ensures stays { (word_at (A.view arena.old).words id at ≡ 0 → ⊥)
-        → IsOk result × (A.view arena.new ≡ A.view arena.old) }
+    ensures put { PutsDefaultBy (object_default default.entry)
+        (call_at id at (A.view arena.old) (A.view arena.new)) result }
     ensures none { IsNone default.entry → IsOk result × (A.view arena.new ≡ A.view arena.old) }
     ensures fits { DefaultFits default.entry (A.view arena.old) id → IsOk result }
-    ensures longer { Grows (A.view arena.old).words (A.view arena.new).words }
-    ensures memory { ChangesWords result (A.view arena.old) (A.view arena.new) }
 {
     let Some(bytes) = default else {
         return Ok(());
@@ -95,13 +94,8 @@ pub(crate) fn put_blob_default<A: BuilderArena>(
 ) -> Result<(), ErrorKind>
     requires place { IsPlace (A.view arena.old).words id at }
     requires few { IsShortDefault default }
-    ensures put { (t : Tree) → IsStored (A.view arena.old).words id at t
-        → PutsDefaultOver (blob_default default.entry t)
-        (call_at id at (A.view arena.old) (A.view arena.new)) t result }
-    ensures stays { (word_at (A.view arena.old).words id at ≡ 0 → ⊥)
-        → IsOk result × (A.view arena.new ≡ A.view arena.old) }
-    ensures longer { Grows (A.view arena.old).words (A.view arena.new).words }
-    ensures memory { ChangesWords result (A.view arena.old) (A.view arena.new) }
+    ensures { PutsDefaultBy (blob_default default.entry)
+        (call_at id at (A.view arena.old) (A.view arena.new)) result }
 {
     if has_null_word(default) && word_of(arena, id, at).is_null() {
         return Err(ErrorKind::ExistingPointerIsNotAList);

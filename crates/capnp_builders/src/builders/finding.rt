@@ -13,7 +13,7 @@ ghost use Rattle.capnp_words.specs.Sizes.{size_number};
 ghost use Rattle.capnp_readers.specs.Readers.{IsListPlace};
 ghost use Rattle.capnp_widening.specs.Opening.{IsNoWider};
 ghost use Rattle.capnp_widening.specs.RowsRemade.{RefusesWider};
-ghost use Rattle.capnp_builders.specs.Defaults.{IsShortDefault, DefaultFits, IsIgnoredDefault, object_default, PutsDefaultOver};
+ghost use Rattle.capnp_builders.specs.Defaults.{DefaultFits, IsIgnoredDefault, PutsDefaultBy, TakesDefault, object_default};
 ghost use Rattle.capnp_builders.specs.Found.{FindsList, FindsBytes};
 ghost use Rattle.capnp_builders.specs.Opening.{FindsStruct, FindsStructs, StructFindFits, StructsFindFits};
 ghost use Rattle.capnp_builders.specs.Places.{IsAligned};
@@ -33,7 +33,7 @@ use capnp_words::error::ErrorKind;
 use capnp_words::wire_pointer::{ElementSize, StructSize};
 
 impl<'a, A: BuilderArena> PointerBuilder<'a, A> {
-    ghost use Rattle.capnp_builders.specs.Building.{ChangesWords, FindsStored, GivesList, GivesStruct, IsNull, IsThere, KeepsBuilder, LooksUp, OfStored, built, calling};
+    ghost use Rattle.capnp_builders.specs.Building.{FindsStored, GivesList, GivesStruct, HandsOn, IsNull, IsThere, KeepsBuilder, LooksUp, OfStored, StaysThere, built, calling};
 
     /// Puts the value of a default in place of a null pointer, as it stands ("Default Values"). What isn't
     /// null stays, and so does null where there is no default, or one whose first word is null.
@@ -44,21 +44,14 @@ impl<'a, A: BuilderArena> PointerBuilder<'a, A> {
     /// `AllocationFailed`, or `MessageTooLarge` of an object's words and one more. After a refusal the
     /// pointer is null, and the words that were taken are zero.
     pub fn put_default(&mut self, default: Option<&[u8]>) -> Result<(), ErrorKind>
-        requires there { IsThere (built A.view self.old) }
-        requires few { IsShortDefault default }
-        ensures put { OfStored (built A.view self.old)
-            (λ t. PutsDefaultOver (object_default default.entry t)
-            (calling A.view self.old self.new) t result) }
-        ensures stays { (IsNull (built A.view self.old) → ⊥)
-            → IsOk result × (A.view self.new.arena.now ≡ A.view self.old.arena.now) }
+        requires { TakesDefault (built A.view self.old) default }
+        ensures put { PutsDefaultBy (object_default default.entry)
+            (calling A.view self.old self.new) result }
         ensures none { IsNone default.entry → IsOk result
             × (A.view self.new.arena.now ≡ A.view self.old.arena.now) }
         ensures fits { DefaultFits default.entry (A.view self.old.arena.now) self.old.segment
             → IsOk result }
-        ensures memory { ChangesWords result (A.view self.old.arena.now)
-            (A.view self.new.arena.now) }
-        ensures there { IsThere (built A.view self.new) }
-        ensures builder { KeepsBuilder self.old self.new }
+        ensures stays { StaysThere A.view self.old self.new }
     {
         put_default(&mut *self.arena, self.segment, self.at, default)
     }
@@ -71,10 +64,9 @@ impl<'a, A: BuilderArena> PointerBuilder<'a, A> {
         size: StructSize,
         default: Option<&[u8]>,
     ) -> Result<StructPlace, ErrorKind>
-        requires there { IsThere (built A.view self.old) }
-        requires few { IsShortDefault default }
-        ensures found { OfStored (built A.view self.old)
-            (FindsStruct size default.entry result (calling A.view self.old self.new)) }
+        requires { TakesDefault (built A.view self.old) default }
+        ensures found { FindsStored A.view (FindsStruct size default.entry)
+            self.old self.new.arena.now result }
         ensures fits { StructFindFits size default.entry
             (A.view self.old.arena.now) self.old.segment self.old.at → IsOk result }
         ensures taken { IsNull (built A.view self.old) → IsIgnoredDefault default.entry
@@ -95,8 +87,6 @@ impl<'a, A: BuilderArena> PointerBuilder<'a, A> {
         ensures aligned { IfOk result IsAligned }
         ensures set { (IsNull (built A.view self.old) → ⊥)
             → IfErr result (IsNoWider size (calling A.view self.old self.new)) }
-        ensures memory { ChangesWords result (A.view self.old.arena.now)
-            (A.view self.new.arena.now) }
         ensures there { OfStored (built A.view self.old) (λ t. IsThere (built A.view self.new)) }
         ensures builder { KeepsBuilder self.old self.new }
     {
@@ -121,9 +111,8 @@ impl<'a, A: BuilderArena> PointerBuilder<'a, A> {
         size: StructSize,
         default: Option<&[u8]>,
     ) -> Result<StructBuilder<'a, A>, ErrorKind>
-        requires there { IsThere (built A.view self) }
-        requires few { IsShortDefault default }
-        ensures same { IfOk result (λ b. b.arena.ghost_name ≡ self.entry.arena.ghost_name) }
+        requires { TakesDefault (built A.view self) default }
+        ensures arena { IfOk result (λ b. HandsOn A.view self.entry.arena b.arena) }
         ensures found { ReachesArena GivesStruct
             (FindsStored A.view (FindsStruct size default.entry) self.entry) result }
         ensures fits { StructFindFits size default.entry
@@ -143,8 +132,6 @@ impl<'a, A: BuilderArena> PointerBuilder<'a, A> {
             (target (A.view b.arena.now).words self.entry.segment self.entry.at))) }
         ensures wide { IfOk result (λ b.
             (64 * size.data_words ≤ b.place.bits) × (size.pointers ≤ b.place.pointers)) }
-        ensures granted { IfOk result (λ b. KeepsMemory (A.view self.entry.arena.now)
-            (A.view b.arena.now)) }
     {
         let place = self.find_struct(size, default)?;
         Ok(self.into_struct(place))
@@ -157,10 +144,9 @@ impl<'a, A: BuilderArena> PointerBuilder<'a, A> {
         size: StructSize,
         default: Option<&[u8]>,
     ) -> Result<ListPlace, ErrorKind>
-        requires there { IsThere (built A.view self.old) }
-        requires few { IsShortDefault default }
-        ensures found { OfStored (built A.view self.old)
-            (FindsStructs size default.entry result (calling A.view self.old self.new)) }
+        requires { TakesDefault (built A.view self.old) default }
+        ensures found { FindsStored A.view (FindsStructs size default.entry)
+            self.old self.new.arena.now result }
         ensures fits { StructsFindFits size default.entry
             (A.view self.old.arena.now) self.old.segment self.old.at → IsOk result }
         ensures set { (IsNull (built A.view self.old) → ⊥)
@@ -168,8 +154,6 @@ impl<'a, A: BuilderArena> PointerBuilder<'a, A> {
             (RefusesWider
             (IsStored (A.view self.old.arena.now).words self.old.segment self.old.at)
             size (A.view self.old.arena.now) (A.view self.new.arena.now)) }
-        ensures memory { ChangesWords result (A.view self.old.arena.now)
-            (A.view self.new.arena.now) }
         ensures there { OfStored (built A.view self.old) (λ t. IsThere (built A.view self.new)) }
         ensures builder { KeepsBuilder self.old self.new }
     {
@@ -195,15 +179,12 @@ impl<'a, A: BuilderArena> PointerBuilder<'a, A> {
         size: StructSize,
         default: Option<&[u8]>,
     ) -> Result<ListBuilder<'a, A>, ErrorKind>
-        requires there { IsThere (built A.view self) }
-        requires few { IsShortDefault default }
-        ensures same { IfOk result (λ b. b.arena.ghost_name ≡ self.entry.arena.ghost_name) }
+        requires { TakesDefault (built A.view self) default }
+        ensures arena { IfOk result (λ b. HandsOn A.view self.entry.arena b.arena) }
         ensures found { ReachesArena GivesList
             (FindsStored A.view (FindsStructs size default.entry) self.entry) result }
         ensures fits { StructsFindFits size default.entry
             (A.view self.entry.arena.now) self.entry.segment self.entry.at → IsOk result }
-        ensures granted { IfOk result (λ b. KeepsMemory (A.view self.entry.arena.now)
-            (A.view b.arena.now)) }
     {
         let place = self.find_struct_list(size, default)?;
         Ok(self.into_list(place))
@@ -217,20 +198,13 @@ impl<'a, A: BuilderArena> PointerBuilder<'a, A> {
         size: ElementSize,
         default: Option<&[u8]>,
     ) -> Result<ListPlace, ErrorKind>
-        requires there { IsThere (built A.view self.old) }
-        requires few { IsShortDefault default }
+        requires takes { TakesDefault (built A.view self.old) default }
         requires plain { size_number size ≤ 6 }
-        ensures found { OfStored (built A.view self.old)
-            (FindsList size default.entry result (calling A.view self.old self.new)) }
+        ensures found { LooksUp A.view (FindsList size default.entry)
+            self.old self.new.arena.now result }
         ensures inside { OfStored (built A.view self.old)
             (λ t. IfOk result (IsListPlace (A.view self.new.arena.now).words)) }
-        ensures set { (IsNull (built A.view self.old) → ⊥)
-            → (A.view self.new.arena.now ≡ A.view self.old.arena.now)
-            × IfErr result (λ k. is_unfound k ≡ true) }
-        ensures memory { ChangesWords result (A.view self.old.arena.now)
-            (A.view self.new.arena.now) }
-        ensures there { IsThere (built A.view self.new) }
-        ensures builder { KeepsBuilder self.old self.new }
+        ensures stays { StaysThere A.view self.old self.new }
     {
         put_default(&mut *self.arena, self.segment, self.at, default)?;
         look_for_list(&*self.arena, self.segment, self.at, size)
@@ -249,16 +223,13 @@ impl<'a, A: BuilderArena> PointerBuilder<'a, A> {
         size: ElementSize,
         default: Option<&[u8]>,
     ) -> Result<ListBuilder<'a, A>, ErrorKind>
-        requires there { IsThere (built A.view self) }
-        requires few { IsShortDefault default }
+        requires takes { TakesDefault (built A.view self) default }
         requires plain { size_number size ≤ 6 }
-        ensures same { IfOk result (λ b. b.arena.ghost_name ≡ self.entry.arena.ghost_name) }
+        ensures arena { IfOk result (λ b. HandsOn A.view self.entry.arena b.arena) }
         ensures found { ReachesArena GivesList
             (LooksUp A.view (FindsList size default.entry) self.entry) result }
         ensures inside { OfStored (built A.view self.entry)
             (λ t. IfOk result (λ b. IsListPlace (A.view b.arena.now).words b.place)) }
-        ensures granted { IfOk result (λ b. KeepsMemory (A.view self.entry.arena.now)
-            (A.view b.arena.now)) }
     {
         let place = self.find_list(size, default)?;
         Ok(self.into_list(place))
@@ -267,18 +238,11 @@ impl<'a, A: BuilderArena> PointerBuilder<'a, A> {
     /// Where the data is that the pointer leads to, as `get_data` looks for it. With both outcomes, it is
     /// what `get_data` is made of.
     pub fn find_data(&mut self, default: Option<&[u8]>) -> Result<ExistingBytes, ErrorKind>
-        requires there { IsThere (built A.view self.old) }
-        requires few { IsShortDefault default }
-        ensures found { OfStored (built A.view self.old)
-            (FindsBytes data_in default.entry result (calling A.view self.old self.new)) }
+        requires { TakesDefault (built A.view self.old) default }
+        ensures found { LooksUp A.view (FindsBytes data_in default.entry)
+            self.old self.new.arena.now result }
         ensures inside { IfOk result (BytesLieIn (A.view self.new.arena.now).words) }
-        ensures set { (IsNull (built A.view self.old) → ⊥)
-            → (A.view self.new.arena.now ≡ A.view self.old.arena.now)
-            × IfErr result (λ k. is_unfound k ≡ true) }
-        ensures memory { ChangesWords result (A.view self.old.arena.now)
-            (A.view self.new.arena.now) }
-        ensures there { IsThere (built A.view self.new) }
-        ensures builder { KeepsBuilder self.old self.new }
+        ensures stays { StaysThere A.view self.old self.new }
     {
         put_blob_default(&mut *self.arena, self.segment, self.at, default)?;
         look_for_data(&*self.arena, self.segment, self.at)
@@ -292,8 +256,7 @@ impl<'a, A: BuilderArena> PointerBuilder<'a, A> {
     /// `put_default`. A default that was put stays also where its kind is refused. What the message is once
     /// the bytes are written is said by `find_data` and `bytes_mut`, which do the same in two steps.
     pub fn get_data(mut self, default: Option<&[u8]>) -> Result<&'a mut [u8], ErrorKind>
-        requires there { IsThere (built A.view self) }
-        requires few { IsShortDefault default }
+        requires { TakesDefault (built A.view self) default }
         ensures found { ReachesArena (LendsBytes A.segments)
             (LooksUp A.view (FindsBytes data_in default.entry) self.entry) result }
     {
@@ -309,18 +272,11 @@ impl<'a, A: BuilderArena> PointerBuilder<'a, A> {
     /// Where the text is that the pointer leads to, as `get_text` looks for it. With both outcomes, it is
     /// what `get_text` is made of.
     pub fn find_text(&mut self, default: Option<&[u8]>) -> Result<ExistingBytes, ErrorKind>
-        requires there { IsThere (built A.view self.old) }
-        requires few { IsShortDefault default }
-        ensures found { OfStored (built A.view self.old)
-            (FindsBytes text_in default.entry result (calling A.view self.old self.new)) }
+        requires { TakesDefault (built A.view self.old) default }
+        ensures found { LooksUp A.view (FindsBytes text_in default.entry)
+            self.old self.new.arena.now result }
         ensures inside { IfOk result (BytesLieIn (A.view self.new.arena.now).words) }
-        ensures set { (IsNull (built A.view self.old) → ⊥)
-            → (A.view self.new.arena.now ≡ A.view self.old.arena.now)
-            × IfErr result (λ k. is_unfound k ≡ true) }
-        ensures memory { ChangesWords result (A.view self.old.arena.now)
-            (A.view self.new.arena.now) }
-        ensures there { IsThere (built A.view self.new) }
-        ensures builder { KeepsBuilder self.old self.new }
+        ensures stays { StaysThere A.view self.old self.new }
     {
         put_blob_default(&mut *self.arena, self.segment, self.at, default)?;
         look_for_text(&*self.arena, self.segment, self.at)
@@ -334,8 +290,7 @@ impl<'a, A: BuilderArena> PointerBuilder<'a, A> {
     /// `TextBlobMissingNULTerminator`. What the message is once the bytes are written is said by
     /// `find_text` and `bytes_mut`, which do the same in two steps.
     pub fn get_text(mut self, default: Option<&[u8]>) -> Result<&'a mut [u8], ErrorKind>
-        requires there { IsThere (built A.view self) }
-        requires few { IsShortDefault default }
+        requires { TakesDefault (built A.view self) default }
         ensures found { ReachesArena (LendsBytes A.segments)
             (LooksUp A.view (FindsBytes text_in default.entry) self.entry) result }
     {

@@ -4,10 +4,10 @@ ghost use Rattle.capnp_format.specs.Numbers.{element_bits};
 ghost use Rattle.capnp_words.specs.Sizes.{size_number};
 ghost use Rattle.capnp_readers.specs.Readers.{IsStructPlace, IsListPlace};
 ghost use Rattle.capnp_format.specs.Segments.{IsPlace};
-ghost use Rattle.capnp_readers.specs.Sections.{HoldsPointer, pointers_behind, elements_words, step_bits, data_bits};
+ghost use Rattle.capnp_readers.specs.Sections.{HoldsPointer, pointers_behind, elements_words, step_bits};
 ghost use Rattle.capnp_builders.specs.Places.{HasField, IsAligned, WritesField, element_place};
 ghost use Rattle.capnp_builders.specs.Elements.{lowest_bits};
-ghost use Rattle.capnp_builders.specs.Reads.{IsArenaOf, IsListReadAt};
+ghost use Rattle.capnp_builders.specs.Reads.{IsListReader};
 
 use crate::builders::{PointerBuilder, StructBuilder};
 use capnp_arena_traits::arena::BuilderArena;
@@ -99,7 +99,7 @@ fn step_bits(list: ListPlace) -> u32
 
 impl<'a, A: BuilderArena> ListBuilder<'a, A> {
     ghost use Rattle.std.specs.Borrow.{sem, follows};
-    ghost use Rattle.capnp_builders.specs.Building.{KeepsListBuilder};
+    ghost use Rattle.capnp_builders.specs.Building.{HoldsElement, IsSameArena, KeepsListBuilder};
     ghost use Rattle.capnp_builders.specs.contracts.builders.list_builder.ListBuilder.{the_row};
     ghost use mir.Syntax.{named};
 
@@ -140,9 +140,7 @@ impl<'a, A: BuilderArena> ListBuilder<'a, A> {
     /// The list, to be read: nothing is charged, and `i32::MAX` levels may be entered.
     pub fn as_reader(&self) -> ListReader<'_, A>
         requires { IsListPlace (A.view self.now.arena.now).words self.now.place }
-        ensures reads { IsArenaOf result.source self.now.arena.now }
-        ensures place { IsListReadAt A.ReaderArena self.now.place result }
-        ensures nesting { result.nesting_limit ≡ i32.MAX }
+        ensures { IsListReader A.ReaderArena self.now result }
     {
         ListReader::at(&*self.arena, self.place, i32::MAX)
     }
@@ -151,9 +149,7 @@ impl<'a, A: BuilderArena> ListBuilder<'a, A> {
     /// entered.
     pub fn into_reader(self) -> ListReader<'a, A>
         requires { IsListPlace (A.view self.arena.now).words self.place }
-        ensures reads { IsArenaOf result.source self.entry.arena.now }
-        ensures place { IsListReadAt A.ReaderArena self.entry.place result }
-        ensures nesting { result.nesting_limit ≡ i32.MAX }
+        ensures { IsListReader A.ReaderArena self.entry result }
     {
         let ListBuilder { arena, place } = self;
         ListReader::at(arena, place, i32::MAX)
@@ -166,8 +162,7 @@ impl<'a, A: BuilderArena> ListBuilder<'a, A> {
         requires inside { IsListPlace (A.view self.arena.now).words self.place }
         requires range { index < self.place.count }
         requires whole { size_number self.place.size ≢ 1 }
-        ensures same { result.arena.ghost_name ≡ self.entry.arena.ghost_name }
-        ensures now { result.arena.now ≡ self.entry.arena.now }
+        ensures arena { IsSameArena self.entry.arena result.arena }
         ensures place { result.place ≡ element_place self.entry.place.size self.entry.place index }
         ensures inside { IsStructPlace (A.view result.arena.now).words result.place }
     {
@@ -185,8 +180,7 @@ impl<'a, A: BuilderArena> ListBuilder<'a, A> {
         requires inside { IsListPlace (A.view self.arena.now).words self.place }
         requires range { index < self.place.count }
         requires pointers { HoldsPointer self.place.size self.place.struct_size }
-        ensures same { result.arena.ghost_name ≡ self.entry.arena.ghost_name }
-        ensures now { result.arena.now ≡ self.entry.arena.now }
+        ensures arena { IsSameArena self.entry.arena result.arena }
         ensures place { (result.segment ≡ self.entry.place.segment)
             × (result.at ≡ self.entry.place.byte / 8
             + pointers_behind self.entry.place.size self.entry.place.struct_size index) }
@@ -202,9 +196,7 @@ impl<'a, A: BuilderArena> ListBuilder<'a, A> {
 
     // The number in the lowest bytes of an element's data.
     pub(crate) fn get_number_at<T: Primitive>(&self, index: u32) -> T
-        requires inside { IsListPlace (A.view self.now.arena.now).words self.now.place }
-        requires range { index < self.now.place.count }
-        requires wide { 8 * T.BYTES ≤ data_bits self.now.place.size self.now.place.struct_size }
+        requires { HoldsElement A.view self.now index (8 * T.BYTES) }
         ensures { HasField (A.view self.now.arena.now) self.now.place.segment self.now.place.byte
             (lowest_bits self.now.place index (8 * T.BYTES) (T.bits_of result)) }
     {
@@ -215,9 +207,7 @@ impl<'a, A: BuilderArena> ListBuilder<'a, A> {
 
     // The lowest bit of an element's data.
     pub(crate) fn get_bit_at(&self, index: u32) -> bool
-        requires inside { IsListPlace (A.view self.now.arena.now).words self.now.place }
-        requires range { index < self.now.place.count }
-        requires wide { 1 ≤ data_bits self.now.place.size self.now.place.struct_size }
+        requires { HoldsElement A.view self.now index 1 }
         ensures { HasField (A.view self.now.arena.now) self.now.place.segment self.now.place.byte
             (lowest_bits self.now.place index 1 (cond result 1 0)) }
     {
@@ -228,14 +218,11 @@ impl<'a, A: BuilderArena> ListBuilder<'a, A> {
 
     // Writes a number over the lowest bytes of an element's data.
     pub(crate) fn set_number_at<T: Primitive>(&mut self, index: u32, value: T)
-        requires inside { IsListPlace (A.view self.old.arena.now).words self.old.place }
-        requires range { index < self.old.place.count }
-        requires wide { 8 * T.BYTES ≤ data_bits self.old.place.size self.old.place.struct_size }
+        requires { HoldsElement A.view self.old index (8 * T.BYTES) }
         ensures written { WritesField (A.view self.old.arena.now)
             (A.view self.new.arena.now) self.old.place.segment self.old.place.byte
             (lowest_bits self.old.place index (8 * T.BYTES) (T.bits_of value)) }
-        ensures inside { IsListPlace (A.view self.new.arena.now).words self.new.place }
-        ensures builder { KeepsListBuilder self.old self.new }
+        ensures builder { KeepsListBuilder A.view self.old self.new }
     {
         let step = u64::from(step_bits(self.place) / 8);
         let byte = self.place.byte + u64::from(index) * step;
@@ -244,14 +231,11 @@ impl<'a, A: BuilderArena> ListBuilder<'a, A> {
 
     // Writes the lowest bit of an element's data.
     pub(crate) fn set_bit_at(&mut self, index: u32, value: bool)
-        requires inside { IsListPlace (A.view self.old.arena.now).words self.old.place }
-        requires range { index < self.old.place.count }
-        requires wide { 1 ≤ data_bits self.old.place.size self.old.place.struct_size }
+        requires { HoldsElement A.view self.old index 1 }
         ensures written { WritesField (A.view self.old.arena.now)
             (A.view self.new.arena.now) self.old.place.segment self.old.place.byte
             (lowest_bits self.old.place index 1 (cond value 1 0)) }
-        ensures inside { IsListPlace (A.view self.new.arena.now).words self.new.place }
-        ensures builder { KeepsListBuilder self.old self.new }
+        ensures builder { KeepsListBuilder A.view self.old self.new }
     {
         let step = u64::from(step_bits(self.place));
         let bit = 8 * self.place.byte + u64::from(index) * step;

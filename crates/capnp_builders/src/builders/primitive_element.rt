@@ -30,8 +30,8 @@ pub trait PrimitiveElement {
     ghost bits_of: { Self → ℕ };
 
     /// An element of a list that is read: the number in the lowest bytes of the element's data, or its
-    /// lowest bit. There are more elements than `index`, and each has at least as many bits of data as
-    /// the value; `()` asks for neither. The data of a struct is its data section, so a list of numbers
+    /// lowest bit. The caller sees to it that `index` is below the number of elements, and
+    /// that each has at least as many bits of data as the value; for `()` neither is asked. The data of a struct is its data section, so a list of numbers
     /// that became a list of structs reads as before ("Lists").
     fn get<A: ReaderArena>(list: &ListReader<'_, A>, index: u32) -> Self
         requires range { 0 < element_bits (size_number size) → index < list.now.count }
@@ -64,8 +64,7 @@ pub trait PrimitiveElement {
             (lowest_bits list.old.place index (element_bits (size_number size)) (bits_of value)) }
         ensures nothing { element_bits (size_number size) ≡ 0
             → list.new.arena.now ≡ list.old.arena.now }
-        ensures inside { IsListPlace (A.view list.new.arena.now).words list.new.place }
-        ensures builder { KeepsListBuilder list.old list.new };
+        ensures builder { KeepsListBuilder A.view list.old list.new };
 
     /// The element size of a list of such elements: by the number of bytes, `Bit` for a `bool`, `Void`
     /// for `()` ("Lists").

@@ -3,9 +3,7 @@ ghost use Rattle.std.specs.Prelude.{◌≡◌, ◌≢◌, ◌↔◌, ◌+◌, �
 ghost use Rattle.capnp_format.specs.Segments.{segment, word_at, IsPlace};
 ghost use Rattle.capnp_making.specs.Fields.{field_in};
 ghost use Rattle.capnp_readers.specs.Readers.{IsStructPlace};
-ghost use Rattle.capnp_builders.specs.Reads.{IsArenaOf, IsReadAt};
 ghost use Rattle.capnp_builders.specs.Places.{HasField, IsAligned, WritesField, number_field, field};
-ghost use Rattle.capnp_readers.specs.Sections.{IsInside};
 ghost use Rattle.capnp_arena_traits.specs.View.{View};
 ghost use Rattle.capnp_builders.specs.Content.{TakesContent, StopsAtContent, ContentFits, pointers_copied};
 ghost use Rattle.capnp_copies.specs.Growth.{TakesAtMost};
@@ -16,7 +14,9 @@ use super::content::{clear_pointers, write_content};
 use crate::builders::PointerBuilder;
 use capnp_arena_traits::arena::{BuilderArena, ReaderArena};
 use capnp_contents::numbers;
-use capnp_readers::readers::{PointerReader, StructPlace, StructReader};
+use capnp_making::making::Start;
+use capnp_pointers::pointers::Pointer;
+use capnp_readers::readers::{StructPlace, StructReader};
 use capnp_value_copies::copy;
 use capnp_words::error::ErrorKind;
 use capnp_words::mask::Mask;
@@ -36,7 +36,8 @@ pub struct StructBuilder<'a, A> {
 
 impl<'a, A: BuilderArena> StructBuilder<'a, A> {
     ghost use Rattle.std.specs.Borrow.{sem, follows};
-    ghost use Rattle.capnp_builders.specs.Building.{KeepsStructBuilder};
+    ghost use Rattle.capnp_builders.specs.Building.{HoldsBit, HoldsField, IsSameArena, KeepsStructBuilder};
+    ghost use Rattle.capnp_builders.specs.Reads.{IsStructReader};
     ghost use Rattle.capnp_builders.specs.contracts.builders.struct_builder.StructBuilder.{the_row};
     ghost use mir.Syntax.{named};
 
@@ -56,9 +57,7 @@ impl<'a, A: BuilderArena> StructBuilder<'a, A> {
     /// The struct, to be read: nothing is charged, and `i32::MAX` levels may be entered.
     pub fn as_reader(&self) -> StructReader<'_, A>
         requires { IsStructPlace (A.view self.now.arena.now).words self.now.place }
-        ensures reads { IsArenaOf result.source self.now.arena.now }
-        ensures place { IsReadAt A.ReaderArena self.now.place result }
-        ensures nesting { result.nesting_limit ≡ i32.MAX }
+        ensures { IsStructReader A.ReaderArena self.now result }
     {
         StructReader::at(&*self.arena, self.place, i32::MAX)
     }
@@ -67,9 +66,7 @@ impl<'a, A: BuilderArena> StructBuilder<'a, A> {
     /// entered.
     pub fn into_reader(self) -> StructReader<'a, A>
         requires { IsStructPlace (A.view self.arena.now).words self.place }
-        ensures reads { IsArenaOf result.source self.entry.arena.now }
-        ensures place { IsReadAt A.ReaderArena self.entry.place result }
-        ensures nesting { result.nesting_limit ≡ i32.MAX }
+        ensures { IsStructReader A.ReaderArena self.entry result }
     {
         let StructBuilder { arena, place } = self;
         StructReader::at(arena, place, i32::MAX)
@@ -79,8 +76,7 @@ impl<'a, A: BuilderArena> StructBuilder<'a, A> {
     pub fn get_pointer_field(self, index: usize) -> PointerBuilder<'a, A>
         requires inside { IsStructPlace (A.view self.arena.now).words self.place }
         requires field { index < self.place.pointers }
-        ensures same { result.arena.ghost_name ≡ self.entry.arena.ghost_name }
-        ensures now { result.arena.now ≡ self.entry.arena.now }
+        ensures arena { IsSameArena self.entry.arena result.arena }
         ensures place { (result.segment ≡ self.entry.place.segment)
             × (result.at ≡ self.entry.place.pointers_at + index) }
         ensures inside { IsPlace (A.view result.arena.now).words result.segment result.at }
@@ -124,20 +120,22 @@ impl<'a, A: BuilderArena> StructBuilder<'a, A> {
             (min self.old.place.pointers value.now.pointer_count))
             (pointers_copied self.old.place (A.view self.old.arena.now)
             (A.view self.new.arena.now) lim.old lim.new) }
-        ensures inside { IsStructPlace (A.view self.new.arena.now).words self.new.place }
-        ensures builder { KeepsStructBuilder self.old self.new }
+        ensures builder { KeepsStructBuilder A.view self.old self.new }
     {
         let place = self.place;
-        let at = place.pointers_at;
+        let to = Start {
+            segment: place.segment,
+            at: place.pointers_at,
+        };
         write_content(&mut *self.arena, place, value.content, value.bits);
-        clear_pointers(&mut *self.arena, place.segment, at, place.pointers);
-        let from = PointerReader {
+        clear_pointers(&mut *self.arena, to.segment, to.at, place.pointers);
+        let from = Pointer {
             source: value.source,
             place: value.pointers,
             nesting_limit: value.nesting_limit,
         };
         let count = u32::from(place.pointers.min(value.pointer_count));
-        copy::copy_each(&mut *self.arena, place.segment, at, from, count, lim)
+        copy::copy_each(&mut *self.arena, to, from, count, lim)
     }
 
     /// Whether a pointer of the pointer section, which has more than `index`, is zero.
@@ -154,13 +152,11 @@ impl<'a, A: BuilderArena> StructBuilder<'a, A> {
     #[tactic(auto, using(crate::proofs::FieldPlaces::still_inside))]
     /// Writes a field of the data section, in which it lies, by its offset in values of `T`.
     pub fn set_data_field<T: Primitive + Zero>(&mut self, offset: usize, value: T)
-        requires inside { IsStructPlace (A.view self.old.arena.now).words self.old.place }
-        requires field { IsInside self.old.place.bits (8 * T.BYTES) offset }
+        requires { HoldsField A.view self.old (8 * T.BYTES) offset }
         ensures written { WritesField (A.view self.old.arena.now)
             (A.view self.new.arena.now) self.old.place.segment self.old.place.byte
             (number_field T.BYTES offset (T.bits_of value)) }
-        ensures inside { IsStructPlace (A.view self.new.arena.now).words self.new.place }
-        ensures builder { KeepsStructBuilder self.old self.new }
+        ensures builder { KeepsStructBuilder A.view self.old self.new }
     {
         let byte = self.place.byte + (offset * T::BYTES) as u64;
         numbers::set_number(&mut *self.arena, self.place.segment, byte, value);
@@ -174,13 +170,11 @@ impl<'a, A: BuilderArena> StructBuilder<'a, A> {
         value: T,
         mask: <T as Mask>::T,
     )
-        requires inside { IsStructPlace (A.view self.old.arena.now).words self.old.place }
-        requires field { IsInside self.old.place.bits (8 * T.BYTES) offset }
+        requires { HoldsField A.view self.old (8 * T.BYTES) offset }
         ensures written { WritesField (A.view self.old.arena.now)
             (A.view self.new.arena.now) self.old.place.segment self.old.place.byte
             (number_field T.BYTES offset (T.bits_of (T.masked value mask))) }
-        ensures inside { IsStructPlace (A.view self.new.arena.now).words self.new.place }
-        ensures builder { KeepsStructBuilder self.old self.new }
+        ensures builder { KeepsStructBuilder A.view self.old self.new }
     {
         self.set_data_field(offset, T::mask(value, mask));
     }
@@ -188,13 +182,11 @@ impl<'a, A: BuilderArena> StructBuilder<'a, A> {
     #[tactic(auto, using(crate::proofs::FieldPlaces::still_inside))]
     /// Writes a bit of the data section, in which it lies, by its offset in bits.
     pub fn set_bool_field(&mut self, offset: usize, value: bool)
-        requires inside { IsStructPlace (A.view self.old.arena.now).words self.old.place }
-        requires field { offset < self.old.place.bits }
+        requires { HoldsBit A.view self.old offset }
         ensures written { WritesField (A.view self.old.arena.now)
             (A.view self.new.arena.now) self.old.place.segment self.old.place.byte
             (field offset 1 (cond value 1 0)) }
-        ensures inside { IsStructPlace (A.view self.new.arena.now).words self.new.place }
-        ensures builder { KeepsStructBuilder self.old self.new }
+        ensures builder { KeepsStructBuilder A.view self.old self.new }
     {
         let bit = 8 * self.place.byte + offset as u64;
         numbers::set_bit(&mut *self.arena, self.place.segment, bit, value);
@@ -203,21 +195,18 @@ impl<'a, A: BuilderArena> StructBuilder<'a, A> {
     /// Writes a bit of the data section under a mask, its default: `get_bool_field_mask` with the same
     /// mask gives the value.
     pub fn set_bool_field_mask(&mut self, offset: usize, value: bool, mask: bool)
-        requires inside { IsStructPlace (A.view self.old.arena.now).words self.old.place }
-        requires field { offset < self.old.place.bits }
+        requires { HoldsBit A.view self.old offset }
         ensures written { WritesField (A.view self.old.arena.now)
             (A.view self.new.arena.now) self.old.place.segment self.old.place.byte
             (field offset 1 (cond mask (cond value 0 1) (cond value 1 0))) }
-        ensures inside { IsStructPlace (A.view self.new.arena.now).words self.new.place }
-        ensures builder { KeepsStructBuilder self.old self.new }
+        ensures builder { KeepsStructBuilder A.view self.old self.new }
     {
         self.set_bool_field(offset, value != mask);
     }
 
     /// A field of the data section, in which it lies, by its offset in values of `T`.
     pub fn get_data_field<T: Primitive + Zero>(&self, offset: usize) -> T
-        requires inside { IsStructPlace (A.view self.now.arena.now).words self.now.place }
-        requires field { IsInside self.now.place.bits (8 * T.BYTES) offset }
+        requires { HoldsField A.view self.now (8 * T.BYTES) offset }
         ensures { HasField (A.view self.now.arena.now) self.now.place.segment self.now.place.byte
             (number_field T.BYTES offset (T.bits_of result)) }
     {
@@ -231,8 +220,7 @@ impl<'a, A: BuilderArena> StructBuilder<'a, A> {
         offset: usize,
         mask: <T as Mask>::T,
     ) -> T
-        requires inside { IsStructPlace (A.view self.now.arena.now).words self.now.place }
-        requires field { IsInside self.now.place.bits (8 * T.BYTES) offset }
+        requires { HoldsField A.view self.now (8 * T.BYTES) offset }
         ensures { (raw : T)
             × HasField (A.view self.now.arena.now) self.now.place.segment self.now.place.byte
             (number_field T.BYTES offset (T.bits_of raw))
@@ -243,8 +231,7 @@ impl<'a, A: BuilderArena> StructBuilder<'a, A> {
 
     /// A bit of the data section, in which it lies, by its offset in bits.
     pub fn get_bool_field(&self, offset: usize) -> bool
-        requires inside { IsStructPlace (A.view self.now.arena.now).words self.now.place }
-        requires field { offset < self.now.place.bits }
+        requires { HoldsBit A.view self.now offset }
         ensures { IsTrue result
             ↔ (field_in (segment (A.view self.now.arena.now).words self.now.place.segment)
             (8 * self.now.place.byte + offset) 1 ≡ 1) }
@@ -255,8 +242,7 @@ impl<'a, A: BuilderArena> StructBuilder<'a, A> {
 
     /// A bit of the data section, in which it lies, under a mask, its default.
     pub fn get_bool_field_mask(&self, offset: usize, mask: bool) -> bool
-        requires inside { IsStructPlace (A.view self.now.arena.now).words self.now.place }
-        requires field { offset < self.now.place.bits }
+        requires { HoldsBit A.view self.now offset }
         ensures plain { mask ≡ false
             → (IsTrue result
             ↔ (field_in (segment (A.view self.now.arena.now).words self.now.place.segment)

@@ -1,22 +1,21 @@
 //! The copy of pointers one behind the other.
-ghost use Rattle.std.specs.Prelude.{◌≡◌, ◌≢◌, ◌+◌, ◌^◌, ◌<◌, ◌≤◌, ◌↔◌, length, IsTrue};
-ghost use Rattle.capnp_format.specs.Segments.{word_at, IsPlace};
+ghost use Rattle.std.specs.Prelude.{◌≡◌, ◌<◌, ◌≤◌, ◌↔◌, IsTrue};
 ghost use Rattle.capnp_format.specs.Word.{kind, element_size};
-ghost use Rattle.capnp_objects.specs.Reading.{segment_read, word_of};
 ghost use Rattle.capnp_objects.specs.Wanted.{Form};
-ghost use Rattle.capnp_readers.specs.Readers.{reading};
+ghost use Rattle.capnp_pointers.specs.Pointers.{reading};
 ghost use Rattle.capnp_copies.specs.Growth.{CopiesOrLeaves, CopiesOrStops};
-ghost use Rattle.capnp_copies.specs.Changes.{change, change_to, HasNulls};
+ghost use Rattle.capnp_copies.specs.Changes.{change, change_to, HasNullsFor, IsNullPlace, IsPointerRead};
 ghost use Rattle.capnp_copies.specs.Forms.{form_in};
 ghost use Rattle.capnp_copies.specs.Originals.{value_original};
+ghost use Rattle.capnp_making.specs.Makes.{call_at};
 
 use super::flat::{copy_flat, flat_words};
 use super::structs::copy_struct;
 use crate::form::{CopyForm, Destination};
 use capnp_arena_traits::arena::{BuilderArena, ReaderArena};
 use capnp_making::making::Start;
-use capnp_objects::object::Place;
-use capnp_readers::readers::PointerReader;
+use capnp_objects::object::{Place, PointerWord};
+use capnp_pointers::pointers::Pointer;
 use capnp_words::error::ErrorKind;
 use capnp_words::read_limiter::ReadLimiter;
 use capnp_words::wire_pointer::{ElementSize, WirePointer, WirePointerKind};
@@ -29,12 +28,12 @@ use capnp_words::words::part;
 pub fn copy_children<A: BuilderArena, B: ReaderArena>(
     arena: &mut A,
     to: Destination,
-    from: PointerReader<'_, B>,
+    from: Pointer<'_, B>,
     count: u32,
     lim: &mut ReadLimiter,
 ) -> Result<(), ErrorKind>
-    requires nulls { HasNulls (A.view arena.old).words to.place.segment to.place.at count }
-    requires inside { from.place.at + count ≤ length (segment_read (reading B.ReaderArena from)) }
+    requires { HasNullsFor (reading B.ReaderArena from) count
+        (A.view arena.old).words to.place.segment to.place.at }
     ensures { CopiesOrStops result (reading B.ReaderArena from.entry) count
         (change_to to (A.view arena.old) (A.view arena.new) lim.old lim.new) }
 {
@@ -44,22 +43,23 @@ pub fn copy_children<A: BuilderArena, B: ReaderArena>(
     copy_row(arena, to.place, from, count, lim, to.form)
 }
 
-/// Does what `copy_children` does, out of line: each level of structs is a call of it.
+/// Does what `copy_children` does, out of line: each level of structs is a call of it, to which a place
+/// and a form go in registers.
 #[cycle(copies)]
 #[inline(never)]
 fn copy_row<A: BuilderArena, B: ReaderArena>(
     arena: &mut A,
     to: Start,
-    from: PointerReader<'_, B>,
+    from: Pointer<'_, B>,
     count: u32,
     lim: &mut ReadLimiter,
     form: CopyForm,
 ) -> Result<(), ErrorKind>
-    requires nulls { HasNulls (A.view arena.old).words to.segment to.at count }
-    requires inside { from.place.at + count ≤ length (segment_read (reading B.ReaderArena from)) }
+    requires { HasNullsFor (reading B.ReaderArena from) count
+        (A.view arena.old).words to.segment to.at }
     ensures { CopiesOrStops result (reading B.ReaderArena from.entry) count
-        (change (form_in form) to.segment to.at (A.view arena.old)
-        (A.view arena.new) lim.old lim.new) }
+        (change (form_in form)
+        (call_at to.segment to.at (A.view arena.old) (A.view arena.new)) lim.old lim.new) }
 {
     let to = Destination { place: to, form };
     copy_in_line(arena, to, from, count, lim)
@@ -72,17 +72,17 @@ fn copy_row<A: BuilderArena, B: ReaderArena>(
 pub(crate) fn copy_in_line<A: BuilderArena, B: ReaderArena>(
     arena: &mut A,
     to: Destination,
-    from: PointerReader<'_, B>,
+    from: Pointer<'_, B>,
     count: u32,
     lim: &mut ReadLimiter,
 ) -> Result<(), ErrorKind>
-    requires nulls { HasNulls (A.view arena.old).words to.place.segment to.place.at count }
-    requires inside { from.place.at + count ≤ length (segment_read (reading B.ReaderArena from)) }
+    requires { HasNullsFor (reading B.ReaderArena from) count
+        (A.view arena.old).words to.place.segment to.place.at }
     ensures { CopiesOrStops result (reading B.ReaderArena from.entry) count
         (change_to to (A.view arena.old) (A.view arena.new) lim.old lim.new) }
 {
     for i in 0..count {
-        let child = PointerReader {
+        let child = Pointer {
             source: from.source,
             place: Place {
                 segment: from.place.segment,
@@ -108,11 +108,10 @@ pub(crate) fn copy_in_line<A: BuilderArena, B: ReaderArena>(
 fn copy_child<A: BuilderArena, B: ReaderArena>(
     arena: &mut A,
     to: Destination,
-    from: PointerReader<'_, B>,
+    from: Pointer<'_, B>,
     lim: &mut ReadLimiter,
 ) -> Result<(), ErrorKind>
-    requires place { IsPlace (A.view arena.old).words to.place.segment to.place.at }
-    requires null { word_at (A.view arena.old).words to.place.segment to.place.at ≡ 0 }
+    requires { IsNullPlace (A.view arena.old).words to.place.segment to.place.at }
     ensures { CopiesOrLeaves result (value_original (reading B.ReaderArena from.entry))
         (change_to to (A.view arena.old) (A.view arena.new) lim.old lim.new) }
 {
@@ -136,22 +135,24 @@ fn copy_child<A: BuilderArena, B: ReaderArena>(
 fn copy_near_struct<A: BuilderArena, B: ReaderArena>(
     arena: &mut A,
     to: Destination,
-    from: PointerReader<'_, B>,
+    from: Pointer<'_, B>,
     word: WirePointer,
     lim: &mut ReadLimiter,
 ) -> Result<(), ErrorKind>
-    requires place { IsPlace (A.view arena.old).words to.place.segment to.place.at }
-    requires null { word_at (A.view arena.old).words to.place.segment to.place.at ≡ 0 }
-    requires there { word.0 ≡ word_of (reading B.ReaderArena from) }
-    requires small { word.0 < 2 ^ 64 }
-    requires some { word.0 ≢ 0 }
+    requires place { IsNullPlace (A.view arena.old).words to.place.segment to.place.at }
+    requires word { IsPointerRead (reading B.ReaderArena from) word.0 }
     requires is_struct { kind word.0 ≡ 0 }
     ensures { CopiesOrLeaves result (value_original (reading B.ReaderArena from.entry))
         (change_to to (A.view arena.old) (A.view arena.new) lim.old lim.new) }
 {
     let source = from.source;
-    let start = source.read_near_struct(from.place, word, from.nesting_limit, lim)?;
-    let inner = PointerReader {
+    let pointer = PointerWord {
+        place: from.place,
+        word,
+        nesting_limit: from.nesting_limit,
+    };
+    let start = source.read_near_struct(pointer, lim)?;
+    let inner = Pointer {
         source,
         place: Place {
             segment: from.place.segment,
@@ -168,25 +169,29 @@ fn copy_near_struct<A: BuilderArena, B: ReaderArena>(
 fn copy_near_flat<A: BuilderArena, B: ReaderArena>(
     arena: &mut A,
     to: Start,
-    from: PointerReader<'_, B>,
+    from: Pointer<'_, B>,
     word: WirePointer,
     lim: &mut ReadLimiter,
 ) -> Result<(), ErrorKind>
-    requires place { IsPlace (A.view arena.old).words to.segment to.at }
-    requires null { word_at (A.view arena.old).words to.segment to.at ≡ 0 }
-    requires there { word.0 ≡ word_of (reading B.ReaderArena from) }
-    requires small { word.0 < 2 ^ 64 }
-    requires some { word.0 ≢ 0 }
+    requires place { IsNullPlace (A.view arena.old).words to.segment to.at }
+    requires word { IsPointerRead (reading B.ReaderArena from) word.0 }
     requires is_list { kind word.0 ≡ 1 }
     requires of_bits { (0 < element_size word.0) × (element_size word.0 ≤ 5) }
-    ensures { (form : Form) → CopiesOrLeaves result (value_original (reading B.ReaderArena from.entry))
-        (change form to.segment to.at (A.view arena.old) (A.view arena.new) lim.old lim.new) }
+    ensures { (form : Form)
+        → CopiesOrLeaves result (value_original (reading B.ReaderArena from.entry))
+        (change form
+        (call_at to.segment to.at (A.view arena.old) (A.view arena.new)) lim.old lim.new) }
 {
     let size = word.list_element_size();
     let count = word.list_element_count();
     let words = flat_words(size, count);
     let source = from.source;
-    let start = source.read_near_flat(from.place, word, words, from.nesting_limit, lim)?;
+    let pointer = PointerWord {
+        place: from.place,
+        word,
+        nesting_limit: from.nesting_limit,
+    };
+    let start = source.read_near_flat(pointer, words, lim)?;
     let elements = part(from.place.bytes, start as usize, words as usize);
     copy_flat(arena, to, size, count, elements)
 }

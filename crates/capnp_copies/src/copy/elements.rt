@@ -4,12 +4,12 @@ ghost use Rattle.capnp_format.specs.Bytes.{words_of};
 ghost use Rattle.capnp_format.specs.Segments.{segment, word_at};
 ghost use Rattle.capnp_arena_traits.specs.Written.{with_words};
 ghost use Rattle.capnp_objects.specs.Reading.{segment_read};
-ghost use Rattle.capnp_readers.specs.Readers.{reading};
+ghost use Rattle.capnp_pointers.specs.Pointers.{reading};
 ghost use Rattle.capnp_copies.specs.Growth.{TakesNone, TakesAtMost};
 ghost use Rattle.capnp_copies.specs.Changes.{change_to, CopiesRows, StopsAtElements};
 ghost use Rattle.capnp_copies.specs.Forms.{form_in};
 ghost use Rattle.capnp_copies.specs.Originals.{elements_original};
-ghost use Rattle.capnp_copies.specs.Widths.{widths_kept};
+ghost use Rattle.capnp_copies.specs.Widths.{widths_kept, IsAtMost};
 
 use super::children::copy_in_line;
 use crate::form::Destination;
@@ -17,7 +17,7 @@ use crate::widths::ElementSizes;
 use capnp_arena_traits::arena::{BuilderArena, ReaderArena};
 use capnp_making::making::Start;
 use capnp_objects::object::Place;
-use capnp_readers::readers::PointerReader;
+use capnp_pointers::pointers::Pointer;
 use capnp_words::error::ErrorKind;
 use capnp_words::read_limiter::ReadLimiter;
 use capnp_words::words::{count, part};
@@ -29,7 +29,7 @@ use capnp_words::words::{count, part};
 pub(crate) fn copy_elements<A: BuilderArena, B: ReaderArena>(
     arena: &mut A,
     to: Destination,
-    from: PointerReader<'_, B>,
+    from: Pointer<'_, B>,
     sizes: ElementSizes,
     lim: &mut ReadLimiter,
 ) -> Result<(), ErrorKind>
@@ -40,8 +40,7 @@ pub(crate) fn copy_elements<A: BuilderArena, B: ReaderArena>(
     requires inside { from.place.at
         + sizes.count * (sizes.source.data_words + sizes.source.pointers)
         ≤ length (segment_read (reading B.ReaderArena from)) }
-    requires less_data { sizes.kept.data_words ≤ sizes.source.data_words }
-    requires less_pointers { sizes.kept.pointers ≤ sizes.source.pointers }
+    requires less { IsAtMost sizes.kept sizes.source }
     requires kept { sizes.kept ≡ widths_kept (form_in to.form) (reading B.ReaderArena from)
         sizes.source sizes.count }
     ensures copied { IfOk result
@@ -67,7 +66,7 @@ pub(crate) fn copy_elements<A: BuilderArena, B: ReaderArena>(
         let row = to.place.at + i * kept_words;
         let data = part(from.place.bytes, element as usize, data_words);
         put_words(arena, segment, row, data);
-        let children = PointerReader {
+        let children = Pointer {
             source: from.source,
             place: Place {
                 segment: from.place.segment,

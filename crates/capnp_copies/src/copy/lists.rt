@@ -1,13 +1,12 @@
 //! The copy of lists of pointers and of structs ("Lists", "Canonicalization").
 ghost use Rattle.std.specs.Prelude.{◌≡◌, ◌+◌, ◌*◌, ◌<◌, ◌≤◌, ◌^◌, length};
-ghost use Rattle.capnp_format.specs.Segments.{word_at, IsPlace};
 ghost use Rattle.capnp_objects.specs.Reading.{segment_read};
-ghost use Rattle.capnp_readers.specs.Readers.{reading};
+ghost use Rattle.capnp_pointers.specs.Pointers.{reading};
 ghost use Rattle.capnp_copies.specs.Growth.{CopiesOrLeaves};
-ghost use Rattle.capnp_copies.specs.Changes.{change_to};
+ghost use Rattle.capnp_copies.specs.Changes.{change_to, IsNullPlace};
 ghost use Rattle.capnp_copies.specs.Forms.{form_in};
 ghost use Rattle.capnp_copies.specs.Originals.{pointers_original, structs_original};
-ghost use Rattle.capnp_copies.specs.Widths.{widths_kept};
+ghost use Rattle.capnp_copies.specs.Widths.{widths_kept, IsAtMost};
 
 use super::children::copy_in_line;
 use super::elements::copy_elements;
@@ -15,7 +14,7 @@ use crate::form::{CopyForm, Destination};
 use crate::widths::{ElementSizes, StructList, least_widths};
 use capnp_arena_traits::arena::{BuilderArena, ReaderArena};
 use capnp_making::making::{Start, make_list, make_struct_list};
-use capnp_readers::readers::PointerReader;
+use capnp_pointers::pointers::Pointer;
 use capnp_words::error::ErrorKind;
 use capnp_words::read_limiter::ReadLimiter;
 use capnp_words::wire_pointer::{ElementSize, StructSize};
@@ -26,12 +25,11 @@ use capnp_words::wire_pointer::{ElementSize, StructSize};
 pub fn copy_pointers<A: BuilderArena, B: ReaderArena>(
     arena: &mut A,
     to: Destination,
-    from: PointerReader<'_, B>,
+    from: Pointer<'_, B>,
     count: u32,
     lim: &mut ReadLimiter,
 ) -> Result<(), ErrorKind>
-    requires place { IsPlace (A.view arena.old).words to.place.segment to.place.at }
-    requires null { word_at (A.view arena.old).words to.place.segment to.place.at ≡ 0 }
+    requires place { IsNullPlace (A.view arena.old).words to.place.segment to.place.at }
     requires few { count < 2 ^ 29 }
     requires inside { from.place.at + count ≤ length (segment_read (reading B.ReaderArena from)) }
     ensures { CopiesOrLeaves result (pointers_original count (reading B.ReaderArena from.entry))
@@ -53,12 +51,11 @@ pub fn copy_pointers<A: BuilderArena, B: ReaderArena>(
 pub fn copy_structs<A: BuilderArena, B: ReaderArena>(
     arena: &mut A,
     to: Destination,
-    from: PointerReader<'_, B>,
+    from: Pointer<'_, B>,
     list: StructList,
     lim: &mut ReadLimiter,
 ) -> Result<(), ErrorKind>
-    requires place { IsPlace (A.view arena.old).words to.place.segment to.place.at }
-    requires null { word_at (A.view arena.old).words to.place.segment to.place.at ≡ 0 }
+    requires place { IsNullPlace (A.view arena.old).words to.place.segment to.place.at }
     requires few { list.count < 2 ^ 30 }
     requires words { list.count * (list.size.data_words + list.size.pointers) < 2 ^ 29 }
     requires inside { from.place.at + list.count * (list.size.data_words + list.size.pointers)
@@ -87,7 +84,7 @@ pub fn copy_structs<A: BuilderArena, B: ReaderArena>(
 /// The sections that a copy of so many structs keeps of each, of which `from` is the first word: in
 /// canonical form the least that lose nothing.
 fn kept_widths<B: ReaderArena>(
-    from: PointerReader<'_, B>,
+    from: Pointer<'_, B>,
     size: StructSize,
     count: u32,
     form: CopyForm,
@@ -96,8 +93,7 @@ fn kept_widths<B: ReaderArena>(
         ≤ length (segment_read (reading B.ReaderArena from)) }
     ensures kept { result
         ≡ widths_kept (form_in form) (reading B.ReaderArena from.entry) size count }
-    ensures less_data { result.data_words ≤ size.data_words }
-    ensures less_pointers { result.pointers ≤ size.pointers }
+    ensures less { IsAtMost result size }
 {
     match form {
         CopyForm::Canonical => least_widths(from.place.bytes, from.place.at, count, size),

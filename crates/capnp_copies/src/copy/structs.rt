@@ -1,13 +1,13 @@
 //! The copy of a struct ("Structs", "Canonicalization").
 ghost use Rattle.std.specs.Prelude.{◌≡◌, ◌+◌, ◌≤◌, length};
 ghost use Rattle.capnp_format.specs.Canonical.{used_words};
-ghost use Rattle.capnp_format.specs.Segments.{word_at, IsPlace};
 ghost use Rattle.capnp_objects.specs.Reading.{segment_read, behind, words_from};
-ghost use Rattle.capnp_readers.specs.Readers.{reading};
+ghost use Rattle.capnp_pointers.specs.Pointers.{reading};
 ghost use Rattle.capnp_copies.specs.Growth.{CopiesOrLeaves};
-ghost use Rattle.capnp_copies.specs.Changes.{change_to};
+ghost use Rattle.capnp_copies.specs.Changes.{change_to, IsNullPlace};
 ghost use Rattle.capnp_copies.specs.Forms.{form_in};
 ghost use Rattle.capnp_copies.specs.Originals.{sections_original, kept_count};
+ghost use Rattle.capnp_copies.specs.Widths.{IsAtMost};
 
 use super::children::copy_children;
 use super::elements::put_words;
@@ -15,7 +15,7 @@ use crate::form::{CopyForm, Destination};
 use capnp_arena_traits::arena::{BuilderArena, ReaderArena};
 use capnp_making::making::{Start, make_struct};
 use capnp_objects::object::Place;
-use capnp_readers::readers::PointerReader;
+use capnp_pointers::pointers::Pointer;
 use capnp_words::error::ErrorKind;
 use capnp_words::read_limiter::ReadLimiter;
 use capnp_words::wire_pointer::StructSize;
@@ -28,14 +28,13 @@ use capnp_words::words::{part, used_part};
 pub(crate) fn copy_struct<A: BuilderArena, B: ReaderArena>(
     arena: &mut A,
     to: Destination,
-    from: PointerReader<'_, B>,
+    from: Pointer<'_, B>,
     size: StructSize,
     lim: &mut ReadLimiter,
 ) -> Result<(), ErrorKind>
-    requires place { IsPlace (A.view arena.old).words to.place.segment to.place.at }
+    requires place { IsNullPlace (A.view arena.old).words to.place.segment to.place.at }
     requires inside { from.place.at + (size.data_words + size.pointers)
         ≤ length (segment_read (reading B.ReaderArena from)) }
-    requires null { word_at (A.view arena.old).words to.place.segment to.place.at ≡ 0 }
     ensures { CopiesOrLeaves result
         (sections_original (words_from (reading B.ReaderArena from.entry) size.data_words)
         (behind (reading B.ReaderArena from.entry) size.data_words) size.pointers)
@@ -47,7 +46,7 @@ pub(crate) fn copy_struct<A: BuilderArena, B: ReaderArena>(
     let data_words = usize::from(kept.data_words);
     let data = part(from.place.bytes, from.place.at as usize, data_words);
     put_words(arena, start.segment, start.at, data);
-    let children = PointerReader {
+    let children = Pointer {
         source: from.source,
         place: Place {
             segment: from.place.segment,
@@ -68,7 +67,7 @@ pub(crate) fn copy_struct<A: BuilderArena, B: ReaderArena>(
 /// the words of each up to the last that is not zero.
 #[inline(always)]
 fn kept_sections<B: ReaderArena>(
-    from: PointerReader<'_, B>,
+    from: Pointer<'_, B>,
     size: StructSize,
     form: CopyForm,
 ) -> StructSize
@@ -78,8 +77,7 @@ fn kept_sections<B: ReaderArena>(
         (words_from (reading B.ReaderArena from.entry) size.data_words) }
     ensures pointers { result.pointers ≡ kept_count (form_in form)
         (words_from (behind (reading B.ReaderArena from.entry) size.data_words) size.pointers) }
-    ensures less_data { result.data_words ≤ size.data_words }
-    ensures less_pointers { result.pointers ≤ size.pointers }
+    ensures less { IsAtMost result size }
 {
     match form {
         CopyForm::Canonical => used_sections(from, size),
@@ -90,15 +88,14 @@ fn kept_sections<B: ReaderArena>(
 /// How much of a struct's sections is used, of which `from` is the first word: the words of each up
 /// to the last that is not zero.
 #[inline(always)]
-fn used_sections<B: ReaderArena>(from: PointerReader<'_, B>, size: StructSize) -> StructSize
+fn used_sections<B: ReaderArena>(from: Pointer<'_, B>, size: StructSize) -> StructSize
     requires inside { from.place.at + (size.data_words + size.pointers)
         ≤ length (segment_read (reading B.ReaderArena from)) }
     ensures data { result.data_words
         ≡ used_words (words_from (reading B.ReaderArena from.entry) size.data_words) }
     ensures pointers { result.pointers ≡ used_words
         (words_from (behind (reading B.ReaderArena from.entry) size.data_words) size.pointers) }
-    ensures less_data { result.data_words ≤ size.data_words }
-    ensures less_pointers { result.pointers ≤ size.pointers }
+    ensures less { IsAtMost result size }
 {
     let bytes = from.place.bytes;
     let data = from.place.at as usize;

@@ -4,7 +4,7 @@ ghost use Rattle.capnp_builders.specs.Building.{built, calling, IsThere};
 ghost use Rattle.capnp_edits.specs.declared.edit.path.PathEnd.TheVariants.{Pointer as AtPointer};
 ghost use Rattle.capnp_edits.specs.declared.edit.tasks.Task.TheVariants.{CopyRoot};
 ghost use Rattle.capnp_edits.specs.Sources.{HasRoot, IsRootless, once_at_root, root_of};
-ghost use Rattle.capnp_readers.specs.Readers.{reading};
+ghost use Rattle.capnp_readers.specs.Readers.{read_by};
 ghost use Rattle.capnp_edits.specs.Edits.{refusal_of, place_of, refusals_after};
 ghost use Rattle.capnp_edits.specs.Steps.{FitsAt, CopiesWhole, DoesThere};
 
@@ -46,7 +46,7 @@ pub(crate) fn open_source<'a>(
     source: Source<'a>,
 ) -> Result<(SourceReader<'a>, ReadLimiter), ErrorKind>
     ensures found { IfOk result (λ r. HasRoot source.entry
-        × (reading ⟦<ReaderArenaImpl<SegmentArray<'a>> as ReaderArena>⟧ r.0 ≡ root_of source.entry)
+        × (read_by ⟦<ReaderArenaImpl<SegmentArray<'a>> as ReaderArena>⟧ r.0 ≡ root_of source.entry)
         × (r.1 ≡ once_at_root source.entry)) }
     ensures refused { IfErr result (IsRootless source.entry) }
 {

@@ -1,10 +1,11 @@
 //! Edits of elements of lists, and of bytes of texts and data.
-ghost use Rattle.std.specs.Prelude.{◌≡◌, ◌+◌, ◌<◌, ◌≤◌, IsTrue, IfErr, OnErr, true};
-ghost use Rattle.capnp_arena_traits.specs.View.{KeepsLimits};
+ghost use Rattle.std.specs.Prelude.{◌≡◌, ◌+◌, ◌<◌, ◌≤◌, IsTrue, IfErr, true};
 ghost use Rattle.capnp_format.specs.Numbers.{element_bits};
 ghost use Rattle.capnp_format.specs.Segments.{IsPlace};
 ghost use Rattle.capnp_contents.specs.Existing.{is_unfound};
 ghost use Rattle.capnp_words.specs.Sizes.{size_number};
+ghost use Rattle.capnp_words.specs.declared.wire_pointer.ElementSize.TheVariants.{Byte};
+ghost use Rattle.capnp_builders.specs.Building.{HoldsElement};
 ghost use Rattle.capnp_readers.specs.Readers.{IsListPlace};
 ghost use Rattle.capnp_readers.specs.Sections.{data_bits, elements_words};
 ghost use Rattle.capnp_builders.specs.Elements.{lowest_bits};
@@ -12,7 +13,7 @@ ghost use Rattle.capnp_builders.specs.Places.{WritesField, list_place};
 ghost use Rattle.capnp_edits.specs.declared.edit.path.PathEnd.TheVariants.{Pointer as AtPointer};
 ghost use Rattle.capnp_edits.specs.declared.edit.tasks.Task.TheVariants.{Write};
 ghost use Rattle.capnp_edits.specs.Tasks.{is_in_range, is_number};
-ghost use Rattle.capnp_edits.specs.Edits.{refusal_of, is_of_path, PutsElement, PutsByte};
+ghost use Rattle.capnp_edits.specs.Edits.{refusal_of, is_of_path, PutsElement, PutsByte, WritesWords};
 ghost use Rattle.capnp_edits.specs.Steps.{IsDoneAt};
 
 use crate::edit::path::has_words;
@@ -78,10 +79,7 @@ fn put_element<A: BuilderArena>(
     index: u32,
     value: u64,
 )
-    requires inside { IsListPlace (A.view list.old.arena.now).words list.old.place }
-    requires there { index < list.old.place.count }
-    requires wide { element_bits (size_number size)
-        ≤ data_bits list.old.place.size list.old.place.struct_size }
+    requires element { HoldsElement A.view list.old index (element_bits (size_number size)) }
     requires number { is_number size value ≡ true }
     ensures written { WritesField (A.view list.old.arena.now)
         (A.view list.new.arena.now) list.old.place.segment list.old.place.byte
@@ -107,9 +105,8 @@ fn set_element<A: BuilderArena>(
     requires looked { IfErr found (λ k. is_unfound k ≡ true) }
     ensures put { PutsElement (A.view arena.old).words
         (A.view arena.new).words found number (refusal_of result) }
-    ensures limits { KeepsLimits (A.view arena.old) (A.view arena.new) }
+    ensures only { WritesWords result (A.view arena.old) (A.view arena.new) }
     ensures named { IfErr result (λ k. is_of_path k ≡ true) }
-    ensures kept { OnErr result (A.view arena.new ≡ A.view arena.old) }
 {
     match found? {
         Some(list) if has_element(&*arena, list, number.size, number.index) => {
@@ -135,11 +132,10 @@ fn write_byte<A: BuilderArena>(
 ) -> Result<(), ErrorKind>
     requires { IfErr found (λ k. is_unfound k ≡ true) }
     ensures byte { value < 256 }
-    ensures put { PutsByte (A.view arena.old).words (A.view arena.new).words found index value
-        (refusal_of result) }
-    ensures limits { KeepsLimits (A.view arena.old) (A.view arena.new) }
+    ensures put { PutsByte (A.view arena.old).words (A.view arena.new).words found
+        (record { size = Byte; index = index; value = value }) (refusal_of result) }
+    ensures only { WritesWords result (A.view arena.old) (A.view arena.new) }
     ensures named { IfErr result (λ k. is_of_path k ≡ true) }
-    ensures kept { OnErr result (A.view arena.new ≡ A.view arena.old) }
 {
     match found? {
         Some(bytes) if index < bytes.length && existing::are_inside(&*arena, bytes) => {

@@ -1,11 +1,10 @@
 //! Edits of the data section of a struct.
-ghost use Rattle.std.specs.Prelude.{◌≡◌, true, cond, IfErr, OnErr};
+ghost use Rattle.std.specs.Prelude.{◌≡◌, true, cond, IfErr};
 ghost use Rattle.capnp_words.specs.declared.error.ErrorKind.TheVariants.{NoSuchPlace};
-ghost use Rattle.capnp_arena_traits.specs.View.{KeepsLimits};
 ghost use Rattle.capnp_contents.specs.Existing.{StructLiesIn};
 ghost use Rattle.capnp_builders.specs.Places.{field, number_field};
 ghost use Rattle.capnp_edits.specs.Tasks.{is_number};
-ghost use Rattle.capnp_edits.specs.Edits.{refusal_of, bits_of, PutsBits};
+ghost use Rattle.capnp_edits.specs.Edits.{refusal_of, bits_of, PutsBits, WritesWords};
 
 use crate::edit::tasks::Number;
 use capnp_arena::arena::BuilderArena;
@@ -26,9 +25,8 @@ fn put_number<A: BuilderArena, T: Primitive + Drop>(
     requires { StructLiesIn (A.view arena.old).words parent }
     ensures put { PutsBits (A.view arena.old).words (A.view arena.new).words parent
         (number_field T.BYTES index (T.bits_of value)) (refusal_of result) }
-    ensures limits { KeepsLimits (A.view arena.old) (A.view arena.new) }
+    ensures only { WritesWords result (A.view arena.old) (A.view arena.new) }
     ensures named { IfErr result (λ k. k ≡ NoSuchPlace) }
-    ensures kept { OnErr result (A.view arena.new ≡ A.view arena.old) }
 {
     let bytes = T::BYTES as u64;
     let byte = u64::from(index) * bytes;
@@ -55,9 +53,8 @@ fn put_bit<A: BuilderArena>(
     requires { StructLiesIn (A.view arena.old).words parent }
     ensures put { PutsBits (A.view arena.old).words (A.view arena.new).words parent
         (field index 1 (cond value 1 0)) (refusal_of result) }
-    ensures limits { KeepsLimits (A.view arena.old) (A.view arena.new) }
+    ensures only { WritesWords result (A.view arena.old) (A.view arena.new) }
     ensures named { IfErr result (λ k. k ≡ NoSuchPlace) }
-    ensures kept { OnErr result (A.view arena.new ≡ A.view arena.old) }
 {
     if u64::from(index) >= 64 * u64::from(parent.size.data_words) {
         return Err(ErrorKind::NoSuchPlace);
@@ -77,9 +74,8 @@ pub(crate) fn put_field<A: BuilderArena>(
     requires range { is_number number.size number.value ≡ true }
     ensures put { PutsBits (A.view arena.old).words (A.view arena.new).words parent
         (bits_of number) (refusal_of result) }
-    ensures limits { KeepsLimits (A.view arena.old) (A.view arena.new) }
+    ensures only { WritesWords result (A.view arena.old) (A.view arena.new) }
     ensures named { IfErr result (λ k. k ≡ NoSuchPlace) }
-    ensures kept { OnErr result (A.view arena.new ≡ A.view arena.old) }
 {
     match number.size {
         ElementSize::Bit => put_bit(arena, parent, number.index, number.value != 0),

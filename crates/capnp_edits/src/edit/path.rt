@@ -3,7 +3,7 @@ ghost use Rattle.std.specs.Prelude.{◌≡◌, ◌↔◌, ◌≤◌, ◌<◌, �
 ghost use Rattle.capnp_format.specs.Segments.{segment, IsPlace};
 ghost use Rattle.capnp_format.specs.Tree.{Tree};
 ghost use Rattle.capnp_making.specs.Stored.{IsStored};
-ghost use Rattle.capnp_edits.specs.Paths.{step_of, IsPathFound, EndLiesIn, Steps, child_in, element_in};
+ghost use Rattle.capnp_edits.specs.Paths.{step_of, IsPathFound, EndLiesIn, IsEndFound, Steps, child_in, element_in};
 
 use crate::edit::Step;
 use capnp_arena::arena::BuilderArena;
@@ -34,9 +34,7 @@ pub(crate) fn has_words<A: BuilderArena>(arena: &A, id: u32, words: u64) -> bool
 
 /// Where a pointer of a struct is, by its index.
 fn child_of<A: BuilderArena>(arena: &A, parent: ExistingStruct, i: u16) -> Option<PathEnd>
-    ensures exactly { IfSome (child_in parent i) (EndLiesIn (A.view arena.now).words)
-        → result ≡ child_in parent i }
-    ensures inside { IfSome result (EndLiesIn (A.view arena.now).words) }
+    ensures { IsEndFound (A.view arena.now).words (child_in parent i) result }
 {
     let at = u64::from(parent.start) + u64::from(parent.size.data_words) + u64::from(i);
     if i < parent.size.pointers && has_words(arena, parent.segment, at + 1) {
@@ -51,9 +49,7 @@ fn child_of<A: BuilderArena>(arena: &A, parent: ExistingStruct, i: u16) -> Optio
 
 /// Where an element of a list is, by its index, if it is a pointer or a struct.
 fn element_of<A: BuilderArena>(arena: &A, list: ExistingList, i: u32) -> Option<PathEnd>
-    ensures exactly { IfSome (element_in list i) (EndLiesIn (A.view arena.now).words)
-        → result ≡ element_in list i }
-    ensures inside { IfSome result (EndLiesIn (A.view arena.now).words) }
+    ensures { IsEndFound (A.view arena.now).words (element_in list i) result }
 {
     match list.size {
         ElementSize::Pointer => {
@@ -111,7 +107,8 @@ fn step_from<A: BuilderArena>(arena: &A, here: PathEnd, step: Step) -> Option<Pa
 pub(crate) fn find<A: BuilderArena>(arena: &A, path: &[Step]) -> Option<PathEnd>
     requires { IsPlace (A.view arena.now).words 0 0 }
     ensures found { (t : Tree) → IsStored (A.view arena.now).words 0 0 t
-        → IsPathFound (A.view arena.now).words 0 0 t (map step_of path.now) result }
+        → IsPathFound (A.view arena.now).words (record { segment = 0; word = 0 }) t
+        (map step_of path.now) result }
     ensures inside { IfSome result (EndLiesIn (A.view arena.now).words) }
 {
     let mut here = PathEnd::Pointer(PointerPlace {

@@ -5,8 +5,8 @@ ghost use Rattle.capnp_builders.specs.Building.{built, IsThere};
 ghost use Rattle.capnp_edits.specs.declared.edit.path.PathEnd.TheVariants.{Pointer as AtPointer};
 ghost use Rattle.capnp_edits.specs.declared.edit.tasks.Task.TheVariants.{Make, Point};
 ghost use Rattle.capnp_edits.specs.Tasks.{is_in_range};
-ghost use Rattle.capnp_edits.specs.Edits.{refusal_of, place_of};
-ghost use Rattle.capnp_edits.specs.Steps.{IsDoneAt};
+ghost use Rattle.capnp_edits.specs.Edits.{refusal_of};
+ghost use Rattle.capnp_edits.specs.Steps.{IsDoneAt, IsDoneBy};
 
 use crate::edit::copying::copy_root;
 use crate::edit::elements::edit_part;
@@ -35,9 +35,7 @@ fn make<A: BuilderArena>(
 ) -> Result<(), ErrorKind>
     requires there { IsThere (built A.view pointer.old) }
     requires range { is_in_range (Make object) ≡ true }
-    ensures made { IsDoneAt (A.view pointer.old.arena.now) (A.view pointer.new.arena.now)
-        (AtPointer (place_of pointer.old)) (Make object.entry) (refusal_of result) }
-    ensures same { pointer.new.arena.ghost_name ≡ pointer.old.arena.ghost_name }
+    ensures { IsDoneBy A.view pointer.old pointer.new (Make object.entry) (refusal_of result) }
 {
     match object {
         NewObject::ZeroStruct(size) => done(pointer.put_struct(size)),
@@ -52,9 +50,7 @@ fn make<A: BuilderArena>(
 /// Makes of a pointer the capability by an index, or null.
 fn point<A: BuilderArena>(pointer: &mut PointerBuilder<'_, A>, capability: Option<u32>)
     requires { IsThere (built A.view pointer.old) }
-    ensures pointed { IsDoneAt (A.view pointer.old.arena.now) (A.view pointer.new.arena.now)
-        (AtPointer (place_of pointer.old)) (Point capability) None }
-    ensures same { pointer.new.arena.ghost_name ≡ pointer.old.arena.ghost_name }
+    ensures { IsDoneBy A.view pointer.old pointer.new (Point capability) None }
 {
     match capability {
         Some(index) => pointer.set_capability(index),

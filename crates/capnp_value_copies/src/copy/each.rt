@@ -3,48 +3,51 @@ ghost use Rattle.std.specs.Prelude.{◌≡◌, ℕ, ◌+◌, ◌<◌, ◌≤◌,
 ghost use Rattle.capnp_format.specs.Segments.{segment, word_at};
 ghost use Rattle.capnp_objects.specs.Reading.{segment_read};
 ghost use Rattle.capnp_objects.specs.Wanted.{plain};
-ghost use Rattle.capnp_readers.specs.Readers.{reading};
+ghost use Rattle.capnp_pointers.specs.Pointers.{reading};
 ghost use Rattle.capnp_copies.specs.Growth.{TakesAtMost};
-ghost use Rattle.capnp_copies.specs.Changes.{change, CopiesChildren, CopiesFirst};
+ghost use Rattle.capnp_copies.specs.Changes.{change, CopiesChildren, CopiesFirst, HasNullsFor};
 ghost use Rattle.capnp_copies.specs.Rooms.{CanBeCopied};
 ghost use Rattle.capnp_copies.specs.Originals.{children_original};
+ghost use Rattle.capnp_making.specs.Makes.{call_at};
 
 use capnp_arena_traits::arena::{BuilderArena, ReaderArena};
 use capnp_copies::copy::copy_value;
+use capnp_making::making::Start;
 use capnp_objects::object::Place;
-use capnp_readers::readers::PointerReader;
+use capnp_pointers::pointers::Pointer;
 use capnp_words::error::ErrorKind;
 use capnp_words::read_limiter::ReadLimiter;
 
 /// Copies what so many pointers mean as it stands, from that of `from` on, to as many null pointers of
-/// a segment from position `at` on.
+/// a segment from the place on.
 ///
 /// A refusal is the first one of `copy_value`: then the pointers before the refused one are copied, and
 /// it and those behind it are null. There is none where all the pointers can be read and the words of
 /// what they mean fit behind those of the segment.
 pub fn copy_each<A: BuilderArena, B: ReaderArena>(
     arena: &mut A,
-    id: u32,
-    at: u32,
-    from: PointerReader<'_, B>,
+    to: Start,
+    from: Pointer<'_, B>,
     count: u32,
     lim: &mut ReadLimiter,
 ) -> Result<(), ErrorKind>
-    requires room { at + count ≤ length (segment (A.view arena.old).words id) }
-    requires null { (i : ℕ) → i < count → word_at (A.view arena.old).words id (at + i) ≡ 0 }
-    requires inside { from.place.at + count ≤ length (segment_read (reading B.ReaderArena from)) }
+    requires { HasNullsFor (reading B.ReaderArena from) count
+        (A.view arena.old).words to.segment to.at }
     ensures copied { IfOk result (λ _. CopiesChildren (reading B.ReaderArena from.entry) count
-        (change plain id at (A.view arena.old) (A.view arena.new) lim.old lim.new)) }
+        (change plain
+        (call_at to.segment to.at (A.view arena.old) (A.view arena.new)) lim.old lim.new)) }
     ensures fits { CanBeCopied (children_original (reading B.ReaderArena from.entry) count)
-        plain lim.old (A.view arena.old) id → IsOk result }
+        plain lim.old (A.view arena.old) to.segment → IsOk result }
     ensures refused { IfErr result
         (CopiesFirst (reading B.ReaderArena from.entry) count
-        (change plain id at (A.view arena.old) (A.view arena.new) lim.old lim.new)) }
+        (change plain
+        (call_at to.segment to.at (A.view arena.old) (A.view arena.new)) lim.old lim.new)) }
     ensures taken { TakesAtMost result (children_original (reading B.ReaderArena from.entry) count)
-        (change plain id at (A.view arena.old) (A.view arena.new) lim.old lim.new) }
+        (change plain
+        (call_at to.segment to.at (A.view arena.old) (A.view arena.new)) lim.old lim.new) }
 {
     for i in 0..count {
-        let child = PointerReader {
+        let child = Pointer {
             source: from.source,
             place: Place {
                 segment: from.place.segment,
@@ -53,7 +56,11 @@ pub fn copy_each<A: BuilderArena, B: ReaderArena>(
             },
             nesting_limit: from.nesting_limit,
         };
-        copy_value(arena, id, at + i, child, lim, false)?;
+        let place = Start {
+            segment: to.segment,
+            at: to.at + i,
+        };
+        copy_value(arena, place, child, lim, false)?;
     }
     Ok(())
 }

@@ -1,21 +1,21 @@
 //! The copy of a list that is read, whose words are at hand ("Lists", "Canonicalization").
 ghost use Rattle.std.specs.Prelude.{◌≡◌, ◌+◌, ◌↔◌, IsTrue, Err, IsOk, IfOk, IfErr};
 ghost use Rattle.capnp_words.specs.declared.error.ErrorKind.{ErrorKind};
-ghost use Rattle.capnp_format.specs.Segments.{word_at, IsPlace};
-ghost use Rattle.capnp_format.specs.Tree.{Null};
-ghost use Rattle.capnp_copies.specs.Changes.{change, MakesCopy, StopsCopy};
-ghost use Rattle.capnp_copies.specs.Rooms.{CanBeCopied};
+ghost use Rattle.capnp_copies.specs.Changes.{change, IsNullPlace};
+ghost use Rattle.capnp_copies.specs.Rooms.{CopiesOrClears};
 ghost use Rattle.capnp_copies.specs.Forms.{form_of};
-ghost use Rattle.capnp_copies.specs.Growth.{CopiesOrLeaves, TakesAtMost};
-ghost use Rattle.capnp_copies.specs.ListValues.{list_read};
+ghost use Rattle.capnp_copies.specs.Growth.{CopiesOrLeaves};
+ghost use Rattle.capnp_value_copies.specs.ListValues.{list_read};
 ghost use Rattle.capnp_copies.specs.Originals.{FitsListPointer};
+ghost use Rattle.capnp_making.specs.Makes.{call_at};
 
 use capnp_arena_traits::arena::{BuilderArena, ReaderArena};
 use capnp_copies::copy::{copy_flat, copy_pointers, copy_structs};
 use capnp_copies::form::{CopyForm, Destination};
 use capnp_copies::widths::StructList;
 use capnp_making::making::{Start, clear};
-use capnp_readers::readers::{ListReader, PointerReader};
+use capnp_pointers::pointers::Pointer;
+use capnp_readers::readers::ListReader;
 use capnp_words::error::ErrorKind;
 use capnp_words::read_limiter::ReadLimiter;
 use capnp_words::wire_pointer::{ElementSize, StructSize};
@@ -36,33 +36,20 @@ use capnp_words::wire_pointer::{ElementSize, StructSize};
 /// the limiter keeps what was charged.
 pub fn copy_list<A: BuilderArena, B: ReaderArena>(
     arena: &mut A,
-    id: u32,
-    at: u32,
+    to: Start,
     value: ListReader<'_, B>,
     lim: &mut ReadLimiter,
     canonicalize: bool,
 ) -> Result<(), ErrorKind>
-    requires place { IsPlace (A.view arena.old).words id at }
-    requires null { word_at (A.view arena.old).words id at ≡ 0 }
-    ensures copied { IfOk result (λ _. MakesCopy (list_read B.ReaderArena value.entry)
-        (change (form_of canonicalize) id at (A.view arena.old)
-        (A.view arena.new) lim.old lim.new)) }
-    ensures fits { CanBeCopied (list_read B.ReaderArena value.entry)
-        (form_of canonicalize) lim.old (A.view arena.old) id → IsOk result }
-    ensures refused { IfErr result (StopsCopy (list_read B.ReaderArena value.entry)
-        (change (form_of canonicalize) id at (A.view arena.old)
-        (A.view arena.new) lim.old lim.new) Null) }
-    ensures long { (k : ErrorKind) → (list_read B.ReaderArena value.entry).exceeds
-        (form_of canonicalize) k → (result ≡ Err k) × (lim.new ≡ lim.old) }
-    ensures taken { TakesAtMost result (list_read B.ReaderArena value.entry)
-        (change (form_of canonicalize) id at (A.view arena.old)
-        (A.view arena.new) lim.old lim.new) }
+    requires { IsNullPlace (A.view arena.old).words to.segment to.at }
+    ensures { CopiesOrClears result (list_read B.ReaderArena value.entry)
+        (change (form_of canonicalize)
+        (call_at to.segment to.at (A.view arena.old) (A.view arena.new)) lim.old lim.new) }
 {
-    let to = Start { segment: id, at };
     match copy_elements_read(arena, to, value, lim, canonicalize) {
         Ok(()) => Ok(()),
         Err(k) => {
-            clear(arena, id, at);
+            clear(arena, to.segment, to.at);
             Err(k)
         }
     }
@@ -76,11 +63,10 @@ fn copy_elements_read<A: BuilderArena, B: ReaderArena>(
     lim: &mut ReadLimiter,
     canonicalize: bool,
 ) -> Result<(), ErrorKind>
-    requires place { IsPlace (A.view arena.old).words to.segment to.at }
-    requires null { word_at (A.view arena.old).words to.segment to.at ≡ 0 }
+    requires { IsNullPlace (A.view arena.old).words to.segment to.at }
     ensures copies { CopiesOrLeaves result (list_read B.ReaderArena value.entry)
-        (change (form_of canonicalize) to.segment to.at (A.view arena.old)
-        (A.view arena.new) lim.old lim.new) }
+        (change (form_of canonicalize)
+        (call_at to.segment to.at (A.view arena.old) (A.view arena.new)) lim.old lim.new) }
     ensures long { (k : ErrorKind) → (list_read B.ReaderArena value.entry).exceeds
         (form_of canonicalize) k → (result ≡ Err k) × (lim.new ≡ lim.old) }
 {
@@ -88,7 +74,7 @@ fn copy_elements_read<A: BuilderArena, B: ReaderArena>(
     if !fits_list_pointer(value.element_size, value.struct_size, count) {
         return Err(ErrorKind::MessageTooLarge(usize::MAX));
     }
-    let first = PointerReader {
+    let first = Pointer {
         source: value.source,
         place: value.start,
         nesting_limit: value.nesting_limit,

@@ -2,23 +2,23 @@
 //! "Canonicalization").
 ghost use Rattle.std.specs.Prelude.{◌≡◌, ◌<◌, ◌^◌, Err, IsOk, IfOk, IfErr};
 ghost use Rattle.capnp_words.specs.declared.error.ErrorKind.{ErrorKind};
-ghost use Rattle.capnp_format.specs.Segments.{word_at, IsPlace};
-ghost use Rattle.capnp_format.specs.Tree.{Null};
 ghost use Rattle.capnp_objects.specs.Reading.{words_from};
 ghost use Rattle.capnp_readers.specs.Sizes.{pointers_read};
-ghost use Rattle.capnp_copies.specs.Changes.{change, MakesCopy, StopsCopy};
-ghost use Rattle.capnp_copies.specs.Rooms.{CanBeCopied};
+ghost use Rattle.capnp_copies.specs.Changes.{change, IsNullPlace};
+ghost use Rattle.capnp_copies.specs.Rooms.{CopiesOrClears};
 ghost use Rattle.capnp_copies.specs.Forms.{form_of};
-ghost use Rattle.capnp_copies.specs.Growth.{CopiesOrLeaves, TakesAtMost};
+ghost use Rattle.capnp_copies.specs.Growth.{CopiesOrLeaves};
 ghost use Rattle.capnp_copies.specs.Originals.{kept_count};
-ghost use Rattle.capnp_copies.specs.StructValues.{data_of, struct_read};
+ghost use Rattle.capnp_value_copies.specs.StructValues.{data_of, struct_read};
+ghost use Rattle.capnp_making.specs.Makes.{call_at};
 
 use crate::section::{kept_words, put_section};
 use capnp_arena_traits::arena::{BuilderArena, ReaderArena};
 use capnp_copies::copy::copy_children;
 use capnp_copies::form::{CopyForm, Destination};
 use capnp_making::making::{Start, clear, make_struct};
-use capnp_readers::readers::{PointerReader, StructReader};
+use capnp_pointers::pointers::Pointer;
+use capnp_readers::readers::StructReader;
 use capnp_words::error::ErrorKind;
 use capnp_words::read_limiter::ReadLimiter;
 use capnp_words::wire_pointer::StructSize;
@@ -39,33 +39,20 @@ use capnp_words::words::used_part;
 /// pointer is null and the words that were allocated are zero; the limiter keeps what was charged.
 pub fn copy_struct_value<A: BuilderArena, B: ReaderArena>(
     arena: &mut A,
-    id: u32,
-    at: u32,
+    to: Start,
     value: StructReader<'_, B>,
     lim: &mut ReadLimiter,
     canonicalize: bool,
 ) -> Result<(), ErrorKind>
-    requires place { IsPlace (A.view arena.old).words id at }
-    requires null { word_at (A.view arena.old).words id at ≡ 0 }
-    ensures copied { IfOk result (λ _. MakesCopy (struct_read B.ReaderArena value.entry)
-        (change (form_of canonicalize) id at (A.view arena.old)
-        (A.view arena.new) lim.old lim.new)) }
-    ensures fits { CanBeCopied (struct_read B.ReaderArena value.entry)
-        (form_of canonicalize) lim.old (A.view arena.old) id → IsOk result }
-    ensures refused { IfErr result (StopsCopy (struct_read B.ReaderArena value.entry)
-        (change (form_of canonicalize) id at (A.view arena.old)
-        (A.view arena.new) lim.old lim.new) Null) }
-    ensures wide { (k : ErrorKind) → (struct_read B.ReaderArena value.entry).exceeds
-        (form_of canonicalize) k → (result ≡ Err k) × (lim.new ≡ lim.old) }
-    ensures taken { TakesAtMost result (struct_read B.ReaderArena value.entry)
-        (change (form_of canonicalize) id at (A.view arena.old)
-        (A.view arena.new) lim.old lim.new) }
+    requires { IsNullPlace (A.view arena.old).words to.segment to.at }
+    ensures { CopiesOrClears result (struct_read B.ReaderArena value.entry)
+        (change (form_of canonicalize)
+        (call_at to.segment to.at (A.view arena.old) (A.view arena.new)) lim.old lim.new) }
 {
-    let to = Start { segment: id, at };
     match copy_sections(arena, to, value, lim, canonicalize) {
         Ok(()) => Ok(()),
         Err(k) => {
-            clear(arena, id, at);
+            clear(arena, to.segment, to.at);
             Err(k)
         }
     }
@@ -79,11 +66,10 @@ fn copy_sections<A: BuilderArena, B: ReaderArena>(
     lim: &mut ReadLimiter,
     canonicalize: bool,
 ) -> Result<(), ErrorKind>
-    requires place { IsPlace (A.view arena.old).words to.segment to.at }
-    requires null { word_at (A.view arena.old).words to.segment to.at ≡ 0 }
+    requires { IsNullPlace (A.view arena.old).words to.segment to.at }
     ensures copies { CopiesOrLeaves result (struct_read B.ReaderArena value.entry)
-        (change (form_of canonicalize) to.segment to.at (A.view arena.old)
-        (A.view arena.new) lim.old lim.new) }
+        (change (form_of canonicalize)
+        (call_at to.segment to.at (A.view arena.old) (A.view arena.new)) lim.old lim.new) }
     ensures wide { (k : ErrorKind) → (struct_read B.ReaderArena value.entry).exceeds
         (form_of canonicalize) k → (result ≡ Err k) × (lim.new ≡ lim.old) }
 {
@@ -91,7 +77,7 @@ fn copy_sections<A: BuilderArena, B: ReaderArena>(
     let start = make_struct(arena, to.segment, to.at, kept)?;
     let data_words = kept.data_words;
     put_section(arena, start, value.content, value.bits, data_words);
-    let children = PointerReader {
+    let children = Pointer {
         source: value.source,
         place: value.pointers,
         nesting_limit: value.nesting_limit,

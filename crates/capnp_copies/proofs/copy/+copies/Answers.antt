@@ -20,10 +20,10 @@ use Rattle.capnp_objects.specs.Objects.{IsObject}
 use Rattle.capnp_objects.specs.Source.{levels}
 use Rattle.capnp_objects.specs.Reading.{Reading, behind, segment_read, word_of, words_from}
 use Rattle.capnp_objects.specs.declared.object.Purpose.TheVariants.{Value}
-use Rattle.capnp_readers.specs.Readers.{reading}
-use Rattle.capnp_readers.proofs.Checks.{struct_room}
-use Rattle.capnp_readers.proofs.NearRead.{struct_by_word}
-use Rattle.capnp_readers.proofs.Walking.{ok_so, err_so, one_level_in}
+use Rattle.capnp_pointers.specs.Pointers.{reading}
+use Rattle.capnp_pointers.proofs.Checks.{struct_room}
+use Rattle.capnp_pointers.proofs.NearRead.{struct_by_word}
+use Rattle.capnp_pointers.proofs.Walking.{ok_so, err_so, one_level_in}
 use Rattle.std.proofs.lemmas.Result.{err_from_is_err_and}
 use Rattle.capnp_arena_traits.specs.View.{View}
 use Rattle.capnp_copies.specs.Changes.{HasNulls}
@@ -84,7 +84,7 @@ children::copy_in_line-copy_child-requires g t c κs within =
     c.requires.nulls.room c.loop-i-test.true (le_refl _)) ∙ c.requires.nulls.null c.loop-i.i
     c.loop-i-test.true in
     let nl = to_z-of_z w32 c.args.from.nesting_limit (search rules) in
-    (omega (arith, ap levels nl, c.decreases), (within.0, (within.1, (PLACE, NULL))))
+    (omega (arith, ap levels nl, c.decreases), (within.0, (within.1, record { place = PLACE; null = NULL })))
 
 pub children::copy_in_line-returns-in_err-copy_child : goal.children::copy_in_line-returns-in_err-copy_child
 children::copy_in_line-returns-in_err-copy_child g t c =
@@ -127,14 +127,14 @@ children::copy_children-returns-then-count-eq0 g t c =
 
 pub children::copy_row-copy_in_line-requires : goal.children::copy_row-copy_in_line-requires
 children::copy_row-copy_in_line-requires g t c κs within =
-    (omega (arith, c.decreases), (within.0, (within.1, (c.requires.nulls, c.requires.inside))))
+    (omega (arith, c.decreases), (within.0, (within.1, c.requires)))
 
 pub children::copy_row-returns : goal.children::copy_row-returns
 children::copy_row-returns g t c = c.copy_in_line.ensures
 
 pub children::copy_children-copy_row-requires : goal.children::copy_children-copy_row-requires
 children::copy_children-copy_row-requires g t c κs within =
-    (omega (arith, c.decreases), (within.0, (within.1, (c.requires.nulls, c.requires.inside))))
+    (omega (arith, c.decreases), (within.0, (within.1, c.requires)))
 
 pub children::copy_children-returns : goal.children::copy_children-returns
 children::copy_children-returns g t c = c.copy_row.ensures
@@ -149,7 +149,7 @@ children::copy_child-returns-then-is_null g t c =
 
 pub children::copy_child-copy_object-requires : goal.children::copy_child-copy_object-requires
 children::copy_child-copy_object-requires g t c κs within =
-    (omega (arith, c.decreases), (within.0, (within.1, (c.requires.place, c.requires.null))))
+    (omega (arith, c.decreases), (within.0, (within.1, c.requires)))
 
 pub children::copy_child-returns-then-is_of_bits : goal.children::copy_child-returns-then-is_of_bits
 children::copy_child-returns-then-is_of_bits g t c = c.copy_near_flat.ensures (form_in c.args.to.form)
@@ -166,7 +166,7 @@ children::copy_near_struct-returns-in_err-start g t c =
     let p = err_from_is_err_and c.from_residual.result c.from_residual.ensures.1 in
     record {
       copied = rw p.1 tt;
-      refused = rw (p.1, p.2) (read_stops c.requires.place c.requires.null (rw nl at c.in_err-start.ensures.refused));
+      refused = rw (p.1, p.2) (read_stops c.requires.place.place c.requires.place.null (rw nl at c.in_err-start.ensures.refused));
       taken = rw p.1 (read_stop_taken (rw nl at c.in_err-start.ensures.refused));
     }
 
@@ -175,10 +175,10 @@ children::copy_near_struct-returns g t c =
     let r : Reading = reading g.B.ReaderArena c.args.from in
     let fits : SFits w32 c.args.from.nesting_limit = search rules in
     let nl = to_z-of_z w32 c.args.from.nesting_limit fits in
-    let near : kind (word_of r) ≡ 0 = rw c.requires.there at c.requires.is_struct in
+    let near : kind (word_of r) ≡ 0 = rw c.requires.word.there at c.requires.is_struct in
     let start : Place = record c.args.from.place { at = c.in_ok-start.start } in
-    let wide : c.struct_size.result.data_words ≡ data_words (word_of r) = c.struct_size.ensures.data_of ∙ ap data_words c.requires.there in
-    let many : c.struct_size.result.pointers ≡ pointer_count (word_of r) = c.struct_size.ensures.pointers_of ∙ ap pointer_count c.requires.there in
+    let wide : c.struct_size.result.data_words ≡ data_words (word_of r) = c.struct_size.ensures.data_of ∙ ap data_words c.requires.word.there in
+    let many : c.struct_size.result.pointers ≡ pointer_count (word_of r) = c.struct_size.ensures.pointers_of ∙ ap pointer_count c.requires.word.there in
     let object : IsObject Value r c.args.lim.now c.read_near_struct.new.lim (ObjectStruct start c.struct_size.result) = struct_by_word start c.struct_size.result near c.args.from.held refl (rw nl at c.in_ok-start.ensures.object) wide many in
     let less = one_level_in c.args.from.nesting_limit fits in
     record {
@@ -192,16 +192,16 @@ children::copy_near_struct-copy_struct-requires g t c κs within =
     let r : Reading = reading g.B.ReaderArena c.args.from in
     let fits : SFits w32 c.args.from.nesting_limit = search rules in
     let nl = to_z-of_z w32 c.args.from.nesting_limit fits in
-    let near : kind (word_of r) ≡ 0 = rw c.requires.there at c.requires.is_struct in
+    let near : kind (word_of r) ≡ 0 = rw c.requires.word.there at c.requires.is_struct in
     let start : Place = record c.args.from.place { at = c.in_ok-start.start } in
-    let wide : c.struct_size.result.data_words ≡ data_words (word_of r) = c.struct_size.ensures.data_of ∙ ap data_words c.requires.there in
-    let many : c.struct_size.result.pointers ≡ pointer_count (word_of r) = c.struct_size.ensures.pointers_of ∙ ap pointer_count c.requires.there in
+    let wide : c.struct_size.result.data_words ≡ data_words (word_of r) = c.struct_size.ensures.data_of ∙ ap data_words c.requires.word.there in
+    let many : c.struct_size.result.pointers ≡ pointer_count (word_of r) = c.struct_size.ensures.pointers_of ∙ ap pointer_count c.requires.word.there in
     let object : IsObject Value r c.args.lim.now c.read_near_struct.new.lim (ObjectStruct start c.struct_size.result) = struct_by_word start c.struct_size.result near c.args.from.held refl (rw nl at c.in_ok-start.ensures.object) wide many in
     let less = one_level_in c.args.from.nesting_limit fits in
     let LESS = less object.1.meets.levels in
     let SOME = object.1.meets.levels in
     let INSIDE : c.in_ok-start.start + (c.struct_size.result.data_words + c.struct_size.result.pointers) ≤ length (segment r.segments c.args.from.place.segment) = struct_room start c.struct_size.result object in
-    (omega (arith, LESS, SOME, c.decreases), (within.0, (within.1, (c.requires.place, (INSIDE, c.requires.null)))))
+    (omega (arith, LESS, SOME, c.decreases), (within.0, (within.1, (c.requires.place, INSIDE))))
 
 -- What a pointer means.
 
@@ -223,7 +223,7 @@ copy_object-copy_struct-requires g t c κs within =
     let SOME = object.1.meets.levels in
     let LESS = one_level_in c.args.from.nesting_limit fits SOME in
     let INSIDE = struct_room c.in-Struct.start c.in-Struct.size object in
-    (omega (arith, LESS, SOME, c.decreases), (within.0, (within.1, (c.requires.place, (INSIDE, c.requires.null)))))
+    (omega (arith, LESS, SOME, c.decreases), (within.0, (within.1, (c.requires, INSIDE))))
 
 pub copy_object-copy_pointers-requires : goal.copy_object-copy_pointers-requires
 copy_object-copy_pointers-requires g t c κs within =
@@ -233,7 +233,7 @@ copy_object-copy_pointers-requires g t c κs within =
     let object = rw (c.in-Pointers.is, nl) at c.in_ok-object.ensures.object in
     let SOME = object.1.meets.levels in
     let LESS = one_level_in c.args.from.nesting_limit fits SOME in
-    (omega (arith, LESS, SOME, c.decreases), (within.0, (within.1, (c.requires.place, (c.requires.null, (FEW, search rules))))))
+    (omega (arith, LESS, SOME, c.decreases), (within.0, (within.1, (c.requires, (FEW, search rules)))))
 
 pub copy_object-copy_structs-requires : goal.copy_object-copy_structs-requires
 copy_object-copy_structs-requires g t c κs within =
@@ -245,7 +245,7 @@ copy_object-copy_structs-requires g t c κs within =
     let object = rw (c.in-Structs.is, nl) at c.in_ok-object.ensures.object in
     let SOME = object.1.meets.levels in
     let LESS = one_level_in c.args.from.nesting_limit fits SOME in
-    (omega (arith, LESS, SOME, c.decreases), (within.0, (within.1, (c.requires.place, (c.requires.null, (FEW, (WORDS, search rules)))))))
+    (omega (arith, LESS, SOME, c.decreases), (within.0, (within.1, (c.requires, (FEW, (WORDS, search rules))))))
 
 pub copy_object-returns-in-Null : goal.copy_object-returns-in-Null
 copy_object-returns-in-Null g t c =
@@ -327,7 +327,7 @@ pub elements::copy_elements-returns-then-kept_words-eq0-clause-copied : goal.ele
 elements::copy_elements-returns-then-kept_words-eq0-clause-copied g t c =
     let from : Reading = reading g.B.ReaderArena c.args.from in
     let fits : SourceKept (form_in c.args.to.form) from c.args.sizes c.args.sizes.count =
-    record { inside = c.requires.inside; less_data = c.requires.less_data; less_pointers = c.requires.less_pointers; used = widths_keep (form_in c.args.to.form) from c.args.sizes c.args.sizes.count c.requires.kept } in
+    record { inside = c.requires.inside; less_data = c.requires.less.data_words; less_pointers = c.requires.less.pointers; used = widths_keep (form_in c.args.to.form) from c.args.sizes c.args.sizes.count c.requires.kept } in
     no_width from c.args.sizes c.args.sizes.count (form_in c.args.to.form) c.args.to.place.segment c.args.to.place.at
     (g.A.BuilderArena.view c.args.arena.now) c.args.lim.now fits (sym c.total-kept_words.ensures ∙ c.if-kept_words-eq0.true)
 
@@ -335,7 +335,7 @@ pub elements::copy_elements-returns-then-kept_words-eq0-clause-taken : goal.elem
 elements::copy_elements-returns-then-kept_words-eq0-clause-taken g t c =
     let from : Reading = reading g.B.ReaderArena c.args.from in
     let fits : SourceKept (form_in c.args.to.form) from c.args.sizes c.args.sizes.count =
-    record { inside = c.requires.inside; less_data = c.requires.less_data; less_pointers = c.requires.less_pointers; used = widths_keep (form_in c.args.to.form) from c.args.sizes c.args.sizes.count c.requires.kept } in
+    record { inside = c.requires.inside; less_data = c.requires.less.data_words; less_pointers = c.requires.less.pointers; used = widths_keep (form_in c.args.to.form) from c.args.sizes c.args.sizes.count c.requires.kept } in
     blank_taken from c.args.sizes c.args.sizes.count (form_in c.args.to.form) c.args.to.place.segment
     (g.A.BuilderArena.view c.args.arena.now) c.args.lim.now fits (sym c.total-kept_words.ensures ∙ c.if-kept_words-eq0.true)
 
@@ -383,7 +383,7 @@ pub elements::copy_elements-overflow_add-children : goal.elements::copy_elements
 elements::copy_elements-overflow_add-children g t c =
     let from : Reading = reading g.B.ReaderArena c.args.from in
     let fits : SourceKept (form_in c.args.to.form) from c.args.sizes c.args.sizes.count =
-    record { inside = c.requires.inside; less_data = c.requires.less_data; less_pointers = c.requires.less_pointers; used = widths_keep (form_in c.args.to.form) from c.args.sizes c.args.sizes.count c.requires.kept } in
+    record { inside = c.requires.inside; less_data = c.requires.less.data_words; less_pointers = c.requires.less.pointers; used = widths_keep (form_in c.args.to.form) from c.args.sizes c.args.sizes.count c.requires.kept } in
     let here : AtRow from c.args.sizes c.args.sizes.count c.loop-i.i (form_in c.args.to.form) c.args.to.place.segment c.args.to.place.at (g.A.BuilderArena.view c.args.arena.now) (g.A.BuilderArena.view c.loop-i.arena) c.args.lim.now c.loop-i.lim =
     record { fits = fits; room = c.requires.room; zero = c.requires.zero; wide = some_words c.total-kept_words.ensures c.if-kept_words-eq0.false; more = c.loop-i-test.true; rows = c.loop-i.invariant.0 } in
     let INSIDE : c.args.from.place.at + c.loop-i.i * c.total-source_words.result + (c.args.sizes.source.data_words + c.args.sizes.source.pointers) ≤ length (segment from.segments from.segment) = rw c.total-source_words.ensures (next_inside here) in
@@ -396,7 +396,7 @@ pub elements::copy_elements-overflow_add-place : goal.elements::copy_elements-ov
 elements::copy_elements-overflow_add-place g t c =
     let from : Reading = reading g.B.ReaderArena c.args.from in
     let fits : SourceKept (form_in c.args.to.form) from c.args.sizes c.args.sizes.count =
-    record { inside = c.requires.inside; less_data = c.requires.less_data; less_pointers = c.requires.less_pointers; used = widths_keep (form_in c.args.to.form) from c.args.sizes c.args.sizes.count c.requires.kept } in
+    record { inside = c.requires.inside; less_data = c.requires.less.data_words; less_pointers = c.requires.less.pointers; used = widths_keep (form_in c.args.to.form) from c.args.sizes c.args.sizes.count c.requires.kept } in
     let here : AtRow from c.args.sizes c.args.sizes.count c.loop-i.i (form_in c.args.to.form) c.args.to.place.segment c.args.to.place.at (g.A.BuilderArena.view c.args.arena.now) (g.A.BuilderArena.view c.loop-i.arena) c.args.lim.now c.loop-i.lim =
     record { fits = fits; room = c.requires.room; zero = c.requires.zero; wide = some_words c.total-kept_words.ensures c.if-kept_words-eq0.false; more = c.loop-i-test.true; rows = c.loop-i.invariant.0 } in
     let ROOM : c.args.to.place.at + c.loop-i.i * c.total-kept_words.result + (c.args.sizes.kept.data_words + c.args.sizes.kept.pointers) ≤ length (segment (g.A.BuilderArena.view c.loop-i.arena).words c.args.to.place.segment) = rw c.total-kept_words.ensures (next_room here) in
@@ -411,17 +411,17 @@ pub elements::copy_elements-part-data-requires : goal.elements::copy_elements-pa
 elements::copy_elements-part-data-requires g t c =
     let from : Reading = reading g.B.ReaderArena c.args.from in
     let fits : SourceKept (form_in c.args.to.form) from c.args.sizes c.args.sizes.count =
-    record { inside = c.requires.inside; less_data = c.requires.less_data; less_pointers = c.requires.less_pointers; used = widths_keep (form_in c.args.to.form) from c.args.sizes c.args.sizes.count c.requires.kept } in
+    record { inside = c.requires.inside; less_data = c.requires.less.data_words; less_pointers = c.requires.less.pointers; used = widths_keep (form_in c.args.to.form) from c.args.sizes c.args.sizes.count c.requires.kept } in
     let here : AtRow from c.args.sizes c.args.sizes.count c.loop-i.i (form_in c.args.to.form) c.args.to.place.segment c.args.to.place.at (g.A.BuilderArena.view c.args.arena.now) (g.A.BuilderArena.view c.loop-i.arena) c.args.lim.now c.loop-i.lim =
     record { fits = fits; room = c.requires.room; zero = c.requires.zero; wide = some_words c.total-kept_words.ensures c.if-kept_words-eq0.false; more = c.loop-i-test.true; rows = c.loop-i.invariant.0 } in
     let INSIDE : c.args.from.place.at + c.loop-i.i * c.total-source_words.result + (c.args.sizes.source.data_words + c.args.sizes.source.pointers) ≤ length (segment from.segments from.segment) = rw c.total-source_words.ensures (next_inside here) in
-    omega (arith, INSIDE, c.requires.less_data, c.from-data_words.ensures, ap length c.args.from.held.0, c.args.from.held.1, c.args.from.held.2)
+    omega (arith, INSIDE, c.requires.less.data_words, c.from-data_words.ensures, ap length c.args.from.held.0, c.args.from.held.1, c.args.from.held.2)
 
 pub elements::copy_elements-put_words-requires-clause-inside : goal.elements::copy_elements-put_words-requires-clause-inside
 elements::copy_elements-put_words-requires-clause-inside g t c =
     let from : Reading = reading g.B.ReaderArena c.args.from in
     let fits : SourceKept (form_in c.args.to.form) from c.args.sizes c.args.sizes.count =
-    record { inside = c.requires.inside; less_data = c.requires.less_data; less_pointers = c.requires.less_pointers; used = widths_keep (form_in c.args.to.form) from c.args.sizes c.args.sizes.count c.requires.kept } in
+    record { inside = c.requires.inside; less_data = c.requires.less.data_words; less_pointers = c.requires.less.pointers; used = widths_keep (form_in c.args.to.form) from c.args.sizes c.args.sizes.count c.requires.kept } in
     let here : AtRow from c.args.sizes c.args.sizes.count c.loop-i.i (form_in c.args.to.form) c.args.to.place.segment c.args.to.place.at (g.A.BuilderArena.view c.args.arena.now) (g.A.BuilderArena.view c.loop-i.arena) c.args.lim.now c.loop-i.lim =
     record { fits = fits; room = c.requires.room; zero = c.requires.zero; wide = some_words c.total-kept_words.ensures c.if-kept_words-eq0.false; more = c.loop-i-test.true; rows = c.loop-i.invariant.0 } in
     let ROOM : c.args.to.place.at + c.loop-i.i * c.total-kept_words.result + (c.args.sizes.kept.data_words + c.args.sizes.kept.pointers) ≤ length (segment (g.A.BuilderArena.view c.loop-i.arena).words c.args.to.place.segment) = rw c.total-kept_words.ensures (next_room here) in
@@ -431,7 +431,7 @@ pub elements::copy_elements-copy_in_line-requires : goal.elements::copy_elements
 elements::copy_elements-copy_in_line-requires g t c κs within =
     let from : Reading = reading g.B.ReaderArena c.args.from in
     let fits : SourceKept (form_in c.args.to.form) from c.args.sizes c.args.sizes.count =
-    record { inside = c.requires.inside; less_data = c.requires.less_data; less_pointers = c.requires.less_pointers; used = widths_keep (form_in c.args.to.form) from c.args.sizes c.args.sizes.count c.requires.kept } in
+    record { inside = c.requires.inside; less_data = c.requires.less.data_words; less_pointers = c.requires.less.pointers; used = widths_keep (form_in c.args.to.form) from c.args.sizes c.args.sizes.count c.requires.kept } in
     let here : AtRow from c.args.sizes c.args.sizes.count c.loop-i.i (form_in c.args.to.form) c.args.to.place.segment c.args.to.place.at (g.A.BuilderArena.view c.args.arena.now) (g.A.BuilderArena.view c.loop-i.arena) c.args.lim.now c.loop-i.lim =
     record { fits = fits; room = c.requires.room; zero = c.requires.zero; wide = some_words c.total-kept_words.ensures c.if-kept_words-eq0.false; more = c.loop-i-test.true; rows = c.loop-i.invariant.0 } in
     let INSIDE : c.args.from.place.at + c.loop-i.i * c.total-source_words.result + (c.args.sizes.source.data_words + c.args.sizes.source.pointers) ≤ length (segment from.segments from.segment) = rw c.total-source_words.ensures (next_inside here) in
@@ -443,14 +443,14 @@ elements::copy_elements-copy_in_line-requires g t c κs within =
       null = λ j less. c.put_words.ensures.behind (c.args.to.place.at + c.loop-i.i * c.total-kept_words.result + c.args.sizes.kept.data_words + j) (omega (arith, c.part-data.ensures.count, c.from-data_words.ensures)) ∙ NULL j less;
     }) in
     let nl = to_z-of_z w32 c.args.from.nesting_limit (search rules) in
-    (omega (arith, ap levels nl, c.decreases), (within.0, (within.1, (NULLS, rw (c.from.ensures, c.from-pointers.ensures) (omega (arith, INSIDE, c.requires.less_pointers))))))
+    (omega (arith, ap levels nl, c.decreases), (within.0, (within.1, record { nulls = NULLS; inside = rw (c.from.ensures, c.from-pointers.ensures) (omega (arith, INSIDE, c.requires.less.pointers)) })))
 
 pub elements::copy_elements-loop-i-preserved : goal.elements::copy_elements-loop-i-preserved
 elements::copy_elements-loop-i-preserved g t c =
     let nl = to_z-of_z w32 c.args.from.nesting_limit (search rules) in
     let from : Reading = reading g.B.ReaderArena c.args.from in
     let fits : SourceKept (form_in c.args.to.form) from c.args.sizes c.args.sizes.count =
-    record { inside = c.requires.inside; less_data = c.requires.less_data; less_pointers = c.requires.less_pointers; used = widths_keep (form_in c.args.to.form) from c.args.sizes c.args.sizes.count c.requires.kept } in
+    record { inside = c.requires.inside; less_data = c.requires.less.data_words; less_pointers = c.requires.less.pointers; used = widths_keep (form_in c.args.to.form) from c.args.sizes c.args.sizes.count c.requires.kept } in
     let here : AtRow from c.args.sizes c.args.sizes.count c.loop-i.i (form_in c.args.to.form) c.args.to.place.segment c.args.to.place.at (g.A.BuilderArena.view c.args.arena.now) (g.A.BuilderArena.view c.loop-i.arena) c.args.lim.now c.loop-i.lim =
     record { fits = fits; room = c.requires.room; zero = c.requires.zero; wide = some_words c.total-kept_words.ensures c.if-kept_words-eq0.false; more = c.loop-i-test.true; rows = c.loop-i.invariant.0 } in
     let held : words_of c.args.from.place.bytes.now ≡ segment_read from = c.args.from.held.0 in
@@ -467,7 +467,7 @@ elements::copy_elements-returns-in_err-copy_in_line g t c =
     let nl = to_z-of_z w32 c.args.from.nesting_limit (search rules) in
     let from : Reading = reading g.B.ReaderArena c.args.from in
     let fits : SourceKept (form_in c.args.to.form) from c.args.sizes c.args.sizes.count =
-    record { inside = c.requires.inside; less_data = c.requires.less_data; less_pointers = c.requires.less_pointers; used = widths_keep (form_in c.args.to.form) from c.args.sizes c.args.sizes.count c.requires.kept } in
+    record { inside = c.requires.inside; less_data = c.requires.less.data_words; less_pointers = c.requires.less.pointers; used = widths_keep (form_in c.args.to.form) from c.args.sizes c.args.sizes.count c.requires.kept } in
     let here : AtRow from c.args.sizes c.args.sizes.count c.loop-i.i (form_in c.args.to.form) c.args.to.place.segment c.args.to.place.at (g.A.BuilderArena.view c.args.arena.now) (g.A.BuilderArena.view c.loop-i.arena) c.args.lim.now c.loop-i.lim =
     record { fits = fits; room = c.requires.room; zero = c.requires.zero; wide = some_words c.total-kept_words.ensures c.if-kept_words-eq0.false; more = c.loop-i-test.true; rows = c.loop-i.invariant.0 } in
     let held : words_of c.args.from.place.bytes.now ≡ segment_read from = c.args.from.held.0 in
@@ -498,17 +498,17 @@ lists::copy_pointers-copy_in_line-requires g t c κs within =
     let M : Segments = (g.A.BuilderArena.view c.make_list.new.arena).words in
     let begun : IsBegun S M c.args.to.place.segment c.args.to.place.at c.args.count c.in_ok-start.start (Pointers (nulls c.args.count)) = record { made = c.in_ok-start.ensures.made; start = c.in_ok-start.ensures.start.leads; inside = c.in_ok-start.ensures.start.inside } in
     let NULLS : HasNulls M c.in_ok-start.start.segment c.in_ok-start.start.at c.args.count = record { room = begun.inside.1; null = pointers_ready S M c.args.to.place.segment c.args.to.place.at c.args.count c.in_ok-start.start begun } in
-    (omega (arith, c.decreases), (within.0, (within.1, (NULLS, c.requires.inside))))
+    (omega (arith, c.decreases), (within.0, (within.1, record { nulls = NULLS; inside = c.requires.inside })))
 
 pub lists::copy_pointers-returns : goal.lists::copy_pointers-returns
 lists::copy_pointers-returns g t c =
     record {
       copied = (let begun : ObjectBegun c.args.to.place.segment c.args.to.place.at c.args.count (g.A.BuilderArena.view c.args.arena.now) (g.A.BuilderArena.view c.make_list.new.arena) c.in_ok-start.start (Pointers (nulls c.args.count)) =
-          record { begun = record { made = c.in_ok-start.ensures.made; start = c.in_ok-start.ensures.start.leads; inside = c.in_ok-start.ensures.start.inside }; memory = c.in_ok-start.ensures.memory.granted } in ok_so c.copy_in_line.result c.copy_in_line.ensures.copied (λ x made. pointers_copied begun (record { place = c.requires.place; memory = c.in_ok-start.ensures.memory.granted; taken = c.in_ok-start.ensures.memory.taken; near = c.in_ok-start.ensures.near; at_end = c.in_ok-start.ensures.at_end }) made));
+          record { begun = record { made = c.in_ok-start.ensures.made; start = c.in_ok-start.ensures.start.leads; inside = c.in_ok-start.ensures.start.inside }; memory = c.in_ok-start.ensures.memory.granted } in ok_so c.copy_in_line.result c.copy_in_line.ensures.copied (λ x made. pointers_copied begun (record { place = c.requires.place.place; memory = c.in_ok-start.ensures.memory.granted; taken = c.in_ok-start.ensures.memory.taken; near = c.in_ok-start.ensures.near; at_end = c.in_ok-start.ensures.at_end }) made));
       refused = (let begun : ObjectBegun c.args.to.place.segment c.args.to.place.at c.args.count (g.A.BuilderArena.view c.args.arena.now) (g.A.BuilderArena.view c.make_list.new.arena) c.in_ok-start.start (Pointers (nulls c.args.count)) =
-          record { begun = record { made = c.in_ok-start.ensures.made; start = c.in_ok-start.ensures.start.leads; inside = c.in_ok-start.ensures.start.inside }; memory = c.in_ok-start.ensures.memory.granted } in err_so c.copy_in_line.result c.copy_in_line.ensures.refused (λ k stop. pointers_stop begun (record { place = c.requires.place; memory = c.in_ok-start.ensures.memory.granted; taken = c.in_ok-start.ensures.memory.taken; behind = c.in_ok-start.ensures.start.behind }) c.in_ok-start.ensures.at_end stop));
+          record { begun = record { made = c.in_ok-start.ensures.made; start = c.in_ok-start.ensures.start.leads; inside = c.in_ok-start.ensures.start.inside }; memory = c.in_ok-start.ensures.memory.granted } in err_so c.copy_in_line.result c.copy_in_line.ensures.refused (λ k stop. pointers_stop begun (record { place = c.requires.place.place; memory = c.in_ok-start.ensures.memory.granted; taken = c.in_ok-start.ensures.memory.taken; behind = c.in_ok-start.ensures.start.behind }) c.in_ok-start.ensures.at_end stop));
       taken = (let begun : Begins c.args.to.place.segment c.in_ok-start.start.segment c.args.count (g.A.BuilderArena.view c.args.arena.now) (g.A.BuilderArena.view c.make_list.new.arena) =
-          record { there = there (g.A.BuilderArena.view c.args.arena.now).words c.args.to.place.segment c.args.to.place.at c.requires.place; taken = c.in_ok-start.ensures.memory.taken; memory = c.in_ok-start.ensures.memory.granted; near = λ room. (c.in_ok-start.ensures.at_end room).0; far = λ full. (c.in_ok-start.ensures.start.behind.far full).0 } in taken_so c.copy_in_line.result _ _ _ _ (λ x. pointers_behind _ _ _ _ _ _ _ _ _ _ begun x) (λ x. pointers_stop_behind _ _ _ _ _ _ _ _ _ _ begun x) c.copy_in_line.ensures.taken);
+          record { there = there (g.A.BuilderArena.view c.args.arena.now).words c.args.to.place.segment c.args.to.place.at c.requires.place.place; taken = c.in_ok-start.ensures.memory.taken; memory = c.in_ok-start.ensures.memory.granted; near = λ room. (c.in_ok-start.ensures.at_end room).0; far = λ full. (c.in_ok-start.ensures.start.behind.far full).0 } in taken_so c.copy_in_line.result _ _ _ _ (λ x. pointers_behind _ _ _ _ _ _ _ _ _ _ begun x) (λ x. pointers_stop_behind _ _ _ _ _ _ _ _ _ _ begun x) c.copy_in_line.ensures.taken);
     }
 
 pub lists::copy_pointers-returns-in_err-start : goal.lists::copy_pointers-returns-in_err-start
@@ -516,7 +516,7 @@ lists::copy_pointers-returns-in_err-start g t c =
     let p = err_from_is_err_and c.from_residual.result c.from_residual.ensures.1 in
     record {
       copied = rw p.1 tt;
-      refused = (let full : HasRoom (g.A.BuilderArena.view c.args.arena.now) c.args.to.place.segment c.args.count → ⊥ = λ room. absurd (false≢true (c.in_err-start.ensures.memory.fits room)) in let none = nothing_made (form_in c.args.to.form) c.args.to.place.segment c.args.to.place.at c.args.count (g.A.BuilderArena.view c.args.arena.now) (g.A.BuilderArena.view c.make_list.new.arena) c.args.lim.now c.args.lim.now c.in_err-start.field-0.0 c.requires.place c.requires.null
+      refused = (let full : HasRoom (g.A.BuilderArena.view c.args.arena.now) c.args.to.place.segment c.args.count → ⊥ = λ room. absurd (false≢true (c.in_err-start.ensures.memory.fits room)) in let none = nothing_made (form_in c.args.to.form) c.args.to.place.segment c.args.to.place.at c.args.count (g.A.BuilderArena.view c.args.arena.now) (g.A.BuilderArena.view c.make_list.new.arena) c.args.lim.now c.args.lim.now c.in_err-start.field-0.0 c.requires.place.place c.requires.place.null
           c.in_err-start.ensures.memory.named c.in_err-start.ensures.refused full in rw (p.1, p.2) (halfway (inl (inl (c.args.count, refl, refl, (none.0, no_own_room (g.A.BuilderArena.view c.args.arena.now) c.args.to.place.segment c.args.count full)), pointers_large (form_in c.args.to.form) (reading g.B.ReaderArena c.args.from) c.args.count (length (segment (g.A.BuilderArena.view c.args.arena.now).words c.args.to.place.segment)) ((g.A.BuilderArena.view c.args.arena.now).room c.args.to.place.segment) (no_pointers_room (form_in c.args.to.form) (reading g.B.ReaderArena c.args.from) c.args.count c.args.to.place.segment (g.A.BuilderArena.view c.args.arena.now) full))) none.1));
       taken = rw p.1 (inl (refl, made_none (none_refused (g.A.BuilderArena.view c.args.arena.now) (g.A.BuilderArena.view c.make_list.new.arena) c.args.count c.in_err-start.field-0.0 c.in_err-start.ensures.memory.named c.in_err-start.ensures.refused)));
     }
@@ -533,7 +533,7 @@ lists::copy_structs-copy_elements-requires g t c κs within =
     let ROOM : c.in_ok-made.made.at + 1 + c.args.list.count * (least.data_words + least.pointers) ≤ length (segment M c.in_ok-made.made.segment) =
     rows_inside c.in_ok-made.made.at (c.args.list.count * (least.data_words + least.pointers)) begun.inside.1 in
     let ZERO : (i : ℕ) → i < c.args.list.count * (least.data_words + least.pointers) → word_at M c.in_ok-made.made.segment (c.in_ok-made.made.at + 1 + i) ≡ 0 = structs_ready S M c.args.to.place.segment c.args.to.place.at least.data_words least.pointers c.args.list.count c.in_ok-made.made begun in
-    (omega (arith, c.decreases), (within.0, (within.1, (ROOM, (ZERO, (c.requires.inside, (c.kept_widths-kept.ensures.less_data, (c.kept_widths-kept.ensures.less_pointers, c.kept_widths-kept.ensures.kept))))))))
+    (omega (arith, c.decreases), (within.0, (within.1, (ROOM, (ZERO, (c.requires.inside, (c.kept_widths-kept.ensures.less, c.kept_widths-kept.ensures.kept)))))))
 
 pub lists::copy_structs-overflow_add-place : goal.lists::copy_structs-overflow_add-place
 lists::copy_structs-overflow_add-place g t c =
@@ -544,14 +544,14 @@ lists::copy_structs-overflow_add-place g t c =
 pub lists::copy_structs-returns : goal.lists::copy_structs-returns
 lists::copy_structs-returns g t c =
     let least = c.kept_widths-kept.result in
-    let less = no_wider c.args.list.count least.data_words least.pointers c.args.list.size.data_words c.args.list.size.pointers c.kept_widths-kept.ensures.less_data c.kept_widths-kept.ensures.less_pointers in
+    let less = no_wider c.args.list.count least.data_words least.pointers c.args.list.size.data_words c.args.list.size.pointers c.kept_widths-kept.ensures.less.data_words c.kept_widths-kept.ensures.less.pointers in
     record {
       copied = (let begun : ObjectBegun c.args.to.place.segment c.args.to.place.at (1 + c.args.list.count * (least.data_words + least.pointers)) (g.A.BuilderArena.view c.args.arena.now) (g.A.BuilderArena.view c.make_struct_list.new.arena) c.in_ok-made.made (zero_structs c.args.list.count least) =
-          record { begun = record { made = c.in_ok-made.ensures.made; start = c.in_ok-made.ensures.start.leads; inside = c.in_ok-made.ensures.start.inside }; memory = c.in_ok-made.ensures.memory.granted } in ok_so c.copy_elements.result c.copy_elements.ensures.copied (λ x made. structs_copied c.requires.inside c.kept_widths-kept.ensures.kept begun (record { place = c.requires.place; memory = c.in_ok-made.ensures.memory.granted; taken = c.in_ok-made.ensures.memory.taken; behind = c.in_ok-made.ensures.start.behind; near = c.in_ok-made.ensures.near }) made));
+          record { begun = record { made = c.in_ok-made.ensures.made; start = c.in_ok-made.ensures.start.leads; inside = c.in_ok-made.ensures.start.inside }; memory = c.in_ok-made.ensures.memory.granted } in ok_so c.copy_elements.result c.copy_elements.ensures.copied (λ x made. structs_copied c.requires.inside c.kept_widths-kept.ensures.kept begun (record { place = c.requires.place.place; memory = c.in_ok-made.ensures.memory.granted; taken = c.in_ok-made.ensures.memory.taken; behind = c.in_ok-made.ensures.start.behind; near = c.in_ok-made.ensures.near }) made));
       refused = (let begun : ObjectBegun c.args.to.place.segment c.args.to.place.at (1 + c.args.list.count * (least.data_words + least.pointers)) (g.A.BuilderArena.view c.args.arena.now) (g.A.BuilderArena.view c.make_struct_list.new.arena) c.in_ok-made.made (zero_structs c.args.list.count least) =
           record { begun = record { made = c.in_ok-made.ensures.made; start = c.in_ok-made.ensures.start.leads; inside = c.in_ok-made.ensures.start.inside }; memory = c.in_ok-made.ensures.memory.granted } in err_so c.copy_elements.result c.copy_elements.ensures.refused (λ k stop. structs_stop c.requires.inside
           c.kept_widths-kept.ensures.kept begun (record {
-            place = c.requires.place;
+            place = c.requires.place.place;
             memory = c.in_ok-made.ensures.memory.granted;
             taken = c.in_ok-made.ensures.memory.taken;
             behind = c.in_ok-made.ensures.start.behind;
@@ -559,7 +559,7 @@ lists::copy_structs-returns g t c =
           }) (one_more less) stop));
       taken = (let begun : Begins c.args.to.place.segment c.in_ok-made.made.segment (1 + c.args.list.count * (least.data_words + least.pointers)) (g.A.BuilderArena.view c.args.arena.now) (g.A.BuilderArena.view c.make_struct_list.new.arena) =
           record {
-            there = there (g.A.BuilderArena.view c.args.arena.now).words c.args.to.place.segment c.args.to.place.at c.requires.place;
+            there = there (g.A.BuilderArena.view c.args.arena.now).words c.args.to.place.segment c.args.to.place.at c.requires.place.place;
             taken = c.in_ok-made.ensures.memory.taken;
             memory = c.in_ok-made.ensures.memory.granted;
             near = λ room. (c.in_ok-made.ensures.start.behind.near (some_more _) room).0;
@@ -576,7 +576,7 @@ lists::copy_structs-returns-in_err-made g t c =
     let p = err_from_is_err_and c.from_residual.result c.from_residual.ensures.1 in
     record {
       copied = rw p.1 tt;
-      refused = (let full : HasRoom (g.A.BuilderArena.view c.args.arena.now) c.args.to.place.segment (1 + c.args.list.count * (least.data_words + least.pointers)) → ⊥ = λ room. absurd (false≢true (c.in_err-made.ensures.memory.fits room)) in let none = nothing_made (form_in c.args.to.form) c.args.to.place.segment c.args.to.place.at (1 + c.args.list.count * (least.data_words + least.pointers)) (g.A.BuilderArena.view c.args.arena.now) (g.A.BuilderArena.view c.make_struct_list.new.arena) c.args.lim.now c.args.lim.now c.in_err-made.field-0.0 c.requires.place c.requires.null
+      refused = (let full : HasRoom (g.A.BuilderArena.view c.args.arena.now) c.args.to.place.segment (1 + c.args.list.count * (least.data_words + least.pointers)) → ⊥ = λ room. absurd (false≢true (c.in_err-made.ensures.memory.fits room)) in let none = nothing_made (form_in c.args.to.form) c.args.to.place.segment c.args.to.place.at (1 + c.args.list.count * (least.data_words + least.pointers)) (g.A.BuilderArena.view c.args.arena.now) (g.A.BuilderArena.view c.make_struct_list.new.arena) c.args.lim.now c.args.lim.now c.in_err-made.field-0.0 c.requires.place.place c.requires.place.null
           c.in_err-made.ensures.memory.named c.in_err-made.ensures.refused full in rw (p.1, p.2) (halfway (inl (inl (1 + c.args.list.count * (least.data_words + least.pointers), refl, ap (structs_words c.args.list.count) c.kept_widths-kept.ensures.kept, (none.0, no_own_room (g.A.BuilderArena.view c.args.arena.now) c.args.to.place.segment (1 + c.args.list.count * (least.data_words + least.pointers)) full)), structs_large (form_in c.args.to.form) (reading g.B.ReaderArena c.args.from) c.args.list.size c.args.list.count (length (segment (g.A.BuilderArena.view c.args.arena.now).words c.args.to.place.segment)) ((g.A.BuilderArena.view c.args.arena.now).room c.args.to.place.segment) (no_structs_room (reading g.B.ReaderArena c.args.from) c.args.list.size least c.args.list.count c.args.to.place.segment (g.A.BuilderArena.view c.args.arena.now) (form_in c.args.to.form) c.requires.inside c.kept_widths-kept.ensures.kept full))) none.1));
       taken = rw p.1 (inl (refl, made_none (none_refused (g.A.BuilderArena.view c.args.arena.now) (g.A.BuilderArena.view c.make_struct_list.new.arena) (1 + c.args.list.count * (least.data_words + least.pointers)) c.in_err-made.field-0.0 c.in_err-made.ensures.memory.named c.in_err-made.ensures.refused)));
     }
@@ -589,7 +589,7 @@ structs::copy_struct-returns-in_err-start g t c =
     let p = err_from_is_err_and c.from_residual.result c.from_residual.ensures.1 in
     record {
       copied = rw p.1 tt;
-      refused = (let full : HasRoom (g.A.BuilderArena.view c.args.arena.now) c.args.to.place.segment (least.data_words + least.pointers) → ⊥ = λ room. absurd (false≢true (c.in_err-start.ensures.memory.fits room)) in let none = nothing_made (form_in c.args.to.form) c.args.to.place.segment c.args.to.place.at (least.data_words + least.pointers) (g.A.BuilderArena.view c.args.arena.now) (g.A.BuilderArena.view c.make_struct.new.arena) c.args.lim.now c.args.lim.now c.in_err-start.field-0.0 c.requires.place c.requires.null
+      refused = (let full : HasRoom (g.A.BuilderArena.view c.args.arena.now) c.args.to.place.segment (least.data_words + least.pointers) → ⊥ = λ room. absurd (false≢true (c.in_err-start.ensures.memory.fits room)) in let none = nothing_made (form_in c.args.to.form) c.args.to.place.segment c.args.to.place.at (least.data_words + least.pointers) (g.A.BuilderArena.view c.args.arena.now) (g.A.BuilderArena.view c.make_struct.new.arena) c.args.lim.now c.args.lim.now c.in_err-start.field-0.0 c.requires.place.place c.requires.place.null
           c.in_err-start.ensures.memory.named c.in_err-start.ensures.refused full in let r : Reading = reading g.B.ReaderArena c.args.from in let cut : SectionsCut (form_in c.args.to.form) (words_from r c.args.size.data_words) (behind r
           c.args.size.data_words) c.args.size.pointers least = record {
             inside = behind_inside
@@ -611,7 +611,7 @@ structs::copy_struct-returns g t c =
     let r : Reading = reading g.B.ReaderArena c.args.from in
     let held : words_of c.args.from.place.bytes.now ≡ segment_read r = c.args.from.held.0 in
     let section : words_of c.part-data.result.now ≡ take least.data_words (words_from r c.args.size.data_words) =
-    (rw (c.from-data_words.ensures, held) at c.part-data.ensures.words) ∙ sym (words_taken r.segments r.segment r.at least.data_words c.args.size.data_words c.kept_sections-kept.ensures.less_data) in
+    (rw (c.from-data_words.ensures, held) at c.part-data.ensures.words) ∙ sym (words_taken r.segments r.segment r.at least.data_words c.args.size.data_words c.kept_sections-kept.ensures.less.data_words) in
     record {
       copied = (let begun : SectionsBegun (form_in c.args.to.form) (words_from r c.args.size.data_words) (behind r c.args.size.data_words) c.args.size.pointers least c.args.to.place.segment c.args.to.place.at (g.A.BuilderArena.view c.args.arena.now) (g.A.BuilderArena.view c.make_struct.new.arena) (g.A.BuilderArena.view c.put_words.new.arena) c.in_ok-start.start = record {
         cut = record {
@@ -623,7 +623,7 @@ structs::copy_struct-returns g t c =
         begun = record { made = c.in_ok-start.ensures.made; start = c.in_ok-start.ensures.start.leads; inside = c.in_ok-start.ensures.start.inside };
         memory = c.in_ok-start.ensures.memory.granted;
         writes = rw section at c.put_words.ensures.words;
-        place = c.requires.place;
+        place = c.requires.place.place;
         within = g.met.A.BuilderArena.within c.put_words.new.arena c.in_ok-start.start.segment;
         taken = c.in_ok-start.ensures.memory.taken;
         behind = c.in_ok-start.ensures.start.behind;
@@ -640,14 +640,14 @@ structs::copy_struct-returns g t c =
         begun = record { made = c.in_ok-start.ensures.made; start = c.in_ok-start.ensures.start.leads; inside = c.in_ok-start.ensures.start.inside };
         memory = c.in_ok-start.ensures.memory.granted;
         writes = rw section at c.put_words.ensures.words;
-        place = c.requires.place;
+        place = c.requires.place.place;
         within = g.met.A.BuilderArena.within c.put_words.new.arena c.in_ok-start.start.segment;
         taken = c.in_ok-start.ensures.memory.taken;
         behind = c.in_ok-start.ensures.start.behind;
         near = c.in_ok-start.ensures.near;
         empty = c.in_ok-start.ensures.empty;
       } in err_so c.copy_children.result c.copy_children.ensures.refused (λ k stop. sections_stop begun (rw (c.from.ensures, c.from-2.ensures, c.from-pointers.ensures, nl) at stop)));
-      taken = (let made = struct_begins c.args.to.place.segment c.args.to.place.at least (g.A.BuilderArena.view c.args.arena.now) (g.A.BuilderArena.view c.make_struct.new.arena) c.in_ok-start.start c.requires.place c.in_ok-start.ensures.memory.taken c.in_ok-start.ensures.memory.granted c.in_ok-start.ensures.start.behind c.in_ok-start.ensures.start.leads c.in_ok-start.ensures.empty in let put = c.put_words.ensures.taken in let last = none_itself (g.A.BuilderArena.view c.copy_children.new.arena) in let fewer = c.kept_sections-kept.ensures.less_pointers in let cut : SectionsCut (form_in c.args.to.form) (words_from r c.args.size.data_words) (behind r
+      taken = (let made = struct_begins c.args.to.place.segment c.args.to.place.at least (g.A.BuilderArena.view c.args.arena.now) (g.A.BuilderArena.view c.make_struct.new.arena) c.in_ok-start.start c.requires.place.place c.in_ok-start.ensures.memory.taken c.in_ok-start.ensures.memory.granted c.in_ok-start.ensures.start.behind c.in_ok-start.ensures.start.leads c.in_ok-start.ensures.empty in let put = c.put_words.ensures.taken in let last = none_itself (g.A.BuilderArena.view c.copy_children.new.arena) in let fewer = c.kept_sections-kept.ensures.less.pointers in let cut : SectionsCut (form_in c.args.to.form) (words_from r c.args.size.data_words) (behind r
           c.args.size.data_words) c.args.size.pointers least = record {
             inside = behind_inside
                 c.args.from.place.at c.args.size.data_words c.args.size.pointers c.requires.inside;
@@ -656,7 +656,7 @@ structs::copy_struct-returns g t c =
           } in let long = length_words r.segments r.segment r.at c.args.size.data_words (part_inside
           c.args.from.place.at c.args.size.data_words c.args.size.data_words c.args.size.pointers
           c.requires.inside (le_refl _)) in let less : least.data_words + least.pointers ≤ length (words_from r c.args.size.data_words) +
-          c.args.size.pointers = fewer_words c.kept_sections-kept.ensures.less_data fewer long in taken_so c.copy_children.result _ _ _ _ (λ x. sections_behind (words_from r c.args.size.data_words) (behind r c.args.size.data_words) c.args.size.pointers least.pointers (least.data_words + least.pointers) _ _ _ _ _ _ _ _ cut.inside cut.of_pointers made less (all_within put last x))
+          c.args.size.pointers = fewer_words c.kept_sections-kept.ensures.less.data_words fewer long in taken_so c.copy_children.result _ _ _ _ (λ x. sections_behind (words_from r c.args.size.data_words) (behind r c.args.size.data_words) c.args.size.pointers least.pointers (least.data_words + least.pointers) _ _ _ _ _ _ _ _ cut.inside cut.of_pointers made less (all_within put last x))
           (λ x. sections_stop_behind (words_from r c.args.size.data_words) (behind r c.args.size.data_words)
           c.args.size.pointers least.pointers (least.data_words + least.pointers) _ _ _ _ _ _ _ _ fewer made
           less (among_within (le_refl _) put last x))
@@ -670,7 +670,7 @@ structs::copy_struct-copy_children-requires g t c κs within =
     let r : Reading = reading g.B.ReaderArena c.args.from in
     let held : words_of c.args.from.place.bytes.now ≡ segment_read r = c.args.from.held.0 in
     let section : words_of c.part-data.result.now ≡ take least.data_words (words_from r c.args.size.data_words) =
-    (rw (c.from-data_words.ensures, held) at c.part-data.ensures.words) ∙ sym (words_taken r.segments r.segment r.at least.data_words c.args.size.data_words c.kept_sections-kept.ensures.less_data) in
+    (rw (c.from-data_words.ensures, held) at c.part-data.ensures.words) ∙ sym (words_taken r.segments r.segment r.at least.data_words c.args.size.data_words c.kept_sections-kept.ensures.less.data_words) in
     let begun : SectionsBegun (form_in c.args.to.form) (words_from r c.args.size.data_words) (behind r c.args.size.data_words) c.args.size.pointers least c.args.to.place.segment c.args.to.place.at (g.A.BuilderArena.view c.args.arena.now) (g.A.BuilderArena.view c.make_struct.new.arena) (g.A.BuilderArena.view c.put_words.new.arena) c.in_ok-start.start = record {
       cut = record {
         inside = behind_inside c.args.from.place.at c.args.size.data_words c.args.size.pointers
@@ -681,7 +681,7 @@ structs::copy_struct-copy_children-requires g t c κs within =
       begun = record { made = c.in_ok-start.ensures.made; start = c.in_ok-start.ensures.start.leads; inside = c.in_ok-start.ensures.start.inside };
       memory = c.in_ok-start.ensures.memory.granted;
       writes = rw section at c.put_words.ensures.words;
-      place = c.requires.place;
+      place = c.requires.place.place;
       within = g.met.A.BuilderArena.within c.put_words.new.arena c.in_ok-start.start.segment;
       taken = c.in_ok-start.ensures.memory.taken;
       behind = c.in_ok-start.ensures.start.behind;
@@ -690,7 +690,7 @@ structs::copy_struct-copy_children-requires g t c κs within =
     } in
     let NULLS : HasNulls N c.in_ok-start.start.segment (c.in_ok-start.start.at + c.from-2.result) c.from-pointers.result = rw (c.from-2.ensures, c.from-pointers.ensures) (record { room = sections_fit begun; null = sections_null begun }) in
     let nl = to_z-of_z w32 c.args.from.nesting_limit (search rules) in
-    (omega (arith, ap levels nl, c.decreases), (within.0, (within.1, (NULLS, rw (c.from.ensures, c.from-pointers.ensures) (omega (arith, c.requires.inside))))))
+    (omega (arith, ap levels nl, c.decreases), (within.0, (within.1, record { nulls = NULLS; inside = rw (c.from.ensures, c.from-pointers.ensures) (omega (arith, c.requires.inside)) })))
 
 pub structs::copy_struct-overflow_add-place : goal.structs::copy_struct-overflow_add-place
 structs::copy_struct-overflow_add-place g t c =

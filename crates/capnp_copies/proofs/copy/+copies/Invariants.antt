@@ -1,6 +1,6 @@
 use Rattle.std.proofs.Common.{◌+◌, ◌-◌, ◌*◌}
 use Rattle.capnp_objects.specs.Source.{levels}
-use Rattle.capnp_readers.specs.Readers.{reading}
+use Rattle.capnp_pointers.specs.Pointers.{reading}
 use Rattle.capnp_copies.specs.Changes.{change_to, CopiesChildren, CopiesRows}
 use Rattle.capnp_copies.specs.Originals.{children_original, elements_original}
 use Rattle.capnp_copies.proofs.ObjectsMade.{TakesForCopy}

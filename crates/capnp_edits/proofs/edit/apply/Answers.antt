@@ -37,8 +37,8 @@ returns-in-Pointer g c =
     let task = c.in-Some-task_of.task in
     let done = c.edit_pointer.ensures in
     let is : task_of e.op ≡ Some task = sym c.in-Some-task_of.ensures in
-    let leads : (t : Tree) → IsStored old.words 0 0 t → IsPathFound old.words 0 0 t (map step_of e.path.now) (Some (AtPointer there)) =
-    λ t stored. subst (IsPathFound old.words 0 0 t (map step_of e.path.now)) (ap Some c.in-Pointer.is) (c.in-Some.ensures.found t stored) in
+    let leads : (t : Tree) → IsStored old.words 0 0 t → IsPathFound old.words (record { segment = 0; word = 0 }) t (map step_of e.path.now) (Some (AtPointer there)) =
+    λ t stored. subst (IsPathFound old.words (record { segment = 0; word = 0 }) t (map step_of e.path.now)) (ap Some c.in-Pointer.is) (c.in-Some.ensures.found t stored) in
     step_at old new e (AtPointer there) task (refusal_of c.edit_pointer.result) is (c.has_words.ensures.enough.0 c.if-not-has_words.false) (applied_pointer old.words new.words e there task _ is leads done.done) done.counted leads done.named
     done.fits done.nowhere done.taken done.done
 
@@ -51,8 +51,8 @@ returns-in-InStruct g c =
     let change = c.in-InStruct.change in
     let done = c.change_struct.ensures in
     let is : task_of e.op ≡ Some (InStruct change) = sym c.in-Some-task_of.ensures ∙ ap Some c.in-InStruct.is in
-    let leads : (t : Tree) → IsStored old.words 0 0 t → IsPathFound old.words 0 0 t (map step_of e.path.now) (Some (AtElement there)) =
-    λ t stored. subst (IsPathFound old.words 0 0 t (map step_of e.path.now)) (ap Some c.in-Element.is) (c.in-Some.ensures.found t stored) in
+    let leads : (t : Tree) → IsStored old.words 0 0 t → IsPathFound old.words (record { segment = 0; word = 0 }) t (map step_of e.path.now) (Some (AtElement there)) =
+    λ t stored. subst (IsPathFound old.words (record { segment = 0; word = 0 }) t (map step_of e.path.now)) (ap Some c.in-Element.is) (c.in-Some.ensures.found t stored) in
     step_at old new e (AtElement there) (InStruct change) (refusal_of c.change_struct.result) is (c.has_words.ensures.enough.0 c.if-not-has_words.false) (element_applied old.words new.words e there change _ is leads done.done) done.counted leads
     done.named done.fits done.nowhere done.taken done.done
 
@@ -61,8 +61,8 @@ returns-in_default-task g c =
     let v = g.A.BuilderArena.view c.args.arena.now in
     let e = c.args.edit.now in
     let there = c.in-Element.parent in
-    let leads : (t : Tree) → IsStored v.words 0 0 t → IsPathFound v.words 0 0 t (map step_of e.path.now) (Some (AtElement there)) =
-    λ t stored. subst (IsPathFound v.words 0 0 t (map step_of e.path.now)) (ap Some c.in-Element.is) (c.in-Some.ensures.found t stored) in
+    let leads : (t : Tree) → IsStored v.words 0 0 t → IsPathFound v.words (record { segment = 0; word = 0 }) t (map step_of e.path.now) (Some (AtElement there)) =
+    λ t stored. subst (IsPathFound v.words (record { segment = 0; word = 0 }) t (map step_of e.path.now)) (ap Some c.in-Element.is) (c.in-Some.ensures.found t stored) in
     nothing_done v e (Some (AtElement there)) (none_applied v.words e there c.in-Some-task_of.task (sym c.in-Some-task_of.ensures) c.in_default-task.not-InStruct leads) leads
     (subst (λ o. IfSome o (λ task. DoesThere v.words v.words (AtElement there) task (Some NoSuchPlace))) c.in-Some-task_of.ensures
     (element_kept v.words there c.in-Some-task_of.task (Some NoSuchPlace) c.in_default-task.not-InStruct))

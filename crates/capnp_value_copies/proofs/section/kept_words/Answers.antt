@@ -1,8 +1,8 @@
 use Rattle.std.proofs.Common.{◌∙◌, sym, ap}
 use Rattle.capnp_copies.specs.Forms.{form_of}
-use Rattle.capnp_copies.specs.StructValues.{section_words}
+use Rattle.capnp_value_copies.specs.StructValues.{section_words}
 use Rattle.capnp_copies.specs.Originals.{kept_count}
-use Rattle.capnp_copies.proofs.DataSections.{section_long, last_used, last_unused}
+use Rattle.capnp_value_copies.proofs.DataSections.{section_long, last_used, last_unused}
 use Rattle.capnp_value_copies.proofs.section.kept_words.Goals as goal
 
 pub returns-then-not-canonicalize : goal.returns-then-not-canonicalize

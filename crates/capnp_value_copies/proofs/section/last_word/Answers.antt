@@ -1,7 +1,7 @@
 use Rattle.std.proofs.Common.{◌≡◌, ℕ, ◌-◌, ◌*◌, ◌/◌, ◌%◌, ◌^◌, List, drop, ap, ◌∙◌, arith}
 use Rattle.capnp_format.specs.Numbers.{from_digits}
 use Rattle.capnp_format.specs.Value.{AreBelow}
-use Rattle.capnp_copies.proofs.DataSections.{each_below, digit_ahead, digits_small}
+use Rattle.capnp_value_copies.proofs.DataSections.{each_below, digit_ahead, digits_small}
 use Rattle.capnp_copies.proofs.Padding.{mask_is}
 use Rattle.capnp_value_copies.proofs.section.last_word.Goals as goal
 

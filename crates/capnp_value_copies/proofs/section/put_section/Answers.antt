@@ -4,7 +4,7 @@ use Rattle.capnp_format.specs.Numbers.{from_digits}
 use Rattle.capnp_format.specs.Segments.{Segments}
 use Rattle.capnp_arena_traits.specs.View.{View}
 use Rattle.capnp_arena_traits.specs.Written.{with_word, with_words}
-use Rattle.capnp_copies.proofs.DataSections.{whole_long, all_words, with_words_more}
+use Rattle.capnp_value_copies.proofs.DataSections.{whole_long, all_words, with_words_more}
 use Rattle.capnp_value_copies.proofs.section.put_section.Goals as goal
 
 pub returns : goal.returns

@@ -4,7 +4,7 @@ use Rattle.capnp_format.specs.Segments.{word_at}
 use Rattle.capnp_format.specs.Tree.{Null}
 use Rattle.capnp_making.proofs.Filling.{unchanged}
 use Rattle.capnp_making.proofs.FillingMade.{null_stored}
-use Rattle.capnp_readers.specs.Readers.{reading}
+use Rattle.capnp_readers.specs.Readers.{read_by}
 use Rattle.capnp_copies.specs.Changes.{change}
 use Rattle.capnp_copies.specs.Forms.{form_of}
 use Rattle.capnp_copies.specs.Originals.{value_original}
@@ -12,6 +12,7 @@ use Rattle.capnp_copies.proofs.FlatRead.{ok_so, err_so}
 use Rattle.capnp_copies.proofs.Growth.{none_itself, none_pruned, taken_so, value_within, until_within}
 use Rattle.capnp_builders.proofs.CopiesHeld.{null_replaced, fresh_copied, alone_copied, nothing_zeroed, put_copied, put_stopped, can_later, grows_there}
 use Rattle.capnp_builders.proofs.builders.PointerBuilder.copy_from.Goals as goal
+use Rattle.capnp_making.specs.Makes.{call_at}
 
 -- A null pointer.
 
@@ -22,7 +23,7 @@ returns-then-is_null-clause-copied g c =
     let p = c.args.self.now.at in
     let zero : word_at old.words s p ≡ 0 = c.is_null.ensures.0 (search rules) in
     let null = null_replaced old.words old.words s p Null c.requires.place zero (unchanged old.words s p Null (null_stored old.words s p c.requires.place zero)) in
-    ok_so c.copy_value.result _ _ c.copy_value.ensures.copied (λ x made. put_copied (change (form_of c.args.canonicalize) c.args.self.now.segment c.args.self.now.at (g.A.BuilderArena.view c.args.self.now.arena.now) (g.A.BuilderArena.view c.copy_value.new.arena) c.args.lim.now c.copy_value.new.lim) old refl (nothing_zeroed old.words) null made)
+    ok_so c.copy_value.result _ _ (rw (c.pointer-value.ensures.source, c.pointer-value.ensures.place, c.pointer-value.ensures.nesting) at c.copy_value.ensures.copied) (λ x made. put_copied (change (form_of c.args.canonicalize) (call_at c.args.self.now.segment c.args.self.now.at (g.A.BuilderArena.view c.args.self.now.arena.now) (g.A.BuilderArena.view c.copy_value.new.arena)) c.args.lim.now c.copy_value.new.lim) old refl (nothing_zeroed old.words) null made)
 
 pub returns-then-is_null-clause-refused : goal.returns-then-is_null-clause-refused
 returns-then-is_null-clause-refused g c =
@@ -31,49 +32,49 @@ returns-then-is_null-clause-refused g c =
     let p = c.args.self.now.at in
     let zero : word_at old.words s p ≡ 0 = c.is_null.ensures.0 (search rules) in
     let null = null_replaced old.words old.words s p Null c.requires.place zero (unchanged old.words s p Null (null_stored old.words s p c.requires.place zero)) in
-    err_so c.copy_value.result _ _ c.copy_value.ensures.refused (λ k stop. put_stopped (change (form_of c.args.canonicalize) c.args.self.now.segment c.args.self.now.at (g.A.BuilderArena.view c.args.self.now.arena.now) (g.A.BuilderArena.view c.copy_value.new.arena) c.args.lim.now c.copy_value.new.lim) old refl (nothing_zeroed old.words) null stop)
+    err_so c.copy_value.result _ _ (rw (c.pointer-value.ensures.source, c.pointer-value.ensures.place, c.pointer-value.ensures.nesting) at c.copy_value.ensures.refused) (λ k stop. put_stopped (change (form_of c.args.canonicalize) (call_at c.args.self.now.segment c.args.self.now.at (g.A.BuilderArena.view c.args.self.now.arena.now) (g.A.BuilderArena.view c.copy_value.new.arena)) c.args.lim.now c.copy_value.new.lim) old refl (nothing_zeroed old.words) null stop)
 
 pub returns-then-is_null-clause-fresh : goal.returns-then-is_null-clause-fresh
-returns-then-is_null-clause-fresh g c = λ only. fresh_copied c.copy_value.result (reading g.B.ReaderArena c.args.from) (change (form_of c.args.canonicalize) c.args.self.now.segment c.args.self.now.at (g.A.BuilderArena.view c.args.self.now.arena.now) (g.A.BuilderArena.view c.copy_value.new.arena) c.args.lim.now c.copy_value.new.lim) c.requires.place only c.copy_value.ensures.copied
+returns-then-is_null-clause-fresh g c = λ only. fresh_copied c.copy_value.result (read_by g.B.ReaderArena c.args.from) (change (form_of c.args.canonicalize) (call_at c.args.self.now.segment c.args.self.now.at (g.A.BuilderArena.view c.args.self.now.arena.now) (g.A.BuilderArena.view c.copy_value.new.arena)) c.args.lim.now c.copy_value.new.lim) c.requires.place only (rw (c.pointer-value.ensures.source, c.pointer-value.ensures.place, c.pointer-value.ensures.nesting) at c.copy_value.ensures.copied)
 
 pub returns-then-is_null-clause-alone : goal.returns-then-is_null-clause-alone
-returns-then-is_null-clause-alone g c = λ fresh. alone_copied c.copy_value.result (reading g.B.ReaderArena c.args.from) (change (form_of c.args.canonicalize) c.args.self.now.segment c.args.self.now.at (g.A.BuilderArena.view c.args.self.now.arena.now) (g.A.BuilderArena.view c.copy_value.new.arena) c.args.lim.now c.copy_value.new.lim) c.requires.place fresh c.copy_value.ensures.copied
+returns-then-is_null-clause-alone g c = λ fresh. alone_copied c.copy_value.result (read_by g.B.ReaderArena c.args.from) (change (form_of c.args.canonicalize) (call_at c.args.self.now.segment c.args.self.now.at (g.A.BuilderArena.view c.args.self.now.arena.now) (g.A.BuilderArena.view c.copy_value.new.arena)) c.args.lim.now c.copy_value.new.lim) c.requires.place fresh (rw (c.pointer-value.ensures.source, c.pointer-value.ensures.place, c.pointer-value.ensures.nesting) at c.copy_value.ensures.copied)
 
-pub returns-then-is_null-clause-there : goal.returns-then-is_null-clause-there
-returns-then-is_null-clause-there g c =
-    let grows = grows_there c.copy_value.result (value_original (reading g.B.ReaderArena c.args.from)) (change (form_of c.args.canonicalize) c.args.self.now.segment c.args.self.now.at (g.A.BuilderArena.view c.args.self.now.arena.now) (g.A.BuilderArena.view c.copy_value.new.arena) c.args.lim.now c.copy_value.new.lim) c.copy_value.ensures.copied c.copy_value.ensures.refused in
-    omega (arith, grows, c.requires.place)
+pub returns-then-is_null-clause-stays : goal.returns-then-is_null-clause-stays
+returns-then-is_null-clause-stays g c =
+    let grows = grows_there c.copy_value.result (value_original (read_by g.B.ReaderArena c.args.from)) (change (form_of c.args.canonicalize) (call_at c.args.self.now.segment c.args.self.now.at (g.A.BuilderArena.view c.args.self.now.arena.now) (g.A.BuilderArena.view c.copy_value.new.arena)) c.args.lim.now c.copy_value.new.lim) (rw (c.pointer-value.ensures.source, c.pointer-value.ensures.place, c.pointer-value.ensures.nesting) at c.copy_value.ensures.copied) (rw (c.pointer-value.ensures.source, c.pointer-value.ensures.place, c.pointer-value.ensures.nesting) at c.copy_value.ensures.refused) in
+    record { builder = search rules; there = omega (arith, grows, c.requires.place) }
 
 -- What another pointer held becomes zero, and then the value is copied to the null pointer.
 
 pub returns-clause-copied : goal.returns-clause-copied
 returns-clause-copied g c =
-    ok_so c.copy_value-2.result _ _ c.copy_value-2.ensures.copied
-    (λ x made. put_copied (change (form_of c.args.canonicalize) c.args.self.now.segment c.args.self.now.at (g.A.BuilderArena.view c.args.self.now.arena.now) (g.A.BuilderArena.view c.copy_value-2.new.arena) c.args.lim.now c.copy_value-2.new.lim)
+    ok_so c.copy_value-2.result _ _ (rw (c.pointer-value.ensures.source, c.pointer-value.ensures.place, c.pointer-value.ensures.nesting) at c.copy_value-2.ensures.copied)
+    (λ x made. put_copied (change (form_of c.args.canonicalize) (call_at c.args.self.now.segment c.args.self.now.at (g.A.BuilderArena.view c.args.self.now.arena.now) (g.A.BuilderArena.view c.copy_value-2.new.arena)) c.args.lim.now c.copy_value-2.new.lim)
     (g.A.BuilderArena.view c.clear.new.arena) c.clear.ensures.limits c.clear.ensures.only c.clear.ensures.cleared made)
 
 pub returns-clause-refused : goal.returns-clause-refused
 returns-clause-refused g c =
-    err_so c.copy_value-2.result _ _ c.copy_value-2.ensures.refused
-    (λ k stop. put_stopped (change (form_of c.args.canonicalize) c.args.self.now.segment c.args.self.now.at (g.A.BuilderArena.view c.args.self.now.arena.now) (g.A.BuilderArena.view c.copy_value-2.new.arena) c.args.lim.now c.copy_value-2.new.lim)
+    err_so c.copy_value-2.result _ _ (rw (c.pointer-value.ensures.source, c.pointer-value.ensures.place, c.pointer-value.ensures.nesting) at c.copy_value-2.ensures.refused)
+    (λ k stop. put_stopped (change (form_of c.args.canonicalize) (call_at c.args.self.now.segment c.args.self.now.at (g.A.BuilderArena.view c.args.self.now.arena.now) (g.A.BuilderArena.view c.copy_value-2.new.arena)) c.args.lim.now c.copy_value-2.new.lim)
     (g.A.BuilderArena.view c.clear.new.arena) c.clear.ensures.limits c.clear.ensures.only c.clear.ensures.cleared stop)
 
 pub returns-clause-fits : goal.returns-clause-fits
 returns-clause-fits g c = λ can.
-    c.copy_value-2.ensures.fits (can_later (value_original (reading g.B.ReaderArena c.args.from)) (form_of c.args.canonicalize) c.args.lim.now (g.A.BuilderArena.view c.args.self.now.arena.now) (g.A.BuilderArena.view c.clear.new.arena) c.args.self.now.segment c.clear.ensures.limits c.clear.ensures.only can)
+    (rw (c.pointer-value.ensures.source, c.pointer-value.ensures.place, c.pointer-value.ensures.nesting) at c.copy_value-2.ensures.fits) (can_later (value_original (read_by g.B.ReaderArena c.args.from)) (form_of c.args.canonicalize) c.args.lim.now (g.A.BuilderArena.view c.args.self.now.arena.now) (g.A.BuilderArena.view c.clear.new.arena) c.args.self.now.segment c.clear.ensures.limits c.clear.ensures.only can)
 
-pub returns-clause-there : goal.returns-clause-there
-returns-clause-there g c =
+pub returns-clause-stays : goal.returns-clause-stays
+returns-clause-stays g c =
     let long = c.clear.ensures.only.words c.args.self.now.segment in
-    let grows = grows_there c.copy_value-2.result (value_original (reading g.B.ReaderArena c.args.from)) (change (form_of c.args.canonicalize) c.args.self.now.segment c.args.self.now.at (g.A.BuilderArena.view c.clear.new.arena) (g.A.BuilderArena.view c.copy_value-2.new.arena) c.args.lim.now c.copy_value-2.new.lim) c.copy_value-2.ensures.copied c.copy_value-2.ensures.refused in
-    omega (arith, grows, long, c.requires.place)
+    let grows = grows_there c.copy_value-2.result (value_original (read_by g.B.ReaderArena c.args.from)) (change (form_of c.args.canonicalize) (call_at c.args.self.now.segment c.args.self.now.at (g.A.BuilderArena.view c.clear.new.arena) (g.A.BuilderArena.view c.copy_value-2.new.arena)) c.args.lim.now c.copy_value-2.new.lim) (rw (c.pointer-value.ensures.source, c.pointer-value.ensures.place, c.pointer-value.ensures.nesting) at c.copy_value-2.ensures.copied) (rw (c.pointer-value.ensures.source, c.pointer-value.ensures.place, c.pointer-value.ensures.nesting) at c.copy_value-2.ensures.refused) in
+    record { builder = search rules; there = omega (arith, grows, long, c.requires.place) }
 
 pub returns-clause-taken : goal.returns-clause-taken
 returns-clause-taken g c =
     let before = none_pruned (g.A.BuilderArena.view c.args.self.now.arena.now) (g.A.BuilderArena.view c.clear.new.arena) c.clear.ensures.limits c.clear.ensures.only in
     let last = none_itself (g.A.BuilderArena.view c.copy_value-2.new.arena) in
     taken_so c.copy_value-2.result _ _ _ _
-    (λ x. value_within (reading g.B.ReaderArena c.args.from) (change (form_of c.args.canonicalize) c.args.self.now.segment c.args.self.now.at (g.A.BuilderArena.view c.clear.new.arena) (g.A.BuilderArena.view c.copy_value-2.new.arena) c.args.lim.now c.copy_value-2.new.lim)
-    (change (form_of c.args.canonicalize) c.args.self.now.segment c.args.self.now.at (g.A.BuilderArena.view c.args.self.now.arena.now) (g.A.BuilderArena.view c.copy_value-2.new.arena) c.args.lim.now c.copy_value-2.new.lim) before last refl x)
-    (λ x. until_within (reading g.B.ReaderArena c.args.from) (change (form_of c.args.canonicalize) c.args.self.now.segment c.args.self.now.at (g.A.BuilderArena.view c.clear.new.arena) (g.A.BuilderArena.view c.copy_value-2.new.arena) c.args.lim.now c.copy_value-2.new.lim)
-    (change (form_of c.args.canonicalize) c.args.self.now.segment c.args.self.now.at (g.A.BuilderArena.view c.args.self.now.arena.now) (g.A.BuilderArena.view c.copy_value-2.new.arena) c.args.lim.now c.copy_value-2.new.lim) before last refl x) c.copy_value-2.ensures.taken
+    (λ x. value_within (read_by g.B.ReaderArena c.args.from) (change (form_of c.args.canonicalize) (call_at c.args.self.now.segment c.args.self.now.at (g.A.BuilderArena.view c.clear.new.arena) (g.A.BuilderArena.view c.copy_value-2.new.arena)) c.args.lim.now c.copy_value-2.new.lim)
+    (change (form_of c.args.canonicalize) (call_at c.args.self.now.segment c.args.self.now.at (g.A.BuilderArena.view c.args.self.now.arena.now) (g.A.BuilderArena.view c.copy_value-2.new.arena)) c.args.lim.now c.copy_value-2.new.lim) before last refl x)
+    (λ x. until_within (read_by g.B.ReaderArena c.args.from) (change (form_of c.args.canonicalize) (call_at c.args.self.now.segment c.args.self.now.at (g.A.BuilderArena.view c.clear.new.arena) (g.A.BuilderArena.view c.copy_value-2.new.arena)) c.args.lim.now c.copy_value-2.new.lim)
+    (change (form_of c.args.canonicalize) (call_at c.args.self.now.segment c.args.self.now.at (g.A.BuilderArena.view c.args.self.now.arena.now) (g.A.BuilderArena.view c.copy_value-2.new.arena)) c.args.lim.now c.copy_value-2.new.lim) before last refl x) (rw (c.pointer-value.ensures.source, c.pointer-value.ensures.place, c.pointer-value.ensures.nesting) at c.copy_value-2.ensures.taken)

@@ -1,4 +1,4 @@
-use Rattle.std.proofs.Common.{◌≡◌, ◌+◌, ◌^◌, ◌<◌, Ok, Err, length, sym, ap, subst, arith}
+use Rattle.std.proofs.Common.{rules, ◌≡◌, ◌+◌, ◌^◌, ◌<◌, Ok, Err, length, sym, ap, subst, arith}
 use Rattle.std.proofs.lemmas.Bool.{false≢true}
 use Rattle.std.proofs.lemmas.Result.{err_from_is_err_and}
 use Rattle.capnp_arena_traits.specs.View.{View}
@@ -21,30 +21,36 @@ use Rattle.capnp_making.specs.Makes.{call_at}
 
 -- What stands once the default is put is opened.
 pub returns-clause-found : goal.returns-clause-found
-returns-clause-found g c = λ t stored.
-    (let a : View = g.A.BuilderArena.view c.args.self.now.arena.now in
-    let m : View = g.A.BuilderArena.view c.put_default.new.arena in
-    let b : View = g.A.BuilderArena.view c.open_struct.new.arena in
-    let s = c.args.self.now.segment in
-    let p = c.args.self.now.at in
-    let e = c.in_ok-opened.opened in
-    let small : length (segment b.words e.segment) < 2 ^ 32 = omega (arith, g.met.A.BuilderArena.within c.open_struct.new.arena e.segment, g.met.A.BuilderArena.small c.open_struct.new.arena e.segment) in
-    then_does (object_default c.args.default t) s p a m b t c.in_ok-put_default.field-0 (Ok c.struct_place.result) (OpensStruct IsStructGiven c.args.size (Ok c.struct_place.result)) stored (c.in_ok-put_default.ensures.put t stored)
-    (λ u stands. (let o = c.in_ok-opened.ensures.opened u stands in
-    struct_opens m b s p u c.args.size e c.struct_place.result
-    (record { there = there b.words s p (still_there a m b s p c.requires.there c.in_ok-put_default.ensures.longer (opens_longer c.args.size LeadsToOne m b s p u (struct_opened c.args.size u) (Ok e) o)); small = small; placed = c.struct_place.ensures.place }) o)))
+returns-clause-found g c = record {
+  found = λ t stored.
+      (let a : View = g.A.BuilderArena.view c.args.self.now.arena.now in
+      let m : View = g.A.BuilderArena.view c.put_default.new.arena in
+      let b : View = g.A.BuilderArena.view c.open_struct.new.arena in
+      let s = c.args.self.now.segment in
+      let p = c.args.self.now.at in
+      let e = c.in_ok-opened.opened in
+      let small : length (segment b.words e.segment) < 2 ^ 32 = omega (arith, g.met.A.BuilderArena.within c.open_struct.new.arena e.segment, g.met.A.BuilderArena.small c.open_struct.new.arena e.segment) in
+      then_does (object_default c.args.default t) s p a m b t c.in_ok-put_default.field-0 (Ok c.struct_place.result) (OpensStruct IsStructGiven c.args.size (Ok c.struct_place.result)) stored (c.in_ok-put_default.ensures.put.put t stored)
+      (λ u stands. (let o = c.in_ok-opened.ensures.opened u stands in
+      struct_opens m b s p u c.args.size e c.struct_place.result
+      (record { there = there b.words s p (still_there a m b s p c.requires.there c.in_ok-put_default.ensures.put.longer (opens_longer c.args.size LeadsToOne m b s p u (struct_opened c.args.size u) (Ok e) o)); small = small; placed = c.struct_place.ensures.place }) o)));
+  memory = search rules;
+}
 
 pub returns-in_err-opened-clause-found : goal.returns-in_err-opened-clause-found
-returns-in_err-opened-clause-found g c = λ t stored.
-    (let a : View = g.A.BuilderArena.view c.args.self.now.arena.now in
-    let m : View = g.A.BuilderArena.view c.put_default.new.arena in
-    let b : View = g.A.BuilderArena.view c.open_struct.new.arena in
-    let s = c.args.self.now.segment in
-    let p = c.args.self.now.at in
-    let k = c.in_err-opened.field-0.0 in
-    let q = err_from_is_err_and c.from_residual-in_err-opened.result c.from_residual-in_err-opened.ensures.1 in
-    rw (q.1, q.2) (then_does (object_default c.args.default t) s p a m b t c.in_ok-put_default.field-0 (Err k) (OpensStruct IsStructGiven c.args.size (Err k)) stored (c.in_ok-put_default.ensures.put t stored)
-    (λ u stands. struct_refused m b s p u c.args.size k (c.in_err-opened.ensures.opened u stands))))
+returns-in_err-opened-clause-found g c = record {
+  found = λ t stored.
+      (let a : View = g.A.BuilderArena.view c.args.self.now.arena.now in
+      let m : View = g.A.BuilderArena.view c.put_default.new.arena in
+      let b : View = g.A.BuilderArena.view c.open_struct.new.arena in
+      let s = c.args.self.now.segment in
+      let p = c.args.self.now.at in
+      let k = c.in_err-opened.field-0.0 in
+      let q = err_from_is_err_and c.from_residual-in_err-opened.result c.from_residual-in_err-opened.ensures.1 in
+      rw (q.1, q.2) (then_does (object_default c.args.default t) s p a m b t c.in_ok-put_default.field-0 (Err k) (OpensStruct IsStructGiven c.args.size (Err k)) stored (c.in_ok-put_default.ensures.put.put t stored)
+      (λ u stands. struct_refused m b s p u c.args.size k (c.in_err-opened.ensures.opened u stands))));
+  memory = search rules;
+}
 
 pub returns-in_err-opened-clause-there : goal.returns-in_err-opened-clause-there
 returns-in_err-opened-clause-there g c = λ t stored.
@@ -53,8 +59,8 @@ returns-in_err-opened-clause-there g c = λ t stored.
     let b : View = g.A.BuilderArena.view c.open_struct.new.arena in
     let s = c.args.self.now.segment in
     let p = c.args.self.now.at in
-    let (u, stands) = stands_then (object_default c.args.default t) s p a m t c.in_ok-put_default.field-0 stored (c.in_ok-put_default.ensures.put t stored) in
-    still_there a m b s p c.requires.there c.in_ok-put_default.ensures.longer (opens_longer c.args.size LeadsToOne m b s p u (struct_opened c.args.size u) (Err c.in_err-opened.field-0.0) (c.in_err-opened.ensures.opened u stands)))
+    let (u, stands) = stands_then (object_default c.args.default t) s p a m t c.in_ok-put_default.field-0 stored (c.in_ok-put_default.ensures.put.put t stored) in
+    still_there a m b s p c.requires.there c.in_ok-put_default.ensures.put.longer (opens_longer c.args.size LeadsToOne m b s p u (struct_opened c.args.size u) (Err c.in_err-opened.field-0.0) (c.in_err-opened.ensures.opened u stands)))
 
 -- It isn't refused where there is room: not for the default, and not once that is put.
 pub returns-in_err-put_default-clause-fits : goal.returns-in_err-put_default-clause-fits
@@ -64,7 +70,7 @@ returns-in_err-put_default-clause-fits g c = λ h.
     let m : View = g.A.BuilderArena.view c.put_default.new.arena in
     let s = c.args.self.now.segment in
     let p = c.args.self.now.at in
-    absurd (false≢true (c.in_err-put_default.ensures.fits (refused_default c.args.default s p a m t c.in_err-put_default.field-0.0 (λ v. OpeningFits v s p c.args.size) fits (c.in_err-put_default.ensures.put t stored)))))
+    absurd (false≢true (c.in_err-put_default.ensures.fits (refused_default c.args.default s p a m t c.in_err-put_default.field-0.0 (λ v. OpeningFits v s p c.args.size) fits (c.in_err-put_default.ensures.put.put t stored)))))
 
 pub returns-in_err-opened-clause-fits : goal.returns-in_err-opened-clause-fits
 returns-in_err-opened-clause-fits g c = λ h.
@@ -73,7 +79,7 @@ returns-in_err-opened-clause-fits g c = λ h.
     let m : View = g.A.BuilderArena.view c.put_default.new.arena in
     let s = c.args.self.now.segment in
     let p = c.args.self.now.at in
-    absurd (false≢true (c.in_err-opened.ensures.fits (then_fits (object_default c.args.default t) s p a m t c.in_ok-put_default.field-0 (λ v. OpeningFits v s p c.args.size) fits (c.in_ok-put_default.ensures.put t stored)))))
+    absurd (false≢true (c.in_err-opened.ensures.fits (then_fits (object_default c.args.default t) s p a m t c.in_ok-put_default.field-0 (λ v. OpeningFits v s p c.args.size) fits (c.in_ok-put_default.ensures.put.put t stored)))))
 
 -- A pointer that isn't null gets no default.
 pub returns-in_err-opened-clause-set : goal.returns-in_err-opened-clause-set
@@ -81,7 +87,7 @@ returns-in_err-opened-clause-set g c = λ some.
     (let b : View = g.A.BuilderArena.view c.open_struct.new.arena in
     let s = c.args.self.now.segment in
     let p = c.args.self.now.at in
-    let same = (c.in_ok-put_default.ensures.stays some).1 in
+    let same = (c.in_ok-put_default.ensures.put.stays some).1 in
     let q = err_from_is_err_and c.from_residual-in_err-opened.result c.from_residual-in_err-opened.ensures.1 in
     rw (q.1, q.2) (subst (λ (v : View). IsNoWider c.args.size (call_at s p v b) c.in_err-opened.field-0.0) same (c.in_err-opened.ensures.named (λ null. some (subst (λ (v : View). word_at v.words s p ≡ 0) same null)))))
 
@@ -93,7 +99,7 @@ returns-clause-taken g c = λ null none.
     let b : View = g.A.BuilderArena.view c.open_struct.new.arena in
     let s = c.args.self.now.segment in
     let p = c.args.self.now.at in
-    let same : m ≡ a = null_left (object_default c.args.default Null) s p a m (Ok c.in_ok-put_default.field-0) none (c.in_ok-put_default.ensures.put Null (null_stored a.words s p c.requires.there null)) in
+    let same : m ≡ a = null_left (object_default c.args.default Null) s p a m (Ok c.in_ok-put_default.field-0) none (c.in_ok-put_default.ensures.put.put Null (null_stored a.words s p c.requires.there null)) in
     subst (λ (v : View). TakesWords v b s (c.args.size.data_words + c.args.size.pointers)) same (c.in_ok-opened.ensures.taken (subst (λ (v : View). word_at v.words s p ≡ 0) (sym same) null)))
 
 pub returns-clause-empty : goal.returns-clause-empty
@@ -102,7 +108,7 @@ returns-clause-empty g c = λ null none nothing.
     let m : View = g.A.BuilderArena.view c.put_default.new.arena in
     let s = c.args.self.now.segment in
     let p = c.args.self.now.at in
-    let same : m ≡ a = null_left (object_default c.args.default Null) s p a m (Ok c.in_ok-put_default.field-0) none (c.in_ok-put_default.ensures.put Null (null_stored a.words s p c.requires.there null)) in
+    let same : m ≡ a = null_left (object_default c.args.default Null) s p a m (Ok c.in_ok-put_default.field-0) none (c.in_ok-put_default.ensures.put.put Null (null_stored a.words s p c.requires.there null)) in
     c.in_ok-opened.ensures.empty (subst (λ (v : View). word_at v.words s p ≡ 0) (sym same) null) nothing)
 
 pub returns-clause-behind : goal.returns-clause-behind
@@ -112,7 +118,7 @@ returns-clause-behind g c = λ null none.
     let b : View = g.A.BuilderArena.view c.open_struct.new.arena in
     let s = c.args.self.now.segment in
     let p = c.args.self.now.at in
-    let same : m ≡ a = null_left (object_default c.args.default Null) s p a m (Ok c.in_ok-put_default.field-0) none (c.in_ok-put_default.ensures.put Null (null_stored a.words s p c.requires.there null)) in
+    let same : m ≡ a = null_left (object_default c.args.default Null) s p a m (Ok c.in_ok-put_default.field-0) none (c.in_ok-put_default.ensures.put.put Null (null_stored a.words s p c.requires.there null)) in
     subst (λ (v : View). StandsBehind v s (c.args.size.data_words + c.args.size.pointers) (start_of (target b.words s p))) same (c.in_ok-opened.ensures.behind (subst (λ (v : View). word_at v.words s p ≡ 0) (sym same) null)))
 
 pub returns-in_err-opened-clause-refused : goal.returns-in_err-opened-clause-refused
@@ -122,7 +128,7 @@ returns-in_err-opened-clause-refused g c = λ null none.
     let b : View = g.A.BuilderArena.view c.open_struct.new.arena in
     let s = c.args.self.now.segment in
     let p = c.args.self.now.at in
-    let same : m ≡ a = null_left (object_default c.args.default Null) s p a m (Ok c.in_ok-put_default.field-0) none (c.in_ok-put_default.ensures.put Null (null_stored a.words s p c.requires.there null)) in
+    let same : m ≡ a = null_left (object_default c.args.default Null) s p a m (Ok c.in_ok-put_default.field-0) none (c.in_ok-put_default.ensures.put.put Null (null_stored a.words s p c.requires.there null)) in
     let q = err_from_is_err_and c.from_residual-in_err-opened.result c.from_residual-in_err-opened.ensures.1 in
     rw q.1 (subst (λ (v : View). b.words ≡ v.words) same (c.in_err-opened.ensures.refused (subst (λ (v : View). word_at v.words s p ≡ 0) (sym same) null))))
 
@@ -133,4 +139,4 @@ returns-in_err-put_default-clause-refused g c = λ null none.
     let s = c.args.self.now.segment in
     let p = c.args.self.now.at in
     let q = err_from_is_err_and c.from_residual.result c.from_residual.ensures.1 in
-    rw q.1 (ap words_in (null_left (object_default c.args.default Null) s p a m (Err c.in_err-put_default.field-0.0) none (c.in_err-put_default.ensures.put Null (null_stored a.words s p c.requires.there null)))))
+    rw q.1 (ap words_in (null_left (object_default c.args.default Null) s p a m (Err c.in_err-put_default.field-0.0) none (c.in_err-put_default.ensures.put.put Null (null_stored a.words s p c.requires.there null)))))

@@ -1,4 +1,4 @@
-use Rattle.std.proofs.Common.{Ok, Err, subst}
+use Rattle.std.proofs.Common.{rules, Ok, Err, subst}
 use Rattle.std.proofs.lemmas.Bool.{false≢true}
 use Rattle.std.proofs.lemmas.Result.{err_from_is_err_and}
 use Rattle.capnp_arena_traits.specs.View.{View}
@@ -14,16 +14,19 @@ use Rattle.capnp_builders.proofs.builders.PointerBuilder.find_struct_list.Goals 
 
 -- What stands once the default is put is opened.
 pub returns-clause-found : goal.returns-clause-found
-returns-clause-found g c = λ t stored.
-    (let a : View = g.A.BuilderArena.view c.args.self.now.arena.now in
-    let m : View = g.A.BuilderArena.view c.put_default.new.arena in
-    let b : View = g.A.BuilderArena.view c.open_struct_list.new.arena in
-    let s = c.args.self.now.segment in
-    let p = c.args.self.now.at in
-    let l = c.in_ok-opened.opened in
-    then_does (object_default c.args.default t) s p a m b t c.in_ok-put_default.field-0 (Ok c.found_list.result) (OpensList c.args.size (Ok c.found_list.result)) stored (c.in_ok-put_default.ensures.put t stored)
-    (λ u stands. (let o = c.in_ok-opened.ensures.opened u stands in
-    list_opens m b s p u c.args.size l c.found_list.result (still_there a m b s p c.requires.there c.in_ok-put_default.ensures.longer (list_longer c.args.size m b s p u (Ok l) o)) c.found_list.ensures o)))
+returns-clause-found g c = record {
+  found = λ t stored.
+      (let a : View = g.A.BuilderArena.view c.args.self.now.arena.now in
+      let m : View = g.A.BuilderArena.view c.put_default.new.arena in
+      let b : View = g.A.BuilderArena.view c.open_struct_list.new.arena in
+      let s = c.args.self.now.segment in
+      let p = c.args.self.now.at in
+      let l = c.in_ok-opened.opened in
+      then_does (object_default c.args.default t) s p a m b t c.in_ok-put_default.field-0 (Ok c.found_list.result) (OpensList c.args.size (Ok c.found_list.result)) stored (c.in_ok-put_default.ensures.put.put t stored)
+      (λ u stands. (let o = c.in_ok-opened.ensures.opened u stands in
+      list_opens m b s p u c.args.size l c.found_list.result (still_there a m b s p c.requires.there c.in_ok-put_default.ensures.put.longer (list_longer c.args.size m b s p u (Ok l) o)) c.found_list.ensures o)));
+  memory = search rules;
+}
 
 pub returns-clause-there : goal.returns-clause-there
 returns-clause-there g c = λ t stored.
@@ -32,20 +35,23 @@ returns-clause-there g c = λ t stored.
     let b : View = g.A.BuilderArena.view c.open_struct_list.new.arena in
     let s = c.args.self.now.segment in
     let p = c.args.self.now.at in
-    let (u, stands) = stands_then (object_default c.args.default t) s p a m t c.in_ok-put_default.field-0 stored (c.in_ok-put_default.ensures.put t stored) in
-    still_there a m b s p c.requires.there c.in_ok-put_default.ensures.longer (list_longer c.args.size m b s p u (Ok c.in_ok-opened.opened) (c.in_ok-opened.ensures.opened u stands)))
+    let (u, stands) = stands_then (object_default c.args.default t) s p a m t c.in_ok-put_default.field-0 stored (c.in_ok-put_default.ensures.put.put t stored) in
+    still_there a m b s p c.requires.there c.in_ok-put_default.ensures.put.longer (list_longer c.args.size m b s p u (Ok c.in_ok-opened.opened) (c.in_ok-opened.ensures.opened u stands)))
 
 pub returns-in_err-opened-clause-found : goal.returns-in_err-opened-clause-found
-returns-in_err-opened-clause-found g c = λ t stored.
-    (let a : View = g.A.BuilderArena.view c.args.self.now.arena.now in
-    let m : View = g.A.BuilderArena.view c.put_default.new.arena in
-    let b : View = g.A.BuilderArena.view c.open_struct_list.new.arena in
-    let s = c.args.self.now.segment in
-    let p = c.args.self.now.at in
-    let k = c.in_err-opened.field-0.0 in
-    let q = err_from_is_err_and c.from_residual-in_err-opened.result c.from_residual-in_err-opened.ensures.1 in
-    rw (q.1, q.2) (then_does (object_default c.args.default t) s p a m b t c.in_ok-put_default.field-0 (Err k) (OpensList c.args.size (Err k)) stored (c.in_ok-put_default.ensures.put t stored)
-    (λ u stands. list_refused m b s p u c.args.size k (c.in_err-opened.ensures.opened u stands))))
+returns-in_err-opened-clause-found g c = record {
+  found = λ t stored.
+      (let a : View = g.A.BuilderArena.view c.args.self.now.arena.now in
+      let m : View = g.A.BuilderArena.view c.put_default.new.arena in
+      let b : View = g.A.BuilderArena.view c.open_struct_list.new.arena in
+      let s = c.args.self.now.segment in
+      let p = c.args.self.now.at in
+      let k = c.in_err-opened.field-0.0 in
+      let q = err_from_is_err_and c.from_residual-in_err-opened.result c.from_residual-in_err-opened.ensures.1 in
+      rw (q.1, q.2) (then_does (object_default c.args.default t) s p a m b t c.in_ok-put_default.field-0 (Err k) (OpensList c.args.size (Err k)) stored (c.in_ok-put_default.ensures.put.put t stored)
+      (λ u stands. list_refused m b s p u c.args.size k (c.in_err-opened.ensures.opened u stands))));
+  memory = search rules;
+}
 
 pub returns-in_err-opened-clause-there : goal.returns-in_err-opened-clause-there
 returns-in_err-opened-clause-there g c = λ t stored.
@@ -54,8 +60,8 @@ returns-in_err-opened-clause-there g c = λ t stored.
     let b : View = g.A.BuilderArena.view c.open_struct_list.new.arena in
     let s = c.args.self.now.segment in
     let p = c.args.self.now.at in
-    let (u, stands) = stands_then (object_default c.args.default t) s p a m t c.in_ok-put_default.field-0 stored (c.in_ok-put_default.ensures.put t stored) in
-    still_there a m b s p c.requires.there c.in_ok-put_default.ensures.longer (list_longer c.args.size m b s p u (Err c.in_err-opened.field-0.0) (c.in_err-opened.ensures.opened u stands)))
+    let (u, stands) = stands_then (object_default c.args.default t) s p a m t c.in_ok-put_default.field-0 stored (c.in_ok-put_default.ensures.put.put t stored) in
+    still_there a m b s p c.requires.there c.in_ok-put_default.ensures.put.longer (list_longer c.args.size m b s p u (Err c.in_err-opened.field-0.0) (c.in_err-opened.ensures.opened u stands)))
 
 -- It isn't refused where there is room: not for the default, and not once that is put.
 pub returns-in_err-put_default-clause-fits : goal.returns-in_err-put_default-clause-fits
@@ -65,7 +71,7 @@ returns-in_err-put_default-clause-fits g c = λ h.
     let m : View = g.A.BuilderArena.view c.put_default.new.arena in
     let s = c.args.self.now.segment in
     let p = c.args.self.now.at in
-    absurd (false≢true (c.in_err-put_default.ensures.fits (refused_default c.args.default s p a m t c.in_err-put_default.field-0.0 (λ (v : View). WiderListFits (IsStored v.words s p) v s p c.args.size) fits (c.in_err-put_default.ensures.put t stored)))))
+    absurd (false≢true (c.in_err-put_default.ensures.fits (refused_default c.args.default s p a m t c.in_err-put_default.field-0.0 (λ (v : View). WiderListFits (IsStored v.words s p) v s p c.args.size) fits (c.in_err-put_default.ensures.put.put t stored)))))
 
 pub returns-in_err-opened-clause-fits : goal.returns-in_err-opened-clause-fits
 returns-in_err-opened-clause-fits g c = λ h.
@@ -74,11 +80,11 @@ returns-in_err-opened-clause-fits g c = λ h.
     let m : View = g.A.BuilderArena.view c.put_default.new.arena in
     let s = c.args.self.now.segment in
     let p = c.args.self.now.at in
-    absurd (false≢true (c.in_err-opened.ensures.fits (then_fits (object_default c.args.default t) s p a m t c.in_ok-put_default.field-0 (λ (v : View). WiderListFits (IsStored v.words s p) v s p c.args.size) fits (c.in_ok-put_default.ensures.put t stored)))))
+    absurd (false≢true (c.in_err-opened.ensures.fits (then_fits (object_default c.args.default t) s p a m t c.in_ok-put_default.field-0 (λ (v : View). WiderListFits (IsStored v.words s p) v s p c.args.size) fits (c.in_ok-put_default.ensures.put.put t stored)))))
 
 -- A pointer that isn't null gets no default.
 pub returns-in_err-opened-clause-set : goal.returns-in_err-opened-clause-set
 returns-in_err-opened-clause-set g c = λ some.
     (let b : View = g.A.BuilderArena.view c.open_struct_list.new.arena in
     let q = err_from_is_err_and c.from_residual-in_err-opened.result c.from_residual-in_err-opened.ensures.1 in
-    rw (q.1, q.2) (subst (λ (v : View). RefusesWider (IsStored v.words c.args.self.now.segment c.args.self.now.at) c.args.size v b c.in_err-opened.field-0.0) (c.in_ok-put_default.ensures.stays some).1 c.in_err-opened.ensures.named))
+    rw (q.1, q.2) (subst (λ (v : View). RefusesWider (IsStored v.words c.args.self.now.segment c.args.self.now.at) c.args.size v b c.in_err-opened.field-0.0) (c.in_ok-put_default.ensures.put.stays some).1 c.in_err-opened.ensures.named))

@@ -5,4 +5,4 @@ pub overflow_add-result : goal.overflow_add-result
 overflow_add-result g c =
     let arena = c.init_struct.new.arena in
     let segment = c.in-Ok.start.segment in
-    record { fits = omega (arith, c.in-Ok.ensures.start.inside.1, g.met.A.BuilderArena.within arena segment, g.met.A.BuilderArena.small arena segment, c.from-in-Ok-2.ensures) }
+    record { fits = omega (arith, c.in-Ok.ensures.gives.start.inside.1, g.met.A.BuilderArena.within arena segment, g.met.A.BuilderArena.small arena segment, c.from-in-Ok-2.ensures) }

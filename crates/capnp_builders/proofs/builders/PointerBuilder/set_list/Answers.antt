@@ -1,43 +1,44 @@
-use Rattle.std.proofs.Common.{refl, arith}
+use Rattle.std.proofs.Common.{rules, refl, arith}
 use Rattle.capnp_copies.specs.Changes.{change}
 use Rattle.capnp_copies.specs.Forms.{form_of}
-use Rattle.capnp_copies.specs.ListValues.{list_read}
+use Rattle.capnp_value_copies.specs.ListValues.{list_read}
 use Rattle.capnp_value_copies.proofs.ListValues.{first_read}
 use Rattle.capnp_copies.proofs.FlatRead.{ok_so, err_so}
 use Rattle.capnp_copies.proofs.Growth.{none_itself, none_pruned, taken_so, list_within, list_until_within}
 use Rattle.capnp_builders.proofs.CopiesHeld.{put_copied, put_stopped, can_later, grows_there}
 use Rattle.capnp_builders.proofs.builders.PointerBuilder.set_list.Goals as goal
+use Rattle.capnp_making.specs.Makes.{call_at}
 
 -- What the pointer held becomes zero, and then the list is copied to the null pointer.
 
 pub returns-clause-copied : goal.returns-clause-copied
 returns-clause-copied g c =
     ok_so c.copy_list.result _ _ c.copy_list.ensures.copied
-    (λ x made. put_copied (change (form_of c.args.canonicalize) c.args.self.now.segment c.args.self.now.at (g.A.BuilderArena.view c.args.self.now.arena.now) (g.A.BuilderArena.view c.copy_list.new.arena) c.args.lim.now c.copy_list.new.lim)
+    (λ x made. put_copied (change (form_of c.args.canonicalize) (call_at c.args.self.now.segment c.args.self.now.at (g.A.BuilderArena.view c.args.self.now.arena.now) (g.A.BuilderArena.view c.copy_list.new.arena)) c.args.lim.now c.copy_list.new.lim)
     (g.A.BuilderArena.view c.clear.new.arena) c.clear.ensures.limits c.clear.ensures.only c.clear.ensures.cleared made)
 
 pub returns-clause-refused : goal.returns-clause-refused
 returns-clause-refused g c =
     err_so c.copy_list.result _ _ c.copy_list.ensures.refused
-    (λ k stop. put_stopped (change (form_of c.args.canonicalize) c.args.self.now.segment c.args.self.now.at (g.A.BuilderArena.view c.args.self.now.arena.now) (g.A.BuilderArena.view c.copy_list.new.arena) c.args.lim.now c.copy_list.new.lim)
+    (λ k stop. put_stopped (change (form_of c.args.canonicalize) (call_at c.args.self.now.segment c.args.self.now.at (g.A.BuilderArena.view c.args.self.now.arena.now) (g.A.BuilderArena.view c.copy_list.new.arena)) c.args.lim.now c.copy_list.new.lim)
     (g.A.BuilderArena.view c.clear.new.arena) c.clear.ensures.limits c.clear.ensures.only c.clear.ensures.cleared stop)
 
 pub returns-clause-fits : goal.returns-clause-fits
 returns-clause-fits g c = λ can.
     c.copy_list.ensures.fits (can_later (list_read g.B.ReaderArena c.args.value.now) (form_of c.args.canonicalize) c.args.lim.now (g.A.BuilderArena.view c.args.self.now.arena.now) (g.A.BuilderArena.view c.clear.new.arena) c.args.self.now.segment c.clear.ensures.limits c.clear.ensures.only can)
 
-pub returns-clause-there : goal.returns-clause-there
-returns-clause-there g c =
+pub returns-clause-stays : goal.returns-clause-stays
+returns-clause-stays g c =
     let long = c.clear.ensures.only.words c.args.self.now.segment in
-    let grows = grows_there c.copy_list.result (list_read g.B.ReaderArena c.args.value.now) (change (form_of c.args.canonicalize) c.args.self.now.segment c.args.self.now.at (g.A.BuilderArena.view c.clear.new.arena) (g.A.BuilderArena.view c.copy_list.new.arena) c.args.lim.now c.copy_list.new.lim) c.copy_list.ensures.copied c.copy_list.ensures.refused in
-    omega (arith, grows, long, c.requires.place)
+    let grows = grows_there c.copy_list.result (list_read g.B.ReaderArena c.args.value.now) (change (form_of c.args.canonicalize) (call_at c.args.self.now.segment c.args.self.now.at (g.A.BuilderArena.view c.clear.new.arena) (g.A.BuilderArena.view c.copy_list.new.arena)) c.args.lim.now c.copy_list.new.lim) c.copy_list.ensures.copied c.copy_list.ensures.refused in
+    record { builder = search rules; there = omega (arith, grows, long, c.requires.place) }
 
 pub returns-clause-taken : goal.returns-clause-taken
 returns-clause-taken g c =
     let before = none_pruned (g.A.BuilderArena.view c.args.self.now.arena.now) (g.A.BuilderArena.view c.clear.new.arena) c.clear.ensures.limits c.clear.ensures.only in
     let last = none_itself (g.A.BuilderArena.view c.copy_list.new.arena) in
     taken_so c.copy_list.result _ _ _ _
-    (λ x. list_within c.args.value.now.element_size c.args.value.now.struct_size c.args.value.now.count (first_read g.B.ReaderArena c.args.value.now) (change (form_of c.args.canonicalize) c.args.self.now.segment c.args.self.now.at (g.A.BuilderArena.view c.clear.new.arena) (g.A.BuilderArena.view c.copy_list.new.arena) c.args.lim.now c.copy_list.new.lim)
-    (change (form_of c.args.canonicalize) c.args.self.now.segment c.args.self.now.at (g.A.BuilderArena.view c.args.self.now.arena.now) (g.A.BuilderArena.view c.copy_list.new.arena) c.args.lim.now c.copy_list.new.lim) before last refl x)
-    (λ x. list_until_within c.args.value.now.element_size c.args.value.now.struct_size c.args.value.now.count (first_read g.B.ReaderArena c.args.value.now) (change (form_of c.args.canonicalize) c.args.self.now.segment c.args.self.now.at (g.A.BuilderArena.view c.clear.new.arena) (g.A.BuilderArena.view c.copy_list.new.arena) c.args.lim.now c.copy_list.new.lim)
-    (change (form_of c.args.canonicalize) c.args.self.now.segment c.args.self.now.at (g.A.BuilderArena.view c.args.self.now.arena.now) (g.A.BuilderArena.view c.copy_list.new.arena) c.args.lim.now c.copy_list.new.lim) before last refl x) c.copy_list.ensures.taken
+    (λ x. list_within c.args.value.now.element_size c.args.value.now.struct_size c.args.value.now.count (first_read g.B.ReaderArena c.args.value.now) (change (form_of c.args.canonicalize) (call_at c.args.self.now.segment c.args.self.now.at (g.A.BuilderArena.view c.clear.new.arena) (g.A.BuilderArena.view c.copy_list.new.arena)) c.args.lim.now c.copy_list.new.lim)
+    (change (form_of c.args.canonicalize) (call_at c.args.self.now.segment c.args.self.now.at (g.A.BuilderArena.view c.args.self.now.arena.now) (g.A.BuilderArena.view c.copy_list.new.arena)) c.args.lim.now c.copy_list.new.lim) before last refl x)
+    (λ x. list_until_within c.args.value.now.element_size c.args.value.now.struct_size c.args.value.now.count (first_read g.B.ReaderArena c.args.value.now) (change (form_of c.args.canonicalize) (call_at c.args.self.now.segment c.args.self.now.at (g.A.BuilderArena.view c.clear.new.arena) (g.A.BuilderArena.view c.copy_list.new.arena)) c.args.lim.now c.copy_list.new.lim)
+    (change (form_of c.args.canonicalize) (call_at c.args.self.now.segment c.args.self.now.at (g.A.BuilderArena.view c.args.self.now.arena.now) (g.A.BuilderArena.view c.copy_list.new.arena)) c.args.lim.now c.copy_list.new.lim) before last refl x) c.copy_list.ensures.taken

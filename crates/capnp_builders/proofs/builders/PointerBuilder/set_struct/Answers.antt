@@ -1,43 +1,44 @@
-use Rattle.std.proofs.Common.{refl, arith}
+use Rattle.std.proofs.Common.{rules, refl, arith}
 use Rattle.capnp_readers.specs.Sizes.{pointers_read}
 use Rattle.capnp_copies.specs.Changes.{change}
 use Rattle.capnp_copies.specs.Forms.{form_of}
-use Rattle.capnp_copies.specs.StructValues.{data_of, struct_read}
+use Rattle.capnp_value_copies.specs.StructValues.{data_of, struct_read}
 use Rattle.capnp_copies.proofs.FlatRead.{ok_so, err_so}
 use Rattle.capnp_copies.proofs.Growth.{none_itself, none_pruned, taken_so, sections_within, sections_until_within}
 use Rattle.capnp_builders.proofs.CopiesHeld.{put_copied, put_stopped, can_later, grows_there}
 use Rattle.capnp_builders.proofs.builders.PointerBuilder.set_struct.Goals as goal
+use Rattle.capnp_making.specs.Makes.{call_at}
 
 -- What the pointer held becomes zero, and then the struct is copied to the null pointer.
 
 pub returns-clause-copied : goal.returns-clause-copied
 returns-clause-copied g c =
     ok_so c.copy_struct_value.result _ _ c.copy_struct_value.ensures.copied
-    (λ x made. put_copied (change (form_of c.args.canonicalize) c.args.self.now.segment c.args.self.now.at (g.A.BuilderArena.view c.args.self.now.arena.now) (g.A.BuilderArena.view c.copy_struct_value.new.arena) c.args.lim.now c.copy_struct_value.new.lim)
+    (λ x made. put_copied (change (form_of c.args.canonicalize) (call_at c.args.self.now.segment c.args.self.now.at (g.A.BuilderArena.view c.args.self.now.arena.now) (g.A.BuilderArena.view c.copy_struct_value.new.arena)) c.args.lim.now c.copy_struct_value.new.lim)
     (g.A.BuilderArena.view c.clear.new.arena) c.clear.ensures.limits c.clear.ensures.only c.clear.ensures.cleared made)
 
 pub returns-clause-refused : goal.returns-clause-refused
 returns-clause-refused g c =
     err_so c.copy_struct_value.result _ _ c.copy_struct_value.ensures.refused
-    (λ k stop. put_stopped (change (form_of c.args.canonicalize) c.args.self.now.segment c.args.self.now.at (g.A.BuilderArena.view c.args.self.now.arena.now) (g.A.BuilderArena.view c.copy_struct_value.new.arena) c.args.lim.now c.copy_struct_value.new.lim)
+    (λ k stop. put_stopped (change (form_of c.args.canonicalize) (call_at c.args.self.now.segment c.args.self.now.at (g.A.BuilderArena.view c.args.self.now.arena.now) (g.A.BuilderArena.view c.copy_struct_value.new.arena)) c.args.lim.now c.copy_struct_value.new.lim)
     (g.A.BuilderArena.view c.clear.new.arena) c.clear.ensures.limits c.clear.ensures.only c.clear.ensures.cleared stop)
 
 pub returns-clause-fits : goal.returns-clause-fits
 returns-clause-fits g c = λ can.
     c.copy_struct_value.ensures.fits (can_later (struct_read g.B.ReaderArena c.args.value.now) (form_of c.args.canonicalize) c.args.lim.now (g.A.BuilderArena.view c.args.self.now.arena.now) (g.A.BuilderArena.view c.clear.new.arena) c.args.self.now.segment c.clear.ensures.limits c.clear.ensures.only can)
 
-pub returns-clause-there : goal.returns-clause-there
-returns-clause-there g c =
+pub returns-clause-stays : goal.returns-clause-stays
+returns-clause-stays g c =
     let long = c.clear.ensures.only.words c.args.self.now.segment in
-    let grows = grows_there c.copy_struct_value.result (struct_read g.B.ReaderArena c.args.value.now) (change (form_of c.args.canonicalize) c.args.self.now.segment c.args.self.now.at (g.A.BuilderArena.view c.clear.new.arena) (g.A.BuilderArena.view c.copy_struct_value.new.arena) c.args.lim.now c.copy_struct_value.new.lim) c.copy_struct_value.ensures.copied c.copy_struct_value.ensures.refused in
-    omega (arith, grows, long, c.requires.place)
+    let grows = grows_there c.copy_struct_value.result (struct_read g.B.ReaderArena c.args.value.now) (change (form_of c.args.canonicalize) (call_at c.args.self.now.segment c.args.self.now.at (g.A.BuilderArena.view c.clear.new.arena) (g.A.BuilderArena.view c.copy_struct_value.new.arena)) c.args.lim.now c.copy_struct_value.new.lim) c.copy_struct_value.ensures.copied c.copy_struct_value.ensures.refused in
+    record { builder = search rules; there = omega (arith, grows, long, c.requires.place) }
 
 pub returns-clause-taken : goal.returns-clause-taken
 returns-clause-taken g c =
     let before = none_pruned (g.A.BuilderArena.view c.args.self.now.arena.now) (g.A.BuilderArena.view c.clear.new.arena) c.clear.ensures.limits c.clear.ensures.only in
     let last = none_itself (g.A.BuilderArena.view c.copy_struct_value.new.arena) in
     taken_so c.copy_struct_value.result _ _ _ _
-    (λ x. sections_within (data_of g.B.ReaderArena c.args.value.now) (pointers_read g.B.ReaderArena c.args.value.now) c.args.value.now.pointer_count (change (form_of c.args.canonicalize) c.args.self.now.segment c.args.self.now.at (g.A.BuilderArena.view c.clear.new.arena) (g.A.BuilderArena.view c.copy_struct_value.new.arena) c.args.lim.now c.copy_struct_value.new.lim)
-    (change (form_of c.args.canonicalize) c.args.self.now.segment c.args.self.now.at (g.A.BuilderArena.view c.args.self.now.arena.now) (g.A.BuilderArena.view c.copy_struct_value.new.arena) c.args.lim.now c.copy_struct_value.new.lim) before last refl x)
-    (λ x. sections_until_within (data_of g.B.ReaderArena c.args.value.now) (pointers_read g.B.ReaderArena c.args.value.now) c.args.value.now.pointer_count (change (form_of c.args.canonicalize) c.args.self.now.segment c.args.self.now.at (g.A.BuilderArena.view c.clear.new.arena) (g.A.BuilderArena.view c.copy_struct_value.new.arena) c.args.lim.now c.copy_struct_value.new.lim)
-    (change (form_of c.args.canonicalize) c.args.self.now.segment c.args.self.now.at (g.A.BuilderArena.view c.args.self.now.arena.now) (g.A.BuilderArena.view c.copy_struct_value.new.arena) c.args.lim.now c.copy_struct_value.new.lim) before last refl x) c.copy_struct_value.ensures.taken
+    (λ x. sections_within (data_of g.B.ReaderArena c.args.value.now) (pointers_read g.B.ReaderArena c.args.value.now) c.args.value.now.pointer_count (change (form_of c.args.canonicalize) (call_at c.args.self.now.segment c.args.self.now.at (g.A.BuilderArena.view c.clear.new.arena) (g.A.BuilderArena.view c.copy_struct_value.new.arena)) c.args.lim.now c.copy_struct_value.new.lim)
+    (change (form_of c.args.canonicalize) (call_at c.args.self.now.segment c.args.self.now.at (g.A.BuilderArena.view c.args.self.now.arena.now) (g.A.BuilderArena.view c.copy_struct_value.new.arena)) c.args.lim.now c.copy_struct_value.new.lim) before last refl x)
+    (λ x. sections_until_within (data_of g.B.ReaderArena c.args.value.now) (pointers_read g.B.ReaderArena c.args.value.now) c.args.value.now.pointer_count (change (form_of c.args.canonicalize) (call_at c.args.self.now.segment c.args.self.now.at (g.A.BuilderArena.view c.clear.new.arena) (g.A.BuilderArena.view c.copy_struct_value.new.arena)) c.args.lim.now c.copy_struct_value.new.lim)
+    (change (form_of c.args.canonicalize) (call_at c.args.self.now.segment c.args.self.now.at (g.A.BuilderArena.view c.args.self.now.arena.now) (g.A.BuilderArena.view c.copy_struct_value.new.arena)) c.args.lim.now c.copy_struct_value.new.lim) before last refl x) c.copy_struct_value.ensures.taken

@@ -6,7 +6,7 @@ use Rattle.capnp_format.specs.Segments.{Segments}
 use Rattle.capnp_contents.proofs.BytesWritten.{put_over}
 use Rattle.capnp_making.proofs.FieldBytes.{words_lent}
 use Rattle.capnp_making.proofs.Zeros.{length-over}
-use Rattle.capnp_builders.specs.Content.{with_fields}
+use Rattle.capnp_builders.specs.Content.{with_fields, fields_from}
 use Rattle.capnp_builders.proofs.BytesAsFields.{bytes_as_fields, small_zeros, zeros_as_fields}
 use Rattle.capnp_builders.proofs.builders.content.zero_bytes.Goals as goal
 
@@ -36,6 +36,6 @@ returns-then-count-gt0 g c =
     g.met.A.BuilderArena.read (g.A.BuilderArena.with_bytes a id (overwritten bs b xs))
     ∙ ap message (g.met.A.BuilderArena.with_bytes_segments a id bs (overwritten bs b xs) there long)
     ∙ bytes_as_fields xs (g.A.ReaderArena.segments a) id b bs there small below inside
-    ∙ ap (λ (M : Segments). with_fields M id (8 * b) 8 (λ i. get_or xs i 0) (length xs)) (sym (g.met.A.BuilderArena.read a))
+    ∙ ap (λ (M : Segments). with_fields M id (fields_from (8 * b) 8 (λ i. get_or xs i 0)) (length xs)) (sym (g.met.A.BuilderArena.read a))
     ∙ zeros_as_fields (g.A.BuilderArena.view a).words id (8 * b) n
     )

@@ -23,7 +23,7 @@ returns-in-ListElement g c =
     let e = c.set_element.ensures in
     subst (λ part. IsDoneAt old new (AtPointer c.args.place) (Write part) r) (sym c.in-ListElement.is)
     (part_done c.set_element.result old new c.args.place (ListElement n) (element_does old.words new.words c.args.place n r c.get_list-found.result c.requires.there range c.get_list-found.ensures.found e.put)
-    (element_lengths _ _ _ _ _ e.put) e.limits e.named e.kept)
+    (element_lengths _ _ _ _ _ e.put) e.only.limits e.named e.only.kept)
 
 pub returns-in-TextByte : goal.returns-in-TextByte
 returns-in-TextByte g c =
@@ -34,7 +34,7 @@ returns-in-TextByte g c =
     let r = refusal_of c.write_byte.result in
     let e = c.write_byte.ensures in
     subst (λ part. IsDoneAt old new (AtPointer c.args.place) (Write part) r) (sym c.in-TextByte.is)
-    (part_done c.write_byte.result old new c.args.place (TextByte i b) (text_does old.words new.words c.args.place i b r c.get_text-found.result c.requires.there e.byte c.get_text-found.ensures.found e.put) (byte_lengths _ _ _ _ _ _ e.put) e.limits e.named e.kept)
+    (part_done c.write_byte.result old new c.args.place (TextByte i b) (text_does old.words new.words c.args.place i b r c.get_text-found.result c.requires.there e.byte c.get_text-found.ensures.found e.put) (byte_lengths _ _ _ _ _ _ e.put) e.only.limits e.named e.only.kept)
 
 pub returns-in-DataByte : goal.returns-in-DataByte
 returns-in-DataByte g c =
@@ -45,4 +45,4 @@ returns-in-DataByte g c =
     let r = refusal_of c.write_byte-in-DataByte.result in
     let e = c.write_byte-in-DataByte.ensures in
     subst (λ part. IsDoneAt old new (AtPointer c.args.place) (Write part) r) (sym c.in-DataByte.is)
-    (part_done c.write_byte-in-DataByte.result old new c.args.place (DataByte i b) (data_does old.words new.words c.args.place i b r c.get_data-found.result c.requires.there e.byte c.get_data-found.ensures.found e.put) (byte_lengths _ _ _ _ _ _ e.put) e.limits e.named e.kept)
+    (part_done c.write_byte-in-DataByte.result old new c.args.place (DataByte i b) (data_does old.words new.words c.args.place i b r c.get_data-found.result c.requires.there e.byte c.get_data-found.ensures.found e.put) (byte_lengths _ _ _ _ _ _ e.put) e.only.limits e.named e.only.kept)

@@ -28,7 +28,6 @@ returns-in_default g c =
     let wide = eight_bytes c.args.number.size c.args.number.value c.requires.range c.in_default.not-Bit c.in_default.not-Byte c.in_default.not-TwoBytes c.in_default.not-FourBytes in
     record {
       put = number_put _ _ c.args.parent c.args.number 8 _ _ wide refl c.put_number-in_default.ensures.put;
-      limits = c.put_number-in_default.ensures.limits;
+      only = c.put_number-in_default.ensures.only;
       named = c.put_number-in_default.ensures.named;
-      kept = c.put_number-in_default.ensures.kept;
     }

@@ -16,7 +16,7 @@ returns-in-Bits g c =
     let new = g.A.BuilderArena.view c.put_field.new.arena in
     let e = c.put_field.ensures in
     subst (λ change. IsDoneAt old new (AtElement c.args.parent) (InStruct change) (refusal_of c.put_field.result)) (sym c.in-Bits.is)
-    (bits_changed c.put_field.result old new c.args.parent c.in-Bits.number e.put e.limits e.named e.kept)
+    (bits_changed c.put_field.result old new c.args.parent c.in-Bits.number e.put e.only.limits e.named e.only.kept)
 
 pub returns-in-Content : goal.returns-in-Content
 returns-in-Content g c =

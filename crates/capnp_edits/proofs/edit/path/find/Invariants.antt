@@ -7,5 +7,5 @@ use Rattle.capnp_edits.proofs.edit.path.find.Given as goal
 abbrev pub invariant-loop-step : goal.invariant-loop-step
 invariant-loop-step g l = record {
   inside : EndLiesIn (g.A.BuilderArena.view l.arena).words l.here;
-  found : (t : Tree) → IsStored (g.A.BuilderArena.view l.arena).words 0 0 t → IsPathFound (g.A.BuilderArena.view l.arena).words 0 0 t (map step_of (take l.step-index l.path)) (Some l.here);
+  found : (t : Tree) → IsStored (g.A.BuilderArena.view l.arena).words 0 0 t → IsPathFound (g.A.BuilderArena.view l.arena).words (record { segment = 0; word = 0 }) t (map step_of (take l.step-index l.path)) (Some l.here);
 }

@@ -1,4 +1,4 @@
-use Rattle.std.proofs.Common.{◌+◌, ◌*◌, [], ◌∷◌, length, OnOk, refl, sym, ap, subst, arith}
+use Rattle.std.proofs.Common.{rules, ◌+◌, ◌*◌, [], ◌∷◌, length, OnOk, refl, sym, ap, subst, arith}
 use Rattle.std.proofs.lemmas.List.{length-append}
 use Rattle.capnp_words.specs.Sizes.{size_number}
 use Rattle.capnp_format.specs.Numbers.{words_for}
@@ -12,61 +12,79 @@ use Rattle.capnp_making.specs.Near.{LeadsToEnd}
 use Rattle.capnp_edits.proofs.Applied.{struct_words, list_words_are, structs_words_are, struct_leads, leads_behind, object_made}
 use Rattle.capnp_edits.proofs.edit.pointer.make.Goals as goal
 
-pub returns-in-ZeroStruct-clause-made : goal.returns-in-ZeroStruct-clause-made
-returns-in-ZeroStruct-clause-made g c =
+pub returns-in-ZeroStruct : goal.returns-in-ZeroStruct
+returns-in-ZeroStruct g c =
     let old = g.A.BuilderArena.view c.args.pointer.now.arena.now in
     let new = g.A.BuilderArena.view c.put_struct.new.self.arena.now in
     let place = place_of c.args.pointer.now in
-    rw c.done.ensures (
-    subst (λ o. IsDoneAt old new (AtPointer place) (Make o) (refusal_of c.put_struct.result)) (sym c.in-ZeroStruct.is)
-    (object_made c.put_struct.result old new place (ZeroStruct c.in-ZeroStruct.size) _ (struct_words c.in-ZeroStruct.size) c.put_struct.ensures.object
-    (struct_leads c.put_struct.result (call_at place.segment place.word old new) c.in-ZeroStruct.size (rw (c.put_struct.ensures.builder.segment, c.put_struct.ensures.builder.at) at c.put_struct.ensures.empty))))
+    record {
+      done = rw c.done.ensures (
+          subst (λ o. IsDoneAt old new (AtPointer place) (Make o) (refusal_of c.put_struct.result)) (sym c.in-ZeroStruct.is)
+          (object_made c.put_struct.result old new place (ZeroStruct c.in-ZeroStruct.size) _ (struct_words c.in-ZeroStruct.size) c.put_struct.ensures.object
+          (struct_leads c.put_struct.result (call_at place.segment place.word old new) c.in-ZeroStruct.size (rw (c.put_struct.ensures.builder.segment, c.put_struct.ensures.builder.at) at c.put_struct.ensures.empty))));
+      same = search rules;
+    }
 
-pub returns-in-ZeroList-clause-made : goal.returns-in-ZeroList-clause-made
-returns-in-ZeroList-clause-made g c =
+pub returns-in-ZeroList : goal.returns-in-ZeroList
+returns-in-ZeroList g c =
     let old = g.A.BuilderArena.view c.args.pointer.now.arena.now in
     let new = g.A.BuilderArena.view c.put_list.new.self.arena.now in
     let place = place_of c.args.pointer.now in
-    rw c.done-in-ZeroList.ensures (
-    subst (λ o. IsDoneAt old new (AtPointer place) (Make o) (refusal_of c.put_list.result)) (sym c.in-ZeroList.is)
-    (object_made c.put_list.result old new place (ZeroList c.in-ZeroList.size c.in-ZeroList.count) _ (list_words_are (size_number c.in-ZeroList.size) c.in-ZeroList.count) c.put_list.ensures.object
-    (subst (λ n. OnOk c.put_list.result (LeadsToEnd (call_at place.segment place.word old new) n)) (list_words_are (size_number c.in-ZeroList.size) c.in-ZeroList.count) c.put_list.ensures.at_end)))
+    record {
+      done = rw c.done-in-ZeroList.ensures (
+          subst (λ o. IsDoneAt old new (AtPointer place) (Make o) (refusal_of c.put_list.result)) (sym c.in-ZeroList.is)
+          (object_made c.put_list.result old new place (ZeroList c.in-ZeroList.size c.in-ZeroList.count) _ (list_words_are (size_number c.in-ZeroList.size) c.in-ZeroList.count) c.put_list.ensures.object
+          (subst (λ n. OnOk c.put_list.result (LeadsToEnd (call_at place.segment place.word old new) n)) (list_words_are (size_number c.in-ZeroList.size) c.in-ZeroList.count) c.put_list.ensures.at_end)));
+      same = search rules;
+    }
 
-pub returns-in-ZeroStructs-clause-made : goal.returns-in-ZeroStructs-clause-made
-returns-in-ZeroStructs-clause-made g c =
+pub returns-in-ZeroStructs : goal.returns-in-ZeroStructs
+returns-in-ZeroStructs g c =
     let old = g.A.BuilderArena.view c.args.pointer.now.arena.now in
     let new = g.A.BuilderArena.view c.put_struct_list.new.self.arena.now in
     let place = place_of c.args.pointer.now in
-    rw c.done-in-ZeroStructs.ensures (
-    subst (λ o. IsDoneAt old new (AtPointer place) (Make o) (refusal_of c.put_struct_list.result)) (sym c.in-ZeroStructs.is)
-    (object_made c.put_struct_list.result old new place (ZeroStructs c.in-ZeroStructs.count c.in-ZeroStructs.size) _ (structs_words_are c.in-ZeroStructs.count c.in-ZeroStructs.size) c.put_struct_list.ensures.object
-    (subst (λ n. OnOk c.put_struct_list.result (LeadsToEnd (call_at place.segment place.word old new) n)) (structs_words_are c.in-ZeroStructs.count c.in-ZeroStructs.size)
-    (leads_behind c.put_struct_list.result (call_at place.segment place.word old new) (1 + c.in-ZeroStructs.count * (c.in-ZeroStructs.size.data_words + c.in-ZeroStructs.size.pointers)) (omega arith) c.put_struct_list.ensures.object.behind))))
+    record {
+      done = rw c.done-in-ZeroStructs.ensures (
+          subst (λ o. IsDoneAt old new (AtPointer place) (Make o) (refusal_of c.put_struct_list.result)) (sym c.in-ZeroStructs.is)
+          (object_made c.put_struct_list.result old new place (ZeroStructs c.in-ZeroStructs.count c.in-ZeroStructs.size) _ (structs_words_are c.in-ZeroStructs.count c.in-ZeroStructs.size) c.put_struct_list.ensures.object
+          (subst (λ n. OnOk c.put_struct_list.result (LeadsToEnd (call_at place.segment place.word old new) n)) (structs_words_are c.in-ZeroStructs.count c.in-ZeroStructs.size)
+          (leads_behind c.put_struct_list.result (call_at place.segment place.word old new) (1 + c.in-ZeroStructs.count * (c.in-ZeroStructs.size.data_words + c.in-ZeroStructs.size.pointers)) (omega arith) c.put_struct_list.ensures.object.behind))));
+      same = search rules;
+    }
 
-pub returns-in-ZeroText-clause-made : goal.returns-in-ZeroText-clause-made
-returns-in-ZeroText-clause-made g c =
+pub returns-in-ZeroText : goal.returns-in-ZeroText
+returns-in-ZeroText g c =
     let old = g.A.BuilderArena.view c.args.pointer.now.arena.now in
     let new = g.A.BuilderArena.view c.put_list-in-ZeroText.new.self.arena.now in
     let place = place_of c.args.pointer.now in
-    rw c.done-in-ZeroText.ensures (
-    subst (λ o. IsDoneAt old new (AtPointer place) (Make o) (refusal_of c.put_list-in-ZeroText.result)) (sym c.in-ZeroText.is)
-    (object_made c.put_list-in-ZeroText.result old new place (ZeroText c.in-ZeroText.size) _ (list_words_are 2 (c.in-ZeroText.size + 1)) c.put_list-in-ZeroText.ensures.object
-    (subst (λ n. OnOk c.put_list-in-ZeroText.result (LeadsToEnd (call_at place.segment place.word old new) n)) (list_words_are 2 (c.in-ZeroText.size + 1)) c.put_list-in-ZeroText.ensures.at_end)))
+    record {
+      done = rw c.done-in-ZeroText.ensures (
+          subst (λ o. IsDoneAt old new (AtPointer place) (Make o) (refusal_of c.put_list-in-ZeroText.result)) (sym c.in-ZeroText.is)
+          (object_made c.put_list-in-ZeroText.result old new place (ZeroText c.in-ZeroText.size) _ (list_words_are 2 (c.in-ZeroText.size + 1)) c.put_list-in-ZeroText.ensures.object
+          (subst (λ n. OnOk c.put_list-in-ZeroText.result (LeadsToEnd (call_at place.segment place.word old new) n)) (list_words_are 2 (c.in-ZeroText.size + 1)) c.put_list-in-ZeroText.ensures.at_end)));
+      same = search rules;
+    }
 
-pub returns-in-Text-clause-made : goal.returns-in-Text-clause-made
-returns-in-Text-clause-made g c =
+pub returns-in-Text : goal.returns-in-Text
+returns-in-Text g c =
     let old = g.A.BuilderArena.view c.args.pointer.now.arena.now in
     let new = g.A.BuilderArena.view c.set_text.new.self.arena.now in
     let place = place_of c.args.pointer.now in
-    subst (λ o. IsDoneAt old new (AtPointer place) (Make o) (refusal_of c.set_text.result)) (sym c.in-Text.is)
-    (object_made c.set_text.result old new place (Text c.in-Text.bytes) _ (ap (words_for 2) (sym (length-append c.in-Text.bytes.now (0 ∷ [])))) c.set_text.ensures.object
-    (subst (λ n. OnOk c.set_text.result (LeadsToEnd (call_at place.segment place.word old new) n)) (ap (words_for 2) (sym (length-append c.in-Text.bytes.now (0 ∷ []))))
-    (leads_behind c.set_text.result (call_at place.segment place.word old new) (words_for 2 (length c.in-Text.bytes.now + 1)) (omega arith) c.set_text.ensures.object.behind)))
+    record {
+      done = subst (λ o. IsDoneAt old new (AtPointer place) (Make o) (refusal_of c.set_text.result)) (sym c.in-Text.is)
+          (object_made c.set_text.result old new place (Text c.in-Text.bytes) _ (ap (words_for 2) (sym (length-append c.in-Text.bytes.now (0 ∷ [])))) c.set_text.ensures.object
+          (subst (λ n. OnOk c.set_text.result (LeadsToEnd (call_at place.segment place.word old new) n)) (ap (words_for 2) (sym (length-append c.in-Text.bytes.now (0 ∷ []))))
+          (leads_behind c.set_text.result (call_at place.segment place.word old new) (words_for 2 (length c.in-Text.bytes.now + 1)) (omega arith) c.set_text.ensures.object.behind)));
+      same = search rules;
+    }
 
-pub returns-in-Data-clause-made : goal.returns-in-Data-clause-made
-returns-in-Data-clause-made g c =
+pub returns-in-Data : goal.returns-in-Data
+returns-in-Data g c =
     let old = g.A.BuilderArena.view c.args.pointer.now.arena.now in
     let new = g.A.BuilderArena.view c.set_data.new.self.arena.now in
     let place = place_of c.args.pointer.now in
-    subst (λ o. IsDoneAt old new (AtPointer place) (Make o) (refusal_of c.set_data.result)) (sym c.in-Data.is)
-    (object_made c.set_data.result old new place (Data c.in-Data.bytes) _ refl c.set_data.ensures.object c.set_data.ensures.at_end)
+    record {
+      done = subst (λ o. IsDoneAt old new (AtPointer place) (Make o) (refusal_of c.set_data.result)) (sym c.in-Data.is)
+          (object_made c.set_data.result old new place (Data c.in-Data.bytes) _ refl c.set_data.ensures.object c.set_data.ensures.at_end);
+      same = search rules;
+    }

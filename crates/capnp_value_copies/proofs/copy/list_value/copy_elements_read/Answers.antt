@@ -6,7 +6,7 @@ use Rattle.capnp_format.specs.Numbers.{words_for, unpacked}
 use Rattle.capnp_format.specs.Tree.{Flat}
 use Rattle.capnp_objects.specs.Reading.{source_start}
 use Rattle.capnp_words.specs.Sizes.{size_number}
-use Rattle.capnp_readers.proofs.Walking.{ok_so, err_so}
+use Rattle.capnp_pointers.proofs.Walking.{ok_so, err_so}
 use Rattle.capnp_copies.specs.Changes.{Change, change, MakesCopy}
 use Rattle.capnp_copies.proofs.Copying.{StopsHalfway}
 use Rattle.capnp_copies.specs.Forms.{form_of}
@@ -18,6 +18,7 @@ use Rattle.capnp_copies.proofs.Growth.{none_itself, made_none, nothing_for_list,
 use Rattle.capnp_value_copies.proofs.ListValues.{first_read, too_long, number_size, few_numbers, numbers_held, numbers_copied, numbers_stop}
 use Rattle.capnp_copies.proofs.Originals.{pointers_listed, structs_listed, pointers_list_copied, structs_list_copied, pointers_list_stops, structs_list_stops, numbers_listed, exceeding}
 use Rattle.capnp_value_copies.proofs.copy.list_value.copy_elements_read.Goals as goal
+use Rattle.capnp_making.specs.Makes.{call_at}
 
 -- A list that is too long.
 pub returns-then-not-fits_list_pointer-clause-copies : goal.returns-then-not-fits_list_pointer-clause-copies
@@ -48,7 +49,7 @@ returns-in_default g c =
     let held = numbers_held (source_start g.B.ReaderArena value.source).segments value.start value.element_size value.count width value.content.now flat value.held value.content_is value.inside in
     let outcome : FlatOutcome c.copy_flat.result c.args.to.segment c.args.to.at (words_for size value.count) (g.A.BuilderArena.view c.args.arena.now) (g.A.BuilderArena.view c.copy_flat.new.arena) (Flat size (unpacked size value.count (words_of value.content.now))) =
     record { copied = c.copy_flat.ensures.copied; granted = c.copy_flat.ensures.granted; refused = c.copy_flat.ensures.refused; kept = c.copy_flat.ensures.kept; memory = c.copy_flat.ensures.memory; stands = c.copy_flat.ensures.stands; fits = λ room. c.copy_flat.ensures.fits (omega (arith, room, word_count-flat size value.count (words_of value.content.now))) } in
-    let call : Change = change (form_of c.args.canonicalize) c.args.to.segment c.args.to.at (g.A.BuilderArena.view c.args.arena.now) (g.A.BuilderArena.view c.copy_flat.new.arena) c.args.lim.now c.args.lim.now in
+    let call : Change = change (form_of c.args.canonicalize) (call_at c.args.to.segment c.args.to.at (g.A.BuilderArena.view c.args.arena.now) (g.A.BuilderArena.view c.copy_flat.new.arena)) c.args.lim.now c.args.lim.now in
     record {
       long = λ k large. absurd ((exceeding c.args.value.element_size c.args.value.struct_size c.args.value.count (first_read g.B.ReaderArena c.args.value) (form_of c.args.canonicalize) k large).0 (c.fits_list_pointer.ensures.0 (search rules)));
       copies = record {
@@ -84,7 +85,7 @@ returns-in-Pointer-clause-copies g c =
       taken = (let nl = to_z-of_z w32 c.args.value.nesting_limit (search rules) in
           let value = c.args.value in
           pointers_listed c.args.value.element_size c.args.value.struct_size c.args.value.count (first_read g.B.ReaderArena c.args.value)
-          (λ o. TakesAtMost c.copy_pointers.result o (change (form_of c.args.canonicalize) c.args.to.segment c.args.to.at (g.A.BuilderArena.view c.args.arena.now) (g.A.BuilderArena.view c.copy_pointers.new.arena) c.args.lim.now c.copy_pointers.new.lim))
+          (λ o. TakesAtMost c.copy_pointers.result o (change (form_of c.args.canonicalize) (call_at c.args.to.segment c.args.to.at (g.A.BuilderArena.view c.args.arena.now) (g.A.BuilderArena.view c.copy_pointers.new.arena)) c.args.lim.now c.copy_pointers.new.lim))
           c.in-Pointer.is (rw (nl, c.of-form.ensures) at c.copy_pointers.ensures.taken));
     }
 
@@ -100,6 +101,6 @@ returns-in-InlineComposite-clause-copies g c =
       taken = (let nl = to_z-of_z w32 c.args.value.nesting_limit (search rules) in
           let value = c.args.value in
           structs_listed c.args.value.element_size c.args.value.struct_size c.args.value.count (first_read g.B.ReaderArena c.args.value)
-          (λ o. TakesAtMost c.copy_structs.result o (change (form_of c.args.canonicalize) c.args.to.segment c.args.to.at (g.A.BuilderArena.view c.args.arena.now) (g.A.BuilderArena.view c.copy_structs.new.arena) c.args.lim.now c.copy_structs.new.lim))
+          (λ o. TakesAtMost c.copy_structs.result o (change (form_of c.args.canonicalize) (call_at c.args.to.segment c.args.to.at (g.A.BuilderArena.view c.args.arena.now) (g.A.BuilderArena.view c.copy_structs.new.arena)) c.args.lim.now c.copy_structs.new.lim))
           c.in-InlineComposite.is (rw (nl, c.of-form.ensures) at c.copy_structs.ensures.taken));
     }

@@ -7,11 +7,11 @@ use Rattle.capnp_format.proofs.Slices.{length_words}
 use Rattle.capnp_arena_traits.specs.View.{View}
 use Rattle.capnp_objects.specs.Reading.{Reading, words_from}
 use Rattle.capnp_readers.specs.Sizes.{pointers_read}
-use Rattle.capnp_readers.proofs.Walking.{ok_so, err_so}
+use Rattle.capnp_pointers.proofs.Walking.{ok_so, err_so}
 use Rattle.std.proofs.lemmas.Result.{err_from_is_err_and}
 use Rattle.capnp_copies.specs.Forms.{form_of}
-use Rattle.capnp_copies.specs.StructValues.{data_of}
-use Rattle.capnp_copies.proofs.DataSections.{kept_count-le}
+use Rattle.capnp_value_copies.specs.StructValues.{data_of}
+use Rattle.capnp_copies.proofs.KeptForms.{kept_count-le}
 use Rattle.capnp_copies.proofs.FilledObjects.{nothing_made, nothing_left}
 use Rattle.capnp_copies.proofs.FilledSections.{SectionsBegun, sections_fit, sections_null, sections_inside, sections_copied, sections_stop}
 use Rattle.capnp_copies.proofs.KeptForms.{SectionsCut}

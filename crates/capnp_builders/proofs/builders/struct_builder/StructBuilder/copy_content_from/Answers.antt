@@ -23,22 +23,28 @@ clear_pointers-requires g c =
     ap (λ (v : View). length (segment v.words place.segment)) c.write_content.ensures ∙ content_long M place c.args.value.now.bits c.args.value.now.content.now place.segment in
     record { room = omega (arith, long, c.requires.inside.2) }
 
-pub copy_each-requires-clause-room : goal.copy_each-requires-clause-room
-copy_each-requires-clause-room g c =
+pub copy_each-requires : goal.copy_each-requires
+copy_each-requires g c =
     let M : Segments = (g.A.BuilderArena.view c.args.self.now.arena.now).words in
     let place : StructPlace = c.args.self.now.place in
     let long : length (segment (g.A.BuilderArena.view c.write_content.new.arena).words place.segment) ≡ length (segment M place.segment) =
     ap (λ (v : View). length (segment v.words place.segment)) c.write_content.ensures ∙ content_long M place c.args.value.now.bits c.args.value.now.content.now place.segment in
-    omega (arith, long, c.requires.inside.2, c.clear_pointers.ensures.only.words place.segment, c.min.ensures, c.from-count.ensures)
+    record {
+      nulls = record {
+        room = omega (arith, long, c.requires.inside.2, c.clear_pointers.ensures.only.words place.segment, c.min.ensures, c.from-count.ensures);
+        null = λ i less. c.clear_pointers.ensures.null i (omega (arith, less, c.min.ensures, c.from-count.ensures));
+      };
+      inside = search rules;
+    }
 
-pub returns-clause-inside : goal.returns-clause-inside
-returns-clause-inside g c =
+pub returns-clause-builder : goal.returns-clause-builder
+returns-clause-builder g c =
     let M : Segments = (g.A.BuilderArena.view c.args.self.now.arena.now).words in
     let place : StructPlace = c.args.self.now.place in
     let written : (g.A.BuilderArena.view c.write_content.new.arena).words ≡ with_content M place c.args.value.now.bits c.args.value.now.content.now = ap (λ (v : View). v.words) c.write_content.ensures in
     let pruned : IsPruned (with_content M place c.args.value.now.bits c.args.value.now.content.now) (g.A.BuilderArena.view c.clear_pointers.new.arena).words = subst (λ (T : Segments). IsPruned T (g.A.BuilderArena.view c.clear_pointers.new.arena).words) written c.clear_pointers.ensures.only in
     let grows = each_grows _ _ _ c.copy_each.result c.copy_each.ensures.copied c.copy_each.ensures.refused in
-    content_inside M (g.A.BuilderArena.view c.clear_pointers.new.arena).words (g.A.BuilderArena.view c.copy_each.new.arena).words place c.args.value.now.bits c.args.value.now.content.now pruned grows c.requires.inside
+    record { same = search rules; place = search rules; inside = content_inside M (g.A.BuilderArena.view c.clear_pointers.new.arena).words (g.A.BuilderArena.view c.copy_each.new.arena).words place c.args.value.now.bits c.args.value.now.content.now pruned grows c.requires.inside }
 
 pub returns-clause-taken : goal.returns-clause-taken
 returns-clause-taken g c =

@@ -11,15 +11,12 @@ use Rattle.capnp_format.specs.Segments.{Segments, segment}
 use Rattle.capnp_format.specs.Value.{AreBelow}
 use Rattle.capnp_format.proofs.Digits.{from_digits-below}
 use Rattle.capnp_format.proofs.Lies.{pow_pow}
-use Rattle.capnp_format.proofs.Trimming.{used_words-le}
 use Rattle.capnp_format.proofs.UsedUp.{used-zero, used-word}
 use Rattle.capnp_format.proofs.WordsOf.{words}
 use Rattle.capnp_arena_traits.specs.Written.{overwritten, with_word, with_words}
 use Rattle.capnp_making.proofs.FieldBytes.{below_drop}
 use Rattle.capnp_readers.specs.Sections.{bytes_for}
-use Rattle.capnp_objects.specs.Wanted.{Form, canonical}
-use Rattle.capnp_copies.specs.StructValues.{bits_left, section_words}
-use Rattle.capnp_copies.specs.Originals.{kept_count}
+use Rattle.capnp_value_copies.specs.StructValues.{bits_left, section_words}
 
 -- how long a section is
 
@@ -41,10 +38,6 @@ whole_section d bytes long =
     ap (λ n. take (64 * d / 64) (words_of bytes) ++ bits_left n (drop (8 * (64 * d / 64)) bytes)) none ∙ append-nil (take (64 * d / 64) (words_of bytes)) ∙ take_all (64 * d / 64) (words_of bytes) (omega (arith, words bytes, long, all))
 
 -- what is kept of it
-
-pub kept_count-le : (b : Form) (ws : List ℕ) → kept_count b ws ≤ length ws
-kept_count-le canonical ws = used_words-le ws
-kept_count-le _ ws = omega arith
 
 unused_left : (ws : List ℕ) (n : ℕ) (bs : List ℕ) → from_digits 256 bs % 2 ^ n ≡ 0 → used_words (ws ++ bits_left n bs) ≡ used_words ws
 unused_left ws zero bs h = ap used_words (append-nil ws)

@@ -1,0 +1,2 @@
+pub mod StructValues
+pub mod ListValues
