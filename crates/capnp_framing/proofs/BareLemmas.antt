@@ -1,12 +1,10 @@
 -- Bare words that were read are the only segment of a message.
-use Rattle.std.proofs.Common.{◌≡◌, ℕ, zero, suc, ◌+◌, ◌-◌, ◌*◌, ◌/◌, ◌%◌, ◌^◌, ◌<◌, ◌≤◌, List, [], ◌∷◌, ◌++◌, length, take, drop, refl, sym, ap, ap₂, ◌∙◌, subst, arith, add-zero, append-nil, append_assoc, length-append, length-take, take_at, drop_at, slice_get, slice_index, Option, Some, None, IfSome}
+use Rattle.std.proofs.Common.{◌≡◌, ℕ, zero, suc, ◌+◌, ◌-◌, ◌*◌, ◌/◌, ◌%◌, ◌^◌, ◌<◌, ◌≤◌, List, [], ◌∷◌, ◌++◌, length, take, drop, refl, sym, ap, ap₂, ◌∙◌, subst, arith, add-zero, append-nil, append_assoc, length-append, take_at, slice_get, slice_index, Option, Some, None, IfSome}
 use Rattle.std.specs.Int.{from_le_bytes, to_le_bytes, w32}
 use Rattle.std.specs.Io.KnownBytes.{Consumes, IsAtEnd}
 use Rattle.std.proofs.lemmas.Grind.{common_steps}
-use Rattle.std.proofs.lemmas.List.{take-append-le}
 use Rattle.std.proofs.lemmas.List.Elements.{All-head, All-tail}
 use Rattle.std.proofs.lemmas.Nat.{from_le_bytes-to_le_bytes_4, from_le_bytes-to_le_bytes_8}
-use borrow.Rule.Slice.PartMut.{put_mid}
 use Rattle.capnp_format.specs.Bytes.{message, words_of}
 use Rattle.capnp_arena_traits.specs.Limits.{IsSmall}
 use Rattle.capnp_framing.specs.Bare.{AreBareWords, NoBareWords, most_bare, word_cut, words_beyond}
@@ -16,29 +14,18 @@ use Rattle.capnp_framing.specs.Reading.{words_told}
 use Rattle.capnp_framing.specs.declared.framing.frame_error.FrameError.{FrameError}
 use Rattle.capnp_framing.specs.declared.framing.frame_error.FrameError.TheVariants.{MessageTooLong, Truncated}
 use Rattle.capnp_framing.proofs.OwnedLemmas.{ends_more}
-use Rattle.capnp_framing.proofs.ReadingLemmas.{bytes-length, read_more}
+use Rattle.capnp_framing.proofs.ReadingLemmas.{bytes-length, filled_behind}
 
 -- bytes behind the first n are read into room behind them, which was made longer and lent
 pub read_behind : (a b c : Option (List ℕ)) (n k len : ℕ) (old room lent xs : List ℕ) → length xs ≡ len → take n xs ≡ take n lent → lent ≡ room → take n room ≡ take n old →
     Consumes a b (take n old) → Consumes b c (take k (drop n xs)) → Consumes a c (take (n + k) (take len (xs ++ drop (length xs) room)))
 read_behind a b c n k len old room lent xs long front value kept f g =
-    let same : take n xs ≡ take n old = front ∙ ap (take n) value ∙ kept in
     let more : k ≡ n + k - n = omega arith in
-    subst (λ (ys : List ℕ). Consumes a c (take (n + k) ys)) (sym (take_at xs (drop (length xs) room) len long))
-    (read_more a b c n (n + k) old xs (omega arith) same f (subst (λ j. Consumes b c (take j (drop n xs))) more g))
+    filled_behind a b c n (n + k) len old room lent xs long (omega arith) front value kept f (subst (λ j. Consumes b c (take j (drop n xs))) more g)
 
 -- and is as long as that
 pub behind_long : (len : ℕ) (room xs : List ℕ) → length xs ≡ len → length (take len (xs ++ drop (length xs) room)) ≡ len
 behind_long len room xs long = ap length (take_at xs (drop (length xs) room) len long) ∙ long
-
--- bytes are read over a part of others
-pub read_part : (a b : Option (List ℕ)) (n start k : ℕ) (old part : List ℕ) → start ≤ length old → n ≤ length part → Consumes a b (take n part) →
-    Consumes a b (take n (drop start (put_mid start k old part)))
-read_part a b n start k old part inside few f =
-    let size : length (take start old) ≡ start = omega (arith, length-take start old) in
-    let same : take n (drop start (put_mid start k old part)) ≡ take n part =
-    ap (take n) (drop_at (take start old) (part ++ drop k (drop start old)) start size) ∙ take-append-le n part (drop k (drop start old)) few in
-    subst (Consumes a b) (sym same) f
 
 -- what was read stands at the front of known bytes
 begins_so : (a b : Option (List ℕ)) (front : List ℕ) (P : List ℕ → Type 0) → Consumes a b front → ((rest : List ℕ) → P (front ++ rest)) → IfSome a P

@@ -4,5 +4,6 @@ pub mod FrameLemmas
 pub mod OwnedLemmas
 pub mod ReadingLemmas
 pub mod TableLemmas
+pub mod UnreadLemmas
 pub mod WritingLemmas
 pub mod WholenessLemmas

@@ -1,5 +1,5 @@
 -- What is read into memory is a frame.
-use Rattle.std.proofs.Common.{◌≡◌, ℕ, ◌+◌, ◌*◌, ◌<◌, ◌≤◌, List, [], ◌∷◌, ◌++◌, length, get_or, take, drop, sym, ap, ◌∙◌, arith, length-take, take-append-drop, take_all, subst, Option, Some, None, slice_index}
+use Rattle.std.proofs.Common.{◌≡◌, ℕ, ◌+◌, ◌*◌, ◌<◌, ◌≤◌, List, [], ◌∷◌, ◌++◌, length, get_or, take, drop, sym, ap, ◌∙◌, arith, length-append, length-take, take-append-drop, take_all, subst, Option, Some, None, slice_index}
 use Rattle.std.proofs.lemmas.List.{get_or_append_left}
 use Rattle.std.proofs.Math.Seq.{get_or-append_seam}
 use Rattle.std.specs.Int.{from_le_bytes, w32}
@@ -20,6 +20,13 @@ ends_more i sum table ends long is kept =
     below_more (λ k. slice_index (ends ++ sum ∷ []) k ≡ words_told (k + 1) table) i
     (λ k less. get_or_append_left ends (sum ∷ []) 0 k (omega (arith, long, less)) ∙ kept k less)
     (ap (λ k. get_or (ends ++ sum ∷ []) k 0) (sym long) ∙ get_or-append_seam ends sum [] 0 ∙ is)
+
+pub ends_kept : {new : List ℕ} (i sum : ℕ) (table ends : List ℕ) → length ends ≡ i → sum ≡ words_told (i + 1) table → ((k : ℕ) → k < i → slice_index ends k ≡ words_told (k + 1) table) →
+    new ≡ ends ++ sum ∷ [] → (length new ≡ i + 1) × ((k : ℕ) → k < i + 1 → slice_index new k ≡ words_told (k + 1) table)
+ends_kept i sum table ends long is kept items = (
+  omega (arith, ap length items, length-append ends (sum ∷ []), long),
+  subst (λ (es : List ℕ). (k : ℕ) → k < i + 1 → slice_index es k ≡ words_told (k + 1) table) (sym items) (ends_more i sum table ends long is kept),
+)
 
 -- Memory has the lengths of n segments and their words, and what stands behind them.
 pub record AtOwned (first : List ℕ) (n : ℕ) (table words : List ℕ) : Type 0 where

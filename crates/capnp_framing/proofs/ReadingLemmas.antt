@@ -1,5 +1,5 @@
 -- What is read piece by piece is read as a whole.
-use Rattle.std.proofs.Common.{◌≡◌, ℕ, zero, suc, ◌+◌, ◌-◌, ◌*◌, ◌/◌, ◌^◌, ◌<◌, ◌≤◌, inl, inr, List, [], ◌∷◌, ◌++◌, length, get_or, take, drop, replicate, refl, sym, ap, ap₂, ◌∙◌, subst, arith, length-append, length-take, length-drop, get_or-drop, append-nil, append_assoc, take-add, take_at, drop_at, drop-drop, take-append-drop, slice_get, Option, Some, None, IfSome}
+use Rattle.std.proofs.Common.{Bool, true, false, ◌≡◌, ℕ, zero, suc, ◌+◌, ◌-◌, ◌*◌, ◌/◌, ◌^◌, ◌<◌, ◌≤◌, inl, inr, List, [], ◌∷◌, ◌++◌, length, get_or, take, drop, replicate, refl, sym, ap, ap₂, ◌∙◌, subst, arith, length-append, length-take, length-drop, get_or-drop, append-nil, append_assoc, take-add, take_at, drop_at, drop-drop, take-append-drop, slice_get, Option, Some, None, IfSome}
 use Rattle.std.specs.List.{All}
 use Rattle.std.specs.Int.{from_le_bytes, to_le_bytes, w32, w64}
 use Rattle.std.specs.Io.KnownBytes.{Consumes}
@@ -32,9 +32,23 @@ cut_later (Some x) None xs n m f l h = absurd f
 cut_later (Some x) (Some y) xs n m f l h = omega (arith, ap length f, length-append xs y, h)
 
 module _ {R : Type 0} (g : Ghosts R) where
+  -- fewer bytes came than were wanted, behind some that had come
   pub unread_later : (from mid to : R) (xs : List ℕ) (n m : ℕ) (e : FrameError) → Consumes (g.remaining from) (g.remaining mid) xs → length xs + n ≤ m → WhyUnread g mid to n e → WhyUnread g from to m e
-  unread_later from mid to xs n m e f l (inl h) = inl (h.0, cut_later (g.remaining from) (g.remaining mid) xs n m f l h.1)
-  unread_later from mid to xs n m e f l (inr h) = inr h
+  unread_later from mid to xs n m e f l h = record {
+    why = elim h.why [
+      | inl a ↦ inl a
+      | inr u ↦ elim u [
+        | inl short ↦ inr (inl (short.0, cut_later (g.remaining from) (g.remaining mid) xs n m f l short.1))
+        | inr failed ↦ inr (inr failed)
+      ]
+    ];
+    failed = h.failed;
+    cut = h.cut;
+  }
+
+-- what works hasn't failed
+pub not_failed : {P : Type 0} (b : Bool) → b ≡ false → b ≡ true → P
+not_failed b works failed = absurd (let wrong : ⊥ = cc in wrong)
 
 -- k bytes more, read over those behind the first n
 pub read_on : (a b c : Option (List ℕ)) (n k : ℕ) (xs part : List ℕ) → n ≤ length xs → Consumes a b (take n xs) → Consumes b c (take k part) → Consumes a c (take (n + k) (take n xs ++ part))
@@ -51,6 +65,13 @@ pub read_more : (a b c : Option (List ℕ)) (n end : ℕ) (xs ys : List ℕ) →
 read_more a b c n end xs ys l same f g =
     subst (Consumes a c) (sym (ap (λ k. take k ys) (let e : end ≡ n + (end - n) = omega arith in e) ∙ take-add n (end - n) ys))
     (consumes_both a b c (take n ys) (take (end - n) (drop n ys)) (subst (Consumes a b) (sym same) f) g)
+
+-- and into room behind them, which was made longer and lent
+pub filled_behind : (a b c : Option (List ℕ)) (n end len : ℕ) (old room lent xs : List ℕ) → length xs ≡ len → n ≤ end → take n xs ≡ take n lent → lent ≡ room → take n room ≡ take n old →
+    Consumes a b (take n old) → Consumes b c (take (end - n) (drop n xs)) → Consumes a c (take end (take len (xs ++ drop (length xs) room)))
+filled_behind a b c n end len old room lent xs long less front value kept f g =
+    let same : take n xs ≡ take n old = front ∙ ap (take n) value ∙ kept in
+    subst (λ (ys : List ℕ). Consumes a c (take end ys)) (sym (take_at xs (drop (length xs) room) len long)) (read_more a b c n end old xs less same f g)
 
 pub told_fewer : (i n : ℕ) (bs : List ℕ) → i ≤ n → words_told i bs ≤ words_told n bs
 told_fewer zero n bs h = omega arith

@@ -1,11 +1,13 @@
 -- The bare words of a message of one segment: they stand in bytes without a frame, and end where the bytes end.
-use Rattle.std.specs.Prelude.{◌≡◌, ℕ, ◌+◌, ◌*◌, ◌%◌, ◌<◌, ◌≤◌, List, [], ◌∷◌, length, min, ⊤}
+use Rattle.std.specs.Prelude.{◌≡◌, ℕ, ◌+◌, ◌*◌, ◌%◌, ◌<◌, ◌≤◌, List, [], ◌∷◌, length, min, true, ◌⊎◌, IfSome, ⊤}
 use Rattle.std.specs.Io.KnownBytes.{Consumes, IsAtEnd}
 use Rattle.capnp_framing.specs.Reading.{max_length}
 use Rattle.capnp_framing.specs.declared.devices.Input.{Ghosts}
 use Rattle.capnp_framing.specs.declared.framing.frame_error.FrameError.{FrameError}
 use Rattle.capnp_framing.specs.declared.framing.frame_error.FrameError.TheVariants.{MessageTooLong}
 use Rattle.capnp_framing.specs.declared.framing.frame_error.FrameError.TheVariants.{Truncated}
+use Rattle.capnp_framing.specs.declared.framing.frame_error.FrameError.TheVariants.{ReadFailed}
+use Rattle.capnp_framing.specs.declared.framing.frame_error.FrameError.TheVariants.{AllocationFailed}
 
 -- How many words are read where so many may be: at most as many as a segment has room for.
 abbrev pub most_bare : ℕ → ℕ
@@ -38,3 +40,11 @@ module _ {R : Type 0} (g : Ghosts R) where
       (bytes : List ℕ) × (length bytes ≡ 8 * n) × Consumes (g.remaining from) (g.remaining to) bytes
   HasTakenBare from to Truncated = IsAtEnd (g.remaining to)
   HasTakenBare from to _ = ⊤
+
+  -- No segment of at most so many words was read, for the reason e: there was no memory for it, the input failed, and
+  -- then there is no other reason, or what it has is no bare words; and what was taken of it.
+  pub record NoSegmentRead (from to : R) (most : ℕ) (e : FrameError) : Type 0 where
+    pub why : (e ≡ AllocationFailed) ⊎ ((e ≡ ReadFailed) × (g.has_failed to ≡ true)) ⊎
+        IfSome (g.remaining from) (λ bytes. NoBareWords bytes most e)
+    pub failed : g.has_failed to ≡ true → e ≡ ReadFailed
+    pub taken : HasTakenBare from to e

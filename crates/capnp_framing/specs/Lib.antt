@@ -1,4 +1,5 @@
 pub mod Bare
+pub mod Devices
 pub mod Flat
 pub mod Frames
 pub mod Memory

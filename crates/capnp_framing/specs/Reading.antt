@@ -1,10 +1,11 @@
 -- Why bytes, or segments, make no frame.
 use Rattle.std.specs.Prelude.{◌≡◌, ◌⊎◌, ℕ, ◌+◌, ◌*◌, ◌<◌, ◌≤◌, List, [], ◌∷◌, length, take, drop}
-use Rattle.std.specs.Prelude.{zero, suc, true, IfSome, ⊤}
+use Rattle.std.specs.Prelude.{zero, suc, false, true, Result, IfSome, OnOk, ⊤}
 use Rattle.std.specs.Int.{from_le_bytes, w32}
 use Rattle.std.specs.Io.KnownBytes.{Consumes, IsAtEnd}
 use Rattle.capnp_format.specs.Segments.{Segments}
 use Rattle.capnp_framing.specs.Frames.{IsFrameOf, max_frame_segments, padding_size}
+use Rattle.capnp_framing.specs.Wholeness.{KeepsWhole}
 use Rattle.capnp_framing.specs.declared.devices.Input.{Ghosts}
 use Rattle.capnp_framing.specs.declared.framing.frame_error.FrameError.{FrameError}
 use Rattle.capnp_framing.specs.declared.framing.frame_error.FrameError.TheVariants.{NoSegments}
@@ -12,6 +13,7 @@ use Rattle.capnp_framing.specs.declared.framing.frame_error.FrameError.TheVarian
 use Rattle.capnp_framing.specs.declared.framing.frame_error.FrameError.TheVariants.{MessageTooLong}
 use Rattle.capnp_framing.specs.declared.framing.frame_error.FrameError.TheVariants.{Truncated}
 use Rattle.capnp_framing.specs.declared.framing.frame_error.FrameError.TheVariants.{ReadFailed}
+use Rattle.capnp_framing.specs.declared.framing.frame_error.FrameError.TheVariants.{AllocationFailed}
 
 -- The refusal e of n segments, which make no frame: there are none, or too many.
 abbrev pub IsRefusedNumber : ℕ → FrameError → Type 0
@@ -64,11 +66,19 @@ pub data NoFrame (bytes : List ℕ) (most : ℕ) (e : FrameError) : Type 0 where
       NoFrame bytes most e
 
 module _ {R : Type 0} (g : Ghosts R) where
-  -- Of n bytes that were to be read not all came, for the reason e: the input ended before, or it failed.
-  abbrev pub WhyUnread : R → R → ℕ → FrameError → Type 0
-  WhyUnread from to n e =
-      ((e ≡ Truncated) × IfSome (g.remaining from) (λ bytes. length bytes < n)) ⊎
-      ((e ≡ ReadFailed) × (g.has_failed to ≡ true))
+  -- What a read that gives something leaves of an input: it works, and what is known of whether it ends whole stays so.
+  pub record KeepsInput {A E : Type 0} (result : Result A E) (from to : R) : Type 0 where
+    pub whole : OnOk result (KeepsWhole (g.ends_whole from) (g.ends_whole to))
+    pub works : OnOk result (g.has_failed to ≡ false)
+
+  -- Of n bytes that were to be read not all came, for the reason e: there was no memory for them, the input ended
+  -- before, or it failed, and then there is no other reason.
+  pub record WhyUnread (from to : R) (n : ℕ) (e : FrameError) : Type 0 where
+    pub why : (e ≡ AllocationFailed) ⊎
+        ((e ≡ Truncated) × IfSome (g.remaining from) (λ bytes. length bytes < n)) ⊎
+        ((e ≡ ReadFailed) × (g.has_failed to ≡ true))
+    pub failed : g.has_failed to ≡ true → e ≡ ReadFailed
+    pub cut : e ≡ Truncated → IsAtEnd (g.remaining to)
 
   -- A frame of a message was read from the front of an input, and what stands behind it is left.
   pub record IsFrameRead (from to : R) (S : Segments) : Type 0 where
@@ -87,3 +97,11 @@ module _ {R : Type 0} (g : Ghosts R) where
       Consumes (g.remaining from) (g.remaining to) bytes
   HasTaken from to Truncated = IsAtEnd (g.remaining to)
   HasTaken from to _ = ⊤
+
+  -- No frame of at most so many words was read, for the reason e: there was no memory for it, the input failed, and
+  -- then there is no other reason, or it begins with no frame; and what was taken of it.
+  pub record NoFrameRead (from to : R) (most : ℕ) (e : FrameError) : Type 0 where
+    pub why : (e ≡ AllocationFailed) ⊎ ((e ≡ ReadFailed) × (g.has_failed to ≡ true)) ⊎
+        IfSome (g.remaining from) (λ bytes. NoFrame bytes most e)
+    pub failed : g.has_failed to ≡ true → e ≡ ReadFailed
+    pub taken : HasTaken from to e

@@ -1,6 +1,7 @@
 -- What a writer has taken, and what it still has to take.
-use Rattle.std.specs.Prelude.{◌≡◌, ℕ, List, Result, OnOk, OnErr, true, false}
+use Rattle.std.specs.Prelude.{◌≡◌, ℕ, List, length, Result, OnOk, OnErr, true, false}
 use Rattle.std.specs.Io.KnownBytes.{Appends}
+use Rattle.capnp_arena_traits.specs.Limits.{IsSmall}
 use Rattle.capnp_framing.specs.declared.devices.Output.{Ghosts}
 
 module _ {W : Type 0} (g : Ghosts W) where
@@ -17,3 +18,9 @@ module _ {W : Type 0} (g : Ghosts W) where
     pub written : OnOk result (Prints from to bytes)
     pub works : OnOk result (g.has_failed to ≡ false)
     pub fails : OnErr result (g.has_failed to ≡ true)
+
+  -- An output works, and there are so many segments, which are small enough for a frame.
+  pub record CanWrite (output : W) (segments : List (List ℕ)) (count : ℕ) : Type 0 where
+    pub works : g.has_failed output ≡ false
+    pub small : IsSmall segments
+    pub number : count ≡ length segments

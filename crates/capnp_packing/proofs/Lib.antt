@@ -1,3 +1,4 @@
+pub mod GivingLemmas
 pub mod MemoryLemmas
 pub mod PackingLemmas
 pub mod SliceLemmas

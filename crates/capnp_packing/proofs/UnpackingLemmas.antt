@@ -87,6 +87,10 @@ takes_none due place (Some xs) None h = absurd h
 takes_none due place (Some xs) (Some ys) h =
     (ap (λ l. replicate due 0 ++ unpacked_bytes place l) (sym h), ap (place_at_end place) h)
 
+pub unpacks_none : (due : ℕ) (place : Place) (known : Option (List ℕ)) → Unpacks due place known due place known []
+unpacks_none due place None = (tt, tt)
+unpacks_none due place (Some xs) = (refl, refl)
+
 pub then_takes : (due more last : ℕ) (place next end : Place) (a b c : Option (List ℕ)) (xs ys : List ℕ)
     → Unpacks due place a more next b xs → Unpacks more next b last end c ys
     → Unpacks due place a last end c (xs ++ ys)

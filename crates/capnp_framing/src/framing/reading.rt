@@ -1,15 +1,13 @@
 //! A message read from a stream of bytes ("Serialization Over a Stream").
-ghost use Rattle.std.specs.Prelude.{◌≡◌, ◌⊎◌, ℕ, ◌<◌, ◌≤◌, ◌+◌, ◌-◌, ◌*◌, [], false, true, length, take, drop, slice_index, Ok, None, IfSome, OnSome, IfOk, IfErr, OnOk, OnErr};
+ghost use Rattle.std.specs.Prelude.{◌≡◌, ℕ, ◌<◌, ◌≤◌, ◌+◌, ◌-◌, ◌*◌, [], false, true, length, take, drop, slice_index, Ok, None, IfSome, OnSome, IfOk, IfErr, OnOk, OnErr};
 ghost use Rattle.std.specs.Int.{from_le_bytes, w32};
 ghost use Rattle.std.specs.Io.KnownBytes.{Consumes, IsAtEnd};
 ghost use Rattle.capnp_format.specs.Bytes.{message};
 ghost use Rattle.capnp_arena_traits.specs.Limits.{IsSmall};
 ghost use Rattle.capnp_framing.specs.Flat.{AreEnds};
 ghost use Rattle.capnp_framing.specs.Frames.{max_frame_segments};
-ghost use Rattle.capnp_framing.specs.Memory.{frame_refusals};
-ghost use Rattle.capnp_framing.specs.Reading.{HasTaken, IsFrameRead, NoFrame, WhyUnread, max_length, segments_told, total, words_told};
-ghost use Rattle.capnp_framing.specs.Wholeness.{KeepsWhole};
-ghost use Rattle.capnp_framing.specs.declared.framing.frame_error.FrameError.TheVariants.{AllocationFailed, ReadFailed, Truncated};
+ghost use Rattle.capnp_framing.specs.Memory.{CountsMemory, WantsMemory, frame_refusals};
+ghost use Rattle.capnp_framing.specs.Reading.{IsFrameRead, KeepsInput, NoFrameRead, WhyUnread, max_length, segments_told, total, words_told};
 
 use super::MAX_SEGMENTS;
 use super::frame_error::FrameError;
@@ -30,8 +28,7 @@ pub(super) fn read_up_to<R: Input>(input: &mut R, to: &mut [u8]) -> Result<usize
         (take n to.new)) }
     ensures end { IfOk result (λ n. n < length to.new → IsAtEnd (R.remaining input.new)) }
     ensures long { length to.new ≡ length to.old }
-    ensures whole { OnOk result (KeepsWhole (R.ends_whole input.old) (R.ends_whole input.new)) }
-    ensures works { OnOk result (R.has_failed input.new ≡ false) }
+    ensures input { KeepsInput R.Input result input.old input.new }
     ensures fails { OnErr result (R.has_failed input.new ≡ true) }
 {
     let mut n = 0;
@@ -43,25 +40,6 @@ pub(super) fn read_up_to<R: Input>(input: &mut R, to: &mut [u8]) -> Result<usize
         n += more;
     }
     Ok(n)
-}
-
-/// Reads until there is no more room.
-fn fill<R: Input>(input: &mut R, to: &mut [u8]) -> Result<(), FrameError>
-    requires { R.has_failed input.old ≡ false }
-    ensures bytes { OnOk result (Consumes (R.remaining input.old) (R.remaining input.new) to.new) }
-    ensures long { length to.new ≡ length to.old }
-    ensures whole { OnOk result (KeepsWhole (R.ends_whole input.old) (R.ends_whole input.new)) }
-    ensures works { OnOk result (R.has_failed input.new ≡ false) }
-    ensures refused { IfErr result (WhyUnread R.Input input.old input.new (length to.old)) }
-    ensures failed { IfErr result (λ e. R.has_failed input.new ≡ true → e ≡ ReadFailed) }
-    ensures cut { IfErr result (λ e. e ≡ Truncated → IsAtEnd (R.remaining input.new)) }
-    ensures uncounted { IfErr result (λ e. (n : ℕ) → frame_refusals e n ≡ n) }
-{
-    match read_up_to(input, to) {
-        Ok(n) if n == to.len() => Ok(()),
-        Ok(_) => Err(FrameError::Truncated),
-        Err(DeviceFault) => Err(FrameError::ReadFailed),
-    }
 }
 
 /// Makes room for some bytes more behind the first n, where there is none.
@@ -76,10 +54,7 @@ pub(super) fn make_room<A: Allocator>(
     ensures front { take n to.new.items ≡ take n to.old.items }
     ensures long { length to.old.items ≤ length to.new.items }
     ensures room { OnOk result (n < length to.new.items) }
-    ensures kept { OnOk result (A.refusals allocator.new ≡ A.refusals allocator.old) }
-    ensures refused { IfErr result (λ e. e ≡ AllocationFailed) }
-    ensures counted { IfErr result (λ e. A.refusals allocator.new
-        ≡ frame_refusals e (A.refusals allocator.old)) }
+    ensures memory { WantsMemory result (A.refusals allocator.old) (A.refusals allocator.new) }
 {
     if n < to.len() {
         return Ok(());
@@ -103,10 +78,7 @@ fn make_some_room<A: Allocator>(
     ensures front { take n to.new.items ≡ take n to.old.items }
     ensures long { length to.old.items ≤ length to.new.items }
     ensures room { OnOk result (length to.old.items < length to.new.items) }
-    ensures kept { OnOk result (A.refusals allocator.new ≡ A.refusals allocator.old) }
-    ensures refused { IfErr result (λ e. e ≡ AllocationFailed) }
-    ensures counted { IfErr result (λ e. A.refusals allocator.new
-        ≡ frame_refusals e (A.refusals allocator.old)) }
+    ensures memory { WantsMemory result (A.refusals allocator.old) (A.refusals allocator.new) }
 {
     if allocator.keep(to, 0u8).is_some() {
         return Err(FrameError::AllocationFailed);
@@ -115,6 +87,28 @@ fn make_some_room<A: Allocator>(
     let room = to.capacity();
     let _ = to.resize(room, 0);
     Ok(())
+}
+
+/// Reads over the bytes from one position on, before another one, until there is no more input: how many came.
+pub(super) fn read_between<R: Input>(
+    input: &mut R,
+    to: &mut [u8],
+    start: usize,
+    end: usize,
+) -> Result<usize, DeviceFault>
+    requires works { R.has_failed input.old ≡ false }
+    requires order { start ≤ end }
+    requires inside { end ≤ length to.old }
+    ensures within { IfOk result (λ n. start + n ≤ end) }
+    ensures bytes { IfOk result (λ n. Consumes (R.remaining input.old) (R.remaining input.new)
+        (take n (drop start to.new))) }
+    ensures end { IfOk result (λ n. start + n < end → IsAtEnd (R.remaining input.new)) }
+    ensures front { take start to.new ≡ take start to.old }
+    ensures long { length to.new ≡ length to.old }
+    ensures input { KeepsInput R.Input result input.old input.new }
+    ensures fails { OnErr result (R.has_failed input.new ≡ true) }
+{
+    read_up_to(input, &mut to[start..end])
 }
 
 /// Reads bytes over those from one position on, before another one.
@@ -131,14 +125,15 @@ fn fill_between<R: Input>(
         (take (end - start) (drop start to.new))) }
     ensures front { take start to.new ≡ take start to.old }
     ensures long { length to.new ≡ length to.old }
-    ensures whole { OnOk result (KeepsWhole (R.ends_whole input.old) (R.ends_whole input.new)) }
-    ensures works { OnOk result (R.has_failed input.new ≡ false) }
+    ensures input { KeepsInput R.Input result input.old input.new }
     ensures refused { IfErr result (WhyUnread R.Input input.old input.new (end - start)) }
-    ensures failed { IfErr result (λ e. R.has_failed input.new ≡ true → e ≡ ReadFailed) }
-    ensures cut { IfErr result (λ e. e ≡ Truncated → IsAtEnd (R.remaining input.new)) }
     ensures uncounted { IfErr result (λ e. (n : ℕ) → frame_refusals e n ≡ n) }
 {
-    fill(input, &mut to[start..end])
+    match read_between(input, to, start, end) {
+        Ok(n) if n == end - start => Ok(()),
+        Ok(_) => Err(FrameError::Truncated),
+        Err(DeviceFault) => Err(FrameError::ReadFailed),
+    }
 }
 
 /// Reads so many bytes to the front of memory, which is made longer where it has to be.
@@ -153,15 +148,9 @@ fn read_front<A: Allocator, R: Input>(
     ensures bytes { OnOk result (Consumes (R.remaining input.old) (R.remaining input.new)
         (take size to.new.items)) }
     ensures long { OnOk result (size ≤ length to.new.items) }
-    ensures whole { OnOk result (KeepsWhole (R.ends_whole input.old) (R.ends_whole input.new)) }
-    ensures works { OnOk result (R.has_failed input.new ≡ false) }
-    ensures refused { IfErr result (λ e. (e ≡ AllocationFailed)
-        ⊎ WhyUnread R.Input input.old input.new size e) }
-    ensures failed { IfErr result (λ e. R.has_failed input.new ≡ true → e ≡ ReadFailed) }
-    ensures cut { IfErr result (λ e. e ≡ Truncated → IsAtEnd (R.remaining input.new)) }
-    ensures kept { OnOk result (A.refusals allocator.new ≡ A.refusals allocator.old) }
-    ensures counted { IfErr result (λ e. A.refusals allocator.new
-        ≡ frame_refusals e (A.refusals allocator.old)) }
+    ensures input { KeepsInput R.Input result input.old input.new }
+    ensures refused { IfErr result (WhyUnread R.Input input.old input.new size) }
+    ensures memory { CountsMemory result (A.refusals allocator.old) (A.refusals allocator.new) }
 {
     let mut n = 0;
     while n < size {
@@ -208,10 +197,7 @@ fn ends_of<A: Allocator>(
     ensures ends { OnOk result (AreEnds count table.now ends.new.items) }
     ensures sum { IfOk result (λ words. words ≡ words_told count table.now) }
     ensures small { IfOk result (λ words. words ≤ max_length * count) }
-    ensures kept { OnOk result (A.refusals allocator.new ≡ A.refusals allocator.old) }
-    ensures refused { IfErr result (λ e. e ≡ AllocationFailed) }
-    ensures counted { IfErr result (λ e. A.refusals allocator.new
-        ≡ frame_refusals e (A.refusals allocator.old)) }
+    ensures memory { WantsMemory result (A.refusals allocator.old) (A.refusals allocator.new) }
 {
     ends.clear();
     let mut sum = 0;
@@ -240,13 +226,8 @@ fn read_count<R: Input>(input: &mut R, first: &mut [u8; 4]) -> Result<Option<usi
     ensures told { IfOk result (λ m. IfSome m (λ n. n ≡ segments_told first.new)) }
     ensures few { IfOk result (λ m. IfSome m (λ n. n ≤ max_frame_segments)) }
     ensures below { IfOk result (λ m. OnSome m ((i : ℕ) → slice_index first.new i < 256)) }
-    ensures whole { OnOk result (KeepsWhole (R.ends_whole input.old) (R.ends_whole input.new)) }
-    ensures works { OnOk result (R.has_failed input.new ≡ false) }
-    ensures refused { (most : ℕ) → IfErr result (λ e. (e ≡ AllocationFailed)
-        ⊎ ((e ≡ ReadFailed) × (R.has_failed input.new ≡ true))
-        ⊎ IfSome (R.remaining input.old) (λ bytes. NoFrame bytes most e)) }
-    ensures failed { IfErr result (λ e. R.has_failed input.new ≡ true → e ≡ ReadFailed) }
-    ensures taken { IfErr result (HasTaken R.Input input.old input.new) }
+    ensures input { KeepsInput R.Input result input.old input.new }
+    ensures refused { (most : ℕ) → IfErr result (NoFrameRead R.Input input.old input.new most) }
     ensures uncounted { IfErr result (λ e. (n : ℕ) → frame_refusals e n ≡ n) }
 {
     match read_up_to(input, first) {
@@ -291,16 +272,9 @@ pub fn read_into_with<A: Allocator, R: Input>(
     ensures most { result ≡ Ok true →
         total (message (⟦<OwnedSegments as ReaderSegments>⟧.segments into.new)) ≤ max_words }
     ensures small { IsSmall (⟦<OwnedSegments as ReaderSegments>⟧.segments into.new) }
-    ensures whole { OnOk result (KeepsWhole (R.ends_whole input.old) (R.ends_whole input.new)) }
-    ensures works { OnOk result (R.has_failed input.new ≡ false) }
-    ensures refused { IfErr result (λ e. (e ≡ AllocationFailed)
-        ⊎ ((e ≡ ReadFailed) × (R.has_failed input.new ≡ true))
-        ⊎ IfSome (R.remaining input.old) (λ bytes. NoFrame bytes max_words e)) }
-    ensures failed { IfErr result (λ e. R.has_failed input.new ≡ true → e ≡ ReadFailed) }
-    ensures taken { IfErr result (HasTaken R.Input input.old input.new) }
-    ensures kept { OnOk result (A.refusals allocator.new ≡ A.refusals allocator.old) }
-    ensures counted { IfErr result (λ e. A.refusals allocator.new
-        ≡ frame_refusals e (A.refusals allocator.old)) }
+    ensures input { KeepsInput R.Input result input.old input.new }
+    ensures refused { IfErr result (NoFrameRead R.Input input.old input.new max_words) }
+    ensures memory { CountsMemory result (A.refusals allocator.old) (A.refusals allocator.new) }
 {
     into.count = 0;
     let mut first = [0u8; 4];
@@ -336,13 +310,8 @@ pub fn read_into<R: Input>(
     ensures most { result ≡ Ok true →
         total (message (⟦<OwnedSegments as ReaderSegments>⟧.segments into.new)) ≤ max_words }
     ensures small { IsSmall (⟦<OwnedSegments as ReaderSegments>⟧.segments into.new) }
-    ensures whole { OnOk result (KeepsWhole (R.ends_whole input.old) (R.ends_whole input.new)) }
-    ensures works { OnOk result (R.has_failed input.new ≡ false) }
-    ensures refused { IfErr result (λ e. (e ≡ AllocationFailed)
-        ⊎ ((e ≡ ReadFailed) × (R.has_failed input.new ≡ true))
-        ⊎ IfSome (R.remaining input.old) (λ bytes. NoFrame bytes max_words e)) }
-    ensures failed { IfErr result (λ e. R.has_failed input.new ≡ true → e ≡ ReadFailed) }
-    ensures taken { IfErr result (HasTaken R.Input input.old input.new) }
+    ensures input { KeepsInput R.Input result input.old input.new }
+    ensures refused { IfErr result (NoFrameRead R.Input input.old input.new max_words) }
 {
     let mut heap = HeapAllocator::new(*into.words.allocator(), 0);
     read_into_with(&mut heap, input, max_words, into)
@@ -367,13 +336,8 @@ pub fn read<R: Input>(
         ≤ max_words)) }
     ensures small { IfOk result (λ m.
         IfSome m (λ owned. IsSmall (⟦<OwnedSegments as ReaderSegments>⟧.segments owned))) }
-    ensures whole { OnOk result (KeepsWhole (R.ends_whole input.old) (R.ends_whole input.new)) }
-    ensures works { OnOk result (R.has_failed input.new ≡ false) }
-    ensures refused { IfErr result (λ e. (e ≡ AllocationFailed)
-        ⊎ ((e ≡ ReadFailed) × (R.has_failed input.new ≡ true))
-        ⊎ IfSome (R.remaining input.old) (λ bytes. NoFrame bytes max_words e)) }
-    ensures failed { IfErr result (λ e. R.has_failed input.new ≡ true → e ≡ ReadFailed) }
-    ensures taken { IfErr result (HasTaken R.Input input.old input.new) }
+    ensures input { KeepsInput R.Input result input.old input.new }
+    ensures refused { IfErr result (NoFrameRead R.Input input.old input.new max_words) }
 {
     let mut owned = OwnedSegments::new(alloc);
     if read_into(input, max_words, &mut owned)? {

@@ -2,16 +2,15 @@
 ghost use Rattle.std.specs.Prelude.{◌≡◌, ◌⊎◌, ℕ, ◌<◌, ◌≤◌, ◌+◌, ◌++◌, [], false, true, length, take, drop, IfSome, IfOk, IfErr, OnOk, OnErr};
 ghost use Rattle.std.specs.Io.KnownBytes.{Consumes, IsAtEnd};
 ghost use Rattle.capnp_arena_traits.specs.Limits.{IsSmall};
-ghost use Rattle.capnp_framing.specs.Bare.{HasTakenBare, IsSegmentRead, NoBareWords};
+ghost use Rattle.capnp_framing.specs.Bare.{IsSegmentRead, NoSegmentRead};
 ghost use Rattle.capnp_framing.specs.Flat.{AreEnds};
-ghost use Rattle.capnp_framing.specs.Memory.{frame_refusals};
-ghost use Rattle.capnp_framing.specs.Reading.{words_told};
-ghost use Rattle.capnp_framing.specs.Wholeness.{KeepsWhole};
+ghost use Rattle.capnp_framing.specs.Memory.{CountsMemory, WantsMemory};
+ghost use Rattle.capnp_framing.specs.Reading.{KeepsInput, words_told};
 ghost use Rattle.capnp_framing.specs.declared.framing.frame_error.FrameError.TheVariants.{AllocationFailed, ReadFailed};
 
 use super::frame_error::FrameError;
 use super::owned_segments::OwnedSegments;
-use super::reading::{make_room, read_up_to};
+use super::reading::{make_room, read_between};
 use crate::devices::{DeviceFault, Input};
 use capnp_arena::arena::{Allocator, HeapAllocator, ReaderSegments};
 
@@ -20,33 +19,6 @@ const MAX_WORDS: u64 = (1 << 32) - 1;
 
 /// For how many bytes memory is taken before any come. Behind that it is made longer by as many as came.
 const FIRST_PIECE: usize = 1 << 12;
-
-/// Reads over the bytes from one position on, before another one, until there is no more input: how many came.
-fn read_between<R: Input>(
-    input: &mut R,
-    to: &mut [u8],
-    start: usize,
-    end: usize,
-) -> Result<usize, FrameError>
-    requires works { R.has_failed input.old ≡ false }
-    requires order { start ≤ end }
-    requires inside { end ≤ length to.old }
-    ensures within { IfOk result (λ n. start + n ≤ end) }
-    ensures bytes { IfOk result (λ n. Consumes (R.remaining input.old) (R.remaining input.new)
-        (take n (drop start to.new))) }
-    ensures end { IfOk result (λ n. start + n < end → IsAtEnd (R.remaining input.new)) }
-    ensures front { take start to.new ≡ take start to.old }
-    ensures long { length to.new ≡ length to.old }
-    ensures whole { OnOk result (KeepsWhole (R.ends_whole input.old) (R.ends_whole input.new)) }
-    ensures works { OnOk result (R.has_failed input.new ≡ false) }
-    ensures refused { IfErr result (λ e. (e ≡ ReadFailed) × (R.has_failed input.new ≡ true)) }
-    ensures uncounted { IfErr result (λ e. (n : ℕ) → frame_refusals e n ≡ n) }
-{
-    match read_up_to(input, &mut to[start..end]) {
-        Ok(n) => Ok(n),
-        Err(DeviceFault) => Err(FrameError::ReadFailed),
-    }
-}
 
 /// Reads to the front of memory, which is made longer as bytes come, until there are so many or no more input: how many
 /// came.
@@ -62,21 +34,21 @@ fn read_to_end<A: Allocator, R: Input>(
     ensures bytes { IfOk result (λ n. Consumes (R.remaining input.old) (R.remaining input.new)
         (take n to.new.items)) }
     ensures end { IfOk result (λ n. n < most → IsAtEnd (R.remaining input.new)) }
-    ensures whole { OnOk result (KeepsWhole (R.ends_whole input.old) (R.ends_whole input.new)) }
-    ensures works { OnOk result (R.has_failed input.new ≡ false) }
+    ensures input { KeepsInput R.Input result input.old input.new }
     ensures refused { IfErr result (λ e. (e ≡ AllocationFailed)
         ⊎ ((e ≡ ReadFailed) × (R.has_failed input.new ≡ true))) }
     ensures failed { IfErr result (λ e. R.has_failed input.new ≡ true → e ≡ ReadFailed) }
-    ensures kept { OnOk result (A.refusals allocator.new ≡ A.refusals allocator.old) }
-    ensures counted { IfErr result (λ e. A.refusals allocator.new
-        ≡ frame_refusals e (A.refusals allocator.old)) }
+    ensures memory { CountsMemory result (A.refusals allocator.old) (A.refusals allocator.new) }
 {
     let mut n = 0;
     while n < most {
         let more = (most - n).min(n.max(FIRST_PIECE));
         make_room(allocator, to, n, more)?;
         let end = most.min(to.len());
-        let came = read_between(input, to.as_mut_slice(), n, end)?;
+        let came = match read_between(input, to.as_mut_slice(), n, end) {
+            Ok(came) => came,
+            Err(DeviceFault) => return Err(FrameError::ReadFailed),
+        };
         n += came;
         if n < end {
             return Ok(n);
@@ -92,10 +64,7 @@ fn keep_bytes<A: Allocator>(
     bytes: &[u8],
 ) -> Result<(), FrameError>
     ensures put { OnOk result (list.new.items ≡ list.old.items ++ bytes.now) }
-    ensures kept { OnOk result (A.refusals allocator.new ≡ A.refusals allocator.old) }
-    ensures refused { IfErr result (λ e. e ≡ AllocationFailed) }
-    ensures counted { IfErr result (λ e. A.refusals allocator.new
-        ≡ frame_refusals e (A.refusals allocator.old)) }
+    ensures memory { WantsMemory result (A.refusals allocator.old) (A.refusals allocator.new) }
 {
     for byte in bytes {
         if allocator.keep(list, *byte).is_some() {
@@ -115,10 +84,7 @@ fn tell_only<A: Allocator>(
     ensures long { OnOk result (length table.new.items ≡ 4) }
     ensures told { OnOk result (words_told 1 table.new.items ≡ words) }
     ensures ends { OnOk result (AreEnds 1 table.new.items ends.new.items) }
-    ensures kept { OnOk result (A.refusals allocator.new ≡ A.refusals allocator.old) }
-    ensures refused { IfErr result (λ e. e ≡ AllocationFailed) }
-    ensures counted { IfErr result (λ e. A.refusals allocator.new
-        ≡ frame_refusals e (A.refusals allocator.old)) }
+    ensures memory { WantsMemory result (A.refusals allocator.old) (A.refusals allocator.new) }
 {
     table.clear();
     ends.clear();
@@ -151,17 +117,10 @@ pub fn read_segment_into_with<A: Allocator, R: Input>(
         (⟦<OwnedSegments as ReaderSegments>⟧.segments into.new)) }
     ensures end { OnOk result (IsAtEnd (R.remaining input.new)) }
     ensures small { IsSmall (⟦<OwnedSegments as ReaderSegments>⟧.segments into.new) }
-    ensures whole { OnOk result (KeepsWhole (R.ends_whole input.old) (R.ends_whole input.new)) }
-    ensures works { OnOk result (R.has_failed input.new ≡ false) }
-    ensures refused { IfErr result (λ e. (e ≡ AllocationFailed)
-        ⊎ ((e ≡ ReadFailed) × (R.has_failed input.new ≡ true))
-        ⊎ IfSome (R.remaining input.old) (λ bytes. NoBareWords bytes max_words e)) }
-    ensures failed { IfErr result (λ e. R.has_failed input.new ≡ true → e ≡ ReadFailed) }
-    ensures taken { IfErr result (HasTakenBare R.Input input.old input.new) }
+    ensures input { KeepsInput R.Input result input.old input.new }
+    ensures refused { IfErr result (NoSegmentRead R.Input input.old input.new max_words) }
     ensures none { OnErr result (⟦<OwnedSegments as ReaderSegments>⟧.segments into.new ≡ []) }
-    ensures kept { OnOk result (A.refusals allocator.new ≡ A.refusals allocator.old) }
-    ensures counted { IfErr result (λ e. A.refusals allocator.new
-        ≡ frame_refusals e (A.refusals allocator.old)) }
+    ensures memory { CountsMemory result (A.refusals allocator.old) (A.refusals allocator.new) }
 {
     into.count = 0;
     let most = max_words.min(MAX_WORDS) as usize;
@@ -195,13 +154,8 @@ pub fn read_segment_into<R: Input>(
         (⟦<OwnedSegments as ReaderSegments>⟧.segments into.new)) }
     ensures end { OnOk result (IsAtEnd (R.remaining input.new)) }
     ensures small { IsSmall (⟦<OwnedSegments as ReaderSegments>⟧.segments into.new) }
-    ensures whole { OnOk result (KeepsWhole (R.ends_whole input.old) (R.ends_whole input.new)) }
-    ensures works { OnOk result (R.has_failed input.new ≡ false) }
-    ensures refused { IfErr result (λ e. (e ≡ AllocationFailed)
-        ⊎ ((e ≡ ReadFailed) × (R.has_failed input.new ≡ true))
-        ⊎ IfSome (R.remaining input.old) (λ bytes. NoBareWords bytes max_words e)) }
-    ensures failed { IfErr result (λ e. R.has_failed input.new ≡ true → e ≡ ReadFailed) }
-    ensures taken { IfErr result (HasTakenBare R.Input input.old input.new) }
+    ensures input { KeepsInput R.Input result input.old input.new }
+    ensures refused { IfErr result (NoSegmentRead R.Input input.old input.new max_words) }
     ensures none { OnErr result (⟦<OwnedSegments as ReaderSegments>⟧.segments into.new ≡ []) }
 {
     let mut heap = HeapAllocator::new(*into.words.allocator(), 0);

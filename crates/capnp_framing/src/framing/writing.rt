@@ -6,7 +6,7 @@ ghost use Rattle.capnp_format.specs.Segments.{segment};
 ghost use Rattle.capnp_arena_traits.specs.Limits.{IsSmall};
 ghost use Rattle.capnp_framing.specs.Frames.{CanBeFramed, AreSegmentWords, bytes_of_words, contents, frame, lengths, max_frame_segments, padding_size};
 ghost use Rattle.capnp_framing.specs.Reading.{IsRefusedNumber};
-ghost use Rattle.capnp_framing.specs.Writing.{IsUnwritten, Prints, Writes};
+ghost use Rattle.capnp_framing.specs.Writing.{CanWrite, IsUnwritten, Prints, Writes};
 ghost use Rattle.capnp_framing.specs.declared.framing.frame_error.FrameError.TheVariants.{WriteFailed};
 ghost use borrow.Rule.Slice.PartMut.{put_mid};
 
@@ -62,9 +62,7 @@ fn write_table<W: Output, S: ReaderSegments>(
     segments: &S,
     count: u32,
 ) -> Result<(), DeviceFault>
-    requires works { W.has_failed output.old ≡ false }
-    requires small { IsSmall (S.segments segments.now) }
-    requires count { count ≡ length (S.segments segments.now) }
+    requires ready { CanWrite W.Output output.old (S.segments segments.now) count }
     requires some { 1 ≤ count }
     requires few { count ≤ max_frame_segments }
     ensures { Writes W.Output result output.old output.new
@@ -100,9 +98,7 @@ fn write_contents<W: Output, S: ReaderSegments>(
     segments: &S,
     count: u32,
 ) -> Result<(), DeviceFault>
-    requires works { W.has_failed output.old ≡ false }
-    requires small { IsSmall (S.segments segments.now) }
-    requires count { count ≡ length (S.segments segments.now) }
+    requires { CanWrite W.Output output.old (S.segments segments.now) count }
     ensures writes { Writes W.Output result output.old output.new
         (contents (message (S.segments segments.now))) }
     ensures words { OnOk result (All AreSegmentWords (message (S.segments segments.now))) }

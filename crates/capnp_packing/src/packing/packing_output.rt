@@ -1,6 +1,7 @@
 //! An output of words, as an output of packed bytes.
 ghost use Rattle.std.specs.Prelude.{◌≡◌, ◌<◌, ◌≤◌, ◌+◌, ◌-◌, false, true, IfOk, OnOk, OnErr, length, slice_range};
 ghost use Rattle.std.specs.Io.KnownBytes.{Keeps, WriteAppends, append_known};
+ghost use Rattle.capnp_framing.specs.Devices.{WriteTakes};
 ghost use Rattle.capnp_packing.specs.Packing.{unpacked_known};
 
 use super::words::{MOST_BYTES, pack_front};
@@ -25,6 +26,8 @@ pub struct PackingOutput<W> {
 }
 
 impl<W: Output> PackingOutput<W> {
+    ghost use Rattle.capnp_packing.specs.Sending.{Sends};
+
     /// The output that packs to an output.
     pub fn new(packed: W) -> Self
         ensures packed { result.packed ≡ packed }
@@ -43,17 +46,10 @@ impl<W: Output> PackingOutput<W> {
 
     /// Has the output take all packed bytes.
     pub fn flush(&mut self) -> Result<(), DeviceFault>
-        ensures bytes { Keeps
-            (append_known (W.contents self.old.packed)
-            (slice_range self.old.pending self.old.sent self.old.end))
-            (append_known (W.contents self.new.packed)
-            (slice_range self.new.pending self.new.sent self.new.end)) }
+        ensures sends { Sends W.Output result self.old self.new }
         ensures taken { OnOk result (Keeps (⟦<Self as Output>⟧.contents self.old)
             (unpacked_known (W.contents self.new.packed))) }
         ensures none { OnOk result ((self.new.sent ≡ 0) × (self.new.end ≡ 0)) }
-        ensures works { OnOk result (self.new.failed ≡ self.old.failed) }
-        ensures fails { OnErr result (self.new.failed ≡ true) }
-        ensures cause { OnErr result (W.has_failed self.new.packed ≡ true) }
     {
         while self.sent < self.end {
             match self.packed.write(part(&self.pending, self.sent, self.end)) {
@@ -78,16 +74,9 @@ impl<W: Output> PackingOutput<W> {
 
     /// Makes room for what is packed at once.
     fn make_room(&mut self) -> Result<(), DeviceFault>
-        ensures bytes { Keeps
-            (append_known (W.contents self.old.packed)
-            (slice_range self.old.pending self.old.sent self.old.end))
-            (append_known (W.contents self.new.packed)
-            (slice_range self.new.pending self.new.sent self.new.end)) }
+        ensures sends { Sends W.Output result self.old self.new }
         ensures room { OnOk result (self.new.end + 2050 ≤ 8192) }
         ensures none { OnOk result (self.new.sent ≡ 0) }
-        ensures works { OnOk result (self.new.failed ≡ self.old.failed) }
-        ensures fails { OnErr result (self.new.failed ≡ true) }
-        ensures cause { OnErr result (W.has_failed self.new.packed ≡ true) }
     {
         if self.sent == 0 && CAPACITY - self.end >= MOST_BYTES {
             return Ok(());
@@ -112,12 +101,7 @@ impl<W: Output> Output for PackingOutput<W> {
     ghost has_failed = { λ p. p.failed };
 
     fn write(&mut self, from: &[u8]) -> Result<usize, DeviceFault>
-        ensures bound { IfOk result (λ n. n ≤ length from.now) }
-        ensures some { 0 < length from.now → IfOk result (λ n. 0 < n) }
-        ensures bytes { WriteAppends (⟦<Self as Output>⟧.contents self.old)
-            (⟦<Self as Output>⟧.contents self.new) result from.now }
-        ensures works { OnOk result (self.new.failed ≡ self.old.failed) }
-        ensures fails { OnErr result (self.new.failed ≡ true) }
+        ensures takes { WriteTakes ⟦<Self as Output>⟧ result self.old self.new from.now }
         ensures cause { OnErr result (8 ≤ length from.now
             → W.has_failed self.new.packed ≡ true) }
     {

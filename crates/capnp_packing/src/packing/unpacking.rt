@@ -1,6 +1,7 @@
 //! Words unpacked from packed bytes in memory ("Packing").
 ghost use Rattle.std.specs.Prelude.{◌≡◌, ◌≢◌, ◌≤◌, ◌<◌, ◌+◌, ◌∷◌, [], length, take, drop, slice_index, replicate};
 ghost use Rattle.capnp_packing.specs.Packing.{GivesAndLeads, expanded, ones};
+ghost use Rattle.capnp_packing.specs.Words.{CanUnpack, UnpacksFront};
 
 use super::place::Place;
 
@@ -74,14 +75,9 @@ fn unpack_zeros(more: u8, to: &mut [u8]) -> Progress
 /// A word as it stands, and those behind it where all of them are there and wanted.
 #[inline(always)]
 fn unpack_whole(packed: &[u8], to: &mut [u8]) -> Progress
-    requires packed { 10 ≤ length packed.now }
+    requires ready { CanUnpack packed.now to.old }
     requires tag { slice_index packed.now 0 ≡ 255 }
-    requires room { 8 ≤ length to.old }
-    ensures taken { result.taken ≤ length packed.now }
-    ensures some { 8 ≤ result.given }
-    ensures within { result.given ≤ length to.new }
-    ensures leads { GivesAndLeads Place.Tag (take result.taken packed.now)
-        (take result.given to.new) result.zeros result.place }
+    ensures { UnpacksFront packed.now to.new result }
 {
     to[..8].copy_from_slice(&packed[1..9]);
     let more = 8 * packed[9] as usize;
@@ -113,13 +109,8 @@ fn unpack_whole(packed: &[u8], to: &mut [u8]) -> Progress
 /// What a tag and the bytes behind it give.
 #[inline(always)]
 fn unpack_unit(packed: &[u8], to: &mut [u8]) -> Progress
-    requires packed { 10 ≤ length packed.now }
-    requires room { 8 ≤ length to.old }
-    ensures taken { result.taken ≤ length packed.now }
-    ensures some { 8 ≤ result.given }
-    ensures within { result.given ≤ length to.new }
-    ensures leads { GivesAndLeads Place.Tag (take result.taken packed.now)
-        (take result.given to.new) result.zeros result.place }
+    requires { CanUnpack packed.now to.old }
+    ensures { UnpacksFront packed.now to.new result }
 {
     let tag = packed[0];
     if tag == 0 {
@@ -139,13 +130,8 @@ fn unpack_unit(packed: &[u8], to: &mut [u8]) -> Progress
 
 /// Unpacks words while there is room for one, and so many packed bytes as a tag may need.
 pub(super) fn unpack_words(packed: &[u8], to: &mut [u8]) -> Progress
-    requires packed { 10 ≤ length packed.now }
-    requires room { 8 ≤ length to.old }
-    ensures taken { result.taken ≤ length packed.now }
-    ensures some { 8 ≤ result.given }
-    ensures within { result.given ≤ length to.new }
-    ensures leads { GivesAndLeads Place.Tag (take result.taken packed.now)
-        (take result.given to.new) result.zeros result.place }
+    requires { CanUnpack packed.now to.old }
+    ensures { UnpacksFront packed.now to.new result }
 {
     let mut taken = 0;
     let mut given = 0;

@@ -2,8 +2,10 @@
 ghost use Rattle.std.specs.Prelude.{Some, ℕ, List, if◌then◌else◌, nat_lt, ◌&&◌, ◌≡◌, ◌≤◌, ◌<◌, ◌+◌, ◌-◌, ◌∷◌, ◌↔◌, [], IsTrue, IsErr, false, true, IfOk, OnOk, OnErr, length, take, slice_range};
 ghost use Rattle.std.specs.Io.KnownBytes.{Consumes, IsAtEnd, ReadConsumes};
 ghost use Rattle.std.specs.Option.{option_map};
+ghost use Rattle.capnp_framing.specs.Devices.{ReadGives};
 ghost use Rattle.capnp_framing.specs.Wholeness.{KeepsWhole};
 ghost use Rattle.capnp_packing.specs.Packing.{KeepsEnd, bytes_behind, unpacked_bytes, whole_behind};
+ghost use Rattle.capnp_packing.specs.Unpacking.{UnpacksAhead, UnpacksSome};
 
 use super::place::{Place, step};
 use super::read_ahead::ReadAhead;
@@ -113,20 +115,7 @@ impl<R: Input> UnpackingInput<R> {
     /// Reads some bytes, of which there are none only where the packed bytes have ended.
     fn unpack_some(&mut self, to: &mut [u8]) -> Result<usize, DeviceFault>
         requires { 0 < length to.old }
-        ensures bound { IfOk result (λ n. n ≤ length to.new) }
-        ensures bytes { IfOk result (λ n. Consumes (⟦<Self as Input>⟧.remaining self.old)
-            (⟦<Self as Input>⟧.remaining self.new) (take n to.new)) }
-        ensures kept { OnErr result (Consumes (⟦<Self as Input>⟧.remaining self.old)
-            (⟦<Self as Input>⟧.remaining self.new) []) }
-        ensures place { KeepsEnd
-            self.old.place (⟦<ReadAhead<R> as Input>⟧.remaining self.old.packed)
-            self.new.place (⟦<ReadAhead<R> as Input>⟧.remaining self.new.packed) }
-        ensures end { IfOk result (λ n. n ≡ 0 → (self.new.zeros ≡ 0)
-            × IsAtEnd (⟦<ReadAhead<R> as Input>⟧.remaining self.new.packed)) }
-        ensures works { OnOk result (R.has_failed self.new.packed.input
-            ≡ R.has_failed self.old.packed.input) }
-        ensures fails { OnErr result (R.has_failed self.new.packed.input ≡ true) }
-        ensures told { self.new.told ≡ self.old.told }
+        ensures { UnpacksSome R.Input result self.old self.new to.new }
     {
         while self.zeros == 0 {
             if let Place::Raw(left) = self.place {
@@ -155,15 +144,7 @@ impl<R: Input> UnpackingInput<R> {
         requires place { self.old.place ≡ Place.Tag }
         requires ahead { 10 ≤ self.old.packed.end - self.old.packed.at }
         requires room { 8 ≤ length to.old }
-        ensures some { 0 < result }
-        ensures bound { result ≤ length to.new }
-        ensures bytes { Consumes (⟦<Self as Input>⟧.remaining self.old)
-            (⟦<Self as Input>⟧.remaining self.new) (take result to.new) }
-        ensures place { KeepsEnd
-            self.old.place (⟦<ReadAhead<R> as Input>⟧.remaining self.old.packed)
-            self.new.place (⟦<ReadAhead<R> as Input>⟧.remaining self.new.packed) }
-        ensures input { self.new.packed.input ≡ self.old.packed.input }
-        ensures told { self.new.told ≡ self.old.told }
+        ensures { UnpacksAhead R.Input result self.old self.new to.new }
     {
         let progress = unpack_words(self.packed.ahead(), to);
         self.packed.consume(progress.taken);
@@ -176,15 +157,7 @@ impl<R: Input> UnpackingInput<R> {
     fn give_zeros(&mut self, to: &mut [u8]) -> usize
         requires due { 0 < self.old.zeros }
         requires room { 0 < length to.old }
-        ensures some { 0 < result }
-        ensures bound { result ≤ length to.new }
-        ensures bytes { Consumes (⟦<Self as Input>⟧.remaining self.old)
-            (⟦<Self as Input>⟧.remaining self.new) (take result to.new) }
-        ensures place { KeepsEnd
-            self.old.place (⟦<ReadAhead<R> as Input>⟧.remaining self.old.packed)
-            self.new.place (⟦<ReadAhead<R> as Input>⟧.remaining self.new.packed) }
-        ensures input { self.new.packed.input ≡ self.old.packed.input }
-        ensures told { self.new.told ≡ self.old.told }
+        ensures { UnpacksAhead R.Input result self.old self.new to.new }
     {
         let n = to.len().min(self.zeros as usize);
         put_zeros(&mut to[..n]);
@@ -198,20 +171,7 @@ impl<R: Input> UnpackingInput<R> {
         requires place { self.old.place ≡ Place.Raw left }
         requires zeros { self.old.zeros ≡ 0 }
         requires room { 0 < length to.old }
-        ensures bound { IfOk result (λ n. n ≤ length to.new) }
-        ensures bytes { IfOk result (λ n. Consumes (⟦<Self as Input>⟧.remaining self.old)
-            (⟦<Self as Input>⟧.remaining self.new) (take n to.new)) }
-        ensures kept { OnErr result (Consumes (⟦<Self as Input>⟧.remaining self.old)
-            (⟦<Self as Input>⟧.remaining self.new) []) }
-        ensures place { KeepsEnd
-            self.old.place (⟦<ReadAhead<R> as Input>⟧.remaining self.old.packed)
-            self.new.place (⟦<ReadAhead<R> as Input>⟧.remaining self.new.packed) }
-        ensures end { IfOk result (λ n. n ≡ 0 → (self.new.zeros ≡ 0)
-            × IsAtEnd (⟦<ReadAhead<R> as Input>⟧.remaining self.new.packed)) }
-        ensures works { OnOk result (R.has_failed self.new.packed.input
-            ≡ R.has_failed self.old.packed.input) }
-        ensures fails { OnErr result (R.has_failed self.new.packed.input ≡ true) }
-        ensures told { self.new.told ≡ self.old.told }
+        ensures { UnpacksSome R.Input result self.old self.new to.new }
     {
         let most = to.len().min(left as usize + 1);
         let n = self.packed.read(&mut to[..most])?;
@@ -245,14 +205,7 @@ impl<R: Input> Input for UnpackingInput<R> {
     ghost ends_whole = { λ u. whole_behind u.place (⟦<ReadAhead<R> as Input>⟧.remaining u.packed) };
 
     fn read(&mut self, to: &mut [u8]) -> Result<usize, DeviceFault>
-        ensures bound { IfOk result (λ n. n ≤ length to.new) }
-        ensures bytes { ReadConsumes (⟦<Self as Input>⟧.remaining self.old)
-            (⟦<Self as Input>⟧.remaining self.new) result to.new }
-        ensures whole { KeepsWhole (⟦<Self as Input>⟧.ends_whole self.old)
-            (⟦<Self as Input>⟧.ends_whole self.new) }
-        ensures works { OnOk result
-            (⟦<Self as Input>⟧.has_failed self.new ≡ ⟦<Self as Input>⟧.has_failed self.old) }
-        ensures fails { OnErr result (⟦<Self as Input>⟧.has_failed self.new ≡ true) }
+        ensures gives { ReadGives ⟦<Self as Input>⟧ result self.old self.new to.new }
         ensures stops { R.has_failed self.old.packed.input ≡ true
             → IsErr result × (self.new.packed ≡ self.old.packed) }
     {

@@ -1,6 +1,7 @@
 //! Words packed to bytes in memory ("Packing").
 ghost use Rattle.std.specs.Prelude.{◌≡◌, ◌≤◌, ◌<◌, ◌+◌, ◌*◌, ◌%◌, length, take, replicate};
-ghost use Rattle.capnp_packing.specs.Packing.{Packs, nonzero_bytes, tag_of_word};
+ghost use Rattle.capnp_packing.specs.Packing.{nonzero_bytes, tag_of_word};
+ghost use Rattle.capnp_packing.specs.Words.{CanPack, PacksFront};
 
 /// The most packed bytes that are made at once: a tag, a word, a number, and so many words as it
 /// can tell.
@@ -88,14 +89,9 @@ fn put_kept(to: &mut [u8], word: &[u8]) -> usize
 /// Packs a word of zero and those behind it.
 #[inline(always)]
 fn pack_zeros(to: &mut [u8], from: &[u8]) -> Packed
-    requires room { 2050 ≤ length to.old }
-    requires word { 8 ≤ length from.now }
+    requires ready { CanPack to.old from.now }
     requires zero { tag_of_word (take 8 from.now) ≡ 0 }
-    ensures some { 0 < result.taken }
-    ensures words { result.taken % 8 ≡ 0 }
-    ensures taken { result.taken ≤ length from.now }
-    ensures given { result.given ≤ 2050 }
-    ensures packed { Packs (take result.given to.new) (take result.taken from.now) }
+    ensures { PacksFront to.new from.now result }
 {
     let n = zero_words(&from[8..]);
     to[0] = 0;
@@ -109,13 +105,8 @@ fn pack_zeros(to: &mut [u8], from: &[u8]) -> Packed
 /// Packs a word without a byte of zero, and those behind it that have few.
 #[inline(always)]
 fn pack_full(to: &mut [u8], from: &[u8]) -> Packed
-    requires room { 2050 ≤ length to.old }
-    requires word { 8 ≤ length from.now }
-    ensures some { 0 < result.taken }
-    ensures words { result.taken % 8 ≡ 0 }
-    ensures taken { result.taken ≤ length from.now }
-    ensures given { result.given ≤ 2050 }
-    ensures packed { Packs (take result.given to.new) (take result.taken from.now) }
+    requires { CanPack to.old from.now }
+    ensures { PacksFront to.new from.now result }
 {
     let n = full_words(&from[8..]);
     let more = 8 * n as usize;
@@ -132,13 +123,8 @@ fn pack_full(to: &mut [u8], from: &[u8]) -> Packed
 /// Packs one word by its tag, or a run of words.
 #[inline(always)]
 fn pack_unit(to: &mut [u8], from: &[u8]) -> Packed
-    requires room { 2050 ≤ length to.old }
-    requires word { 8 ≤ length from.now }
-    ensures some { 0 < result.taken }
-    ensures words { result.taken % 8 ≡ 0 }
-    ensures taken { result.taken ≤ length from.now }
-    ensures given { result.given ≤ 2050 }
-    ensures packed { Packs (take result.given to.new) (take result.taken from.now) }
+    requires { CanPack to.old from.now }
+    ensures { PacksFront to.new from.now result }
 {
     let tag = tag_of(&from[..8]);
     if tag == 0 {
@@ -157,13 +143,8 @@ fn pack_unit(to: &mut [u8], from: &[u8]) -> Packed
 
 /// Packs words while there is one, and room for what one may need.
 pub(super) fn pack_front(to: &mut [u8], from: &[u8]) -> Packed
-    requires room { 2050 ≤ length to.old }
-    requires word { 8 ≤ length from.now }
-    ensures some { 0 < result.taken }
-    ensures words { result.taken % 8 ≡ 0 }
-    ensures taken { result.taken ≤ length from.now }
-    ensures given { result.given ≤ length to.new }
-    ensures packed { Packs (take result.given to.new) (take result.taken from.now) }
+    requires { CanPack to.old from.now }
+    ensures { PacksFront to.new from.now result }
 {
     let mut taken = 0;
     let mut given = 0;

@@ -1,26 +1,48 @@
-use Rattle.std.proofs.Common.{rules, ◌≡◌, ◌++◌, ℕ, List, length, take, drop, sym, ap, ◌∙◌, subst, arith, take_at}
-use Rattle.std.specs.Io.KnownBytes.{Consumes}
-use Rattle.capnp_framing.proofs.ReadingLemmas.{read_more}
+use Rattle.std.proofs.Common.{rules, ◌≡◌, ◌≤◌, ◌∙◌, ◌+◌, ◌-◌, ℕ, List, length, take, arith, length-take}
+use Rattle.std.proofs.lemmas.Result.{err_from_is_err_and}
+use Rattle.capnp_framing.proofs.BareLemmas.{behind_long}
+use Rattle.capnp_framing.proofs.ReadingLemmas.{filled_behind, unread_later}
+use Rattle.capnp_framing.proofs.UnreadLemmas.{counted_later, counted_none, if_err, on_err, unread_memory}
 use Rattle.capnp_framing.proofs.WholenessLemmas.{keeps_whole, keeps_whole_both}
 use Rattle.capnp_framing.proofs.framing.reading.read_front.Goals as goal
 
 pub loop-n-preserved : goal.loop-n-preserved
 loop-n-preserved g c =
-    let xs : List ℕ = c.fill_between.new.to in
     let room : List ℕ = c.make_room.new.to.items in
+    let xs : List ℕ = c.fill_between.new.to in
     let long : length xs ≡ c.make_room.new.to.len = omega (arith, c.in_ok-fill_between.ensures.long, c.as_mut_slice.ensures.len) in
-    let all : take c.make_room.new.to.len (xs ++ drop (length xs) room) ≡ xs = take_at xs (drop (length xs) room) c.make_room.new.to.len long in
-    let same : take c.loop-n.n xs ≡ take c.loop-n.n c.loop-n.to.items = c.in_ok-fill_between.ensures.front ∙ ap (take c.loop-n.n) c.as_mut_slice.ensures.value ∙ c.in_ok-make_room.ensures.front in
+    let more : c.loop-n.n ≤ c.min-end.result = omega (arith, c.min-end.ensures, c.len.ensures, c.loop-n.invariant.within, c.in_ok-make_room.ensures.long, c.loop-n-test.true) in
     record {
-      within = omega (arith, ap length all, long, c.min-end.ensures, c.len.ensures);
+      within = omega (arith, behind_long c.make_room.new.to.len room xs long, c.min-end.ensures, c.len.ensures);
       below = omega (arith, c.min-end.ensures);
-      read = subst (λ (ys : List ℕ). Consumes (g.R.Input.remaining c.args.input.now) (g.R.Input.remaining c.fill_between.new.input) (take c.min-end.result ys)) (sym all)
-          (read_more _ _ _ c.loop-n.n c.min-end.result c.loop-n.to.items xs (omega (arith, c.min-end.ensures, c.len.ensures, c.loop-n.invariant.within, c.in_ok-make_room.ensures.long, c.loop-n-test.true)) same c.loop-n.invariant.read c.in_ok-fill_between.ensures.bytes);
-      works = search rules;
-      whole = keeps_whole_both _ _ _ c.loop-n.invariant.whole c.in_ok-fill_between.ensures.whole;
-      kept = search rules;
+      read = filled_behind _ _ _ c.loop-n.n c.min-end.result c.make_room.new.to.len c.loop-n.to.items room _ xs long more c.in_ok-fill_between.ensures.front c.as_mut_slice.ensures.value c.in_ok-make_room.ensures.front c.loop-n.invariant.read c.in_ok-fill_between.ensures.bytes;
+      works = c.in_ok-fill_between.ensures.input.works;
+      whole = keeps_whole_both _ _ _ c.loop-n.invariant.whole c.in_ok-fill_between.ensures.input.whole;
+      kept = c.in_ok-make_room.ensures.memory.kept ∙ c.loop-n.invariant.kept;
     }
 
 pub loop-n-init : goal.loop-n-init
 loop-n-init g c =
     record { within = search rules; below = search rules; read = search rules; works = search rules; whole = keeps_whole _; kept = search rules }
+
+pub returns-in_err-make_room-clause-refused : goal.returns-in_err-make_room-clause-refused
+returns-in_err-make_room-clause-refused g c =
+    let p = err_from_is_err_and c.from_residual.result c.from_residual.ensures.1 in
+    if_err _ _ p.1 p.2 (unread_memory g.R.Input _ _ _ _ c.in_err-make_room.ensures.memory.refused c.loop-n.invariant.works)
+
+pub returns-in_err-make_room-clause-memory : goal.returns-in_err-make_room-clause-memory
+returns-in_err-make_room-clause-memory g c =
+    let p = err_from_is_err_and c.from_residual.result c.from_residual.ensures.1 in
+    record { kept = on_err _ _ p.1; counted = if_err _ _ p.1 p.2 (counted_later _ _ _ _ c.loop-n.invariant.kept c.in_err-make_room.ensures.memory.counted) }
+
+pub returns-in_err-fill_between-clause-refused : goal.returns-in_err-fill_between-clause-refused
+returns-in_err-fill_between-clause-refused g c =
+    let p = err_from_is_err_and c.from_residual-in_err-fill_between.result c.from_residual-in_err-fill_between.ensures.1 in
+    let size : length (take c.loop-n.n c.loop-n.to.items) + (c.min-end.result - c.loop-n.n) ≤ c.args.size =
+    omega (arith, length-take c.loop-n.n c.loop-n.to.items, c.loop-n.invariant.within, c.min-end.ensures, c.loop-n-test.true) in
+    if_err _ _ p.1 p.2 (unread_later g.R.Input _ _ _ _ _ _ _ c.loop-n.invariant.read size c.in_err-fill_between.ensures.refused)
+
+pub returns-in_err-fill_between-clause-memory : goal.returns-in_err-fill_between-clause-memory
+returns-in_err-fill_between-clause-memory g c =
+    let p = err_from_is_err_and c.from_residual-in_err-fill_between.result c.from_residual-in_err-fill_between.ensures.1 in
+    record { kept = on_err _ _ p.1; counted = if_err _ _ p.1 p.2 (counted_none _ _ _ (c.in_ok-make_room.ensures.memory.kept ∙ c.loop-n.invariant.kept) c.in_err-fill_between.ensures.uncounted) }

@@ -1,15 +1,16 @@
-use Rattle.std.proofs.Common.{◌≡◌, ◌+◌, ◌*◌, ◌%◌, ◌++◌, ◌<◌, ◌≤◌, ℕ, List, rules, inl, inr, get_or, take, drop, sym, ap, subst, arith, ◌∙◌, take-append-drop}
+use Rattle.std.proofs.Common.{◌≡◌, ◌+◌, ◌*◌, ◌%◌, ◌++◌, ◌<◌, ◌≤◌, ℕ, List, rules, inr, get_or, take, drop, refl, sym, ap, subst, arith, ◌∙◌, take-append-drop}
 use Rattle.std.specs.Io.KnownBytes.{Consumes}
 use Rattle.std.proofs.lemmas.Result.{err_from_is_err_and}
 use Rattle.capnp_format.specs.Bytes.{message}
 use Rattle.capnp_format.specs.Segments.{Segments}
-use Rattle.capnp_framing.specs.Flat.{parts}
+use Rattle.capnp_framing.specs.Flat.{AreEnds, parts}
 use Rattle.capnp_framing.specs.Frames.{contents}
-use Rattle.capnp_framing.specs.Reading.{NoFrame, words_told}
+use Rattle.capnp_framing.specs.Reading.{NoFrame, segments_told, words_told}
 use Rattle.capnp_framing.specs.declared.framing.frame_error.FrameError.TheVariants.{MessageTooLong}
 use Rattle.capnp_framing.proofs.FlatLemmas.{AreParts, are_parts}
 use Rattle.capnp_framing.proofs.OwnedLemmas.{AtOwned, at_owned, front, of_count, owned_frame, owned_small, with_count}
-use Rattle.capnp_framing.proofs.ReadingLemmas.{consumes_both, cut_table, long_table, read_so, table_long, whatever}
+use Rattle.capnp_framing.proofs.ReadingLemmas.{consumes_both, cut_table, long_table, not_failed, read_so, table_long, whatever}
+use Rattle.capnp_framing.proofs.UnreadLemmas.{behind_read, counted_later, counted_none, frame_memory, frame_unread, gives_nothing, if_err, none_small, on_err, short_table}
 use Rattle.capnp_framing.proofs.WholenessLemmas.{keeps_whole_both}
 use Rattle.capnp_framing.proofs.framing.reading.read_into_with.Goals as goal
 
@@ -23,32 +24,68 @@ returns-then-words-max_words-clause-refused g c =
     at_owned first c.args.into.now.words.items c.in_ok-count.field-0 c.in-Some.is (omega (arith, c.read_count.auto.first)) c.in_ok-count.ensures.told c.in_ok-count.ensures.few c.in_ok-read_front.ensures.long in
     let f = with_count (Consumes (g.R.Input.remaining c.args.input.now) (g.R.Input.remaining c.read_count.new.input) first) c.in_ok-count.field-0 c.in-Some.is c.in_ok-count.ensures.bytes in
     let sum : c.in_ok-words.words ≡ words_told n (take size table ++ drop size table) = c.in_ok-words.ensures.sum ∙ ap (words_told n) (c.as_slice.ensures.value ∙ sym (take-append-drop size table)) in
-    inr (inr (read_so _ _ _ first (take size table) (λ _. Unit {0}) (λ bytes. NoFrame bytes c.args.max_words (MessageTooLong c.in_ok-words.words)) f c.in_ok-read_front.ensures.bytes (whatever _)
-    (λ rest _. long_table rest (drop size table) c.in_ok-words.words c.args.max_words (front at) sum c.if-words-max_words.true)))
-
-pub returns-then-words-max_words-clause-taken : goal.returns-then-words-max_words-clause-taken
-returns-then-words-max_words-clause-taken g c =
-    let first : List ℕ = c.read_count.new.first in
-    let n : ℕ = c.in-Some.count in
-    let size : ℕ = 4 * n + 4 * ((n + 1) % 2) in
-    let table : List ℕ = c.read_front.new.to.items in
-    let at : AtOwned first n table c.args.into.now.words.items =
-    at_owned first c.args.into.now.words.items c.in_ok-count.field-0 c.in-Some.is (omega (arith, c.read_count.auto.first)) c.in_ok-count.ensures.told c.in_ok-count.ensures.few c.in_ok-read_front.ensures.long in
-    let f = with_count (Consumes (g.R.Input.remaining c.args.input.now) (g.R.Input.remaining c.read_count.new.input) first) c.in_ok-count.field-0 c.in-Some.is c.in_ok-count.ensures.bytes in
-    (first ++ take size table, table_long (front at), consumes_both _ _ _ first (take size table) f c.in_ok-read_front.ensures.bytes)
+    record {
+      why = inr (inr (read_so _ _ _ first (take size table) (λ _. Unit {0}) (λ bytes. NoFrame bytes c.args.max_words (MessageTooLong c.in_ok-words.words)) f c.in_ok-read_front.ensures.bytes (whatever _)
+          (λ rest _. long_table rest (drop size table) c.in_ok-words.words c.args.max_words (front at) sum c.if-words-max_words.true)));
+      failed = not_failed _ c.in_ok-read_front.ensures.input.works;
+      taken = (first ++ take size table, table_long (front at), consumes_both _ _ _ first (take size table) f c.in_ok-read_front.ensures.bytes);
+    }
 
 pub overflow_mul-words : goal.overflow_mul-words
 overflow_mul-words g c =
     let few : c.in-Some.count ≤ 512 = of_count (λ k. k ≤ 512) c.in_ok-count.field-0 c.in-Some.is c.in_ok-count.ensures.few in
     omega (arith, c.in_ok-words.ensures.small, few)
 
-pub returns-in_err-count-clause-refused : goal.returns-in_err-count-clause-refused
-returns-in_err-count-clause-refused g c =
+pub returns-in_err-count : goal.returns-in_err-count
+returns-in_err-count g c =
     let p = err_from_is_err_and c.from_residual.result c.from_residual.ensures.1 in
-    rw (p.1, p.2) (c.in_err-count.ensures.refused c.args.max_words)
+    record {
+      end = gives_nothing _ _ p.1;
+      none = gives_nothing _ _ p.1;
+      read = gives_nothing _ _ p.1;
+      most = gives_nothing _ _ p.1;
+      small = none_small;
+      input = record { whole = on_err _ _ p.1; works = on_err _ _ p.1 };
+      refused = if_err _ _ p.1 p.2 (c.in_err-count.ensures.refused c.args.max_words);
+      memory = record { kept = on_err _ _ p.1; counted = if_err _ _ p.1 p.2 (counted_none _ _ _ refl c.in_err-count.ensures.uncounted) };
+    }
 
-pub returns-in_err-read_front-2-clause-refused : goal.returns-in_err-read_front-2-clause-refused
-returns-in_err-read_front-2-clause-refused g c =
+pub returns-in_err-read_front : goal.returns-in_err-read_front
+returns-in_err-read_front g c =
+    let first : List ℕ = c.read_count.new.first in
+    let told = of_count (λ k. k ≡ segments_told first) c.in_ok-count.field-0 c.in-Some.is c.in_ok-count.ensures.told in
+    let few = of_count (λ k. k ≤ 512) c.in_ok-count.field-0 c.in-Some.is c.in_ok-count.ensures.few in
+    let f = with_count (Consumes (g.R.Input.remaining c.args.input.now) (g.R.Input.remaining c.read_count.new.input) first) c.in_ok-count.field-0 c.in-Some.is c.in_ok-count.ensures.bytes in
+    let p = err_from_is_err_and c.from_residual-in_err-read_front.result c.from_residual-in_err-read_front.ensures.1 in
+    record {
+      end = gives_nothing _ _ p.1;
+      none = gives_nothing _ _ p.1;
+      read = gives_nothing _ _ p.1;
+      most = gives_nothing _ _ p.1;
+      small = none_small;
+      input = record { whole = on_err _ _ p.1; works = on_err _ _ p.1 };
+      refused = if_err _ _ p.1 p.2 (frame_unread g.R.Input _ _ _ _ _ _
+          (λ short. behind_read _ _ first _ _ f short (λ rest less. short_table first rest c.in-Some.count c.args.max_words (omega (arith, c.read_count.auto.first)) told few less))
+          c.in_err-read_front.ensures.refused);
+      memory = record { kept = on_err _ _ p.1; counted = if_err _ _ p.1 p.2 (c.in_err-read_front.ensures.memory.counted) };
+    }
+
+pub returns-in_err-words : goal.returns-in_err-words
+returns-in_err-words g c =
+    let p = err_from_is_err_and c.from_residual-in_err-words.result c.from_residual-in_err-words.ensures.1 in
+    record {
+      end = gives_nothing _ _ p.1;
+      none = gives_nothing _ _ p.1;
+      read = gives_nothing _ _ p.1;
+      most = gives_nothing _ _ p.1;
+      small = none_small;
+      input = record { whole = on_err _ _ p.1; works = on_err _ _ p.1 };
+      refused = if_err _ _ p.1 p.2 (frame_memory g.R.Input _ _ _ _ c.in_err-words.ensures.memory.refused c.in_ok-read_front.ensures.input.works);
+      memory = record { kept = on_err _ _ p.1; counted = if_err _ _ p.1 p.2 (counted_later _ _ _ _ c.in_ok-read_front.ensures.memory.kept c.in_err-words.ensures.memory.counted) };
+    }
+
+pub returns-in_err-read_front-2 : goal.returns-in_err-read_front-2
+returns-in_err-read_front-2 g c =
     let first : List ℕ = c.read_count.new.first in
     let n : ℕ = c.in-Some.count in
     let size : ℕ = 4 * n + 4 * ((n + 1) % 2) in
@@ -58,14 +95,40 @@ returns-in_err-read_front-2-clause-refused g c =
     let f = with_count (Consumes (g.R.Input.remaining c.args.input.now) (g.R.Input.remaining c.read_count.new.input) first) c.in_ok-count.field-0 c.in-Some.is c.in_ok-count.ensures.bytes in
     let sum : c.in_ok-words.words ≡ words_told n (take size table ++ drop size table) = c.in_ok-words.ensures.sum ∙ ap (words_told n) (c.as_slice.ensures.value ∙ sym (take-append-drop size table)) in
     let p = err_from_is_err_and c.from_residual-in_err-read_front-2.result c.from_residual-in_err-read_front-2.ensures.1 in
-    rw (p.1, p.2) (elim c.in_err-read_front-2.ensures.refused [
-      | inl a ↦ inl a
-      | inr u ↦ elim u [
-        | inl cut ↦ inr (inr (read_so _ _ _ first (take size table) _ _ f c.in_ok-read_front.ensures.bytes cut.1
-            (λ rest less. subst (λ e. NoFrame (first ++ (take size table ++ rest)) c.args.max_words e) (sym cut.0) (cut_table rest (drop size table) c.in_ok-words.words c.args.max_words (front at) sum (omega (arith, c.if-words-max_words.false)) less))))
-        | inr failed ↦ inr (inl failed)
-      ]
-    ])
+    record {
+      end = gives_nothing _ _ p.1;
+      none = gives_nothing _ _ p.1;
+      read = gives_nothing _ _ p.1;
+      most = gives_nothing _ _ p.1;
+      small = none_small;
+      input = record { whole = on_err _ _ p.1; works = on_err _ _ p.1 };
+      refused = if_err _ _ p.1 p.2 (frame_unread g.R.Input _ _ _ _ _ _
+          (λ short. read_so _ _ _ first (take size table) _ _ f c.in_ok-read_front.ensures.bytes short
+          (λ rest less. cut_table rest (drop size table) c.in_ok-words.words c.args.max_words (front at) sum (omega (arith, c.if-words-max_words.false)) less))
+          c.in_err-read_front-2.ensures.refused);
+      memory = record { kept = on_err _ _ p.1; counted = if_err _ _ p.1 p.2 (counted_later _ _ _ _ (c.in_ok-words.ensures.memory.kept ∙ c.in_ok-read_front.ensures.memory.kept) c.in_err-read_front-2.ensures.memory.counted) };
+    }
+
+pub returns-then-words-max_words-clause-memory : goal.returns-then-words-max_words-clause-memory
+returns-then-words-max_words-clause-memory g c = record { kept = tt; counted = c.in_ok-words.ensures.memory.kept ∙ c.in_ok-read_front.ensures.memory.kept }
+
+pub returns-then-words-max_words-clause-small : goal.returns-then-words-max_words-clause-small
+returns-then-words-max_words-clause-small g c = none_small
+
+pub returns-in-None-clause-small : goal.returns-in-None-clause-small
+returns-in-None-clause-small g c = none_small
+
+pub invariant_of-into-2 : goal.invariant_of-into-2
+invariant_of-into-2 g c =
+    let n : ℕ = c.in-Some.count in
+    let table : List ℕ = c.read_front.new.to.items in
+    let sum : c.in_ok-words.words ≡ words_told n table = c.in_ok-words.ensures.sum ∙ ap (words_told n) c.as_slice.ensures.value in
+    record {
+      few = of_count (λ k. k ≤ 512) c.in_ok-count.field-0 c.in-Some.is c.in_ok-count.ensures.few;
+      told = omega (arith, c.in_ok-read_front.ensures.long);
+      whole = omega (arith, sum, c.in_ok-read_front-2.ensures.long);
+      kept = subst (λ (xs : List ℕ). AreEnds n xs c.ends_of.new.ends.items) c.as_slice.ensures.value c.in_ok-words.ensures.ends;
+    }
 
 pub returns : goal.returns
 returns g c =
@@ -95,11 +158,10 @@ returns g c =
       };
       most = λ _. omega (arith, cut.sum, sum, c.if-words-max_words.false);
       small = owned_small at cut;
-      whole = keeps_whole_both _ _ _ (keeps_whole_both _ _ _ c.in_ok-count.ensures.whole c.in_ok-read_front.ensures.whole) c.in_ok-read_front-2.ensures.whole;
-      works = c.in_ok-read_front-2.ensures.works;
+      input = record {
+        whole = keeps_whole_both _ _ _ (keeps_whole_both _ _ _ c.in_ok-count.ensures.input.whole c.in_ok-read_front.ensures.input.whole) c.in_ok-read_front-2.ensures.input.whole;
+        works = c.in_ok-read_front-2.ensures.input.works;
+      };
       refused = tt;
-      failed = tt;
-      taken = tt;
-      kept = c.in_ok-read_front-2.ensures.kept ∙ c.in_ok-words.ensures.kept ∙ c.in_ok-read_front.ensures.kept;
-      counted = tt;
+      memory = record { kept = c.in_ok-read_front-2.ensures.memory.kept ∙ c.in_ok-words.ensures.memory.kept ∙ c.in_ok-read_front.ensures.memory.kept; counted = tt };
     }

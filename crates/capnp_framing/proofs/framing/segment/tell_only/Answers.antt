@@ -13,4 +13,4 @@ returns g c =
     (c.keep.ensures.kept kept).0 ∙ ap (λ (xs : List ℕ). xs ++ c.args.words ∷ []) c.clear-2.ensures.items in
     let small : c.args.words < 2 ^ 32 = search rules in
     let told = only_told c.args.words _ small table in
-    record { long = ap length table; told = told; ends = only_ends c.args.words _ _ told ends; kept = search rules; refused = search rules; counted = search rules }
+    record { long = ap length table; told = told; ends = only_ends c.args.words _ _ told ends; memory = record { kept = search rules; refused = tt; counted = tt } }

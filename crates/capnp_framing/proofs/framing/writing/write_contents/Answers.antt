@@ -13,7 +13,7 @@ pub loop-i-preserved : goal.loop-i-preserved
 loop-i-preserved g c =
     let bytes : List (List ℕ) = g.S.ReaderSegments.segments c.args.segments.now in
     let S : Segments = message bytes in
-    let inside : c.loop-i.i < length S = omega (arith, length-message bytes, c.requires.count, c.loop-i-test.true) in
+    let inside : c.loop-i.i < length S = omega (arith, length-message bytes, c.requires.number, c.loop-i-test.true) in
     let same = c.words_in.ensures.words in
     record {
       left_over = left_over_less (contents (drop (c.loop-i.i + 1) S)) (record { left_over = c.loop-i.invariant.left_over; appended = c.in_ok-write_words.ensures.writes.written })
@@ -25,4 +25,4 @@ loop-i-preserved g c =
 pub returns-clause-words : goal.returns-clause-words
 returns-clause-words g c =
     let bytes : List (List ℕ) = g.S.ReaderSegments.segments c.args.segments.now in
-    subst (λ (S : Segments). All AreSegmentWords S) (take_all c.loop-i.i (message bytes) (omega (arith, length-message bytes, c.requires.count, c.loop-i-test.false))) c.loop-i.invariant.small
+    subst (λ (S : Segments). All AreSegmentWords S) (take_all c.loop-i.i (message bytes) (omega (arith, length-message bytes, c.requires.number, c.loop-i-test.false))) c.loop-i.invariant.small

@@ -13,7 +13,7 @@ loop-k-init g c =
     let S : Segments = message bytes in
     let n : ℕ = c.args.count in
     let four : List ℕ = to_le_bytes w32 (n - 1) in
-    let counts : n ≡ length S = omega (arith, length-message bytes, c.requires.count) in
+    let counts : n ≡ length S = omega (arith, length-message bytes, c.requires.ready.number) in
     let first : c.as_slice.result.now ≡ four ++ to_le_bytes w32 (length (segment S 0)) = c.as_slice.ensures ∙ c.two_numbers-first.ensures ∙ ap (λ k. four ++ to_le_bytes w32 k) c.length_of.ensures in
     record {
       left_over = left_over_less (lengths_left (drop 1 S)) (record { left_over = left_over_all _ _; appended = c.in_ok-write_all.ensures.written })
@@ -26,7 +26,7 @@ loop-k-preserved g c =
     let bytes : List (List ℕ) = g.S.ReaderSegments.segments c.args.segments.now in
     let S : Segments = message bytes in
     let i : ℕ = 2 * c.loop-k.k + 1 in
-    let inside : i < length S = omega (arith, length-message bytes, c.requires.count, c.loop-k-test.true, c.loop-k.auto.k-end) in
+    let inside : i < length S = omega (arith, length-message bytes, c.requires.ready.number, c.loop-k-test.true, c.loop-k.auto.k-end) in
     let second = c.length_of-in-loop-k-2.ensures ∙ ap (λ j. length (segment S j)) (let e : 2 * c.loop-k.k + 2 ≡ suc i = omega arith in e) in
     let next : c.as_slice-in-loop-k.result.now ≡ to_le_bytes w32 (length (segment S i)) ++ to_le_bytes w32 (length (segment S (suc i))) =
     c.as_slice-in-loop-k.ensures ∙ c.two_numbers-next.ensures ∙ ap₂ (λ j k. to_le_bytes w32 j ++ to_le_bytes w32 k) c.length_of-in-loop-k.ensures second in
@@ -41,7 +41,7 @@ returns g c =
     let bytes : List (List ℕ) = g.S.ReaderSegments.segments c.args.segments.now in
     let S : Segments = message bytes in
     record {
-      written = left_over_end _ _ _ _ c.loop-k.invariant.left_over (table_end S (2 * c.loop-k.k + 1) (omega (arith, length-message bytes, c.requires.count, c.loop-k-test.false, c.loop-k.auto.k-end)));
+      written = left_over_end _ _ _ _ c.loop-k.invariant.left_over (table_end S (2 * c.loop-k.k + 1) (omega (arith, length-message bytes, c.requires.ready.number, c.loop-k-test.false, c.loop-k.auto.k-end)));
       works = search rules;
       fails = search rules;
     }

@@ -8,8 +8,7 @@ use Rattle.capnp_framing.proofs.framing.writing.write_words.Goals as goal
 
 pub returns-clause-writes : goal.returns-clause-writes
 returns-clause-writes g c =
-    let all : Writes g.W.Output c.write_all.result c.args.output.now c.write_all.new.output c.args.words.now = record { written = c.write_all.ensures.written; works = c.write_all.ensures.works; fails = c.write_all.ensures.fails } in
-    subst (λ (bs : List ℕ). Writes g.W.Output c.write_all.result c.args.output.now c.write_all.new.output bs) (sym (bytes-words (length (words_of c.args.words.now)) c.args.words.now c.requires.whole (λ i. (c.type_inv.words i).fits))) all
+    subst (λ (bs : List ℕ). Writes g.W.Output c.write_all.result c.args.output.now c.write_all.new.output bs) (sym (bytes-words (length (words_of c.args.words.now)) c.args.words.now c.requires.whole (λ i. (c.type_inv.words i).fits))) c.write_all.ensures
 
 pub returns-clause-words : goal.returns-clause-words
 returns-clause-words g c = All-from_get_or (λ w. w < 2 ^ 64) (words_of c.args.words.now) 0 (λ i inside. small_word c.args.words.now (λ j. (c.type_inv.words j).fits) i)

@@ -14,8 +14,8 @@ loop-taken-init c = record {
   none_given = search rules;
 }
 
-pub returns-then-unit-ne0-clause-leads : goal.returns-then-unit-ne0-clause-leads
-returns-then-unit-ne0-clause-leads c = unit_more c.args.packed.now c.loop-taken.to c.unpack_unit-unit.new.to c.loop-taken.taken c.loop-taken.given _ _ _ _ c.loop-taken.invariant.room c.unpack_unit-unit.ensures.within c.loop-taken.invariant.leads c.unpack_unit-unit.ensures.leads
+pub returns-then-unit-ne0 : goal.returns-then-unit-ne0
+returns-then-unit-ne0 c = record { taken = search rules; some = search rules; within = search rules; leads = unit_more c.args.packed.now c.loop-taken.to c.unpack_unit-unit.new.to c.loop-taken.taken c.loop-taken.given _ _ _ _ c.loop-taken.invariant.room c.unpack_unit-unit.ensures.within c.loop-taken.invariant.leads c.unpack_unit-unit.ensures.leads }
 
 pub loop-taken-preserved : goal.loop-taken-preserved
 loop-taken-preserved c =

@@ -2,9 +2,8 @@ use Rattle.std.proofs.Common.{◌≡◌, ◌≤◌, ◌+◌, ◌-◌, ◌*◌, l
 use Rattle.capnp_packing.proofs.PackingLemmas.{full_packed}
 use Rattle.capnp_packing.proofs.packing.words.pack_full.Goals as goal
 
-pub returns-clause-packed : goal.returns-clause-packed
-returns-clause-packed c =
+pub returns : goal.returns
+returns c =
     let many : 8 + 8 * c.full_words-n.result - 8 ≡ 8 * c.full_words-n.result = omega arith in
     let few : 8 * c.full_words-n.result ≤ length (drop 8 c.args.from.now) = omega (arith, c.full_words-n.ensures, length-take (length c.args.from.now - 8) (drop 8 c.args.from.now)) in
-    full_packed c.args.to.now c.args.from.now c.copy_from_slice.new.self c.copy_from_slice-2.new.self c.full_words-n.result _ (search rules) c.requires.word c.copy_from_slice.ensures.after few
-    (c.copy_from_slice-2.ensures.after ∙ ap (λ m. take m (drop 8 c.args.from.now)) many)
+    record { some = search rules; words = search rules; taken = search rules; within = search rules; packed = full_packed c.args.to.now c.args.from.now c.copy_from_slice.new.self c.copy_from_slice-2.new.self c.full_words-n.result _ (search rules) c.requires.word c.copy_from_slice.ensures.after few (c.copy_from_slice-2.ensures.after ∙ ap (λ m. take m (drop 8 c.args.from.now)) many) }

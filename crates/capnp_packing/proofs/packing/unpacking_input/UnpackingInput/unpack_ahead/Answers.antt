@@ -1,13 +1,17 @@
+use Rattle.std.proofs.Common.{arith, rules}
 use Rattle.capnp_packing.specs.declared.packing.place.Place.TheVariants.{Tag}
 use Rattle.capnp_packing.proofs.UnpackingLemmas.{takes}
 use Rattle.capnp_packing.proofs.packing.unpacking_input.UnpackingInput.unpack_ahead.Goals as goal
 
-pub returns-clause-bytes : goal.returns-clause-bytes
-returns-clause-bytes g c =
+pub returns : goal.returns
+returns g c =
     let leads = rw c.ahead.ensures at c.unpack_words-progress.ensures.leads in
-    rw (c.requires.zeros, c.requires.place) (takes Tag _ _ _ _ _ _ leads c.consume.ensures.bytes).0
-
-pub returns-clause-place : goal.returns-clause-place
-returns-clause-place g c =
-    let leads = rw c.ahead.ensures at c.unpack_words-progress.ensures.leads in
-    rw c.requires.place (takes Tag _ _ _ _ _ _ leads c.consume.ensures.bytes).1
+    let both = takes Tag _ _ _ _ _ _ leads c.consume.ensures.bytes in
+    record {
+      some = omega (arith, c.unpack_words-progress.ensures.some);
+      bound = c.unpack_words-progress.ensures.within;
+      bytes = rw (c.requires.zeros, c.requires.place) both.0;
+      place = rw c.requires.place both.1;
+      input = c.consume.ensures.input;
+      told = search rules;
+    }

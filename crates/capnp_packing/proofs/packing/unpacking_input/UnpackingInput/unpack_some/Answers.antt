@@ -1,5 +1,6 @@
-use Rattle.std.proofs.Common.{◌<◌, length, Some, None, sym, ◌∙◌, rules, arith}
-use Rattle.capnp_packing.proofs.UnpackingLemmas.{byte_taken, take_one}
+use Rattle.std.proofs.Common.{◌<◌, length, Some, None, Ok, refl, sym, ◌∙◌, rules, arith}
+use Rattle.capnp_packing.proofs.UnpackingLemmas.{byte_taken, take_one, unpacks_none}
+use Rattle.capnp_packing.proofs.GivingLemmas.{ahead_some, some_later}
 use Rattle.capnp_packing.proofs.packing.unpacking_input.UnpackingInput.unpack_some.Goals as goal
 
 pub returns-in-Some : goal.returns-in-Some
@@ -27,3 +28,14 @@ loop-self-preserved g c = record {
   works = search rules;
   told = search rules;
 }
+
+pub loop-self-init : goal.loop-self-init
+loop-self-init g c = record { none = unpacks_none _ _ _; works = refl; told = refl }
+
+pub returns-in-Raw : goal.returns-in-Raw
+returns-in-Raw g c = some_later g.R.Input c.read_raw.result c.args.self.now c.loop-self.self c.read_raw.new.self c.read_raw.new.to c.loop-self.invariant.none c.loop-self.invariant.works c.loop-self.invariant.told c.read_raw.ensures
+
+pub returns : goal.returns
+returns g c =
+    some_later g.R.Input (Ok c.give_zeros.result) c.args.self.now c.loop-self.self c.give_zeros.new.self c.give_zeros.new.to c.loop-self.invariant.none c.loop-self.invariant.works c.loop-self.invariant.told
+    (ahead_some g.R.Input c.give_zeros.result c.loop-self.self c.give_zeros.new.self c.give_zeros.new.to c.give_zeros.ensures)

@@ -1,6 +1,6 @@
 use Rattle.std.proofs.Common.{◌≡◌, length, false}
 use Rattle.capnp_framing.proofs.WritingLemmas.{IsLeftOver}
-use Rattle.capnp_framing.proofs.devices.write_all.Given as goal
+use Rattle.capnp_framing.proofs.devices.writing.write_all.Given as goal
 
 abbrev pub invariant-loop-rest : goal.invariant-loop-rest
 invariant-loop-rest g l = record {
