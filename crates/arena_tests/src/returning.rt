@@ -6,9 +6,10 @@ use std::cell::Cell;
 use std::process::Abort;
 use test_support::{FirstInArena, Granted, TestAllocator};
 
-// What comes back, each segment's words and then those that were used: with four rows all segments, fully
-// used; with three at once the fourth, unused, and then the others; with none each at once, unused. Where the
-// first segment needs no row, with none each but the first at once.
+// What comes back, two decimal digits for the words of a segment and two for those that were used. A segment
+// that is made needs a row in the list of the arena, and goes back at once, unused, where memory for its row is
+// refused. With memory for four rows all come back used; for three, the fourth at once, then the others; for none,
+// each at once. An arena that keeps its first row in itself needs none for the first segment.
 const ALL_USED: u64 = 3_03_05_05_07_07_11_11;
 
 const LAST_AT_ONCE: u64 = 11_00_03_03_05_05_07_07;

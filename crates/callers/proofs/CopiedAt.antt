@@ -8,6 +8,7 @@ use Rattle.capnp_format.specs.Means.{Means}
 use Rattle.capnp_format.specs.Segments.{Segments}
 use Rattle.capnp_format.specs.Tree.{Tree, capabilities}
 use Rattle.capnp_arena_traits.specs.Allocations.{max_segment_words, one_more}
+use Rattle.capnp_arena_traits.specs.View.{View}
 use Rattle.capnp_framing.specs.Reading.{total}
 use Rattle.capnp_objects.specs.Outcomes.{Reads}
 use Rattle.capnp_objects.specs.Reading.{Reading}
@@ -53,21 +54,21 @@ no_memory_at same t c means free covers fits (inl memory) = memory
 no_memory_at same t c means free covers fits (inr refused) = absurd (never_refused same t c means free covers fits refused)
 
 -- what the tries ask for
-pub asked_at : {r : Reading} {S : Segments} {n s p : ℕ} (offers : ℕ → ℕ → Bool) (room : ℕ) → r ≡ read_at S n s p → IsMadeByFirstTry r offers room →
-    (k : ℕ) × IsTrue (offers k room) × ((t : Tree) (c : ℕ) → Means S n s p t c → (k ≤ sum (map length S) + 1) ⊎ (k < 2 * (1 + word_count (trim t))))
-asked_at {S = S} offers room same tries =
-    let there = moved_tries offers room same tries in
+pub asked_at : {r : Reading} {S : Segments} {n s p : ℕ} (offers : ℕ → ℕ → Bool) (refusals : ℕ) (made : View) → r ≡ read_at S n s p → IsMadeByFirstTry r offers refusals made →
+    (k : ℕ) × IsTrue (offers k (made.room 0)) × ((t : Tree) (c : ℕ) → Means S n s p t c → (k ≤ sum (map length S) + 1) ⊎ (k < 2 * (1 + word_count (trim t))))
+asked_at {S = S} offers refusals made same tries =
+    let there = moved_tries offers refusals made same tries in
     (room_of_try (total S) there.try, there.asked, λ t c means. asked_no_more S there.try (λ j less. there.before j less t c means))
 
 just_asked : (k room : ℕ) → IsTrue (as_asked k room) → room ≡ k
 just_asked k room is = grind arith
 
 -- and get from a heap, which gives just that
-pub room_at : {r : Reading} {S : Segments} {n s p : ℕ} (room : ℕ) → r ≡ read_at S n s p → IsMadeByFirstTry r as_asked room →
-    (t : Tree) (c : ℕ) → Means S n s p t c → (room ≤ sum (map length S) + 1) ⊎ (room < 2 * (1 + word_count (trim t)))
-room_at {S = S} room same tries t c means =
-    let (k, asked, little) = asked_at as_asked room same tries in
-    subst (λ x. (x ≤ sum (map length S) + 1) ⊎ (x < 2 * (1 + word_count (trim t)))) (sym (just_asked k room asked)) (little t c means)
+pub room_at : {r : Reading} {S : Segments} {n s p : ℕ} (made : View) → r ≡ read_at S n s p → IsMadeByFirstTry r as_asked 0 made →
+    (t : Tree) (c : ℕ) → Means S n s p t c → (made.room 0 ≤ sum (map length S) + 1) ⊎ (made.room 0 < 2 * (1 + word_count (trim t)))
+room_at {S = S} made same tries t c means =
+    let (k, asked, little) = asked_at as_asked 0 made same tries in
+    subst (λ x. (x ≤ sum (map length S) + 1) ⊎ (x < 2 * (1 + word_count (trim t)))) (sym (just_asked k (made.room 0) asked)) (little t c means)
 
 -- and why a copy is refused there
 pub refused_at : {r : Reading} {S : Segments} {n s p : ℕ} {left : Option ℕ} {old new : ℕ} (k : ErrorKind) → r ≡ read_at S n s p →

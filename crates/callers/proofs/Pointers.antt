@@ -3,8 +3,8 @@ use Rattle.std.proofs.Common.{◌≡◌, Bool, ℕ, Result, Ok, Err, IsOk, IfErr
 use Rattle.capnp_words.specs.declared.error.ErrorKind.{ErrorKind}
 use Rattle.capnp_words.specs.Meter.{Meter}
 use Rattle.capnp_objects.specs.Reading.{Reading}
-use Rattle.capnp_readers.specs.Checking.{CanBeFound, TestStops, progress}
-use Rattle.capnp_readers.proofs.NeverStops.{stops_never}
+use Rattle.capnp_pointers.specs.Checking.{CanBeFound, TestStops, progress}
+use Rattle.capnp_pointers.proofs.NeverStops.{stops_never}
 
 pub answered_there : {r q : Reading} (head : ℕ) (m after : Meter) (result : Result Bool ErrorKind) → r ≡ q → CanBeFound q (progress head m) → IfErr result (λ k. TestStops k r (progress head m) after) →
     IsOk result

@@ -16,8 +16,8 @@ ghost use Rattle.capnp_making.specs.Made.{zero_struct};
 ghost use Rattle.capnp_making.specs.Memory.{IsRefusedFor};
 ghost use Rattle.capnp_objects.specs.Source.{levels};
 ghost use Rattle.capnp_objects.specs.Spending.{Paid, pointers_in};
-ghost use Rattle.capnp_readers.specs.Checking.{IsUnfit, TestEnds, TestStops, progress};
-ghost use Rattle.capnp_readers.specs.Readers.{reading};
+ghost use Rattle.capnp_pointers.specs.Checking.{IsUnfit, TestEnds, TestStops, progress};
+ghost use Rattle.capnp_pointers.specs.Pointers.{reading};
 ghost use Rattle.capnp_edits.specs.Edits.{IsApplied, TakesAll};
 ghost use Rattle.capnp_edits.specs.Steps.{AreSteps};
 ghost use Rattle.capnp_messages.specs.CanonicalMessages.{IsCanonicalMessage};
@@ -40,6 +40,7 @@ use capnp_messages::messages::{
     CanonicalError, Form, canonical_bytes, canonical_with, copy_canonical_with, is_canonical,
     read_root, write_copy,
 };
+use capnp_pointers::pointers::Pointer;
 use capnp_readers::readers::{PointerPlace, PointerReader, StructPlace};
 use capnp_words::error::ErrorKind;
 use capnp_words::read_limiter::ReadLimiter;
@@ -120,7 +121,8 @@ pub fn canonical_copy_in_room<A: BuilderArena, S: ReaderSegments + Drop>(
     let source = ReaderArenaImpl::new(segments, limits);
     let mut lim = ReadLimiter::new(limits.traversal_limit_in_words);
     let root = read_root(&source, &mut lim)?;
-    PointerBuilder::get_root(arena).copy_from(root, &mut lim, true)
+    let from = PointerReader::of_pointer(root);
+    PointerBuilder::get_root(arena).copy_from(from, &mut lim, true)
 }
 
 /// The canonical copy of a message as bytes: the frame of its only segment, or that segment's bytes.
@@ -286,7 +288,7 @@ pub fn canonical_test_at<S: ReaderSegments>(
         (levels arena.now.nesting_limit) place.segment place.word)
         (progress head.old lim.old) lim.new }
 {
-    pointer_at(arena, place).is_canonical(lim, head)
+    PointerReader::of_pointer(pointer_at(arena, place)).is_canonical(lim, head)
 }
 
 /// The canonical copy of what a pointer of a message means, with memory of an allocator.
@@ -341,14 +343,14 @@ pub fn canonical_copy_at<A: Allocator, S: ReaderSegments>(
 pub(crate) fn pointer_at<S: ReaderSegments>(
     arena: &ReaderArenaImpl<S>,
     place: PointerPlace,
-) -> PointerReader<'_, ReaderArenaImpl<S>>
+) -> Pointer<'_, ReaderArenaImpl<S>>
     requires { IsPlace (message (⟦<ReaderArenaImpl<S> as ReaderArena>⟧.segments arena.now))
         place.segment place.word }
     ensures { reading ⟦<ReaderArenaImpl<S> as ReaderArena>⟧ result
         ≡ read_at (message (⟦<ReaderArenaImpl<S> as ReaderArena>⟧.segments arena.now))
         (levels arena.now.nesting_limit) place.segment place.word }
 {
-    PointerReader::at(arena, place, arena.nesting_limit())
+    Pointer::at(arena, place, arena.nesting_limit())
 }
 
 /// Makes the object of a pointer a struct, all zero: wherever in a tree the pointer is, the message is then the

@@ -3,6 +3,7 @@
 ghost use Rattle.std.specs.Prelude.{◌≡◌, false};
 
 use crate::BUFFER;
+use crate::texts::NO_MEMORY;
 use capnp_framing::devices::Output;
 use capnp_framing::framing::FrameError;
 use capnp_packing::buffered::{BufferedInput, BufferedOutput};
@@ -38,13 +39,13 @@ pub fn answer_all<W: BufferedOutput>(
     let are_named = files.len() > 1 && !matches!(task.command, Command::Canon(_));
     let mut holds = true;
     for file in files {
+        let name = file.as_str();
         let here = if are_named {
-            let mut lines = NamedLines::new(file.as_str(), output);
-            answer_file(rt, task, file.as_str(), &mut lines)?
+            answer_file(rt, task, name, &mut NamedLines::new(name, output))
         } else {
-            answer_file(rt, task, file.as_str(), output)?
+            answer_file(rt, task, name, output)
         };
-        holds = holds && here;
+        holds = here? && holds;
     }
     Ok(holds)
 }
@@ -80,10 +81,7 @@ fn answer<R: Read + Drop, W: BufferedOutput>(
     output: &mut W,
 ) -> Result<bool, Unanswered> {
     // bare words are waited for to their end
-    if task.from_flat && output.pass_on().is_err() {
-        return Err(Unanswered::WriteFailed);
-    }
-    if output.failed() {
+    if (task.from_flat && output.pass_on().is_err()) || output.failed() {
         return Err(Unanswered::WriteFailed);
     }
     let seen = Seen::new();
@@ -92,7 +90,7 @@ fn answer<R: Read + Drop, W: BufferedOutput>(
         if output.pass_on().is_err() {
             return Err(Unanswered::WriteFailed);
         }
-        let _ = eprintln!(rt; "refused AllocationFailed");
+        let _ = rt.eprintln(NO_MEMORY);
         return Err(Unanswered::Said);
     };
     match run(rt, task, BufReaderInput::new(reader), output) {

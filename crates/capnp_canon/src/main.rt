@@ -8,7 +8,6 @@ ghost use Rattle.std.specs.Prelude.{◌≤◌, length};
 mod inputs;
 mod texts;
 
-use capnp_framing::devices::DeviceFault;
 use capnp_packing::buffered::BufferedOutput;
 use capnp_packing::packing::PackingOutput;
 use capnp_streams::devices::{BufWriterOutput, NoOutput};
@@ -19,7 +18,7 @@ use std::alloc::AllocError;
 use std::env;
 use std::io::{self, BufWriter};
 use std::process::ExitCode;
-use texts::{HELP, USAGE, VERSION};
+use texts::{HELP, NO_MEMORY, USAGE, VERSION};
 
 /// How many bytes of the input, and of the output, are kept at a time.
 const BUFFER: usize = 1 << 16;
@@ -27,12 +26,11 @@ const BUFFER: usize = 1 << 16;
 fn main(rt: HostRuntime) -> ExitCode {
     match answer(&rt) {
         Ok(code) => code,
-        Err(AllocError) => complain(&rt, "refused AllocationFailed"),
+        Err(AllocError) => complain(&rt, NO_MEMORY),
     }
 }
 
-/// Does what the arguments ask for. An error is want of memory for the arguments or the output;
-/// nothing is read or written then.
+/// Does what the arguments ask for. An error is want of memory for the arguments; nothing is read or written then.
 fn answer(rt: &HostRuntime) -> Result<ExitCode, AllocError> {
     let Some(words) = words(rt)? else {
         return Ok(complain(rt, USAGE));
@@ -44,7 +42,7 @@ fn answer(rt: &HostRuntime) -> Result<ExitCode, AllocError> {
         Ok(Request::Version) => Ok(say(rt, VERSION)),
         Ok(Request::Run(task, files)) => {
             let first = words.len().saturating_sub(files);
-            run(rt, task, &words[first..])
+            Ok(run(rt, task, &words[first..]))
         }
     }
 }
@@ -68,7 +66,7 @@ fn misunderstood(rt: &HostRuntime, words: &[String], left: usize) -> ExitCode
     requires { left ≤ length words.now }
 {
     if left == 0 {
-        let _ = eprintln!(rt; "a word is missing");
+        let _ = rt.eprintln("a word is missing");
         return complain(rt, USAGE);
     }
     let word = words[words.len() - left].as_str();
@@ -77,44 +75,41 @@ fn misunderstood(rt: &HostRuntime, words: &[String], left: usize) -> ExitCode
 }
 
 /// Does a task from these files, or from standard input where there is none, to standard output.
-fn run(rt: &HostRuntime, task: Task, files: &[String]) -> Result<ExitCode, AllocError> {
+fn run(rt: &HostRuntime, task: Task, files: &[String]) -> ExitCode {
     let seen = Seen::new();
     let writer = Watched::new(io::writer(rt), &seen);
     let Ok(writer) = BufWriter::with_capacity(rt.alloc(), BUFFER, writer) else {
-        return Err(AllocError);
+        return complain(rt, NO_MEMORY);
     };
-    if task.quiet {
-        let ended = answer_all(rt, task, files, &mut NoOutput);
-        return Ok(end(rt, ended, &seen));
-    }
     let mut output = BufWriterOutput::new(writer);
+    if task.quiet {
+        return run_to(rt, task, files, &mut NoOutput, &seen);
+    }
     if !task.pack {
-        let ended = answer_all(rt, task, files, &mut output);
-        return Ok(end(rt, written(ended, output.pass_on()), &seen));
+        return run_to(rt, task, files, &mut output, &seen);
     }
     let mut packing = PackingOutput::new(output);
-    let ended = answer_all(rt, task, files, &mut packing);
-    Ok(end(rt, written(ended, packing.pass_on()), &seen))
+    run_to(rt, task, files, &mut packing, &seen)
 }
 
-/// What a run comes to, where all that was written is passed on, or where it can't be.
-fn written(
-    ended: Result<bool, Unanswered>,
-    passed_on: Result<(), DeviceFault>,
-) -> Result<bool, Unanswered> {
-    match passed_on {
-        Ok(()) => ended,
-        Err(DeviceFault) => Err(Unanswered::WriteFailed),
+/// Does a task to an output, which then passes on all that was written; the status of the run. Where the output failed that
+/// is said.
+fn run_to<W: BufferedOutput>(
+    rt: &HostRuntime,
+    task: Task,
+    files: &[String],
+    output: &mut W,
+    seen: &Seen,
+) -> ExitCode {
+    let ended = answer_all(rt, task, files, output);
+    if output.pass_on().is_err() {
+        return write_failed(rt, seen.fault());
     }
-}
-
-/// The status of a run, and what is said where the output failed.
-fn end(rt: &HostRuntime, ended: Result<bool, Unanswered>, output: &Seen) -> ExitCode {
     match ended {
         Ok(true) => ExitCode::SUCCESS,
         Ok(false) => ExitCode::from(1),
         Err(Unanswered::Said) => ExitCode::from(2),
-        Err(Unanswered::WriteFailed) => write_failed(rt, output.fault()),
+        Err(Unanswered::WriteFailed) => write_failed(rt, seen.fault()),
     }
 }
 
@@ -133,7 +128,7 @@ fn write_failed(rt: &HostRuntime, fault: Option<io::Error>) -> ExitCode {
 
 /// Writes a text to standard output.
 fn say(rt: &HostRuntime, text: &str) -> ExitCode {
-    match println!(rt; "{text}") {
+    match rt.println(text) {
         Ok(()) => ExitCode::SUCCESS,
         Err(error) => write_failed(rt, Some(error)),
     }
@@ -141,6 +136,6 @@ fn say(rt: &HostRuntime, text: &str) -> ExitCode {
 
 /// Says what is wrong, where it can be said.
 fn complain(rt: &HostRuntime, text: &str) -> ExitCode {
-    let _ = eprintln!(rt; "{text}");
+    let _ = rt.eprintln(text);
     ExitCode::from(2)
 }

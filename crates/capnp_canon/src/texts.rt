@@ -8,6 +8,9 @@ pub const USAGE: &str =
     "usage: capnp_canon canon [--flat] [--pack] [--hex] | check [--quiet] | size  [OPTION..] [--] [FILE..]
        capnp_canon --help | --version";
 
+/// What it says where memory is wanting for the arguments or a buffer.
+pub const NO_MEMORY: &str = "refused AllocationFailed";
+
 /// What its arguments mean.
 pub const HELP: &str =
     "Reads framed messages of Cap'n Proto from files or standard input, one behind the other, and answers to each.

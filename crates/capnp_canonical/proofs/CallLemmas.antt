@@ -1,8 +1,9 @@
 -- A call isn't refused where there is an answer, nor for want of room where the size says that there is enough.
-use Rattle.std.proofs.Common.{◌≡◌, ◌≢◌, ◌⊎◌, inl, inr, ℕ, zero, suc, ◌+◌, ◌*◌, ◌<◌, ◌≤◌, ◌^◌, List, [], ◌∷◌, All, length, get_or}
+use Rattle.std.proofs.Common.{◌≡◌, ◌≢◌, ◌⊎◌, inl, inr, ℕ, zero, suc, ◌+◌, ◌*◌, ◌<◌, ◌≤◌, ◌^◌, List, [], ◌∷◌, All, length, get_or, take, Result, Ok, Err}
 use Rattle.std.proofs.Common.{◌↔◌, Bool, true, false, Option, None, Some, IfSome, IsNone, is_some, not}
 use Rattle.std.proofs.Common.{refl, sym, ap, ◌∙◌, subst, arith}
 use Rattle.std.specs.Borrow.{Bor}
+use Rattle.std.proofs.lemmas.Result.{IfOk-weaker}
 use Rattle.capnp_format.specs.Canonical.{encoding, trim, word_count}
 use Rattle.capnp_format.specs.Segments.{Segments, AreWords}
 use Rattle.capnp_format.specs.Value.{IsValue}
@@ -18,7 +19,7 @@ use Rattle.capnp_framing.specs.Reading.{NoFrame}
 use Rattle.capnp_framing.proofs.FrameLemmas.{one_frame_begins}
 use Rattle.capnp_framing.proofs.ReadingLemmas.{frame_is_read}
 use Rattle.capnp_messages.specs.CanonicalMessages.{IsCanonicalMessage}
-use Rattle.capnp_readers.specs.declared.readers.canonical_fault.CanonicalFault.{CanonicalFault}
+use Rattle.capnp_pointers.specs.declared.pointers.canonical_fault.CanonicalFault.{CanonicalFault}
 use Rattle.capnp_messages.specs.Messages.{HasSizeOf, IsFaultOf}
 use Rattle.capnp_messages.specs.Commands.{HasAnswerWithin, form_bytes}
 use Rattle.capnp_messages.specs.declared.messages.command.Command.TheVariants.{Canon, Check, Size}
@@ -26,13 +27,42 @@ use Rattle.capnp_messages.specs.declared.messages.command.Form.{Form}
 use Rattle.capnp_messages.specs.declared.messages.command.Form.TheVariants.{Framed, Flat}
 use Rattle.capnp_messages.proofs.AnsweredLemmas.{answer_refused, check_refused, size_refused}
 use Rattle.capnp_messages.proofs.FramesLemmas.{no_bytes_begin}
-use Rattle.capnp_canonical.specs.Calls.{AreWholeWords, InFrame, IsCopyOf, IsGranted, IsOneSegment, RefusesBytes, RefusesMeaning, RefusesRoom, RefusesSegments, RefusesSegment, TestFinds, TestIs, no_fault, table_bytes, told_fault}
+use Rattle.capnp_canonical.specs.Calls.{AreWholeWords, Fills, FillsByNumber, InFrame, IsCopyOf, IsGranted, IsOneSegment, RefusesBytes, RefusesMeaning, RefusesRoom, RefusesSegments, RefusesSegment, TestFinds, TestIs, no_fault, table_bytes, told_fault}
 use Rattle.capnp_canonical.specs.Numbers.{answer_number}
 use Rattle.capnp_canonical.specs.declared.fault.Fault.{Fault}
 use Rattle.capnp_canonical.specs.declared.refusal.Refusal.{Refusal}
 use Rattle.capnp_canonical.specs.declared.refusal.Refusal.TheVariants.{Layout}
 use Rattle.capnp_canonical.proofs.FrameLemmas.{length-bytes, length_frame}
 use Rattle.capnp_canonical.proofs.NumberLemmas.{error_number_above}
+
+-- bytes that are put to the front of a buffer, where more is said of them
+pub fills_weaker : {result : Result ℕ Refusal} {old new : List ℕ} {P Q : List ℕ → Type 0} →
+    ((bytes : List ℕ) → P bytes → Q bytes) → Fills result old new P → Fills result old new Q
+fills_weaker {result = result} {new = new} more fills = record {
+  front = IfOk-weaker result _ _ (λ n put. more (take n new) put) fills.front;
+  within = fills.within;
+  behind = fills.behind;
+  kept = fills.kept;
+}
+
+-- the same as C sees it
+pub fills_done : {n : ℕ} {old new : List ℕ} {P : List ℕ → Type 0} →
+    Fills (Ok n) old new P → FillsByNumber 0 n old new P
+fills_done fills = record {
+  front = λ done. fills.front;
+  within = λ done. fills.within;
+  behind = λ done. fills.behind;
+  kept = λ some. absurd (some refl);
+}
+
+pub fills_refused : {r : Refusal} {answer written : ℕ} {old new : List ℕ} {P : List ℕ → Type 0} →
+    Fills (Err r) old new P → 0 < answer → FillsByNumber answer written old new P
+fills_refused fills some = record {
+  front = λ done. absurd (omega arith);
+  within = λ done. absurd (omega arith);
+  behind = λ done. absurd (omega arith);
+  kept = λ refused. fills.kept;
+}
 
 -- the words of a message that has a frame are of 64 bits
 word_small : (ws : List ℕ) (p : ℕ) → AreSegmentWords ws → get_or ws p 0 < 2 ^ 64

@@ -1,6 +1,6 @@
 -- What a call gives, and why it is refused.
-use Rattle.std.specs.Prelude.{◌≡◌, ◌⊎◌, ℕ, ℤ, ◌-◌, ◌/◌, ◌%◌, ◌^◌, ◌<◌, ◌≤◌, List, [], ◌∷◌, All, Bool, true, false}
-use Rattle.std.specs.Prelude.{length, map, Option, Some, None}
+use Rattle.std.specs.Prelude.{◌≡◌, ◌≢◌, ◌⊎◌, ℕ, ℤ, ◌-◌, ◌/◌, ◌%◌, ◌^◌, ◌<◌, ◌≤◌, List, [], ◌∷◌, All, Bool, true, false}
+use Rattle.std.specs.Prelude.{length, map, take, drop, Option, Some, None, Result, IfOk, OnErr}
 use Rattle.std.specs.Borrow.{Bor}
 use Rattle.capnp_words.specs.declared.error.ErrorKind.{ErrorKind}
 use Rattle.capnp_words.specs.declared.error.ErrorKind.TheVariants.{MessageTooLarge}
@@ -15,7 +15,7 @@ use Rattle.capnp_framing.specs.Reading.{NoFrame}
 use Rattle.capnp_framing.specs.declared.framing.frame_error.FrameError.{FrameError}
 use Rattle.capnp_framing.specs.declared.framing.frame_error.FrameError.TheVariants.{Truncated}
 use Rattle.capnp_messages.specs.CanonicalMessages.{IsCanonicalMessage}
-use Rattle.capnp_readers.specs.declared.readers.canonical_fault.CanonicalFault.{CanonicalFault}
+use Rattle.capnp_pointers.specs.declared.pointers.canonical_fault.CanonicalFault.{CanonicalFault}
 use Rattle.capnp_messages.specs.Messages.{IsFaultOf, IsValueOf}
 use Rattle.capnp_messages.specs.Commands.{RefusesAnswer, form_bytes}
 use Rattle.capnp_messages.specs.declared.messages.command.Command.{Command}
@@ -96,6 +96,21 @@ abbrev pub RefusesRoom : Form → ReaderOptions → ℕ → Segments → Refusal
 RefusesRoom form limits room S r =
     RefusesMeaning (Canon form) limits S r ⊎
     ((bytes : List ℕ) × IsCopyOf form limits S bytes × (r ≡ NoRoom (length bytes)) × (room < length bytes))
+
+-- A call puts bytes of which P holds to the front of a buffer, and gives how many they are. What stands behind them stays, and
+-- where it is refused the whole buffer.
+pub record Fills (result : Result ℕ Refusal) (old new : List ℕ) (P : List ℕ → Type 0) : Type 0 where
+  pub front : IfOk result (λ n. P (take n new))
+  pub within : IfOk result (λ n. n ≤ length new)
+  pub behind : IfOk result (λ n. drop n new ≡ drop n old)
+  pub kept : OnErr result (new ≡ old)
+
+-- A call from C puts such bytes, where its answer is 0; else that is the number of a refusal.
+pub record FillsByNumber (answer written : ℕ) (old new : List ℕ) (P : List ℕ → Type 0) : Type 0 where
+  pub front : answer ≡ 0 → P (take written new)
+  pub within : answer ≡ 0 → written ≤ length new
+  pub behind : answer ≡ 0 → drop written new ≡ drop written old
+  pub kept : answer ≢ 0 → new ≡ old
 
 -- A number is that of a refusal of which P holds.
 abbrev pub IsNumberWhere : ℕ → (Refusal → Type 0) → Type 0

@@ -9,7 +9,7 @@ ghost use Rattle.capnp_framing.specs.Frames.{bytes_of_words, frame};
 ghost use Rattle.capnp_messages.specs.Messages.{HasSizeOf, IsFaultOf};
 ghost use Rattle.capnp_messages.specs.Commands.{RefusesAnswer, form_bytes};
 ghost use Rattle.capnp_messages.specs.declared.messages.command.Command.{Command};
-ghost use Rattle.capnp_canonical.specs.Calls.{IsCopyOf, RefusesRoom, limits_of, table_bytes};
+ghost use Rattle.capnp_canonical.specs.Calls.{Fills, IsCopyOf, RefusesRoom, limits_of, table_bytes};
 ghost use Rattle.capnp_canonical.specs.declared.refusal.Refusal.{Refusal};
 
 use crate::refusal::Refusal;
@@ -22,12 +22,23 @@ use capnp_messages::messages::{
 use std::alloc::Global;
 
 /// The limits within which a message is read.
-pub fn limits(nesting: i32, words: u64) -> ReaderOptions
-    ensures { result ≡ limits_of nesting words }
-{
-    ReaderOptions {
-        nesting_limit: nesting,
-        traversal_limit_in_words: Some(words as usize),
+#[derive(Clone, Copy)]
+pub struct Limits {
+    /// How many levels of structs and lists may be entered.
+    pub nesting: i32,
+    /// How many words may be read.
+    pub words: u64,
+}
+
+impl Limits {
+    /// The same for a reader.
+    pub fn options(self) -> ReaderOptions
+        ensures { result ≡ limits_of self.nesting self.words }
+    {
+        ReaderOptions {
+            nesting_limit: self.nesting,
+            traversal_limit_in_words: Some(self.words as usize),
+        }
     }
 }
 
@@ -42,12 +53,10 @@ fn table(words: u32) -> [u8; 8]
 /// Puts a frame of one segment of these bytes to the front of a buffer, and gives its size.
 fn put_frame(segment: &[u8], to: &mut [u8]) -> Result<usize, Refusal>
     requires short { length segment.now < 2 ^ 35 }
-    ensures put { IfOk result (λ n. (words : List ℕ) → segment.now ≡ bytes_of_words words
-        → take n to.new ≡ frame (words ∷ [])) }
-    ensures within { IfOk result (λ n. n ≤ length to.new) }
-    ensures behind { IfOk result (λ n. drop n to.new ≡ drop n to.old) }
+    ensures put { Fills result to.old to.new (λ bytes. (words : List ℕ)
+        → segment.now ≡ bytes_of_words words → bytes ≡ frame (words ∷ [])) }
     ensures refused { IfErr result (λ r. (r ≡ Refusal.NoRoom (8 + length segment.now))
-        × (to.new ≡ to.old) × (length to.old < 8 + length segment.now)) }
+        × (length to.old < 8 + length segment.now)) }
 {
     let size = 8 + segment.len();
     if to.len() < size {
@@ -60,11 +69,9 @@ fn put_frame(segment: &[u8], to: &mut [u8]) -> Result<usize, Refusal>
 
 /// Puts bytes to the front of a buffer, and gives how many they are.
 fn put_flat(segment: &[u8], to: &mut [u8]) -> Result<usize, Refusal>
-    ensures put { IfOk result (λ n. take n to.new ≡ segment.now) }
-    ensures within { IfOk result (λ n. n ≤ length to.new) }
-    ensures behind { IfOk result (λ n. drop n to.new ≡ drop n to.old) }
+    ensures put { Fills result to.old to.new (λ bytes. bytes ≡ segment.now) }
     ensures refused { IfErr result (λ r. (r ≡ Refusal.NoRoom (length segment.now))
-        × (to.new ≡ to.old) × (length to.old < length segment.now)) }
+        × (length to.old < length segment.now)) }
 {
     let size = segment.len();
     if to.len() < size {
@@ -77,14 +84,11 @@ fn put_flat(segment: &[u8], to: &mut [u8]) -> Result<usize, Refusal>
 /// Puts the bytes of a segment to the front of a buffer in a form, and gives how many they are.
 fn put(form: Form, segment: &[u8], to: &mut [u8]) -> Result<usize, Refusal>
     requires short { length segment.now < 2 ^ 35 }
-    ensures put { IfOk result (λ n. (words : List ℕ) → segment.now ≡ bytes_of_words words
-        → take n to.new ≡ form_bytes form words) }
-    ensures within { IfOk result (λ n. n ≤ length to.new) }
-    ensures behind { IfOk result (λ n. drop n to.new ≡ drop n to.old) }
+    ensures put { Fills result to.old to.new (λ bytes. (words : List ℕ)
+        → segment.now ≡ bytes_of_words words → bytes ≡ form_bytes form words) }
     ensures refused { IfErr result (λ r.
         (r ≡ Refusal.NoRoom (table_bytes form + length segment.now))
         × (length to.old < table_bytes form + length segment.now)) }
-    ensures kept { OnErr result (to.new ≡ to.old) }
 {
     match form {
         Form::Framed => put_frame(segment, to),
@@ -106,13 +110,10 @@ fn copy_on_heap<S: ReaderSegments>(
     to: &mut [u8],
 ) -> Result<usize, Refusal>
     requires { source.now.nesting_limit ≡ limits.nesting_limit }
-    ensures copied { IfOk result (λ n. IsCopyOf form limits
-        (message (⟦<ReaderArenaImpl<S> as ReaderArena>⟧.segments source.now)) (take n to.new)) }
-    ensures within { IfOk result (λ n. n ≤ length to.new) }
-    ensures behind { IfOk result (λ n. drop n to.new ≡ drop n to.old) }
+    ensures copied { Fills result to.old to.new (IsCopyOf form limits
+        (message (⟦<ReaderArenaImpl<S> as ReaderArena>⟧.segments source.now))) }
     ensures refused { IfErr result (RefusesRoom form limits (length to.old)
         (message (⟦<ReaderArenaImpl<S> as ReaderArena>⟧.segments source.now))) }
-    ensures kept { OnErr result (to.new ≡ to.old) }
 {
     match canonical_from(alloc, HeapAllocator::new(alloc, 0), source, limits) {
         Ok(made) => put(form, canonical_bytes(&made), to),
@@ -129,13 +130,10 @@ fn copy_small<S: ReaderSegments>(
     to: &mut [u8],
 ) -> Result<usize, Refusal>
     requires { source.now.nesting_limit ≡ limits.nesting_limit }
-    ensures copied { IfOk result (λ n. IsCopyOf form limits
-        (message (⟦<ReaderArenaImpl<S> as ReaderArena>⟧.segments source.now)) (take n to.new)) }
-    ensures within { IfOk result (λ n. n ≤ length to.new) }
-    ensures behind { IfOk result (λ n. drop n to.new ≡ drop n to.old) }
+    ensures copied { Fills result to.old to.new (IsCopyOf form limits
+        (message (⟦<ReaderArenaImpl<S> as ReaderArena>⟧.segments source.now))) }
     ensures refused { IfErr result (RefusesRoom form limits (length to.old)
         (message (⟦<ReaderArenaImpl<S> as ReaderArena>⟧.segments source.now))) }
-    ensures kept { OnErr result (to.new ≡ to.old) }
 {
     let mut memory = [0u8; SMALL];
     let mut made = BuilderArenaImpl::new(alloc, LentMemory::new(memory.as_mut_slice()));
@@ -160,13 +158,10 @@ fn copy_large<S: ReaderSegments>(
     to: &mut [u8],
 ) -> Result<usize, Refusal>
     requires { source.now.nesting_limit ≡ limits.nesting_limit }
-    ensures copied { IfOk result (λ n. IsCopyOf form limits
-        (message (⟦<ReaderArenaImpl<S> as ReaderArena>⟧.segments source.now)) (take n to.new)) }
-    ensures within { IfOk result (λ n. n ≤ length to.new) }
-    ensures behind { IfOk result (λ n. drop n to.new ≡ drop n to.old) }
+    ensures copied { Fills result to.old to.new (IsCopyOf form limits
+        (message (⟦<ReaderArenaImpl<S> as ReaderArena>⟧.segments source.now))) }
     ensures refused { IfErr result (RefusesRoom form limits (length to.old)
         (message (⟦<ReaderArenaImpl<S> as ReaderArena>⟧.segments source.now))) }
-    ensures kept { OnErr result (to.new ≡ to.old) }
 {
     match canonical_segment(source, limits) {
         Some(words) => put(form, words, to),
@@ -188,13 +183,10 @@ pub fn copy<S: ReaderSegments + Drop>(
     to: &mut [u8],
 ) -> Result<usize, Refusal>
     requires { IsSmall (S.segments segments) }
-    ensures copied { IfOk result (λ n.
-        IsCopyOf form limits (message (S.segments segments)) (take n to.new)) }
-    ensures within { IfOk result (λ n. n ≤ length to.new) }
-    ensures behind { IfOk result (λ n. drop n to.new ≡ drop n to.old) }
+    ensures copied { Fills result to.old to.new (IsCopyOf form limits
+        (message (S.segments segments))) }
     ensures refused { IfErr result
         (RefusesRoom form limits (length to.old) (message (S.segments segments))) }
-    ensures kept { OnErr result (to.new ≡ to.old) }
 {
     let source = ReaderArenaImpl::new(segments, limits);
     if source.size_in_words() < SMALL / 8 {

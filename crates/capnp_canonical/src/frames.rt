@@ -8,14 +8,14 @@ ghost use Rattle.capnp_framing.specs.Frames.{frame};
 ghost use Rattle.capnp_messages.specs.CanonicalMessages.{IsCanonicalMessage};
 ghost use Rattle.capnp_messages.specs.Messages.{HasSizeOf};
 ghost use Rattle.capnp_messages.specs.declared.messages.command.Command.{Command};
-ghost use Rattle.capnp_canonical.specs.Calls.{InFrame, IsCopyOf, RefusesBytes, RefusesMeaning, RefusesRoom, TestFinds, limits_of};
+ghost use Rattle.capnp_canonical.specs.Calls.{Fills, InFrame, IsCopyOf, RefusesBytes, RefusesMeaning, RefusesRoom, TestFinds, limits_of};
 
-use crate::calls::{copy, limits};
+use crate::calls::{Limits, copy};
 use crate::refusal::Refusal;
 use capnp_arena::arena::ReaderSegments;
 use capnp_framing::framing::{FrameSegments, read_from_flat_slice};
 use capnp_messages::messages::{Form, canonical_fault_of, size_of};
-use capnp_readers::readers::{CanonicalFault, MessageSize};
+use capnp_pointers::pointers::{CanonicalFault, MessageSize};
 use std::alloc::Global;
 
 /// The message whose frame, of at most so many words, the bytes begin with.
@@ -39,49 +39,41 @@ pub fn copy_frame(
     alloc: Global,
     form: Form,
     frame: &[u8],
-    nesting: i32,
-    words: u64,
+    limits: Limits,
     to: &mut [u8],
 ) -> Result<usize, Refusal>
-    ensures copied { IfOk result (λ n. InFrame frame.now words
-        (λ S. IsCopyOf form (limits_of nesting words) S (take n to.new))) }
-    ensures within { IfOk result (λ n. n ≤ length to.new) }
-    ensures behind { IfOk result (λ n. drop n to.new ≡ drop n to.old) }
-    ensures refused { IfErr result (λ r. RefusesBytes frame.now words r
-        ⊎ InFrame frame.now words
-        (λ S. RefusesRoom form (limits_of nesting words) (length to.old) S r)) }
-    ensures kept { OnErr result (to.new ≡ to.old) }
+    ensures copied { Fills result to.old to.new (λ bytes. InFrame frame.now limits.words
+        (λ S. IsCopyOf form (limits_of limits.nesting limits.words) S bytes)) }
+    ensures refused { IfErr result (λ r. RefusesBytes frame.now limits.words r
+        ⊎ InFrame frame.now limits.words
+        (λ S. RefusesRoom form (limits_of limits.nesting limits.words) (length to.old) S r)) }
 {
-    let segments = message_in(frame, words)?;
-    copy(alloc, form, segments, limits(nesting, words), to)
+    let segments = message_in(frame, limits.words)?;
+    copy(alloc, form, segments, limits.options(), to)
 }
 
 /// Where and why the message of the frame isn't canonical, if it isn't.
-pub fn check_frame(
-    frame: &[u8],
-    nesting: i32,
-    words: u64,
-) -> Result<Option<CanonicalFault>, Refusal>
-    ensures found { IfOk result (λ o. InFrame frame.now words
-        (TestFinds (limits_of nesting words) o)) }
-    ensures refused { IfErr result (λ r. RefusesBytes frame.now words r
-        ⊎ InFrame frame.now words
-        (λ S. RefusesMeaning Command.Check (limits_of nesting words) S r)) }
+pub fn check_frame(frame: &[u8], limits: Limits) -> Result<Option<CanonicalFault>, Refusal>
+    ensures found { IfOk result (λ o. InFrame frame.now limits.words
+        (TestFinds (limits_of limits.nesting limits.words) o)) }
+    ensures refused { IfErr result (λ r. RefusesBytes frame.now limits.words r
+        ⊎ InFrame frame.now limits.words
+        (λ S. RefusesMeaning Command.Check (limits_of limits.nesting limits.words) S r)) }
 {
-    let segments = message_in(frame, words)?;
-    Ok(canonical_fault_of(segments, limits(nesting, words))?)
+    let segments = message_in(frame, limits.words)?;
+    Ok(canonical_fault_of(segments, limits.options())?)
 }
 
 /// How large the message of the frame is.
-pub fn size_frame(frame: &[u8], nesting: i32, words: u64) -> Result<MessageSize, Refusal>
-    ensures size { IfOk result (λ z. InFrame frame.now words
-        (λ S. HasSizeOf S (limits_of nesting words) z.word_count z.cap_count)) }
-    ensures refused { IfErr result (λ r. RefusesBytes frame.now words r
-        ⊎ InFrame frame.now words
-        (λ S. RefusesMeaning Command.Size (limits_of nesting words) S r)) }
+pub fn size_frame(frame: &[u8], limits: Limits) -> Result<MessageSize, Refusal>
+    ensures size { IfOk result (λ z. InFrame frame.now limits.words
+        (λ S. HasSizeOf S (limits_of limits.nesting limits.words) z.word_count z.cap_count)) }
+    ensures refused { IfErr result (λ r. RefusesBytes frame.now limits.words r
+        ⊎ InFrame frame.now limits.words
+        (λ S. RefusesMeaning Command.Size (limits_of limits.nesting limits.words) S r)) }
 {
-    let segments = message_in(frame, words)?;
-    Ok(size_of(segments, limits(nesting, words))?)
+    let segments = message_in(frame, limits.words)?;
+    Ok(size_of(segments, limits.options())?)
 }
 
 /// How many bytes the frame takes.

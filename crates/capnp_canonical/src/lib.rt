@@ -13,8 +13,8 @@ ghost use Rattle.capnp_messages.specs.Commands.{HasAnswerWithin};
 ghost use Rattle.capnp_messages.specs.declared.messages.command.Command.{Command};
 ghost use Rattle.capnp_messages.specs.declared.messages.command.Form.{Form};
 ghost use Rattle.capnp_packing.specs.Packing.{IsWhole, Packs, unpacked_bytes};
-ghost use Rattle.capnp_canonical.specs.Calls.{InFrame, InSegments, InWords, IsCopyOf, IsGranted, IsNumberWhere, RefusesBytes, RefusesMeaning, RefusesPacked, RefusesRoom, RefusesSegments, RefusesSegment, TestIs, limits_of, no_fault};
-ghost use Rattle.capnp_readers.specs.Faults.{fault_reason_text};
+ghost use Rattle.capnp_canonical.specs.Calls.{FillsByNumber, InFrame, InSegments, InWords, IsCopyOf, IsGranted, IsNumberWhere, RefusesBytes, RefusesMeaning, RefusesPacked, RefusesRoom, RefusesSegments, RefusesSegment, TestIs, limits_of, no_fault};
+ghost use Rattle.capnp_pointers.specs.Faults.{fault_reason_text};
 ghost use Rattle.capnp_canonical.specs.Numbers.{answer_name, answer_number, reason_number, wanted_room};
 ghost use Rattle.capnp_canonical.specs.Texts.{PutsText, IsTextOf};
 
@@ -27,6 +27,7 @@ mod refusal;
 mod segments;
 mod words;
 
+use calls::Limits;
 use capnp_messages::messages::Form;
 use capnp_packing::packing::Place;
 use fault::{Fault, NO_FAULT};
@@ -49,14 +50,11 @@ pub extern "C" fn capnp_canonical_copy(
     to: &mut [u8],
     written: &mut usize,
 ) -> u32
-    ensures done { result ≡ 0 → InFrame frame.now words
-        (λ S. IsCopyOf Form.Framed (limits_of nesting words) S (take written.new to.new)) }
-    ensures within { result ≡ 0 → written.new ≤ length to.new }
+    ensures done { FillsByNumber result written.new to.old to.new (λ bytes. InFrame frame.now words
+        (λ S. IsCopyOf Form.Framed (limits_of nesting words) S bytes)) }
     ensures refused { result ≢ 0 → IsNumberWhere result (λ r. (written.new ≡ wanted_room r)
         × (RefusesBytes frame.now words r ⊎ InFrame frame.now words
         (λ S. RefusesRoom Form.Framed (limits_of nesting words) (length to.old) S r))) }
-    ensures kept { result ≢ 0 → to.new ≡ to.old }
-    ensures behind { result ≡ 0 → drop written.new to.new ≡ drop written.new to.old }
     ensures granted { InFrame frame.now words
         (HasAnswerWithin (Command.Canon Form.Framed) (limits_of nesting words))
         → IsGranted result }
@@ -64,7 +62,7 @@ pub extern "C" fn capnp_canonical_copy(
         (λ S. HasSizeOf S (limits_of nesting words) n caps)
         → 16 + 8 * n ≤ length to.old → result ≢ 1 }
 {
-    match copy_frame(alloc, Form::Framed, frame, nesting, words, to) {
+    match copy_frame(alloc, Form::Framed, frame, Limits { nesting, words }, to) {
         Ok(size) => {
             *written = size;
             0
@@ -86,14 +84,11 @@ pub extern "C" fn capnp_canonical_copy_flat(
     to: &mut [u8],
     written: &mut usize,
 ) -> u32
-    ensures done { result ≡ 0 → InFrame frame.now words
-        (λ S. IsCopyOf Form.Flat (limits_of nesting words) S (take written.new to.new)) }
-    ensures within { result ≡ 0 → written.new ≤ length to.new }
+    ensures done { FillsByNumber result written.new to.old to.new (λ bytes. InFrame frame.now words
+        (λ S. IsCopyOf Form.Flat (limits_of nesting words) S bytes)) }
     ensures refused { result ≢ 0 → IsNumberWhere result (λ r. (written.new ≡ wanted_room r)
         × (RefusesBytes frame.now words r ⊎ InFrame frame.now words
         (λ S. RefusesRoom Form.Flat (limits_of nesting words) (length to.old) S r))) }
-    ensures kept { result ≢ 0 → to.new ≡ to.old }
-    ensures behind { result ≡ 0 → drop written.new to.new ≡ drop written.new to.old }
     ensures granted { InFrame frame.now words
         (HasAnswerWithin (Command.Canon Form.Flat) (limits_of nesting words))
         → IsGranted result }
@@ -101,7 +96,7 @@ pub extern "C" fn capnp_canonical_copy_flat(
         (λ S. HasSizeOf S (limits_of nesting words) n caps)
         → 8 + 8 * n ≤ length to.old → result ≢ 1 }
 {
-    match copy_frame(alloc, Form::Flat, frame, nesting, words, to) {
+    match copy_frame(alloc, Form::Flat, frame, Limits { nesting, words }, to) {
         Ok(size) => {
             *written = size;
             0
@@ -114,7 +109,9 @@ pub extern "C" fn capnp_canonical_copy_flat(
 }
 
 /// Says whether the message of a frame is canonical: one segment, which holds the canonical words of a
-/// value and nothing else; and if not why and where.
+/// value and nothing else; and if not why and where. `nesting` is how many structs and lists may stand one inside
+/// of the other; `words` bounds the words of the frame, and those that may be read. Where it is refused
+/// `is_canonical` is false and `fault` all 0, so the answer 0 is what tells a no.
 #[unsafe(no_mangle)]
 pub extern "C" fn capnp_canonical_check(
     frame: &[u8],
@@ -131,7 +128,7 @@ pub extern "C" fn capnp_canonical_check(
     ensures granted { InFrame frame.now words (HasAnswerWithin Command.Check (limits_of nesting words))
         → result ≡ 0 }
 {
-    match check_frame(frame, nesting, words) {
+    match check_frame(frame, Limits { nesting, words }) {
         Ok(found) => {
             *is_canonical = found.is_none();
             *fault = Fault::of(found);
@@ -162,7 +159,7 @@ pub extern "C" fn capnp_canonical_size(
     ensures granted { InFrame frame.now words (HasAnswerWithin Command.Size (limits_of nesting words))
         → result ≡ 0 }
 {
-    match size_frame(frame, nesting, words) {
+    match size_frame(frame, Limits { nesting, words }) {
         Ok(size) => {
             *word_count = size.word_count;
             *cap_count = size.cap_count;
@@ -207,19 +204,16 @@ pub extern "C" fn capnp_canonical_segments_copy(
     to: &mut [u8],
     written: &mut usize,
 ) -> u32
-    ensures done { result ≡ 0 → InSegments segments.now
-        (λ S. IsCopyOf Form.Framed (limits_of nesting words) S (take written.new to.new)) }
-    ensures within { result ≡ 0 → written.new ≤ length to.new }
+    ensures done { FillsByNumber result written.new to.old to.new (λ bytes. InSegments segments.now
+        (λ S. IsCopyOf Form.Framed (limits_of nesting words) S bytes)) }
     ensures refused { result ≢ 0 → IsNumberWhere result (λ r. (written.new ≡ wanted_room r)
         × (RefusesSegments segments.now r ⊎ InSegments segments.now
         (λ S. RefusesRoom Form.Framed (limits_of nesting words) (length to.old) S r))) }
-    ensures kept { result ≢ 0 → to.new ≡ to.old }
-    ensures behind { result ≡ 0 → drop written.new to.new ≡ drop written.new to.old }
     ensures granted { InSegments segments.now
         (HasAnswerWithin (Command.Canon Form.Framed) (limits_of nesting words))
         → IsGranted result }
 {
-    match copy_segments(alloc, Form::Framed, segments, nesting, words, to) {
+    match copy_segments(alloc, Form::Framed, segments, Limits { nesting, words }, to) {
         Ok(size) => {
             *written = size;
             0
@@ -241,19 +235,16 @@ pub extern "C" fn capnp_canonical_segments_copy_flat(
     to: &mut [u8],
     written: &mut usize,
 ) -> u32
-    ensures done { result ≡ 0 → InSegments segments.now
-        (λ S. IsCopyOf Form.Flat (limits_of nesting words) S (take written.new to.new)) }
-    ensures within { result ≡ 0 → written.new ≤ length to.new }
+    ensures done { FillsByNumber result written.new to.old to.new (λ bytes. InSegments segments.now
+        (λ S. IsCopyOf Form.Flat (limits_of nesting words) S bytes)) }
     ensures refused { result ≢ 0 → IsNumberWhere result (λ r. (written.new ≡ wanted_room r)
         × (RefusesSegments segments.now r ⊎ InSegments segments.now
         (λ S. RefusesRoom Form.Flat (limits_of nesting words) (length to.old) S r))) }
-    ensures kept { result ≢ 0 → to.new ≡ to.old }
-    ensures behind { result ≡ 0 → drop written.new to.new ≡ drop written.new to.old }
     ensures granted { InSegments segments.now
         (HasAnswerWithin (Command.Canon Form.Flat) (limits_of nesting words))
         → IsGranted result }
 {
-    match copy_segments(alloc, Form::Flat, segments, nesting, words, to) {
+    match copy_segments(alloc, Form::Flat, segments, Limits { nesting, words }, to) {
         Ok(size) => {
             *written = size;
             0
@@ -282,7 +273,7 @@ pub extern "C" fn capnp_canonical_segments_check(
     ensures granted { InSegments segments.now (HasAnswerWithin Command.Check (limits_of nesting words))
         → result ≡ 0 }
 {
-    match check_segments(segments, nesting, words) {
+    match check_segments(segments, Limits { nesting, words }) {
         Ok(found) => {
             *is_canonical = found.is_none();
             *fault = Fault::of(found);
@@ -313,7 +304,7 @@ pub extern "C" fn capnp_canonical_segments_size(
     ensures granted { InSegments segments.now (HasAnswerWithin Command.Size (limits_of nesting words))
         → result ≡ 0 }
 {
-    match size_segments(segments, nesting, words) {
+    match size_segments(segments, Limits { nesting, words }) {
         Ok(size) => {
             *word_count = size.word_count;
             *cap_count = size.cap_count;
@@ -337,19 +328,16 @@ pub extern "C" fn capnp_canonical_words_copy(
     to: &mut [u8],
     written: &mut usize,
 ) -> u32
-    ensures done { result ≡ 0 → InWords bytes.now
-        (λ S. IsCopyOf Form.Flat (limits_of nesting words) S (take written.new to.new)) }
-    ensures within { result ≡ 0 → written.new ≤ length to.new }
+    ensures done { FillsByNumber result written.new to.old to.new (λ copy. InWords bytes.now
+        (λ S. IsCopyOf Form.Flat (limits_of nesting words) S copy)) }
     ensures refused { result ≢ 0 → IsNumberWhere result (λ r. (written.new ≡ wanted_room r)
         × (RefusesSegment bytes.now r ⊎ InWords bytes.now
         (λ S. RefusesRoom Form.Flat (limits_of nesting words) (length to.old) S r))) }
-    ensures kept { result ≢ 0 → to.new ≡ to.old }
-    ensures behind { result ≡ 0 → drop written.new to.new ≡ drop written.new to.old }
     ensures granted { InWords bytes.now
         (HasAnswerWithin (Command.Canon Form.Flat) (limits_of nesting words))
         → IsGranted result }
 {
-    match copy_words(alloc, bytes, nesting, words, to) {
+    match copy_words(alloc, bytes, Limits { nesting, words }, to) {
         Ok(size) => {
             *written = size;
             0
@@ -378,7 +366,7 @@ pub extern "C" fn capnp_canonical_words_check(
     ensures granted { InWords bytes.now (HasAnswerWithin Command.Check (limits_of nesting words))
         → result ≡ 0 }
 {
-    match check_words(bytes, nesting, words) {
+    match check_words(bytes, Limits { nesting, words }) {
         Ok(found) => {
             *is_canonical = found.is_none();
             *fault = Fault::of(found);
@@ -409,7 +397,7 @@ pub extern "C" fn capnp_canonical_words_size(
     ensures granted { InWords bytes.now (HasAnswerWithin Command.Size (limits_of nesting words))
         → result ≡ 0 }
 {
-    match size_words(bytes, nesting, words) {
+    match size_words(bytes, Limits { nesting, words }) {
         Ok(size) => {
             *word_count = size.word_count;
             *cap_count = size.cap_count;
@@ -428,12 +416,9 @@ pub extern "C" fn capnp_canonical_words_size(
 /// buffer stays, and where it is refused all of the buffer. No memory is taken.
 #[unsafe(no_mangle)]
 pub extern "C" fn capnp_canonical_unpack(packed: &[u8], to: &mut [u8], written: &mut usize) -> u32
-    ensures done { result ≡ 0 → Packs packed.now (take written.new to.new) }
-    ensures within { result ≡ 0 → written.new ≤ length to.new }
+    ensures done { FillsByNumber result written.new to.old to.new (Packs packed.now) }
     ensures refused { result ≢ 0 → IsNumberWhere result (λ r. (written.new ≡ wanted_room r)
         × RefusesPacked packed.now (length to.old) r) }
-    ensures kept { result ≢ 0 → to.new ≡ to.old }
-    ensures behind { result ≡ 0 → drop written.new to.new ≡ drop written.new to.old }
     ensures granted { IsWhole Place.Tag packed.now
         → length (unpacked_bytes Place.Tag packed.now) ≤ length to.old → result ≡ 0 }
 {

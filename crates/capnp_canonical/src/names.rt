@@ -1,13 +1,13 @@
-//! The texts of numbers.
+//! The names of refusals and the texts of reasons, by the numbers that C has for them.
 ghost use Rattle.std.specs.Prelude.{◌≡◌, IfSome, IsNone, length};
-ghost use Rattle.capnp_readers.specs.Faults.{fault_reason_text};
+ghost use Rattle.capnp_pointers.specs.Faults.{fault_reason_text};
 ghost use Rattle.capnp_canonical.specs.Numbers.{answer_name, answer_number, reason_number};
 ghost use Rattle.capnp_canonical.specs.Texts.{PutsText, IsTextOf};
 ghost use Rattle.capnp_canonical.specs.declared.refusal.Refusal.{Refusal};
 
 use crate::refusal::Refusal;
 use capnp_framing::framing::FrameError;
-use capnp_readers::readers::CanonicalFaultReason;
+use capnp_pointers::pointers::CanonicalFaultReason;
 use capnp_words::error::ErrorKind;
 
 /// The refusals of a frame, from the number 16 on.
@@ -21,7 +21,7 @@ const FRAME_ERRORS: [FrameError; 7] = [
     FrameError::AllocationFailed,
 ];
 
-/// Those of what a message means, from the number 32 on.
+/// The refusals of what a message means, and of its copy, from the number 32 on.
 const KINDS: [ErrorKind; 35] = [
     ErrorKind::AllocationFailed,
     ErrorKind::CannotCreateACanonicalMessageWithACapability,

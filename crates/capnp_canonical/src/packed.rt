@@ -1,7 +1,7 @@
 //! Packed bytes, put to a buffer as what they stand for ("Packing").
 ghost use Rattle.std.specs.Prelude.{◌≡◌, ◌≤◌, length, take, drop, IfOk, IfErr, IsOk, OnErr};
 ghost use Rattle.capnp_packing.specs.Packing.{IsWhole, Packs, unpacked_bytes};
-ghost use Rattle.capnp_canonical.specs.Calls.{RefusesPacked};
+ghost use Rattle.capnp_canonical.specs.Calls.{Fills, RefusesPacked};
 
 use crate::refusal::Refusal;
 use capnp_framing::framing::FrameError;
@@ -10,11 +10,8 @@ use capnp_packing::packing::{Place, unpack_to_slice, unpacked_size};
 /// Unpacks packed bytes to the front of a buffer, and gives how many bytes they stand for. What these
 /// are is counted first, so that nothing is written where they are cut or there is too little room.
 pub fn unpack(packed: &[u8], to: &mut [u8]) -> Result<usize, Refusal>
-    ensures unpacked { IfOk result (λ n. Packs packed.now (take n to.new)) }
-    ensures within { IfOk result (λ n. n ≤ length to.new) }
-    ensures behind { IfOk result (λ n. drop n to.new ≡ drop n to.old) }
+    ensures unpacked { Fills result to.old to.new (Packs packed.now) }
     ensures refused { IfErr result (RefusesPacked packed.now (length to.old)) }
-    ensures kept { OnErr result (to.new ≡ to.old) }
     ensures granted { IsWhole Place.Tag packed.now
         → length (unpacked_bytes Place.Tag packed.now) ≤ length to.old → IsOk result }
 {

@@ -4,13 +4,13 @@ ghost use Rattle.capnp_arena_traits.specs.Limits.{AreSmall, IsSmall};
 ghost use Rattle.capnp_messages.specs.CanonicalMessages.{IsCanonicalMessage};
 ghost use Rattle.capnp_messages.specs.Messages.{HasSizeOf};
 ghost use Rattle.capnp_messages.specs.declared.messages.command.Command.{Command};
-ghost use Rattle.capnp_canonical.specs.Calls.{AreWholeWords, InSegments, IsCopyOf, RefusesMeaning, RefusesRoom, RefusesSegments, TestFinds, lent_bytes, limits_of};
+ghost use Rattle.capnp_canonical.specs.Calls.{AreWholeWords, Fills, InSegments, IsCopyOf, RefusesMeaning, RefusesRoom, RefusesSegments, TestFinds, lent_bytes, limits_of};
 
-use crate::calls::{copy, limits};
+use crate::calls::{Limits, copy};
 use crate::refusal::Refusal;
 use capnp_arena::arena::{ReaderSegments, SegmentArray};
 use capnp_messages::messages::{Form, canonical_fault_of, size_of};
-use capnp_readers::readers::{CanonicalFault, MessageSize};
+use capnp_pointers::pointers::{CanonicalFault, MessageSize};
 use capnp_words::error::ErrorKind;
 use std::alloc::Global;
 
@@ -72,47 +72,39 @@ pub fn copy_segments(
     alloc: Global,
     form: Form,
     segments: &[&[u8]],
-    nesting: i32,
-    words: u64,
+    limits: Limits,
     to: &mut [u8],
 ) -> Result<usize, Refusal>
-    ensures copied { IfOk result (λ n. InSegments segments.now
-        (λ S. IsCopyOf form (limits_of nesting words) S (take n to.new))) }
-    ensures within { IfOk result (λ n. n ≤ length to.new) }
-    ensures behind { IfOk result (λ n. drop n to.new ≡ drop n to.old) }
+    ensures copied { Fills result to.old to.new (λ bytes. InSegments segments.now
+        (λ S. IsCopyOf form (limits_of limits.nesting limits.words) S bytes)) }
     ensures refused { IfErr result (λ r. RefusesSegments segments.now r
         ⊎ InSegments segments.now
-        (λ S. RefusesRoom form (limits_of nesting words) (length to.old) S r)) }
-    ensures kept { OnErr result (to.new ≡ to.old) }
+        (λ S. RefusesRoom form (limits_of limits.nesting limits.words) (length to.old) S r)) }
 {
     let lent = LentSegments::new(segments)?;
-    copy(alloc, form, lent, limits(nesting, words), to)
+    copy(alloc, form, lent, limits.options(), to)
 }
 
 /// Where and why the message of the segments isn't canonical, if it isn't.
-pub fn check_segments(
-    segments: &[&[u8]],
-    nesting: i32,
-    words: u64,
-) -> Result<Option<CanonicalFault>, Refusal>
+pub fn check_segments(segments: &[&[u8]], limits: Limits) -> Result<Option<CanonicalFault>, Refusal>
     ensures found { IfOk result (λ o. InSegments segments.now
-        (TestFinds (limits_of nesting words) o)) }
+        (TestFinds (limits_of limits.nesting limits.words) o)) }
     ensures refused { IfErr result (λ r. RefusesSegments segments.now r
         ⊎ InSegments segments.now
-        (λ S. RefusesMeaning Command.Check (limits_of nesting words) S r)) }
+        (λ S. RefusesMeaning Command.Check (limits_of limits.nesting limits.words) S r)) }
 {
     let lent = LentSegments::new(segments)?;
-    Ok(canonical_fault_of(lent, limits(nesting, words))?)
+    Ok(canonical_fault_of(lent, limits.options())?)
 }
 
 /// How large the message of the segments is.
-pub fn size_segments(segments: &[&[u8]], nesting: i32, words: u64) -> Result<MessageSize, Refusal>
+pub fn size_segments(segments: &[&[u8]], limits: Limits) -> Result<MessageSize, Refusal>
     ensures size { IfOk result (λ z. InSegments segments.now
-        (λ S. HasSizeOf S (limits_of nesting words) z.word_count z.cap_count)) }
+        (λ S. HasSizeOf S (limits_of limits.nesting limits.words) z.word_count z.cap_count)) }
     ensures refused { IfErr result (λ r. RefusesSegments segments.now r
         ⊎ InSegments segments.now
-        (λ S. RefusesMeaning Command.Size (limits_of nesting words) S r)) }
+        (λ S. RefusesMeaning Command.Size (limits_of limits.nesting limits.words) S r)) }
 {
     let lent = LentSegments::new(segments)?;
-    Ok(size_of(lent, limits(nesting, words))?)
+    Ok(size_of(lent, limits.options())?)
 }

@@ -5,14 +5,14 @@ ghost use Rattle.capnp_arena.specs.Output.{output_bytes};
 ghost use Rattle.capnp_messages.specs.Messages.{HasSizeOf};
 ghost use Rattle.capnp_messages.specs.declared.messages.command.Command.{Command};
 ghost use Rattle.capnp_messages.specs.declared.messages.command.Form.{Form};
-ghost use Rattle.capnp_canonical.specs.Calls.{InWords, IsCopyOf, IsOneSegment, RefusesMeaning, RefusesRoom, RefusesSegment, TestFinds, limits_of};
+ghost use Rattle.capnp_canonical.specs.Calls.{Fills, InWords, IsCopyOf, IsOneSegment, RefusesMeaning, RefusesRoom, RefusesSegment, TestFinds, limits_of};
 
-use crate::calls::{copy, limits};
+use crate::calls::{Limits, copy};
 use crate::refusal::Refusal;
 use crate::segments::without_null;
 use capnp_arena::arena::OutputSegments;
 use capnp_messages::messages::{Form, canonical_fault_of, size_of};
-use capnp_readers::readers::{CanonicalFault, MessageSize};
+use capnp_pointers::pointers::{CanonicalFault, MessageSize};
 use capnp_words::error::ErrorKind;
 use std::alloc::Global;
 
@@ -37,47 +37,39 @@ fn message_of(words: &[u8]) -> Result<OutputSegments<'_>, Refusal>
 pub fn copy_words(
     alloc: Global,
     words: &[u8],
-    nesting: i32,
-    limit: u64,
+    limits: Limits,
     to: &mut [u8],
 ) -> Result<usize, Refusal>
-    ensures copied { IfOk result (λ n. InWords words.now
-        (λ S. IsCopyOf Form.Flat (limits_of nesting limit) S (take n to.new))) }
-    ensures within { IfOk result (λ n. n ≤ length to.new) }
-    ensures behind { IfOk result (λ n. drop n to.new ≡ drop n to.old) }
+    ensures copied { Fills result to.old to.new (λ bytes. InWords words.now
+        (λ S. IsCopyOf Form.Flat (limits_of limits.nesting limits.words) S bytes)) }
     ensures refused { IfErr result (λ r. RefusesSegment words.now r
         ⊎ InWords words.now
-        (λ S. RefusesRoom Form.Flat (limits_of nesting limit) (length to.old) S r)) }
-    ensures kept { OnErr result (to.new ≡ to.old) }
+        (λ S. RefusesRoom Form.Flat (limits_of limits.nesting limits.words) (length to.old) S r)) }
 {
     let message = message_of(words)?;
-    copy(alloc, Form::Flat, message, limits(nesting, limit), to)
+    copy(alloc, Form::Flat, message, limits.options(), to)
 }
 
 /// Where and why the message isn't canonical, if it isn't.
-pub fn check_words(
-    words: &[u8],
-    nesting: i32,
-    limit: u64,
-) -> Result<Option<CanonicalFault>, Refusal>
+pub fn check_words(words: &[u8], limits: Limits) -> Result<Option<CanonicalFault>, Refusal>
     ensures found { IfOk result (λ o. InWords words.now
-        (TestFinds (limits_of nesting limit) o)) }
+        (TestFinds (limits_of limits.nesting limits.words) o)) }
     ensures refused { IfErr result (λ r. RefusesSegment words.now r
         ⊎ InWords words.now
-        (λ S. RefusesMeaning Command.Check (limits_of nesting limit) S r)) }
+        (λ S. RefusesMeaning Command.Check (limits_of limits.nesting limits.words) S r)) }
 {
     let message = message_of(words)?;
-    Ok(canonical_fault_of(message, limits(nesting, limit))?)
+    Ok(canonical_fault_of(message, limits.options())?)
 }
 
 /// How large the message is.
-pub fn size_words(words: &[u8], nesting: i32, limit: u64) -> Result<MessageSize, Refusal>
+pub fn size_words(words: &[u8], limits: Limits) -> Result<MessageSize, Refusal>
     ensures size { IfOk result (λ z. InWords words.now
-        (λ S. HasSizeOf S (limits_of nesting limit) z.word_count z.cap_count)) }
+        (λ S. HasSizeOf S (limits_of limits.nesting limits.words) z.word_count z.cap_count)) }
     ensures refused { IfErr result (λ r. RefusesSegment words.now r
         ⊎ InWords words.now
-        (λ S. RefusesMeaning Command.Size (limits_of nesting limit) S r)) }
+        (λ S. RefusesMeaning Command.Size (limits_of limits.nesting limits.words) S r)) }
 {
     let message = message_of(words)?;
-    Ok(size_of(message, limits(nesting, limit))?)
+    Ok(size_of(message, limits.options())?)
 }

@@ -7,8 +7,8 @@ use Rattle.capnp_format.specs.Canonical.{charge}
 use Rattle.capnp_format.proofs.Unique.{for_offset}
 use Rattle.capnp_arena.specs.declared.arena.reader_arena_impl.ReaderOptions.{ReaderOptions}
 use Rattle.capnp_objects.specs.Reading.{Reading}
-use Rattle.capnp_readers.specs.Checking.{IsCanonicalAt, IsFound, Progress, progress, TestStops}
-use Rattle.capnp_readers.proofs.NeverStops.{stops_never}
+use Rattle.capnp_pointers.specs.Checking.{IsCanonicalAt, IsFound, Progress, progress, TestStops}
+use Rattle.capnp_pointers.proofs.NeverStops.{stops_never}
 use Rattle.capnp_layout.specs.declared.tool.args.Args.TheVariants.{Check}
 use Rattle.capnp_layout.specs.Answers.{CheckOf, RefusesCommand}
 use Rattle.capnp_messages.specs.Messages.{left_of, root_within}

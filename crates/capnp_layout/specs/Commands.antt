@@ -14,6 +14,7 @@ use Rattle.capnp_arena.specs.declared.arena.reader_arena_impl.ReaderOptions.{Rea
 use Rattle.capnp_framing.specs.Flat.{BeginsWithFrame}
 use Rattle.capnp_framing.specs.Frames.{frame, max_frame_segments}
 use Rattle.capnp_framing.specs.Reading.{IsRefusedNumber, NoFrame}
+use Rattle.capnp_framing.specs.declared.devices.Output.{Ghosts}
 use Rattle.capnp_framing.specs.declared.framing.frame_error.FrameError.{FrameError}
 use Rattle.capnp_layout.specs.declared.tool.args.Args.{Args}
 use Rattle.capnp_layout.specs.declared.tool.args.Args.TheVariants.{Canon, Check, Size, Frame}
@@ -37,6 +38,10 @@ frame_line S = encode_lower (frame S) ++ 10 ∷ []
 abbrev pub segment_lines : Segments → List ℕ
 segment_lines [] = []
 segment_lines (ws ∷ S) = (digits_of ws ++ 10 ∷ []) ++ segment_lines S
+
+-- Segments can be written: they are within the limits of a reader, and the output has not failed.
+abbrev pub AreWritable : {W : Type 0} → Ghosts W → W → List (List ℕ) → Type 0
+AreWritable g output segments = (g.has_failed output ≡ false) × IsSmall segments
 
 -- the line of an answer to whether a message is canonical as a whole
 abbrev pub message_line : Bool → List ℕ

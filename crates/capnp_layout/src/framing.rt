@@ -1,13 +1,15 @@
 //! The segments of a message in a stream of bytes ("Serialization Over a Stream"), and whole messages in
 //! canonical form ("Canonicalization").
 
+mod pointed;
+
 pub use capnp_framing::framing::{
     FrameError, FrameSegments, MAX_SEGMENTS, OwnedSegments, read, read_from_flat_slice, read_into,
     read_into_with, read_segment_into, read_segment_into_with, write,
 };
 pub use capnp_messages::messages::{
     CanonicalCopy, CanonicalError, CopyMemory, canonical_bytes, canonical_fault, canonical_segment,
-    copy_canonical, copy_canonical_with, is_canonical_message, laws, read_root, write_canonical,
-    write_copy,
+    is_canonical_message, laws, write_copy,
 };
 pub use capnp_readers::readers::{CanonicalFault, CanonicalFaultReason};
+pub use pointed::{copy_canonical, copy_canonical_with, read_root, write_canonical};

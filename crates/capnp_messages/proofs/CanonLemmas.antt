@@ -22,6 +22,7 @@ use Rattle.capnp_messages.specs.Copies.{HoldsCanonicalWords, LacksMemoryOr, Outg
 use Rattle.capnp_messages.specs.Tries.{NeedsMoreRoom}
 use Rattle.capnp_arena_traits.specs.Allocations.{max_segment_words, one_more}
 use Rattle.capnp_arena_traits.specs.View.{View}
+use Rattle.capnp_making.specs.Makes.{call_at}
 
 -- the root of a fresh message is its only word, which is zero
 root_alone : (S : Segments) → S ≡ (0 ∷ []) ∷ [] → segment S 0 ≡ 0 ∷ []
@@ -41,7 +42,7 @@ only_segment (x ∷ y ∷ S) ws one e = absurd (omega (arith, one))
 
 -- a copy to the root is all of the message, if that has one segment afterwards
 pub made_copy : (r : Reading) (left : Option ℕ) (old made : View) (l m : Meter) → old.words ≡ (0 ∷ []) ∷ [] → l ≡ unused left →
-    MakesCopy (value_original r) (change canonical 0 0 old made l m) → (t : Tree) × Reads canonical r (unused left) m t × (length made.words ≡ 1 → HoldsCanonicalWords made t)
+    MakesCopy (value_original r) (change canonical (call_at 0 0 old made) l m) → (t : Tree) × Reads canonical r (unused left) m t × (length made.words ≡ 1 → HoldsCanonicalWords made t)
 made_copy r left old made l m fresh begun copied =
     let t = copied.value in
     let place = root_there old.words fresh in
@@ -53,7 +54,7 @@ made_copy r left old made l m fresh begun copied =
 
 -- where it has more, not all words fit in the first
 pub spread_copy : (r : Reading) (old new : View) (l m : Meter) → old.words ≡ (0 ∷ []) ∷ [] →
-    MakesCopy (value_original r) (change canonical 0 0 old new l m) → (length new.words ≡ 1) ⊎ NeedsMoreRoom r (old.room 0)
+    MakesCopy (value_original r) (change canonical (call_at 0 0 old new) l m) → (length new.words ≡ 1) ⊎ NeedsMoreRoom r (old.room 0)
 spread_copy r old new l m fresh copied =
     let t = copied.value in
     let reads : Reads canonical r l m t = copied.is_read in
@@ -79,7 +80,7 @@ want_of_words old new n k (inr (inr many), none) = ap wants_room many.0
 
 -- what refuses a copy to the root of a fresh message
 pub refused_copy : (r : Reading) (left : Option ℕ) (old new : View) (l m : Meter) (k : ErrorKind) → old.words ≡ (0 ∷ []) ∷ [] → l ≡ unused left →
-    StopsCopy (value_original r) (change canonical 0 0 old new l m) Null k → RefusesCopyAnywhere r left (old.room 0) k
+    StopsCopy (value_original r) (change canonical (call_at 0 0 old new) l m) Null k → RefusesCopyAnywhere r left (old.room 0) k
 refused_copy r left old new l m k fresh begun stop =
     let used : length (segment old.words 0) ≡ 1 = ap length (root_alone old.words fresh) in
     elim stop.why [
@@ -128,6 +129,11 @@ less_outgrown more room least (m, (n, stops, full)) = (m, (n, stops, omega (arit
 pub refused_try : {r : Reading} {left : Option ℕ} {k : ErrorKind} (more room : ℕ) → room ≤ more → wants_room k ≡ true → RefusesCopyAnywhere r left more k → RefusesCopy r left room (MessageTooLarge room)
 refused_try more room least want (inl (named, large, out)) = inl (refl, λ t c means. (let beyond = large t c means in omega arith), inr (less_outgrown more room least out))
 refused_try {k = k} more room least want (inr (m, refused)) = absurd (never_read k want refused)
+
+-- nor does one that is made in several segments
+pub refused_spread : {r : Reading} {left : Option ℕ} {n : ℕ} {m : Meter} {t : Tree} (more room : ℕ) → room ≤ more → (n ≡ 1) ⊎ NeedsMoreRoom r more → (n ≡ 1 → ⊥) → Reads canonical r (unused left) m t → RefusesCopy r left room (MessageTooLarge room)
+refused_spread more room least (inl one) other reads = absurd (other one)
+refused_spread {m = m} {t = t} more room least (inr needs) other reads = inl (refl, λ u c means. (let beyond = needs u c means in omega arith), inl (t, m, reads))
 
 -- the last try speaks for all room there can be
 pub last_try : {r : Reading} {left : Option ℕ} {room old new : ℕ} {k : ErrorKind} → (room ≡ max_segment_words) ⊎ (is_message_too_large k ≡ false) → LacksMemoryOr old new k (RefusesCopy r left room k) → LacksMemoryOr old new k (RefusesCopy r left max_segment_words k)

@@ -1,5 +1,5 @@
 -- What the test at the root of a message of one segment says of the whole message.
-use Rattle.std.proofs.Common.{◌≡◌, ◌↔◌, inr, ℕ, ◌+◌, ◌-◌, ◌<◌, ◌≤◌, List, [], ◌∷◌, take, drop, get_or, length, Bool, true, false, Option, Some, None, refl, ap, sym, ◌∙◌, subst, arith, length-drop, length-take}
+use Rattle.std.proofs.Common.{◌≡◌, ◌↔◌, inl, inr, ℕ, ◌+◌, ◌-◌, ◌<◌, ◌≤◌, List, [], ◌∷◌, take, drop, get_or, length, Bool, true, false, Option, Some, None, refl, ap, sym, ◌∙◌, subst, arith, length-drop, length-take}
 use Rattle.std.specs.Prelude.{IsNone, IfNone, IfSome, is_some, not}
 use Rattle.std.proofs.lemmas.List.{take_all}
 use Rattle.capnp_words.specs.declared.error.ErrorKind.{ErrorKind}
@@ -15,11 +15,11 @@ use Rattle.capnp_arena_traits.specs.Checks.{total_words}
 use Rattle.capnp_arena_traits.proofs.MessageLemmas.{length-message}
 use Rattle.capnp_objects.specs.Reading.{Reading}
 use Rattle.capnp_objects.specs.Spending.{Paid}
-use Rattle.capnp_readers.specs.declared.readers.canonical_fault.CanonicalFault.{CanonicalFault}
-use Rattle.capnp_readers.specs.declared.readers.canonical_fault.CanonicalFaultReason.TheVariants.{WordsBehind}
-use Rattle.capnp_readers.specs.Faults.{FaultIs}
-use Rattle.capnp_readers.specs.Checking.{IsCanonicalAt, IsFound, TestStops, progress}
-use Rattle.capnp_readers.proofs.NeverStops.{stops_never}
+use Rattle.capnp_pointers.specs.declared.pointers.canonical_fault.CanonicalFault.{CanonicalFault}
+use Rattle.capnp_pointers.specs.declared.pointers.canonical_fault.CanonicalFaultReason.TheVariants.{WordsBehind}
+use Rattle.capnp_pointers.specs.Faults.{FaultIs}
+use Rattle.capnp_pointers.specs.Checking.{IsCanonicalAt, IsFault, IsFound, TestEnds, TestStops, progress}
+use Rattle.capnp_pointers.proofs.NeverStops.{stops_never}
 use Rattle.capnp_messages.specs.Roots.{CoversRoot, message_root}
 use Rattle.capnp_framing.specs.Frames.{CanBeFramed, frame}
 use Rattle.capnp_framing.specs.Reading.{total}
@@ -128,6 +128,12 @@ pub some_exactly : {S : Segments} {n : ℕ} {old : Meter} {r : Reading} {m : Met
 some_exactly {S} {n} {r = r} {f = f} o root is same =
     let at_root : IsNone (Some f) ↔ IsCanonicalAt (message_root S n) 1 = moved (λ r m. IsNone (Some f) ↔ IsCanonicalAt r 1) root (subst (λ x. IsNone x ↔ IsCanonicalAt r 1) is same) in
     (λ wrong. absurd (let never : true ≡ false = wrong in cc), λ (t, canonical). at_root.1 (t, canonical_stands canonical))
+
+-- and that fault is the message's
+pub root_fault : {S : Segments} {n : ℕ} {old : Meter} {r : Reading} {m m' : Meter} {f : CanonicalFault} (o : Option CanonicalFault) → IsRootRead S n old r m → o ≡ Some f → IfSome o (λ e. TestEnds (IsFault e) r (progress 1 m) m') → IsRootFault f S n old m'
+root_fault {r = r} {m = m} {m' = m'} {f = f} o root is ends =
+    let there : TestEnds (IsFault f) r (progress 1 m) m' = subst (λ (x : Option CanonicalFault). IfSome x (λ e. TestEnds (IsFault e) r (progress 1 m) m')) is ends in
+    (root.covers, inl (moved (λ r m. TestEnds (IsFault f) r (progress 1 m) m') root there))
 
 -- where it finds a value whose words end with the segment, the message is canonical and paid
 pub whole_paid : {S : Segments} {n h : ℕ} {old : Meter} {r : Reading} {m m' : Meter} (o : Option CanonicalFault) → IsRootRead S n old r m → length S ≡ 1 → o ≡ None → IfNone o (IsFound r (progress 1 m) (progress h m')) → h ≡ length (segment S 0) → IsPaid S old m'

@@ -20,7 +20,7 @@ use Rattle.capnp_messages.proofs.CanonLemmas.{covers_root}
 use Rattle.capnp_messages.specs.CanonicalMessages.{IsMessageFault, RefusesTest}
 use Rattle.capnp_format.specs.Bytes.{message}
 use Rattle.capnp_arena_traits.proofs.MessageLemmas.{length-message}
-use Rattle.capnp_readers.specs.declared.readers.canonical_fault.CanonicalFault.{CanonicalFault}
+use Rattle.capnp_pointers.specs.declared.pointers.canonical_fault.CanonicalFault.{CanonicalFault}
 use Rattle.capnp_messages.specs.Messages.{IsFaultOf, IsValueOf, RefusesCanon, RefusesCheck, left_of, root_within}
 
 -- The root of a message is read, and m is what the limit has left.

@@ -15,10 +15,10 @@ use Rattle.capnp_objects.specs.Refusals.{GoesBefore, Refused, in_struct, in_poin
 use Rattle.capnp_objects.specs.Refusals.{here as refused_here, below as refused_below}
 use Rattle.capnp_objects.specs.Wanted.{plain}
 use Rattle.capnp_objects.proofs.Refusals.{unreadable}
-use Rattle.capnp_readers.specs.Checking.{FindsAll, FindsElements, Progress, TestStops, behind_object, here, below}
-use Rattle.capnp_readers.specs.Standing.{AllStand, ElementsStand}
-use Rattle.capnp_readers.proofs.Chains.{all_within, elements_within, stands_within}
-use Rattle.capnp_readers.proofs.Takes.{stands_means_at}
+use Rattle.capnp_pointers.specs.Checking.{FindsAll, FindsElements, Progress, TestStops, behind_object, here, below}
+use Rattle.capnp_pointers.specs.Standing.{AllStand, ElementsStand}
+use Rattle.capnp_pointers.proofs.Chains.{all_within, elements_within, stands_within}
+use Rattle.capnp_pointers.proofs.Takes.{stands_means_at}
 use Rattle.capnp_objects.proofs.Shorthands.{ReadsBefore}
 
 -- canonical words that stand one behind the other mean their values

@@ -6,6 +6,7 @@ use Rattle.capnp_format.specs.Bytes.{message, words_of}
 use Rattle.capnp_format.proofs.WordsOf.{length-words_of}
 use Rattle.capnp_arena_traits.specs.Allocations.{max_segment_words}
 use Rattle.capnp_arena_traits.specs.Checks.{total_words}
+use Rattle.capnp_arena_traits.specs.View.{View}
 use Rattle.capnp_arena_traits.proofs.MessageLemmas.{total-cons}
 use Rattle.capnp_words.specs.Meter.{Meter, unused}
 use Rattle.capnp_objects.specs.Reading.{Reading}
@@ -34,19 +35,29 @@ next_comes {r} come doubled little = record {
   ];
 }
 
+-- and that one has made the words
+pub made_by_try : {r : Reading} {offers there : ℕ → ℕ → Bool} {room refusals yet : ℕ} {made : View} → ComesTo r room →
+    there ≡ offers → yet ≡ refusals → IsTrue (there room (made.room 0)) → made.refusals ≡ yet → IsMadeByFirstTry r offers refusals made
+made_by_try {r} {offers} {there} {room} {refusals} {yet} {made} come same none asked granted = record {
+  try = come.try;
+  asked = subst (λ n. IsTrue (offers n (made.room 0))) come.asks (subst (λ (o : ℕ → ℕ → Bool). IsTrue (o room (made.room 0))) same asked);
+  before = come.before;
+  granted = granted ∙ none;
+}
+
 offered : (least room asked : ℕ) → least ≡ 0 → IsTrue (room == max least asked) → IsTrue (room == asked)
 offered least room asked none is = grind arith
 
 -- the same, where the place is written otherwise
-pub moved_tries : {r q : Reading} (offers : ℕ → ℕ → Bool) (room : ℕ) → r ≡ q → IsMadeByFirstTry r offers room → IsMadeByFirstTry q offers room
-moved_tries offers room place tries = subst (λ (x : Reading). IsMadeByFirstTry x offers room) place tries
+pub moved_tries : {r q : Reading} (offers : ℕ → ℕ → Bool) (refusals : ℕ) (made : View) → r ≡ q → IsMadeByFirstTry r offers refusals made → IsMadeByFirstTry q offers refusals made
+moved_tries offers refusals made place tries = subst (λ (x : Reading). IsMadeByFirstTry x offers refusals made) place tries
 
 -- the words that a heap offers which adds none are those that are asked for
-pub tries_as_asked : {r : Reading} (least room : ℕ) → least ≡ 0 →
-    IsMadeByFirstTry r (λ asked words. words == max least asked) room → IsMadeByFirstTry r as_asked room
-tries_as_asked {r} least room none tries =
+pub tries_as_asked : {r : Reading} {refusals : ℕ} {made : View} (least : ℕ) → least ≡ 0 → refusals ≡ 0 →
+    IsMadeByFirstTry r (λ asked words. words == max least asked) refusals made → IsMadeByFirstTry r as_asked 0 made
+tries_as_asked {r} {refusals} {made} least none yet tries =
     let asks : ℕ = room_of_try (words_read r) tries.try in
-    record { try = tries.try; asked = offered least room asks none tries.asked; before = tries.before }
+    record { try = tries.try; asked = offered least (made.room 0) asks none tries.asked; before = tries.before; granted = tries.granted ∙ yet }
 
 -- a try that says that something is too large has too little room
 pub try_too_small : {r : Reading} {left : Option ℕ} {room old new : ℕ} {k : ErrorKind} → is_message_too_large k ≡ true → LacksMemoryOr old new k (RefusesCopy r left room k) → NeedsMoreRoom r room

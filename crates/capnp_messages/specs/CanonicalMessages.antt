@@ -1,5 +1,5 @@
 -- Messages in canonical form as a whole, and the test for it ("Canonicalization").
-use Rattle.std.specs.Prelude.{◌≡◌, ◌≢◌, ◌⊎◌, ℕ, ◌+◌, ◌<◌, ◌≤◌, min, [], ◌∷◌, true, length}
+use Rattle.std.specs.Prelude.{◌≡◌, ◌≢◌, ◌⊎◌, ℕ, ◌+◌, ◌<◌, ◌≤◌, min, [], ◌∷◌, true, length, Result, IsOk, IfErr}
 use Rattle.capnp_words.specs.declared.error.ErrorKind.{ErrorKind}
 use Rattle.capnp_words.specs.Meter.{Meter, FitsIn, spent}
 use Rattle.capnp_format.specs.Segments.{Segments, segment}
@@ -7,11 +7,11 @@ use Rattle.capnp_format.specs.Tree.{Tree, depth}
 use Rattle.capnp_format.specs.Value.{IsValue}
 use Rattle.capnp_format.specs.Canonical.{IsEncodable, IsFree, IsTrimmed, charge, encoding, word_count}
 use Rattle.capnp_objects.specs.Spending.{Paid, pointers_in}
-use Rattle.capnp_readers.specs.declared.readers.canonical_fault.CanonicalFault.{CanonicalFault}
-use Rattle.capnp_readers.specs.declared.readers.canonical_fault.CanonicalFaultReason.TheVariants.{SegmentCount}
-use Rattle.capnp_readers.specs.declared.readers.canonical_fault.CanonicalFaultReason.TheVariants.{WordsBehind}
-use Rattle.capnp_readers.specs.Faults.{FaultIs}
-use Rattle.capnp_readers.specs.Checking.{Finds, TestEnds, IsFault, TestStops, progress}
+use Rattle.capnp_pointers.specs.declared.pointers.canonical_fault.CanonicalFault.{CanonicalFault}
+use Rattle.capnp_pointers.specs.declared.pointers.canonical_fault.CanonicalFaultReason.TheVariants.{SegmentCount}
+use Rattle.capnp_pointers.specs.declared.pointers.canonical_fault.CanonicalFaultReason.TheVariants.{WordsBehind}
+use Rattle.capnp_pointers.specs.Faults.{FaultIs}
+use Rattle.capnp_pointers.specs.Checking.{Finds, TestEnds, IsFault, TestStops, progress}
 use Rattle.capnp_messages.specs.Roots.{CoversRoot, RefusesRoot, message_root}
 
 -- A message is the canonical one of t: one segment, which holds t's canonical words and nothing else
@@ -47,6 +47,12 @@ abbrev pub RefusesTest : Segments → ℕ → Meter → Meter → ErrorKind → 
 RefusesTest S n m m' k =
     (RefusesRoot S m.left k × (m' ≡ m)) ⊎
     (CoversRoot S m.left × TestStops k (message_root S n) (progress 1 (spent m 1)) m')
+
+-- The test of a message, within n levels, with a limiter from m to m', is answered wherever it can be, and
+-- else refused for what stops it.
+pub record AnswersTest {A : Type 0} (result : Result A ErrorKind) (S : Segments) (n : ℕ) (m m' : Meter) : Type 0 where
+  pub answered : CanBeTested S n m → IsOk result
+  pub refused : IfErr result (RefusesTest S n m m')
 
 -- The test of a message of one segment finds the fault f, and leaves the limiter as m': a word is
 -- charged for the root pointer, and the test of what it leads to ends at f, or it finds the

@@ -1,6 +1,7 @@
 -- In how much room the canonical words of a message are tried to be made.
-use Rattle.std.specs.Prelude.{ℕ, ◌+◌, ◌*◌, ◌<◌, ◌==◌, zero, suc, min, if◌then◌else◌, Bool, IsTrue}
+use Rattle.std.specs.Prelude.{◌≡◌, ℕ, ◌+◌, ◌*◌, ◌<◌, ◌≤◌, ◌==◌, zero, suc, min, if◌then◌else◌, Bool, IsTrue}
 use Rattle.capnp_arena_traits.specs.Allocations.{max_segment_words}
+use Rattle.capnp_arena_traits.specs.View.{View}
 use Rattle.capnp_format.specs.Canonical.{trim, word_count}
 use Rattle.capnp_format.specs.Tree.{Tree}
 use Rattle.capnp_framing.specs.Reading.{total}
@@ -25,9 +26,15 @@ words_read r = if r.of_default then 0 else total r.segments
 abbrev pub as_asked : ℕ → ℕ → Bool
 as_asked asked words = words == asked
 
--- A try made the canonical words of what a place means: its segment, of this room, was offered for
--- what that try asks for, and what each try before it asks for is too little.
-pub record IsMadeByFirstTry (r : Reading) (offers : ℕ → ℕ → Bool) (room : ℕ) : Type 0 where
+-- A try made the canonical words of what a place means: its segment was offered for what that try asks for, what each try
+-- before it asks for is too little, and memory was refused no more often than so.
+pub record IsMadeByFirstTry (r : Reading) (offers : ℕ → ℕ → Bool) (refusals : ℕ) (made : View) : Type 0 where
   pub try : ℕ
-  pub asked : IsTrue (offers (room_of_try (words_read r) try) room)
+  pub asked : IsTrue (offers (room_of_try (words_read r) try) (made.room 0))
   pub before : (j : ℕ) → j < try → NeedsMoreRoom r (room_of_try (words_read r) j)
+  pub granted : made.refusals ≡ refusals
+
+-- For so many words a segment can be asked.
+pub record IsSegmentRoom (room : ℕ) : Type 0 where
+  pub some : 1 ≤ room
+  pub most : room ≤ max_segment_words

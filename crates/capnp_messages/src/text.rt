@@ -5,7 +5,7 @@ ghost use Rattle.capnp_framing.specs.Writing.{Writes};
 ghost use Rattle.capnp_messages.specs.Text.{IsBudget, IsNesting, size_line};
 
 use capnp_framing::devices::{DeviceFault, Output, write_all};
-use capnp_readers::readers::MessageSize;
+use capnp_pointers::pointers::MessageSize;
 
 /// Reads a nesting limit: an optional `-` and decimal digits; a `+` is refused.
 pub fn parse_nesting(text: &str) -> Option<i32>

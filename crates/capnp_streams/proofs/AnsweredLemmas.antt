@@ -1,23 +1,24 @@
 -- Of messages that have an answer none is refused: a fault is that of memory or of a device.
-use Rattle.std.proofs.Common.{◌≡◌, ◌≤◌, ◌⊎◌, inl, inr, ℕ, ◌++◌, List, [], ◌∷◌, Bool, Option, Some, None}
-use Rattle.std.proofs.Common.{All, IsSomeAnd}
+use Rattle.std.proofs.Common.{◌≡◌, ◌⊎◌, inl, inr, ℕ, ◌++◌, List, [], ◌∷◌, Bool, Option, Some, None}
+use Rattle.std.proofs.Common.{All, IsSomeAnd, Result, Ok, Err, OnOk, OnErr}
 use Rattle.std.proofs.Common.{refl, sym, ◌∙◌, subst}
 use Rattle.std.proofs.lemmas.List.Elements.{All-head, All-tail}
 use Rattle.std.specs.Io.KnownBytes.{Consumes, Keeps}
 use Rattle.capnp_format.specs.Segments.{Segments}
 use Rattle.capnp_framing.specs.Flat.{BeginsWithFrame}
-use Rattle.capnp_framing.specs.Frames.{IsFrameOf}
-use Rattle.capnp_framing.specs.Reading.{NoFrame, total}
+use Rattle.capnp_framing.specs.Reading.{NoFrame}
+use Rattle.capnp_framing.specs.Writing.{Writes}
+use Rattle.capnp_framing.specs.declared.devices.Output.{Ghosts}
 use Rattle.capnp_framing.proofs.FrameLemmas.{one_frame_begins}
 use Rattle.capnp_framing.proofs.ReadingLemmas.{frame_is_read}
 use Rattle.capnp_words.specs.declared.error.ErrorKind.{ErrorKind}
 use Rattle.capnp_words.specs.declared.error.ErrorKind.TheVariants.{AllocationFailed}
-use Rattle.capnp_messages.specs.Commands.{HasAnswerWithin}
+use Rattle.capnp_messages.specs.Commands.{HasAnswerWithin, RefusesAnswer}
 use Rattle.capnp_messages.specs.Copies.{LacksMemoryOr}
 use Rattle.capnp_messages.proofs.AnsweredLemmas.{answer_refused}
 use Rattle.capnp_messages.proofs.FramesLemmas.{no_bytes_begin}
-use Rattle.capnp_streams.specs.Streams.{AreDone, AreFrames, CanBeAnswered, EndsBehind, IsOfDevices}
-use Rattle.capnp_streams.specs.Streams.{RefusesBy, Stage, StopsAt, most_words}
+use Rattle.capnp_streams.specs.Streams.{AnswerIs, Answers, AreDone, AreFrames, CanBeAnswered, EndsBehind, IsOfDevices}
+use Rattle.capnp_streams.specs.Streams.{Question, Stage, StopsAt, most_words}
 use Rattle.capnp_framing.specs.declared.framing.frame_error.FrameError.{FrameError}
 use Rattle.capnp_framing.specs.declared.framing.frame_error.FrameError.TheVariants.{WriteFailed}
 use Rattle.capnp_streams.specs.declared.streams.fault.Fault.{Fault}
@@ -84,19 +85,6 @@ step_answerable {task} old left between after failed fault done (inr (stops, sam
         (subst (All (HasAnswerWithin task.command task.limits)) is all) in
         stops_so task more y after failed fault others rest stopped
 
--- a message that is refused is that at the front of what is left
-pub message_refused : {W U : Type 0} (task : Task) (S : Segments) (bytes : List ℕ) (left behind before after : Option (List ℕ))
-    (failed : Bool) (fault : Fault) → IsFrameOf S bytes → total S ≤ most_words task.limits → Consumes left behind bytes →
-    W ⊎ (RefusesBy task.command task.limits S fault × ((after ≡ before) × U)) →
-    W ⊎ (StopsAt task left behind failed fault × (after ≡ before))
-message_refused task S bytes left behind before after failed fault framed short consumed (inl written) = inl written
-message_refused task S bytes left behind before after failed (Frame e) framed short consumed (inr (refused, unwritten)) =
-    absurd refused
-message_refused task S bytes left behind before after failed (Layout k) framed short consumed (inr (refused, unwritten)) =
-    inr ((S, bytes, framed, short, consumed, refused), unwritten.0)
-message_refused task S bytes left behind before after failed TooManyMessages framed short consumed (inr (refused, unwritten)) =
-    absurd refused
-
 -- a run ends where a message isn't answered
 pub ends_behind : {W : Type 0} (task : Task) (old new : Stage) (failed : Bool) (stop : Stop) →
     W ⊎ (StopsAt task old.input new.input failed stop.fault × Keeps old.output new.output) →
@@ -108,3 +96,30 @@ ends_behind task old new failed stop (inr (stops, kept)) = inr (kept, inl stops)
 pub copy_refused : {old new : ℕ} {k : ErrorKind} {P : Type 0} → LacksMemoryOr old new k P → (k ≡ AllocationFailed) ⊎ P
 copy_refused (inl (lacks, counted)) = inl lacks
 copy_refused (inr (refused, counted)) = inr refused
+
+-- an answer was written, or the output has failed
+pub answer_written : {W A E : Type 0} (g : Ghosts W) (from to : W) (q : Question) {result : Result Bool Fault} (written : Result A E)
+    (holds : Bool) (bytes : List ℕ) → Writes g written from to bytes →
+    OnOk written (result ≡ Ok holds) → OnErr written (result ≡ Err (Frame WriteFailed)) →
+    AnswerIs q.command q.task q.asked_of holds bytes → Answers g from to q result
+answer_written g from to q (Ok x) holds bytes writes is failed answer =
+    subst (Answers g from to q) (sym is) (record {
+      answered = (bytes, answer, writes.written);
+      works = writes.works;
+      refused = tt;
+    })
+answer_written g from to q (Err e) holds bytes writes is failed answer =
+    subst (Answers g from to q) (sym failed) (record {
+      answered = tt;
+      works = tt;
+      refused = inl (refl, writes.fails);
+    })
+
+-- a command refuses a message, of which nothing was written
+pub answer_refuses : {W : Type 0} (g : Ghosts W) (from : W) (q : Question) (k : ErrorKind) →
+    RefusesAnswer q.command q.task.limits q.asked_of k → Answers g from from q (Err (Layout k))
+answer_refuses g from q k why = record {
+  answered = tt;
+  works = tt;
+  refused = inr (why, (refl, refl));
+}

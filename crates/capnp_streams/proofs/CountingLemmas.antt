@@ -1,5 +1,7 @@
 -- A copy that isn't made is counted where memory was wanting, and else not.
-use Rattle.std.proofs.Common.{◌≡◌, ◌∙◌, inl, inr, ℕ, Bool, true, false, if◌then◌else◌, length, nat_lt, ap, sym, subst}
+use Rattle.std.proofs.Common.{◌≡◌, ◌∙◌, inl, inr, ℕ, Bool, true, false, if◌then◌else◌, length, nat_lt, ap, refl, sym, subst}
+use Rattle.std.proofs.Common.{Option, IsSome, Result, Ok, Err, OnOk, OnErr, IfErr}
+use Rattle.std.specs.Option.{option_map_or}
 use Rattle.capnp_words.specs.declared.error.ErrorKind.{ErrorKind}
 use Rattle.capnp_words.specs.declared.error.ErrorKind.TheVariants.{AllocationFailed, InvalidSegmentId, MessageContainsOutOfBoundsPointer}
 use Rattle.capnp_format.specs.Segments.{Segments}
@@ -7,9 +9,14 @@ use Rattle.capnp_arena.specs.declared.arena.reader_arena_impl.ReaderOptions.{Rea
 use Rattle.capnp_making.specs.Memory.{refusals_for}
 use Rattle.capnp_making.proofs.Memory.{not_the_allocator}
 use Rattle.capnp_objects.proofs.Limits.{not_for_memory}
+use Rattle.capnp_framing.specs.declared.framing.frame_error.FrameError.TheVariants.{WriteFailed}
 use Rattle.capnp_messages.specs.Copies.{LacksMemoryOr}
+use Rattle.capnp_messages.specs.declared.messages.command.Command.{Command}
 use Rattle.capnp_messages.specs.Messages.{RefusesCanon}
 use Rattle.capnp_messages.specs.Roots.RefusesRoot.{no_root, no_budget}
+use Rattle.capnp_streams.specs.Streams.{CountsRefusals, refusals_behind}
+use Rattle.capnp_streams.specs.declared.streams.fault.Fault.{Fault}
+use Rattle.capnp_streams.specs.declared.streams.fault.Fault.TheVariants.{Frame}
 
 -- what is at no place has another name
 not_misplaced : (b : Bool) (id : ℕ) →
@@ -29,3 +36,20 @@ pub copy_counted : (S : Segments) (limits : ReaderOptions) {old new : ℕ} {k : 
 copy_counted S limits {old} {k = k} (inl (named, risen)) = risen ∙ sym (ap (λ (x : ErrorKind). refusals_for x old) named)
 copy_counted S limits {old} {k = k} (inr (refused, same)) =
     same ∙ sym (not_the_allocator k (λ named. never_canon S limits (subst (λ (x : ErrorKind). RefusesCanon S limits x) named refused)) old)
+
+-- an output that fails counts nothing
+pub written_uncounted : {A E : Type 0} (command : Command) (result : Result Bool Fault) (written : Result A E) (holds : Bool) →
+    OnOk written (result ≡ Ok holds) → OnErr written (result ≡ Err (Frame WriteFailed)) →
+    IfErr result (λ fault. (n : ℕ) → refusals_behind command fault n ≡ n)
+written_uncounted command result (Ok x) holds is failed =
+    subst (λ (r : Result Bool Fault). IfErr r (λ fault. (n : ℕ) → refusals_behind command fault n ≡ n)) (sym is) tt
+written_uncounted command result (Err e) holds is failed =
+    subst (λ (r : Result Bool Fault). IfErr r (λ fault. (n : ℕ) → refusals_behind command fault n ≡ n)) (sym failed) (λ n. refl)
+
+-- a command behind which as many refusals are counted as before, for a fault that isn't for want of memory
+pub memory_counted : {A : Type 0} (refusals : A → ℕ) (old new : Option A) (command : Command) (result : Result Bool Fault) →
+    IsSome new → option_map_or refusals new 0 ≡ option_map_or refusals old 0 →
+    IfErr result (λ fault. (n : ℕ) → refusals_behind command fault n ≡ n) → CountsRefusals refusals old new command result
+memory_counted refusals old new command (Ok holds) there same uncounted = record { there = there; kept = same; counted = tt }
+memory_counted refusals old new command (Err fault) there same uncounted =
+    record { there = there; kept = tt; counted = same ∙ sym (uncounted (option_map_or refusals old 0)) }

@@ -142,6 +142,13 @@ all_done {old = old} left between after end kept done = record {
   written = appends_keeps old.output between after done.answers done.written kept;
 }
 
+-- an output that kept what it had, and to which more was written then
+pub keeps_appends : (a b c : Option (List ℕ)) (bytes : List ℕ) → Keeps a b → Appends b c bytes → Appends a c bytes
+keeps_appends None b c bytes kept written = tt
+keeps_appends (Some x) None c bytes kept written = absurd kept
+keeps_appends (Some x) (Some y) None bytes kept written = absurd written
+keeps_appends (Some x) (Some y) (Some z) bytes kept written = written ∙ ap (λ (bs : List ℕ). bs ++ bytes) kept
+
 -- what isn't touched keeps what it had
 pub keeps_same : (a : Option (List ℕ)) → Keeps a a
 keeps_same None = tt

@@ -1,11 +1,13 @@
 -- The messages that stand in a stream, one frame behind the other, and what a task answers to them.
 use Rattle.std.specs.Prelude.{◌≡◌, ◌⊎◌, ℕ, ◌-◌, ◌^◌, ◌≤◌, min, List, [], ◌∷◌, ◌++◌, All, length, codes, ⊤}
-use Rattle.std.specs.Prelude.{Bool, true, false, ◌&&◌, Option, IfSome, unwrap_or}
+use Rattle.std.specs.Prelude.{Bool, true, false, ◌&&◌, Option, IsSome, IfSome, unwrap_or, Result, OnOk, IfOk, IfErr}
+use Rattle.std.specs.Option.{option_map_or}
 use Rattle.std.specs.Fmt.{decimal}
-use Rattle.std.specs.Io.KnownBytes.{Appends, Consumes, Keeps}
+use Rattle.std.specs.Io.KnownBytes.{Appends, Consumes, IsAtEnd, Keeps}
 use Rattle.hex.specs.Hex.{encode_lower}
 use Rattle.capnp_words.specs.Names.{name_of}
 use Rattle.capnp_words.specs.declared.error.ErrorKind.TheVariants.{AllocationFailed}
+use Rattle.capnp_format.specs.Bytes.{message}
 use Rattle.capnp_format.specs.Canonical.{encoding, trim}
 use Rattle.capnp_format.specs.Segments.{Segments}
 use Rattle.capnp_format.specs.Tree.{Tree}
@@ -14,13 +16,15 @@ use Rattle.capnp_framing.specs.Frames.{IsFrameOf, bytes_of_words}
 use Rattle.capnp_framing.specs.Memory.{frame_refusals}
 use Rattle.capnp_framing.specs.Names.{frame_error_name}
 use Rattle.capnp_framing.specs.Reading.{NoFrame, total}
+use Rattle.capnp_framing.specs.Wholeness.{KeepsWhole}
+use Rattle.capnp_framing.specs.Writing.{IsUnwritten, Prints}
 use Rattle.capnp_framing.specs.declared.devices.Input.{Ghosts as InputGhosts}
 use Rattle.capnp_framing.specs.declared.devices.Output.{Ghosts as OutputGhosts}
 use Rattle.capnp_framing.specs.declared.framing.frame_error.FrameError.TheVariants.{AllocationFailed as NoMemory}
 use Rattle.capnp_framing.specs.declared.framing.frame_error.FrameError.TheVariants.{ReadFailed, WriteFailed}
 use Rattle.capnp_making.specs.Memory.{refusals_for}
-use Rattle.capnp_readers.specs.Faults.{fault_reason_text}
-use Rattle.capnp_readers.specs.declared.readers.canonical_fault.CanonicalFault.{CanonicalFault}
+use Rattle.capnp_pointers.specs.Faults.{fault_reason_text}
+use Rattle.capnp_pointers.specs.declared.pointers.canonical_fault.CanonicalFault.{CanonicalFault}
 use Rattle.capnp_messages.specs.Text.{check_line, size_line}
 use Rattle.capnp_messages.specs.CanonicalMessages.{IsCanonicalMessage}
 use Rattle.capnp_messages.specs.Messages.{HasSizeOf, IsFaultOf, IsValueOf}
@@ -90,10 +94,34 @@ refusals_behind (Canon form) (Layout k) n = refusals_for k n
 refusals_behind Check (Layout k) n = n
 refusals_behind Size (Layout k) n = n
 
+-- An allocator is there behind a command, and has counted a refusal more where memory was wanting, and else none.
+pub record CountsRefusals {A B : Type 0} (refusals : A → ℕ) (old new : Option A) (command : Command) (result : Result B Fault) : Type 0 where
+  pub there : IsSome new
+  pub kept : OnOk result (option_map_or refusals new 0 ≡ option_map_or refusals old 0)
+  pub counted : IfErr result (λ fault. option_map_or refusals new 0 ≡ refusals_behind command fault (option_map_or refusals old 0))
+
+-- What is asked of a message: a command, with what else a task says.
+pub record Question : Type 0 where
+  pub command : Command
+  pub task : Task
+  pub asked_of : Segments
+
+-- what is asked of the message in segments
+abbrev pub question_on : Command → Task → List (List ℕ) → Question
+question_on command task segments = record { command = command; task = task; asked_of = message segments }
+
 module _ {W : Type 0} (g : OutputGhosts W) where
   -- A fault is that of an output, which has failed.
   abbrev pub IsWriteFault : W → Fault → Type 0
   IsWriteFault output fault = (fault ≡ Frame WriteFailed) × (g.has_failed output ≡ true)
+
+  -- A question is answered: from one state of an output to another, which works, the answer was written, with yes or
+  -- no as the result. Or it isn't: the output has failed; or the command refuses the message, and nothing was written.
+  pub record Answers (from to : W) (q : Question) (result : Result Bool Fault) : Type 0 where
+    pub answered : IfOk result (λ holds. (answer : List ℕ) × AnswerIs q.command q.task q.asked_of holds answer × Prints g from to answer)
+    pub works : OnOk result (g.has_failed to ≡ false)
+    pub refused : IfErr result (λ fault. IsWriteFault to fault
+        ⊎ (RefusesBy q.command q.task.limits q.asked_of fault × IsUnwritten g from to))
 
 -- Bytes are the frames of these messages, one behind the other, each of at most so many words.
 abbrev pub AreFrames : ℕ → List Segments → List ℕ → Type 0
@@ -118,6 +146,17 @@ pub record Stage : Type 0 where
 module _ {R W : Type 0} (g : InputGhosts R) (h : OutputGhosts W) where
   abbrev pub stage_of : R → W → Stage
   stage_of input output = record { input = g.remaining input; output = h.contents output }
+
+  -- Neither device has failed.
+  abbrev pub AreWorking : R → W → Type 0
+  AreWorking input output = (g.has_failed input ≡ false) × (h.has_failed output ≡ false)
+
+  -- A run came to the end of its input, from one state to another: nothing is left of that, its bytes ended as was
+  -- known, and neither device has failed.
+  pub record RunsToEnd (from to : R) (output : W) : Type 0 where
+    pub end : IsAtEnd (g.remaining to)
+    pub whole : KeepsWhole (g.ends_whole from) (g.ends_whole to)
+    pub work : AreWorking to output
 
 -- From one stage to another the frames of so many messages were taken from the front of the input, of so many
 -- bytes, up to those that 64 bits count, and what a task answers to these was written behind what the output had.

@@ -41,7 +41,7 @@ fn write_message<W: Output>(
     let source = ReaderArenaImpl::new(segments, options);
     let mut limiter = ReadLimiter::new(options.traversal_limit_in_words);
     match PointerReader::get_root_from_arena(&source, &mut limiter) {
-        Ok(root) => write_canonical(alloc, output, root, &mut limiter),
+        Ok(root) => write_canonical(alloc, output, root.pointer(), &mut limiter),
         Err(kind) => Err(CanonicalError::Layout(kind)),
     }
 }

@@ -9,7 +9,7 @@ use capnp_packing::buffered::{BufferedInput, BufferedOutput};
 pub struct Strain {
     /// How many calls succeed.
     pub calls: u64,
-    /// How many bytes a call moves at most, and at least one.
+    /// How many bytes a call moves at most; 0 counts as 1.
     pub most: usize,
 }
 

@@ -62,7 +62,8 @@ fn read_task(alloc: Global, text: &str) -> Result<Option<Task>, AllocError> {
     })
 }
 
-/// How many calls succeed, and how many bytes each moves at most, parted by a comma.
+/// How a device works: two numbers with a comma between them, how many of its calls succeed and how
+/// many bytes each moves at most. `None` where the text isn't of this form.
 fn read_strain(text: &str) -> Option<Strain> {
     let (calls, most) = text.split_once(',')?;
     Some(Strain {

@@ -1,4 +1,5 @@
-//! The objects that one pointer leads to, by the module that the readers stand on.
+//! The object that a pointer leads to, read by `Source::read_object` and its kin of `capnp_objects`,
+//! which `capnp_readers` gives again.
 use super::messages::*;
 use capnp_arena::arena::ReaderArena;
 use capnp_readers::object::{Expected, Object, Place};

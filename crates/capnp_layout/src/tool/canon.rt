@@ -31,9 +31,8 @@ pub(crate) fn canonical<A: Allocator>(
         × HoldsCanonicalWords (⟦<BuilderArenaImpl<A> as BuilderArena>⟧.view made) t) }
     ensures tries { IfOk result (λ made.
         IsMadeByFirstTry (root_within (message (segments_in source)) options)
-        (A.offers allocator) ((⟦<BuilderArenaImpl<A> as BuilderArena>⟧.view made).room 0)) }
-    ensures granted { IfOk result (λ made.
-        (⟦<BuilderArenaImpl<A> as BuilderArena>⟧.view made).refusals ≡ A.refusals allocator) }
+        (A.offers allocator) (A.refusals allocator)
+        (⟦<BuilderArenaImpl<A> as BuilderArena>⟧.view made)) }
     ensures refused { IfErr result
         (λ e. LacksMemoryOr (A.refusals allocator) (A.refusals e.1) e.0
         (RefusesMessage (segments_in source) (Args.Canon options) e.0)) }

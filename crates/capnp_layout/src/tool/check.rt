@@ -8,8 +8,8 @@ ghost use Rattle.capnp_layout.specs.Messages.{segments_in};
 use super::args::Args;
 use super::limits::within_limits;
 use super::lines::Message;
+use crate::framing::read_root;
 use capnp_arena::arena::{ReaderArenaImpl, ReaderOptions};
-use capnp_messages::messages::read_root;
 use capnp_words::error::ErrorKind;
 use capnp_words::read_limiter::ReadLimiter;
 

@@ -6,6 +6,7 @@ ghost use Rattle.capnp_framing.specs.Writing.{Prints};
 ghost use Rattle.capnp_layout.specs.Lines.{segments_of};
 ghost use Rattle.capnp_layout.specs.Messages.{segments_in};
 ghost use Rattle.capnp_layout.specs.Commands.{IsAnswer, IsWithin, WhyRefused};
+ghost use Rattle.capnp_layout.specs.Reading.{CountsRead, WorksUnlessBad};
 ghost use Rattle.capnp_layout.specs.Refusals.{refusal_line};
 ghost use Rattle.capnp_layout.specs.declared.tool.refusal.Refusal.{Refusal};
 ghost use Rattle.capnp_layout.specs.Runs.{AreLinesOf, TextHasAnswer, IsBadInput, IsForMemoryOr, Responds};
@@ -48,17 +49,11 @@ fn read_message<A: Allocator, R: Input>(
 ) -> Result<Message, InputFault>
     requires { R.has_failed input.old ≡ false }
     ensures segments { IfOk result (λ m. AreLinesOf (R.remaining input.old) (segments_in m)) }
-    ensures kept { OnOk result (A.refusals allocator.new ≡ A.refusals allocator.old) }
     ensures bad { IfErr result (λ e. e ≡ InputFault.BadInput
         → (R.has_failed input.new ≡ true)
         ⊎ IfSome (R.remaining input.old) (λ text. segments_of text ≡ None)) }
-    ensures same { IfErr result (λ e. e ≡ InputFault.BadInput
-        → A.refusals allocator.new ≡ A.refusals allocator.old) }
-    ensures memory { IfErr result (λ e. e ≡ InputFault.NoMemory
-        → A.refusals allocator.new ≡ one_more (A.refusals allocator.old)) }
-    ensures works { OnOk result (R.has_failed input.new ≡ false) }
-    ensures unfailed { IfErr result (λ e. e ≡ InputFault.NoMemory
-        → R.has_failed input.new ≡ false) }
+    ensures counted { CountsRead (A.refusals allocator.old) (A.refusals allocator.new) result }
+    ensures works { WorksUnlessBad (R.has_failed input.new) result }
 {
     let text = read_text(alloc, allocator, input)?;
     read_lines(alloc, allocator, text.as_slice())

@@ -7,7 +7,7 @@ ghost use Rattle.capnp_format.specs.Segments.{segment};
 ghost use Rattle.capnp_arena_traits.specs.Limits.{IsSmall};
 ghost use Rattle.capnp_framing.specs.Frames.{contents, lengths, max_frame_segments, padding_size};
 ghost use Rattle.capnp_framing.specs.Writing.{Writes};
-ghost use Rattle.capnp_layout.specs.Commands.{frame_line, segment_lines};
+ghost use Rattle.capnp_layout.specs.Commands.{AreWritable, frame_line, segment_lines};
 
 use super::writing::{write_digits, write_words};
 use crate::devices::{DeviceFault, Output, write_all};
@@ -41,15 +41,12 @@ fn write_number<W: Output>(output: &mut W, number: u32) -> Result<(), DeviceFaul
 fn write_lengths<W: Output, S: ReaderSegments>(
     output: &mut W,
     segments: &S,
-    count: u32,
 ) -> Result<(), DeviceFault>
-    requires works { W.has_failed output.old ≡ false }
-    requires small { IsSmall (S.segments segments.now) }
-    requires count { count ≡ length (S.segments segments.now) }
+    requires { AreWritable W.Output output.old (S.segments segments.now) }
     ensures { Writes W.Output result output.old output.new
         (encode_lower (lengths (message (S.segments segments.now)))) }
 {
-    for i in 0..count {
+    for i in 0..segments.len() as u32 {
         let words = segment_at(segments, i).len() / 8;
         write_number(output, words as u32)?;
     }
@@ -74,15 +71,12 @@ fn write_padding<W: Output>(output: &mut W, count: u32) -> Result<(), DeviceFaul
 fn write_contents<W: Output, S: ReaderSegments>(
     output: &mut W,
     segments: &S,
-    count: u32,
 ) -> Result<(), DeviceFault>
-    requires works { W.has_failed output.old ≡ false }
-    requires small { IsSmall (S.segments segments.now) }
-    requires count { count ≡ length (S.segments segments.now) }
+    requires { AreWritable W.Output output.old (S.segments segments.now) }
     ensures { Writes W.Output result output.old output.new
         (encode_lower (contents (message (S.segments segments.now)))) }
 {
-    for i in 0..count {
+    for i in 0..segments.len() as u32 {
         write_digits(output, segment_at(segments, i))?;
     }
     Ok(())
@@ -93,8 +87,7 @@ pub(crate) fn write_frame<W: Output, S: ReaderSegments>(
     output: &mut W,
     segments: &S,
 ) -> Result<(), DeviceFault>
-    requires works { W.has_failed output.old ≡ false }
-    requires small { IsSmall (S.segments segments.now) }
+    requires writable { AreWritable W.Output output.old (S.segments segments.now) }
     requires some { 1 ≤ length (S.segments segments.now) }
     requires few { length (S.segments segments.now) ≤ max_frame_segments }
     ensures { Writes W.Output result output.old output.new
@@ -102,9 +95,9 @@ pub(crate) fn write_frame<W: Output, S: ReaderSegments>(
 {
     let count = segments.len() as u32;
     write_number(output, count - 1)?;
-    write_lengths(output, segments, count)?;
+    write_lengths(output, segments)?;
     write_padding(output, count)?;
-    write_contents(output, segments, count)?;
+    write_contents(output, segments)?;
     write_all(output, b"\n")
 }
 
@@ -113,8 +106,7 @@ pub(crate) fn write_segments<W: Output, S: ReaderSegments>(
     output: &mut W,
     segments: &S,
 ) -> Result<(), DeviceFault>
-    requires works { W.has_failed output.old ≡ false }
-    requires small { IsSmall (S.segments segments.now) }
+    requires { AreWritable W.Output output.old (S.segments segments.now) }
     ensures { Writes W.Output result output.old output.new
         (segment_lines (message (S.segments segments.now))) }
 {

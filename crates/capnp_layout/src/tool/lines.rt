@@ -5,6 +5,7 @@ ghost use Rattle.hex.specs.Hex.{decode_of};
 ghost use Rattle.capnp_arena_traits.specs.Allocations.{one_more};
 ghost use Rattle.capnp_arena_traits.specs.Limits.{IsSmall};
 ghost use Rattle.capnp_layout.specs.Lines.{lines_of, segments_of};
+ghost use Rattle.capnp_layout.specs.Reading.{CountsRead};
 ghost use Rattle.capnp_words.specs.declared.error.ErrorKind.TheVariants.{AllocationFailed};
 
 use capnp_arena::arena::{Allocator, ReaderSegments};
@@ -63,7 +64,7 @@ impl ReaderSegments for Message {
     }
 }
 
-/// Puts bytes behind others. Each that finds no memory is refused by the allocator.
+/// Puts bytes behind others, until the allocator refuses memory for one.
 pub(crate) fn keep_bytes<A: Allocator>(
     allocator: &mut A,
     list: &mut Vec<u8>,
@@ -122,12 +123,8 @@ fn read_line<A: Allocator>(
     line: &[u8],
 ) -> Result<Vec<u8>, InputFault>
     ensures bytes { IfOk result (λ v. decode_of line.now ≡ Ok v.items) }
-    ensures kept { OnOk result (A.refusals allocator.new ≡ A.refusals allocator.old) }
     ensures bad { IfErr result (λ e. e ≡ InputFault.BadInput → IsErr (decode_of line.now)) }
-    ensures same { IfErr result (λ e. e ≡ InputFault.BadInput
-        → A.refusals allocator.new ≡ A.refusals allocator.old) }
-    ensures memory { IfErr result (λ e. e ≡ InputFault.NoMemory
-        → A.refusals allocator.new ≡ one_more (A.refusals allocator.old)) }
+    ensures counted { CountsRead (A.refusals allocator.old) (A.refusals allocator.new) result }
 {
     let mut bytes = Vec::new(alloc);
     for _ in 0..line.len() / 2 {
@@ -149,12 +146,8 @@ pub fn read_lines<A: Allocator>(
 ) -> Result<Message, InputFault>
     ensures segments { IfOk result (λ m. segments_of text.now
         ≡ Some (⟦<Message as ReaderSegments>⟧.segments m)) }
-    ensures kept { OnOk result (A.refusals allocator.new ≡ A.refusals allocator.old) }
     ensures bad { IfErr result (λ e. e ≡ InputFault.BadInput → segments_of text.now ≡ None) }
-    ensures same { IfErr result (λ e. e ≡ InputFault.BadInput
-        → A.refusals allocator.new ≡ A.refusals allocator.old) }
-    ensures memory { IfErr result (λ e. e ≡ InputFault.NoMemory
-        → A.refusals allocator.new ≡ one_more (A.refusals allocator.old)) }
+    ensures counted { CountsRead (A.refusals allocator.old) (A.refusals allocator.new) result }
 {
     let mut segments = Vec::new(alloc);
     let mut rest = text;

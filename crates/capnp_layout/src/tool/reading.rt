@@ -1,13 +1,14 @@
 //! All bytes of an input, kept in memory.
-ghost use Rattle.std.specs.Prelude.{◌≡◌, ◌++◌, false, true, OnOk, IfOk, IfErr, IfSome};
-ghost use Rattle.capnp_arena_traits.specs.Allocations.{one_more};
+ghost use Rattle.std.specs.Prelude.{◌≡◌, ◌++◌, false, true, IfOk, IfErr, IfSome};
+ghost use Rattle.capnp_layout.specs.Reading.{CountsRead, WorksUnlessBad};
 
 use super::lines::{InputFault, keep_bytes};
 use crate::devices::Input;
 use capnp_arena::arena::Allocator;
 use std::alloc::Global;
 
-/// Reads an input to its end.
+/// Gives all bytes that an input still has. `BadInput` says that a read failed, `NoMemory` that the
+/// allocator refused, which it has counted; the bytes read until then are lost.
 pub(crate) fn read_text<A: Allocator, R: Input>(
     alloc: Global,
     allocator: &mut A,
@@ -15,15 +16,9 @@ pub(crate) fn read_text<A: Allocator, R: Input>(
 ) -> Result<Vec<u8>, InputFault>
     requires { R.has_failed input.old ≡ false }
     ensures bytes { IfOk result (λ v. IfSome (R.remaining input.old) (λ text. v.items ≡ text)) }
-    ensures kept { OnOk result (A.refusals allocator.new ≡ A.refusals allocator.old) }
-    ensures works { OnOk result (R.has_failed input.new ≡ false) }
     ensures bad { IfErr result (λ e. e ≡ InputFault.BadInput → R.has_failed input.new ≡ true) }
-    ensures same { IfErr result (λ e. e ≡ InputFault.BadInput
-        → A.refusals allocator.new ≡ A.refusals allocator.old) }
-    ensures memory { IfErr result (λ e. e ≡ InputFault.NoMemory
-        → A.refusals allocator.new ≡ one_more (A.refusals allocator.old)) }
-    ensures unfailed { IfErr result (λ e. e ≡ InputFault.NoMemory
-        → R.has_failed input.new ≡ false) }
+    ensures counted { CountsRead (A.refusals allocator.old) (A.refusals allocator.new) result }
+    ensures works { WorksUnlessBad (R.has_failed input.new) result }
 {
     let mut text = Vec::new(alloc);
     let mut buffer = [0u8; 4096];

@@ -12,17 +12,18 @@ ghost use Rattle.capnp_arena_traits.specs.Allocations.{max_segment_words, one_mo
 ghost use Rattle.capnp_objects.specs.Outcomes.{Reads};
 ghost use Rattle.capnp_objects.specs.Refusals.{Refused};
 ghost use Rattle.capnp_objects.specs.Wanted.{canonical};
-ghost use Rattle.capnp_readers.specs.Readers.{reading};
+ghost use Rattle.capnp_pointers.specs.Pointers.{reading};
 ghost use Rattle.capnp_messages.specs.Copies.{HoldsCanonicalWords, LacksMemoryOr, RefusesCopy, RefusesCopyAnywhere, is_message_too_large, wants_room};
 ghost use Rattle.capnp_messages.specs.CanonicalErrors.{IsLeftOf};
-ghost use Rattle.capnp_messages.specs.Tries.{IsMadeByFirstTry, NeedsMoreRoom, as_asked, room_of_try, words_read};
+ghost use Rattle.capnp_messages.specs.Tries.{IsMadeByFirstTry, IsSegmentRoom, NeedsMoreRoom, as_asked, room_of_try, words_read};
 
 use capnp_arena::arena::{
     Allocator, BuilderArena, BuilderArenaImpl, HeapAllocator, MAX_SEGMENT_WORDS, ReaderArena,
 };
 use capnp_copies::copy::copy_value;
+use capnp_making::making::Start;
 use capnp_objects::source::Source;
-use capnp_readers::readers::PointerReader;
+use capnp_pointers::pointers::Pointer;
 use capnp_words::error::ErrorKind;
 use capnp_words::read_limiter::ReadLimiter;
 use std::alloc::Global;
@@ -42,7 +43,7 @@ fn is_want_of_room(kind: ErrorKind) -> bool
 /// so many words that the copy was charged to is given.
 fn copy_root<A: BuilderArena, B: ReaderArena>(
     arena: &mut A,
-    from: PointerReader<'_, B>,
+    from: Pointer<'_, B>,
     left: Option<usize>,
 ) -> Result<ReadLimiter, ErrorKind>
     requires root { (A.view arena.old).words ≡ (0 ∷ []) ∷ [] }
@@ -56,7 +57,8 @@ fn copy_root<A: BuilderArena, B: ReaderArena>(
         (RefusesCopyAnywhere (reading B.ReaderArena from.entry) left ((A.view arena.old).room 0)) }
 {
     let mut lim = ReadLimiter::new(left);
-    copy_value(arena, 0, 0, from, &mut lim, true)?;
+    let root = Start { segment: 0, at: 0 };
+    copy_value(arena, root, from, &mut lim, true)?;
     Ok(lim)
 }
 
@@ -64,7 +66,7 @@ fn copy_root<A: BuilderArena, B: ReaderArena>(
 /// `MessageTooLarge` with that number.
 fn copy_to_segment<A: Allocator, B: ReaderArena>(
     arena: &mut BuilderArenaImpl<A>,
-    from: PointerReader<'_, B>,
+    from: Pointer<'_, B>,
     left: Option<usize>,
     room: u32,
 ) -> Result<ReadLimiter, ErrorKind>
@@ -100,8 +102,7 @@ fn copy_to_segment<A: Allocator, B: ReaderArena>(
 /// root, which is null.
 fn make_root<A: Allocator>(made: &mut BuilderArenaImpl<A>, room: u32) -> Result<(), ErrorKind>
     requires none { ⟦<BuilderArenaImpl<A> as ReaderArena>⟧.segments made.old ≡ [] }
-    requires some { 1 ≤ room }
-    requires most { room ≤ max_segment_words }
+    requires room { IsSegmentRoom room }
     ensures root { OnOk result ((⟦<BuilderArenaImpl<A> as BuilderArena>⟧.view made.new).words
         ≡ (0 ∷ []) ∷ []) }
     ensures room { OnOk result
@@ -157,12 +158,11 @@ fn settle(lim: &mut ReadLimiter, own: ReadLimiter)
 fn copy_to_message<A: Allocator, B: ReaderArena>(
     alloc: Global,
     allocator: A,
-    from: PointerReader<'_, B>,
+    from: Pointer<'_, B>,
     lim: &mut ReadLimiter,
     room: u32,
 ) -> Result<BuilderArenaImpl<A>, (ErrorKind, A)>
-    requires some { 1 ≤ room }
-    requires most { room ≤ max_segment_words }
+    requires room { IsSegmentRoom room }
     ensures copied { IfOk result (λ made. (t : Tree)
         × Reads canonical (reading B.ReaderArena from.entry) lim.old lim.new t
         × HoldsCanonicalWords (⟦<BuilderArenaImpl<A> as BuilderArena>⟧.view made) t) }
@@ -201,9 +201,8 @@ fn is_too_large(kind: ErrorKind) -> bool
 
 /// The room of the first try: the words of the input and one more, up to the greatest segment.
 fn first_room(words: usize) -> u32
-    ensures room { result ≡ room_of_try words 0 }
-    ensures some { 1 ≤ result }
-    ensures most { result ≤ max_segment_words }
+    ensures first { result ≡ room_of_try words 0 }
+    ensures can_be_asked { IsSegmentRoom result }
 {
     if words < MAX_SEGMENT_WORDS as usize {
         words as u32 + 1
@@ -221,7 +220,7 @@ fn next_room(room: u32) -> u32
 }
 
 /// How many words there are where a pointer is read: those of an arena, else none.
-fn words_of_source<B: ReaderArena>(from: &PointerReader<'_, B>) -> usize
+fn words_of_source<B: ReaderArena>(from: &Pointer<'_, B>) -> usize
     ensures { result ≡ words_read (reading B.ReaderArena from.now) }
 {
     match from.source {
@@ -235,13 +234,12 @@ fn words_of_source<B: ReaderArena>(from: &PointerReader<'_, B>) -> usize
 /// for it.
 pub(super) fn copy_in_room<A: Allocator, B: ReaderArena>(
     made: &mut BuilderArenaImpl<A>,
-    from: PointerReader<'_, B>,
+    from: Pointer<'_, B>,
     left: Option<usize>,
     room: u32,
 ) -> Result<bool, ErrorKind>
     requires none { ⟦<BuilderArenaImpl<A> as ReaderArena>⟧.segments made.old ≡ [] }
-    requires some { 1 ≤ room }
-    requires most { room ≤ max_segment_words }
+    requires room { IsSegmentRoom room }
     ensures copied { IfOk result (λ fits. OnTrue fits ((t : Tree) × (after : Meter)
         × Reads canonical (reading B.ReaderArena from.entry) (unused left) after t
         × HoldsCanonicalWords (⟦<BuilderArenaImpl<A> as BuilderArena>⟧.view made.new) t)) }
@@ -278,17 +276,15 @@ pub(super) fn copy_in_room<A: Allocator, B: ReaderArena>(
 pub fn copy_canonical_with<A: Allocator, B: ReaderArena>(
     alloc: Global,
     allocator: A,
-    from: PointerReader<'_, B>,
+    from: Pointer<'_, B>,
     lim: &mut ReadLimiter,
 ) -> Result<BuilderArenaImpl<A>, (ErrorKind, A)>
     ensures copied { IfOk result (λ made. (t : Tree)
         × Reads canonical (reading B.ReaderArena from.entry) lim.old lim.new t
         × HoldsCanonicalWords (⟦<BuilderArenaImpl<A> as BuilderArena>⟧.view made) t) }
     ensures tries { IfOk result (λ made. IsMadeByFirstTry (reading B.ReaderArena from.entry)
-        (A.offers allocator)
-        ((⟦<BuilderArenaImpl<A> as BuilderArena>⟧.view made).room 0)) }
-    ensures granted { IfOk result (λ made.
-        (⟦<BuilderArenaImpl<A> as BuilderArena>⟧.view made).refusals ≡ A.refusals allocator) }
+        (A.offers allocator) (A.refusals allocator)
+        (⟦<BuilderArenaImpl<A> as BuilderArena>⟧.view made)) }
     ensures refused { IfErr result
         (λ e. LacksMemoryOr (A.refusals allocator) (A.refusals e.1) e.0
         (RefusesCopy (reading B.ReaderArena from.entry) lim.old.left max_segment_words e.0)) }
@@ -316,14 +312,14 @@ pub type CanonicalCopy = BuilderArenaImpl<HeapAllocator>;
 /// The same as `copy_canonical_with`, with memory of the heap: just as many words as each try asks for.
 pub fn copy_canonical<B: ReaderArena>(
     alloc: Global,
-    from: PointerReader<'_, B>,
+    from: Pointer<'_, B>,
     lim: &mut ReadLimiter,
 ) -> Result<CanonicalCopy, ErrorKind>
     ensures copied { IfOk result (λ made. (t : Tree)
         × Reads canonical (reading B.ReaderArena from.entry) lim.old lim.new t
         × HoldsCanonicalWords (⟦<CanonicalCopy as BuilderArena>⟧.view made) t) }
     ensures tries { IfOk result (λ made. IsMadeByFirstTry (reading B.ReaderArena from.entry)
-        as_asked ((⟦<CanonicalCopy as BuilderArena>⟧.view made).room 0)) }
+        as_asked 0 (⟦<CanonicalCopy as BuilderArena>⟧.view made)) }
     ensures refused { IfErr result (λ k. (k ≡ AllocationFailed)
         ⊎ RefusesCopy (reading B.ReaderArena from.entry) lim.old.left max_segment_words k) }
     ensures unread { OnErr result (lim.new ≡ lim.old) }

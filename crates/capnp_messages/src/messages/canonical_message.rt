@@ -3,10 +3,10 @@ ghost use Rattle.std.specs.Prelude.{◌≡◌, ◌↔◌, false, true, length, O
 ghost use Rattle.capnp_words.specs.Meter.{spent};
 ghost use Rattle.capnp_format.specs.Bytes.{message};
 ghost use Rattle.capnp_objects.specs.Source.{levels};
-ghost use Rattle.capnp_readers.specs.Readers.{reading};
-ghost use Rattle.capnp_readers.specs.declared.readers.canonical_fault.CanonicalFault.{CanonicalFault};
+ghost use Rattle.capnp_pointers.specs.Pointers.{reading};
+ghost use Rattle.capnp_pointers.specs.declared.pointers.canonical_fault.CanonicalFault.{CanonicalFault};
 ghost use Rattle.capnp_messages.specs.Roots.{CoversRoot, RefusesRoot, message_root};
-ghost use Rattle.capnp_messages.specs.CanonicalMessages.{CanBeTested, IsCanonicalMessage, IsMessageFault, IsPaid, RefusesTest};
+ghost use Rattle.capnp_messages.specs.CanonicalMessages.{IsCanonicalMessage, IsMessageFault, IsPaid, AnswersTest};
 
 use super::message_fault::canonical_fault;
 use capnp_arena::arena::{ReaderArena, ReaderArenaImpl, ReaderSegments};
@@ -31,18 +31,13 @@ pub fn is_canonical_message<S: ReaderSegments>(
     ensures paid { result ≡ Ok true →
         IsPaid (message (⟦<ReaderArenaImpl<S> as ReaderArena>⟧.segments arena.now))
         lim.old lim.new }
-    ensures answered { CanBeTested (message
-        (⟦<ReaderArenaImpl<S> as ReaderArena>⟧.segments arena.now))
-        (levels arena.now.nesting_limit) lim.old
-        → IsOk result }
+    ensures answered { AnswersTest result
+        (message (⟦<ReaderArenaImpl<S> as ReaderArena>⟧.segments arena.now))
+        (levels arena.now.nesting_limit) lim.old lim.new }
     ensures failed { result ≡ Ok false → (f : CanonicalFault) ×
         IsMessageFault f (message (⟦<ReaderArenaImpl<S> as ReaderArena>⟧.segments arena.now))
         (levels arena.now.nesting_limit)
         lim.old lim.new }
-    ensures refused { IfErr result (
-        RefusesTest (message (⟦<ReaderArenaImpl<S> as ReaderArena>⟧.segments arena.now))
-        (levels arena.now.nesting_limit)
-        lim.old lim.new) }
 {
     Ok(canonical_fault(arena, lim)?.is_none())
 }

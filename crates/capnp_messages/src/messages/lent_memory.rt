@@ -103,19 +103,7 @@ impl<'a> Allocator for LentMemory<'a> {
     ghost grants = { λ a words. nat_le words max_segment_words
         && option_map_or (λ bytes. nat_le (8 * words) bytes) a.memory false };
 
-    fn allocate_segment(&mut self, min_words: u32) -> Result<&'a mut [u8], ErrorKind>
-        ensures fresh { IfOk result (λ s. IsFresh min_words s.now) }
-        ensures size { IfOk result (λ s. IsTrue (length s.now / 8 == min_words)) }
-        ensures counted { OnOk result (self.new.refused ≡ self.old.refused) }
-        ensures too_large { max_segment_words < min_words
-            → (result ≡ Err (MessageTooLarge min_words)) × (self.new.refused ≡ self.old.refused) }
-        ensures refused { min_words ≤ max_segment_words
-            → IfErr result (λ e. (e ≡ AllocationFailed)
-            × (self.new.refused ≡ one_more self.old.refused)) }
-        ensures offers { ⟦<Self as Allocator>⟧.offers self.new
-            ≡ ⟦<Self as Allocator>⟧.offers self.old }
-        ensures sure { IsTrue (⟦<Self as Allocator>⟧.grants self.old min_words) → IsOk result }
-    {
+    fn allocate_segment(&mut self, min_words: u32) -> Result<&'a mut [u8], ErrorKind> {
         if min_words > MAX_SEGMENT_WORDS {
             return Err(ErrorKind::MessageTooLarge(min_words as usize));
         }
@@ -129,20 +117,9 @@ impl<'a> Allocator for LentMemory<'a> {
     }
 
     /// It isn't lent again.
-    fn deallocate_segment(&mut self, _segment: &'a mut [u8], _used_words: u32)
-        ensures refusals { self.new.refused ≡ self.old.refused }
-        ensures offers { ⟦<Self as Allocator>⟧.offers self.new
-            ≡ ⟦<Self as Allocator>⟧.offers self.old }
-    {}
+    fn deallocate_segment(&mut self, _segment: &'a mut [u8], _used_words: u32) {}
 
-    fn keep<T>(&mut self, list: &mut Vec<T>, row: T) -> Option<T>
-        ensures kept { IsNone result → (list.new.items ≡ list.old.items ++ row ∷ [])
-            × (self.new.refused ≡ self.old.refused) }
-        ensures given_back { IfSome result (λ r. (r ≡ row) × (list.new.items ≡ list.old.items)
-            × (self.new.refused ≡ one_more self.old.refused)) }
-        ensures offers { ⟦<Self as Allocator>⟧.offers self.new
-            ≡ ⟦<Self as Allocator>⟧.offers self.old }
-    {
+    fn keep<T>(&mut self, list: &mut Vec<T>, row: T) -> Option<T> {
         match list.push(row) {
             Ok(()) => None,
             Err(e) => {

@@ -3,14 +3,14 @@ ghost use Rattle.std.specs.Prelude.{◌≡◌, ◌≢◌, ◌↔◌, None, Some,
 ghost use Rattle.capnp_words.specs.Meter.{spent};
 ghost use Rattle.capnp_format.specs.Bytes.{message};
 ghost use Rattle.capnp_objects.specs.Source.{levels};
-ghost use Rattle.capnp_readers.specs.Faults.{FaultIs};
-ghost use Rattle.capnp_readers.specs.Readers.{reading};
+ghost use Rattle.capnp_pointers.specs.Faults.{FaultIs};
+ghost use Rattle.capnp_pointers.specs.Pointers.{reading};
 ghost use Rattle.capnp_messages.specs.Roots.{CoversRoot, RefusesRoot, message_root};
-ghost use Rattle.capnp_messages.specs.CanonicalMessages.{CanBeTested, IsCanonicalMessage, IsMessageFault, IsPaid, IsRootFault, IsWithinLevels, RefusesTest};
+ghost use Rattle.capnp_messages.specs.CanonicalMessages.{IsCanonicalMessage, IsMessageFault, IsPaid, AnswersTest, IsWithinLevels};
 
 use super::root::read_root;
 use capnp_arena::arena::{ReaderArena, ReaderArenaImpl, ReaderSegments};
-use capnp_readers::readers::{CanonicalFault, CanonicalFaultReason};
+use capnp_pointers::pointers::{CanonicalFault, CanonicalFaultReason};
 use capnp_words::error::ErrorKind;
 use capnp_words::read_limiter::ReadLimiter;
 
@@ -31,48 +31,6 @@ fn segment_count_fault<A: ReaderArena>(arena: &A) -> Option<CanonicalFault>
     })
 }
 
-/// Where and why the words of the only segment aren't the canonical ones of a value.
-fn segment_fault<S: ReaderSegments>(
-    arena: &ReaderArenaImpl<S>,
-    lim: &mut ReadLimiter,
-) -> Result<Option<CanonicalFault>, ErrorKind>
-    requires { length (⟦<ReaderArenaImpl<S> as ReaderArena>⟧.segments arena.now) ≡ 1 }
-    ensures exactly { IfOk result (λ o. IsNone o
-        ↔ IsCanonicalMessage (message (⟦<ReaderArenaImpl<S> as ReaderArena>⟧.segments arena.now))) }
-    ensures paid { IfOk result (λ o. IfNone o (
-        IsPaid (message (⟦<ReaderArenaImpl<S> as ReaderArena>⟧.segments arena.now))
-        lim.old lim.new)) }
-    ensures within { IfOk result (λ o. IfNone o (
-        IsWithinLevels (message (⟦<ReaderArenaImpl<S> as ReaderArena>⟧.segments arena.now))
-        (levels arena.now.nesting_limit))) }
-    ensures answered { CanBeTested (message
-        (⟦<ReaderArenaImpl<S> as ReaderArena>⟧.segments arena.now))
-        (levels arena.now.nesting_limit) lim.old
-        → IsOk result }
-    ensures fault { IfOk result (λ o. IfSome o (λ f.
-        IsRootFault f (message (⟦<ReaderArenaImpl<S> as ReaderArena>⟧.segments arena.now))
-        (levels arena.now.nesting_limit)
-        lim.old lim.new)) }
-    ensures refused { IfErr result (
-        RefusesTest (message (⟦<ReaderArenaImpl<S> as ReaderArena>⟧.segments arena.now))
-        (levels arena.now.nesting_limit)
-        lim.old lim.new) }
-{
-    let root = read_root(arena, lim)?;
-    let mut head = 1;
-    if let Some(fault) = root.canonical_fault(lim, &mut head)? {
-        return Ok(Some(fault));
-    }
-    if head as usize == arena.size_in_words() {
-        return Ok(None);
-    }
-    Ok(Some(CanonicalFault {
-        segment: 0,
-        word: head,
-        reason: CanonicalFaultReason::WordsBehind,
-    }))
-}
-
 /// Where and why a message isn't canonical as a whole, or `None` where it is: `is_canonical_message` with
 /// the place of the no. What is read, charged and refused is as there.
 ///
@@ -91,23 +49,31 @@ pub fn canonical_fault<S: ReaderSegments>(
     ensures within { IfOk result (λ o. IfNone o (
         IsWithinLevels (message (⟦<ReaderArenaImpl<S> as ReaderArena>⟧.segments arena.now))
         (levels arena.now.nesting_limit))) }
-    ensures answered { CanBeTested (message
-        (⟦<ReaderArenaImpl<S> as ReaderArena>⟧.segments arena.now))
-        (levels arena.now.nesting_limit) lim.old
-        → IsOk result }
+    ensures answered { AnswersTest result
+        (message (⟦<ReaderArenaImpl<S> as ReaderArena>⟧.segments arena.now))
+        (levels arena.now.nesting_limit) lim.old lim.new }
     ensures fault { IfOk result (λ o. IfSome o (λ f.
         IsMessageFault f (message (⟦<ReaderArenaImpl<S> as ReaderArena>⟧.segments arena.now))
         (levels arena.now.nesting_limit)
         lim.old lim.new)) }
     ensures unread { (length (⟦<ReaderArenaImpl<S> as ReaderArena>⟧.segments arena.now) ≡ 1 → ⊥)
         → IsOk result × (lim.new ≡ lim.old) }
-    ensures refused { IfErr result (
-        RefusesTest (message (⟦<ReaderArenaImpl<S> as ReaderArena>⟧.segments arena.now))
-        (levels arena.now.nesting_limit)
-        lim.old lim.new) }
 {
-    match segment_count_fault(arena) {
-        Some(fault) => Ok(Some(fault)),
-        None => segment_fault(arena, lim),
+    let of_count = segment_count_fault(arena);
+    if of_count.is_some() {
+        return Ok(of_count);
     }
+    let root = read_root(arena, lim)?;
+    let mut head = 1;
+    if let Some(fault) = root.canonical_fault(lim, &mut head)? {
+        return Ok(Some(fault));
+    }
+    if head as usize == arena.size_in_words() {
+        return Ok(None);
+    }
+    Ok(Some(CanonicalFault {
+        segment: 0,
+        word: head,
+        reason: CanonicalFaultReason::WordsBehind,
+    }))
 }

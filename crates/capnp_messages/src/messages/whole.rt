@@ -9,7 +9,7 @@ ghost use Rattle.capnp_arena_traits.specs.Allocations.{max_segment_words, one_mo
 ghost use Rattle.capnp_arena_traits.specs.Limits.{IsSmall};
 ghost use Rattle.capnp_messages.specs.Copies.{HoldsCanonicalWords, LacksMemoryOr};
 ghost use Rattle.capnp_messages.specs.CanonicalMessages.{IsCanonicalMessage};
-ghost use Rattle.capnp_messages.specs.Tries.{IsMadeByFirstTry, NeedsMoreRoom, as_asked};
+ghost use Rattle.capnp_messages.specs.Tries.{IsMadeByFirstTry, IsSegmentRoom, NeedsMoreRoom, as_asked};
 ghost use Rattle.capnp_messages.specs.Messages.{HasSizeOf, HasSizeWithin, IsFaultOf, IsValueOf, RefusesCanon, RefusesCheck, RefusesSize, root_within};
 
 use super::canonical_copy::{CanonicalCopy, copy_canonical_with, copy_in_room};
@@ -19,7 +19,7 @@ use capnp_arena::arena::{
     Allocator, BuilderArena, BuilderArenaImpl, HeapAllocator, ReaderArena, ReaderArenaImpl,
     ReaderOptions, ReaderSegments,
 };
-use capnp_readers::readers::{CanonicalFault, MessageSize};
+use capnp_pointers::pointers::{CanonicalFault, MessageSize};
 use capnp_words::error::ErrorKind;
 use capnp_words::read_limiter::ReadLimiter;
 use std::alloc::Global;
@@ -37,9 +37,8 @@ pub fn canonical_from<A: Allocator, S: ReaderSegments>(
         × HoldsCanonicalWords (⟦<BuilderArenaImpl<A> as BuilderArena>⟧.view made) t) }
     ensures tries { IfOk result (λ made. IsMadeByFirstTry (root_within
         (message (⟦<ReaderArenaImpl<S> as ReaderArena>⟧.segments source.now)) limits)
-        (A.offers allocator) ((⟦<BuilderArenaImpl<A> as BuilderArena>⟧.view made).room 0)) }
-    ensures granted { IfOk result (λ made.
-        (⟦<BuilderArenaImpl<A> as BuilderArena>⟧.view made).refusals ≡ A.refusals allocator) }
+        (A.offers allocator) (A.refusals allocator)
+        (⟦<BuilderArenaImpl<A> as BuilderArena>⟧.view made)) }
     ensures refused { IfErr result
         (λ e. LacksMemoryOr (A.refusals allocator) (A.refusals e.1) e.0 (RefusesCanon
         (message (⟦<ReaderArenaImpl<S> as ReaderArena>⟧.segments source.now)) limits e.0)) }
@@ -62,8 +61,7 @@ pub fn canonical_in_room<A: Allocator, S: ReaderSegments>(
 ) -> Result<bool, ErrorKind>
     requires nesting { source.now.nesting_limit ≡ limits.nesting_limit }
     requires none { ⟦<BuilderArenaImpl<A> as ReaderArena>⟧.segments made.old ≡ [] }
-    requires some { 1 ≤ room }
-    requires most { room ≤ max_segment_words }
+    requires room { IsSegmentRoom room }
     ensures copied { IfOk result (λ fits. OnTrue fits ((t : Tree)
         × IsValueOf (message (⟦<ReaderArenaImpl<S> as ReaderArena>⟧.segments source.now)) limits t
         × HoldsCanonicalWords (⟦<BuilderArenaImpl<A> as BuilderArena>⟧.view made.new) t)) }
@@ -97,9 +95,8 @@ pub fn canonical_with<A: Allocator, S: ReaderSegments + Drop>(
         × HoldsCanonicalWords (⟦<BuilderArenaImpl<A> as BuilderArena>⟧.view made) t) }
     ensures tries { IfOk result (λ made.
         IsMadeByFirstTry (root_within (message (S.segments segments)) limits)
-        (A.offers allocator) ((⟦<BuilderArenaImpl<A> as BuilderArena>⟧.view made).room 0)) }
-    ensures granted { IfOk result (λ made.
-        (⟦<BuilderArenaImpl<A> as BuilderArena>⟧.view made).refusals ≡ A.refusals allocator) }
+        (A.offers allocator) (A.refusals allocator)
+        (⟦<BuilderArenaImpl<A> as BuilderArena>⟧.view made)) }
     ensures refused { IfErr result
         (λ e. LacksMemoryOr (A.refusals allocator) (A.refusals e.1) e.0
         (RefusesCanon (message (S.segments segments)) limits e.0)) }
@@ -120,7 +117,7 @@ pub fn canonical_of<S: ReaderSegments + Drop>(
         × HoldsCanonicalWords (⟦<CanonicalCopy as BuilderArena>⟧.view made) t) }
     ensures tries { IfOk result (λ made.
         IsMadeByFirstTry (root_within (message (S.segments segments)) limits)
-        as_asked ((⟦<CanonicalCopy as BuilderArena>⟧.view made).room 0)) }
+        as_asked 0 (⟦<CanonicalCopy as BuilderArena>⟧.view made)) }
     ensures refused { IfErr result (λ k. (k ≡ AllocationFailed)
         ⊎ RefusesCanon (message (S.segments segments)) limits k) }
 {
@@ -133,8 +130,8 @@ pub fn canonical_of<S: ReaderSegments + Drop>(
 /// Where and why a message isn't canonical as a whole, or `None` where it is: one segment, which
 /// holds the canonical words of a value and nothing else ("Canonicalization"). It takes no memory.
 ///
-/// The fault is the first that is met, as of `canonical_fault`. A message of one segment
-/// is read within the limits, and no other is refused.
+/// The fault is the first that is met, as of `canonical_fault`. Only a message of one segment
+/// is read, within the limits, and only that may be refused; of any other the fault is `SegmentCount`.
 pub fn canonical_fault_of<S: ReaderSegments + Drop>(
     segments: S,
     limits: ReaderOptions,

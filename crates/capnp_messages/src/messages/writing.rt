@@ -12,7 +12,7 @@ ghost use Rattle.capnp_framing.specs.declared.framing.frame_error.FrameError.{Fr
 ghost use Rattle.capnp_framing.specs.declared.framing.frame_error.FrameError.TheVariants.{WriteFailed};
 ghost use Rattle.capnp_objects.specs.Outcomes.{Reads};
 ghost use Rattle.capnp_objects.specs.Wanted.{canonical};
-ghost use Rattle.capnp_readers.specs.Readers.{reading};
+ghost use Rattle.capnp_pointers.specs.Pointers.{reading};
 ghost use Rattle.capnp_messages.specs.Commands.{form_bytes};
 ghost use Rattle.capnp_messages.specs.Copies.{RefusesCopy};
 
@@ -23,7 +23,7 @@ use super::copy_memory::CopyMemory;
 use capnp_arena::arena::{Allocator, BuilderArena, BuilderArenaImpl, OutputSegments, ReaderArena};
 use capnp_framing::devices::{DeviceFault, Output, write_all};
 use capnp_framing::framing::{FrameError, write};
-use capnp_readers::readers::PointerReader;
+use capnp_pointers::pointers::Pointer;
 use capnp_words::read_limiter::ReadLimiter;
 use capnp_words::words::{count, part};
 use std::alloc::Global;
@@ -78,10 +78,7 @@ pub fn write_words<W: Output>(output: &mut W, bytes: &[u8], form: Form) -> Resul
     requires works { W.has_failed output.old ≡ false }
     requires short { length bytes.now < 2 ^ 35 }
     requires whole { bytes.now ≡ bytes_of_words (words_of bytes.now) }
-    ensures written { OnOk result (Prints W.Output output.old output.new
-        (form_bytes form (words_of bytes.now))) }
-    ensures works { OnOk result (W.has_failed output.new ≡ false) }
-    ensures fails { OnErr result (W.has_failed output.new ≡ true) }
+    ensures { Writes W.Output result output.old output.new (form_bytes form (words_of bytes.now)) }
 {
     match form {
         Form::Framed => write_framed(output, bytes),
@@ -118,7 +115,7 @@ pub fn write_copy<W: Output, A: Allocator>(
 pub fn write_canonical<W: Output, B: ReaderArena>(
     alloc: Global,
     output: &mut W,
-    from: PointerReader<'_, B>,
+    from: Pointer<'_, B>,
     lim: &mut ReadLimiter,
 ) -> Result<(), CanonicalError>
     requires { W.has_failed output.old ≡ false }

@@ -1,10 +1,8 @@
 //! The answer to one message.
-ghost use Rattle.std.specs.Prelude.{◌≡◌, ◌⊎◌, ℕ, List, Some, false, IsSome, OnOk, IfOk, IfErr};
-ghost use Rattle.std.specs.Option.{option_map_or};
-ghost use Rattle.capnp_format.specs.Bytes.{message};
+ghost use Rattle.std.specs.Prelude.{◌≡◌, ℕ, Some, Ok, Err, false, IsSome, OnOk, OnErr, IfErr};
 ghost use Rattle.capnp_arena_traits.specs.Limits.{IsSmall};
-ghost use Rattle.capnp_framing.specs.Writing.{IsUnwritten, Prints};
-ghost use Rattle.capnp_streams.specs.Streams.{AnswerIs, IsWriteFault, RefusesBy, refusals_behind};
+ghost use Rattle.capnp_framing.specs.declared.framing.frame_error.FrameError.TheVariants.{WriteFailed};
+ghost use Rattle.capnp_streams.specs.Streams.{Answers, CountsRefusals, question_on, refusals_behind};
 
 use super::fault::Fault;
 use super::task::Task;
@@ -66,6 +64,17 @@ fn is_first_segment<S: ReaderSegments>(source: &ReaderArenaImpl<S>, bytes: &[u8]
     }
 }
 
+/// The answer of a command that has written it, or the fault of the output.
+fn if_written(written: Result<(), DeviceFault>, holds: bool) -> Result<bool, Fault>
+    ensures written { OnOk written (result ≡ Ok holds) }
+    ensures failed { OnErr written (result ≡ Err (Fault.Frame WriteFailed)) }
+{
+    match written {
+        Ok(()) => Ok(holds),
+        Err(DeviceFault) => Err(WRITE_FAILED),
+    }
+}
+
 /// Writes a message in canonical form by a copy, and notes whether it is the message as it stands.
 fn canon_copy<A: Allocator, S: ReaderSegments, W: Output>(
     memory: &mut Memory<A>,
@@ -77,20 +86,10 @@ fn canon_copy<A: Allocator, S: ReaderSegments, W: Output>(
     requires there { IsSome memory.old.allocator }
     requires nesting { source.now.nesting_limit ≡ task.limits.nesting_limit }
     requires works { W.has_failed output.old ≡ false }
-    ensures answered { IfOk result (λ holds. (answer : List ℕ)
-        × AnswerIs (Command.Canon form) task
-        (message (⟦<ReaderArenaImpl<S> as ReaderArena>⟧.segments source.now)) holds answer
-        × Prints W.Output output.old output.new answer) }
-    ensures works { OnOk result (W.has_failed output.new ≡ false) }
-    ensures refused { IfErr result (λ fault. IsWriteFault W.Output output.new fault
-        ⊎ (RefusesBy (Command.Canon form) task.limits
-        (message (⟦<ReaderArenaImpl<S> as ReaderArena>⟧.segments source.now)) fault
-        × IsUnwritten W.Output output.old output.new)) }
-    ensures there { IsSome memory.new.allocator }
-    ensures kept { OnOk result (option_map_or A.refusals memory.new.allocator 0
-        ≡ option_map_or A.refusals memory.old.allocator 0) }
-    ensures counted { IfErr result (λ fault. option_map_or A.refusals memory.new.allocator 0
-        ≡ refusals_behind (Command.Canon form) fault (option_map_or A.refusals memory.old.allocator 0)) }
+    ensures answer { Answers W.Output output.old output.new (question_on (Command.Canon form) task
+        (⟦<ReaderArenaImpl<S> as ReaderArena>⟧.segments source.now)) result }
+    ensures memory { CountsRefusals A.refusals memory.old.allocator memory.new.allocator
+        (Command.Canon form) result }
 {
     let Some(allocator) = memory.allocator.take() else {
         unreachable!()
@@ -101,10 +100,7 @@ fn canon_copy<A: Allocator, S: ReaderSegments, W: Output>(
             memory.was_canonical = is_first_segment(source, words);
             let written = write_canonical_words(output, words, task.hex, form);
             memory.allocator = Some(made.into_allocator());
-            match written {
-                Ok(()) => Ok(true),
-                Err(DeviceFault) => Err(WRITE_FAILED),
-            }
+            if_written(written, true)
         }
         Err((kind, allocator)) => {
             memory.allocator = Some(allocator);
@@ -125,26 +121,15 @@ fn canon<A: Allocator, S: ReaderSegments + Drop, W: Output>(
     requires there { IsSome memory.old.allocator }
     requires small { IsSmall (S.segments segments) }
     requires works { W.has_failed output.old ≡ false }
-    ensures answered { IfOk result (λ holds. (answer : List ℕ)
-        × AnswerIs (Command.Canon form) task (message (S.segments segments)) holds answer
-        × Prints W.Output output.old output.new answer) }
-    ensures works { OnOk result (W.has_failed output.new ≡ false) }
-    ensures refused { IfErr result (λ fault. IsWriteFault W.Output output.new fault
-        ⊎ (RefusesBy (Command.Canon form) task.limits (message (S.segments segments)) fault
-        × IsUnwritten W.Output output.old output.new)) }
-    ensures there { IsSome memory.new.allocator }
-    ensures kept { OnOk result (option_map_or A.refusals memory.new.allocator 0
-        ≡ option_map_or A.refusals memory.old.allocator 0) }
-    ensures counted { IfErr result (λ fault. option_map_or A.refusals memory.new.allocator 0
-        ≡ refusals_behind (Command.Canon form) fault (option_map_or A.refusals memory.old.allocator 0)) }
+    ensures answer { Answers W.Output output.old output.new
+        (question_on (Command.Canon form) task (S.segments segments)) result }
+    ensures memory { CountsRefusals A.refusals memory.old.allocator memory.new.allocator
+        (Command.Canon form) result }
 {
     let source = ReaderArenaImpl::new(segments, task.limits);
     if memory.was_canonical {
         if let Some(words) = canonical_segment(&source, task.limits) {
-            return match write_canonical_words(output, words, task.hex, form) {
-                Ok(()) => Ok(true),
-                Err(DeviceFault) => Err(WRITE_FAILED),
-            };
+            return if_written(write_canonical_words(output, words, task.hex, form), true);
         }
     }
     canon_copy(memory, form, task, &source, output)
@@ -158,25 +143,14 @@ fn check<S: ReaderSegments + Drop, W: Output>(
 ) -> Result<bool, Fault>
     requires small { IsSmall (S.segments segments) }
     requires works { W.has_failed output.old ≡ false }
-    ensures answered { IfOk result (λ holds. (answer : List ℕ)
-        × AnswerIs Command.Check task (message (S.segments segments)) holds answer
-        × Prints W.Output output.old output.new answer) }
-    ensures works { OnOk result (W.has_failed output.new ≡ false) }
-    ensures refused { IfErr result (λ fault. IsWriteFault W.Output output.new fault
-        ⊎ (RefusesBy Command.Check task.limits (message (S.segments segments)) fault
-        × IsUnwritten W.Output output.old output.new)) }
+    ensures answer { Answers W.Output output.old output.new
+        (question_on Command.Check task (S.segments segments)) result }
     ensures uncounted { IfErr result (λ fault.
         (n : ℕ) → refusals_behind Command.Check fault n ≡ n) }
 {
     match canonical_fault_of(segments, task.limits) {
-        Ok(None) => match write_canonical(output) {
-            Ok(()) => Ok(true),
-            Err(DeviceFault) => Err(WRITE_FAILED),
-        },
-        Ok(Some(fault)) => match write_fault(output, fault) {
-            Ok(()) => Ok(false),
-            Err(DeviceFault) => Err(WRITE_FAILED),
-        },
+        Ok(None) => if_written(write_canonical(output), true),
+        Ok(Some(fault)) => if_written(write_fault(output, fault), false),
         Err(kind) => Err(Fault::Layout(kind)),
     }
 }
@@ -189,21 +163,13 @@ fn size<S: ReaderSegments + Drop, W: Output>(
 ) -> Result<bool, Fault>
     requires small { IsSmall (S.segments segments) }
     requires works { W.has_failed output.old ≡ false }
-    ensures answered { IfOk result (λ holds. (answer : List ℕ)
-        × AnswerIs Command.Size task (message (S.segments segments)) holds answer
-        × Prints W.Output output.old output.new answer) }
-    ensures works { OnOk result (W.has_failed output.new ≡ false) }
-    ensures refused { IfErr result (λ fault. IsWriteFault W.Output output.new fault
-        ⊎ (RefusesBy Command.Size task.limits (message (S.segments segments)) fault
-        × IsUnwritten W.Output output.old output.new)) }
+    ensures answer { Answers W.Output output.old output.new
+        (question_on Command.Size task (S.segments segments)) result }
     ensures uncounted { IfErr result (λ fault.
         (n : ℕ) → refusals_behind Command.Size fault n ≡ n) }
 {
     match size_of(segments, task.limits) {
-        Ok(size) => match write_size(output, size) {
-            Ok(()) => Ok(true),
-            Err(DeviceFault) => Err(WRITE_FAILED),
-        },
+        Ok(size) => if_written(write_size(output, size), true),
         Err(kind) => Err(Fault::Layout(kind)),
     }
 }
@@ -218,18 +184,10 @@ pub(super) fn answer<A: Allocator, S: ReaderSegments + Drop, W: Output>(
     requires there { IsSome memory.old.allocator }
     requires small { IsSmall (S.segments segments) }
     requires works { W.has_failed output.old ≡ false }
-    ensures answered { IfOk result (λ holds. (answer : List ℕ)
-        × AnswerIs task.command task (message (S.segments segments)) holds answer
-        × Prints W.Output output.old output.new answer) }
-    ensures works { OnOk result (W.has_failed output.new ≡ false) }
-    ensures refused { IfErr result (λ fault. IsWriteFault W.Output output.new fault
-        ⊎ (RefusesBy task.command task.limits (message (S.segments segments)) fault
-        × IsUnwritten W.Output output.old output.new)) }
-    ensures there { IsSome memory.new.allocator }
-    ensures kept { OnOk result (option_map_or A.refusals memory.new.allocator 0
-        ≡ option_map_or A.refusals memory.old.allocator 0) }
-    ensures counted { IfErr result (λ fault. option_map_or A.refusals memory.new.allocator 0
-        ≡ refusals_behind task.command fault (option_map_or A.refusals memory.old.allocator 0)) }
+    ensures answer { Answers W.Output output.old output.new
+        (question_on task.command task (S.segments segments)) result }
+    ensures memory { CountsRefusals A.refusals memory.old.allocator memory.new.allocator
+        task.command result }
 {
     match task.command {
         Command::Canon(form) => canon(memory, form, task, segments, output),

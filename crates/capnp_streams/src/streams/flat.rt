@@ -1,11 +1,9 @@
 //! A task done with the one message whose bare words an input has, without a frame.
-ghost use Rattle.std.specs.Prelude.{◌≡◌, ◌⊎◌, false, true, OnOk, IfOk, IfErr, IsSomeAnd};
-ghost use Rattle.std.specs.Io.KnownBytes.{IsAtEnd};
+ghost use Rattle.std.specs.Prelude.{◌≡◌, ◌⊎◌, true, OnOk, IfOk, IfErr, IsSomeAnd};
 ghost use Rattle.capnp_framing.specs.declared.framing.frame_error.FrameError.TheVariants.{ReadFailed};
-ghost use Rattle.capnp_framing.specs.Wholeness.{KeepsWhole};
 ghost use Rattle.capnp_framing.specs.Writing.{IsUnwritten};
 ghost use Rattle.capnp_streams.specs.Flat.{CanFlatBeAnswered, HasTakenFlat, IsFlatDone, StopsFlat};
-ghost use Rattle.capnp_streams.specs.Streams.{IsOfDevices, IsWriteFault, refusals_behind, stage_of};
+ghost use Rattle.capnp_streams.specs.Streams.{AreWorking, IsOfDevices, IsWriteFault, RunsToEnd, refusals_behind, stage_of};
 
 use super::answers::{Memory, answer};
 use super::fault::Fault;
@@ -37,14 +35,10 @@ pub fn run_flat_with<A: Allocator, R: Input, W: Output>(
     input: &mut R,
     output: &mut W,
 ) -> (Result<bool, Fault>, A)
-    requires input { R.has_failed input.old ≡ false }
-    requires output { W.has_failed output.old ≡ false }
+    requires { AreWorking R.Input W.Output input.old output.old }
     ensures done { IfOk result.0 (IsFlatDone task (stage_of R.Input W.Output input.old output.old)
         (stage_of R.Input W.Output input.new output.new)) }
-    ensures end { OnOk result.0 (IsAtEnd (R.remaining input.new)) }
-    ensures whole { OnOk result.0 (KeepsWhole (R.ends_whole input.old) (R.ends_whole input.new)) }
-    ensures reads { OnOk result.0 (R.has_failed input.new ≡ false) }
-    ensures works { OnOk result.0 (W.has_failed output.new ≡ false) }
+    ensures ended { OnOk result.0 (RunsToEnd R.Input W.Output input.old input.new output.new) }
     ensures refused { IfErr result.0 (λ fault. IsWriteFault W.Output output.new fault
         ⊎ (StopsFlat task (R.remaining input.old) (R.has_failed input.new) fault
         × IsUnwritten W.Output output.old output.new)) }
@@ -76,14 +70,10 @@ pub fn run_flat<R: Input, W: Output>(
     input: &mut R,
     output: &mut W,
 ) -> Result<bool, Fault>
-    requires input { R.has_failed input.old ≡ false }
-    requires output { W.has_failed output.old ≡ false }
+    requires { AreWorking R.Input W.Output input.old output.old }
     ensures done { IfOk result (IsFlatDone task (stage_of R.Input W.Output input.old output.old)
         (stage_of R.Input W.Output input.new output.new)) }
-    ensures end { OnOk result (IsAtEnd (R.remaining input.new)) }
-    ensures whole { OnOk result (KeepsWhole (R.ends_whole input.old) (R.ends_whole input.new)) }
-    ensures reads { OnOk result (R.has_failed input.new ≡ false) }
-    ensures works { OnOk result (W.has_failed output.new ≡ false) }
+    ensures ended { OnOk result (RunsToEnd R.Input W.Output input.old input.new output.new) }
     ensures refused { IfErr result (λ fault. IsWriteFault W.Output output.new fault
         ⊎ (StopsFlat task (R.remaining input.old) (R.has_failed input.new) fault
         × IsUnwritten W.Output output.old output.new)) }

@@ -4,7 +4,7 @@ ghost use Rattle.capnp_packing.specs.Packing.{IsWhole, unpacked_bytes};
 ghost use Rattle.capnp_packing.specs.declared.packing.place.Place.TheVariants.{Tag};
 ghost use Rattle.capnp_framing.specs.declared.framing.frame_error.FrameError.TheVariants.{ReadFailed};
 ghost use Rattle.capnp_streams.specs.Packed.{IsCutBehind, unpacked_stage};
-ghost use Rattle.capnp_streams.specs.Streams.{AreDone, CanBeAnswered, EndsBehind, IsOfDevices, IsWriteFault, Stage, WereAnswered, refusals_behind, stage_of};
+ghost use Rattle.capnp_streams.specs.Streams.{AreDone, AreWorking, CanBeAnswered, EndsBehind, IsOfDevices, IsWriteFault, Stage, WereAnswered, refusals_behind, stage_of};
 
 use super::fault::Fault;
 use super::runs::{Stop, Summary, run_with};
@@ -30,8 +30,7 @@ pub fn run_packed_with<A: Allocator, R: Input + Drop, W: BufferedOutput>(
     packed: R,
     output: &mut W,
 ) -> (Result<Summary, Stop>, A)
-    requires input { R.has_failed packed ≡ false }
-    requires output { W.has_failed output.old ≡ false }
+    requires { AreWorking R.Input W.Output packed output.old }
     ensures done { IfOk result.0
         (AreDone task (unpacked_stage (stage_of R.Input W.Output packed output.old))
         (record { input = Some []; output = W.contents output.new })) }
@@ -71,8 +70,7 @@ pub fn run_packed<R: Input + Drop, W: BufferedOutput>(
     packed: R,
     output: &mut W,
 ) -> Result<Summary, Stop>
-    requires input { R.has_failed packed ≡ false }
-    requires output { W.has_failed output.old ≡ false }
+    requires { AreWorking R.Input W.Output packed output.old }
     ensures done { IfOk result
         (AreDone task (unpacked_stage (stage_of R.Input W.Output packed output.old))
         (record { input = Some []; output = W.contents output.new })) }

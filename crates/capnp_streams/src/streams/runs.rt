@@ -1,10 +1,9 @@
 //! A task done with each message of a stream.
-ghost use Rattle.std.specs.Prelude.{◌≡◌, ◌⊎◌, ◌&&◌, [], Some, false, true, Ok, None, IsSome, OnOk, IfOk, IfErr, IfSome, IsSomeAnd};
-ghost use Rattle.std.specs.Option.{option_map_or};
+ghost use Rattle.std.specs.Prelude.{◌≡◌, ◌⊎◌, ◌&&◌, [], Some, true, Ok, None, IsSome, OnOk, IfOk, IfErr, IfSome, IsSomeAnd};
 ghost use Rattle.std.specs.Io.KnownBytes.{IsAtEnd, Keeps};
 ghost use Rattle.capnp_framing.specs.declared.framing.frame_error.FrameError.TheVariants.{ReadFailed};
 ghost use Rattle.capnp_framing.specs.Wholeness.{KeepsWhole};
-ghost use Rattle.capnp_streams.specs.Streams.{AreDone, CanBeAnswered, EndsBehind, IsOfDevices, IsWriteFault, Stage, StopsAt, WereAnswered, most_words, refusals_behind, stage_of};
+ghost use Rattle.capnp_streams.specs.Streams.{AreDone, AreWorking, CanBeAnswered, CountsRefusals, EndsBehind, IsOfDevices, IsWriteFault, RunsToEnd, Stage, StopsAt, WereAnswered, most_words, refusals_behind, stage_of};
 
 use super::answers::{Memory, answer};
 use super::fault::Fault;
@@ -67,53 +66,8 @@ fn both(a: bool, b: bool) -> bool
     a && b
 }
 
-/// Reads one message and answers to it; `None` where the input is at its end.
-fn step<A: Allocator, R: Input, W: Output>(
-    task: Task,
-    input: &mut R,
-    segments: &mut OwnedSegments,
-    memory: &mut Memory<A>,
-    output: &mut W,
-) -> Result<Option<Answered>, Fault>
-    requires there { IsSome memory.old.allocator }
-    requires input { R.has_failed input.old ≡ false }
-    requires output { W.has_failed output.old ≡ false }
-    ensures end { result ≡ Ok None → IsAtEnd (R.remaining input.old)
-        × IsAtEnd (R.remaining input.new)
-        × (W.contents output.new ≡ W.contents output.old) }
-    ensures answered { IfOk result (λ m. IfSome m (λ one.
-        AreDone task (stage_of R.Input W.Output input.old output.old)
-        (stage_of R.Input W.Output input.new output.new)
-        (record { messages = 1; bytes = one.bytes; holds = one.holds }))) }
-    ensures whole { OnOk result (KeepsWhole (R.ends_whole input.old) (R.ends_whole input.new)) }
-    ensures reads { OnOk result (R.has_failed input.new ≡ false) }
-    ensures writes { OnOk result (W.has_failed output.new ≡ false) }
-    ensures failed { IfErr result (λ e. R.has_failed input.new ≡ true
-        → e ≡ Fault.Frame ReadFailed) }
-    ensures refused { IfErr result (λ e. IsWriteFault W.Output output.new e
-        ⊎ (StopsAt task (R.remaining input.old) (R.remaining input.new) (R.has_failed input.new) e
-        × (W.contents output.new ≡ W.contents output.old))) }
-    ensures there { IsSome memory.new.allocator }
-    ensures kept { OnOk result (option_map_or A.refusals memory.new.allocator 0
-        ≡ option_map_or A.refusals memory.old.allocator 0) }
-    ensures counted { IfErr result (λ e. option_map_or A.refusals memory.new.allocator 0
-        ≡ refusals_behind task.command e (option_map_or A.refusals memory.old.allocator 0)) }
-{
-    let Some(allocator) = &mut memory.allocator else {
-        unreachable!()
-    };
-    match read_into_with(allocator, input, words_of(task.limits), segments) {
-        Ok(false) => Ok(None),
-        Ok(true) => {
-            let holds = answer(memory, task, &*segments, output)?;
-            let bytes = segments.size_in_bytes() as u64;
-            Ok(Some(Answered { holds, bytes }))
-        }
-        Err(error) => Err(Fault::Frame(error)),
-    }
-}
-
-/// The same, behind having passed on the answers so far, unless the message is read ahead.
+/// Passes on the answers so far, unless the next message is read ahead; reads that message, and answers to it. `None` where
+/// the input is at its end.
 fn next<A: Allocator, R: BufferedInput, W: BufferedOutput>(
     task: Task,
     input: &mut R,
@@ -122,8 +76,7 @@ fn next<A: Allocator, R: BufferedInput, W: BufferedOutput>(
     output: &mut W,
 ) -> Result<Option<Answered>, Fault>
     requires there { IsSome memory.old.allocator }
-    requires input { R.has_failed input.old ≡ false }
-    requires output { W.has_failed output.old ≡ false }
+    requires work { AreWorking R.Input W.Output input.old output.old }
     ensures end { result ≡ Ok None → IsAtEnd (R.remaining input.old)
         × IsAtEnd (R.remaining input.new)
         × Keeps (W.contents output.old) (W.contents output.new) }
@@ -132,23 +85,32 @@ fn next<A: Allocator, R: BufferedInput, W: BufferedOutput>(
         (stage_of R.Input W.Output input.new output.new)
         (record { messages = 1; bytes = one.bytes; holds = one.holds }))) }
     ensures whole { OnOk result (KeepsWhole (R.ends_whole input.old) (R.ends_whole input.new)) }
-    ensures reads { OnOk result (R.has_failed input.new ≡ false) }
-    ensures writes { OnOk result (W.has_failed output.new ≡ false) }
+    ensures work { OnOk result (AreWorking R.Input W.Output input.new output.new) }
     ensures failed { IfErr result (λ e. R.has_failed input.new ≡ true
         → e ≡ Fault.Frame ReadFailed) }
     ensures refused { IfErr result (λ e. IsWriteFault W.Output output.new e
         ⊎ (StopsAt task (R.remaining input.old) (R.remaining input.new) (R.has_failed input.new) e
         × Keeps (W.contents output.old) (W.contents output.new))) }
-    ensures there { IsSome memory.new.allocator }
-    ensures kept { OnOk result (option_map_or A.refusals memory.new.allocator 0
-        ≡ option_map_or A.refusals memory.old.allocator 0) }
-    ensures counted { IfErr result (λ e. option_map_or A.refusals memory.new.allocator 0
-        ≡ refusals_behind task.command e (option_map_or A.refusals memory.old.allocator 0)) }
+    ensures memory { CountsRefusals A.refusals memory.old.allocator memory.new.allocator
+        task.command result }
 {
     if pass_on_before_waiting(input, output).is_err() {
         return Err(Fault::Frame(FrameError::WriteFailed));
     }
-    step(task, input, segments, memory, output)
+    let Some(allocator) = &mut memory.allocator else {
+        unreachable!()
+    };
+    match read_into_with(allocator, input, words_of(task.limits), segments) {
+        Ok(false) => Ok(None),
+        Ok(true) => match answer(memory, task, &*segments, output) {
+            Ok(holds) => Ok(Some(Answered {
+                holds,
+                bytes: segments.size_in_bytes() as u64,
+            })),
+            Err(fault) => Err(fault),
+        },
+        Err(error) => Err(Fault::Frame(error)),
+    }
 }
 
 /// Does a task with each message of an input, and writes the answers to an output, in the order of
@@ -178,8 +140,7 @@ pub fn run_with<A: Allocator, R: BufferedInput, W: BufferedOutput>(
     input: &mut R,
     output: &mut W,
 ) -> (Result<Summary, Stop>, A)
-    requires input { R.has_failed input.old ≡ false }
-    requires output { W.has_failed output.old ≡ false }
+    requires { AreWorking R.Input W.Output input.old output.old }
     ensures done { IfOk result.0 (AreDone task (stage_of R.Input W.Output input.old output.old)
         (record { input = Some []; output = W.contents output.new })) }
     ensures refused { IfErr result.0 (λ s. (behind : Stage)
@@ -189,10 +150,7 @@ pub fn run_with<A: Allocator, R: BufferedInput, W: BufferedOutput>(
         (R.has_failed input.new) s)) }
     ensures exactly { IfErr result.0 (λ s.
         IsSomeAnd (R.remaining input.old) (CanBeAnswered task) → IsOfDevices s.fault) }
-    ensures end { OnOk result.0 (IsAtEnd (R.remaining input.new)) }
-    ensures whole { OnOk result.0 (KeepsWhole (R.ends_whole input.old) (R.ends_whole input.new)) }
-    ensures reads { OnOk result.0 (R.has_failed input.new ≡ false) }
-    ensures works { OnOk result.0 (W.has_failed output.new ≡ false) }
+    ensures ended { OnOk result.0 (RunsToEnd R.Input W.Output input.old input.new output.new) }
     ensures failed { IfErr result.0 (λ s. R.has_failed input.new ≡ true
         → s.fault ≡ Fault.Frame ReadFailed) }
     ensures kept { OnOk result.0 (A.refusals result.1 ≡ A.refusals allocator) }
@@ -243,8 +201,7 @@ pub fn run<R: BufferedInput, W: BufferedOutput>(
     input: &mut R,
     output: &mut W,
 ) -> Result<Summary, Stop>
-    requires input { R.has_failed input.old ≡ false }
-    requires output { W.has_failed output.old ≡ false }
+    requires { AreWorking R.Input W.Output input.old output.old }
     ensures done { IfOk result (AreDone task (stage_of R.Input W.Output input.old output.old)
         (record { input = Some []; output = W.contents output.new })) }
     ensures refused { IfErr result (λ s. (behind : Stage)
@@ -254,10 +211,7 @@ pub fn run<R: BufferedInput, W: BufferedOutput>(
         (R.has_failed input.new) s)) }
     ensures exactly { IfErr result (λ s.
         IsSomeAnd (R.remaining input.old) (CanBeAnswered task) → IsOfDevices s.fault) }
-    ensures end { OnOk result (IsAtEnd (R.remaining input.new)) }
-    ensures whole { OnOk result (KeepsWhole (R.ends_whole input.old) (R.ends_whole input.new)) }
-    ensures reads { OnOk result (R.has_failed input.new ≡ false) }
-    ensures works { OnOk result (W.has_failed output.new ≡ false) }
+    ensures ended { OnOk result (RunsToEnd R.Input W.Output input.old input.new output.new) }
     ensures failed { IfErr result (λ s. R.has_failed input.new ≡ true
         → s.fault ≡ Fault.Frame ReadFailed) }
 {

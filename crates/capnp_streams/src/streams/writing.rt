@@ -1,16 +1,16 @@
 //! The lines that are written of a message.
-ghost use Rattle.std.specs.Prelude.{◌≡◌, ◌≤◌, ◌<◌, ◌^◌, ◌++◌, ◌∷◌, [], false, true, length, OnOk, OnErr};
+ghost use Rattle.std.specs.Prelude.{◌≡◌, ◌≤◌, ◌<◌, ◌^◌, ◌++◌, ◌∷◌, [], false, true, length};
 ghost use Rattle.hex.specs.Hex.{encode_lower};
 ghost use Rattle.capnp_format.specs.Bytes.{words_of};
 ghost use Rattle.capnp_framing.specs.Frames.{bytes_of_words};
-ghost use Rattle.capnp_framing.specs.Writing.{Prints};
+ghost use Rattle.capnp_framing.specs.Writing.{Writes};
 ghost use Rattle.capnp_messages.specs.Text.{check_line};
 ghost use Rattle.capnp_streams.specs.Streams.{fault_line, no_text, segment_text, word_text, written_words};
 
 use capnp_framing::devices::{DeviceFault, Output, write_all};
 use capnp_messages::messages::{Form, write_words};
 use capnp_messages::text::write_number;
-use capnp_readers::readers::CanonicalFault;
+use capnp_pointers::pointers::CanonicalFault;
 
 /// How many bytes are written as digits at a time.
 const PIECE: usize = 512;
@@ -21,9 +21,7 @@ const DIGITS: usize = 2 * PIECE;
 /// Writes the line of a message that is canonical.
 pub(super) fn write_canonical<W: Output>(output: &mut W) -> Result<(), DeviceFault>
     requires { W.has_failed output.old ≡ false }
-    ensures written { OnOk result (Prints W.Output output.old output.new (check_line true)) }
-    ensures works { OnOk result (W.has_failed output.new ≡ false) }
-    ensures fails { OnErr result (W.has_failed output.new ≡ true) }
+    ensures { Writes W.Output result output.old output.new (check_line true) }
 {
     write_all(output, b"canonical\n")
 }
@@ -32,9 +30,7 @@ pub(super) fn write_canonical<W: Output>(output: &mut W) -> Result<(), DeviceFau
 #[tactic(auto, unfolding(crate::specs::Streams::no_text))]
 fn write_no<W: Output>(output: &mut W) -> Result<(), DeviceFault>
     requires { W.has_failed output.old ≡ false }
-    ensures written { OnOk result (Prints W.Output output.old output.new no_text) }
-    ensures works { OnOk result (W.has_failed output.new ≡ false) }
-    ensures fails { OnErr result (W.has_failed output.new ≡ true) }
+    ensures { Writes W.Output result output.old output.new no_text }
 {
     write_all(output, b"not canonical: ")
 }
@@ -43,9 +39,7 @@ fn write_no<W: Output>(output: &mut W) -> Result<(), DeviceFault>
 #[tactic(auto, unfolding(crate::specs::Streams::segment_text))]
 fn write_segment<W: Output>(output: &mut W, segment: u64) -> Result<(), DeviceFault>
     requires { W.has_failed output.old ≡ false }
-    ensures written { OnOk result (Prints W.Output output.old output.new (segment_text segment)) }
-    ensures works { OnOk result (W.has_failed output.new ≡ false) }
-    ensures fails { OnErr result (W.has_failed output.new ≡ true) }
+    ensures { Writes W.Output result output.old output.new (segment_text segment) }
 {
     write_all(output, b" at segment ")?;
     write_number(output, segment)
@@ -55,9 +49,7 @@ fn write_segment<W: Output>(output: &mut W, segment: u64) -> Result<(), DeviceFa
 #[tactic(auto, unfolding(crate::specs::Streams::word_text))]
 fn write_word<W: Output>(output: &mut W, word: u64) -> Result<(), DeviceFault>
     requires { W.has_failed output.old ≡ false }
-    ensures written { OnOk result (Prints W.Output output.old output.new (word_text word)) }
-    ensures works { OnOk result (W.has_failed output.new ≡ false) }
-    ensures fails { OnErr result (W.has_failed output.new ≡ true) }
+    ensures { Writes W.Output result output.old output.new (word_text word) }
 {
     write_all(output, b", word ")?;
     write_number(output, word)?;
@@ -70,9 +62,7 @@ pub(super) fn write_fault<W: Output>(
     fault: CanonicalFault,
 ) -> Result<(), DeviceFault>
     requires { W.has_failed output.old ≡ false }
-    ensures written { OnOk result (Prints W.Output output.old output.new (fault_line fault)) }
-    ensures works { OnOk result (W.has_failed output.new ≡ false) }
-    ensures fails { OnErr result (W.has_failed output.new ≡ true) }
+    ensures { Writes W.Output result output.old output.new (fault_line fault) }
 {
     write_no(output)?;
     write_all(output, fault.reason.text().as_bytes())?;
@@ -84,9 +74,7 @@ pub(super) fn write_fault<W: Output>(
 fn write_digits<W: Output>(output: &mut W, bytes: &[u8]) -> Result<(), DeviceFault>
     requires works { W.has_failed output.old ≡ false }
     requires few { length bytes.now ≤ 512 }
-    ensures written { OnOk result (Prints W.Output output.old output.new (encode_lower bytes.now)) }
-    ensures works { OnOk result (W.has_failed output.new ≡ false) }
-    ensures fails { OnErr result (W.has_failed output.new ≡ true) }
+    ensures { Writes W.Output result output.old output.new (encode_lower bytes.now) }
 {
     let mut buffer = [0u8; DIGITS];
     let digits = &mut buffer[..2 * bytes.len()];
@@ -97,10 +85,8 @@ fn write_digits<W: Output>(output: &mut W, bytes: &[u8]) -> Result<(), DeviceFau
 /// Writes bytes as a line of lower case hex digits, two for each.
 fn write_hex_line<W: Output>(output: &mut W, bytes: &[u8]) -> Result<(), DeviceFault>
     requires { W.has_failed output.old ≡ false }
-    ensures written { OnOk result (Prints W.Output output.old output.new
-        (encode_lower bytes.now ++ 10 ∷ [])) }
-    ensures works { OnOk result (W.has_failed output.new ≡ false) }
-    ensures fails { OnErr result (W.has_failed output.new ≡ true) }
+    ensures { Writes W.Output result output.old output.new
+        (encode_lower bytes.now ++ 10 ∷ []) }
 {
     let mut rest = bytes;
     while !rest.is_empty() {
@@ -121,10 +107,8 @@ pub(super) fn write_canonical_words<W: Output>(
     requires works { W.has_failed output.old ≡ false }
     requires short { length bytes.now < 2 ^ 35 }
     requires whole { bytes.now ≡ bytes_of_words (words_of bytes.now) }
-    ensures written { OnOk result (Prints W.Output output.old output.new
-        (written_words hex form (words_of bytes.now))) }
-    ensures works { OnOk result (W.has_failed output.new ≡ false) }
-    ensures fails { OnErr result (W.has_failed output.new ≡ true) }
+    ensures { Writes W.Output result output.old output.new
+        (written_words hex form (words_of bytes.now)) }
 {
     if hex {
         write_hex_line(output, bytes)

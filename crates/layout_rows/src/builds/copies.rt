@@ -7,7 +7,7 @@ use crate::elements::{Reader, struct_at};
 use crate::output::Output;
 use crate::parse::{self, Fault};
 use capnp_arena::arena::{BuilderArena, ReaderArena, ReaderArenaImpl, SegmentArray};
-use capnp_readers::readers::PointerReader;
+use capnp_readers::readers::{PointerPlace, PointerReader};
 use capnp_words::read_limiter::ReadLimiter;
 use capnp_words::wire_pointer::ElementSize;
 use std::alloc::Global;
@@ -91,19 +91,28 @@ fn put_copy<A: BuilderArena, B: ReaderArena>(
     lim: &mut ReadLimiter,
 ) -> Result<(), Fault> {
     match (place, original) {
-        (Place::Pointer(place), Reader::Pointer(value)) => {
-            pointer(arena, place)?.copy_from(value, lim, canonical)?;
-        }
-        (Place::Pointer(place), Reader::Struct(value)) => {
-            pointer(arena, place)?.set_struct(&value, lim, canonical)?;
-        }
-        (Place::Pointer(place), Reader::List(value)) => {
-            pointer(arena, place)?.set_list(&value, lim, canonical)?;
-        }
+        (Place::Pointer(place), original) => put_pointer(arena, place, original, canonical, lim),
         (Place::Struct(place), Reader::Struct(value)) => {
             structure(arena, place)?.copy_content_from(&value, lim)?;
+            Ok(())
         }
-        _ => return Err(Fault::Unfit),
+        _ => Err(Fault::Unfit),
+    }
+}
+
+// Makes a pointer lead to a copy.
+fn put_pointer<A: BuilderArena, B: ReaderArena>(
+    arena: &mut A,
+    place: PointerPlace,
+    original: Reader<'_, B>,
+    canonical: bool,
+    lim: &mut ReadLimiter,
+) -> Result<(), Fault> {
+    let mut to = pointer(arena, place)?;
+    match original {
+        Reader::Pointer(value) => to.copy_from(value, lim, canonical)?,
+        Reader::Struct(value) => to.set_struct(&value, lim, canonical)?,
+        Reader::List(value) => to.set_list(&value, lim, canonical)?,
     }
     Ok(())
 }

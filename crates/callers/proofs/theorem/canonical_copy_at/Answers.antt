@@ -13,8 +13,12 @@ returns-clause-exactly_what g c =
 
 pub returns-clause-asked : goal.returns-clause-asked
 returns-clause-asked g c =
-    IfOk-weaker c.copy_canonical_with.result _ _ (λ made. asked_at (g.A.Allocator.offers c.args.allocator) _ c.pointer_at.ensures)
+    IfOk-weaker c.copy_canonical_with.result _ _ (λ made. asked_at (g.A.Allocator.offers c.args.allocator) _ _ c.pointer_at.ensures)
     c.copy_canonical_with.ensures.tries
+
+pub returns-clause-granted : goal.returns-clause-granted
+returns-clause-granted g c =
+    IfOk-weaker c.copy_canonical_with.result _ _ (λ made tries. tries.granted) c.copy_canonical_with.ensures.tries
 
 pub returns-clause-refused : goal.returns-clause-refused
 returns-clause-refused g c =

@@ -1,11 +1,11 @@
-use Rattle.std.proofs.Common.{◌≡◌, ◌∙◌, ◌+◌, ◌<◌, ap, inl, inr, length, refl, sym, subst, arith}
-use Rattle.std.proofs.lemmas.Result.{IfOk-weaker, IfErr-weaker}
+use Rattle.std.proofs.Common.{◌≡◌, ◌∙◌, ◌+◌, ◌<◌, ap, inr, length, refl, sym, subst, arith}
+use Rattle.std.proofs.lemmas.Result.{IfErr-weaker}
 use Rattle.capnp_format.specs.Canonical.{encoding, trim}
 use Rattle.capnp_framing.specs.Frames.{bytes_of_words}
 use Rattle.capnp_messages.specs.Commands.{form_bytes}
 use Rattle.capnp_canonical.specs.Calls.{table_bytes}
 use Rattle.capnp_canonical.specs.declared.refusal.Refusal.TheVariants.{NoRoom}
-use Rattle.capnp_canonical.proofs.CallLemmas.{copy_bytes}
+use Rattle.capnp_canonical.proofs.CallLemmas.{copy_bytes, fills_weaker}
 use Rattle.capnp_canonical.proofs.FrameLemmas.{length-bytes}
 use Rattle.capnp_canonical.proofs.calls.copy_large.Goals as goal
 
@@ -13,7 +13,7 @@ pub returns-in-Some-clause-copied : goal.returns-in-Some-clause-copied
 returns-in-Some-clause-copied g c =
     let (t, value, is) = c.in-Some.ensures.words in
     let bytes = c.in-Some.ensures.whole ∙ ap bytes_of_words is in
-    IfOk-weaker c.put.result _ _ (λ n put. (t, value, put (encoding (trim t)) bytes)) c.put.ensures.put
+    fills_weaker (λ put is. (t, value, is (encoding (trim t)) bytes)) c.put.ensures.put
 
 pub returns-in-Some-clause-refused : goal.returns-in-Some-clause-refused
 returns-in-Some-clause-refused g c =

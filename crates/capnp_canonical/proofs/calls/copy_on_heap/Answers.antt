@@ -1,10 +1,10 @@
 use Rattle.std.proofs.Common.{◌≡◌, ◌∙◌, ◌+◌, ◌<◌, ap, inl, inr, length, refl, sym, subst, arith}
-use Rattle.std.proofs.lemmas.Result.{IfOk-weaker, IfErr-weaker}
+use Rattle.std.proofs.lemmas.Result.{IfErr-weaker}
 use Rattle.capnp_format.specs.Canonical.{encoding, trim}
 use Rattle.capnp_messages.specs.Commands.{form_bytes}
 use Rattle.capnp_canonical.specs.Calls.{table_bytes}
 use Rattle.capnp_canonical.specs.declared.refusal.Refusal.TheVariants.{NoRoom}
-use Rattle.capnp_canonical.proofs.CallLemmas.{copy_bytes}
+use Rattle.capnp_canonical.proofs.CallLemmas.{copy_bytes, fills_weaker}
 use Rattle.capnp_canonical.proofs.FrameLemmas.{length-bytes}
 use Rattle.capnp_messages.proofs.CanonLemmas.{or_memory}
 use Rattle.capnp_canonical.proofs.calls.copy_on_heap.Goals as goal
@@ -16,7 +16,7 @@ pub returns-in-Ok-clause-copied : goal.returns-in-Ok-clause-copied
 returns-in-Ok-clause-copied g c =
     let (t, value, is_made) = c.in-Ok.ensures.copied in
     let bytes = c.canonical_bytes.ensures.bytes (encoding (trim t)) is_made in
-    IfOk-weaker c.put.result _ _ (λ n put. (t, value, put (encoding (trim t)) bytes)) c.put.ensures.put
+    fills_weaker (λ put is. (t, value, is (encoding (trim t)) bytes)) c.put.ensures.put
 
 pub returns-in-Ok-clause-refused : goal.returns-in-Ok-clause-refused
 returns-in-Ok-clause-refused g c =

@@ -1,18 +1,16 @@
-use Rattle.std.proofs.Common.{◌≡◌, ◌∙◌, ap, inr, length, subst}
-use Rattle.std.proofs.lemmas.Int.{to_z-of_z}
-use mir.Syntax.{w32}
+use Rattle.std.proofs.Common.{◌≡◌, inr, length, subst}
 use Rattle.std.proofs.lemmas.Result.{IfErr-weaker}
 use Rattle.capnp_format.specs.Bytes.{message}
 use Rattle.capnp_format.specs.Segments.{Segments}
 use Rattle.capnp_arena.specs.declared.arena.reader_arena_impl.ReaderOptions.{ReaderOptions}
 use Rattle.capnp_framing.specs.Flat.{parts}
-use Rattle.capnp_canonical.specs.Calls.{RefusesRoom, limits_of}
+use Rattle.capnp_canonical.specs.Calls.{IsCopyOf, RefusesRoom, limits_of}
+use Rattle.capnp_canonical.proofs.CallLemmas.{fills_weaker}
 use Rattle.capnp_canonical.proofs.frames.copy_frame.Goals as goal
 
 pub returns-clause-refused : goal.returns-clause-refused
 returns-clause-refused c =
-    let limits : c.limits.result ≡ limits_of c.args.nesting c.args.words =
-    c.limits.ensures ∙ ap (λ z. limits_of z c.args.words) (to_z-of_z w32 c.args.nesting c.ranges.nesting) in
+    let limits : c.options.result ≡ limits_of c.args.limits.nesting c.args.limits.words = c.options.ensures in
     let S : Segments =
     message (parts c.in_ok-segments.segments.count c.in_ok-segments.segments.table.now c.in_ok-segments.segments.words.now) in
     IfErr-weaker c.copy.result _ _ (λ r no. inr (
@@ -20,3 +18,10 @@ returns-clause-refused c =
       c.in_ok-segments.ensures.begins,
       subst (λ (l : ReaderOptions). RefusesRoom c.args.form l (length c.args.to.now) S r) limits no,
     )) c.copy.ensures.refused
+
+pub returns-clause-copied : goal.returns-clause-copied
+returns-clause-copied c =
+    let limits : c.options.result ≡ limits_of c.args.limits.nesting c.args.limits.words = c.options.ensures in
+    let S : Segments =
+    message (parts c.in_ok-segments.segments.count c.in_ok-segments.segments.table.now c.in_ok-segments.segments.words.now) in
+    fills_weaker (λ bytes is. (S, c.in_ok-segments.ensures.begins, subst (λ (l : ReaderOptions). IsCopyOf c.args.form l S bytes) limits is)) c.copy.ensures.copied

@@ -1,6 +1,4 @@
-use Rattle.std.proofs.Common.{◌≡◌, ◌∙◌, ℕ, List, ap, subst}
-use Rattle.std.proofs.lemmas.Int.{to_z-of_z}
-use mir.Syntax.{w32}
+use Rattle.std.proofs.Common.{◌≡◌, ℕ, List, subst}
 use Rattle.capnp_format.specs.Bytes.{message}
 use Rattle.capnp_arena.specs.declared.arena.reader_arena_impl.ReaderOptions.{ReaderOptions}
 use Rattle.capnp_canonical.specs.Calls.{TestFinds, lent_bytes, limits_of}
@@ -10,12 +8,11 @@ use Rattle.capnp_canonical.proofs.segments.check_segments.Goals as goal
 pub returns-clause-found : goal.returns-clause-found
 returns-clause-found c =
     let found = c.in_ok-canonical_fault_of.field-0 in
-    let limits : c.limits.result ≡ limits_of c.args.nesting c.args.words =
-    c.limits.ensures ∙ ap (λ z. limits_of z c.args.words) (to_z-of_z w32 c.args.nesting c.ranges.nesting) in
+    let limits : c.options.result ≡ limits_of c.args.limits.nesting c.args.limits.words = c.options.ensures in
     let finds =
-    test_finds c.limits.result _ found c.in_ok-canonical_fault_of.ensures.exactly c.in_ok-canonical_fault_of.ensures.fault in
+    test_finds c.options.result _ found c.in_ok-canonical_fault_of.ensures.exactly c.in_ok-canonical_fault_of.ensures.fault in
     let given = lent_bytes c.args.segments.now in
-    let there = subst (λ (B : List (List ℕ)). TestFinds c.limits.result found (message B)) c.in_ok-lent.ensures.segments finds in (
+    let there = subst (λ (B : List (List ℕ)). TestFinds c.options.result found (message B)) c.in_ok-lent.ensures.segments finds in (
       c.in_ok-lent.ensures.whole.0,
       c.in_ok-lent.ensures.whole.1,
       subst (λ (l : ReaderOptions). TestFinds l found (message given)) limits there,

@@ -1,7 +1,5 @@
-use Rattle.std.proofs.Common.{◌≡◌, ◌∙◌, ◌∷◌, [], ℕ, List, ap, inr, refl, subst}
-use Rattle.std.proofs.lemmas.Int.{to_z-of_z}
+use Rattle.std.proofs.Common.{◌≡◌, ◌∷◌, [], ℕ, List, inr, refl, subst}
 use Rattle.std.proofs.lemmas.Result.{err_from_is_err_and}
-use mir.Syntax.{w32}
 use Rattle.capnp_words.specs.declared.error.ErrorKind.{ErrorKind}
 use Rattle.capnp_format.specs.Bytes.{message}
 use Rattle.capnp_arena.specs.declared.arena.reader_arena_impl.ReaderOptions.{ReaderOptions}
@@ -11,11 +9,10 @@ use Rattle.capnp_canonical.proofs.words.size_words.Goals as goal
 
 pub returns-in_err-size_of-clause-refused : goal.returns-in_err-size_of-clause-refused
 returns-in_err-size_of-clause-refused c =
-    let limits : c.limits.result ≡ limits_of c.args.nesting c.args.limit =
-    c.limits.ensures ∙ ap (λ z. limits_of z c.args.limit) (to_z-of_z w32 c.args.nesting c.ranges.nesting) in
+    let limits : c.options.result ≡ limits_of c.args.limits.nesting c.args.limits.words = c.options.ensures in
     let kind : ErrorKind = c.in_err-size_of.field-0.0 in
     let given : List (List ℕ) = c.args.words.now ∷ [] in
-    let there = subst (λ (B : List (List ℕ)). RefusesSize (message B) c.limits.result kind) c.in_ok-message.ensures.segments c.in_err-size_of.ensures.refused in
+    let there = subst (λ (B : List (List ℕ)). RefusesSize (message B) c.options.result kind) c.in_ok-message.ensures.segments c.in_err-size_of.ensures.refused in
     let here = subst (λ (l : ReaderOptions). RefusesSize (message given) l kind) limits there in
     let p = err_from_is_err_and c.from_residual-in_err-size_of.result c.from_residual-in_err-size_of.ensures.1 in
     rw (p.1, p.2) (inr (c.in_ok-message.ensures.whole, (kind, refl, here)))

@@ -9,4 +9,4 @@ returns-in-Err-NoMemory-clause-refused g c = λ refused. (Layout AllocationFaile
 
 pub returns-in-Ok-clause-memory : goal.returns-in-Ok-clause-memory
 returns-in-Ok-clause-memory g c = λ has refused.
-    text_memory (g.R.Input.remaining c.args.input.now) g.W.Output c.args.output.now c.respond.new.output c.in-Ok.ensures.segments c.respond.ensures c.in-Ok.ensures.kept has refused
+    text_memory (g.R.Input.remaining c.args.input.now) g.W.Output c.args.output.now c.respond.new.output c.in-Ok.ensures.segments c.respond.ensures c.in-Ok.ensures.counted.kept has refused

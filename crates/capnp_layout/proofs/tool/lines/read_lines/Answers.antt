@@ -9,7 +9,7 @@ loop-rest-preserved g c =
     let kept = c.keep.ensures.kept none in
     record {
       read = kept_line vec_items _ _ kept.0 (record { read = c.loop-rest.invariant.read; lines = c.first_line.ensures.lines }) c.in_ok-segment.ensures.bytes;
-      granted = kept.1 ∙ c.in_ok-segment.ensures.kept ∙ c.loop-rest.invariant.granted;
+      granted = kept.1 ∙ c.in_ok-segment.ensures.counted.kept ∙ c.loop-rest.invariant.granted;
     }
 
 pub returns-in_err-segment-clause-bad : goal.returns-in_err-segment-clause-bad

@@ -6,4 +6,4 @@ pub returns-in-Err-clause-refused : goal.returns-in-Err-clause-refused
 returns-in-Err-clause-refused g c = or_memory c.in-Err.ensures.refused
 
 pub returns-in-Ok-clause-tries : goal.returns-in-Ok-clause-tries
-returns-in-Ok-clause-tries g c = tries_as_asked _ _ c.new.ensures.words c.in-Ok.ensures.tries
+returns-in-Ok-clause-tries g c = tries_as_asked _ c.new.ensures.words c.new.ensures.refused c.in-Ok.ensures.tries

@@ -3,10 +3,10 @@ use Rattle.capnp_words.specs.Meter.{Meter}
 use Rattle.capnp_arena_traits.specs.Allocations.{max_segment_words}
 use Rattle.capnp_objects.specs.Outcomes.{Reads}
 use Rattle.capnp_objects.specs.Wanted.{canonical}
-use Rattle.capnp_readers.specs.Readers.{reading}
+use Rattle.capnp_pointers.specs.Pointers.{reading}
 use Rattle.capnp_messages.specs.Copies.{LacksMemoryOr, RefusesCopy, is_message_too_large}
 use Rattle.capnp_messages.proofs.CanonLemmas.{last_try, moved_try}
-use Rattle.capnp_messages.proofs.TryLemmas.{next_comes, try_is_granted, try_too_small}
+use Rattle.capnp_messages.proofs.TryLemmas.{made_by_try, next_comes, try_is_granted, try_too_small}
 use Rattle.capnp_messages.proofs.messages.canonical_copy.copy_canonical_with.Goals as goal
 use Rattle.capnp_messages.proofs.messages.canonical_copy.copy_canonical_with.Goals.{then-room-eq-MAX_SEGMENT_WORDS-via-then-room-eq-MAX_SEGMENT_WORDS, then-room-eq-MAX_SEGMENT_WORDS-via-else-room-eq-MAX_SEGMENT_WORDS+then-not-is_too_large}
 
@@ -29,8 +29,7 @@ loop-made-preserved g c =
     let large : is_message_too_large c.in-Err.kind ≡ true = search rules in
     let old = c.loop-made.invariant in
     record {
-      some = omega (arith, old.some, old.most);
-      most = omega arith;
+      asks = record { some = omega (arith, old.asks.some, old.asks.most); most = omega arith };
       granted = try_is_granted large c.in-Err.ensures.refused ∙ old.granted;
       offers = c.in-Err.ensures.given_back ∙ old.offers;
       comes = next_comes old.comes c.next_room-room.ensures (try_too_small large c.in-Err.ensures.refused);
@@ -41,3 +40,8 @@ pub returns-in-Ok-clause-copied : goal.returns-in-Ok-clause-copied
 returns-in-Ok-clause-copied g c =
     let (t, reads, holds) = c.in-Ok.ensures.copied in
     (t, subst (λ (m : Meter). Reads canonical (reading g.B.ReaderArena c.args.from) m c.copy_to_message.new.lim t) c.loop-made.invariant.unread reads, holds)
+
+pub returns-in-Ok-clause-tries : goal.returns-in-Ok-clause-tries
+returns-in-Ok-clause-tries g c =
+    let old = c.loop-made.invariant in
+    made_by_try old.comes old.offers old.granted c.in-Ok.ensures.asked c.in-Ok.ensures.granted

@@ -1,13 +1,10 @@
 use Rattle.std.proofs.lemmas.Result.{err_from_is_err_and}
-use Rattle.capnp_readers.specs.Readers.{reading}
+use Rattle.capnp_pointers.specs.Pointers.{reading}
 use Rattle.capnp_messages.proofs.CanonLemmas.{kept_room, made_copy, refused_copy, root_null, root_there, spread_copy}
 use Rattle.capnp_messages.proofs.messages.canonical_copy.copy_root.Goals as goal
 
-pub copy_value-requires-clause-place : goal.copy_value-requires-clause-place
-copy_value-requires-clause-place g c = root_there _ c.requires.root
-
-pub copy_value-requires-clause-null : goal.copy_value-requires-clause-null
-copy_value-requires-clause-null g c = root_null _ c.requires.root
+pub copy_value-requires : goal.copy_value-requires
+copy_value-requires g c = record { place = root_there _ c.requires.root; null = root_null _ c.requires.root }
 
 pub returns-clause-copied : goal.returns-clause-copied
 returns-clause-copied g c =

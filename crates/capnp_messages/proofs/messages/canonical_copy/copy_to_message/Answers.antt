@@ -1,6 +1,6 @@
 use Rattle.std.proofs.Common.{◌∙◌, ◌≤◌, ℕ, Option, inr, ap, sym, subst}
 use Rattle.capnp_format.specs.Bytes.{message}
-use Rattle.capnp_readers.specs.Readers.{reading}
+use Rattle.capnp_pointers.specs.Pointers.{reading}
 use Rattle.capnp_messages.specs.Copies.{RefusesCopy}
 use Rattle.capnp_messages.specs.CanonicalErrors.{IsLeftOf}
 use Rattle.capnp_messages.proofs.CanonLemmas.{moved_offer}

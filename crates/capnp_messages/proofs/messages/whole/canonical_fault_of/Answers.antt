@@ -9,4 +9,4 @@ returns-clause-fault g c =
 pub returns-clause-refused : goal.returns-clause-refused
 returns-clause-refused g c =
     check_of_message c.canonical_fault.result _ c.canonical_fault.new.lim c.new-arena.ensures.words
-    c.new-arena.ensures.nesting c.new-lim.ensures c.canonical_fault.ensures.unread c.canonical_fault.ensures.refused
+    c.new-arena.ensures.nesting c.new-lim.ensures c.canonical_fault.ensures.unread c.canonical_fault.ensures.answered.refused

@@ -18,7 +18,7 @@ returns-in-Ok-clause-tries g c =
     let at : AtRoot _ c.args.limits _ c.read_root.new.lim =
     at_root refl c.requires c.new-lim.ensures c.in-Ok.ensures.place
     c.in-Ok.ensures.charged (c.read_root.ensures.exactly.0 read) in
-    IfOk-weaker c.copy_canonical_with.result _ _ (λ made. moved_tries (g.A.Allocator.offers c.args.allocator) _ at.place) c.copy_canonical_with.ensures.tries
+    IfOk-weaker c.copy_canonical_with.result _ _ (λ made. moved_tries (g.A.Allocator.offers c.args.allocator) _ _ at.place) c.copy_canonical_with.ensures.tries
 
 pub returns-in-Ok-clause-refused : goal.returns-in-Ok-clause-refused
 returns-in-Ok-clause-refused g c =

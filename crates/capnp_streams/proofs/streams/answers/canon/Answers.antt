@@ -1,4 +1,24 @@
+use Rattle.std.proofs.Common.{ap, refl}
+use Rattle.capnp_messages.specs.declared.messages.command.Command.TheVariants.{Canon}
+use Rattle.capnp_streams.specs.Streams.{written_words}
+use Rattle.capnp_format.specs.Bytes.{words_of}
+use Rattle.capnp_streams.proofs.AnsweredLemmas.{answer_written}
+use Rattle.capnp_streams.proofs.CountingLemmas.{memory_counted, written_uncounted}
 use Rattle.capnp_streams.proofs.streams.answers.canon.Goals as goal
 
-pub returns-clause-answered : goal.returns-clause-answered
-returns-clause-answered g c = rw c.new-source.ensures.words at c.canon_copy.ensures.answered
+pub returns-in-Some-clause-answer : goal.returns-in-Some-clause-answer
+returns-in-Some-clause-answer g c =
+    let (t, value, is) = c.in-Some.ensures.words in
+    let value' = rw c.new-source.ensures.words at value in
+    answer_written _ _ _ _ _ _ (written_words c.args.task.hex c.args.form (words_of c.in-Some.words.now)) c.write_canonical_words.ensures
+    c.if_written.ensures.written c.if_written.ensures.failed (refl, (t, value', ap (written_words c.args.task.hex c.args.form) is))
+
+pub returns-in-Some-clause-memory : goal.returns-in-Some-clause-memory
+returns-in-Some-clause-memory g c =
+    memory_counted _ _ _ (Canon c.args.form) _ c.requires.there refl (written_uncounted (Canon c.args.form) _ _ _ c.if_written.ensures.written c.if_written.ensures.failed)
+
+pub returns-clause-answer : goal.returns-clause-answer
+returns-clause-answer g c = rw c.new-source.ensures.words at c.canon_copy.ensures.answer
+
+pub returns-clause-memory : goal.returns-clause-memory
+returns-clause-memory g c = c.canon_copy.ensures.memory

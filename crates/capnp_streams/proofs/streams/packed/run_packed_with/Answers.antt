@@ -5,12 +5,11 @@ use Rattle.capnp_streams.proofs.streams.packed.run_packed_with.Goals as goal
 pub returns-in-Ok-false-clause-refused : goal.returns-in-Ok-false-clause-refused
 returns-in-Ok-false-clause-refused g c =
     let no : c.in-Ok-false.field-0 ≡ false = search rules in
-    let end = rw c.in-Ok.is at c.run_with-answered.ensures.end in
-    let whole = rw c.in-Ok.is at c.run_with-answered.ensures.whole in
+    let ended = rw c.in-Ok.is at c.run_with-answered.ensures.ended in
     let done = rw c.in-Ok.is at c.run_with-answered.ensures.done in
-    let cut = rw no at (c.in-Ok-false.ensures.whole end) in
+    let cut = rw no at (c.in-Ok-false.ensures.whole ended.end) in
     cut_behind _ _ _ _ _ _ c.in-Ok.summary c.behind.result c.new-input.ensures.remaining
-    c.new-input.ensures.whole whole cut done c.behind.ensures.answered c.behind.ensures.byte c.behind.ensures.fault
+    c.new-input.ensures.whole ended.whole cut done c.behind.ensures.answered c.behind.ensures.byte c.behind.ensures.fault
 
 pub returns-in-Ok-false-clause-failed : goal.returns-in-Ok-false-clause-failed
 returns-in-Ok-false-clause-failed g c = λ is. absurd (cut_not_failed c.behind.ensures.fault is)

@@ -8,8 +8,7 @@ pub loop-number-init : goal.loop-number-init
 loop-number-init g c = record {
   done = none_done c.args.task _;
   whole = keeps_whole _;
-  reads = search rules;
-  writes = search rules;
+  work = c.requires;
   there = search rules;
   kept = search rules;
 }
@@ -20,16 +19,24 @@ loop-number-preserved g c =
     record {
       done = rw (c.both-holds.ensures, c.saturating_add-bytes.ensures) all;
       whole = keeps_whole_both _ _ _ c.loop-number.invariant.whole c.in-Ok-Some.ensures.whole;
-      reads = search rules;
-      writes = search rules;
-      there = search rules;
-      kept = c.in-Ok-Some.ensures.kept ∙ c.loop-number.invariant.kept;
+      work = c.in-Ok-Some.ensures.work;
+      there = c.in-Ok-Some.ensures.memory.there;
+      kept = c.in-Ok-Some.ensures.memory.kept ∙ c.loop-number.invariant.kept;
     }
 
 pub returns-in-Ok-None-clause-done : goal.returns-in-Ok-None-clause-done
 returns-in-Ok-None-clause-done g c =
     let (at_end, after, kept) = c.in-Ok-None.ensures.end (search rules) in
     all_done _ _ _ at_end kept c.loop-number.invariant.done
+
+pub returns-in-Ok-None-clause-ended : goal.returns-in-Ok-None-clause-ended
+returns-in-Ok-None-clause-ended g c =
+    let (at_end, after, kept) = c.in-Ok-None.ensures.end (search rules) in
+    record {
+      end = after;
+      whole = keeps_whole_both _ _ _ c.loop-number.invariant.whole c.in-Ok-None.ensures.whole;
+      work = c.in-Ok-None.ensures.work;
+    }
 
 pub returns-in-Err-clause-refused : goal.returns-in-Err-clause-refused
 returns-in-Err-clause-refused g c =

@@ -1,7 +1,7 @@
-use Rattle.std.proofs.Common.{◌≡◌, false, IsSome}
+use Rattle.std.proofs.Common.{◌≡◌, IsSome}
 use Rattle.std.specs.Option.{option_map_or}
 use Rattle.capnp_framing.specs.Wholeness.{KeepsWhole}
-use Rattle.capnp_streams.specs.Streams.{AreDone, stage_of}
+use Rattle.capnp_streams.specs.Streams.{AreDone, AreWorking, stage_of}
 use Rattle.capnp_streams.proofs.streams.runs.run_with.Given as goal
 
 abbrev pub invariant-loop-number : goal.invariant-loop-number
@@ -11,8 +11,7 @@ invariant-loop-number g l = record {
       (stage_of g.R.Input g.W.Output l.input l.output)
       (record { messages = l.number; bytes = l.bytes; holds = l.holds });
   whole : KeepsWhole (g.R.Input.ends_whole l.fn.input) (g.R.Input.ends_whole l.input);
-  reads : g.R.Input.has_failed l.input ≡ false;
-  writes : g.W.Output.has_failed l.output ≡ false;
+  work : AreWorking g.R.Input g.W.Output l.input l.output;
   there : IsSome l.memory.allocator;
   kept : option_map_or g.A.Allocator.refusals l.memory.allocator 0 ≡ g.A.Allocator.refusals l.fn.allocator;
 }

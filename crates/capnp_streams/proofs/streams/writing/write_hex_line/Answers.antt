@@ -19,8 +19,12 @@ loop-rest-preserved g c = record {
   works = search rules;
 }
 
-pub returns-clause-written : goal.returns-clause-written
-returns-clause-written g c =
+pub returns : goal.returns
+returns g c =
     let none : length c.loop-rest.rest.now ≡ 0 = search rules in
     let digits = left_over_end _ _ _ _ c.loop-rest.invariant.left_over (no_digits c.loop-rest.rest.now none) in
-    on_ok_weaker c.write_all.result (λ feed. appends_both _ _ _ _ _ digits feed) c.write_all.ensures.written
+    record {
+      written = on_ok_weaker c.write_all.result (λ feed. appends_both _ _ _ _ _ digits feed) c.write_all.ensures.written;
+      works = c.write_all.ensures.works;
+      fails = c.write_all.ensures.fails;
+    }

@@ -1,0 +1,133 @@
+//! The root of a message, and canonical copies of what a reader of a pointer is at, as `capnp_messages` has them
+//! of plain pointers.
+ghost use Rattle.std.specs.Prelude.{◌≡◌, ◌⊎◌, ◌∷◌, [], ◌↔◌, false, true, IsOk, OnOk, IfOk, OnErr, IfErr};
+ghost use Rattle.capnp_words.specs.Meter.{spent};
+ghost use Rattle.capnp_words.specs.declared.error.ErrorKind.{ErrorKind};
+ghost use Rattle.capnp_words.specs.declared.error.ErrorKind.TheVariants.{AllocationFailed};
+ghost use Rattle.capnp_format.specs.Bytes.{message};
+ghost use Rattle.capnp_format.specs.Canonical.{encoding, trim};
+ghost use Rattle.capnp_format.specs.Tree.{Tree};
+ghost use Rattle.capnp_arena_traits.specs.Allocations.{max_segment_words};
+ghost use Rattle.capnp_framing.specs.Frames.{frame};
+ghost use Rattle.capnp_framing.specs.Writing.{IsUnwritten, Prints};
+ghost use Rattle.capnp_framing.specs.declared.framing.frame_error.FrameError.{FrameError};
+ghost use Rattle.capnp_framing.specs.declared.framing.frame_error.FrameError.TheVariants.{WriteFailed};
+ghost use Rattle.capnp_objects.specs.Outcomes.{Reads};
+ghost use Rattle.capnp_objects.specs.Source.{levels};
+ghost use Rattle.capnp_objects.specs.Wanted.{canonical};
+ghost use Rattle.capnp_readers.specs.Readers.{read_by};
+ghost use Rattle.capnp_messages.specs.Copies.{HoldsCanonicalWords, LacksMemoryOr, RefusesCopy};
+ghost use Rattle.capnp_messages.specs.Roots.{CoversRoot, RefusesRoot, message_root};
+ghost use Rattle.capnp_messages.specs.Tries.{IsMadeByFirstTry, as_asked};
+
+use capnp_arena::arena::{
+    Allocator, BuilderArena, BuilderArenaImpl, ReaderArena, ReaderArenaImpl, ReaderSegments,
+};
+use capnp_framing::devices::Output;
+use capnp_framing::framing::FrameError;
+use capnp_messages::messages;
+use capnp_messages::messages::{CanonicalCopy, CanonicalError};
+use capnp_readers::readers::PointerReader;
+use capnp_words::error::ErrorKind;
+use capnp_words::read_limiter::ReadLimiter;
+use std::alloc::Global;
+
+/// A reader of the root of a message, after its word is charged: that of
+/// `PointerReader::get_root_from_arena`, over whatever holds the segments.
+///
+/// A message without a root pointer is `InvalidSegmentId(0)` or `MessageContainsOutOfBoundsPointer`,
+/// and a limiter that has no word left `ReadLimitExceeded`. A refusal charges nothing.
+pub fn read_root<'a, S: ReaderSegments>(
+    arena: &'a ReaderArenaImpl<S>,
+    lim: &mut ReadLimiter,
+) -> Result<PointerReader<'a, ReaderArenaImpl<S>>, ErrorKind>
+    ensures exactly { IsOk result ↔ CoversRoot
+        (message (⟦<ReaderArenaImpl<S> as ReaderArena>⟧.segments arena.now)) lim.old.left }
+    ensures place { IfOk result (λ root. read_by ⟦<ReaderArenaImpl<S> as ReaderArena>⟧ root
+        ≡ message_root (message (⟦<ReaderArenaImpl<S> as ReaderArena>⟧.segments arena.now))
+        (levels arena.now.nesting_limit)) }
+    ensures charged { OnOk result (lim.new ≡ spent lim.old 1) }
+    ensures refused { IfErr result (RefusesRoot
+        (message (⟦<ReaderArenaImpl<S> as ReaderArena>⟧.segments arena.now)) lim.old.left) }
+    ensures unread { OnErr result (lim.new ≡ lim.old) }
+{
+    Ok(PointerReader::of_pointer(messages::read_root(arena, lim)?))
+}
+
+/// Makes what a pointer means canonical: a message of one segment, its canonical words
+/// ("Canonicalization"), with memory of an allocator. A refusal gives the allocator back, and leaves
+/// the limiter as it was.
+///
+/// The limiter is charged what the copy costs, and counts each pointer that isn't null, once, however
+/// many tries it takes to find the room: the first asks for the words of the message that is read and
+/// one more, each further one for twice those of the one before. More than 536,870,911 words are
+/// `MessageTooLarge(536870911)`. `AllocationFailed` is want of memory, which the allocator has counted.
+pub fn copy_canonical_with<A: Allocator, B: ReaderArena>(
+    alloc: Global,
+    allocator: A,
+    from: PointerReader<'_, B>,
+    lim: &mut ReadLimiter,
+) -> Result<BuilderArenaImpl<A>, (ErrorKind, A)>
+    ensures copied { IfOk result (λ made. (t : Tree)
+        × Reads canonical (read_by B.ReaderArena from.entry) lim.old lim.new t
+        × HoldsCanonicalWords (⟦<BuilderArenaImpl<A> as BuilderArena>⟧.view made) t) }
+    ensures tries { IfOk result (λ made. IsMadeByFirstTry (read_by B.ReaderArena from.entry)
+        (A.offers allocator) (A.refusals allocator)
+        (⟦<BuilderArenaImpl<A> as BuilderArena>⟧.view made)) }
+    ensures refused { IfErr result
+        (λ e. LacksMemoryOr (A.refusals allocator) (A.refusals e.1) e.0
+        (RefusesCopy (read_by B.ReaderArena from.entry) lim.old.left max_segment_words e.0)) }
+    ensures unread { OnErr result (lim.new ≡ lim.old) }
+{
+    messages::copy_canonical_with(alloc, allocator, from.pointer(), lim)
+}
+
+/// The same as `copy_canonical_with`, with memory of the heap: just as many words as each try asks for.
+pub fn copy_canonical<B: ReaderArena>(
+    alloc: Global,
+    from: PointerReader<'_, B>,
+    lim: &mut ReadLimiter,
+) -> Result<CanonicalCopy, ErrorKind>
+    ensures copied { IfOk result (λ made. (t : Tree)
+        × Reads canonical (read_by B.ReaderArena from.entry) lim.old lim.new t
+        × HoldsCanonicalWords (⟦<CanonicalCopy as BuilderArena>⟧.view made) t) }
+    ensures tries { IfOk result (λ made. IsMadeByFirstTry (read_by B.ReaderArena from.entry)
+        as_asked 0 (⟦<CanonicalCopy as BuilderArena>⟧.view made)) }
+    ensures refused { IfErr result (λ k. (k ≡ AllocationFailed)
+        ⊎ RefusesCopy (read_by B.ReaderArena from.entry) lim.old.left max_segment_words k) }
+    ensures unread { OnErr result (lim.new ≡ lim.old) }
+{
+    messages::copy_canonical(alloc, from.pointer(), lim)
+}
+
+/// Writes what a pointer means as the frame of a canonical message: one segment, its canonical words.
+///
+/// The limiter is charged what the copy costs, and counts each pointer that isn't null, once, however
+/// many tries it takes to find the room. A value that isn't copied is `Layout`, with the refusal of the
+/// copy; nothing is written, and the limiter is left as it was. More than 536,870,911 words are
+/// `MessageTooLarge(536870911)`. `Frame` says that the output has failed; how much it took isn't said,
+/// and the copy is charged.
+pub fn write_canonical<W: Output, B: ReaderArena>(
+    alloc: Global,
+    output: &mut W,
+    from: PointerReader<'_, B>,
+    lim: &mut ReadLimiter,
+) -> Result<(), CanonicalError>
+    requires { W.has_failed output.old ≡ false }
+    ensures written { OnOk result ((t : Tree)
+        × Reads canonical (read_by B.ReaderArena from.entry) lim.old lim.new t
+        × Prints W.Output output.old output.new (frame (encoding (trim t) ∷ []))) }
+    ensures works { OnOk result (W.has_failed output.new ≡ false) }
+    ensures layout { IfErr result (λ e. (k : ErrorKind) → e ≡ CanonicalError.Layout k →
+        ((k ≡ AllocationFailed)
+        ⊎ RefusesCopy (read_by B.ReaderArena from.entry) lim.old.left max_segment_words k)
+        × IsUnwritten W.Output output.old output.new) }
+    ensures unread { IfErr result (λ e. (k : ErrorKind) → e ≡ CanonicalError.Layout k
+        → lim.new ≡ lim.old) }
+    ensures frame { IfErr result (λ e. (f : FrameError) → e ≡ CanonicalError.Frame f →
+        (f ≡ WriteFailed) × (W.has_failed output.new ≡ true)) }
+    ensures charged { IfErr result (λ e. (f : FrameError) → e ≡ CanonicalError.Frame f →
+        (t : Tree) × Reads canonical (read_by B.ReaderArena from.entry) lim.old lim.new t) }
+{
+    messages::write_canonical(alloc, output, from.pointer(), lim)
+}
