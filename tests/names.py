@@ -20,7 +20,7 @@ SOURCE_TYPE = re.compile(r'^(?:pub(?:\([a-z]+\))? )?(?:struct|enum|trait|type) (
 # Types of one name in several library crates: each is public in one of them at least, so it keeps its name.
 SHARED = {
     'Fault': 'why a message isn\'t canonical, as C gets it; why a message of a stream isn\'t answered',
-    'Place': 'a word of a segment that is read; a position in a row of an arena; where a reader of packed bytes stands',
+    'Place': 'a word of a segment that is read; where a reader of packed bytes stands',
     'PrimitiveElement': 'what an element of a list can be read as; what it can be read as and written from',
     'Refusal': 'why a call of the library for C is refused; why a command of layout_tool is',
     'Source': 'where a reader reads; another message, which an edit copies from',

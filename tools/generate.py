@@ -3,8 +3,8 @@
 
     generate.py FOLDER CRATE..
 
-writes FOLDER/CRATE.c for the library `capnp_canonical` and for programs, of the last commit. proved.py proves them; what `./test` has
-proved on this machine is taken. `rattle build` lowers a crate to an LLVM module, which it gives to a clang. Here that is a script,
+writes FOLDER/CRATE.c for the library `capnp_canonical` and for programs, of the last commit. proved.py proves them, but for what the
+toolchain keeps of earlier runs. `rattle build` lowers a crate to an LLVM module, which it gives to a clang. Here that is a script,
 which also has the toolchain's clang write the module as text, optimised. c_of_module writes that in C."""
 import pathlib
 import subprocess

@@ -3,10 +3,12 @@
 
     proved.py FOLDER CRATE..
 
-builds the crates as they stand: the program FOLDER/CRATE, or the static library FOLDER/libCRATE.a. `rt ci` proves them: what it has
-passed on this machine before, in whatever clone, it takes, and doesn't prove again; and what it passes here the gate takes. It leaves no
-file of a static library, so `rattle build` proves that crate once more, and compiles it. What both say is shown."""
+builds the crates as they stand: the program FOLDER/CRATE, or the static library FOLDER/libCRATE.a. Where the libraries below all of them
+lie in this tree, built of the sources as they stand, as `./test` leaves them and an earlier run of this script, `rattle build` proves and
+compiles the crates over these. Else `rt ci` proves the libraries first, in a folder of its own, and they are left in this tree for the next
+run. What both say is shown."""
 import io
+import os
 import pathlib
 import re
 import shutil
@@ -14,6 +16,7 @@ import subprocess
 import sys
 import tarfile
 import tempfile
+import time
 
 from libraries import TOP, Crates
 
@@ -64,12 +67,20 @@ class Room:
     def __exit__(self, *_):
         shutil.rmtree(self.at, ignore_errors=True)
 
-    def prove(self, wanted, with_themselves=()):
-        """Has `rt ci` prove the libraries below these crates, and some of the crates themselves, or take them from an earlier run, and leave them built."""
+    def take(self, wanted):
+        """Takes the libraries below these crates from this tree, if they lie there and are built of the sources as they stand."""
+        left = Crates()
+        if any(it not in left.stands_on or left.lacking(it) for it in wanted):
+            return False
+        self.crates = left
+        return True
+
+    def prove(self, wanted):
+        """Has `rt ci` prove the libraries below these crates, or take them from an earlier run, and leave them built."""
         lacking = [it for it in wanted if it not in self.crates.stands_on]
         if lacking:
             raise Stopped(f'crates.txt has no {lacking[0]}')
-        proved = [*dict.fromkeys(it for crate in wanted for it in self.crates.below(crate)), *with_themselves]
+        proved = [*dict.fromkeys(it for crate in wanted for it in self.crates.below(crate))]
         self.fill(self.at, [f'crates/{it}' for it in proved])
         lines = (f'{it}: {" ".join(self.crates.stands_on[it])}\n' for it in proved)
         (self.at / 'crates.txt').write_text(''.join(lines), encoding='utf-8')
@@ -78,6 +89,14 @@ class Room:
         text, _ = said('rt', 'ci', cwd=self.at)
         if not COUNTS.fullmatch(text.rstrip('\n').rpartition('\n')[2]):
             raise Stopped('not all is proved')
+
+    def leave(self, wanted, begun):
+        """Puts the libraries below these crates into this tree, in place of what lies there, as old as the sources of which they were proved."""
+        for crate in dict.fromkeys(it for crate in wanted for it in self.crates.below(crate)):
+            to = TOP / f'crates/{crate}/out/rlib'
+            shutil.rmtree(to, ignore_errors=True)
+            shutil.copytree(self.crates.rlib(crate).parent, to, symlinks=True)
+            os.utime(to / f'{crate}.rlib', (begun, begun))
 
     def build(self, crate, to, toolchain, *flags):
         """Proves the crate and compiles it into a file."""
@@ -91,19 +110,24 @@ class Room:
 def main(given):
     if len(given) < 2:
         sys.exit(__doc__)
-    to = pathlib.Path(given[0]).resolve()
+    to, crates, begun = pathlib.Path(given[0]).resolve(), given[1:], time.time()
     to.mkdir(parents=True, exist_ok=True)
-    try:
+    for has_left in (True, False):
         with Room(as_they_stand) as room:
-            programs = [it for it in given[1:] if (TOP / f'crates/{it}/src/main.rt').is_file()]
-            room.prove(given[1:], programs)
-            for crate in given[1:]:
-                if crate in programs:
-                    shutil.copy2(room.at / f'crates/{crate}/out/{crate}', to / crate)
-                else:
-                    room.build(crate, to / f'lib{crate}.a', room.crates.kit / 'toolchain')
-    except Stopped as why:
-        sys.exit(f'proved.py: {why}')
+            try:
+                if has_left and not room.take(crates):
+                    continue
+                if not has_left:
+                    room.prove(crates)
+                    room.leave(crates, begun)
+                for crate in crates:
+                    is_program = (TOP / f'crates/{crate}/src/main.rt').is_file()
+                    room.build(crate, to / (crate if is_program else f'lib{crate}.a'), room.crates.kit / 'toolchain')
+                return
+            except Stopped as why:
+                if not has_left:
+                    sys.exit(f'proved.py: {why}')
+                print(f'proved.py: over the libraries that lie here {why}; now all is proved')
 
 
 if __name__ == '__main__':
