@@ -106,6 +106,15 @@ class Room:
         if status or not re.search(r'(?m)^logic=proved ', text):
             raise Stopped(f'{crate} is not proved')
 
+    def link(self, crate, to):
+        """Proves and compiles a program, and links it into a file."""
+        kit, compiled = self.crates.kit, self.at / f'{crate}.o'
+        self.build(crate, compiled, kit / 'toolchain')
+        words = '--target', 'x86_64-unknown-linux-gnu', '--toolchain', kit / 'toolchain', '-o', to, compiled
+        _, status = said(*map(str, (kit / 'bin/rattle-link', *words, kit / 'c/libos_c.a', kit / 'c/liblibc_c.a')))
+        if status:
+            raise Stopped(f'{crate} is not linked')
+
 
 def main(given):
     if len(given) < 2:
@@ -121,8 +130,10 @@ def main(given):
                     room.prove(crates)
                     room.leave(crates, begun)
                 for crate in crates:
-                    is_program = (TOP / f'crates/{crate}/src/main.rt').is_file()
-                    room.build(crate, to / (crate if is_program else f'lib{crate}.a'), room.crates.kit / 'toolchain')
+                    if (TOP / f'crates/{crate}/src/main.rt').is_file():
+                        room.link(crate, to / crate)
+                    else:
+                        room.build(crate, to / f'lib{crate}.a', room.crates.kit / 'toolchain')
                 return
             except Stopped as why:
                 if not has_left:
