@@ -20,9 +20,11 @@ pub trait PrimitiveElement {
     // The value that starts at a bit of the bytes of a list.
     ghost value_at: { List ℕ → ℕ → Self };
 
-    /// An element of a list: the number in the lowest bytes of the element's data, or its lowest bit. The caller sees to it that `index` is below the number of elements, and
-    /// that each has at least as many bits of data as the value; for `()` neither is asked. The data of a struct is its data section, so a list of numbers that became a
-    /// list of structs reads as before ("Lists").
+    /// An element of a list: the number in the lowest bytes of the element's data, or its lowest
+    /// bit. The caller sees to it that `index` is below the number of elements, and that each has
+    /// at least as many bits of data as the value; for `()` neither is asked. The data of a struct
+    /// is its data section, so a list of numbers that became a list of structs reads as before
+    /// ("Lists").
     fn get<A: ReaderArena>(list: &ListReader<'_, A>, index: u32) -> Self
         requires range { 0 < element_bits (size_number size) → index < list.now.count }
         requires wide { element_bits (size_number size)
