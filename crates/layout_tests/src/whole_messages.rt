@@ -1,0 +1,75 @@
+//! Whole messages by calls that no row makes: the root, canonical copies and the test for them, and words without a frame.
+use capnp_layout::arena::{
+    Allocator, BuilderArenaImpl, HeapAllocator, OutputSegments, ReaderOptions, ReaderSegments,
+};
+use capnp_layout::devices::MemoryInput;
+use capnp_layout::error::ErrorKind;
+use capnp_layout::framing::{
+    FrameError, OwnedSegments, copy_canonical, copy_canonical_with, is_canonical_message,
+    read_root, read_segment_into,
+};
+use capnp_layout::read_limiter::ReadLimiter;
+use std::process::Abort;
+use test_support::{arena_of, bytes_of};
+
+/// A struct of three words, the last of which is zero, and a word behind it.
+const LONG: &str = "0000000003000000 1111111111111111 0000000000000080 0000000000000000";
+
+/// The canonical words of the same value.
+const CANONICAL: &str = "0000000002000000 1111111111111111 0000000000000080";
+
+/// Whether the words of the only segment of a message are these.
+fn has_only<A: Allocator>(made: &BuilderArenaImpl<A>, words: &[u8]) -> bool {
+    match made.get_segments_for_output() {
+        Ok(OutputSegments::SingleSegment(segment)) => segment == words,
+        _ => false,
+    }
+}
+
+/// A copy is charged once, the words of its source.
+#[test]
+fn copies(rt: HostRuntime) {
+    let source = arena_of(rt.alloc(), LONG, ReaderOptions::default()).expect(&rt, "a message");
+    let words = bytes_of(rt.alloc(), CANONICAL).expect(&rt, "digits");
+    let mut lim = ReadLimiter::new(Some(8));
+    let root = read_root(&source, &mut lim).expect(&rt, "a root");
+    let made = copy_canonical(rt.alloc(), root, &mut lim).expect(&rt, "a copy");
+    assert!(rt; has_only(&made, words.as_slice()) && lim.left() == Some(4));
+    let heap = HeapAllocator::new(rt.alloc(), 0);
+    match copy_canonical_with(rt.alloc(), heap, root, &mut lim) {
+        Ok(made) => assert!(rt; has_only(&made, words.as_slice()) && lim.left() == Some(1)),
+        Err(_) => assert!(rt; false, "a copy"),
+    }
+}
+
+/// The root costs a word, what it leads to its own words, and several segments nothing.
+#[test]
+fn canonical_messages(rt: HostRuntime) {
+    let unread = "0000000000000000,0000000000000000";
+    for (text, budget, want) in [
+        (CANONICAL, 3, Ok(true)),
+        (CANONICAL, 2, Err(ErrorKind::ReadLimitExceeded)),
+        (LONG, 8, Ok(false)),
+        (unread, 0, Ok(false)),
+    ] {
+        let arena = arena_of(rt.alloc(), text, ReaderOptions::default()).expect(&rt, "a message");
+        let mut lim = ReadLimiter::new(Some(budget));
+        assert!(rt; is_canonical_message(&arena, &mut lim) == want, "{text}");
+    }
+}
+
+/// Two words are the only segment; where one may be read they are too many, and half a word is cut short.
+#[test]
+fn words_without_a_frame(rt: HostRuntime) {
+    let bytes = [7u8; 20];
+    let mut into = OwnedSegments::new(rt.alloc());
+    let mut input = MemoryInput::new(&bytes[..16]);
+    assert!(rt; read_segment_into(&mut input, 2, &mut into) == Ok(()));
+    assert!(rt; into.len() == 1 && into.get_segment(0) == Some(&bytes[..16]));
+    let mut input = MemoryInput::new(&bytes[..16]);
+    let many = read_segment_into(&mut input, 1, &mut into);
+    assert!(rt; many == Err(FrameError::MessageTooLong(2)));
+    let mut input = MemoryInput::new(&bytes);
+    let cut = read_segment_into(&mut input, 3, &mut into);
+    assert!(rt; cut == Err(FrameError::Truncated) && into.is_empty());
+}
