@@ -23,7 +23,6 @@ pub use lent_memory::LentMemory;
 pub use message_fault::canonical_fault;
 pub use root::read_root;
 pub use whole::{
-    canonical_fault_of, canonical_from, canonical_in_room, canonical_of, canonical_with,
-    is_canonical, size_of,
+    canonical_fault_of, canonical_from, canonical_in_room, canonical_with, is_canonical, size_of,
 };
 pub use writing::{canonical_bytes, write_canonical, write_copy, write_words};

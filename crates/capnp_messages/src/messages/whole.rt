@@ -2,22 +2,21 @@
 //! canonical form, its size.
 ghost use Rattle.std.specs.Prelude.{◌≡◌, ◌⊎◌, ◌↔◌, ◌≤◌, [], IsOk, IfOk, IfSome, IfErr, IsNone, IsTrue};
 ghost use Rattle.std.specs.Bool.{OnFalse, OnTrue};
-ghost use Rattle.capnp_words.specs.declared.error.ErrorKind.TheVariants.{AllocationFailed};
 ghost use Rattle.capnp_format.specs.Bytes.{message};
 ghost use Rattle.capnp_format.specs.Tree.{Tree};
 ghost use Rattle.capnp_arena_traits.specs.Allocations.{max_segment_words, one_more};
 ghost use Rattle.capnp_arena_traits.specs.Limits.{IsSmall};
 ghost use Rattle.capnp_messages.specs.Copies.{HoldsCanonicalWords, LacksMemoryOr};
 ghost use Rattle.capnp_messages.specs.CanonicalMessages.{IsCanonicalMessage};
-ghost use Rattle.capnp_messages.specs.Tries.{IsMadeByFirstTry, IsSegmentRoom, NeedsMoreRoom, as_asked};
+ghost use Rattle.capnp_messages.specs.Tries.{IsMadeByFirstTry, IsSegmentRoom, NeedsMoreRoom};
 ghost use Rattle.capnp_messages.specs.Messages.{HasSizeOf, HasSizeWithin, IsFaultOf, IsValueOf, RefusesCanon, RefusesCheck, RefusesSize, root_within};
 
-use super::canonical_copy::{CanonicalCopy, copy_canonical_with, copy_in_room};
+use super::canonical_copy::{copy_canonical_with, copy_in_room};
 use super::message_fault::canonical_fault;
 use super::root::read_root;
 use capnp_arena::arena::{
-    Allocator, BuilderArena, BuilderArenaImpl, HeapAllocator, ReaderArena, ReaderArenaImpl,
-    ReaderOptions, ReaderSegments,
+    Allocator, BuilderArena, BuilderArenaImpl, ReaderArena, ReaderArenaImpl, ReaderOptions,
+    ReaderSegments,
 };
 use capnp_pointers::pointers::{CanonicalFault, MessageSize};
 use capnp_words::error::ErrorKind;
@@ -103,28 +102,6 @@ pub fn canonical_with<A: Allocator, S: ReaderSegments + Drop>(
 {
     let arena = ReaderArenaImpl::new(segments, limits);
     canonical_from(alloc, allocator, &arena, limits)
-}
-
-/// The same, with memory of the heap.
-pub fn canonical_of<S: ReaderSegments + Drop>(
-    alloc: Global,
-    segments: S,
-    limits: ReaderOptions,
-) -> Result<CanonicalCopy, ErrorKind>
-    requires { IsSmall (S.segments segments) }
-    ensures copied { IfOk result (λ made. (t : Tree)
-        × IsValueOf (message (S.segments segments)) limits t
-        × HoldsCanonicalWords (⟦<CanonicalCopy as BuilderArena>⟧.view made) t) }
-    ensures tries { IfOk result (λ made.
-        IsMadeByFirstTry (root_within (message (S.segments segments)) limits)
-        as_asked 0 (⟦<CanonicalCopy as BuilderArena>⟧.view made)) }
-    ensures refused { IfErr result (λ k. (k ≡ AllocationFailed)
-        ⊎ RefusesCanon (message (S.segments segments)) limits k) }
-{
-    match canonical_with(alloc, HeapAllocator::new(alloc, 0), segments, limits) {
-        Ok(made) => Ok(made),
-        Err((kind, _)) => Err(kind),
-    }
 }
 
 /// Where and why a message isn't canonical as a whole, or `None` where it is: one segment, which
