@@ -3,7 +3,6 @@
 slow to start, or take other memory. RUNNER names what runs a program of another machine.
 
     streams.py TESTS_STREAMS CAPNP_CANON STREAM_RUNS"""
-import json
 import os
 import pathlib
 import shlex
@@ -15,7 +14,7 @@ sys.path += [str(HERE), str(HERE.parent / 'hostile')]
 
 import hostile
 from program import Counts
-from runs import Program, same
+from runs import Program, stored
 
 
 def run_by(runner, program, folder):
@@ -33,12 +32,7 @@ def main():
     with tempfile.TemporaryDirectory(prefix='streams-') as folder:
         canon, runs = (run_by(os.environ.get('RUNNER'), it, folder) for it in sys.argv[2:])
         program = Program(canon, 300)
-        for path in sorted(HERE.glob('*.jsonl')):
-            for number, line in enumerate(path.open(encoding='utf-8'), 1):
-                row = json.loads(line)
-                wanted = bytes.fromhex(row['output']), row['status'], row['stderr']
-                got = program.run_row(row)
-                same(counts, f'{path.name}:{number} {row["name"]}: {row["args"]}', row['args'], wanted, got)
+        stored(program, counts)
         hostile.runs(runs, counts)
     print(f'{counts.passed} passed, {counts.failed} failed')
     return 1 if counts.failed else 0

@@ -12,7 +12,6 @@
 - hostile.py has STREAM_RUNS, a program over the same engine, make runs whose devices fail at each call in turn, of a
   stream that is cut behind each byte and has each bit turned."""
 import argparse
-import json
 import pathlib
 import sys
 
@@ -24,17 +23,7 @@ import devices
 import hostile
 import vectors
 from program import Counts
-from runs import Program, same
-
-
-def rows(program, counts):
-    """The stored runs."""
-    for path in sorted(HERE.glob('*.jsonl')):
-        for number, line in enumerate(path.open(encoding='utf-8'), 1):
-            row = json.loads(line)
-            wanted = bytes.fromhex(row['output']), row['status'], row['stderr']
-            got = program.run_row(row)
-            same(counts, f'{path.name}:{number} {row["name"]}: {row["args"]}', row['args'], wanted, got)
+from runs import Program, stored
 
 
 def main():
@@ -47,7 +36,7 @@ def main():
     program = Program(options.canon, options.limit)
     counts = Counts(options.show)
     for name, part in (
-        ('rows', lambda: rows(program, counts)),
+        ('rows', lambda: stored(program, counts)),
         ('vectors as streams', lambda: vectors.streams(program, counts)),
         ('devices', lambda: devices.failing(program, counts)),
         ('little memory', lambda: devices.scarce(program, counts)),

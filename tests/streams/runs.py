@@ -1,9 +1,11 @@
-"""One run of the program, and whether it ended as it should."""
+"""Runs of the program, and whether they ended as they should."""
+import json
 import os
 import pathlib
 import subprocess
 import tempfile
 
+HERE = pathlib.Path(__file__).resolve().parent
 NOT_CANONICAL = b'not canonical'
 
 
@@ -38,6 +40,16 @@ def same(counts, what, args, wanted, got):
     if args[:1] == ['check']:
         output = without_reasons(wanted[0], output)
     counts.told((output, *others) == wanted, what, 'wanted', shown(wanted), 'got', shown(got))
+
+
+def stored(program, counts):
+    """Makes the stored runs."""
+    for path in sorted(HERE.glob('*.jsonl')):
+        for number, line in enumerate(path.open(encoding='utf-8'), 1):
+            row = json.loads(line)
+            wanted = bytes.fromhex(row['output']), row['status'], row['stderr']
+            got = program.run_row(row)
+            same(counts, f'{path.name}:{number} {row["name"]}: {row["args"]}', row['args'], wanted, got)
 
 
 def without_reasons(wanted, got):
