@@ -91,7 +91,7 @@ class Room:
             raise Stopped('not all is proved')
 
     def leave(self, wanted, begun):
-        """Puts the libraries below these crates into this tree, in place of what lies there, as old as the sources of which they were proved."""
+        """Puts the libraries below these crates into this tree, in place of what lies there, as old as the sources that they were proved of."""
         for crate in dict.fromkeys(it for crate in wanted for it in self.crates.below(crate)):
             to = TOP / f'crates/{crate}/out/rlib'
             shutil.rmtree(to, ignore_errors=True)

@@ -148,7 +148,7 @@ def cited(code, imports, own=None):
 
 
 def closure(begin, without=frozenset()):
-    """These definitions and all that they rest on, but for those of another closure."""
+    """Definitions and all that they rest on, but for those of another closure."""
     found, types, words = set(), set(), set()
     waiting = list(begin)
     while waiting:

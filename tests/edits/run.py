@@ -37,7 +37,7 @@ BLOCK = re.compile(r'( *)(?:unsafe )?(?:impl(?:<.*?>)?|(?:pub(?:\([a-z]+\))? )?t
 CYCLE = re.compile(r' *#\[cycle\((\w+)\)\]')
 # What the prover says of a goal, or of an answer, and where.
 SAID = re.compile(r'(?:note: )?(?:\./)?((?:src|specs|proofs)/\S+?):(\d+):\d+: (.*)')
-# What says that a text can't be read, of which no contract is the reason.
+# What says that a text can't be read, for which no contract is the reason.
 UNREAD = re.compile(r'is not in scope|has no field|is no name|operand is missing|expected the end|cannot continue')
 # What stands in a proof of a name that the edit took away, or of a proof that cites such a one.
 NAMES = re.compile(r'has no field|is not in scope|has no `|was not admitted|declarations? that depends? on')

@@ -25,7 +25,7 @@ MAKING_CALLS = {
     'put_struct', 'init_struct', 'put_list', 'init_list', 'put_struct_list', 'init_struct_list', 'init_text', 'init_data',
     'set_text', 'set_data', 'put_default', 'copy', 'set_struct', 'set_list', 'set_struct_element', 'set_section',
 }
-# Those that open a struct or a list of structs, whose last argument may be a default.
+# The calls that open a struct or a list of structs. Their last argument may be a default.
 OPENING_CALLS = {'find_struct', 'get_struct', 'find_struct_list', 'get_struct_list'}
 # Which argument of an edit or of a builder call is a number of elements or bytes.
 COUNTS = {
@@ -51,7 +51,7 @@ def instead(edit):
 
 
 def replacements(edits, outcomes):
-    """The lists of edits, with outcomes, of which one leaves with ample memory what these edits leave."""
+    """The lists of edits, with outcomes, one of which leaves with ample memory what these edits leave."""
     choices = [instead(edit) if outcome == REFUSED else [[(edit, outcome)]] for edit, outcome in zip(edits, outcomes)]
     return [list(itertools.chain(*choice)) or [('-:cl', 'ok')] for choice in itertools.product(*choices)]
 
@@ -219,7 +219,7 @@ def calls_instead(call):
 
 
 def calls_replaced(calls, outcomes):
-    """The lists of calls, of which one leaves with ample memory what these calls leave."""
+    """The lists of calls, one of which leaves with ample memory what these calls leave."""
     choices = [calls_instead(call) if outcome.startswith(REFUSED) else [[call]] for call, outcome in zip(calls, outcomes)]
     return [list(itertools.chain(*choice)) or ['clear'] for choice in itertools.product(*choices)]
 

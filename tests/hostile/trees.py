@@ -25,7 +25,7 @@ def landed(segments, segment, at):
 
 
 def structs(segments, segment, at, words, pointers, count):
-    """So many structs of this size from a place on."""
+    """The `count` structs of this size from a place on."""
     size = words + pointers
     return [struct(segments, segment, at + i * size, words, pointers) for i in range(count)]
 

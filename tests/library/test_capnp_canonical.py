@@ -20,7 +20,7 @@ from capnp_canonical import Error, Fault, Limits, Reason, Refusal, Size
 MESSAGES = pathlib.Path(__file__).with_name('messages.txt')
 PACKED = pathlib.Path(__file__).with_name('packed.txt')
 LIBRARY = 'CAPNP_CANONICAL_LIBRARY'
-# A struct of three words, of which the last is zero.
+# A struct of three words, the last of which is zero.
 ZERO_WORD = bytes.fromhex('0000000004000000 0000000003000000 1111111111111111 ffffffffffffffff 0000000000000000')
 ZERO_WORD_FLAT = bytes.fromhex('0000000002000000 1111111111111111 ffffffffffffffff')
 TEXT = '6162636465666768 6162636465666700'
@@ -63,7 +63,7 @@ def size_text(size):
 
 
 class Messages(unittest.TestCase):
-    """Those of the file, a test for each."""
+    """The messages of messages.txt, a test for each."""
 
     def compare(self, given, calls, copy, flat, check, size):
         words = bytes.fromhex(flat.strip('-'))
@@ -261,7 +261,7 @@ class Calls(unittest.TestCase):
 
 
 class Packed(unittest.TestCase):
-    """Those of packed.txt, and what that file can't say."""
+    """The packed bytes of packed.txt, and what that file can't say."""
 
     def test_rows(self):
         rows = [line.split() for line in PACKED.read_text().splitlines() if not line.startswith('#')]

@@ -168,7 +168,7 @@ class Commands(unittest.TestCase):
         self.assertRegex(done.stderr.decode().splitlines()[-1], r'^ImportError: [^\n]*nowhere\.so')
 
     def test_progress(self):
-        """It is shown where standard error is a terminal and the work takes longer than a second, and is gone at the end."""
+        """The progress is shown where standard error is a terminal and the work takes longer than a second, and is gone at the end."""
         read, write = os.pipe()
         terminal, other = pty.openpty()
         with open(write, 'wb', buffering=0) as stream:

@@ -37,7 +37,7 @@ class Peer:
         return run.stdout, run.returncode
 
     def bytes_of(self, *words, data=b''):
-        """The same of a command that ends with status 0."""
+        """What a command writes to this input, which has to end with status 0."""
         output, status = self.run(words, data)
         if status:
             raise RuntimeError(f'{words[0]} ended with status {status}')
@@ -57,12 +57,12 @@ class Peer:
         return self.bytes_of('capnp', 'decode', *of, data=data)
 
     def people(self, seed, count, deep):
-        """So many random messages, one behind the other; `deep` is how far friends have friends."""
+        """Random messages, `count` of them, one behind the other; `deep` is how far friends have friends."""
         text = self.bytes_of(sys.executable, str(HERE / 'people.py'), str(seed), str(count), str(deep))
         return self.bytes_of('capnp', 'encode', *PERSON, data=text)
 
     def scattered(self, data):
-        """The same messages with their objects in many segments."""
+        """These messages with their objects in many segments."""
         return self.copied(['scatter'], data)
 
     def book(self, *words):

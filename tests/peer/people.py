@@ -24,7 +24,7 @@ class People:
         return f'[{", ".join(item() for _ in range(self.below(bound)))}]'
 
     def struct(self, fields):
-        """Those of the fields that its chance lets stand, in turn: each is a chance, a name and what makes its value."""
+        """A struct of these fields in turn, each with its chance: a field is a chance, a name and what makes its value."""
         return f'({", ".join(f"{name} = {value()}" for chance, name, value in fields if self.random.random() < chance)})'
 
     def phone(self):

@@ -31,7 +31,7 @@ def answers(binary, command, rows, limit):
 
 
 def lent(row):
-    """The same row with its first segment in scratch space; None where segments are very large, or not told."""
+    """A row with its first segment in scratch space instead; None where segments are very large, or not told."""
     words, _, rest = row['stdin'].partition(' ')
     if not re.fullmatch(r'\d{1,5}', words) or not rest:
         return None

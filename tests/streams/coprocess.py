@@ -37,7 +37,7 @@ class Coprocess:
 
 
 def parts(messages):
-    """Each message by itself; then each with the front of the next, of which the rest comes later."""
+    """Each message by itself; then each with the front of the next, whose rest comes later."""
     yield list(messages)
     cut = [len(it) // 2 for it in messages]
     fronts = [it[:n] for it, n in zip(messages, cut)]

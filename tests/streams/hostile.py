@@ -124,7 +124,7 @@ class Runs:
                 self.counts.told((got.how, got.number, got.word) == how and is_front(form, got), 'a failed read', form, calls, got)
 
     def failed_packed_reads(self):
-        """The same of a packed input, of which more may be read than a message takes, and the end twice."""
+        """A read of a packed input that fails. More may be read than a message takes, and the end twice."""
         data = packed(STREAM)
         for form in FORMS:
             lines = [line(form + ',--packed', data, f'{calls},1') for calls in range(len(data) + 3)]
@@ -150,7 +150,7 @@ class Runs:
                 self.counts.told(good, 'a failed write', form, calls, got)
 
     def failed_packed_writes(self):
-        """The same of packed output, which unpacks to the answers where all of it is taken."""
+        """A write of packed output that fails: where all of it is taken, it unpacks to the answers."""
         for form in 'canon', 'canon,--flat':
             output = asked(self.program, [line(form + ',--pack', STREAM)])[0].written
             self.counts.told(unpacked(output) == (b''.join(WANTED[form]), True), 'packed output', form, output)

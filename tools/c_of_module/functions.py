@@ -6,7 +6,7 @@ from collections import Counter
 from reading import PROMISES, Line, Names, Unknown, declared, size_of
 from writing import Writer
 
-# The same of functions, and what a C compiler is told by.
+# Attributes of functions: those that a C compiler is told, by these names, and those that C may do without.
 ADVICE = {'noinline': 'NEVER', 'cold': 'COLD'}
 SILENT = {'alwaysinline', 'inlinehint', 'memory', 'mustprogress', 'nobuiltin', 'nofree', 'norecurse', 'nosync', 'nounwind', 'willreturn'}
 # Functions that the module calls, as runtime.h and program.h have them.
@@ -143,7 +143,7 @@ class Function:
         return name, (size, align)
 
     def shared(self):
-        """Rows of bytes that locals share of which no two are in use at once: each with its locals."""
+        """Rows of bytes, each with the locals that share it, no two of which are in use at once."""
         marks = {label: re.findall(r'@llvm\.lifetime\.(start|end)\.p0\(ptr nonnull (%[-\w.$]+)\)', '\n'.join(lines)) for label, lines in self.blocks.items()}
         marked = {name for found in marks.values() for _, name in found}
         said = sum('@llvm.lifetime.' in line for lines in self.blocks.values() for line in lines)

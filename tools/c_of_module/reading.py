@@ -9,7 +9,7 @@ PROMISES = {
     'noundef', 'nsw', 'nuw', 'nusw', 'private', 'range', 'readnone', 'readonly', 'returned', 'samesign', 'tail', 'unnamed_addr',
     'writeonly', 'zeroext',
 }
-# Those that may have something in brackets.
+# The promises that may have something in brackets.
 BRACKETED = {'captures', 'dereferenceable', 'dereferenceable_or_null', 'initializes', 'range'}
 ZERO = ('zeroinitializer', 'undef', 'poison')
 

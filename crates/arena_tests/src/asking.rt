@@ -50,7 +50,7 @@ fn nothing_is_asked(rt: HostRuntime) {
     assert!(rt; asked_once(arena.into_allocator().requests(), 1, 1, 0));
 }
 
-/// A segment is asked for with just the words that found no room, and its row.
+/// A segment is asked for with exactly the words that found no room, and then its row.
 #[test]
 fn words_elsewhere(rt: HostRuntime) {
     let heap = HeapAllocator::new(rt.alloc(), 4);
@@ -121,7 +121,7 @@ fn nothing_is_asked_of_many(rt: HostRuntime) {
     }
 }
 
-/// The same where the first needs no row.
+/// However many segments there are, each request is for a segment or its row, where the first needs no row.
 #[test]
 fn nothing_is_asked_behind_the_first(rt: HostRuntime) {
     for segments in [1, 10, 1_000] {

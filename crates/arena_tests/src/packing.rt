@@ -7,7 +7,7 @@ use std::alloc::Global;
 /// Two words that have a few bytes which aren't zero.
 const WORDS: &[u8] = b"\x08\0\0\0\x03\0\x02\0\x19\0\0\0\xaa\x01\0\0";
 
-/// They are packed behind their tags.
+/// The packed `WORDS`: the bytes of each word that aren't zero, behind its tag.
 const PACKED: &[u8] = b"\x51\x08\x03\x02\x31\x19\xaa\x01";
 
 /// Four words without a byte of zero: the first is packed behind its tag, then how many stand behind it, and these as

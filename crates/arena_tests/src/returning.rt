@@ -36,7 +36,7 @@ fn filled_of<A: Allocator>(
     (arena, made)
 }
 
-/// The same with an allocator that grants all segments, and so many rows.
+/// Does `filled_of` with an allocator that grants all segments, and so many rows.
 fn filled<'a>(
     rt: &impl Abort,
     alloc: Global,

@@ -1,4 +1,4 @@
-//! Segments of which the first is in memory that the caller lends.
+//! Segments whose first one is in memory that the caller lends.
 use crate::steps::{take, take_of};
 use capnp_arena::arena::{
     Allocator, BuilderArena, BuilderArenaImpl, ScratchSegment, ScratchSpaceHeapAllocator, Segment,
@@ -33,7 +33,7 @@ fn use_once<'a>(
     arena.into_allocator()
 }
 
-/// It is handed out again once it came back.
+/// The scratch space is handed out again once it came back.
 #[test]
 fn handed_out_again(rt: HostRuntime) {
     let mut scratch = [0xff; 35];
@@ -54,7 +54,7 @@ fn check_segment(
     assert!(rt; segment.bytes() == &[0; 32][..bytes.min(32)]);
 }
 
-/// It is handed out once, for what it can hold, and not where it has no whole word.
+/// The scratch space is handed out once, for what it can hold, and not where it has no whole word.
 #[test]
 fn borrowed_or_owned(rt: HostRuntime) {
     let mut scratch = [0xff; 16];
@@ -67,7 +67,7 @@ fn borrowed_or_owned(rt: HostRuntime) {
     check_segment(&rt, &mut allocator, 0, (false, 0));
 }
 
-/// Zeros are written over all its bytes, also behind the last whole word.
+/// Zeros are written over all bytes of the scratch space, also behind the last whole word.
 #[test]
 fn zeros_over_all_bytes(rt: HostRuntime) {
     let mut scratch = [0xff; 35];

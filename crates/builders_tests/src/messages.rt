@@ -18,7 +18,7 @@ pub const ONE_EACH: StructSize = StructSize {
 /// A struct of a data word, 7, and of a pointer to the bytes of the text `a`.
 pub const STRUCT: &str = "0000000001000100 0700000000000000 0100000012000000 6100000000000000";
 
-/// The same, each object behind a landing pad in a segment of its own.
+/// The message `STRUCT` with each object behind a landing pad in a segment of its own.
 pub const STRUCT_APART: &str =
     "0200000001000000, 0000000001000100 0700000000000000 0200000002000000, 0100000012000000 6100000000000000";
 
@@ -55,7 +55,7 @@ pub fn check_struct<A: BuilderArena>(rt: &impl Abort, builder: &StructBuilder<'_
     assert!(rt; place.pointers_at as usize + place.pointers as usize <= words);
 }
 
-/// So many bits of data from a byte of a message of a word or more on, and no pointers.
+/// A reader of `bits` bits of data from a byte of a message on, without pointers. The message has a word.
 pub fn struct_at<'a, A: ReaderArena>(
     rt: &impl Abort,
     arena: &'a A,

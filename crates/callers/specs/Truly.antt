@@ -50,7 +50,7 @@ pub record IsRefusedTruly (old new : View) (edit : Edit) (r : Option ErrorKind) 
       ((n ≡ word_count object + 1) × (max_segment_words < n)) ⊎
       ((n ≡ 2 ^ 64 - 1) × (length old.words ≡ 2 ^ 32 - 1))
 
--- So each of several edits has, in order.
+-- From old to new each of several edits has its outcome truly, in order.
 abbrev pub AreRefusedTruly : View → View → List Edit → List (Option ErrorKind) → Type 0
 AreRefusedTruly old new [] [] = new ≡ old
 AreRefusedTruly old new (e ∷ es) (r ∷ rs) =

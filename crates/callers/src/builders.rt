@@ -35,7 +35,7 @@ pub enum Built {
     Nothing,
     /// The root alone, whose first pointer is null.
     Root,
-    /// Both.
+    /// Both structs.
     Both,
 }
 
@@ -213,8 +213,8 @@ pub(crate) fn root_word<A: BuilderArena>(arena: &mut A)
     let _root = arena.allocate(0, 1);
 }
 
-/// The same in an array of four words on the stack, which is lent as scratch space. It takes no
-/// memory, so it is never refused for want of it.
+/// Does `text_and_number` in an array of four words on the stack, which is lent as scratch space. The
+/// message takes no memory, so no call is refused for want of it.
 pub fn built_on_the_stack(alloc: Global, number: u64) -> Result<(), ErrorKind>
     ensures { IsOk result }
 {

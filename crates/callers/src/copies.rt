@@ -23,10 +23,10 @@ use std::alloc::Global;
 
 /// The canonical copy of what a pointer of a message means, with memory of the heap.
 ///
-/// It succeeds where, and only where, the pointer means a value without capabilities within the levels of the
-/// reader, and the limiter covers what reading it costs, unless there is no memory. The limiter has paid that cost
-/// then, and counted each pointer; a refusal leaves it as it was. The copy's segment has room for no more than the
-/// words of the message and one, or for less than twice the words that are made.
+/// The call succeeds where, and only where, the pointer means a value without capabilities within the levels
+/// of the reader, and the limiter covers what reading it costs, unless there is no memory. The limiter has
+/// paid that cost then, and counted each pointer; a refusal leaves it as it was. The copy's segment has room
+/// for no more than the words of the message and one, or for less than twice the words that are made.
 pub fn heap_copy_at<S: ReaderSegments>(
     alloc: Global,
     arena: &ReaderArenaImpl<S>,

@@ -43,7 +43,7 @@ fn refused_memory(kind: ErrorKind) -> Result<(), ErrorKind>
     }
 }
 
-/// The same of an outcome of an edit.
+/// Passes the refusal of an edit for memory on, and no other outcome.
 fn pass_memory(outcome: Option<ErrorKind>) -> Result<(), ErrorKind>
     ensures { IsNoneOfMemory outcome → IsOk result }
 {
@@ -87,8 +87,8 @@ pub fn three_edits<A: BuilderArena>(arena: &mut A) -> Result<(), ErrorKind>
     pass_memory(outcomes[2])
 }
 
-/// The same in an array of four words on the stack, which is lent as scratch space. It takes no
-/// memory, so it is never refused for want of it.
+/// Does `three_edits` in an array of four words on the stack, which is lent as scratch space. The message
+/// takes no memory, so no edit is refused for want of it.
 pub fn edited_on_the_stack(alloc: Global) -> Result<(), ErrorKind>
     ensures { IsOk result }
 {

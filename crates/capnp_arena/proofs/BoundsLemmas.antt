@@ -41,7 +41,7 @@ module _ {S : Type 0} (g : Ghosts S) where
   pub bounded_taken : (rows : List (Row S g)) (i amount : ℕ) (old new : Row S g) → old ≡ get_or rows i old → capacity g new ≡ capacity g old → new.used ≡ old.used + amount → new.bound ≡ old.bound → HasBounds g rows → HasBounds g (set rows i new)
   bounded_taken rows i amount old new e size used same h = bounded_set rows i old new e (omega (arith, size, used)) same h
 
-  -- the same of a row that is named by its number
+  -- another row in place of the row with number i, as large and with as many words taken
   pub bounded_over : (rows : List (Row S g)) (i : ℕ) (old new : Row S g) → old ≡ get_or rows i old → capacity g new ≡ capacity g (get_or rows i old) → new.used ≡ (get_or rows i old).used → new.bound ≡ (get_or rows i old).bound →
       HasBounds g rows → HasBounds g (set rows i new)
   bounded_over rows i old new e size used same h =

@@ -9,8 +9,8 @@ use Rattle.capnp_arena.specs.Row.{capacity, capacity_at, shown}
 use Rattle.capnp_arena.specs.declared.arena.row.Row.{Row}
 use Rattle.capnp_arena.specs.declared.arena.allocator.Segment.{Ghosts}
 
--- So many rows from `from` on are a range: they are a power of two, and `from` is a multiple of
--- twice that. Each row is the last of one range.
+-- The `width` rows from `from` on are a range: `width` is a power of two, and `from` a multiple of twice
+-- that. Each row is the last of one range.
 abbrev pub IsRange : ℕ → ℕ → Type 0
 IsRange from width = ((e : ℕ) × (width ≡ 2 ^ e)) × ((a : ℕ) × (from ≡ a * (2 * width)))
 

@@ -1,5 +1,5 @@
--- Lemmas on rows whose allocated words are written over: the words behind these stay zero. They stand here since a row
--- is made by them, in a law of a trait.
+-- Lemmas on rows whose allocated words are written over: the words behind these stay zero. They
+-- stand here since a row is made by them, in a law of a trait.
 use Rattle.std.specs.Prelude.{ℕ, List, ◌*◌, ◌≡◌, ◌≤◌, ◌-◌, length, take, drop, replicate}
 use Rattle.std.proofs.Common.{arith, refl, sym, ap, ◌∙◌, subst, length-take}
 use Rattle.std.proofs.lemmas.Slice.{drop-append-drop}
@@ -10,7 +10,8 @@ use Rattle.capnp_arena.specs.declared.arena.row.Row.{Row}
 use Rattle.capnp_arena.specs.declared.arena.allocator.Segment.{Ghosts}
 
 -- A list is as long as before when others are written over its first elements.
-pub length-with_front : (n : ℕ) (xs ws : List ℕ) → n ≤ length xs → length (with_front n xs ws) ≡ length xs
+pub length-with_front : (n : ℕ) (xs ws : List ℕ) → n ≤ length xs →
+    length (with_front n xs ws) ≡ length xs
 length-with_front n xs ws h = grind (arith, common_steps)
 
 -- What stands behind the first n elements stays when others are written over these.
@@ -38,6 +39,7 @@ module _ {S : Type 0} (g : Ghosts S) where
       let bytes = g.ready r.segment in
       let new = with_front (8 * r.used) bytes ws in
       let l = length-with_front (8 * r.used) bytes ws r.clear.0 in
-      subst (λ n. IsRow r.used (g.ready (g.with_ready r.segment new)) n) (sym (g.as_long r.segment new l))
+      subst (λ n. IsRow r.used (g.ready (g.with_ready r.segment new)) n)
+      (sym (g.as_long r.segment new l))
       (subst (λ xs. IsRow r.used xs (length (g.content r.segment))) (sym (g.holds r.segment new l))
       (front_row r.used (length (g.content r.segment)) bytes ws r.clear))

@@ -1,4 +1,4 @@
--- What is left of bytes of which the first were written over.
+-- What is left of bytes whose first ones were written over.
 use Rattle.std.specs.Prelude.{ℕ, List, ◌≡◌, ◌*◌, take, drop}
 use Rattle.capnp_format.specs.Bytes.{words_of}
 

@@ -1,4 +1,4 @@
--- The rows that an arena keeps: of which the first stands apart, or all in a list.
+-- The rows that an arena keeps: the first stands apart, or all are in a list.
 use Rattle.std.specs.Prelude.{ℕ, Bool, true, false, List}
 use Rattle.capnp_arena.specs.Rows.{all, with_bytes_apart}
 use Rattle.capnp_arena.specs.Listed.{with_bytes_listed}

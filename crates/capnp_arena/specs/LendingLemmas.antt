@@ -73,7 +73,8 @@ module _ {S : Type 0} (g : Ghosts S) where
   shown_found (q ∷ rows) zero r e = let same : q ≡ r = cc in ap (λ x. Some (allocated g x)) same
   shown_found (q ∷ rows) (suc i) r e = shown_found rows i r e
 
-  shown_none : (rows : List (Row S g)) (i : ℕ) → slice_get rows i ≡ None → slice_get (shown g rows) i ≡ None
+  shown_none : (rows : List (Row S g)) (i : ℕ) → slice_get rows i ≡ None →
+      slice_get (shown g rows) i ≡ None
   shown_none [] i e = refl
   shown_none (q ∷ rows) zero e = cc
   shown_none (q ∷ rows) (suc i) e = shown_none rows i e

@@ -20,7 +20,7 @@ module _ {S : Type 0} (g : Ghosts S) where
     pub words : message (shown g new) ≡ M
     pub room : capacity_at g new ≡ capacity_at g old
 
-  -- There are as many rows, each can hold as many words as before, and their bounds still hold.
+  -- A list has as many rows as before, each can hold as many words, and their bounds still hold.
   pub record KeepsList (old new : List (Row S g)) : Type 0 where
     pub room : capacity_at g new ≡ capacity_at g old
     pub many : length new ≡ length old

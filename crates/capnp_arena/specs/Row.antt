@@ -36,7 +36,8 @@ module _ {S : Type 0} (g : Ghosts S) where
   abbrev pub capacity_at : List (Row S g) → ℕ → ℕ
   capacity_at rows id = slice_index_or (map capacity rows) id 0
 
-  -- One more row, of this segment and with no word allocated, is behind the others, whose room is the same.
+  -- One more row, of this segment and with no word allocated, is behind the others, whose room is
+  -- the same.
   pub record GainsRow (old new : List (Row S g)) (segment : S) : Type 0 where
     pub shown_more : shown new ≡ shown old ++ [] ∷ []
     pub room_there : capacity_at new (length old) ≡ length (g.content segment) / 8

@@ -1,4 +1,4 @@
--- All rows of a builder arena, of which the first stands apart.
+-- All rows of a builder arena whose first row stands apart.
 use Rattle.std.specs.Prelude.{ℕ, List, zero, suc}
 use Rattle.capnp_arena.specs.LendingLemmas.{bounded_with_row, few_with_row}
 use Rattle.capnp_arena.specs.Row.{most_others, with_allocated, with_first, with_row}

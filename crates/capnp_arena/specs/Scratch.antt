@@ -32,7 +32,7 @@ module _ {B : Type 0} (g : Ghosts B) where
   with_ready_of (Borrowed segment) w = Borrowed (g.with_ready segment w)
   with_ready_of (Owned segment) w = Owned (with_bytes segment w)
 
--- the bytes of a segment, be they borrowed or on the heap
+-- the bytes of a segment, borrowed or on the heap
 abbrev pub bytes_of : ScratchSegment (MutBor (List ℕ)) → List ℕ
 bytes_of (Borrowed bytes) = bytes.now
 bytes_of (Owned segment) = segment.bytes.items
@@ -49,10 +49,12 @@ pub record Scratch : Type 0 where
   pub scratch_words : ℕ
   pub heap : HeapAllocator
 
--- whether a request is met by the scratch space: it isn't out, and has a word and at least those asked for
+-- whether a request is met by the scratch space: it isn't out, and has a word and at least those
+-- asked for
 abbrev pub lends : Scratch → ℕ → Bool
 lends a asked = a.here && (nat_lt 0 a.scratch_words && nat_le asked a.scratch_words)
 
 -- whether a request may be met by a segment of so many words, where the scratch space has so many
 abbrev pub offered : (ℕ → ℕ → Bool) → ℕ → ℕ → ℕ → Bool
-offered heap scratch_words asked words = heap asked words || ((words == scratch_words) && nat_le asked words)
+offered heap scratch_words asked words =
+    heap asked words || ((words == scratch_words) && nat_le asked words)

@@ -1,5 +1,5 @@
--- Lemmas on an arena with other bytes in the allocated words of a segment. They stand here since a law of a
--- trait may cite nothing else.
+-- Lemmas on an arena with other bytes in the allocated words of a segment. They stand here since a
+-- law of a trait may cite nothing else.
 use Rattle.std.specs.Prelude.{ℕ, Bool, true, false, List, ◌∷◌, ◌≡◌, length, map, slice_get, slice_set, Some}
 use Rattle.std.proofs.Common.{zero, suc, refl, ap, ◌∙◌, get_or}
 use Rattle.capnp_arena.specs.Kept.{arena_rows, listed_with_bytes, apart_with_bytes}
@@ -30,7 +30,8 @@ module _ {S : Type 0} (g : Ghosts S) where
       at zero = refl
       at (suc k) = ap (λ (f : ℕ → ℕ). f k) e
 
-  -- Where the first row stands apart, other bytes are those of their segment, and the other segments stay.
+  -- Where the first row stands apart, other bytes are those of their segment, and the other
+  -- segments stay.
   pub with_bytes_shown : (b : Rows S g) (id : ℕ) (old ws : List ℕ) →
       slice_get (shown g (all g b)) id ≡ Some old → length ws ≡ length old →
       shown g (all g (with_bytes_apart g b id ws)) ≡ slice_set (shown g (all g b)) id ws

@@ -35,7 +35,7 @@ words_of-whole bs =
     take-past : (n : ℕ) (xs : List ℕ) → length xs ≤ n → take n xs ≡ xs
     take-past n xs h = grind (arith, common_steps)
 
--- so the words of a message are those of the whole words of its segments
+-- the words of a message are the words of the whole words of its segments
 pub message_wholes : (B : List (List ℕ)) → message (map whole B) ≡ message B
 message_wholes [] = refl
 message_wholes (b ∷ B) = ap (λ ws. ws ∷ message (map whole B)) (words_of-whole b) ∙ ap (λ M. words_of b ∷ M) (message_wholes B)

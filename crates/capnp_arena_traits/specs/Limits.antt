@@ -10,7 +10,7 @@ whole bytes = take (8 * (length bytes / 8)) bytes
 abbrev pub AreSmall : List (Bor (List ℕ)) → Type 0
 AreSmall segments = (length segments < 2 ^ 32) × All (λ s. length s.now / 8 < 2 ^ 32) segments
 
--- the same, segment by segment ("Messages")
+-- fewer than 2^32 segments, each of fewer than 2^32 words, said of each by its number ("Messages")
 abbrev pub IsSmall : List (List ℕ) → Type 0
 IsSmall segments =
     (length segments < 2 ^ 32) × ((k : ℕ) (s : List ℕ) → slice_get segments k ≡ Some s →

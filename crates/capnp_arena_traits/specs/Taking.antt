@@ -17,11 +17,12 @@ IsFirstFit v amount k =
     (k < length v.words) × (length (segment v.words k) + amount ≤ v.room k) ×
     ((j : ℕ) → j < k → v.room j < length (segment v.words j) + amount)
 
--- another segment of so many words of zero behind those of S
+-- S, and behind its segments another one of `amount` words of zero
 abbrev pub with_another : Segments → ℕ → Segments
 with_another S amount = S ++ replicate amount 0 ∷ []
 
--- So many words of zero are taken at the end of segment k, from position p on, and nothing else is changed.
+-- `amount` words of zero are taken at the end of segment k, from position p on, and nothing else is
+-- changed.
 abbrev pub GrowsSegment : View → View → ℕ → ℕ → ℕ → Type 0
 GrowsSegment old new amount k p =
     (p ≡ length (segment old.words k)) × (new ≡ with_more old k (replicate amount 0))
@@ -33,7 +34,7 @@ GainsSegment old new amount k p =
     (k ≡ length old.words) × (p ≡ 0) × (new.words ≡ with_another old.words amount) ×
     (amount ≤ new.room k) × IsTrue (old.offers amount (new.room k))
 
--- so many words of zero are new at position p of segment s, behind what was allocated there, or in
+-- `amount` words of zero are new at position p of segment s, behind what was allocated there, or in
 -- a segment of their own behind the others
 abbrev pub IsTaken : Segments → Segments → ℕ → ℕ → ℕ → Type 0
 IsTaken S T amount s p =
@@ -44,7 +45,8 @@ IsTaken S T amount s p =
 abbrev pub SameRoomBelow : ℕ → (ℕ → ℕ) → (ℕ → ℕ) → Type 0
 SameRoomBelow n old new = (k : ℕ) → k < n → new k ≡ old k
 
--- a request for so many words in a segment of its own, with so many segments there, is refused by this name
+-- a request for so many words in a segment of its own, with so many segments there, is refused by
+-- this name
 abbrev pub IsAllocationRefusal : View → View → ℕ → ℕ → ErrorKind → Type 0
 IsAllocationRefusal old new segments amount e =
     ((e ≡ AllocationFailed) × (amount ≤ max_segment_words) × (segments < max_segments) ×

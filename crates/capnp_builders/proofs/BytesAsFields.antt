@@ -21,7 +21,7 @@ fields_front S s b w f (suc n) =
     ap (λ (T : Segments). with_field T s (b + suc n * w) w (f (suc n))) (fields_front S s b w f n)
     ∙ ap (λ k. with_field (with_fields (with_field S s b w (f 0)) s (fields_from (b + w) w (λ i. f (suc i))) n) s k w (f (suc n))) (let e : b + suc n * w ≡ b + w + n * w = omega arith in e)
 
--- the same numbers in the fields
+-- fields with the same numbers leave the same message
 pub fields_same : (S : Segments) (s b w : ℕ) (f h : ℕ → ℕ) (n : ℕ) → ((i : ℕ) → i < n → f i ≡ h i) → with_fields S s (fields_from b w f) n ≡ with_fields S s (fields_from b w h) n
 fields_same S s b w f h zero e = refl
 fields_same S s b w f h (suc n) e =
@@ -103,7 +103,7 @@ front_as_content S s b bits n bytes small l long =
     ap (with_fields S s (fields_from b 8 (λ i. get_or (take n bytes) i 0))) (let e : length (take n bytes) ≡ n = omega (arith, length-take n bytes, long) in e)
     ∙ fields_same S s b 8 (λ i. get_or (take n bytes) i 0) (content_byte bits bytes) n (λ i m. get_or-take n bytes i 0 m ∙ whole_byte bits bytes i (small i) (omega (arith, l, m)))
 
--- So many bytes of a segment, from a byte on, were written.
+-- The n bytes of a segment from word a on were written.
 abbrev pub Wrote : View → View → ℕ → ℕ → (ℕ → ℕ) → ℕ → Type 0
 Wrote old new id a f n = new ≡ record old { words = with_fields old.words id (fields_from (8 * a) 8 f) n }
 

@@ -59,7 +59,7 @@ copy_fits (Some d) (Flat n ns) bytes v id e fits = absurd (not_copied bytes e)
 copy_fits (Some d) (Pointers ts) bytes v id e fits = absurd (not_copied bytes e)
 copy_fits (Some d) (Structs n q es) bytes v id e fits = absurd (not_copied bytes e)
 
--- so where the default is refused, its copy didn't fit
+-- where a default is refused although there is room, it is one that is copied, and it fits
 refused_copy : (w : DefaultUse) (s p : ℕ) (a m : View) (t : Tree) (k : ErrorKind) (Fits : View → Type 0) → FitsWithDefault w a s p Fits → PutsDefaultOver w (call_at s p a m) t (Err k) →
     (bytes : List ℕ) × (w ≡ copied bytes) × DefaultCopyFits bytes a s
 refused_copy ignored s p a m t k Fits fits (ok, same) = absurd (false≢true ok)

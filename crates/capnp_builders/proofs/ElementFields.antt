@@ -52,7 +52,7 @@ pub bits_inside : (S : Segments) (list : ListPlace) (i w : ℕ) → IsListPlace 
     8 * list.byte + i * step_bits list.size list.struct_size + w ≤ 64 * length (segment S list.segment)
 bits_inside S list i w (there, aligned, fits) l wide = omega (arith, fits, wide, data_within list.size list.struct_size list.count i l)
 
--- so do its lowest bytes
+-- the lowest bytes of an element lie in the list's segment
 pub bytes_inside : (S : Segments) (list : ListPlace) (i n : ℕ) → IsListPlace S list → i < list.count → 0 < n → 8 * n ≤ data_bits list.size list.struct_size →
     list.byte + i * (step_bits list.size list.struct_size / 8) + n ≤ 8 * length (segment S list.segment)
 bytes_inside S list i n inside l some wide = omega (arith, start_in_bits list i n some wide, bits_inside S list i (8 * n) inside l wide)

@@ -34,11 +34,11 @@ built view b =
       room = (view b.arena.now).room b.segment;
     }
 
--- the place is there
+-- the place of the pointer is there
 abbrev pub IsThere : Building → Type 0
 IsThere b = IsPlace b.segments b.segment b.at
 
--- its word is zero
+-- the word of the pointer is zero
 abbrev pub IsNull : Building → Type 0
 IsNull b = word_at b.segments b.segment b.at ≡ 0
 
@@ -127,7 +127,7 @@ pub record FindsStored {A C : Type 0} (view : A → View)
   pub memory : ChangesWords result (view b.arena.now) (view now)
 
 -- A call that looks for a value changes nothing where the place isn't null, and a refusal there is
--- of what stands.
+-- one of what is there.
 pub record LooksUp {A C : Type 0} (view : A → View)
     (P : Result C ErrorKind → CallAt → Tree → Type 0) (b : PointerBuilder A) (now : A)
     (result : Result C ErrorKind) : Type 0 where

@@ -50,14 +50,15 @@ AreCleared S R s p (suc n) = (M : Segments) × AreCleared S M s p n × Puts M R 
 
 -- Pointers are copied, as they stand, from the first pointer of a struct on.
 abbrev pub pointers_copied : StructPlace → View → View → Meter → Meter → Change
-pointers_copied place old new before after = change plain (call_at place.segment place.pointers_at old new) before after
+pointers_copied place old new before after =
+    change plain (call_at place.segment place.pointers_at old new) before after
 
 -- From S to M content is written in the data section of a struct, and then all its pointers become null.
 abbrev pub TakesBytes : Segments → Segments → StructPlace → ℕ → List ℕ → Type 0
 TakesBytes S M place bits bytes =
     AreCleared (with_content S place bits bytes) M place.segment place.pointers_at place.pointers
 
--- d data words, of which each byte is that of content.
+-- d data words, each byte of which is that of content.
 abbrev pub HoldContent : List ℕ → ℕ → ℕ → List ℕ → Type 0
 HoldContent ws d bits bytes =
     (length ws ≡ d) × ((i : ℕ) → i < 8 * d → field_in ws (8 * i) 8 ≡ content_byte bits bytes i)

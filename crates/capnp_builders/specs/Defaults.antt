@@ -39,8 +39,8 @@ default_root bytes =
       at = 0;
     }
 
--- Why a default isn't copied, by the name k: what its first word leads to has this fault, of which
--- a capability is one; or there is no room for an object of it.
+-- Why a default isn't copied, by the name k: what its first word leads to has this fault, which a
+-- capability is too; or there is no room for an object of it.
 abbrev pub RefusesDefault : List ℕ → CallAt → ErrorKind → Type 0
 RefusesDefault bytes c k =
     let copy = change of_default c (unused None) (unused None) in
@@ -95,7 +95,7 @@ pub record PutsDefault (bytes : List ℕ) (c : CallAt) (u : Tree) : Type 0 where
   pub taken : (value_original (default_root bytes)).takes of_default (unused None) (unused None)
       (MakesAtMost c.segment c.old c.new)
 
--- The copy of a default is refused by the name k: null stands, and new words are zero.
+-- The copy of a default is refused by the name k: the pointer stays null, and new words are zero.
 pub record DropsDefault (bytes : List ℕ) (c : CallAt) (k : ErrorKind) : Type 0 where
   pub named : RefusesDefault bytes c k
   pub replaced : IsReplaced c.old.words c.new.words c.segment c.at Null Null
@@ -116,9 +116,11 @@ WithDefault (copied bytes) c t P result =
 
 -- The value of these bytes has no fault, and its words fit behind those of segment id.
 abbrev pub DefaultCopyFits : List ℕ → View → ℕ → Type 0
-DefaultCopyFits bytes v id = CanBeCopied (value_original (default_root bytes)) of_default (unused None) v id
+DefaultCopyFits bytes v id =
+    CanBeCopied (value_original (default_root bytes)) of_default (unused None) v id
 
--- A default, if there is one, has a first word and no fault, and its words fit behind those of segment id.
+-- A default, if there is one, has a first word and no fault, and its words fit behind those of
+-- segment id.
 abbrev pub DefaultFits : Option (Bor (List ℕ)) → View → ℕ → Type 0
 DefaultFits default v id = IfSome default (λ d. (8 ≤ length d.now) × DefaultCopyFits d.now v id)
 

@@ -27,15 +27,17 @@ IsStructGiven S s p u place =
     IsSomeAnd (struct_in (target S s p) u) (λ e. place ≡ struct_place e) × IsStructPlace S place
 
 abbrev pub IsListGiven : Segments → ℕ → ℕ → Tree → ListPlace → Type 0
-IsListGiven S s p u place = (list_given s (list_in (target S s p) Void u) ≡ Ok place) × IsListPlace S place
+IsListGiven S s p u place =
+    (list_given s (list_in (target S s p) Void u) ≡ Ok place) × IsListPlace S place
 
--- A call opens the list of structs that stands, made one of any other list. Null is a list of none,
+-- A call opens the list of structs that is there, made one of any other list. Null is a list of none,
 -- and nothing is changed.
 abbrev pub OpensList : StructSize → Result ListPlace ErrorKind → CallAt → Tree → Type 0
 OpensList size result c Null = (result ≡ Ok (void_list c.segment)) × (c.new ≡ c.old)
-OpensList size result c t = Opens size IsListGiven c t (list_widened size.data_words size.pointers t) result
+OpensList size result c t =
+    Opens size IsListGiven c t (list_widened size.data_words size.pointers t) result
 
--- A call puts its default in place of null, and then opens the struct that stands; or the list.
+-- A call puts its default in place of null, and then opens the struct that is there; or the list.
 abbrev pub FindsStruct : StructSize → Option (Bor (List ℕ)) → Result StructPlace ErrorKind →
     CallAt → Tree → Type 0
 FindsStruct size default result c t =
@@ -46,9 +48,9 @@ abbrev pub FindsStructs : StructSize → Option (Bor (List ℕ)) → Result List
 FindsStructs size default result c t =
     WithDefault (object_default default t) c t (OpensList size result) result
 
--- The place stores some value, and there is room for what becomes of the struct that stands once
--- the default is put, or for a new one in place of null; or for what becomes of the list that
--- stands then.
+-- The place stores some value, and there is room for what becomes of the struct that is there once
+-- the default is put, or for a new one in place of null; or for what becomes of the list that is
+-- there then.
 abbrev pub StructFindFits : StructSize → Option (Bor (List ℕ)) → View → ℕ → ℕ → Type 0
 StructFindFits size default v s p =
     (t : Tree) × IsStored v.words s p t ×

@@ -76,7 +76,8 @@ element_place size list i =
       pointers = 0;
     }
 
--- A data section starts at a multiple of the widest numbers that it holds, which take 1, 2, 4 or 8 bytes.
+-- A data section starts at a multiple of the widest numbers that it holds, which take 1, 2, 4 or 8
+-- bytes.
 abbrev pub IsAligned : StructPlace → Type 0
 IsAligned place =
     let widest = min 8 (place.bits / 8) in 0 < widest → (8 % widest ≡ 0) × (place.byte % widest ≡ 0)

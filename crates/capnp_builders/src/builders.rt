@@ -65,7 +65,7 @@ pub struct PointerBuilder<'a, A> {
     pub arena: &'a mut A,
     /// The segment of the pointer's word.
     pub segment: u32,
-    /// Its position in the segment, in words.
+    /// The position of the pointer's word in the segment, in words.
     pub at: u32,
 }
 
@@ -91,7 +91,7 @@ impl<'a, A: BuilderArena> PointerBuilder<'a, A> {
         }
     }
 
-    /// The same pointer, for as long as it is borrowed.
+    /// A builder of this pointer, for as long as this one is borrowed.
     pub fn reborrow(&mut self) -> PointerBuilder<'_, A>
         ensures* lends { sem 𝓛 (follows (the_row (record { mir = named 1; lft = [] }) A.row) A.row
             self.entry.ghost_name result.arena.ghost_name
@@ -205,7 +205,7 @@ impl<'a, A: BuilderArena> PointerBuilder<'a, A> {
     /// Makes a struct, all zero, where the pointer leads.
     ///
     /// A refusal is `AllocationFailed` or `MessageTooLarge`, of the struct's words and one more; the
-    /// pointer is null then (`put_struct` says what else is so).
+    /// pointer is null then (`put_struct` says what else is true).
     #[inline(always)]
     pub fn init_struct(mut self, size: StructSize) -> Result<StructBuilder<'a, A>, ErrorKind>
         requires { IsThere (built A.view self) }
@@ -269,7 +269,7 @@ impl<'a, A: BuilderArena> PointerBuilder<'a, A> {
     /// Makes a list of `count` elements that are no structs, all zero or null, where the pointer leads.
     ///
     /// A refusal is `AllocationFailed` or `MessageTooLarge`, of the list's words and one more; the
-    /// pointer is null then (`put_list` says what else is so).
+    /// pointer is null then (`put_list` says what else is true).
     #[inline(always)]
     pub fn init_list(
         mut self,
@@ -328,7 +328,7 @@ impl<'a, A: BuilderArena> PointerBuilder<'a, A> {
     /// Makes a list of `count` structs, all zero, where the pointer leads.
     ///
     /// A refusal is `AllocationFailed` or `MessageTooLarge`, of the words of the structs, the tag and
-    /// one more; the pointer is null then (`put_struct_list` says what else is so).
+    /// one more; the pointer is null then (`put_struct_list` says what else is true).
     pub fn init_struct_list(
         mut self,
         count: u32,
@@ -457,7 +457,7 @@ impl<'a, A: BuilderArena> PointerBuilder<'a, A> {
     /// Makes the pointer what another one means: a copy of the whole value, as it stands, or in canonical
     /// form ("Canonicalization"). The source is charged as reading all of it costs.
     ///
-    /// It is copied onto any pointer, over as many segments as it takes. What the pointer held before
+    /// The value is copied onto any pointer, over as many segments as it takes. What the pointer held before
     /// becomes zero first, and its words stay allocated. The words of the value stand behind those of the
     /// pointer's segment, in the canonical order of objects, wherever they fit there, or where the message
     /// has but one segment afterwards: all words of the sections and elements of a copy as it stands, and

@@ -61,7 +61,7 @@ fn words(rt: &HostRuntime) -> Result<Option<Vec<String>>, AllocError> {
     Ok(Some(words))
 }
 
-/// Says which word is wrong, of which there are so many from it on, or that one lacks; and how the program is called.
+/// Says which word is wrong, by how many there are from it on, or that one is missing; and how the program is called.
 fn misunderstood(rt: &HostRuntime, words: &[String], left: usize) -> ExitCode
     requires { left ≤ length words.now }
 {

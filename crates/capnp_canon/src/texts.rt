@@ -1,17 +1,17 @@
 //! What the program says of itself.
 
-/// Its name and version.
+/// The name and version of the program.
 pub const VERSION: &str = "capnp_canon 1.0.0";
 
-/// How it is called.
+/// How the program is called.
 pub const USAGE: &str =
     "usage: capnp_canon canon [--flat] [--pack] [--hex] | check [--quiet] | size  [OPTION..] [--] [FILE..]
        capnp_canon --help | --version";
 
-/// What it says where memory is wanting for the arguments or a buffer.
+/// What the program says where there is no memory for the arguments or a buffer.
 pub const NO_MEMORY: &str = "refused AllocationFailed";
 
-/// What its arguments mean.
+/// What the program's arguments mean.
 pub const HELP: &str =
     "Reads framed messages of Cap'n Proto from files or standard input, one behind the other, and answers to each.
 

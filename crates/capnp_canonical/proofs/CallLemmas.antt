@@ -45,7 +45,7 @@ fills_weaker {result = result} {new = new} more fills = record {
   kept = fills.kept;
 }
 
--- the same as C sees it
+-- a call that fills a buffer, as C sees it
 pub fills_done : {n : ℕ} {old new : List ℕ} {P : List ℕ → Type 0} →
     Fills (Ok n) old new P → FillsByNumber 0 n old new P
 fills_done fills = record {

@@ -35,35 +35,39 @@ use Rattle.capnp_canonical.specs.declared.refusal.Refusal.TheVariants.{Frame, La
 abbrev pub limits_of : ℤ → ℕ → ReaderOptions
 limits_of nesting words = record { nesting_limit = nesting; traversal_limit_in_words = Some words }
 
--- Bytes begin with the frame of a message of which P holds.
+-- Bytes begin with the frame of a message that P holds of.
 abbrev pub InFrame : List ℕ → ℕ → (Segments → Type 0) → Type 0
 InFrame bytes words P = (S : Segments) × BeginsWithFrame bytes words S × P S
 
--- The message of segments that were given, each of whole words, if P holds of it.
+-- The bytes of segments that were given.
 abbrev pub lent_bytes : List (Bor (List ℕ)) → List (List ℕ)
 lent_bytes segments = map (λ s. s.now) segments
 
+-- Each segment is of whole words.
 abbrev pub AreWholeWords : List (Bor (List ℕ)) → Type 0
 AreWholeWords segments = All (λ s. length s.now % 8 ≡ 0) segments
 
+-- Segments that were given are those of a message that P holds of.
 abbrev pub InSegments : List (Bor (List ℕ)) → (Segments → Type 0) → Type 0
 InSegments segments P = AreWholeWords segments × AreSmall segments × P (message (lent_bytes segments))
 
--- Bytes begin with no frame: there are none, or for the first reason that stands.
+-- Bytes begin with no frame: there are none, or for the first reason that applies.
 abbrev pub RefusesBytes : List ℕ → ℕ → Refusal → Type 0
 RefusesBytes bytes words r =
     ((r ≡ NoMessage) × (bytes ≡ [])) ⊎ ((e : FrameError) × (r ≡ Frame e) × NoFrame bytes words e)
 
--- Segments aren't those of a message: one isn't of whole words, or they are beyond the limits of a reader.
+-- Segments aren't those of a message: one isn't of whole words, or they are beyond the limits of a
+-- reader.
 abbrev pub RefusesSegments : List (Bor (List ℕ)) → Refusal → Type 0
 RefusesSegments segments r =
     ((r ≡ SegmentIsNotWholeWords) × (AreWholeWords segments → ⊥))
     ⊎ ((r ≡ Layout (MessageTooLarge (2 ^ 64 - 1))) × (AreSmall segments → ⊥))
 
--- The message of one segment with these words, if P holds of it.
+-- Bytes are the whole words of a segment, and no more than a reader takes.
 abbrev pub IsOneSegment : List ℕ → Type 0
 IsOneSegment bytes = (length bytes % 8 ≡ 0) × (length bytes / 8 < 2 ^ 32)
 
+-- Bytes are the words of a message of one segment that P holds of.
 abbrev pub InWords : List ℕ → (Segments → Type 0) → Type 0
 InWords bytes P = IsOneSegment bytes × P (message (bytes ∷ []))
 
@@ -73,8 +77,8 @@ RefusesSegment bytes r =
     ((r ≡ SegmentIsNotWholeWords) × (length bytes % 8 ≡ 0 → ⊥))
     ⊎ ((r ≡ Layout (MessageTooLarge (2 ^ 64 - 1))) × (length bytes / 8 < 2 ^ 32 → ⊥))
 
--- Packed bytes aren't unpacked: they end within a word or before a number; they are whole, and stand for more bytes than
--- there is room for; or for so many that no buffer has room for them.
+-- Packed bytes aren't unpacked: they end within a word or before a number; they are whole, and
+-- stand for more bytes than there is room for; or for so many that no buffer has room for them.
 abbrev pub RefusesPacked : List ℕ → ℕ → Refusal → Type 0
 RefusesPacked packed room r =
     let size = length (unpacked_bytes Tag packed) in
@@ -95,10 +99,11 @@ RefusesMeaning command limits S r = (k : ErrorKind) × (r ≡ Layout k) × Refus
 abbrev pub RefusesRoom : Form → ReaderOptions → ℕ → Segments → Refusal → Type 0
 RefusesRoom form limits room S r =
     RefusesMeaning (Canon form) limits S r ⊎
-    ((bytes : List ℕ) × IsCopyOf form limits S bytes × (r ≡ NoRoom (length bytes)) × (room < length bytes))
+    ((bytes : List ℕ) × IsCopyOf form limits S bytes
+    × (r ≡ NoRoom (length bytes)) × (room < length bytes))
 
--- A call puts bytes of which P holds to the front of a buffer, and gives how many they are. What stands behind them stays, and
--- where it is refused the whole buffer.
+-- A call puts bytes that P holds of to the front of a buffer, and gives how many they are. What is
+-- behind them stays; where the call is refused, the whole buffer does.
 pub record Fills (result : Result ℕ Refusal) (old new : List ℕ) (P : List ℕ → Type 0) : Type 0 where
   pub front : IfOk result (λ n. P (take n new))
   pub within : IfOk result (λ n. n ≤ length new)
@@ -112,7 +117,7 @@ pub record FillsByNumber (answer written : ℕ) (old new : List ℕ) (P : List �
   pub behind : answer ≡ 0 → drop written new ≡ drop written old
   pub kept : answer ≢ 0 → new ≡ old
 
--- A number is that of a refusal of which P holds.
+-- A number is the number of a refusal that P holds of.
 abbrev pub IsNumberWhere : ℕ → (Refusal → Type 0) → Type 0
 IsNumberWhere number P = (r : Refusal) × (number ≡ answer_number r) × P r
 
@@ -120,7 +125,7 @@ IsNumberWhere number P = (r : Refusal) × (number ≡ answer_number r) × P r
 abbrev pub IsGranted : ℕ → Type 0
 IsGranted number = (number ≡ 0) ⊎ (number ≡ 1) ⊎ (number ≡ 32)
 
--- So many bytes are a table of a frame of one segment, in a form.
+-- How many bytes the table of a frame of one segment has, in a form.
 abbrev pub table_bytes : Form → ℕ
 table_bytes Framed = 8
 table_bytes Flat = 0

@@ -121,7 +121,7 @@ answer_number SegmentIsNotWholeWords = 3
 answer_number (Frame e) = frame_error_number e
 answer_number (Layout k) = error_number k
 
--- its name
+-- the name of a refusal
 abbrev pub answer_name : Refusal → List ℕ
 answer_name (NoRoom _) = codes "NoRoom"
 answer_name NoMessage = codes "NoMessage"

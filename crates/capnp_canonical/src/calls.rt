@@ -31,7 +31,7 @@ pub struct Limits {
 }
 
 impl Limits {
-    /// The same for a reader.
+    /// These limits as the options of a reader.
     pub fn options(self) -> ReaderOptions
         ensures { result ≡ limits_of self.nesting self.words }
     {
@@ -121,7 +121,7 @@ fn copy_on_heap<S: ReaderSegments>(
     }
 }
 
-/// The same, by a copy on the stack where it has room there, and else on the heap.
+/// Does `copy_on_heap` by a copy on the stack where it has room there, and else on the heap.
 fn copy_small<S: ReaderSegments>(
     alloc: Global,
     form: Form,
@@ -149,7 +149,7 @@ fn copy_small<S: ReaderSegments>(
     }
 }
 
-/// The same, from the message's own segment where it is canonical, and else by a copy on the heap.
+/// Does `copy_on_heap` from the message's own segment where it is canonical, and else by a copy on the heap.
 fn copy_large<S: ReaderSegments>(
     alloc: Global,
     form: Form,

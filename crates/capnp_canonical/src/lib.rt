@@ -40,7 +40,7 @@ use words::{check_words, copy_words, size_words};
 
 /// Writes the canonical message of what a frame means, as a frame of one segment, to the front of a
 /// buffer, and gives its size in bytes. Where there is too little room the size that is wanted is given.
-/// What stands behind it in the buffer stays, and where it is refused all of the buffer.
+/// What is behind it in the buffer stays; where the call is refused, all of the buffer does.
 #[unsafe(no_mangle)]
 pub extern "C" fn capnp_canonical_copy(
     alloc: Global,
@@ -74,7 +74,7 @@ pub extern "C" fn capnp_canonical_copy(
     }
 }
 
-/// Does the same with the bare words of the canonical message.
+/// Does what `capnp_canonical_copy` does, with the bare words of the canonical message.
 #[unsafe(no_mangle)]
 pub extern "C" fn capnp_canonical_copy_flat(
     alloc: Global,
@@ -123,10 +123,11 @@ pub extern "C" fn capnp_canonical_check(
     ensures done { result ≡ 0 → InFrame frame.now words
         (TestIs (limits_of nesting words) is_canonical.new fault.new) }
     ensures refused { result ≢ 0 → IsNumberWhere result (λ r. RefusesBytes frame.now words r
-        ⊎ InFrame frame.now words (λ S. RefusesMeaning Command.Check (limits_of nesting words) S r)) }
+        ⊎ InFrame frame.now words
+        (λ S. RefusesMeaning Command.Check (limits_of nesting words) S r)) }
     ensures none { result ≢ 0 → (is_canonical.new ≡ false) × (fault.new ≡ no_fault) }
-    ensures granted { InFrame frame.now words (HasAnswerWithin Command.Check (limits_of nesting words))
-        → result ≡ 0 }
+    ensures granted { InFrame frame.now words
+        (HasAnswerWithin Command.Check (limits_of nesting words)) → result ≡ 0 }
 {
     match check_frame(frame, Limits { nesting, words }) {
         Ok(found) => {
@@ -154,10 +155,11 @@ pub extern "C" fn capnp_canonical_size(
     ensures done { result ≡ 0 → InFrame frame.now words
         (λ S. HasSizeOf S (limits_of nesting words) word_count.new cap_count.new) }
     ensures refused { result ≢ 0 → IsNumberWhere result (λ r. RefusesBytes frame.now words r
-        ⊎ InFrame frame.now words (λ S. RefusesMeaning Command.Size (limits_of nesting words) S r)) }
+        ⊎ InFrame frame.now words
+        (λ S. RefusesMeaning Command.Size (limits_of nesting words) S r)) }
     ensures none { result ≢ 0 → (word_count.new ≡ 0) × (cap_count.new ≡ 0) }
-    ensures granted { InFrame frame.now words (HasAnswerWithin Command.Size (limits_of nesting words))
-        → result ≡ 0 }
+    ensures granted { InFrame frame.now words
+        (HasAnswerWithin Command.Size (limits_of nesting words)) → result ≡ 0 }
 {
     match size_frame(frame, Limits { nesting, words }) {
         Ok(size) => {
@@ -176,8 +178,9 @@ pub extern "C" fn capnp_canonical_size(
 /// Gives how many bytes the frame at the front of a buffer takes.
 #[unsafe(no_mangle)]
 pub extern "C" fn capnp_canonical_frame_size(frame: &[u8], words: u64, bytes: &mut usize) -> u32
-    ensures done { result ≡ 0 → (S : Segments) × (front behind : List ℕ) × (frame.now ≡ front ++ behind)
-        × IsFrameOf S front × (total S ≤ words) × (bytes.new ≡ length front) }
+    ensures done { result ≡ 0 → (S : Segments) × (front behind : List ℕ)
+        × (frame.now ≡ front ++ behind) × IsFrameOf S front × (total S ≤ words)
+        × (bytes.new ≡ length front) }
     ensures refused { result ≢ 0 → (bytes.new ≡ 0)
         × IsNumberWhere result (RefusesBytes frame.now words) }
     ensures granted { InFrame frame.now words (λ _. ⊤) → result ≡ 0 }
@@ -268,10 +271,11 @@ pub extern "C" fn capnp_canonical_segments_check(
     ensures done { result ≡ 0 → InSegments segments.now
         (TestIs (limits_of nesting words) is_canonical.new fault.new) }
     ensures refused { result ≢ 0 → IsNumberWhere result (λ r. RefusesSegments segments.now r
-        ⊎ InSegments segments.now (λ S. RefusesMeaning Command.Check (limits_of nesting words) S r)) }
+        ⊎ InSegments segments.now
+        (λ S. RefusesMeaning Command.Check (limits_of nesting words) S r)) }
     ensures none { result ≢ 0 → (is_canonical.new ≡ false) × (fault.new ≡ no_fault) }
-    ensures granted { InSegments segments.now (HasAnswerWithin Command.Check (limits_of nesting words))
-        → result ≡ 0 }
+    ensures granted { InSegments segments.now
+        (HasAnswerWithin Command.Check (limits_of nesting words)) → result ≡ 0 }
 {
     match check_segments(segments, Limits { nesting, words }) {
         Ok(found) => {
@@ -299,10 +303,11 @@ pub extern "C" fn capnp_canonical_segments_size(
     ensures done { result ≡ 0 → InSegments segments.now
         (λ S. HasSizeOf S (limits_of nesting words) word_count.new cap_count.new) }
     ensures refused { result ≢ 0 → IsNumberWhere result (λ r. RefusesSegments segments.now r
-        ⊎ InSegments segments.now (λ S. RefusesMeaning Command.Size (limits_of nesting words) S r)) }
+        ⊎ InSegments segments.now
+        (λ S. RefusesMeaning Command.Size (limits_of nesting words) S r)) }
     ensures none { result ≢ 0 → (word_count.new ≡ 0) × (cap_count.new ≡ 0) }
-    ensures granted { InSegments segments.now (HasAnswerWithin Command.Size (limits_of nesting words))
-        → result ≡ 0 }
+    ensures granted { InSegments segments.now
+        (HasAnswerWithin Command.Size (limits_of nesting words)) → result ≡ 0 }
 {
     match size_segments(segments, Limits { nesting, words }) {
         Ok(size) => {

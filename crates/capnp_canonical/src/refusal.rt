@@ -21,7 +21,7 @@ pub enum Refusal {
 }
 
 impl Refusal {
-    /// Its number, which isn't 0.
+    /// The number of the refusal, which isn't 0.
     pub fn number(self) -> u32
         ensures number { result ≡ answer_number self }
         ensures some { 0 < result }
@@ -35,7 +35,7 @@ impl Refusal {
         }
     }
 
-    /// Its name, without a number behind it.
+    /// The name of the refusal, without a number behind it.
     pub fn name(&self) -> &'static str
         ensures { result.now ≡ answer_name self.now }
     {

@@ -39,8 +39,7 @@ impl<'a> LentSegments<'a> {
     }
 }
 
-/// The same bytes. Where there are none the pointer may be null, as C has it, and that of the result
-/// isn't.
+/// These bytes, at a pointer that isn't null: where there are none, C may have given null.
 pub fn without_null(bytes: &[u8]) -> &[u8]
     ensures { result.now ≡ bytes.now }
 {

@@ -91,7 +91,7 @@ zero_rest zero xs e = e
 zero_rest (suc n) [] e = refl
 zero_rest (suc n) (x ∷ xs) e = zero_rest n xs (omega arith)
 
--- such bytes behind others
+-- bytes whose number is zero, behind others, don't change the number
 pub same_number : (xs ys : List ℕ) → from_digits 256 ys ≡ 0 → from_digits 256 (xs ++ ys) ≡ from_digits 256 xs
 same_number [] ys e = e
 same_number (x ∷ xs) ys e = omega (arith, same_number xs ys e)
@@ -122,7 +122,7 @@ flat_claims S s p size ns x =
     go : (n c : ℕ) → Means S n s p (Flat size ns) c → (target S s p).start + words_for size (length ns) ≤ length (segment S (target S s p).segment)
     go n c (a, some, le, o, claim, e, g) = subst (λ b. b.start + words_for size (length ns) ≤ length (segment S b.segment)) (sym (ap target_in o.leads_to.1)) claim
 
--- such bytes over the first ones of a list of zero bytes are a list of bytes
+-- bytes over the first ones of a list of zero bytes are a list of bytes
 packed_over : (bs : List ℕ) (a k n : ℕ) (xs : List ℕ) → length xs ≤ n → words_for 2 n ≡ k → 8 * (a + k) ≤ length bs → ((i : ℕ) → get_or xs i 0 < 256) → take k (drop a (words_of bs)) ≡ packed 2 (words_of_zero n) →
     (length (words_of (over_front bs a k xs)) ≡ k) × (words_of (over_front bs a k xs) ≡ packed 2 (xs ++ words_of_zero (n - length xs)))
 packed_over bs a k n xs few wide room small zero_words =
@@ -150,7 +150,7 @@ pub record WritesBytes (S R : Segments) (h : Start) (xs : List ℕ) : Type 0 whe
   pub nothing : length xs ≡ 0 → R ≡ S
   pub written : 0 < length xs → 8 * h.at + length xs ≤ 8 * length (segment S h.segment) → new ≡ slice_set old h.segment (overwritten (slice_index_or old h.segment []) (8 * h.at) xs)
 
--- so the words are written that hold these bytes
+-- where bytes are written, the words are written that hold them
 pub whole_words : (S R : Segments) (h : Start) (xs : List ℕ) (u a k : ℕ) (w : WritesBytes S R h xs) → h.segment ≡ u → h.at ≡ a → 0 < length xs → length xs ≤ 8 * k → a + k ≤ length (segment S u) →
     (segment S u ≡ words_of (slice_index_or w.old u [])) × (8 * (a + k) ≤ length (slice_index_or w.old u [])) × (R ≡ with_words S u a (words_of (over_front (slice_index_or w.old u []) a k xs)))
 whole_words S R h xs u a k w is_u is_a some enough claim =

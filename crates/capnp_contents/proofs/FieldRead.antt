@@ -36,7 +36,7 @@ part_of_word (suc i) k n (a ∷ b ∷ c ∷ d ∷ e ∷ f ∷ g ∷ h ∷ rest) 
     ∙ part_of_word i k n rest (λ j. small (suc (suc (suc (suc (suc (suc (suc (suc j))))))))) m (omega arith)
 part_of_word i k n _ small m l = absurd (omega arith)
 
--- the same at any byte, in the form that code has it
+-- n bytes from any byte on, in the form that code has it
 pub bytes_read : (b n m : ℕ) (bs : List ℕ) → m ≡ n → ((j : ℕ) → get_or bs j 0 < 256) → b % 8 + n ≤ 8 → b / 8 < length (words_of bs) → from_digits 256 (take m (drop b bs)) ≡ field_in (words_of bs) (8 * b) (8 * n)
 bytes_read b n m bs e small fits l =
     ap₂ (λ j a. from_digits 256 (take j (drop a bs))) e (let q : b ≡ 8 * (b / 8) + b % 8 = omega arith in q)

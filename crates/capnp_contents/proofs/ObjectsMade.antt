@@ -32,7 +32,7 @@ allocates_after (Err k) old mid new id at n limits pruned made = record {
   named = refused_after old mid new n k limits pruned made.named;
 }
 
--- Then the object starts where it does.
+-- An object that is made behind words that became zero starts where it would without them.
 pub starts_after_zeros : (result : Result Start ErrorKind) (old mid new : View) (id at n : ℕ) → KeepsLimits old mid → IsPruned old.words mid.words → IfOk result (ObjectStartsAt (call_at id at mid new) n) → IfOk result (ObjectStartsAt (call_at id at old new) n)
 starts_after_zeros (Ok h) old mid new id at n limits pruned start = record { leads = start.leads; inside = start.inside; behind = stands_after old mid id n h limits pruned start.behind }
 starts_after_zeros (Err k) old mid new id at n limits pruned start = tt

@@ -76,7 +76,8 @@ landing_in a (Structs d q es) = Ok (Some a)
 
 -- The element size of a number.
 abbrev pub size_of : ℕ → ElementSize
-size_of n = get_or (Void ∷ Bit ∷ Byte ∷ TwoBytes ∷ FourBytes ∷ EightBytes ∷ Pointer ∷ []) n InlineComposite
+size_of n =
+    get_or (Void ∷ Bit ∷ Byte ∷ TwoBytes ∷ FourBytes ∷ EightBytes ∷ Pointer ∷ []) n InlineComposite
 
 -- What is wrong with found elements that are no structs, where others are expected: they have fewer
 -- bits of data, or fewer pointers.
@@ -90,14 +91,16 @@ plain_misfit expected found =
 abbrev pub structs_misfit : ElementSize → ℕ → ℕ → Option ErrorKind
 structs_misfit Void d q = None
 structs_misfit Bit d q = Some FoundStructListWhereBitListWasExpected
-structs_misfit Byte d q = if nat_eq d 0 then Some ExistingListValueIsIncompatibleWithExpectedType else None
+structs_misfit Byte d q =
+    if nat_eq d 0 then Some ExistingListValueIsIncompatibleWithExpectedType else None
 structs_misfit TwoBytes d q =
     if nat_eq d 0 then Some ExistingListValueIsIncompatibleWithExpectedType else None
 structs_misfit FourBytes d q =
     if nat_eq d 0 then Some ExistingListValueIsIncompatibleWithExpectedType else None
 structs_misfit EightBytes d q =
     if nat_eq d 0 then Some ExistingListValueIsIncompatibleWithExpectedType else None
-structs_misfit Pointer d q = if nat_eq q 0 then Some ExistingListValueIsIncompatibleWithExpectedType else None
+structs_misfit Pointer d q =
+    if nat_eq q 0 then Some ExistingListValueIsIncompatibleWithExpectedType else None
 structs_misfit InlineComposite d q = None
 
 -- A list of n elements that are no structs, and one of n structs, whose elements stand behind the tag.
@@ -135,7 +138,8 @@ list_in a expected (Capability i) = Err ExistingPointerIsNotAList
 list_in a expected (Struct ws ts) = Err ExistingPointerIsNotAList
 list_in a expected (Flat size ns) =
     unless (plain_misfit expected (size_of size)) (plain_list a (size_of size) (length ns))
-list_in a expected (Pointers ts) = unless (plain_misfit expected Pointer) (plain_list a Pointer (count ts))
+list_in a expected (Pointers ts) =
+    unless (plain_misfit expected Pointer) (plain_list a Pointer (count ts))
 list_in a expected (Structs d q es) =
     unless (structs_misfit expected d q) (struct_list a d q (element_count es))
 
@@ -149,7 +153,7 @@ struct_in a (Struct ws ts) =
     })
 struct_in a t = None
 
--- What is found at a place: where it stores a value, what find says of that. A refusal is by one of
+-- What is found at a place: where it stores a value, what find says of it. A refusal is by one of
 -- these names.
 pub record FindsAt {B : Type 0} (S : Segments) (s p : ℕ) (find : Target → Tree → Result B ErrorKind)
     (result : Result B ErrorKind) : Type 0 where
@@ -173,7 +177,7 @@ pub record FindsStructAt (S : Segments) (s p : ℕ) (result : Option ExistingStr
   pub found : (t : Tree) → IsStored S s p t → result ≡ struct_in (target S s p) t
   pub inside : IfSome result (StructLiesIn S)
 
--- So many bytes from where a pointer leads.
+-- The n bytes from where a pointer leads.
 abbrev pub bytes_at : Target → ℕ → ExistingBytes
 bytes_at a n = record { segment = a.segment; start = a.start; length = n }
 

@@ -19,7 +19,8 @@ bytes_there B b = take b.length (drop (8 * b.start) (slice_index_or B b.segment 
 
 -- The segments, where these bytes are others.
 abbrev pub segments_with : List (List ℕ) → ExistingBytes → List ℕ → List (List ℕ)
-segments_with B b ws = slice_set B b.segment (overwritten (slice_index_or B b.segment []) (8 * b.start) ws)
+segments_with B b ws =
+    slice_set B b.segment (overwritten (slice_index_or B b.segment []) (8 * b.start) ws)
 
 -- An arena, where these bytes are others.
 abbrev pub rewritten : {A : Type 0} → (A → ℕ → List ℕ → A) → (A → List (List ℕ)) → A →

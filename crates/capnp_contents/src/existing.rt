@@ -40,9 +40,9 @@ pub struct ExistingList {
 /// The bytes of a text or of data that a pointer leads to.
 #[derive(Clone, Copy, Debug, PartialEq, Eq)]
 pub struct ExistingBytes {
-    /// Their segment.
+    /// The segment of the bytes.
     pub segment: u32,
-    /// The word whose first byte is theirs.
+    /// The word that begins with the first of the bytes.
     pub start: u32,
     /// How many bytes there are.
     pub length: u32,
@@ -91,7 +91,7 @@ pub fn get_struct<A: BuilderArena>(arena: &A, id: u32, at: u32) -> Option<Existi
         return None;
     }
     if word.kind() == WirePointerKind::Far {
-        // Its result is taken apart, so that a struct that is near does not go through memory.
+        // The call's result is taken apart, so that a struct that is near does not go through memory.
         return match struct_behind_pad(arena, id, at, word) {
             Some(found) => Some(found),
             None => None,
@@ -132,7 +132,7 @@ fn struct_of<A: BuilderArena>(
     }
 }
 
-/// The same of a far pointer, out of line.
+/// The struct that a far pointer leads to, as `struct_of` has it, out of line.
 #[cold]
 #[inline(never)]
 fn struct_behind_pad<A: BuilderArena>(

@@ -20,7 +20,8 @@ pub fn forest_after()
         → IsForest R (update t path y) }
 {}
 
-/// Such a call leaves all words as they were but for its own place and what was reached from it.
+/// A call that puts a value at a place leaves all words as they were but for that place and what was
+/// reached from it.
 pub fn others_stay()
     ensures { (S R : Segments) (t : Tree) (path : List Step) (u q : ℕ) (x y : Tree)
         → IsForest S t → PathLeads S 0 0 t path u q x → Puts S R u q y

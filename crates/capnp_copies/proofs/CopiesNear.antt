@@ -33,14 +33,15 @@ pub record CopiesValue (r : Reading) (c : Call) (at : ℕ) : Type 0 where
   pub is_read : Reads c.form r c.before c.after value
   pub made : IsCopied c.old.words c.new.words c.id at (kept c.form value)
 
--- So of i pointers from a place on, whose pointers stand from position at on.
+-- What i pointers from a place on mean is read and copied, and their copies' pointers stand from position at on.
 pub record CopiesChildren (r : Reading) (i : ℕ) (c : Call) (at : ℕ) : Type 0 where
   pub children : Trees
   pub counts : count children ≡ i
   pub are_read : ReadsAll c.form r c.before c.after children
   pub made : AreCopied c.old.words c.new.words c.id at (kept_each c.form children)
 
--- So of its elements, whose rows stand from position at on, over the last words of the segment.
+-- The elements of a list of structs are read and copied, and their rows stand from position at on, over the last words of
+-- the segment.
 pub record CopiesElements (r : Reading) (sizes : ElementSizes) (i : ℕ) (c : Call) (at : ℕ) : Type 0 where
   pub elements : Elements
   pub counts : element_count elements ≡ i
@@ -48,7 +49,8 @@ pub record CopiesElements (r : Reading) (sizes : ElementSizes) (i : ℕ) (c : Ca
   pub made : c.new.words ≡ with_segment c.old.words c.id
       (rows_laid (take at (segment c.old.words c.id)) sizes.kept.data_words sizes.kept.pointers (cut_to sizes.kept.data_words sizes.kept.pointers (kept_elements c.form elements)) 0)
 
--- So of the pointers that are kept of one element, whose data words stand from position at on, and its pointers behind them.
+-- What the pointers that are kept of one element mean is read and copied. The data words of the element stand from position
+-- at on, and its pointers behind them.
 pub record CopiesElement (r : Reading) (sizes : ElementSizes) (c : Call) (at : ℕ) : Type 0 where
   pub children : Trees
   pub counts : count children ≡ sizes.kept.pointers

@@ -194,7 +194,7 @@ module _ {r : Reading} {sizes : ElementSizes} {n i : ℕ} {b : Form} {s p : ℕ}
   next_long : length next_words ≡ d
   next_long = length_words r.segments r.segment (r.at + i * (sizes.source.data_words + sizes.source.pointers)) d (omega (arith, next_inside, here.fits.less_data))
 
-  -- its data words are written
+  -- the data words of the next row are written
   pub row_written : {put : View} → put ≡ record mid { words = with_words mid.words s (p + i * (d + q)) next_words } →
       DataWritten (behind r (i * (sizes.source.data_words + sizes.source.pointers))) sizes mid put s (p + i * (d + q))
   row_written writes = record { inside = omega (arith, next_inside, here.fits.less_data); room = omega (arith, next_room); writes = writes }

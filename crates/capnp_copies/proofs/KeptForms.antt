@@ -91,7 +91,7 @@ list_kept canonical r size least es c inside widths all =
 list_kept _ r size least es c inside same all =
     ap (Structs size.data_words size.pointers) (sym (cut_same r.segments r.levels r.segment r.at size.data_words size.pointers es c all)) ∙ ap (λ s. Structs s.data_words s.pointers (cut_to s.data_words s.pointers es)) (sym same)
 
--- it takes so many words
+-- how many words a list of structs takes that is kept
 pub words_of_kept_list : (b : Form) (r : Reading) (size least : StructSize) (i : ℕ) (es : Elements) (c : ℕ) → r.at + i * (size.data_words + size.pointers) ≤ length (segment_read r) → KeepsWidths b r size i least → element_count es ≡ i → ElementsMean r size es c →
     word_count (kept b (Structs size.data_words size.pointers es)) ≡ 1 + i * (least.data_words + least.pointers) + word_count_elements (cut_to least.data_words least.pointers (kept_elements b es))
 words_of_kept_list b r size least i es c inside widths len all =

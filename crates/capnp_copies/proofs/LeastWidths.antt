@@ -19,7 +19,7 @@ means_is_null r (Flat size ns) c (a, some, small, o, claim, e, g) = ne_eqb (word
 means_is_null r (Pointers ts) c (a, k, some, o, claim, all, g) = ne_eqb (word_of r) 0 o.leads_to.0
 means_is_null r (Structs d q es) c (a, m, k, some, o, claim, tag, fits, all, g) = ne_eqb (word_of r) 0 o.leads_to.0
 
--- so the children that are used are as many as the used words of the pointers
+-- the children that are used are as many as the used words of the pointers
 pub used_where_meant : (r : Reading) (ts : Trees) (c : ℕ) → r.at + count ts ≤ length (segment_read r) → MeanThere r ts c → used_words (words_from r (count ts)) ≡ used_trees ts
 used_where_meant r no_trees c l h = refl
 used_where_meant r (tree t ts) c l (k, m, one, rest, g) =

@@ -63,7 +63,7 @@ unfolding stops_sooner
 sections_come ws {old = old} {made} new {k = k} fewer less begun (w, stops, (refused, full)) =
     (w, stops_sooner fewer stops, (words_refused_after old made new w k begun.memory refused, omega (arith, full_behind old made ((spent_among stops).words + w) begun full, less)))
 
--- Those of a list, and those of the elements of a list of structs.
+-- The pointers of a list, and the pointers of the elements of a list of structs.
 pub pointers_come : {r : Reading} {i : ℕ} {b : Form} {s h : ℕ} {old mid : View} (new : View) {m m' : Meter} {k : ErrorKind} → Begins s h i old mid → ComesToObject (children_original r i) b m m' (FindsNoRoom (change b (call_at h 0 mid new) m m') k) →
     ComesToObject (pointers_original i r) b m m' (FindsNoRoom (change b (call_at s 0 old new) m m') k)
 pointers_come {old = old} {mid} new {k = k} begun (w, stops, (refused, full)) =

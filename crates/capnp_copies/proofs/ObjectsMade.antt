@@ -37,7 +37,7 @@ pub record Begins (id k n : ℕ) (old mid : View) : Type 0 where
   pub near : HasOwnRoom old id n → k ≡ id
   pub far : old.room id < length (segment old.words id) + n → IsNextRoom old (n + 1) k
 
--- so a struct, which may have no words
+-- a struct without words starts in the segment of its pointer
 empty_start : (S R : Segments) (s p : ℕ) (h : Start) → IsPlace S s p → R ≡ with_word S s p (struct_word (2 ^ 30 - 1) 0 0) → LeadsToStart R s p h → h.segment ≡ s
 empty_start S R s p h place writes lead =
     let x : ℕ = struct_word (2 ^ 30 - 1) 0 0 in
@@ -107,7 +107,7 @@ full_before {id} {n} old mid w there x full = elim (cases_lt (old.room id) (leng
       )
 ]
 
--- So behind an object to whose pointers the rest belongs.
+-- Where no room is left behind an object for what its pointers lead to, there was none for both.
 pub full_behind : {id k n : ℕ} (old mid : View) (w : ℕ) → Begins id k n old mid → mid.room k < length (segment mid.words k) + w →
     old.room id < length (segment old.words id) + (n + w)
 full_behind {id} {k} {n} old mid w o full = elim (cases_lt (old.room id) (length (segment old.words id) + (n + w))) [

@@ -178,7 +178,7 @@ pointers_list_stops size sections n r {c} {k} is h = pointers_listed size sectio
 pub structs_list_stops : (size : ElementSize) (sections : StructSize) (n : ℕ) (r : Reading) {c : Change} {k : ErrorKind} → size ≡ InlineComposite → StopsHalfway (structs_original sections n r) c k → StopsHalfway (list_original size sections n r) c k
 structs_list_stops size sections n r {c} {k} is h = structs_listed size sections n r (λ o. StopsHalfway o c k) is h
 
--- how many words of it a copy has
+-- how many words of a list a copy has
 
 pub list_words : (size : ElementSize) (sections : StructSize) (n : ℕ) (r : Reading) (b : Form) (t : Tree) → (list_original size sections n r).words b t ≡ word_count (kept b t)
 list_words Pointer sections n r b t = refl
@@ -190,7 +190,7 @@ list_words TwoBytes sections n r b t = refl
 list_words FourBytes sections n r b t = refl
 list_words EightBytes sections n r b t = refl
 
--- it is larger than a list pointer can say
+-- a list that is larger than a list pointer can say
 
 pub list_exceeds : (size : ElementSize) (sections : StructSize) (n : ℕ) (r : Reading) (b : Form) → (FitsListPointer size n (sections.data_words + sections.pointers) → ⊥) → (list_original size sections n r).exceeds b (MessageTooLarge (2 ^ 64 - 1))
 list_exceeds Pointer sections n r b long = (long, refl)

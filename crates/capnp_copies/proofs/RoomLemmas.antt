@@ -10,7 +10,7 @@ use Rattle.capnp_copies.specs.Forms.{kept, kept_each}
 use Rattle.capnp_copies.proofs.KeptChildren.{kept_none, kept_first}
 use Rattle.capnp_objects.proofs.Shorthands.{MeanThere}
 
--- so many pointers have one cost
+-- as many pointers from one place on have one cost
 pub same_cost : (r : Reading) (ts us : Trees) (c e : ℕ) → count ts ≡ count us → MeanThere r ts c → MeanThere r us e → c ≡ e
 same_cost r no_trees no_trees c e len h g = omega (arith, h, g)
 same_cost r no_trees (tree u us) c e len h g = absurd (omega (arith, len))

@@ -15,7 +15,7 @@ used_beyond (suc n) (x ∷ xs) l = step (nat_eq x 0) (used_words xs) ∙ ap suc 
     step true (suc u) = omega arith
     step false u = omega arith
 
--- the same of a section in a segment
+-- what is used of a section in a segment, and at least its first words
 pub used_section : (ws : List ℕ) (at n least : ℕ) → least ≤ n → at + n ≤ length ws → max least (used_words (take n (drop at ws))) ≡ least + used_words (take (n - least) (drop (at + least) ws))
 used_section ws at n least l fits =
     used_beyond least (take n (drop at ws)) (omega (arith, length-take n (drop at ws), length-drop at ws))

@@ -93,14 +93,15 @@ IsCopiedInRoom old new id at t =
     StayInSegment old new id (word_count t) →
     new.words ≡ with_segment old.words id (copied (segment old.words id) at t)
 
--- So many words are made of the object a, to which the pointer at a place leads: of a struct its
--- sections that are kept, of a list its elements, and of a list of structs its tag and theirs, cut
--- to the sections that are kept.
+-- Of the object a, to which the pointer at a place leads, n words are made: of a struct its sections
+-- that are kept, of a list its elements, and of a list of structs its tag and its elements, cut to the
+-- sections that are kept.
 pub data IsMadeOf (form : Form) (r : Reading) (a : Target) (n : ℕ) : Type 0 where
   as_struct :
       kind a.word ≡ 0 →
       n ≡ kept_count form (words_at r.segments a.segment a.start (data_words a.word))
-      + kept_count form (words_at r.segments a.segment (a.start + data_words a.word) (pointer_count a.word)) →
+      + kept_count form
+      (words_at r.segments a.segment (a.start + data_words a.word) (pointer_count a.word)) →
       IsMadeOf form r a n
   as_numbers : kind a.word ≡ 1 → element_size a.word ≤ 5 →
       n ≡ words_for (element_size a.word) (list_count a.word) → IsMadeOf form r a n

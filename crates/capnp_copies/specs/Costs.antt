@@ -22,7 +22,8 @@ pub record Spent : Type 0 where
 -- What is spent on the pointers of an object before one of them.
 abbrev pub spent_before : {form : Form} {r : Reading} {a : Target} {q : ℕ} {m m' : Meter} →
     GoesBefore (ReadsAll form) (ReadsElements form) r a q m m' → Spent
-spent_before (in_struct ts is fewer at reads) = record { words = reads.cost; pointers = pointers_in_all ts }
+spent_before (in_struct ts is fewer at reads) =
+    record { words = reads.cost; pointers = pointers_in_all ts }
 spent_before (in_pointers ts is six fewer at reads) =
     record { words = reads.cost; pointers = pointers_in_all ts }
 spent_before (in_element es ts mid is fewer few at rows reads) =

@@ -17,7 +17,7 @@ form_in Plain = plain
 form_in Canonical = canonical
 form_in OfDefault = of_default
 
--- What of a value such a copy keeps; of children, and of elements.
+-- What a copy in a form keeps of a value; of children, and of elements.
 abbrev pub kept : Form → Tree → Tree
 kept canonical t = trim t
 kept _ t = t

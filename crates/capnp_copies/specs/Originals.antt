@@ -29,15 +29,16 @@ use Rattle.capnp_copies.specs.declared.widths.ElementSizes.{ElementSizes}
 pub record Original (V : Type 0) : Type 1 where
   -- From one meter to another it is read in a form, and this is its value.
   pub reads : Form → Meter → Meter → V → Type 0
-  -- From one meter to another reading it in a form stops, at an object of which a predicate says so.
+  -- From one meter to another reading it in a form stops, at an object that a predicate holds of.
   pub stops : Form → (Reading → Meter → Meter → Type 0) → Meter → Meter → Type 0
   -- What was spent before that object.
-  pub spent : {form : Form} {P : Reading → Meter → Meter → Type 0} {m m' : Meter} → stops form P m m' → Spent
+  pub spent : {form : Form} {P : Reading → Meter → Meter → Type 0} {m m' : Meter} →
+      stops form P m m' → Spent
   -- Of words that are at hand a copy in a form makes an object of so many words.
   pub makes : Form → ℕ → Type 0
   -- A copy in a form has no pointer for so large an object, and is refused by this name.
   pub exceeds : Form → ErrorKind → Type 0
-  -- So many words of it a copy in a form has, besides those that stand at the place already.
+  -- How many words of it a copy in a form has, besides those that stand at the place already.
   pub words : Form → V → ℕ
   -- From one meter to another it is read in a form, and a predicate says of how many words and pads
   -- its copy takes for that.
@@ -116,13 +117,14 @@ sections_original ws r q = record {
       P (length ws + q + (spent_among x).words) (1 + (spent_among x).pointers));
 }
 
--- So many elements, of so many words each where they are structs, are as many as a list pointer and
--- its tag can say.
+-- A list pointer and its tag can say the number n of elements of a size, and of the words that each has
+-- where they are structs.
 abbrev pub FitsListPointer : ElementSize → ℕ → ℕ → Type 0
 FitsListPointer InlineComposite n width = (n < 2 ^ 30) × (n * width < 2 ^ 29)
 FitsListPointer size n width = n < 2 ^ 29
 
--- They are more than that, and the error says no number.
+-- A list pointer and its tag can't say the number of elements and of their words, and the error k
+-- says no number.
 abbrev pub IsTooLong : ElementSize → ℕ → ℕ → ErrorKind → Type 0
 IsTooLong size n width k = (FitsListPointer size n width → ⊥) × (k ≡ MessageTooLarge (2 ^ 64 - 1))
 

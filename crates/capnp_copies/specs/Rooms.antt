@@ -10,8 +10,8 @@ use Rattle.capnp_copies.specs.Changes.{Change, MakesCopy, StopsCopy}
 use Rattle.capnp_copies.specs.Growth.{TakesAtMost}
 use Rattle.capnp_copies.specs.Originals.{Original}
 
--- It is no larger than an object can be, a limiter lets it be read in the form, and the words to be
--- kept of it fit behind those of segment id.
+-- What is copied is no larger than an object can be, a limiter lets it be read in the form, and the
+-- words to be kept of it fit behind those of segment id.
 pub record CanBeCopied {V : Type 0} (o : Original V) (form : Form) (m : Meter) (v : View) (id : ℕ)
     : Type 0 where
   pub small : (k : ErrorKind) → o.exceeds form k → ⊥

@@ -22,5 +22,6 @@ pub record IsAtMost (less more : StructSize) : Type 0 where
 abbrev pub widths_kept : Form → Reading → StructSize → ℕ → StructSize
 widths_kept canonical r size i =
     sized (most_used (segment_read r) r.at size.data_words (size.data_words + size.pointers) i)
-    (most_used (segment_read r) (r.at + size.data_words) size.pointers (size.data_words + size.pointers) i)
+    (most_used (segment_read r) (r.at + size.data_words) size.pointers
+    (size.data_words + size.pointers) i)
 widths_kept _ r size i = size

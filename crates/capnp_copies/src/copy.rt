@@ -59,10 +59,10 @@ pub fn copy_value<A: BuilderArena, B: ReaderArena>(
 /// Copies what a pointer means to the null pointer at a place, in a form: as it stands or in canonical
 /// form.
 ///
-/// Its words stand behind those of the pointer's segment, in the canonical order of objects, where they
-/// all fit its room, or where the message has but one segment afterwards; then no other word changes but
-/// the pointer. As it stands, these are all words of the sections and elements; in canonical form, the
-/// trimmed ones.
+/// The words of the copy stand behind those of the pointer's segment, in the canonical order of objects,
+/// where they all fit its room, or where the message has but one segment afterwards; then no other word
+/// changes but the pointer. As it stands, these are all words of the sections and elements; in canonical
+/// form, the trimmed ones.
 ///
 /// A copy takes at most as many words as reading the value costs; a refused one, as what was read before
 /// the object where it breaks off. Only landing pads come on top: one of each object for which the

@@ -9,7 +9,7 @@ use capnp_making::making::Start;
 pub enum CopyForm {
     /// The value as it stands, with its capabilities.
     Plain,
-    /// Its canonical form; a capability is `CannotCreateACanonicalMessageWithACapability`.
+    /// The canonical form of the value; a capability is `CannotCreateACanonicalMessageWithACapability`.
     Canonical,
     /// The value of a default, as it stands; a capability is `UnknownPointerType`.
     OfDefault,
@@ -18,9 +18,9 @@ pub enum CopyForm {
 /// Where a copy goes, and in which form.
 #[derive(Clone, Copy)]
 pub struct Destination {
-    /// The place of its pointer; of several, of the first.
+    /// The place of the copy's pointer; of several, of the first.
     pub place: Start,
-    /// What it keeps.
+    /// The form of the copy.
     pub form: CopyForm,
 }
 

@@ -20,11 +20,11 @@ pub struct StructList {
 /// section is longer.
 #[derive(Clone, Copy)]
 pub(crate) struct ElementSizes {
-    /// How many elements of these sizes there are.
+    /// How many elements there are.
     pub count: u32,
-    /// Those in the source.
+    /// The sections of an element in the source.
     pub source: StructSize,
-    /// Those in the copy.
+    /// The sections of an element in the copy.
     pub kept: StructSize,
 }
 

@@ -70,7 +70,7 @@ of_allocation old new segments amount k why = elim why [
 pub of_memory : (old new : View) (n : ℕ) (k : ErrorKind) → IsRefusedFor old new n k → is_allocation_name k ≡ true
 of_memory old new n k (why, same) = of_allocation old new (length old.words) (n + 1) k why
 
--- so it is no place that is missing
+-- a refusal for words is not that a place is missing
 pub of_no_place : (k : ErrorKind) → is_allocation_name k ≡ true → k ≡ NoSuchPlace → ⊥
 of_no_place k h e = absurd (let f : false ≡ true = sym (ap is_allocation_name e) ∙ h in cc)
 

@@ -144,7 +144,7 @@ pub record Tried {A : Type 0} (result : Result A ErrorKind) (c : Copying) (old n
   pub done : IfOk result (λ x. IsDone c after old.words new.words place)
   pub copies : OfWanted c.wanted (root_of c.source) (change (form_of c.canonicalize) (call_at place.segment place.word old new) (once_at_root c.source) after) (Says (refusal_of result))
 
--- so it is refused
+-- what follows for each original and call follows for what is wanted at a place
 wanted_so : (w : Wanted) (r : Reading) (c : Change) (P Q : Original Tree → Change → Type 0) → ((o : Original Tree) (d : Change) → P o d → Q o d) → OfWanted w r c P → OfWanted w r c Q
 wanted_so Value r c P Q so h = so _ _ h
 wanted_so AStruct r c P Q so (s, leads, h) = (s, leads, so _ _ h)

@@ -378,7 +378,7 @@ list_small r m n l words (a_struct_list a o z s sections first counts) =
     let wide : l.sections.data_words + l.sections.pointers ≡ data_words (tag r.segments a) + pointer_count (tag r.segments a) = ap (λ (x : StructSize). x.data_words + x.pointers) sections in
     rw (s, counts, wide) (few, omega (arith, fits, small))
 
--- so it isn't refused
+-- the copy of a list isn't refused where it can be made
 pub list_fits : (c : Copying) (r : Reading) (m n m' : Meter) (l : ListElements) (id at : ℕ) (old new : View) (k : ErrorKind) → c.wanted ≡ AList → LeadsToList r m n l →
     FitsListPointer l.size l.count (l.sections.data_words + l.sections.pointers) → CanBeCopiedAs c r m (length (segment old.words id)) (old.room id) →
     RefusesToCopy (list_original l.size l.sections l.count l.first) (change (form_of c.canonicalize) (call_at id at old new) n m') k → ⊥

@@ -201,7 +201,7 @@ struct_matches form r m s (Flat size ns) c copied leads means takes covers e = a
 struct_matches form r m s (Pointers ts) c copied leads means takes covers e = absurd (cc)
 struct_matches form r m s (Structs d q es) c copied leads means takes covers e = absurd (cc)
 
--- so it isn't refused
+-- the copy of a struct isn't refused where it can be made
 pub struct_fits : (c : Copying) (r : Reading) (m m' : Meter) (s : Sections) (id at : ℕ) (old new : View) (k : ErrorKind) → c.wanted ≡ AStruct → LeadsToStruct r m s → CanBeCopiedAs c r m (length (segment old.words id)) (old.room id) →
     RefusesToCopy (sections_original s.words s.first s.pointers) (change (form_of c.canonicalize) (call_at id at old new) s.limiter m') k → ⊥
 struct_fits c r m m' s id at old new k is leads can refuses =

@@ -415,7 +415,7 @@ there_given : {r : Reading} {m : Meter} {s : Sections} → LeadsToStruct r m s �
 there_given (no_struct null ws none same) = null_pointer null
 there_given {r} {m} (a_struct a o z ws start n) = struct_suits r m a (entered_leads o) z o.meets.levels o.meets.claims o.covers
 
--- so content whose pointers can be read isn't refused for what is read
+-- content whose pointers can be read isn't refused for what is read
 pub filled_or_refused : (source : Source) (q : ℕ) (k : ErrorKind) (all : ContentRead source) → count all.children ≡ min q all.from.pointers →
     HasNothingToCopy source AStruct k ⊎ ((some : ContentRead source) × (count some.children < min q some.from.pointers) × IsNextUnreadable source some k) → ⊥
 filled_or_refused source q k whole counts (inl (inl rootless)) = rootless.0 whole.root

@@ -84,7 +84,7 @@ record Fact (old new : View) (there : PathEnd) (task : Task) (r : Option ErrorKi
   named : (k : ErrorKind) → r ≡ Some k → ((is_of_path k ≡ true) × (new ≡ old)) ⊎ IsRefusedAt old new task k there
   taken : (r ≡ Some NoSuchPlace → ⊥) → TakesAt old new task r there
 
--- it is refused for its path, and nothing is changed; or done
+-- an edit is refused for its path, and nothing is changed; or it is done
 by_outcome : (old new : View) (n : ℕ) (r : Option ErrorKind) → AreInFirst old.words → IsNoneOfMemory r → ((k : ErrorKind) → r ≡ Some k → new ≡ old) → (r ≡ None → StaysInFirst old new n) → IsNoneOfMemory r × StaysInFirst old new n
 by_outcome old new n None first none kept done = (none, done refl)
 by_outcome old new n (Some k) first none kept done = (none, same_first old new n first (kept k refl))
@@ -96,7 +96,7 @@ unrefused : (old new : View) (k : ErrorKind) → ((is_of_path k ≡ true) × (ne
 unrefused old new k (inl h) = h.1
 unrefused old new k (inr none) = absurd none
 
--- so each task
+-- a task that takes no words leaves all in the first segment
 without_words : (old new : View) (n : ℕ) (r : Option ErrorKind) → AreInFirst old.words → IsNoneOfMemory r → ((k : ErrorKind) → r ≡ Some k → new ≡ old) → ((r ≡ Some NoSuchPlace → ⊥) → OnlyWrites old new) → IsNoneOfMemory r × StaysInFirst old new n
 without_words old new n r first none kept taken = by_outcome old new n r first none kept (λ e. kept_first old new n first (taken (not_missing r e)))
 

@@ -79,7 +79,7 @@ place_in c = record { segment = c.segment; word = c.at }
 same_words : {a b : View} → a ≡ b → a.words ≡ b.words
 same_words e = ap (λ (v : View). v.words) e
 
--- so is done, where this is made of a value that stands
+-- what a call leaves that makes this of a value that stands
 record DoesAs (S R : Segments) (place : PointerPlace) (making : Making) (t : Tree) (r : Option ErrorKind) : Type 0 where
   left : Option Tree
   yields : Way making r left
@@ -275,7 +275,7 @@ plainly (ForStruct size) c k (inr h) = inr h
 plainly (ForStructs size) c k (inr h) = inr h
 plainly sought c k (inr h) = absurd h
 
--- its words are those of its bytes
+-- a default that is copied is one of these bytes
 abbrev IsOf : List ℕ → DefaultUse → Type 0
 IsOf bytes ignored = Unit {0}
 IsOf bytes (is_denied_by k) = Unit {0}
@@ -309,7 +309,7 @@ why_refused B k of_null default sought P c there plain why found set = elim (cas
   | inr none ↦ (let stored = null_stored c.old.words c.segment c.at there (omega (arith, none)) in why_null B k of_null default sought P c stored plain why (found Null stored))
 ]
 
--- so it is refused
+-- a search is refused
 abbrev IsSearchRefused : Sought → CallAt → Option (Bor (List ℕ)) → ErrorKind → Type 0
 IsSearchRefused sought c default k = IsRefusedAt c.old c.new (Search sought default) k (AtPointer (place_in c))
 
@@ -345,7 +345,7 @@ never_nowhere sought c default k (as_copy d is spent named) e = absurd (elim (dr
   | inr fault ↦ fault_elsewhere of_default (subst (HasFault of_default (default_root d.now)) e fault)
 ])
 
--- So it finds what is sought, by its outcome.
+-- A search finds what is sought, by its outcome.
 abbrev FindsThere : Sought → Option (Bor (List ℕ)) → Option ErrorKind → CallAt → Tree → Type 0
 FindsThere sought default r c t = WithDefault (default_for sought default t) c t (FindsSought sought r) (result_of r)
 
@@ -457,7 +457,7 @@ unfound_place NoSuchPlace e = refl
 unfound_place UnknownPointerType e = refl
 unfound_place k e = e
 
--- its copy isn't refused
+-- the copy of a default isn't refused where it can be made
 never_dropped : (bytes : List ℕ) (id at : ℕ) (old new : View) (k : ErrorKind) → CanBeCopied (value_original (default_root bytes)) of_default (unused None) old id → RefusesDefault bytes (call_at id at old new) k → ⊥
 never_dropped bytes id at old new k can (inl fault) = no_fault of_default k fault (capabilities can.value) can.is_read.takes (can.value, can.is_read.cost, can.is_read.means, omega arith)
 never_dropped bytes id at old new k can (inr (lacks, large)) = let more = large of_default (unused None) can.after can.value can.is_read in omega (arith, more, can.room)

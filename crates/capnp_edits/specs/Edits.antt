@@ -114,7 +114,8 @@ struct_with f t = t
 abbrev pub with_lowest : ℕ → ℕ → ℕ → Tree → Tree
 with_lowest i w v (Flat size ns) = Flat size (slice_set ns i (with_bits (get_or ns i 0) 0 w v))
 with_lowest i w v (Structs d q es) =
-    Structs d q (put_struct es i (struct_with (record { start = 0; bits = w; value = v }) (struct_at es i)))
+    Structs d q
+    (put_struct es i (struct_with (record { start = 0; bits = w; value = v }) (struct_at es i)))
 with_lowest i w v t = t
 
 -- Where the list of a value is doesn't count here.
@@ -126,8 +127,8 @@ abbrev pub made_of_found : {A : Type 0} → (A → Making) → Result A ErrorKin
 made_of_found made_of (Ok x) = made_of x
 made_of_found made_of (Err k) = denied k
 
--- What is made where element or byte number i of what is found is written: u, if there are so many,
--- of which null has none.
+-- What is made where element or byte number i of what is found is written: u, if there are so many.
+-- Null has none.
 abbrev pub if_reached : {A : Type 0} → (A → ℕ) → ℕ → Tree → Result (Option A) ErrorKind → Making
 if_reached number i u (Ok (Some x)) = if nat_lt i (number x) then becomes u else denied NoSuchPlace
 if_reached number i u (Ok None) = denied NoSuchPlace
@@ -138,12 +139,13 @@ if_reached number i u (Err k) = denied k
 abbrev pub looked_for : Sought → Tree → Making
 looked_for (ForStruct size) t = made_of_found (allocates t) (struct_opened size t)
 looked_for (ForStructs size) Null = becomes Null
-looked_for (ForStructs size) t = made_of_found (allocates t) (list_widened size.data_words size.pointers t)
+looked_for (ForStructs size) t =
+    made_of_found (allocates t) (list_widened size.data_words size.pointers t)
 looked_for (ForList size) t = made_of_found (λ l. becomes t) (list_in nowhere size t)
 looked_for ForText t = made_of_found (λ b. becomes t) (text_in nowhere t)
 looked_for ForData t = made_of_found (λ b. becomes t) (data_in nowhere t)
 
--- What is made where a default is so used.
+-- What is made where a default is used in this way.
 abbrev pub with_default : DefaultUse → (Tree → Making) → Tree → Making
 with_default ignored made_of t = made_of t
 with_default (is_denied_by k) made_of t = denied k
@@ -207,14 +209,16 @@ content_filled source t = denied NoSuchPlace
 -- What is made where something is looked for, with a default of fewer than 2^32 words.
 abbrev pub searched : Sought → Option (Bor (List ℕ)) → Tree → Making
 searched sought default t =
-    where_in_range (is_small_default default) (with_default (default_for sought default t) (looked_for sought) t)
+    where_in_range (is_small_default default)
+    (with_default (default_for sought default t) (looked_for sought) t)
 
 -- What an operation makes where a path leads; or by what name it is refused, and nothing is changed.
 -- A struct may be an element of a list; for all else there is a pointer. A bit of a data section has
 -- an operation of its own.
 abbrev pub making_of : Op → EndValue → Making
 making_of (SetField size i v) there =
-    where_in_range (nat_le 2 (size_number size) && is_number size v) (field_written size i v (end_tree there))
+    where_in_range (nat_le 2 (size_number size) && is_number size v)
+    (field_written size i v (end_tree there))
 making_of (SetBool i b) there = field_written Bit i (if b then 1 else 0) (end_tree there)
 making_of (CopyContent source) there = content_filled source (end_tree there)
 making_of op (ElementOf t) = denied NoSuchPlace
@@ -227,16 +231,19 @@ making_of (InitStructList n size) (PointerTo t) =
     (allocates Null (zero_structs n size))
 making_of (InitText n) (PointerTo t) =
     where_in_range (nat_lt (n + 1) (2 ^ 29)) (allocates Null (zero_list 2 (n + 1)))
-making_of (InitData n) (PointerTo t) = where_in_range (nat_lt n (2 ^ 29)) (allocates Null (zero_list 2 n))
+making_of (InitData n) (PointerTo t) =
+    where_in_range (nat_lt n (2 ^ 29)) (allocates Null (zero_list 2 n))
 making_of (SetText bytes) (PointerTo t) =
-    where_in_range (nat_lt (length bytes.now + 1) (2 ^ 29)) (allocates Null (Flat 2 (bytes.now ++ 0 ∷ [])))
+    where_in_range (nat_lt (length bytes.now + 1) (2 ^ 29))
+    (allocates Null (Flat 2 (bytes.now ++ 0 ∷ [])))
 making_of (SetData bytes) (PointerTo t) =
     where_in_range (nat_lt (length bytes.now) (2 ^ 29)) (allocates Null (Flat 2 bytes.now))
 making_of (SetCapability i) (PointerTo t) = becomes (Capability i)
 making_of Clear (PointerTo t) = becomes Null
 making_of (SetElement size i v) (PointerTo t) =
     where_in_range (is_number size v)
-    (if_reached (λ l. l.count) i (with_lowest i (element_bits (size_number size)) v t) (list_in nowhere size t))
+    (if_reached (λ l. l.count) i (with_lowest i (element_bits (size_number size)) v t)
+    (list_in nowhere size t))
 making_of (WriteText i b) (PointerTo t) =
     if_reached (λ x. x.length) i (with_lowest i 8 b t) (text_in nowhere t)
 making_of (WriteData i b) (PointerTo t) =
@@ -254,7 +261,7 @@ making_of (SetStruct source canonicalize) (PointerTo t) =
 making_of (SetList source canonicalize) (PointerTo t) =
     copies (record { source = source; wanted = AList; canonicalize = canonicalize })
 
--- The same of a task, which is an operation whose numbers are in range.
+-- What a task makes of what a path leads to. A task is an operation whose numbers are in range.
 abbrev pub made_at : Task → EndValue → Making
 made_at (InStruct (Bits n)) there = field_written n.size n.index n.value (end_tree there)
 made_at (InStruct (Content source)) there = content_filled source (end_tree there)
@@ -273,7 +280,7 @@ made_at (Search sought default) (PointerTo t) =
     with_default (default_for sought default t) (looked_for sought) t
 made_at (CopyRoot c) (PointerTo t) = copies c
 
--- A call is refused by a name of which P holds, and so much is left, None being all as it was.
+-- A call is refused by a name that P holds of, and `left` is left; None is all as it was.
 abbrev pub Fails : (ErrorKind → Type 0) → Option Tree → Option ErrorKind → Option Tree → Type 0
 Fails P left r o = (k : ErrorKind) × P k × (r ≡ Some k) × (o ≡ left)
 
@@ -293,7 +300,8 @@ Yields (copies c) r o =
     ⊎ Fails (HasNothingToCopy c.source c.wanted) None r o)
 Yields (fills source d q) r o =
     ((c : ContentRead source) × (u : Tree) × (section : List ℕ)
-    × HoldContent section d (64 * length c.from.words) c.bytes × (u ≡ Struct section (up_to q c.children))
+    × HoldContent section d (64 * length c.from.words) c.bytes
+    × (u ≡ Struct section (up_to q c.children))
     × (((count c.children ≡ min q c.from.pointers) × (r ≡ None) × (o ≡ Some u))
     ⊎ ((count c.children < min q c.from.pointers)
     × Fails (λ k. (is_allocation_name k ≡ true) ⊎ IsNextUnreadable source c k) (Some u) r o)))
@@ -301,12 +309,13 @@ Yields (fills source d q) r o =
 Yields (defaults bytes made_of) r o = ⊥
 
 -- What is left where a default's value may come first: that value, and what is left of it; or null,
--- where its copy is refused, for memory or for what it reads. Else it is as of what stands.
+-- where its copy is refused, for memory or for what it reads. Else it is as of what is there.
 unfoldable pub Leaves : Making → Option ErrorKind → Option Tree → Type 0
 Leaves (defaults bytes made_of) r o =
     ((d : Tree) × (n : ℕ) × (left : Option Tree) × MeansThere (default_root bytes) d n × IsFree d
     × Yields (made_of d) r left × (o ≡ Some (unwrap_or left d)))
-    ⊎ Fails (λ k. (is_allocation_name k ≡ true) ⊎ HasFault of_default (default_root bytes) k) (Some Null) r o
+    ⊎ Fails (λ k. (is_allocation_name k ≡ true) ⊎ HasFault of_default (default_root bytes) k)
+    (Some Null) r o
 Leaves making r o = Yields making r o
 
 -- What is done at a pointer that means t, where this is made of it: what is left comes in t's
@@ -328,7 +337,8 @@ pub data PutsBits (S R : Segments) (e : ExistingStruct) (f : Field) (r : Option 
   are_written : f.start < 64 * e.size.data_words → f.start + f.bits ≤ 64 * e.size.data_words →
       r ≡ None → R ≡ with_field S e.segment (64 * e.start + f.start) f.bits f.value →
       PutsBits S R e f r
-  are_outside : 64 * e.size.data_words < f.start + f.bits → r ≡ Some NoSuchPlace → R ≡ S → PutsBits S R e f r
+  are_outside : 64 * e.size.data_words < f.start + f.bits → r ≡ Some NoSuchPlace → R ≡ S →
+      PutsBits S R e f r
 
 -- From S on a struct takes the data of a source's struct, and then the pointers that are read of it
 -- are copied to its first ones.
@@ -371,7 +381,9 @@ pub data PutsElement (S R : Segments) (looked : Result (Option ExistingList) Err
   no_list : looked ≡ Ok None → r ≡ Some NoSuchPlace → R ≡ S → PutsElement S R looked n r
   list_denied : (k : ErrorKind) → looked ≡ Err k → r ≡ Some k → R ≡ S → PutsElement S R looked n r
 
--- The same of a byte of a text or data.
+-- What writing a byte of a text or data leaves, with its outcome, where the bytes were looked for: the
+-- byte is written; or it isn't there, in no bytes that lie in the message; or there are no bytes, or
+-- the search was refused.
 pub data PutsByte (S R : Segments) (looked : Result (Option ExistingBytes) ErrorKind) (n : Number)
     (r : Option ErrorKind) : Type 0 where
   byte_put : (b : ExistingBytes) → looked ≡ Ok (Some b) → n.index < b.length → r ≡ None →

@@ -45,7 +45,7 @@ root_of source =
       at = 0;
     }
 
--- Its limiter once the root's word is charged.
+-- The limiter of a source once the root's word is charged.
 abbrev pub once_at_root : Source → Meter
 once_at_root source = unused (less source.budget 1)
 
@@ -78,7 +78,8 @@ IsWithheld Value r m m' k = ⊥
 IsWithheld AStruct r m m' k = Withheld struct_expected r m m' k
 IsWithheld AList r m m' k = Withheld (list_expected Void) r m m' k
 
--- There is nothing to be copied, by the name k: the root isn't reached, or what is wanted isn't found there.
+-- There is nothing to be copied, by the name k: the root isn't reached, or what is wanted isn't
+-- found there.
 abbrev pub HasNothingToCopy : Source → Wanted → ErrorKind → Type 0
 HasNothingToCopy source wanted k = IsRootless source k ⊎
     (HasRoot source × ((m : Meter) × IsWithheld wanted (root_of source) (once_at_root source) m k))
@@ -118,8 +119,8 @@ pub data LeadsToStruct (r : Reading) (m : Meter) (s : Sections) : Type 0 where
       s.pointers ≡ pointer_count a.word →
       LeadsToStruct r m s
 
--- So many elements of a size, with these sections where they are structs, of which the first is
--- read at a place.
+-- The elements of a list: how many there are, their size, their sections where they are structs, and
+-- where the first is read.
 pub record ListElements : Type 0 where
   pub size : ElementSize
   pub sections : StructSize
@@ -163,10 +164,11 @@ pub record ContentRead (source : Source) : Type 0 where
 
 -- The pointer behind those that are read can't be read, by the name k.
 abbrev pub IsNextUnreadable : (source : Source) → ContentRead source → ErrorKind → Type 0
-IsNextUnreadable source c k = (m : Meter) × Refused plain (behind c.from.first (count c.children)) c.after m k
+IsNextUnreadable source c k =
+    (m : Meter) × Refused plain (behind c.from.first (count c.children)) c.after m k
 
--- What the copy of a whole value is made of that is wanted at a place, and the copy, are as Says
--- has it: of a struct or a list, once what leads to it is charged.
+-- The original that is wanted at a place, and the call that copies it, are as Says has it: the
+-- original of a whole value; or of a struct or a list, once what leads to it is charged.
 abbrev pub OfWanted : Wanted → Reading → Change → (Original Tree → Change → Type 0) → Type 0
 OfWanted Value r c Says = Says (value_original r) c
 OfWanted AStruct r c Says = (s : Sections) × LeadsToStruct r c.before s ×

@@ -72,7 +72,7 @@ LeadsThere c (ZeroStruct size) = size.data_words + size.pointers ≡ 0 →
     word_at c.new.words c.segment c.at ≡ struct_word (2 ^ 30 - 1) 0 0
 LeadsThere c object = LeadsToEnd c (word_count (value_of object))
 
--- The same of a struct that is opened in place of null.
+-- Where a struct without words is opened in place of null: its pointer has the offset -1.
 abbrev pub OpensThere : CallAt → Sought → Option (Bor (List ℕ)) → Option ErrorKind → Type 0
 OpensThere c (ForStruct size) default r =
     word_at c.old.words c.segment c.at ≡ 0 → IsIgnoredDefault default →
@@ -80,7 +80,7 @@ OpensThere c (ForStruct size) default r =
     word_at c.new.words c.segment c.at ≡ struct_word (2 ^ 30 - 1) 0 0
 OpensThere c sought default r = ⊤
 
--- An object is made at a pointer, behind all words that were there: just its words are taken, and
+-- An object is made at a pointer, behind all words that were there: exactly its words are taken, and
 -- every segment has as much room as before.
 pub record TakesForObject (old new : View) (place : PointerPlace) (object : NewObject) : Type 0 where
   pub taken : TakesWords old new place.segment (word_count (value_of object))
@@ -177,7 +177,7 @@ IsOpeningRefused (ForStructs size) c k =
     (list_widened size.data_words size.pointers) c.old c.new k
 IsOpeningRefused sought c k = c.new ≡ c.old
 
--- The builder's call is refused by a name where a task is done. One that makes an object is so for
+-- The builder's call is refused by a name where a task is done. One that makes an object is refused for
 -- want of memory or room for its words, and truly; a search with a default from there on where the
 -- default's value is put in place of null first, or because its copy is refused.
 abbrev pub IsRefusedAt : View → View → Task → ErrorKind → PathEnd → Type 0
@@ -221,7 +221,8 @@ FindsSought (ForStructs size) r c t =
 FindsSought sought r c t = (o : Option Tree) × Yields (looked_for sought t) r o × (c.new ≡ c.old)
 
 -- A task takes words as the builder's call says where it is done. An object that is refused takes
--- none; nor does a change of bits. Content takes those of the copies of the pointers that both have alone.
+-- none; nor does a change of bits. Content takes those of the copies of the pointers that both have
+-- alone.
 abbrev pub TakesAt : View → View → Task → Option ErrorKind → PathEnd → Type 0
 TakesAt old new (Make object) None (AtPointer place) = TakesForObject old new place object
 TakesAt old new (Make object) (Some k) (AtPointer place) = IsPruned old.words new.words
@@ -267,7 +268,7 @@ pub record IsDoneAt (old new : View) (there : PathEnd) (task : Task) (r : Option
   pub nowhere : r ≡ Some NoSuchPlace → new ≡ old
   pub taken : (r ≡ Some NoSuchPlace → ⊥) → TakesAt old new task r there
 
--- A call on a builder does so at its pointer, and leaves it over the same arena.
+-- A call on a builder does a task at its pointer, and leaves it over the same arena.
 pub record IsDoneBy {A : Type 0} (view : A → View) (old new : PointerBuilder A) (task : Task)
     (r : Option ErrorKind) : Type 0 where
   pub done : IsDoneAt (view old.arena.now) (view new.arena.now) (AtPointer (place_of old)) task r
@@ -277,7 +278,7 @@ pub record IsDoneBy {A : Type 0} (view : A → View) (old new : PointerBuilder A
 
 -- From old to new an edit is done, with its outcome: whatever forest the message is, it is one
 -- then, of the value that the edit makes of the one before; and each AllocationFailed is counted.
--- It is done where its path leads: NoSuchPlace where that is nowhere, where its numbers are out of
+-- The edit is done where its path leads: NoSuchPlace where that is nowhere, where its numbers are out of
 -- range, or where the message has no root word, and nothing is changed then. There it is refused
 -- only as the builder's call is, and never where that has room, and takes words as that does.
 pub record IsStep (old new : View) (edit : Edit) (r : Option ErrorKind) : Type 0 where

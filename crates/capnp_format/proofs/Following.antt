@@ -26,7 +26,7 @@ offset_is n p bits b h =
 pub offset_at : (n p bits b : ℕ) → b ≤ n → IsOffsetTo p bits b → offset_leads n p bits ≡ Some b
 offset_at n p bits b le h = grind (arith, nat_tests)
 
--- the same test passes, or another one, and what follows does too
+-- where a test and what follows it pass, others that pass with them pass too
 pub bind_kept : {A B : Type 0} {r : Option A} {y : B} (o : Option A) (f g : A → Option B) → ((x : A) → o ≡ Some x → r ≡ Some x) → ((x : A) → o ≡ Some x → f x ≡ Some y → g x ≡ Some y) →
     (o >>= f) ≡ Some y → (r >>= g) ≡ Some y
 bind_kept (Some x) f g same more h = ap (λ o. o >>= g) (same x refl) ∙ more x refl h

@@ -62,7 +62,7 @@ words_kept {S = S} {R = R} s p n grows fits h =
     ∙ h (p + k) (omega arith) (omega arith)
     ∙ get_or_default (segment S s) (p + k) 0 d (omega arith) ∙ sym (get_or-drop p (segment S s) k d) ∙ sym (get_or-take n (drop p (segment S s)) k d small))
 
--- the same words still stand there
+-- words still stand where they stood
 pub has_words_kept : {S R : Segments} {ws : List ℕ} (s p : ℕ) → Grows S R → p + length ws ≤ length (segment S s) → SameWords S R s p (length ws) → HasWords S s p ws → HasWords R s p ws
 has_words_kept {ws = ws} s p grows fits same h = words_kept s p (length ws) grows fits same ∙ h
 

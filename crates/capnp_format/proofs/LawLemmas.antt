@@ -95,7 +95,7 @@ canonical_again t u more n c v f h =
 empty_past : (S : Segments) (s h : ℕ) (ws : List ℕ) → length (segment S s) ≤ h → HasWords S s h ws → ws ≡ []
 empty_past S s h ws past e = sym e ∙ ap (take (length ws)) (drop_of_length-le (segment S s) past) ∙ take-nil (length ws)
 
--- then the segment may be thought longer
+-- a value whose head is behind its segment stands there too where the segment is longer
 longer : {S : Segments} {s p h : ℕ} {t : Tree} → length (segment S s) ≤ h → Standing S s p h t → Stands ((segment S s ++ replicate h 0) ∷ []) 0 p h t
 longer {S = S} {s = s} {p = p} {h = h} {t = t} past standing =
     let a = standing.stands in

@@ -72,7 +72,7 @@ words_of-put {ys = ys} a w bs l m e =
     ∙ ap (λ ws. take a (words_of bs) ++ (w ∷ ws)) (drop-drop 1 a (words_of bs) ∙ ap (λ n. drop n (words_of bs)) (let q : a + 1 ≡ suc a = omega arith in q))
     ∙ sym (set_split (words_of bs) a w (omega (arith, words bs)))
 
--- the same in the form that code has it
+-- one word written, in the form that code has it
 pub words_of-put_at : (a w start k : ℕ) (bs ys : List ℕ) → start ≡ 8 * a → k ≡ 8 → 8 * a + 8 ≤ length bs → w < 2 ^ 64 → ys ≡ to_le_bytes w64 w → words_of (put_mid start k bs ys) ≡ set (words_of bs) a w
 words_of-put_at a w start k bs ys s e l m b = rw (s, e) (words_of-put a w bs l m b)
 

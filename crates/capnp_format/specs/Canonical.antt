@@ -62,7 +62,8 @@ cut_struct ws ts = Struct (take (used_words ws) ws) (take_trees (used_trees ts) 
 
 -- A list of structs at the least widths ("Canonicalization").
 abbrev pub cut_structs : Elements → Tree
-cut_structs es = Structs (data_width es) (pointer_width es) (cut_to (data_width es) (pointer_width es) es)
+cut_structs es =
+    Structs (data_width es) (pointer_width es) (cut_to (data_width es) (pointer_width es) es)
 
 -- A value as canonical form has it: children first, then structs lose zeros and Nulls at their ends
 -- and lists of structs get the least widths. All else stays; a list of pointers keeps its Nulls
@@ -132,8 +133,8 @@ rows d q k no_elements = []
 rows d q k (element ws ts es) =
     ws ++ pointers (element_count es * (d + q) + k) ts ++ rows d q (k + word_count_all ts) es
 
--- The words behind a value's pointer: its object, then the bodies of its children in order, which is preorder
--- ("Canonicalization").
+-- The words behind a value's pointer: its object, then the bodies of its children in order, which
+-- is preorder ("Canonicalization").
 abbrev mutual
   pub body : Tree → List ℕ
   body Null = []

@@ -91,7 +91,8 @@ object_cover S a (Pointers ts) = object_of a (count ts) ∷ cover_all S a.segmen
 object_cover S a (Structs d q es) =
     object_of a (1 + element_count es * (d + q)) ∷ cover_elements S a.segment (a.start + 1) d q es
 
--- Below a place all padding of lists is zero, and lists of structs claim exactly their elements ("Lists").
+-- Below a place all padding of lists is zero, and lists of structs claim exactly their elements
+-- ("Lists").
 abbrev mutual
   pub IsTidy : Segments → ℕ → ℕ → Tree → Type 0
   IsTidy S s p Null = ⊤
@@ -132,4 +133,6 @@ pub record IsForest (S : Segments) (t : Tree) : Type 0 where
 -- The allocated words of a builder's segments hold the value t: they are a forest; or segment 0 has
 -- no word yet, there is nothing but zeros, and the value is Null.
 abbrev pub ArenaHolds : Segments → Tree → Type 0
-ArenaHolds S t = IsForest S t ⊎ ((length (segment S 0) ≡ 0) × (t ≡ Null) × ((u q : ℕ) → word_at S u q ≡ 0))
+ArenaHolds S t =
+    IsForest S t
+    ⊎ ((length (segment S 0) ≡ 0) × (t ≡ Null) × ((u q : ℕ) → word_at S u q ≡ 0))

@@ -59,11 +59,13 @@ count_cost width n = if nat_eq width 0 then n else 0
 abbrev mutual
   pub Means : Segments → ℕ → ℕ → ℕ → Tree → ℕ → Type 0
   Means S n s p Null c = (word_at S s p ≡ 0) × (c ≡ 0)
-  Means S n s p (Capability i) c = (a : Target) × Leads S s p a × (a.word ≡ capability_word i) × (c ≡ a.pads)
+  Means S n s p (Capability i) c =
+      (a : Target) × Leads S s p a × (a.word ≡ capability_word i) × (c ≡ a.pads)
   Means S n s p (Struct words children) c =
       (a : Target) × (k : ℕ) × (0 < n) × StructAt S s p a (length words) (count children) ×
       Claims S a (length words + count children)
-      × HasWords S a.segment a.start words × MeansAll S (pred n) a.segment (a.start + length words) children k
+      × HasWords S a.segment a.start words
+      × MeansAll S (pred n) a.segment (a.start + length words) children k
       × (c ≡ a.pads + (length words + count children) + k)
   Means S n s p (Flat size numbers) c =
       (a : Target) × (0 < n) × (size ≤ 5) × ListAt S s p a size (length numbers) ×

@@ -23,7 +23,7 @@ word_at S s p = get_or (segment S s) p 0
 abbrev pub words_at : Segments → ℕ → ℕ → ℕ → List ℕ
 words_at S s p n = take n (drop p (segment S s))
 
--- These words stand one behind the other from a place on ("Messages").
+-- The words ws stand one behind the other from a place on ("Messages").
 abbrev pub HasWords : Segments → ℕ → ℕ → List ℕ → Type 0
 HasWords S s p ws = words_at S s p (length ws) ≡ ws
 
@@ -44,9 +44,9 @@ pub record Grows (S R : Segments) : Type 0 where
   pub segments : length S ≤ length R
   pub words : (u : ℕ) → length (segment S u) ≤ length (segment R u)
 
--- What a pointer leads to: the word that describes the object (the pointer itself, or the pad or tag of a far
--- pointer), the segment and position where the object starts, and how many words of landing pads were read
--- ("Structs", "Lists", "Inter-Segment Pointers").
+-- What a pointer leads to: the word that describes the object (the pointer itself, or the pad or
+-- tag of a far pointer), the segment and position where the object starts, and how many words of
+-- landing pads were read ("Structs", "Lists", "Inter-Segment Pointers").
 pub record Target : Type 0 where
   pub word : ℕ
   pub segment : ℕ
@@ -78,8 +78,8 @@ abbrev pub near : Segments → ℕ → ℕ → ℕ → ℕ → Option Target
 near S s p x pads = offset_leads (length (segment S s)) p (offset_bits x) >>= λ b.
     Some (record { word = x; segment = s; start = b; pads = pads })
 
--- The first word of the landing pad of the far pointer x, where it and n words behind it lie in their segment
--- ("Inter-Segment Pointers").
+-- The first word of the landing pad of the far pointer x, where it and n words behind it lie in
+-- their segment ("Inter-Segment Pointers").
 abbrev pub pad : Segments → ℕ → ℕ → Option ℕ
 pad S x n =
     given (nat_lt (far_position x + n) (length (segment S (upper_half x))))
@@ -102,4 +102,6 @@ far S x (suc _) =
 
 -- Where the word at a place leads, which is not zero ("Structs", "Lists", "Inter-Segment Pointers").
 abbrev pub leads : Segments → ℕ → ℕ → Option Target
-leads S s p = let x = word_at S s p in if nat_eq (kind x) 2 then far S x (is_double x) else near S s p x 0
+leads S s p =
+    let x = word_at S s p in
+    if nat_eq (kind x) 2 then far S x (is_double x) else near S s p x 0

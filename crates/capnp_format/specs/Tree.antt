@@ -36,8 +36,8 @@ abbrev pub element_count : Elements → ℕ
 element_count no_elements = 0
 element_count (element ws ts es) = suc (element_count es)
 
--- How many objects lie one inside the other, at most: what the nesting limit of a reader is measured against.
--- Null and a capability take none.
+-- How many objects lie one inside the other, at most: what the nesting limit of a reader is
+-- measured against. Null and a capability take none.
 abbrev mutual
   pub depth : Tree → ℕ
   depth Null = 0
@@ -57,7 +57,8 @@ abbrev mutual
   depth_elements no_elements = 0
   depth_elements (element ws ts es) = max (depth_all ts) (depth_elements es)
 
--- How many capabilities a value has inside. Canonical form is for values without any ("Canonicalization").
+-- How many capabilities a value has inside. Canonical form is for values without any
+-- ("Canonicalization").
 abbrev mutual
   pub capabilities : Tree → ℕ
   capabilities Null = 0

@@ -1,4 +1,5 @@
--- Which trees are values of the format: those whose sizes fit the bits of pointer words ("Structs", "Lists").
+-- Which trees are values of the format: those whose sizes fit the bits of pointer words ("Structs",
+-- "Lists").
 use Rattle.std.specs.Prelude.{◌≡◌, ℕ, ◌+◌, ◌*◌, ◌<◌, ◌≤◌, ◌^◌, List, length, ⊤}
 use Rattle.std.specs.List.{AllByRecursion}
 use Rattle.capnp_format.specs.Numbers.{element_bits}
@@ -17,7 +18,8 @@ abbrev mutual
   pub IsValue : Tree → Type 0
   IsValue Null = ⊤
   IsValue (Capability i) = i < 2 ^ 32
-  IsValue (Struct ws ts) = (length ws < 2 ^ 16) × (count ts < 2 ^ 16) × AreBelow (2 ^ 64) ws × AreValues ts
+  IsValue (Struct ws ts) =
+      (length ws < 2 ^ 16) × (count ts < 2 ^ 16) × AreBelow (2 ^ 64) ws × AreValues ts
   IsValue (Flat size ns) = (size ≤ 5) × (length ns < 2 ^ 29) × AreBelow (2 ^ element_bits size) ns
   IsValue (Pointers ts) = (count ts < 2 ^ 29) × AreValues ts
   IsValue (Structs d q es) = (d < 2 ^ 16) × (q < 2 ^ 16) × (element_count es < 2 ^ 30) ×

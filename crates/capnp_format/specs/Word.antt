@@ -34,8 +34,8 @@ IsOffset (negsuc n) = n < 2 ^ 29
 abbrev pub lower_half : ℕ → ℕ
 lower_half x = x % 2 ^ 32
 
--- Bits 32 to 63: of a far pointer the segment number ("Inter-Segment Pointers"), of a capability its index
--- ("Capabilities (Interfaces)").
+-- Bits 32 to 63: of a far pointer the segment number ("Inter-Segment Pointers"), of a capability
+-- its index ("Capabilities (Interfaces)").
 abbrev pub upper_half : ℕ → ℕ
 upper_half x = x / 2 ^ 32
 
@@ -52,7 +52,8 @@ pointer_count x = x / 2 ^ 48
 abbrev pub element_size : ℕ → ℕ
 element_size x = x / 2 ^ 32 % 8
 
--- Of a list pointer: how many elements, or for structs how many words they take without the tag ("Lists").
+-- Of a list pointer: how many elements, or for structs how many words they take without the tag
+-- ("Lists").
 abbrev pub list_count : ℕ → ℕ
 list_count x = x / 2 ^ 35
 
@@ -73,7 +74,8 @@ struct_word offset d q = 4 * offset + 2 ^ 32 * d + 2 ^ 48 * q
 abbrev pub list_word : ℕ → ℕ → ℕ → ℕ
 list_word offset size count = 1 + 4 * offset + 2 ^ 32 * size + 2 ^ 35 * count
 
--- A far pointer, by the double flag, the landing pad's position and the segment ("Inter-Segment Pointers").
+-- A far pointer, by the double flag, the landing pad's position and the segment ("Inter-Segment
+-- Pointers").
 abbrev pub far_word : ℕ → ℕ → ℕ → ℕ
 far_word double position segment = 2 + 4 * double + 8 * position + 2 ^ 32 * segment
 

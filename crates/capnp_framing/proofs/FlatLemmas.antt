@@ -119,7 +119,7 @@ cut_parts {n} {bytes} {table} {rest} at =
     (let room = at.room in let long = ap length at.table_is in omega (arith, long, length-drop 4 bytes, room))
     at.whole
 
--- such bytes begin with a frame
+-- bytes at whose front a frame is found begin with a frame
 pub flat_frame : {n : ℕ} {bytes table rest : List ℕ} (most : ℕ) → AtFrame n bytes table rest → words_told n table ≤ most → BeginsWithFrame bytes most (message (parts n table rest))
 flat_frame {n} {bytes} {table} {rest} most at short =
     let size : ℕ = 4 * n + padding_size n in

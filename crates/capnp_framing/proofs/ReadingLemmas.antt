@@ -25,7 +25,7 @@ consumes_both (Some x) None c first more f g = absurd f
 consumes_both (Some x) (Some y) None first more f g = absurd g
 consumes_both (Some x) (Some y) (Some z) first more f g = grind (arith, common_steps)
 
--- it ended later
+-- an input that ends too early behind some bytes ends too early for these and more
 cut_later : (a b : Option (List ℕ)) (xs : List ℕ) (n m : ℕ) → Consumes a b xs → length xs + n ≤ m → IfSome b (λ bytes. length bytes < n) → IfSome a (λ bytes. length bytes < m)
 cut_later None b xs n m f l h = tt
 cut_later (Some x) None xs n m f l h = absurd f

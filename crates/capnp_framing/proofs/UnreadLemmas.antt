@@ -82,7 +82,7 @@ module _ {R : Type 0} (g : Ghosts R) where
   pub segment_memory : (from to : R) (most : ℕ) (e : FrameError) → e ≡ AllocationFailed → g.has_failed to ≡ false → NoSegmentRead g from to most e
   segment_memory from to most e is works = record { why = inl is; failed = not_failed _ works; taken = subst (HasTakenBare g from to) (sym is) tt }
 
-  -- it wasn't read for want of memory, or the input failed
+  -- no segment was read for want of memory, or since the input failed
   pub segment_unread : (from to : R) (most : ℕ) (e : FrameError) → (e ≡ AllocationFailed) ⊎ ((e ≡ ReadFailed) × (g.has_failed to ≡ true)) → (g.has_failed to ≡ true → e ≡ ReadFailed) → NoSegmentRead g from to most e
   segment_unread from to most e why failed = record {
     why = elim why [ inl a ↦ inl a | inr u ↦ inr (inl u) ];

@@ -16,19 +16,22 @@ parts zero table bytes = []
 parts (suc n) table bytes =
     take (8 * first_told table) bytes ∷ parts n (drop 4 table) (drop (8 * first_told table) bytes)
 
--- That of these with the number id.
+-- The bytes of segment id, of segments that stand one behind the other, of as many words as a table
+-- tells.
 abbrev pub part_at : ℕ → List ℕ → List ℕ → List ℕ
-part_at id table bytes = take (8 * first_told (drop (4 * id) table)) (drop (8 * words_told id table) bytes)
+part_at id table bytes =
+    take (8 * first_told (drop (4 * id) table)) (drop (8 * words_told id table) bytes)
 
--- So many words stand before every 32nd of n segments of which a table tells the lengths.
+-- How many words stand before every 32nd of n segments whose lengths a table tells.
 abbrev pub AreStarts : ℕ → List ℕ → List ℕ → Type 0
 AreStarts n table starts =
     (k : ℕ) → 32 * k < n →
     (slice_index starts k ≡ words_told (32 * k) table) × (slice_index starts k ≤ max_length * (32 * k))
 
--- Each of n segments of which a table tells the lengths ends behind so many words.
+-- Behind how many words each of n segments ends whose lengths a table tells.
 abbrev pub AreEnds : ℕ → List ℕ → List ℕ → Type 0
-AreEnds n table ends = (n ≤ length ends) × ((k : ℕ) → k < n → slice_index ends k ≡ words_told (k + 1) table)
+AreEnds n table ends =
+    (n ≤ length ends) × ((k : ℕ) → k < n → slice_index ends k ≡ words_told (k + 1) table)
 
 -- Bytes begin with a frame of a message of at most so many words.
 pub record BeginsWithFrame (bytes : List ℕ) (most : ℕ) (S : Segments) : Type 0 where

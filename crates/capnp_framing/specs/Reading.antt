@@ -51,8 +51,8 @@ pub record HasTable (bytes : List ℕ) : Type 0 where
 abbrev pub words_in_table : List ℕ → ℕ
 words_in_table bytes = words_told (segments_told bytes) (drop 4 bytes)
 
--- Bytes that are not none begin with no frame of at most so many words, for the reason e: the first
--- that stands, in this order.
+-- Some bytes begin with no frame of at most `most` words, for the reason e: the first that applies, in
+-- this order.
 pub data NoFrame (bytes : List ℕ) (most : ℕ) (e : FrameError) : Type 0 where
   count_cut : 0 < length bytes → length bytes < 4 → e ≡ Truncated → NoFrame bytes most e
   too_many : 4 ≤ length bytes → max_frame_segments < segments_told bytes →
@@ -66,13 +66,14 @@ pub data NoFrame (bytes : List ℕ) (most : ℕ) (e : FrameError) : Type 0 where
       NoFrame bytes most e
 
 module _ {R : Type 0} (g : Ghosts R) where
-  -- What a read that gives something leaves of an input: it works, and what is known of whether it ends whole stays so.
+  -- What a read that gives something leaves of an input: it works, and what is known of whether it
+  -- ends whole stays so.
   pub record KeepsInput {A E : Type 0} (result : Result A E) (from to : R) : Type 0 where
     pub whole : OnOk result (KeepsWhole (g.ends_whole from) (g.ends_whole to))
     pub works : OnOk result (g.has_failed to ≡ false)
 
-  -- Of n bytes that were to be read not all came, for the reason e: there was no memory for them, the input ended
-  -- before, or it failed, and then there is no other reason.
+  -- Of n bytes that were to be read not all came, for the reason e: there was no memory for them,
+  -- the input ended before, or it failed, and then there is no other reason.
   pub record WhyUnread (from to : R) (n : ℕ) (e : FrameError) : Type 0 where
     pub why : (e ≡ AllocationFailed) ⊎
         ((e ≡ Truncated) × IfSome (g.remaining from) (λ bytes. length bytes < n)) ⊎
@@ -98,8 +99,9 @@ module _ {R : Type 0} (g : Ghosts R) where
   HasTaken from to Truncated = IsAtEnd (g.remaining to)
   HasTaken from to _ = ⊤
 
-  -- No frame of at most so many words was read, for the reason e: there was no memory for it, the input failed, and
-  -- then there is no other reason, or it begins with no frame; and what was taken of it.
+  -- No frame of at most so many words was read, for the reason e: there was no memory for it, the
+  -- input failed, and then there is no other reason, or it begins with no frame; and what was taken
+  -- of it.
   pub record NoFrameRead (from to : R) (most : ℕ) (e : FrameError) : Type 0 where
     pub why : (e ≡ AllocationFailed) ⊎ ((e ≡ ReadFailed) × (g.has_failed to ≡ true)) ⊎
         IfSome (g.remaining from) (λ bytes. NoFrame bytes most e)

@@ -33,8 +33,8 @@ pub fn frame_is_read()
         → total S ≤ most → NoFrame (bytes ++ rest) most e → ⊥ }
 {}
 
-/// The bytes of the words of a segment, of which so many may be, are its bare words: they mean the message of that
-/// segment alone. And whole words, of which so many may be, are refused for nothing that they hold.
+/// The bytes of the words of a segment are its bare words, where so many are allowed: they mean the message of that
+/// segment alone. And whole words, where so many are allowed, are refused for nothing that they hold.
 pub fn bare_words()
     ensures same { (ws : List ℕ) (most : ℕ) → AreSegmentWords ws → length ws ≤ most_bare most
         → AreBareWords (bytes_of_words ws) most × (message (bytes_of_words ws ∷ []) ≡ ws ∷ []) }

@@ -101,7 +101,7 @@ pub named_run : {W : Type 0} (g : Ghosts W) (from to : W) {lines : List (List �
 named_run g from to {lines} {outcome = outcome} {before} {after} same responds =
     subst (λ (a : Args). Responds g from to (run_of lines a outcome before after)) (sym same) responds
 
--- so of one that counts nothing, beside an allocator that has counted n
+-- a run of a command that is known by another name and counts nothing, beside an allocator that has counted n
 pub uncounted_run : {W : Type 0} (g : Ghosts W) (from to : W) {lines : List (List ℕ)} {args other : Args} {outcome : Outcome} (n : ℕ)
     → args ≡ other → Responds g from to (run_of lines other outcome 0 0) → Responds g from to (run_of lines args outcome n n)
 uncounted_run g from to {lines} {args} {other} {outcome} n same responds = named_run g from to same (record {

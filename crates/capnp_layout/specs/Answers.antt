@@ -38,18 +38,20 @@ CheckOf S options true =
 CheckOf S options false =
     CoversRoot S options.traversal_limit_in_words × ((t : Tree) → Stands S 0 0 1 t → ⊥)
 
--- A command refuses a message by the name k: its canonical copy is refused; the test for canonical form at
--- its root stops; its size is refused.
+-- A command refuses a message by the name k: its canonical copy is refused; the test for canonical
+-- form at its root stops; its size is refused.
 abbrev pub RefusesCommand : Args → Segments → ErrorKind → Type 0
 RefusesCommand (Canon options) S k = RefusesCanon S options k
 RefusesCommand (Check options) S k =
-    RefusesAt S options k ((m : Meter) × TestStops k (root_within S options) (progress 1 (unused (left_of options))) m)
+    RefusesAt S options k ((m : Meter)
+    × TestStops k (root_within S options) (progress 1 (unused (left_of options))) m)
 RefusesCommand (Size options) S k = RefusesSize S options k
 RefusesCommand (FramedCanon options) S k = RefusesCanon S options k
 RefusesCommand _ S k = ⊥
 
--- It refuses these segments so: there are too many, or one is too large, for a reader; or it refuses their
--- message.
+-- A command refuses segments by the name k: there are too many, or one is too large, for a reader; or it
+-- refuses their message.
 abbrev pub RefusesMessage : List (List ℕ) → Args → ErrorKind → Type 0
 RefusesMessage segments args k =
-    ((k ≡ MessageTooLarge (2 ^ 64 - 1)) × (IsSmall segments → ⊥)) ⊎ RefusesCommand args (message segments) k
+    ((k ≡ MessageTooLarge (2 ^ 64 - 1)) × (IsSmall segments → ⊥))
+    ⊎ RefusesCommand args (message segments) k

@@ -52,7 +52,8 @@ message_line false = codes "not a canonical message" ++ 10 ∷ []
 abbrev pub max_frame_words : ℕ
 max_frame_words = 8388608
 
--- The only line begins with the frame of a message, which isn't too long. Bytes behind it are not looked at.
+-- The only line begins with the frame of a message, which isn't too long. Bytes behind it are not
+-- looked at.
 pub record HoldsFrame (lines : List (List ℕ)) (S : Segments) : Type 0 where
   pub line : List ℕ
   pub only : lines ≡ line ∷ []
@@ -77,11 +78,13 @@ IsWithin _ lines = IsSmall lines
 -- What a command answers to lines.
 abbrev pub IsAnswer : List (List ℕ) → Args → List ℕ → Type 0
 IsAnswer lines (Canon options) answer =
-    (t : Tree) × IsValueOf (message lines) options t × (answer ≡ digits_of (encoding (trim t)) ++ 10 ∷ [])
+    (t : Tree) × IsValueOf (message lines) options t
+    × (answer ≡ digits_of (encoding (trim t)) ++ 10 ∷ [])
 IsAnswer lines (Check options) answer =
     (yes : Bool) × CheckOf (message lines) options yes × (answer ≡ check_line yes)
 IsAnswer lines (Size options) answer =
-    (words : ℕ) × (caps : ℕ) × HasSizeOf (message lines) options words caps × (answer ≡ size_line words caps)
+    (words : ℕ) × (caps : ℕ) × HasSizeOf (message lines) options words caps
+    × (answer ≡ size_line words caps)
 IsAnswer lines Frame answer =
     (1 ≤ length lines) × (length lines ≤ max_frame_segments) × (answer ≡ frame_line (message lines))
 IsAnswer lines Unframe answer = (S : Segments) × HoldsFrame lines S × (answer ≡ segment_lines S)
@@ -108,12 +111,13 @@ HasAnswer lines (FramedCheck options) =
 -- Segments have no frame: one is too large or there are too many for a reader, or there is none or
 -- too many for a frame.
 pub data RefusesToFrame (lines : List (List ℕ)) (r : Refusal) : Type 0 where
-  beyond_limits : r ≡ Layout (MessageTooLarge (2 ^ 64 - 1)) → (IsSmall lines → ⊥) → RefusesToFrame lines r
+  beyond_limits : r ≡ Layout (MessageTooLarge (2 ^ 64 - 1)) → (IsSmall lines → ⊥) →
+      RefusesToFrame lines r
   wrong_number : (e : FrameError) → r ≡ NoFrameFor e → IsRefusedNumber (length lines) e →
       RefusesToFrame lines r
 
 -- No frame is read: there is no line; it is empty; or it begins with no frame, for the first reason
--- that stands.
+-- that applies.
 pub data RefusesFrame (lines : List (List ℕ)) (r : Refusal) : Type 0 where
   no_line : r ≡ NoMessage → lines ≡ [] → RefusesFrame lines r
   empty_line : r ≡ NoMessage → lines ≡ [] ∷ [] → RefusesFrame lines r

@@ -4,7 +4,8 @@ use Rattle.capnp_arena_traits.specs.Allocations.{one_more}
 use Rattle.capnp_layout.specs.declared.tool.lines.InputFault.{InputFault}
 use Rattle.capnp_layout.specs.declared.tool.lines.InputFault.TheVariants.{BadInput, NoMemory}
 
--- An allocator has counted one refusal more, from a count to another, where there was no memory, and else none.
+-- An allocator has counted one refusal more, from a count to another, where there was no memory,
+-- and else none.
 pub record CountsRead {A : Type 0} (old new : ℕ) (result : Result A InputFault) : Type 0 where
   pub kept : OnOk result (new ≡ old)
   pub same : IfErr result (λ e. e ≡ BadInput → new ≡ old)

@@ -43,7 +43,7 @@ pub record Responds {W : Type 0} (g : Ghosts W) (from to : W) (run : Run) : Type
   pub works : run.outcome ≢ WriteFailed → g.has_failed to ≡ false
   pub failed : run.outcome ≡ WriteFailed → g.has_failed to ≡ true
 
--- These are the lines of a text, where it is known.
+-- Segments are the lines of a text, where it is known.
 abbrev pub AreLinesOf : Option (List ℕ) → List (List ℕ) → Type 0
 AreLinesOf text lines = IfSome text (λ text. segments_of text ≡ Some lines)
 

@@ -98,7 +98,7 @@ words_of-put_bytes (suc i) k n (a ∷ b ∷ c ∷ d ∷ e ∷ f ∷ g ∷ h ∷ 
     ∙ ap (λ ws. words_of (a ∷ b ∷ c ∷ d ∷ e ∷ f ∷ g ∷ h ∷ []) ++ ws) (words_of-put_bytes i k n rest ys (λ j. small (suc (suc (suc (suc (suc (suc (suc (suc j))))))))) long fits (omega arith))
 words_of-put_bytes i k n _ ys small long fits l = absurd (omega arith)
 
--- the same at any byte, in the form that code has it
+-- n bytes written from any byte on, in the form that code has it
 pub words_of-put_field : (b n m v : ℕ) (bs ys : List ℕ) → m ≡ n → from_digits 256 ys ≡ v → ((j : ℕ) → get_or bs j 0 < 256) → length ys ≡ n → b % 8 + n ≤ 8 → b / 8 < length (words_of bs) → words_of (put_mid b m bs ys) ≡ put_field (words_of bs) (8 * b) (8 * n) v
 words_of-put_field b n m v bs ys e f small long fits l =
     ap₂ (λ a j. words_of (put_mid a j bs ys)) (let q : b ≡ 8 * (b / 8) + b % 8 = omega arith in q) e

@@ -83,7 +83,7 @@ lengthens_more S R k n v x = elim (cases_eq v k) [
   | inr e ↦ omega (arith, x.others v e)
 ]
 
--- then words are written over others
+-- segments are longer by the same words where words are then written over others
 pub lengthens_written : (S T R : Segments) (k n : ℕ) → Lengthens S T k n → length R ≡ length T → ((v : ℕ) → length (segment R v) ≡ length (segment T v)) → Lengthens S R k n
 lengthens_written S T R k n x segments words = record {
   segments = segments ∙ x.segments;

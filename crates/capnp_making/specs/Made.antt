@@ -31,16 +31,16 @@ abbrev pub AsksWords : Shape → Type 0
 AsksWords (StructShape size) = 0 < size.data_words + size.pointers
 AsksWords (ListShape size n) = ⊤
 
--- Words of zero, null pointers, and structs of these.
+-- The list of n words of zero.
 abbrev pub words_of_zero : ℕ → List ℕ
 words_of_zero n = replicate n 0
 
--- So many null pointers.
+-- The row of n null pointers.
 abbrev pub nulls : ℕ → Trees
 nulls zero = no_trees
 nulls (suc n) = tree Null (nulls n)
 
--- So many structs of these sections, all zero.
+-- The row of n structs of d data words and q pointers, all zero.
 abbrev pub zero_elements : ℕ → ℕ → ℕ → Elements
 zero_elements d q zero = no_elements
 zero_elements d q (suc n) = element (words_of_zero d) (nulls q) (zero_elements d q n)
@@ -51,9 +51,11 @@ zero_struct size = Struct (words_of_zero size.data_words) (nulls size.pointers)
 
 -- A list of n structs, all zero ("Lists").
 abbrev pub zero_structs : ℕ → StructSize → Tree
-zero_structs n size = Structs size.data_words size.pointers (zero_elements size.data_words size.pointers n)
+zero_structs n size =
+    Structs size.data_words size.pointers (zero_elements size.data_words size.pointers n)
 
--- A list of n elements that are no structs, all zero or null, by the number of its element size ("Lists").
+-- A list of n elements that are no structs, all zero or null, by the number of its element size
+-- ("Lists").
 abbrev pub zero_list : ℕ → ℕ → Tree
 zero_list size n = if nat_eq size 6 then Pointers (nulls n) else Flat size (words_of_zero n)
 

@@ -39,7 +39,8 @@ pub record Allocates {A : Type 0} (result : Result A ErrorKind) (c : CallAt) (n 
 pub record MakesObject {A : Type 0} (result : Result A ErrorKind) (c : CallAt) (t : Tree) (n : ℕ)
     : Type 0 where
   pub made : OnOk result (Puts c.old.words c.new.words c.segment c.at t)
-  pub behind : OnOk result (StandsBehind c.old c.segment n (start_of (target c.new.words c.segment c.at)))
+  pub behind :
+      OnOk result (StandsBehind c.old c.segment n (start_of (target c.new.words c.segment c.at)))
   pub zeroed :
       OnOk result
       ((old : Tree) → IsStored c.old.words c.segment c.at old → (v r : ℕ) →
@@ -75,7 +76,7 @@ pub record ObjectStartsAt (c : CallAt) (n : ℕ) (h : Start) : Type 0 where
   pub behind : StandsBehind c.old c.segment n h
 
 -- A call that keeps no arena is said to do what it does in one that it reached: there it found what
--- Does says, and its result gives just that, by what Gives says; or it is refused by the same name.
+-- Does says, and its result gives exactly that, by what Gives says; or it is refused by the same name.
 pub record ReachesArena {A B C : Type 0} (Gives : A → C → B → Type 0)
     (Does : A → Result C ErrorKind → Type 0) (result : Result B ErrorKind) : Type 0 where
   pub now : A

@@ -103,7 +103,7 @@ struct_list_cover S s p (Structs d q es) =
     row s p (1 + element_count es * (d + q)) ∷ cover_elements S s (p + 1) d q es
 struct_list_cover S s p t = []
 
--- A call makes words zero, and changes nothing else. Where Holds is so of x, they are just those
+-- A call makes words zero, and changes nothing else. Where Holds is so of x, they are exactly those
 -- of the intervals of x.
 pub record Zeroes {B : Type 0} (old new : View) (Holds : B → Type 0) (held : B → List Interval)
     : Type 0 where

@@ -40,9 +40,9 @@ pub enum Shape {
 /// Where an object starts.
 #[derive(Clone, Copy, Debug, PartialEq, Eq)]
 pub struct Start {
-    /// Its segment.
+    /// The segment of the object.
     pub segment: u32,
-    /// Its first word.
+    /// The position of the object's first word in the segment, in words.
     pub at: u32,
 }
 

@@ -184,7 +184,8 @@ fn zero_elements<A: BuilderArena>(arena: &mut A, id: u32, start: u32, size: Stru
     requires { start + count * (size.data_words + size.pointers)
         ≤ length (segment (A.view arena.old).words id) }
     ensures { Zeroes (A.view arena.old) (A.view arena.new)
-        (λ (es : Elements). (element_count es ≡ count) × AreApartElements (A.view arena.old).words id start size es)
+        (λ (es : Elements). (element_count es ≡ count)
+        × AreApartElements (A.view arena.old).words id start size es)
         (element_extents (A.view arena.old).words id start size) }
 {
     if size.pointers > 0 {

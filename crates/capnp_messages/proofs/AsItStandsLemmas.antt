@@ -56,7 +56,7 @@ StandsWithin segments limits bytes =
     (segments ≡ bytes ∷ [])
     × ((t : Tree) × IsValueOf (message segments) limits t × IsCanonicalOf (message segments) t)
 
--- its first segment is that one
+-- where a message is canonical, its first segment is all of it
 pub segment_stands : {B : List (List ℕ)} {bytes : List ℕ} {limits : ReaderOptions} {n : ℤ} {old new : Meter} →
     slice_get B 0 ≡ Some bytes → n ≡ limits.nesting_limit → old ≡ unused limits.traversal_limit_in_words →
     IsWithinLevels (message B) (levels n) → IsPaid (message B) old new → StandsWithin B limits bytes

@@ -61,7 +61,7 @@ canonical_stands {t = t} canonical =
 pub canonical_length : {S : Segments} {t : Tree} → IsCanonicalOf S t → length (segment S 0) ≡ 1 + word_count t
 canonical_length {t = t} canonical = ap (λ (S : Segments). length (segment S 0)) canonical.is ∙ (let whole : length (encoding t) ≡ 1 + word_count t = omega (arith, length-body t canonical.value) in whole)
 
--- they lie within the segment
+-- canonical words lie within their segment
 within : (S : Segments) (t : Tree) → Stands S 0 0 1 t → 1 + word_count t ≤ length (segment S 0)
 within S t stands =
     let place : 0 < length (segment S 0) = stands.0 in

@@ -56,7 +56,7 @@ value_of {S} {limits} {r} {m} {after} {t} root read =
       covered = covers_root limits.traversal_limit_in_words there.cost root.covers.covered there.covers;
     }
 
--- so is what was made a copy of that
+-- the copy of what a root leads to is the canonical words of the value of its message
 pub copy_of : {S : Segments} {limits : ReaderOptions} {r : Reading} {m after : Meter} {words : Segments} →
     AtRoot S limits r m → (t : Tree) × Reads canonical r m after t × (words ≡ encoding (trim t) ∷ []) →
     (t : Tree) × IsValueOf S limits t × (words ≡ encoding (trim t) ∷ [])
@@ -73,7 +73,7 @@ copy_refused {S} {limits} {r} {m} {k = k} root (inr (refused, kept)) =
     let here = subst (λ (l : Option ℕ). RefusesCopy (root_within S limits) l max_segment_words k) left there in
     inr (inr (root.covers, here), kept)
 
--- the same of a copy with a limiter of its own, of which what the limit has left is handed on
+-- a copy with a limiter of its own, which gets what the limit has left
 pub own_copy_of : {S : Segments} {limits : ReaderOptions} {r : Reading} {m : Meter} {left : Option ℕ} {words : Segments} →
     AtRoot S limits r m → left ≡ m.left →
     (t : Tree) × (after : Meter) × Reads canonical r (unused left) after t × (words ≡ encoding (trim t) ∷ []) →

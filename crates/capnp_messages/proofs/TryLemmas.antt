@@ -48,7 +48,7 @@ made_by_try {r} {offers} {there} {room} {refusals} {yet} {made} come same none a
 offered : (least room asked : ℕ) → least ≡ 0 → IsTrue (room == max least asked) → IsTrue (room == asked)
 offered least room asked none is = grind arith
 
--- the same, where the place is written otherwise
+-- the first try that has made the words, where the place is written otherwise
 pub moved_tries : {r q : Reading} (offers : ℕ → ℕ → Bool) (refusals : ℕ) (made : View) → r ≡ q → IsMadeByFirstTry r offers refusals made → IsMadeByFirstTry q offers refusals made
 moved_tries offers refusals made place tries = subst (λ (x : Reading). IsMadeByFirstTry x offers refusals made) place tries
 

@@ -23,7 +23,7 @@ pub record IsCanonicalOf (S : Segments) (t : Tree) : Type 0 where
   pub encodable : IsEncodable t
   pub is : S ≡ encoding t ∷ []
 
--- It is that of some value ("Canonicalization").
+-- A message is the canonical one of some value ("Canonicalization").
 abbrev pub IsCanonicalMessage : Segments → Type 0
 IsCanonicalMessage S = (t : Tree) × IsCanonicalOf S t
 
@@ -48,9 +48,10 @@ RefusesTest S n m m' k =
     (RefusesRoot S m.left k × (m' ≡ m)) ⊎
     (CoversRoot S m.left × TestStops k (message_root S n) (progress 1 (spent m 1)) m')
 
--- The test of a message, within n levels, with a limiter from m to m', is answered wherever it can be, and
--- else refused for what stops it.
-pub record AnswersTest {A : Type 0} (result : Result A ErrorKind) (S : Segments) (n : ℕ) (m m' : Meter) : Type 0 where
+-- The test of a message, within n levels, with a limiter from m to m', is answered wherever it can
+-- be, and else refused for what stops it.
+pub record AnswersTest {A : Type 0} (result : Result A ErrorKind) (S : Segments) (n : ℕ)
+    (m m' : Meter) : Type 0 where
   pub answered : CanBeTested S n m → IsOk result
   pub refused : IfErr result (RefusesTest S n m m')
 

@@ -22,7 +22,8 @@ RefusesAnswer (Canon form) limits S k = (k ≡ AllocationFailed) ⊎ RefusesCano
 RefusesAnswer Check limits S k = RefusesCheck S limits k
 RefusesAnswer Size limits S k = RefusesSize S limits k
 
--- Wherever this holds there is an answer: there is a canonical copy; a value, or not one segment; a size.
+-- Wherever this holds there is an answer: there is a canonical copy; a value, or not one segment; a
+-- size.
 abbrev pub HasAnswerWithin : Command → ReaderOptions → Segments → Type 0
 HasAnswerWithin (Canon form) limits S = HasCanonicalCopy S limits
 HasAnswerWithin Check limits S = length S ≡ 1 → IsReadable S limits

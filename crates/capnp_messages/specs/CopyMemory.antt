@@ -1,4 +1,4 @@
--- A segment of memory for copies, of which the front is ready, and with other bytes there.
+-- A segment of memory for copies, whose front is ready, and with other bytes there.
 use Rattle.std.specs.Prelude.{ℕ, List, ◌++◌, replicate}
 use Rattle.std.specs.Vec.{with_items}
 use Rattle.capnp_messages.specs.declared.messages.copy_memory.CopySegment.{CopySegment}

@@ -26,7 +26,8 @@ pub record IsReadable (S : Segments) (limits : ReaderOptions) : Type 0 where
   pub means : Means S (levels limits.nesting_limit) 0 0 value cost
   pub covered : FitsIn limits.traversal_limit_in_words (1 + cost)
 
--- It means t within these limits, and t has no capabilities ("Messages", "Security Considerations").
+-- The root of a message means t within the limits, and t has no capabilities ("Messages", "Security
+-- Considerations").
 pub record IsValueOf (S : Segments) (limits : ReaderOptions) (t : Tree) : Type 0 where
   pub root : CoversRoot S limits.traversal_limit_in_words
   pub cost : ℕ
@@ -34,15 +35,17 @@ pub record IsValueOf (S : Segments) (limits : ReaderOptions) (t : Tree) : Type 0
   pub free : IsFree t
   pub covered : FitsIn limits.traversal_limit_in_words (1 + cost)
 
--- It has a canonical copy: a value so, whose canonical words, a pointer and a body, fit a segment
--- ("Canonicalization").
+-- A message has a canonical copy: it means a value without capabilities within the limits, whose
+-- canonical words, a pointer and a body, fit a segment ("Canonicalization").
 abbrev pub HasCanonicalCopy : Segments → ReaderOptions → Type 0
-HasCanonicalCopy S limits = (t : Tree) × IsValueOf S limits t × (1 + word_count (trim t) ≤ max_segment_words)
+HasCanonicalCopy S limits =
+    (t : Tree) × IsValueOf S limits t × (1 + word_count (trim t) ≤ max_segment_words)
 
 -- The test for canonical form finds this fault: its reason is true of the word that it names.
 abbrev pub IsFaultOf : Segments → ReaderOptions → CanonicalFault → Type 0
 IsFaultOf S limits f =
-    (m : Meter) × IsMessageFault f S (levels limits.nesting_limit) (unused limits.traversal_limit_in_words) m
+    (m : Meter)
+    × IsMessageFault f S (levels limits.nesting_limit) (unused limits.traversal_limit_in_words) m
 
 -- The root of a message, and the limit behind its word.
 abbrev pub root_within : Segments → ReaderOptions → Reading
@@ -73,18 +76,20 @@ abbrev pub RefusesAt : Segments → ReaderOptions → ErrorKind → Type 0 → T
 RefusesAt S limits k P =
     RefusesRoot S limits.traversal_limit_in_words k ⊎ (CoversRoot S limits.traversal_limit_in_words × P)
 
--- The canonical copy of a message is refused by the name k; so its size; and the test of one that has one
--- segment.
+-- The canonical copy of a message is refused by the name k.
 abbrev pub RefusesCanon : Segments → ReaderOptions → ErrorKind → Type 0
 RefusesCanon S limits k =
     RefusesAt S limits k (RefusesCopy (root_within S limits) (left_of limits) max_segment_words k)
 
+-- The size of a message is refused by the name k.
 abbrev pub RefusesSize : Segments → ReaderOptions → ErrorKind → Type 0
 RefusesSize S limits k =
     RefusesAt S limits k ((m : Meter) ×
     SizeStops k (root_within S limits) (tally 0 0 (unused (left_of limits))) m)
 
+-- The test of a message of one segment is refused by the name k.
 abbrev pub RefusesCheck : Segments → ReaderOptions → ErrorKind → Type 0
 RefusesCheck S limits k =
     (length S ≡ 1)
-    × ((m : Meter) × RefusesTest S (levels limits.nesting_limit) (unused limits.traversal_limit_in_words) m k)
+    × ((m : Meter)
+    × RefusesTest S (levels limits.nesting_limit) (unused limits.traversal_limit_in_words) m k)

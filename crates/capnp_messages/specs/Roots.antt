@@ -20,7 +20,7 @@ pub record CoversRoot (S : Segments) (budget : Option ℕ) : Type 0 where
 
 -- The root pointer of a message is refused by the name k.
 pub data RefusesRoot (S : Segments) (budget : Option ℕ) (k : ErrorKind) : Type 0 where
-  -- there is none
+  -- there is no word for a root pointer
   no_root : k ≡ misplaced S 0 (InvalidSegmentId 0) → (IsPlace S 0 0 → ⊥) → RefusesRoot S budget k
-  -- there is one, and the budget doesn't cover it
+  -- there is a root pointer, and the budget doesn't cover its word
   no_budget : k ≡ ReadLimitExceeded → IsPlace S 0 0 → budget ≡ Some 0 → RefusesRoot S budget k

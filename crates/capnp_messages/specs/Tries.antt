@@ -8,7 +8,8 @@ use Rattle.capnp_framing.specs.Reading.{total}
 use Rattle.capnp_objects.specs.Outcomes.{MeansThere}
 use Rattle.capnp_objects.specs.Reading.{Reading}
 
--- The canonical words of whatever value a place means, behind the word of a root, are more than this room.
+-- The canonical words of whatever value a place means, behind the word of a root, are more than
+-- this room.
 abbrev pub NeedsMoreRoom : Reading → ℕ → Type 0
 NeedsMoreRoom r room = (t : Tree) (c : ℕ) → MeansThere r t c → room < 1 + word_count (trim t)
 
@@ -26,9 +27,11 @@ words_read r = if r.of_default then 0 else total r.segments
 abbrev pub as_asked : ℕ → ℕ → Bool
 as_asked asked words = words == asked
 
--- A try made the canonical words of what a place means: its segment was offered for what that try asks for, what each try
--- before it asks for is too little, and memory was refused no more often than so.
-pub record IsMadeByFirstTry (r : Reading) (offers : ℕ → ℕ → Bool) (refusals : ℕ) (made : View) : Type 0 where
+-- A try made the canonical words of what a place means: its segment was offered for what that try
+-- asks for, what each try before it asks for is too little, and memory was refused no more often
+-- than so.
+pub record IsMadeByFirstTry (r : Reading) (offers : ℕ → ℕ → Bool) (refusals : ℕ) (made : View)
+    : Type 0 where
   pub try : ℕ
   pub asked : IsTrue (offers (room_of_try (words_read r) try) (made.room 0))
   pub before : (j : ℕ) → j < try → NeedsMoreRoom r (room_of_try (words_read r) j)

@@ -4,7 +4,7 @@ use Rattle.capnp_format.specs.Bytes.{words_of}
 use Rattle.capnp_format.specs.Segments.{Segments, segment}
 use Rattle.capnp_objects.specs.Source.{default_segment, default_segments}
 
--- so many empty segments, and behind them one of these bytes
+-- n empty segments, and behind them one of these bytes
 unfoldable behind_empty : ℕ → List ℕ → Segments
 behind_empty n bytes = replicate n [] ++ words_of bytes ∷ []
 

@@ -31,7 +31,7 @@ use Rattle.capnp_objects.proofs.Followed.{entered_leads}
 use Rattle.capnp_objects.proofs.Landings.{IsCounted, reached, entered, object_refused, arrived}
 use Rattle.capnp_objects.proofs.Refusals.{not_stopped}
 
--- the same place with one level, which is asked for apart
+-- a place with one level, which is asked for apart
 abbrev pub one_level : Reading → Reading
 one_level r = record r { levels = 1 }
 

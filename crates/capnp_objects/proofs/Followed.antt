@@ -146,7 +146,7 @@ leads_follows S s p a (some, l) = let r = (leads_agrees S s p).there a l in ((so
 pub follows_leads : (S : Segments) (s p : ℕ) (a : Target) → Follows S s p a → kind a.word ≢ 2 → Leads S s p a
 follows_leads S s p a (some, f) other = (some, (leads_agrees S s p).back a f other)
 
--- the same of a place that is read, whose far pointers have a name of their own in a default
+-- a place that is read is followed to a target, where far pointers have a name of their own in a default
 named_ok : {a : Target} (b : Bool) (result : Result Target ErrorKind) → result ≡ Ok a → far_named b result ≡ Ok a
 named_ok true (Ok x) e = e
 named_ok false (Ok x) e = e
@@ -165,7 +165,7 @@ leads_to r a l = let f = (leads_follows r.segments r.segment r.at a l).0 in (f.0
 pub leads_there : (r : Reading) (a : Target) → FollowsTo r a → kind a.word ≢ 2 → LeadsTo r a
 leads_there r a (some, f) other = follows_leads r.segments r.segment r.at a (some, unnamed_ok (is_named r) (follow r.segments r.segment r.at) (sym (followed_at r) ∙ f)) other
 
--- so is that of an object that is entered, or that is as a call expects
+-- the word of an object that is entered, or that is as a call expects, is followed to it
 pub entered_leads : {purpose : Purpose} {r : Reading} {m m' : Meter} {a : Target} → Entered purpose r m m' a → LeadsTo r a
 entered_leads {r = r} {a = a} o = leads_there r a o.follows (λ f. let i = o.meets.is_object in omega (arith, f, i))
 

@@ -393,7 +393,7 @@ pub lies : (purpose : Purpose) (S : Segments) (a : Target) → Claims S a (claim
 lies Value S a h = h
 lies Size S a h = λ _. h
 
--- so they are not charged where they don't
+-- words that don't lie in their segment don't lie there for a purpose that looks for them
 pub outside : (purpose : Purpose) (S : Segments) (a : Target) → (IsVoidList a.word → purpose ≡ Value) → length (segment S a.segment) < a.start + claim a.word → LiesThere purpose S a → ⊥
 outside Value S a sought h lies = omega (arith, h, lies)
 outside Size S a sought h lies = omega (arith, h, lies (λ void. let e = sought void in absurd (cc e)))

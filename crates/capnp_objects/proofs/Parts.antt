@@ -65,7 +65,7 @@ pub charge_some : (purpose : Purpose) (width n : ℕ) → 0 < width → count_ch
 charge_some Value width n some = ap (λ b. cond b n 0) (ne_eqb width 0 (λ e. omega (arith, e, some)))
 charge_some Size width n some = refl
 
--- so are those of an object that is neither a list of structs nor one of void
+-- the elements of an object that is neither a list of structs nor one of void are free
 pub charge_near : (purpose : Purpose) (S : Segments) (a : Target) → kind a.word < 2 → (IsVoidList a.word → ⊥) → (IsStructList a.word → ⊥) → amplified purpose S a ≡ 0
 charge_near Size S a near some untagged = refl
 charge_near Value S a near some untagged = go (kind a.word) (element_size a.word) near some untagged

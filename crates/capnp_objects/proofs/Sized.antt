@@ -90,7 +90,7 @@ SomeSizedAll r = (ts : Trees) × (c : ℕ) × SizedAllThere r ts c
 abbrev pub SomeElementsSized : Reading → StructSize → Type 0
 SomeElementsSized r size = (es : Elements) × (c : ℕ) × ElementsSized r size es c
 
--- the same place, with so many levels
+-- a place with m levels
 abbrev pub at_levels : Reading → ℕ → Reading
 at_levels r m = record r { levels = m }
 
@@ -149,7 +149,7 @@ mutual
   one_sized_all r m no_trees (c, h) (tree u us, e, k) len = absurd (omega arith)
   one_sized_all r m (tree t ts) (c, h) (no_trees, e, k) len = absurd (omega arith)
 
-  -- It takes seven arguments: the size of the elements is one more than pointers have.
+  -- This lemma takes seven arguments: the size of the elements is one more than pointers have.
   pub one_sized_elements : (r : Reading) (size : StructSize) (m : ℕ) (es : Elements) (x : ElementsSizedAs r size es) (y : SomeElementsSized (at_levels r m) size) → element_count es ≡ element_count y.0 → (es ≡ y.0) × (x.0 ≡ y.1)
   one_sized_elements r size m no_elements (c, h) (no_elements, e, k) len = (refl, h ∙ sym k)
   one_sized_elements r size m (element ws ts es) (c, (a, b, long, many, words, all, rest, g)) (element vs us fs, e, (x, y, long', many', words', all', rest', g')) len =

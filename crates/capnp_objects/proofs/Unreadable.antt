@@ -20,7 +20,7 @@ Spends charging m m' limit = (g : ℕ) × (r : ℕ) × Affords charging m g × (
 abbrev pub Among : (Reading → Type 0) → Reading → ℕ → Type 0
 Among P r m = (q : ℕ) × (r.at ≤ q) × (q < r.at + m) × Somewhere P (record r { at = q })
 
--- So at one of the pointers of m elements from a place on, each of this size.
+-- P holds at one of the pointers of m elements from a place on, each of this size, or of some place that is reached from there.
 abbrev pub AmongElements : (Reading → Type 0) → Reading → StructSize → ℕ → Type 0
 AmongElements P r size m = (j : ℕ) × (j < m) × Among P (pointers_of r size j) size.pointers
 
@@ -35,13 +35,15 @@ pub record Unreadable (form : Form) (r : Reading) (m m' : Meter) (k : ErrorKind)
   pub only : (t : Tree) (c : ℕ) → MeansThere r t c → AllowsCapabilities form (capabilities t) → Affords r.charging m c → ⊥
   pub spent : Spends r.charging m m' 1
 
--- So is that of i pointers from a place on.
+-- One of i pointers from a place on can't be read, by the name k: some reached place fails so, they have no values within both
+-- limits, and no more is spent than was granted.
 pub record UnreadableAll (form : Form) (r : Reading) (i : ℕ) (m m' : Meter) (k : ErrorKind) : Type 0 where
   pub named : Among (Fails form m' k) r i
   pub only : (ts : Trees) (c : ℕ) → count ts ≡ i → MeanThere r ts c → AllowsCapabilities form (capabilities_all ts) → Affords r.charging m c → ⊥
   pub spent : Spends r.charging m m' i
 
--- So is that of i elements.
+-- One of i elements from a place on can't be read, by the name k: some reached place fails so, they have no values within both
+-- limits, and no more is spent than was granted.
 pub record UnreadableElements (form : Form) (r : Reading) (size : StructSize) (i : ℕ) (m m' : Meter) (k : ErrorKind) : Type 0 where
   pub named : AmongElements (Fails form m' k) r size i
   pub only : (es : Elements) (c : ℕ) → element_count es ≡ i → ElementsMean r size es c → AllowsCapabilities form (capabilities_elements es) → Affords r.charging m c → ⊥

@@ -172,7 +172,8 @@ IsGiven Struct n (ObjectStruct start size) = 0 < n
 IsGiven (List size) n (ObjectFlat start found count) =
     (0 < n) × (narrow_elements size (size_number found) ≡ None)
 IsGiven (List size) n (ObjectPointers start count) = (0 < n) × (narrow_elements size 6 ≡ None)
-IsGiven (List size) n (ObjectStructs start sections count) = (0 < n) × (narrow_structs size sections ≡ None)
+IsGiven (List size) n (ObjectStructs start sections count) =
+    (0 < n) × (narrow_structs size sections ≡ None)
 IsGiven Text n (ObjectFlat start size count) = (size ≡ Byte) × (0 < count)
 IsGiven Data n (ObjectFlat start size count) = size ≡ Byte
 IsGiven expected n object = ⊥

@@ -46,7 +46,8 @@ pub record Following : Type 0 where
 
 -- The pointer at a place.
 abbrev pub following : Reading → Following
-following r = record { segments = r.segments; charging = r.charging; word = word_of r; gives = follow_at r }
+following r =
+    record { segments = r.segments; charging = r.charging; word = word_of r; gives = follow_at r }
 
 -- The far pointer x of a message, and of that which an arena holds.
 abbrev pub following_far : Segments → Bool → ℕ → Following

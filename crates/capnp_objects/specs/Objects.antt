@@ -62,7 +62,8 @@ IsObject purpose r m m' (ObjectStructs start size count) =
     × (count ≡ offset_bits (tag r.segments a)) × (size.data_words ≡ data_words (tag r.segments a)) ×
     (size.pointers ≡ pointer_count (tag r.segments a))
 
--- What the pointer at a place leads to where it is near: an object at a position of the place's own segment.
+-- What the pointer at a place leads to where it is near: an object at a position of the place's own
+-- segment.
 abbrev pub near_at : Reading → ℕ → Target
 near_at r at = record { word = word_of r; segment = r.segment; start = at; pads = 0 }
 

@@ -50,7 +50,8 @@ pub data Unfollowed (r : Reading) (m m' : Meter) (k : ErrorKind) : Type 0 where
 -- that is counted, and what was granted is its landing pads and what the object claims, where its
 -- tag is wrong, and else these alone, where it breaks a demand; these, where its claim is not
 -- covered; both, where the number of elements of no width is not.
-pub data Stopped (purpose : Purpose) (form : Form) (r : Reading) (m m' : Meter) (k : ErrorKind) : Type 0 where
+pub data Stopped (purpose : Purpose) (form : Form) (r : Reading) (m m' : Meter) (k : ErrorKind)
+    : Type 0 where
   no_target : Unfollowed r m m' k → Stopped purpose form r m m' k
   broken : (a : Target) → FollowsTo r a → BreaksObject purpose form r.segments r.levels a k →
       Paid r.charging m m' (a.pads + granted_before a k) 1 → Stopped purpose form r m m' k

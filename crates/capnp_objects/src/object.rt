@@ -64,7 +64,7 @@ pub enum Object<'a> {
     Struct {
         /// The first word of the data section.
         start: Place<'a>,
-        /// Its two sections.
+        /// The two sections of the struct.
         size: StructSize,
     },
     /// A list of elements without pointers, from `Void` to `EightBytes`.
@@ -111,8 +111,8 @@ pub enum Expected {
 /// What an object is read for.
 #[derive(Clone, Copy)]
 pub enum Purpose {
-    /// Its value.
+    /// The object's value.
     Value,
-    /// Its size alone: a list of void is not looked for, and elements without width are free.
+    /// The object's size alone: a list of void is not looked for, and elements without width are free.
     Size,
 }

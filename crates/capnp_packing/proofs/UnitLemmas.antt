@@ -46,7 +46,7 @@ parts_of bytes at end n l =
     ∙ ap₂ (λ (us vs : List ℕ). us ++ take (end - (at + n)) vs) (sym (take-take n (end - at) rest (omega (arith, l))))
     (drop-drop n at bytes)
 
--- so many bytes that are ahead are taken
+-- n bytes that are ahead are taken
 pub consumed : (bytes : List ℕ) (at end n : ℕ) (known : Option (List ℕ)) → at + n ≤ end
     → Consumes (prepend_known (slice_range bytes at end) known) (prepend_known (slice_range bytes (at + n) end) known)
     (take n (slice_range bytes at end))

@@ -51,16 +51,16 @@ unfoldable pub unpacked_bytes : Place → List ℕ → List ℕ
 unpacked_bytes place [] = []
 unpacked_bytes place (b ∷ bytes) = all_given place b ++ unpacked_bytes (place_after place b) bytes
 
--- The place behind all of them.
+-- The place behind all packed bytes.
 unfoldable pub place_at_end : Place → List ℕ → Place
 place_at_end place [] = place
 place_at_end place (b ∷ bytes) = place_at_end (place_after place b) bytes
 
--- They are whole: they don't end within a word or before a number.
+-- Packed bytes are whole: they don't end within a word or before a number.
 abbrev pub IsWhole : Place → List ℕ → Type 0
 IsWhole place packed = place_at_end place packed ≡ Tag
 
--- They give some bytes and so many bytes of zero behind them, and lead to another place.
+-- Packed bytes give some bytes and so many bytes of zero behind them, and lead to another place.
 abbrev pub GivesAndLeads : Place → List ℕ → List ℕ → ℕ → Place → Type 0
 GivesAndLeads place packed bytes zeros next =
     (unpacked_bytes place packed ≡ bytes ++ replicate zeros 0) × (place_at_end place packed ≡ next)
@@ -86,13 +86,14 @@ abbrev pub whole_behind : Place → Option (List ℕ) → Option Bool
 whole_behind place None = None
 whole_behind place (Some packed) = Some (is_tag (place_at_end place packed))
 
--- The bytes of a word, of which a packed one is each whose bit is set: so many of them, from a bit on.
+-- The last n bytes of a word, by the bits of its tag that are left: a byte is packed where its bit
+-- is set, and else zero.
 unfoldable pub expanded : ℕ → ℕ → List ℕ → List ℕ
 expanded zero bits packed = []
 expanded (suc n) bits packed =
     slice_index packed 0 * (bits % 2) ∷ expanded n (bits / 2) (drop (bits % 2) packed)
 
--- How many of them are packed.
+-- How many of the last n bytes of a word are packed.
 unfoldable pub ones : ℕ → ℕ → ℕ
 ones zero bits = 0
 ones (suc n) bits = bits % 2 + ones n (bits / 2)

@@ -8,7 +8,8 @@ use Rattle.capnp_packing.specs.declared.packing.unpacking_input.UnpackingInput.{
 module _ {R : Type 0} (g : Ghosts R) where
   -- The packed bytes that are still to come, where they are known, and the bytes that they stand for.
   abbrev pub packed_left : UnpackingInput R → Option (List ℕ)
-  packed_left u = prepend_known (slice_range u.packed.bytes u.packed.at u.packed.end) (g.remaining u.packed.input)
+  packed_left u =
+      prepend_known (slice_range u.packed.bytes u.packed.at u.packed.end) (g.remaining u.packed.input)
 
   abbrev pub unpacked_left : UnpackingInput R → Option (List ℕ)
   unpacked_left u = bytes_behind u.zeros u.place (packed_left u)
@@ -22,9 +23,10 @@ module _ {R : Type 0} (g : Ghosts R) where
     pub input : to.packed.input ≡ from.packed.input
     pub told : to.told ≡ from.told
 
-  -- Bytes were given, none only where the packed bytes have ended; or the packed input has failed, and all are still to
-  -- come.
-  pub record UnpacksSome {E : Type 0} (result : Result ℕ E) (from to : UnpackingInput R) (room : List ℕ) : Type 0 where
+  -- Bytes were given, none only where the packed bytes have ended; or the packed input has failed,
+  -- and all are still to come.
+  pub record UnpacksSome {E : Type 0} (result : Result ℕ E) (from to : UnpackingInput R)
+      (room : List ℕ) : Type 0 where
     pub bound : IfOk result (λ n. n ≤ length room)
     pub bytes : IfOk result (λ n. Consumes (unpacked_left from) (unpacked_left to) (take n room))
     pub kept : OnErr result (Consumes (unpacked_left from) (unpacked_left to) [])

@@ -39,7 +39,7 @@ offset_reaches : (p bits b : ℕ) → bits < 2 ^ 30 → IsOffsetTo p bits b → 
 offset_reaches p bits b small (inl (l, e)) = ((omega arith, omega arith), omega arith)
 offset_reaches p bits b small (inr (l, e)) = ((omega arith, omega arith), omega arith)
 
--- This is what such a word leads to.
+-- What a word leads to that is no far pointer is near.
 pub near_to : (S : Segments) (s p : ℕ) (a : Target) → kind (word_at S s p) ≢ 2 → leads S s p ≡ Some a → IsNear S s p a
 near_to S s p a other e =
     let x = word_at S s p in
@@ -254,7 +254,7 @@ pub blanks_stand : (S : Segments) (s p h n : ℕ) → ElementsStand S s p 0 0 h 
 blanks_stand S s p h zero = tt
 blanks_stand S s p h (suc n) = (refl, refl, refl, tt, blanks_stand S s (p + 0 + 0) (h + 0) n)
 
--- They have no widths.
+-- Elements of no words and no pointers have no widths.
 pub data_width-blank : (n : ℕ) → data_width (blank n) ≡ 0
 data_width-blank zero = refl
 data_width-blank (suc n) = omega (arith, data_width-blank n)
@@ -263,7 +263,7 @@ pub pointer_width-blank : (n : ℕ) → pointer_width (blank n) ≡ 0
 pointer_width-blank zero = refl
 pointer_width-blank (suc n) = omega (arith, pointer_width-blank n)
 
--- Their children take no words.
+-- The children of elements of no words and no pointers take no words.
 pub words-blank : (n : ℕ) → word_count_elements (blank n) ≡ 0
 words-blank zero = refl
 words-blank (suc n) = omega (arith, words-blank n)

@@ -42,7 +42,7 @@ for_offset_map (Structs d q es) P Q f h = f h
 reach_near : (p k : ℕ) → Reaches p (p + 1 + k) → k < 2 ^ 29
 reach_near p k r = omega arith
 
--- The same of a value's pointer, where it has an offset.
+-- The pointer of a value, where it has an offset, has one of less than 2^29 if it reaches the position k words behind it.
 pub offset_near : (t : Tree) (p k : ℕ) → ForOffset t (Reaches p (p + 1 + k)) → ForOffset t (k < 2 ^ 29)
 offset_near t p k r = for_offset_map t (Reaches p (p + 1 + k)) (k < 2 ^ 29) (reach_near p k) r
 
@@ -197,12 +197,12 @@ standing_where_rows S s p d q k (element ws ts es) a l =
 pub stands_within : (S : Segments) (s p h : ℕ) (t : Tree) → h ≤ length (segment S s) → Stands S s p h t → h + word_count t ≤ length (segment S s)
 stands_within S s p h t l a = omega (arith, length-body t a.1, has_words_within S s h (body t) (a.5).2 l)
 
--- So do children.
+-- Children that stand end in their segment, where the head lies in it.
 pub all_within : (S : Segments) (s p h : ℕ) (ts : Trees) → h ≤ length (segment S s) → AllStand S s p h ts → h + word_count_all ts ≤ length (segment S s)
 all_within S s p h no_trees l a = omega arith
 all_within S s p h (tree t ts) l a = omega (arith, all_within S s (p + 1) (h + word_count t) ts (stands_within S s p h t l a.0) a.1)
 
--- So do the children of elements.
+-- The children of elements that stand end in their segment, where the head lies in it.
 pub elements_within : (S : Segments) (s p d q h : ℕ) (es : Elements) → h ≤ length (segment S s) → ElementsStand S s p d q h es → h + word_count_elements es ≤ length (segment S s)
 elements_within S s p d q h no_elements l a = omega arith
 elements_within S s p d q h (element ws ts es) l a =

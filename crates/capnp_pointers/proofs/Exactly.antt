@@ -18,7 +18,7 @@ use Rattle.capnp_pointers.proofs.Found.{structs_found}
 abbrev pub ElementsAccept : Segments → ℕ → ℕ → ℕ → ℕ → ℕ → ℕ → Type 0
 ElementsAccept S s p d q h n = (es : Elements) × (element_count es ≡ n) × (data_width es ≡ d) × (pointer_width es ≡ q) × ElementsStand S s p d q h es
 
--- The same is so where the tag is read already.
+-- Where the tag is read already, a list of structs stands exactly where its elements stand behind the tag and fill its words.
 pub structs_of_tag : (S : Segments) (s p h : ℕ) (a : Target) (m n d q : ℕ) → HasSmallWords S s → IsPlace S s p → kind (word_at S s p) ≢ 2 → ListAt S s p a 7 m → a.start ≡ h → Claims S a (m + 1) → IsTag (word_at S s h) n d q →
     Accepts S s p h ↔ ((n * (d + q) ≡ m) × (es : Elements) × (element_count es ≡ n) × (data_width es ≡ d) × (pointer_width es ≡ q) × ElementsStand S s (h + 1) d q (h + 1 + m) es)
 structs_of_tag S s p h a m n d q w place other o start claim tag = (

@@ -30,11 +30,11 @@ kind_of_pointer (Flat size ns) k e = omega arith
 kind_of_pointer (Pointers ts) k e = omega arith
 kind_of_pointer (Structs d q es) k e = omega arith
 
--- So is the word where canonical words stand.
+-- The word where canonical words stand is a pointer to a struct or a list.
 pub kind_where_standing : (S : Segments) (s p h : ℕ) (t : Tree) → Stands S s p h t → kind (word_at S s p) < 2
 kind_where_standing S s p h t a = rw (a.5).1 (kind_of_pointer t (offset_to p h) a.3)
 
--- It is no far pointer.
+-- The word where canonical words stand is no far pointer.
 not_far : (S : Segments) (s p h : ℕ) (t : Tree) → Stands S s p h t → kind (word_at S s p) ≢ 2
 not_far S s p h t a e = let l = kind_where_standing S s p h t a in omega arith
 

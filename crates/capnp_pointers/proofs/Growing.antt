@@ -176,6 +176,6 @@ one_row_of_elements S s p d q h (element ws ts es) (element vs us fs) a b e =
     ∙ ap (element vs us) (one_row_of_elements S s (p + d + q) d q (h + word_count_all ts) es fs a.4
     (subst (λ i. ElementsStand S s (p + d + q) d q i fs) (let e : h + word_count_all us ≡ h + word_count_all ts = ap (λ v. h + word_count_all v) (sym same) in e) b.4) (omega arith))
 
--- So where the next child doesn't stand, no row of more children does.
+-- Where the next child doesn't stand, no row of more children does.
 pub none_stand : (S : Segments) (s p h n : ℕ) (ts : Trees) → AllStand S s p h ts → count ts < n → (Accepts S s (p + count ts) (h + word_count_all ts) → ⊥) → AllAccept S s p h n → ⊥
 none_stand S s p h n ts a less fails all = let r = next_stands S s p h ts all.0 a all.2 (omega (arith, all.1)) in fails (r.next, r.stands)

@@ -91,7 +91,7 @@ pointer_is_null (Flat size ns) k = ne_eqb (list_word k size (length ns)) 0 (omeg
 pointer_is_null (Pointers ts) k = ne_eqb (list_word k 6 (count ts)) 0 (omega arith)
 pointer_is_null (Structs d q es) k = ne_eqb (list_word k 7 _) 0 (omega arith)
 
--- So of pointers as many are used as of the children.
+-- Of the pointers of children as many are used as of the children.
 pub used_words-pointers : (k : ℕ) (ts : Trees) → used_words (pointers k ts) ≡ used_trees ts
 used_words-pointers k no_trees = refl
 used_words-pointers k (tree t ts) = ap₂ used_from (pointer_is_null t (count ts + k)) (used_words-pointers (k + word_count t) ts)

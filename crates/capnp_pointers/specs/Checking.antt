@@ -76,8 +76,10 @@ pub record FindsAll (r : Reading) (from to : Progress) (ts : Trees) : Type 0 whe
   pub paid : Paid r.charging from.meter to.meter (charge_all ts) (pointers_in_all ts)
   pub head_is : to.head ≡ from.head + word_count_all ts
 
--- The canonical words of es stand at the pointers of elements of a size, and at a head: as for one pointer.
-pub record FindsElements (r : Reading) (size : StructSize) (from to : Progress) (es : Elements) : Type 0 where
+-- The canonical words of es stand at the pointers of elements of a size, and at a head: as for one
+-- pointer.
+pub record FindsElements (r : Reading) (size : StructSize) (from to : Progress) (es : Elements)
+    : Type 0 where
   pub stand : ElementsStand r.segments r.segment r.at size.data_words size.pointers from.head es
   pub levels : depth_elements es ≤ r.levels
   pub paid : Paid r.charging from.meter to.meter (charge_elements es) (pointers_in_elements es)
@@ -109,7 +111,8 @@ StartsRight (ObjectFlat start size n) p h = start.at ≡ h
 StartsRight (ObjectPointers start n) p h = start.at ≡ h
 StartsRight (ObjectStructs start size n) p h = start.at ≡ h + 1
 
--- A place that is tested: its word is there and is that of a near pointer, in a segment of words of 64 bits.
+-- A place that is tested: its word is there and is that of a near pointer, in a segment of words of
+-- 64 bits.
 pub record IsTested (r : Reading) : Type 0 where
   pub small : (p : ℕ) → word_at r.segments r.segment p < 2 ^ 64
   pub there : IsPlace r.segments r.segment r.at
@@ -138,7 +141,8 @@ TellsFlat words p size n (Some e) =
     IsPadded (words ∷ []) 0 p (size_number size) n × (e ≡ p + words_for (size_number size) n)
 TellsFlat words p size n None = IsPadded (words ∷ []) 0 p (size_number size) n → ⊥
 
--- Of the two sections of a struct that starts at a place: each is empty or ends in a word that is not zero.
+-- Of the two sections of a struct that starts at a place: each is empty or ends in a word that is
+-- not zero.
 abbrev pub AreUsed : Reading → StructSize → Type 0
 AreUsed r size = EndsUsed r.segments r.segment r.at size.data_words ×
     EndsUsed r.segments r.segment (r.at + size.data_words) size.pointers
@@ -340,14 +344,16 @@ RowsFail f r n m m' =
 -- What the test of a place gives, whose first object is looked for at a head: the head behind the
 -- canonical words; or it has stopped, for its answer: at a fault, there being no canonical words, or
 -- since an object can't be read.
-pub record TestsPlace {E : Type 0} (r : Reading) (from : Progress) (new : Test) (result : Result ℕ E) : Type 0 where
+pub record TestsPlace {E : Type 0} (r : Reading) (from : Progress) (new : Test)
+    (result : Result ℕ E) : Type 0 where
   pub tells : IfOk result (λ end. Tells r from new.lim (Some end))
   pub never : OnErr result (OnOk new.answer (Tells r from new.lim None))
   pub refused : OnErr result (IfErr new.answer (λ k. TestStops k r from new.lim))
   pub failed : OnErr result (IfOk new.answer (λ f. TestEnds (IsFault f) r from new.lim))
 
 -- What the test of pointers gives, one behind the other from a place on.
-pub record TestsPointers {E : Type 0} (r : Reading) (count : ℕ) (from : Progress) (new : Test) (result : Result ℕ E) : Type 0 where
+pub record TestsPointers {E : Type 0} (r : Reading) (count : ℕ) (from : Progress) (new : Test)
+    (result : Result ℕ E) : Type 0 where
   pub tells : IfOk result (λ end. TellsAll r count from new.lim (Some end))
   pub never : OnErr result (OnOk new.answer (TellsAll r count from new.lim None))
   pub refused : OnErr result (IfErr new.answer (λ k. TestsEnd (Unread k) r count from new.lim))

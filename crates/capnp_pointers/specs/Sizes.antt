@@ -21,9 +21,13 @@ pub record AddsPlace {A E : Type 0} (r : Reading) (old new : Walk) (result : Res
   pub sized : OnOk result (WalksPlace r (so_far old.sums.size old.lim) (so_far new.sums.size new.lim))
   pub refused : OnErr result (SizeStops new.sums.refusal r (so_far old.sums.size old.lim) new.lim)
 
--- A walk adds the sizes of what so many pointers mean, one behind the other from a place on; or it stops.
-pub record AddsPointers {A E : Type 0} (r : Reading) (count : ℕ) (old new : Walk) (result : Result A E) : Type 0 where
-  pub sized : OnOk result (WalksPointers r count (so_far old.sums.size old.lim) (so_far new.sums.size new.lim))
+-- A walk adds the sizes of what so many pointers mean, one behind the other from a place on; or it
+-- stops.
+pub record AddsPointers {A E : Type 0} (r : Reading) (count : ℕ) (old new : Walk)
+    (result : Result A E) : Type 0 where
+  pub sized :
+      OnOk result
+      (WalksPointers r count (so_far old.sums.size old.lim) (so_far new.sums.size new.lim))
   pub refused : OnErr result (SizesStop r count (so_far old.sums.size old.lim) new.lim new.sums.refusal)
 
 -- The word of a place, of 64 bits, which isn't null.

@@ -37,9 +37,9 @@ pub struct PointerPlace {
 /// A pointer that is read, with the segment that it is in at hand: a `PointerReader` without the calls
 /// that give what it leads to.
 pub struct Pointer<'a, A: ReaderArena> {
-    /// Where it is read from.
+    /// Where the pointer is read from.
     pub source: Source<'a, A>,
-    /// Where its word is.
+    /// Where the pointer's word is.
     pub place: Place<'a>,
     /// How many levels of structs and lists may be entered from here, none below 1.
     pub nesting_limit: i32,
@@ -61,8 +61,8 @@ impl<'a, A: ReaderArena> Copy for Pointer<'a, A> {}
 impl<'a, A: ReaderArena> Pointer<'a, A> {
     ghost use Rattle.capnp_pointers.specs.Pointers.{reading};
 
-    /// The pointer from nothing, which is null: at word 0 of segment 0, of which there is none. Its nesting
-    /// limit is `i32::MAX`.
+    /// The pointer from nothing, which is null: at word 0 of a segment 0 that isn't there. Its nesting limit
+    /// is `i32::MAX`.
     pub fn new_default() -> Self
         ensures source { result.source ≡ Source.Nothing }
         ensures place { (result.place.segment ≡ 0) × (result.place.at ≡ 0) }

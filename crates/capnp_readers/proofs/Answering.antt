@@ -123,7 +123,7 @@ module _ {A : Type 0} (g : Ghosts A) where
   not_unread (short_default null has less e) h = absurd (cc (e))
   not_unread (of_null_default null has whole none named e) h = absurd (cc (e))
 
-  -- so it is answered exactly where it can be answered there
+  -- a call is answered exactly where it can be answered at the place that it reads
   pub answered : {c : Call g} {p : PointerReader A g} (m : Meter) {B : Type 0} → IsRead g c (Ok p) → (B ↔ CanBeGiven c.expected (read_by g p) m) → B ↔ WhereRead g c (λ q. CanBeGiven c.expected (read_by g q) m)
   answered {c} {p = p} m there same =
       ((λ b. (p, there, same.0 b)), (λ (q, here, can). same.1 (subst (λ r. CanBeGiven c.expected r m) (one_read here there) can)))

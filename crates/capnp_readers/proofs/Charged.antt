@@ -51,7 +51,7 @@ fault_charged f r from m' (wide_elements a e near o start list exact (es, len, a
 pub unfit_charged : (r : Reading) (from : Progress) (m' : Meter) → IsUnfit r from m' → IsCharged r from.meter m'
 unfit_charged r from m' (f, fails) = fault_charged f r from m' fails
 
--- So is an object that can't be read.
+-- An object that can't be read is charged.
 stopped_charged : (r : Reading) (m m' : Meter) (k : ErrorKind) → Stopped Value plain r m m' k → IsCharged r m m'
 stopped_charged r m m' k (no_target (exceeding some over paid named)) = (_, _, paid)
 stopped_charged r m m' k (no_target (leading_nowhere some leads paid)) = (_, _, paid)

@@ -35,11 +35,11 @@ module _ {A : Type 0} (g : Ghosts A) where
   pub data_within : (list : ListReader A g) (i : ℕ) → i < list.count → i * step_bits list.element_size list.struct_size + data_bits list.element_size list.struct_size ≤ 8 * length list.content.now
   data_within list i l = omega (arith, data_among list.element_size list.struct_size list.count i l, list.content_is.1)
 
-  -- so does its lowest bit, found by the step
+  -- the lowest bit of an element, found by the step, lies in the words of its list
   pub bit_within : (list : ListReader A g) {i step : ℕ} → i < list.count → 1 ≤ data_bits list.element_size list.struct_size → step ≡ step_bits list.element_size list.struct_size → i * step / 8 < length list.content.now
   bit_within list {i} l some e = rw e (omega (arith, data_within list i l))
 
-  -- so does a number of n bytes, found by the step in whole bytes
+  -- a number of n bytes, found by the step in whole bytes, lies in the words of its list
   pub number_within : (list : ListReader A g) {i n step : ℕ} → i < list.count → 0 < n → 8 * n ≤ data_bits list.element_size list.struct_size → step ≡ step_bits list.element_size list.struct_size →
       (i * (step / 8) + n ≤ length list.content.now) × (i * step_bits list.element_size list.struct_size / 8 ≡ i * (step / 8))
   number_within list {i} {n} l some wide e =

@@ -66,7 +66,7 @@ stands_by_words {S = S} {s = s} {p = p} {h = h} {t = t} {u = u} left right e =
     let rest : body t ≡ body u = same_rest (pointer t (offset_to p h)) (pointer u (offset_to p h)) (body t) (body u) e in
     record { stands = (a.0, b.1, b.2, b.3, b.4, (b.5.0, a.5.1 ∙ first, subst (λ ws. HasWords S s h ws) rest (a.5.2))) }
 
--- So both are the same value.
+-- Two values that stand with the same canonical words are the same value.
 same_by_words : {S R : Segments} {s i p h : ℕ} {t u : Tree} → Standing S s p h t → Standing R i p h u → standing_words p h t ≡ standing_words p h u → t ≡ u
 same_by_words {S = S} {s = s} {p = p} {h = h} {t = t} {u = u} left right e =
     let other = stands_by_words left right e in

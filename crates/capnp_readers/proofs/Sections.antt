@@ -69,7 +69,7 @@ flat_words TwoBytes n width h = refl
 flat_words FourBytes n width h = refl
 flat_words EightBytes n width h = refl
 
--- so does a number
+-- a number lies among the words of its list
 pub number_within : (size : ElementSize) (n i : ℕ) → size_number size ≤ 5 → i < n → i * (element_bits (size_number size) / 8) + element_bits (size_number size) / 8 ≤ 8 * words_for (size_number size) n
 number_within Pointer n i h l = absurd (omega arith)
 number_within InlineComposite n i h l = absurd (omega arith)

@@ -14,7 +14,8 @@ module _ {A : Type 0} (g : Ghosts A) where
 
   -- The data section is empty or ends in a word that is not zero; so does the pointer section.
   abbrev pub IsDataUsed : StructReader A g → Type 0
-  IsDataUsed r = EndsUsed (source_start g r.source).segments r.pointers.segment (r.byte / 8) (r.bits / 64)
+  IsDataUsed r =
+      EndsUsed (source_start g r.source).segments r.pointers.segment (r.byte / 8) (r.bits / 64)
 
   abbrev pub ArePointersUsed : StructReader A g → Type 0
   ArePointersUsed r =

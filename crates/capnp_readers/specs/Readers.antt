@@ -44,7 +44,8 @@ IsListPlace S place =
 
 module _ {A : Type 0} (g : Ghosts A) where
   -- A reader shows the struct of these sections that starts at position p of segment s.
-  pub record ShowsStruct (S : Segments) (r : StructReader A g) (s p : ℕ) (size : StructSize) : Type 0 where
+  pub record ShowsStruct (S : Segments) (r : StructReader A g) (s p : ℕ) (size : StructSize)
+      : Type 0 where
     pub words_are : words_of r.content.now ≡ words_at S s p size.data_words
     pub byte_is : r.byte ≡ 8 * p
     pub bits_are : r.bits ≡ 64 * size.data_words
@@ -69,9 +70,11 @@ module _ {A : Type 0} (g : Ghosts A) where
   ShowsElement InlineComposite list i r =
       let d = list.struct_size.data_words in
       let q = list.struct_size.pointers in
-      ShowsStruct (source_start g list.source).segments r list.start.segment (list.start.at + i * (d + q)) (sized d q)
+      ShowsStruct (source_start g list.source).segments r list.start.segment
+      (list.start.at + i * (d + q)) (sized d q)
   ShowsElement Pointer list i r =
-      ShowsStruct (source_start g list.source).segments r list.start.segment (list.start.at + i) (sized 0 1)
+      ShowsStruct (source_start g list.source).segments r list.start.segment (list.start.at + i)
+      (sized 0 1)
   ShowsElement size list i r =
       (r.bits ≡ element_bits (size_number size)) × (r.byte ≡ 8 * list.start.at + i * (r.bits / 8))
       × (r.content.now ≡ slice_range list.content.now (i * (r.bits / 8))
@@ -98,10 +101,12 @@ module _ {A : Type 0} (g : Ghosts A) where
   abbrev pub IsStructThere : PointerReader A g → Meter → Meter → StructReader A g → Type 0
   IsStructThere from m m' r =
       (a : Target) × Entered Value (read_by from) m m' a × (kind a.word ≡ 0)
-      × ShowsStruct (read_by from).segments r a.segment a.start (sized (data_words a.word) (pointer_count a.word))
+      × ShowsStruct (read_by from).segments r a.segment a.start
+      (sized (data_words a.word) (pointer_count a.word))
       × (r.source ≡ from.source) × (r.nesting_limit ≡ from.nesting_limit -ℤ pos 1)
 
-  -- So it leads to a list.
+  -- The pointer of a reader leads to the list that another shows, whose words are checked and
+  -- charged, from m to m'. That one reads the same source, with one level less.
   abbrev pub IsListThere : PointerReader A g → Meter → Meter → ListReader A g → Type 0
   IsListThere from m m' r =
       (a : Target) × Entered Value (read_by from) m m' a × (kind a.word ≡ 1) ×

@@ -13,7 +13,7 @@ use Rattle.capnp_objects.specs.declared.object.Place.{Place}
 abbrev pub bytes_for : ℕ → ℕ
 bytes_for bits = (bits + 7) / 8
 
--- These bytes stand in the segment of a place, from a byte position on, and hold so many bits.
+-- Bytes stand in the segment of a place, from a byte position on, and hold so many bits.
 abbrev pub IsPart : Place → ℕ → ℕ → List ℕ → Type 0
 IsPart here byte bits bytes =
     (bytes ≡ take (bytes_for bits) (drop byte here.bytes.now)) × (length bytes ≡ bytes_for bits)
@@ -26,7 +26,7 @@ IsInside bits width offset = (offset + 1) * width ≤ bits
 abbrev pub bit_at : List ℕ → ℕ → ℕ
 bit_at bytes i = slice_index bytes (i / 8) / 2 ^ (i % 8) % 2
 
--- So many words from a place on lie in its segment.
+-- The n words from a place on lie in its segment.
 abbrev pub HasWordsFrom : Segments → Place → ℕ → Type 0
 HasWordsFrom S here n = here.at + n ≤ length (segment S here.segment)
 

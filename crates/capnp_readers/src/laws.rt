@@ -32,7 +32,7 @@ pub fn copy_is_answered()
         → CanBeFound q (progress h m) }
 {}
 
-/// What the test finds is what the place means within its levels, at just the cost that was charged.
+/// What the test finds is what the place means within its levels, at exactly the cost that was charged.
 pub fn found_is_meant()
     ensures { (r : Reading) (from to : Progress) (t : Tree)
         → Finds r from to t → MeansThere r t (charge t) }

@@ -50,9 +50,9 @@ const NO_SECTIONS: StructSize = StructSize {
 
 /// A pointer that is read, with the segment that it is in at hand.
 pub struct PointerReader<'a, A: ReaderArena> {
-    /// Where it is read from.
+    /// Where the pointer is read from.
     pub source: Source<'a, A>,
-    /// Where its word is.
+    /// Where the pointer's word is.
     pub place: Place<'a>,
     /// How many levels of structs and lists may be entered from here, none below 1.
     pub nesting_limit: i32,
@@ -75,8 +75,8 @@ impl<'a, A: ReaderArena> PointerReader<'a, A> {
     ghost use Rattle.capnp_readers.specs.Readers.{IsTarget, read_by};
     ghost use Rattle.capnp_readers.specs.Calls.{IsRead, IsRefused, WhereRead, IsListRead, IsStructRead, AreBytesRead};
 
-    /// The pointer from nothing, which is null: at word 0 of segment 0, of which there is none. Its nesting
-    /// limit is `i32::MAX`.
+    /// The pointer from nothing, which is null: at word 0 of a segment 0 that isn't there. Its nesting limit
+    /// is `i32::MAX`.
     pub fn new_default() -> Self
         ensures source { result.source ≡ Source.Nothing }
         ensures place { (result.place.segment ≡ 0) × (result.place.at ≡ 0) }
@@ -118,7 +118,7 @@ impl<'a, A: ReaderArena> PointerReader<'a, A> {
     }
 
     /// The pointer in word 0 of a default, whose bytes are one segment that no far pointer leads to.
-    /// It is free of charge, and its nesting limit is `i32::MAX`. The default has fewer than 2^32
+    /// Reading it is free of charge, and its nesting limit is `i32::MAX`. The default has fewer than 2^32
     /// words; up to 7 bytes behind the last are not looked at.
     ///
     /// A default without a whole word is `MessageContainsOutOfBoundsPointer`.
@@ -145,7 +145,7 @@ impl<'a, A: ReaderArena> PointerReader<'a, A> {
         })
     }
 
-    /// The same pointer.
+    /// Another reader of this pointer.
     pub fn reborrow(&self) -> Self
         ensures source { result.source ≡ self.now.source }
         ensures place { result.place ≡ self.now.place }
@@ -379,7 +379,7 @@ impl<'a, A: ReaderArena> PointerReader<'a, A> {
     /// The bytes of data that the pointer leads to, in place ("Lists"). A null pointer gives the data of
     /// the default, or where there is none no bytes.
     ///
-    /// It is as `get_text`, but the last byte isn't looked at and is one of the bytes. What is no list is
+    /// As `get_text`, but the last byte isn't looked at and is one of the bytes. What is no list is
     /// `MessageContainsNonListPointerWhereDataWasExpected`, a list of other elements
     /// `MessageContainsListPointerOfNonBytesWhereDataWasExpected`.
     pub fn get_data(
@@ -513,7 +513,7 @@ impl<'a, A: ReaderArena> PointerReader<'a, A> {
     }
 }
 
-// So many bytes from a place on.
+// The `count` bytes from a place on.
 fn bytes_at<'a>(start: Place<'a>, count: u32) -> &'a [u8]
     requires { 8 * start.at + count ≤ length start.bytes.now }
     ensures { result.now ≡ take count (drop (8 * start.entry.at) start.entry.bytes.now) }

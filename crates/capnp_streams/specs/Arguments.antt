@@ -1,5 +1,5 @@
--- The words behind the program's name: one names a command, options stand before or behind it, in any order, and
--- files behind all of these.
+-- The words behind the program's name: one names a command, options stand before or behind it, in
+-- any order, and files behind all of these.
 use Rattle.std.specs.Prelude.{◌≡◌, ◌⊎◌, ℕ, ℤ, ◌<◌, ◌==◌, nat_lt, pos, List, [], ◌∷◌, length, codes, Option, Some, None}
 use Rattle.std.specs.Prelude.{Bool, true, false, not, ◌&&◌, ◌||◌, is_some, MatchOption, if◌then◌else◌}
 use Rattle.std.specs.Option.{option_map}
@@ -60,14 +60,16 @@ plain_line = record {
   expects = None;
 }
 
--- `canon` alone has options for what it writes, and `check` alone that it writes nothing; `--flat` is of all three
+-- `canon` alone has options for what it writes, and `check` alone that it writes nothing; `--flat`
+-- is of all three
 abbrev pub verb_allows : Option Verb → Bool → Bool → Bool → Bool
 verb_allows None pack hex quiet = true
 verb_allows (Some ToCanon) pack hex quiet = not quiet
 verb_allows (Some ToCheck) pack hex quiet = not pack && not hex
 verb_allows (Some ToSize) pack hex quiet = not pack && not hex && not quiet
 
--- whether the input is one message's bare words: `--from-flat` says so, and of `check` and `size` `--flat` too
+-- whether the input is one message's bare words: `--from-flat` says so, and of `check` and `size`
+-- `--flat` too
 abbrev pub verb_reads_flat : Option Verb → Bool → Bool → Bool
 verb_reads_flat None flat from_flat = from_flat
 verb_reads_flat (Some ToCanon) flat from_flat = from_flat
@@ -88,9 +90,10 @@ line_is_allowed line = verb_allows line.verb line.pack line.hex line.quiet && op
 abbrev pub line_if_allowed : Line → Option Line
 line_if_allowed line = if line_is_allowed line then Some line else None
 
--- there is one command
+-- a line with a command behind it, where it has none yet
 abbrev pub line_with_verb : Verb → Line → Option Line
-line_with_verb verb line = if is_some line.verb then None else line_if_allowed (record line { verb = Some verb })
+line_with_verb verb line =
+    if is_some line.verb then None else line_if_allowed (record line { verb = Some verb })
 
 -- a line with a word behind it that isn't the value of an option
 abbrev pub line_after : Word → Line → Option Line
@@ -114,22 +117,27 @@ Sets SetNesting value from to =
     × (to ≡ record from { limits = record from.limits { nesting_limit = n }; expects = None })
 Sets SetWords value from to =
     (limit : Option ℕ) × IsBudget value limit
-    × (to ≡ record from { limits = record from.limits { traversal_limit_in_words = limit }; expects = None })
+    × (to
+    ≡ record from { limits = record from.limits { traversal_limit_in_words = limit }; expects = None })
 
 -- whether a byte parts an option from its value
 abbrev pub is_equals : ℕ → Bool
 is_equals b = b == 61
 
--- A word makes one line of another: it has a meaning by itself, or is an option and its value, parted by a `=`.
+-- A word makes one line of another: it has a meaning by itself, or is an option and its value,
+-- parted by a `=`.
 abbrev pub MakesLineAlone : List ℕ → Line → Line → Type 0
 MakesLineAlone text from to =
     ((word : Word) × (text_of_word word ≡ text) × (line_after word from ≡ Some to))
     ⊎ ((setting : Setting) × (position_or_len is_equals text < length text)
-    × (setting_text setting ≡ before_first is_equals text) × Sets setting (after_first is_equals text) from to)
+    × (setting_text setting ≡ before_first is_equals text)
+    × Sets setting (after_first is_equals text) from to)
 
--- It is the value of the option before it, where that has one.
+-- A word makes one line of another: as the value of the option before it, where that takes one;
+-- else alone.
 abbrev pub MakesLine : List ℕ → Line → Line → Type 0
-MakesLine text from to = MatchOption from.expects (MakesLineAlone text from to) (λ option. Sets option text from to)
+MakesLine text from to =
+    MatchOption from.expects (MakesLineAlone text from to) (λ option. Sets option text from to)
 
 -- the command, whose canonical words are bare where that is so
 abbrev pub command_of : Verb → Bool → Command
@@ -150,7 +158,8 @@ task_of_line line =
       quiet = line.quiet;
     }) line.verb
 
--- what a word asks for behind which no option is read, and so many words stand; behind `--` they are files
+-- what a word asks for behind which no option is read, and so many words stand; behind `--` they
+-- are files
 abbrev pub request_of_word : Word → ℕ → Line → Option Request
 request_of_word Help behind line = Some AskHelp
 request_of_word HelpLetter behind line = Some AskHelp
@@ -159,13 +168,15 @@ request_of_word VersionLetter behind line = Some AskVersion
 request_of_word End behind line = option_map (λ task. Run task behind) (task_of_line line)
 request_of_word _ behind line = None
 
--- A word that isn't the value of an option ends the line, with so many words behind it, and it asks for this.
+-- A word that isn't the value of an option ends the line, with so many words behind it, and it asks
+-- for this.
 abbrev pub Stops : Line → ℕ → List ℕ → Request → Type 0
 Stops from behind text r =
     (from.expects ≡ None)
     × ((word : Word) × (text_of_word word ≡ text) × (request_of_word word behind from ≡ Some r))
 
--- whether a text has the form of an option: a `-` with more behind it. All others can be files; `-` is standard input
+-- whether a text has the form of an option: a `-` with more behind it. All others can be files; `-`
+-- is standard input
 abbrev pub is_option : List ℕ → Bool
 is_option text = starts_with_minus text && nat_lt 1 (length text)
 
@@ -180,7 +191,8 @@ is_first_file from text = is_some from.verb && not (is_some from.expects) && not
 -- Words behind others, which make this line, are files, and all of them ask for this.
 abbrev pub AsksForFiles : Line → List (List ℕ) → Request → Type 0
 AsksForFiles from files r =
-    (are_files files ≡ true) × (option_map (λ task. Run task (length files)) (task_of_line from) ≡ Some r)
+    (are_files files ≡ true)
+    × (option_map (λ task. Run task (length files)) (task_of_line from) ≡ Some r)
 
 -- Words behind others, which make this line, ask for something. From the first file on all are files.
 abbrev pub AsksForBehind : Line → List (List ℕ) → Request → Type 0
@@ -188,7 +200,8 @@ AsksForBehind from [] r = AsksForFiles from [] r
 AsksForBehind from (text ∷ more) r =
     ((is_first_file from text ≡ true) × AsksForFiles from (text ∷ more) r)
     ⊎ ((is_first_file from text ≡ false)
-    × (Stops from (length more) text r ⊎ ((next : Line) × MakesLine text from next × AsksForBehind next more r)))
+    × (Stops from (length more) text r
+    ⊎ ((next : Line) × MakesLine text from next × AsksForBehind next more r)))
 
 abbrev pub AsksFor : List (List ℕ) → Request → Type 0
 AsksFor words r = AsksForBehind plain_line words r

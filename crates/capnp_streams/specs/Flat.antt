@@ -12,8 +12,9 @@ use Rattle.capnp_streams.specs.declared.streams.fault.Fault.{Fault}
 use Rattle.capnp_streams.specs.declared.streams.fault.Fault.TheVariants.{Frame, Layout, TooManyMessages}
 use Rattle.capnp_streams.specs.declared.streams.task.Task.{Task}
 
--- From one stage to another all that the input had was taken, bare words of at most as many as the traversal limit;
--- and what a task answers to the message that they mean was written behind what the output had.
+-- From one stage to another all that the input had was taken, bare words of at most as many as the
+-- traversal limit; and what a task answers to the message that they mean was written behind what
+-- the output had.
 pub record IsFlatDone (task : Task) (old new : Stage) (holds : Bool) : Type 0 where
   pub bytes : List ℕ
   pub answer : List ℕ
@@ -22,8 +23,8 @@ pub record IsFlatDone (task : Task) (old new : Stage) (holds : Bool) : Type 0 wh
   pub answered : AnswerIs task.command task (message (bytes ∷ [])) holds answer
   pub written : Appends old.output new.output answer
 
--- Why the message whose bare words an input has isn't answered: they are cut or too many, a task refuses the message,
--- or memory or the input fails.
+-- Why the message whose bare words an input has isn't answered: they are cut or too many, a task
+-- refuses the message, or memory or the input fails.
 abbrev pub StopsFlat : Task → Option (List ℕ) → Bool → Fault → Type 0
 StopsFlat task input failed (Frame e) =
     (e ≡ NoMemory) ⊎ ((e ≡ ReadFailed) × (failed ≡ true))
@@ -43,4 +44,5 @@ module _ {R : Type 0} (g : Ghosts R) where
 -- Bytes are bare words of a message that a task has an answer to.
 abbrev pub CanFlatBeAnswered : Task → List ℕ → Type 0
 CanFlatBeAnswered task bytes =
-    AreBareWords bytes (most_words task.limits) × HasAnswerWithin task.command task.limits (message (bytes ∷ []))
+    AreBareWords bytes (most_words task.limits)
+    × HasAnswerWithin task.command task.limits (message (bytes ∷ []))

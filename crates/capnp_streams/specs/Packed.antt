@@ -13,8 +13,8 @@ use Rattle.capnp_streams.specs.declared.streams.fault.Fault.TheVariants.{Frame}
 abbrev pub unpacked_stage : Stage → Stage
 unpacked_stage stage = record stage { input = option_map (unpacked_bytes Tag) stage.input }
 
--- Behind all messages that a packed input gives it is cut short, within a word or before a number, where no frame
--- has begun, and nothing more is written.
+-- Behind all messages that a packed input gives it is cut short, within a word or before a number,
+-- where no frame has begun, and nothing more is written.
 abbrev pub IsCutBehind : Option (List ℕ) → Stage → Option (List ℕ) → Fault → Type 0
 IsCutBehind packed old output fault =
     (fault ≡ Frame Truncated) × IfSome packed (λ bytes. IsWhole Tag bytes → ⊥)

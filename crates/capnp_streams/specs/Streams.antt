@@ -44,7 +44,7 @@ fault_name (Frame e) = frame_error_name e
 fault_name (Layout k) = name_of k
 fault_name TooManyMessages = codes "TooManyMessages"
 
--- How many words a message may have of which the frame is read: those of the traversal limit.
+-- How many words a message may have whose frame is read: those of the traversal limit.
 abbrev pub most_words : ReaderOptions → ℕ
 most_words limits = unwrap_or limits.traversal_limit_in_words (2 ^ 64 - 1)
 
@@ -61,21 +61,24 @@ word_text word = codes ", word " ++ decimal word ++ 10 ∷ []
 abbrev pub fault_line : CanonicalFault → List ℕ
 fault_line f = no_text ++ fault_reason_text f.reason ++ segment_text f.segment ++ word_text f.word
 
--- The bytes that are written of canonical words: a line of lower case hex digits, two for each byte in order, or
--- the bytes in a form.
+-- The bytes that are written of canonical words: a line of lower case hex digits, two for each byte
+-- in order, or the bytes in a form.
 abbrev pub written_words : Bool → Form → List ℕ → List ℕ
 written_words true form words = encode_lower (bytes_of_words words) ++ 10 ∷ []
 written_words false form words = form_bytes form words
 
--- What a command answers to a message, with what else a task asks for: yes or no, and these bytes. The line
--- that says that a message isn't canonical says why: the reason is true of the word that it names.
+-- What a command answers to a message, with what else a task asks for: yes or no, and these bytes.
+-- The line that says that a message isn't canonical says why: the reason is true of the word that
+-- it names.
 abbrev pub AnswerIs : Command → Task → Segments → Bool → List ℕ → Type 0
 AnswerIs (Canon form) task S holds bytes =
     (holds ≡ true)
-    × ((t : Tree) × IsValueOf S task.limits t × (bytes ≡ written_words task.hex form (encoding (trim t))))
+    × ((t : Tree) × IsValueOf S task.limits t
+    × (bytes ≡ written_words task.hex form (encoding (trim t))))
 AnswerIs Check task S true bytes = IsCanonicalMessage S × (bytes ≡ check_line true)
 AnswerIs Check task S false bytes =
-    (IsCanonicalMessage S → ⊥) × ((f : CanonicalFault) × IsFaultOf S task.limits f × (bytes ≡ fault_line f))
+    (IsCanonicalMessage S → ⊥)
+    × ((f : CanonicalFault) × IsFaultOf S task.limits f × (bytes ≡ fault_line f))
 AnswerIs Size task S holds bytes =
     (holds ≡ true) × ((words : ℕ) × (caps : ℕ) × HasSizeOf S task.limits words caps ×
     (bytes ≡ size_line words caps))
@@ -85,8 +88,8 @@ abbrev pub RefusesBy : Command → ReaderOptions → Segments → Fault → Type
 RefusesBy command limits S (Layout k) = RefusesAnswer command limits S k
 RefusesBy command limits S _ = ⊥
 
--- How often memory was refused, behind a fault and n times before: once more where there was none for the frame that
--- is read, or for a canonical copy; and else as before.
+-- How often memory was refused, behind a fault and n times before: once more where there was none
+-- for the frame that is read, or for a canonical copy; and else as before.
 abbrev pub refusals_behind : Command → Fault → ℕ → ℕ
 refusals_behind command (Frame e) n = frame_refusals e n
 refusals_behind command TooManyMessages n = n
@@ -94,11 +97,16 @@ refusals_behind (Canon form) (Layout k) n = refusals_for k n
 refusals_behind Check (Layout k) n = n
 refusals_behind Size (Layout k) n = n
 
--- An allocator is there behind a command, and has counted a refusal more where memory was wanting, and else none.
-pub record CountsRefusals {A B : Type 0} (refusals : A → ℕ) (old new : Option A) (command : Command) (result : Result B Fault) : Type 0 where
+-- An allocator is there behind a command, and has counted a refusal more where memory was wanting,
+-- and else none.
+pub record CountsRefusals {A B : Type 0} (refusals : A → ℕ) (old new : Option A)
+    (command : Command) (result : Result B Fault) : Type 0 where
   pub there : IsSome new
   pub kept : OnOk result (option_map_or refusals new 0 ≡ option_map_or refusals old 0)
-  pub counted : IfErr result (λ fault. option_map_or refusals new 0 ≡ refusals_behind command fault (option_map_or refusals old 0))
+  pub counted :
+      IfErr result
+      (λ fault. option_map_or refusals new 0
+      ≡ refusals_behind command fault (option_map_or refusals old 0))
 
 -- What is asked of a message: a command, with what else a task says.
 pub record Question : Type 0 where
@@ -108,17 +116,22 @@ pub record Question : Type 0 where
 
 -- what is asked of the message in segments
 abbrev pub question_on : Command → Task → List (List ℕ) → Question
-question_on command task segments = record { command = command; task = task; asked_of = message segments }
+question_on command task segments =
+    record { command = command; task = task; asked_of = message segments }
 
 module _ {W : Type 0} (g : OutputGhosts W) where
   -- A fault is that of an output, which has failed.
   abbrev pub IsWriteFault : W → Fault → Type 0
   IsWriteFault output fault = (fault ≡ Frame WriteFailed) × (g.has_failed output ≡ true)
 
-  -- A question is answered: from one state of an output to another, which works, the answer was written, with yes or
-  -- no as the result. Or it isn't: the output has failed; or the command refuses the message, and nothing was written.
+  -- A question is answered: from one state of an output to another, which works, the answer was
+  -- written, with yes or no as the result. Or it isn't: the output has failed; or the command
+  -- refuses the message, and nothing was written.
   pub record Answers (from to : W) (q : Question) (result : Result Bool Fault) : Type 0 where
-    pub answered : IfOk result (λ holds. (answer : List ℕ) × AnswerIs q.command q.task q.asked_of holds answer × Prints g from to answer)
+    pub answered :
+        IfOk result
+        (λ holds. (answer : List ℕ) × AnswerIs q.command q.task q.asked_of holds answer
+        × Prints g from to answer)
     pub works : OnOk result (g.has_failed to ≡ false)
     pub refused : IfErr result (λ fault. IsWriteFault to fault
         ⊎ (RefusesBy q.command q.task.limits q.asked_of fault × IsUnwritten g from to))
@@ -151,15 +164,16 @@ module _ {R W : Type 0} (g : InputGhosts R) (h : OutputGhosts W) where
   abbrev pub AreWorking : R → W → Type 0
   AreWorking input output = (g.has_failed input ≡ false) × (h.has_failed output ≡ false)
 
-  -- A run came to the end of its input, from one state to another: nothing is left of that, its bytes ended as was
-  -- known, and neither device has failed.
+  -- A run came to the end of its input, from one state to another: nothing is left of that, its
+  -- bytes ended as was known, and neither device has failed.
   pub record RunsToEnd (from to : R) (output : W) : Type 0 where
     pub end : IsAtEnd (g.remaining to)
     pub whole : KeepsWhole (g.ends_whole from) (g.ends_whole to)
     pub work : AreWorking to output
 
--- From one stage to another the frames of so many messages were taken from the front of the input, of so many
--- bytes, up to those that 64 bits count, and what a task answers to these was written behind what the output had.
+-- From one stage to another the frames of so many messages were taken from the front of the input,
+-- of so many bytes, up to those that 64 bits count, and what a task answers to these was written
+-- behind what the output had.
 pub record AreDone (task : Task) (old new : Stage) (summary : Summary) : Type 0 where
   pub messages : List Segments
   pub bytes : List ℕ
@@ -171,14 +185,16 @@ pub record AreDone (task : Task) (old new : Stage) (summary : Summary) : Type 0 
   pub answered : AreAnswered task messages summary.holds answers
   pub written : Appends old.output new.output answers
 
--- So many messages are done from one stage to another, whose frames have so many bytes, before a run stops.
+-- From one stage to another the messages are done that a run has answered before it stops, whose frames
+-- have as many bytes as it says.
 abbrev pub WereAnswered : Task → Stage → Stage → Stop → Type 0
 WereAnswered task old new stop =
     (holds : Bool)
     × AreDone task old new (record { messages = stop.answered; bytes = stop.byte; holds = holds })
 
--- Why the message at the front of what an input has left isn't answered: there is no frame of one, memory or the
--- input fails; or its frame is taken, and nothing behind it, and a task refuses the message.
+-- Why the message at the front of what an input has left isn't answered: there is no frame of one,
+-- memory or the input fails; or its frame is taken, and nothing behind it, and a task refuses the
+-- message.
 abbrev pub StopsAt : Task → Option (List ℕ) → Option (List ℕ) → Bool → Fault → Type 0
 StopsAt task old new failed (Frame e) =
     (e ≡ NoMemory) ⊎ ((e ≡ ReadFailed) × (failed ≡ true))
@@ -188,8 +204,8 @@ StopsAt task old new failed (Layout k) =
     × Consumes old new bytes × RefusesAnswer task.command task.limits S k
 StopsAt task old new failed TooManyMessages = ⊥
 
--- Why no message is answered behind a stage, where nothing more is written: that at the front isn't, or as many
--- were as 64 bits count.
+-- Why no message is answered behind a stage, where nothing more is written: that at the front
+-- isn't, or as many were as 64 bits count.
 abbrev pub EndsBehind : Task → Stage → Stage → Bool → Stop → Type 0
 EndsBehind task old new failed stop =
     Keeps old.output new.output

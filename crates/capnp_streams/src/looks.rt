@@ -44,8 +44,8 @@ impl Looks {
     }
 }
 
-/// What an input looks like of which a task doesn't answer the first message, where it looks like something else than it
-/// was said to be. `given` is how many of its bytes are known to be there, from the first ones on.
+/// What an input looks like whose first message a task doesn't answer, where it looks like something else than it was
+/// said to be. `given` is how many of its bytes are known to be there, from the first ones on.
 pub fn looks_like(task: Task, fault: Fault, first: &[u8], given: u64) -> Option<Looks> {
     if is_of_devices(fault) {
         return None;
@@ -133,7 +133,7 @@ fn unlike_words(first: &[u8]) -> Option<Looks> {
     None
 }
 
-/// Whether bytes begin with a struct of pointers alone, of which the first leads to right behind it, among so many words.
+/// Whether bytes begin with a struct of pointers alone whose first one leads to right behind it, among so many words.
 /// The table of a frame is such a struct only where the frame has 65,536 words or more.
 fn begins_in_order(first: &[u8], words: u64) -> bool {
     let (Some(root), Some(pointer)) = (word(first, 0), word(first, 1)) else {
@@ -186,7 +186,7 @@ fn word(bytes: &[u8], at: u64) -> Option<u64> {
     }
 }
 
-/// Whether a word is a pointer to a struct or a list that ends within so many words, of which it is the first.
+/// Whether a word is a pointer to a struct or a list that ends within so many words, the first of which is that word.
 fn leads_within(word: u64, words: u64) -> bool {
     let pointer = WirePointer(word);
     match (object_words(pointer), pointer.target(0, short(words))) {
@@ -195,7 +195,7 @@ fn leads_within(word: u64, words: u64) -> bool {
     }
 }
 
-/// So many words, or as many as a segment may have.
+/// This number of words, or as many as a segment may have if that is less.
 fn short(words: u64) -> u32 {
     words.min(u64::from(u32::MAX)) as u32
 }

@@ -99,7 +99,7 @@ pub struct Watched<'a, D> {
 }
 
 impl<'a, D> Watched<'a, D> {
-    /// The device, of which this has what is seen.
+    /// Watches a device: what is seen of it goes to `seen`.
     pub fn new(device: D, seen: &'a Seen) -> Self
         ensures { result.device ≡ device }
     {

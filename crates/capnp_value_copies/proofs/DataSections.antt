@@ -37,7 +37,7 @@ whole_section d bytes long =
     let all : 64 * d / 64 ≡ d = omega arith in
     ap (λ n. take (64 * d / 64) (words_of bytes) ++ bits_left n (drop (8 * (64 * d / 64)) bytes)) none ∙ append-nil (take (64 * d / 64) (words_of bytes)) ∙ take_all (64 * d / 64) (words_of bytes) (omega (arith, words bytes, long, all))
 
--- what is kept of it
+-- what is kept of a data section
 
 unused_left : (ws : List ℕ) (n : ℕ) (bs : List ℕ) → from_digits 256 bs % 2 ^ n ≡ 0 → used_words (ws ++ bits_left n bs) ≡ used_words ws
 unused_left ws zero bs h = ap used_words (append-nil ws)
@@ -53,7 +53,7 @@ last_unused bits bytes h = unused_left (take (bits / 64) (words_of bytes)) (bits
 pub last_used : (bits : ℕ) (bytes : List ℕ) → length bytes ≡ bytes_for bits → from_digits 256 (drop (8 * (bits / 64)) bytes) % 2 ^ (bits % 64) ≢ 0 → used_words (section_words bits bytes) ≡ bits / 64 + 1
 last_used bits bytes long h = omega (arith, used_left (take (bits / 64) (words_of bytes)) (bits % 64) (drop (8 * (bits / 64)) bytes) h, whole_long bits bytes long)
 
--- its first words
+-- the first words of a data section
 
 some_left : (n : ℕ) (bs : List ℕ) → 0 < n → bits_left n bs ≡ from_digits 256 bs % 2 ^ n ∷ []
 some_left zero bs l = absurd (omega arith)

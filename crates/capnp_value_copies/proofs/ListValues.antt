@@ -69,7 +69,7 @@ few_numbers TwoBytes n width flat fits = fits
 few_numbers FourBytes n width flat fits = fits
 few_numbers EightBytes n width flat fits = fits
 
--- So many words from a place on are held as bytes.
+-- The n words from a place on are held as bytes.
 pub record AreHeld (S : Segments) (start : Place) (n : ℕ) (bytes : List ℕ) : Type 0 where
   pub whole : length bytes ≡ 8 * length (words_of bytes)
   pub counts : length (words_of bytes) ≡ n

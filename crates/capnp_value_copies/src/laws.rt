@@ -18,7 +18,7 @@ pub fn whole_sections()
         → section_words (64 * d) bytes ≡ words_of bytes }
 {}
 
-/// The objects that a copy makes take just their words and their landing pads. There is no pad where
+/// The objects that a copy makes take exactly their words and their landing pads. There is no pad where
 /// their words fit the segment of their pointer, and none where the message has but one segment
 /// afterwards ("Inter-Segment Pointers").
 pub fn pads_apart()

@@ -106,7 +106,7 @@ structs_are S s p t u l size wide is narrow wd wp i e =
           ∙ near_of_rows S a to (a.at + 1 + f) (f + g) g (element_count k.elements) (a.at + 1 + max f d) (max f d + max g q) (rows_of l) wide (ap (λ (o : ExistingList). o.segment) k.list) (omega (arith, ap (λ (o : ExistingList). o.start) k.list)) refl refl n);
     }
 
--- so the room for it is the room for the rows
+-- the room for what a list becomes is the room for its rows
 pub rows_fit : (v : View) (s p : ℕ) (t u : Tree) (rows : ElementRows) (size : StructSize) (to : Start) → AreRows v.words s p t u rows size → HasRoomFor v s p t u → HasRoomAndPads v s (structs_words rows.count size) rows.segment (near_pointers v.words (element_moves rows to size))
 rows_fit v s p t u rows size to r fits =
     let n : ℕ = near_pointers v.words (element_moves rows to size) in

@@ -160,7 +160,7 @@ same_size d k size l m =
     let one : ℕ → ℕ → StructSize = λ x y. record { data_words = x; pointers = y } in
     ap₂ one (let e : max d size.data_words ≡ size.data_words = omega arith in e) (let e : max k size.pointers ≡ size.pointers = omega arith in e)
 
--- the same where the size is known to be as large
+-- what structs become where the size is known to be as large
 pub structs_become : (S T B D P R Z Q : Segments) (id at d k : ℕ) (es : Elements) (size : StructSize) (h : Room) → IsStored S id at (Structs d k es) →
     ListSteps S T B D P R Z Q id at (struct_rows S id at d k es) size h → BecomesList (rewriting id at S Q) (list_at h size (element_count es)) (Structs d k es) (as_structs size (Structs d k es))
 structs_become S T B D P R Z Q id at d k es size h x s =

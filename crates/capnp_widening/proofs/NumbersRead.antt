@@ -39,7 +39,7 @@ in_one_word (suc (suc (suc (suc (suc (suc size)))))) i l m = absurd (omega arith
 in_one_word zero i l m = absurd (omega arith)
 in_one_word (suc zero) i l m = absurd (omega arith)
 
--- it lies in the words of the list
+-- a number lies in the words of its list
 pub in_words : (size i n : ℕ) → 2 ≤ size → size ≤ 5 → i < n → element_bits size * i / 64 < words_for size n
 in_words (suc (suc zero)) i n l m h = omega arith
 in_words (suc (suc (suc zero))) i n l m h = omega arith

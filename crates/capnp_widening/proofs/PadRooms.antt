@@ -49,7 +49,7 @@ near_copied S s p v r l = near_one S s p v r 0 (copied_word (word_at S s p) l)
 pub near_far : (S : Segments) (s p v r : ℕ) → word_at S s p ≢ 0 → kind (word_at S s p) < 2 → near_pointers S (a_move s p v r ∷ []) ≡ 1
 near_far S s p v r some l = near_one S s p v r 1 (far_word (word_at S s p) some l)
 
--- those of pointers one after the other
+-- the landing pads that pointers need one after the other
 
 near-append : (S : Segments) (ms ns : List Move) → near_pointers S (ms ++ ns) ≡ near_pointers S ms + near_pointers S ns
 near-append S [] ns = omega arith
@@ -67,7 +67,7 @@ near_rows_more S s p w v r z k (suc i) (suc n) l =
     let first = row_moves s p v r k in
     omega (arith, near-append S first (rows_moves s (p + w) w v (r + z) z k i), near-append S first (rows_moves s (p + w) w v (r + z) z k n), near_rows_more S s (p + w) w v (r + z) z k i n (omega arith))
 
--- there are no more than pointers
+-- there are no more landing pads than pointers
 
 pub near_row_few : (S : Segments) (s p v r k : ℕ) → near_pointers S (row_moves s p v r k) ≤ k
 near_row_few S s p v r zero = omega arith
@@ -86,7 +86,7 @@ near_few S a b (Structs e k es) (Structs d q fs) =
     near_rows_few S a.segment (a.at + 1 + e) (e + k) b.segment (b.at + 1 + d) (d + q) k (element_count es)
 near_few S a b t u = omega arith
 
--- the same pointers, wherever they go
+-- pointers need as many landing pads wherever they go
 
 pub near_same_row : (S R : Segments) (s p v r v' r' k : ℕ) → ((y : ℕ) → y < p + k → word_at R s y ≡ word_at S s y) → near_pointers R (row_moves s p v r k) ≡ near_pointers S (row_moves s p v' r' k)
 near_same_row S R s p v r v' r' zero same = refl

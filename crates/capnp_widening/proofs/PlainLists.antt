@@ -177,7 +177,7 @@ numbers_widened_to S R s p l m size wide two five wd wp few made = λ t i.
       subst (λ z. BecomesList (rewriting s p S R) m t z) same (made t i),
     ))
 
--- so many words are too many
+-- a list of numbers is refused that would take too many words
 pub numbers_refused : (S : Segments) (s p : ℕ) (l : ExistingList) (size wide : StructSize) (k : ErrorKind) → 2 ≤ size_number l.size → size_number l.size ≤ 5 → wide.data_words ≡ max 1 size.data_words → wide.pointers ≡ size.pointers →
     ((t : Tree) → limited (l.count * (wide.data_words + wide.pointers)) t ≡ Err k) → (t : Tree) → IsList S s p l t → list_widened size.data_words size.pointers t ≡ Err k
 numbers_refused S s p l size wide k two five wd wp refused = λ t i.

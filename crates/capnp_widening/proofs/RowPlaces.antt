@@ -56,7 +56,7 @@ pub first_fits : (at pads n : ℕ) {t b most : ℕ} → at + (pads + (1 + n)) �
     most < 2 ^ 29 → at + pads + 1 < 2 ^ 32
 first_fits at pads n room same within small = omega arith
 
--- so many of the words behind the tag lie there
+-- the words behind the tag lie in the segment
 pub rows_fit : (at pads : ℕ) {n t b m : ℕ} → at + (pads + (1 + n)) ≤ t → b ≡ t → m ≡ n → at + pads + 1 + m ≤ b
 rows_fit at pads room same whole = omega arith
 

@@ -59,7 +59,7 @@ copied_far_leads S s p v r a e is_far l =
     let x = word_at S s p in
     far_word S v r x a e is_far (ap (λ y. cond y (far S x (is_double x)) (near S s p x 0)) (sym (eq-eqb (kind x) 2 is_far)) ∙ l.1)
 
--- the same value at the place (v, r) as at the place (s, p), where it costs c; the object is the same, the pads may be others
+-- The place (v, r) means the value that the place (s, p) means, where it costs c; the object is the same, the pads may be others.
 pub record MeansToo (S : Segments) (n s p v r : ℕ) (t : Tree) (c : ℕ) : Type 0 where
   pub cost : ℕ
   pub means : Means S n v r t cost

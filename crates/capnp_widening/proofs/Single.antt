@@ -45,7 +45,7 @@ pads_covered S n s p (Pointers ts) c m x y =
 pads_covered S n s p (Structs d q es) c m x y =
     omega (arith, times-append (pads_of (word_at S s p)) (object_of (target S s p) (1 + element_count es * (d + q)) ∷ cover_elements S (target S s p).segment ((target S s p).start + 1) d q es) x y)
 
--- they lie in B
+-- the landing pads of a pointer of B that means a value lie in B
 pub old_pads_inside : (B S : Segments) (s p : ℕ) → Extends B S → HasValueInside B s p → (x y : ℕ) → 0 < times (pads_of (word_at S s p)) x y → y < length (segment B x)
 old_pads_inside B S s p e (t, n, c, m, inside) x y h =
     let here = inside s p (omega (arith, times-first (word_interval s p) (cover B s p t) s p, once_held s p)) in

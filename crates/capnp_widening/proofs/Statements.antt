@@ -166,7 +166,7 @@ HaveValuesInside B ms = AllByRecursion (λ (m : Move). HasValueInside B m.from.s
 abbrev pub AllMoved : Segments → List Move → Type 0
 AllMoved R ms = AllByRecursion (λ (m : Move). IsMoved R m.from.segment m.from.at m.to.segment m.to.at) ms
 
--- the same by their numbers
+-- moved pointers, by the numbers of their places
 
 abbrev pub a_move : ℕ → ℕ → ℕ → ℕ → Move
 a_move s p v r = record { from = record { segment = s; at = p }; to = record { segment = v; at = r } }

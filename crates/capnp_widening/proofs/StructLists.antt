@@ -39,7 +39,7 @@ are_structs S s p t l is (x, e) = go t x e
     go (Capability i) y f = other (Capability i) y f (λ g. omega (arith, g))
     go (Struct ws ts) y f = other (Struct ws ts) y f (λ g. omega (arith, g))
 
--- it is wide enough
+-- a list of structs that is wide enough stays
 pub structs_kept : (S : Segments) (s p : ℕ) (l : ExistingList) (size : StructSize) → size_number l.size ≡ 7 → size.data_words ≤ l.struct_size.data_words → size.pointers ≤ l.struct_size.pointers → WidensTo l size (rewriting s p S S) l
 structs_kept S s p l size is wide many = λ t i.
     (let k = are_structs S s p t l is i in
@@ -57,7 +57,7 @@ has_rows S s p t l k x =
     let same : rows_of l ≡ rows a.start = ap rows_of k.list ∙ ap rows first in
     (x, ap (rows_in a) k.tree ∙ ap Some (sym same))
 
--- it is made anew in the greater of both sizes
+-- a list of structs is made anew in the greater of both sizes
 pub structs_widened_to : (S R : Segments) (s p : ℕ) (l m : ExistingList) (size wide : StructSize) → size_number l.size ≡ 7 → (size.data_words ≤ l.struct_size.data_words → size.pointers ≤ l.struct_size.pointers → ⊥) →
     wide.data_words ≡ max l.struct_size.data_words size.data_words → wide.pointers ≡ max l.struct_size.pointers size.pointers → l.count * (wide.data_words + wide.pointers) < 2 ^ 29 → RemakesList (StoresRows S s p (rows_of l)) wide (rewriting s p S R) m → WidensTo l size (rewriting s p S R) m
 structs_widened_to S R s p l m size wide is narrow wd wp few made = λ t i.
@@ -79,7 +79,7 @@ structs_widened_to S R s p l m size wide is narrow wd wp few made = λ t i.
 pub structs_left_as : (S R : Segments) (s p : ℕ) (l : ExistingList) → size_number l.size ≡ 7 → LeavesAll (StoresRows S s p (rows_of l)) S R → LeavesAll (IsList S s p l) S R
 structs_left_as S R s p l is left = λ t i. left t (has_rows S s p t l (are_structs S s p t l is i) i.0)
 
--- so many words are too many
+-- a list of structs is refused that would take too many words
 pub structs_refused : (S : Segments) (s p : ℕ) (l : ExistingList) (size wide : StructSize) (k : ErrorKind) → size_number l.size ≡ 7 → (size.data_words ≤ l.struct_size.data_words → size.pointers ≤ l.struct_size.pointers → ⊥) →
     wide.data_words ≡ max l.struct_size.data_words size.data_words → wide.pointers ≡ max l.struct_size.pointers size.pointers →
     ((t : Tree) → StoresRows S s p (rows_of l) t → limited (l.count * (wide.data_words + wide.pointers)) (as_structs wide t) ≡ Err k) → (t : Tree) → IsList S s p l t → list_widened size.data_words size.pointers t ≡ Err k

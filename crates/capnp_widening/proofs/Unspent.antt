@@ -11,7 +11,7 @@ use Rattle.capnp_making.proofs.Memory.{keeps_itself, spends_nothing}
 nothing_spent : (a : View) (k : ErrorKind) → ((n : ℕ) → refusals_for k n ≡ n) → SpendsMemory a a k
 nothing_spent a k other = spends_nothing a a k other (keeps_itself a)
 
--- so of words that are too many, and of what lies outside the message or is a list of bits
+-- nothing is spent where words are too many, or what is found lies outside the message or is a list of bits
 pub too_large_spent : (a : View) (n : ℕ) → SpendsMemory a a (MessageTooLarge n)
 too_large_spent a n = nothing_spent a (MessageTooLarge n) (λ n. refl)
 
@@ -21,7 +21,7 @@ outside_spent a = nothing_spent a MessageContainsOutOfBoundsPointer (λ n. refl)
 pub bits_spent : (a : View) → SpendsMemory a a FoundBitListWhereStructListWasExpected
 bits_spent a = nothing_spent a FoundBitListWhereStructListWasExpected (λ n. refl)
 
--- so where nothing is found
+-- nothing is spent where nothing is found
 pub unfound_spent : (a : View) (k : ErrorKind) → is_unfound k ≡ true → SpendsMemory a a k
 unfound_spent a AllocationFailed e = absurd (cc)
 unfound_spent a k e = nothing_spent a k (λ n. refl)

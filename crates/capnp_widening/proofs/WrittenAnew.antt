@@ -96,7 +96,7 @@ pads_both : (S : Segments) (a b c : View) (ms ns : List Move) → TakesPadsInTur
 pads_both S a b c [] ns w y = pads_before S a b c ns w y
 pads_both S a b c (m ∷ ms) ns (next, kept, taken, rest) y = (next, kept, taken, pads_both S next b c ms ns rest y)
 
--- the same words at the places are written in the same forms
+-- words that stay as they were written stand in the same forms
 
 pub written_later : (S M R : Segments) (ms : List Move) → ((x y : ℕ) → 0 < times (new_places ms) x y → word_at R x y ≡ word_at M x y) → AreWrittenAnew S M ms → AreWrittenAnew S R ms
 written_later S M R [] same h = tt

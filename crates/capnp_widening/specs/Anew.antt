@@ -47,7 +47,8 @@ pub record OnlyWrites (old new : View) : Type 0 where
 abbrev pub AreWrittenAnew : Segments → Segments → List Move → Type 0
 AreWrittenAnew S R [] = ⊤
 AreWrittenAnew S R (m ∷ ms) =
-    IsWrittenAnew m.from.segment m.to.segment (word_at S m.from.segment m.from.at) (word_at R m.to.segment m.to.at)
+    IsWrittenAnew m.from.segment m.to.segment (word_at S m.from.segment m.from.at)
+    (word_at R m.to.segment m.to.at)
     × AreWrittenAnew S R ms
 
 -- Words are taken for the landing pads of pointers that stand in S, for one pointer after the other.
@@ -55,10 +56,11 @@ abbrev pub TakesPadsInTurn : Segments → View → View → List Move → Type 0
 TakesPadsInTurn S old new [] = OnlyWrites old new
 TakesPadsInTurn S old new (m ∷ ms) =
     (next : View) × KeepsMemory old next
-    × TakesWords old next m.from.segment (pad_words m.from.segment m.to.segment (word_at S m.from.segment m.from.at))
+    × TakesWords old next m.from.segment
+    (pad_words m.from.segment m.to.segment (word_at S m.from.segment m.from.at))
     × TakesPadsInTurn S next new ms
 
--- These pointers are written anew in turn, in words that are there, wherever they mean values.
+-- Pointers are written anew in turn, in words that are there, wherever they mean values.
 abbrev pub WritesAnew : View → View → List Move → Type 0
 WritesAnew old new ms =
     (S : Segments) → CanMove S old.words ms →

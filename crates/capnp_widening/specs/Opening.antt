@@ -33,8 +33,8 @@ struct_opened size Null = Ok (zero_struct size)
 struct_opened size (Struct ws ts) = Ok (widened size ws ts)
 struct_opened size t = Err MessageContainsNonStructPointerWhereStructPointerWasExpected
 
--- Where t was stored, u is so in its stead, and what is given leads to it. Where t is large enough,
--- nothing is changed; else u stands anew.
+-- Where t was stored, u is stored in its stead, and what is given leads to it. Where t is large enough,
+-- nothing is changed; else u is made anew.
 pub record Opened (size : StructSize) (c : CallAt) (t u : Tree) (given : Type 0) : Type 0 where
   pub replaced : IsReplaced c.old.words c.new.words c.segment c.at t u
   pub leads : given
@@ -71,7 +71,7 @@ LeadsToAll S s p u l =
     × IfSome l (λ m. m.start + m.count * (m.struct_size.data_words + m.struct_size.pointers)
     ≤ length (segment S m.segment))
 
--- The struct that stands is opened, or a new one in place of null.
+-- The struct that is there is opened, or a new one in place of null.
 abbrev pub OpensStruct : {B : Type 0} → (Segments → ℕ → ℕ → Tree → B → Type 0) → StructSize →
     Result B ErrorKind → CallAt → Tree → Type 0
 OpensStruct Given size result c t = Opens size Given c t (struct_opened size t) result
@@ -85,9 +85,10 @@ IsNoWider size c k =
     struct_in (target c.old.words c.segment c.at) t ≡ None))
     ⊎ RefusesToBecome (IsStored c.old.words c.segment c.at) (struct_opened size) c.old c.new k
 
--- The list of structs that stands is opened, made one of any other list. Null is a list of none,
+-- The list of structs that is there is opened, made one of any other list. Null is a list of none,
 -- and nothing is changed.
-abbrev pub OpensExistingList : StructSize → Result (Option ExistingList) ErrorKind → CallAt → Tree → Type 0
+abbrev pub OpensExistingList : StructSize → Result (Option ExistingList) ErrorKind → CallAt → Tree →
+    Type 0
 OpensExistingList size result c Null = (result ≡ Ok None) × (c.new ≡ c.old)
 OpensExistingList size result c t =
     Opens size LeadsToAll c t (list_widened size.data_words size.pointers t) result

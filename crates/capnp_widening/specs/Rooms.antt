@@ -94,7 +94,7 @@ WiderStructFits v s p size = (ws : List ℕ) × (ts : Trees) × IsStored v.words
     HasRoomFor v s p (Struct ws ts) (widened size ws ts)
 
 -- A struct is opened at the place, and there is room for it: for a new one in place of null, or for
--- what the struct that stands becomes.
+-- what the struct that is there becomes.
 abbrev pub OpeningFits : View → ℕ → ℕ → StructSize → Type 0
 OpeningFits v s p size =
     ((word_at v.words s p ≡ 0) × HasRoom v s (size.data_words + size.pointers)) ⊎

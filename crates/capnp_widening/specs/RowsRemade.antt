@@ -64,7 +64,8 @@ RowsInside S rows =
     rows.at + (rows.tag + rows.count * (rows.size.data_words + rows.size.pointers))
     ≤ length (segment S rows.segment)
 
--- From S to R the data words of elements are copied into structs of a size, the first of which starts at h.
+-- From S to R the data words of elements are copied into structs of a size, the first of which
+-- starts at h.
 abbrev pub CopiesData : Segments → Segments → ElementRows → Start → StructSize → Type 0
 CopiesData S R old h size =
     AreRowsCopied S R
@@ -192,7 +193,8 @@ RefusesRows rows size c k =
 abbrev pub IsList : Segments → ℕ → ℕ → ExistingList → Tree → Type 0
 IsList S s p l t = IsStored S s p t × (list_in (target S s p) Void t ≡ Ok (Some l))
 
--- The place gets, in place of the list l, what it becomes where structs of a size are wanted, which is m.
+-- The place gets, in place of the list l, what it becomes where structs of a size are wanted, which
+-- is m.
 abbrev pub WidensTo : ExistingList → StructSize → CallAt → ExistingList → Type 0
 WidensTo l size c m = (t : Tree) → IsList c.old.words c.segment c.at l t → (u : Tree) ×
     (list_widened size.data_words size.pointers t ≡ Ok u) × BecomesList c m t u

@@ -1,4 +1,5 @@
--- Objects filled up with zeros and Nulls, and a struct for each element of another list ("Structs", "Lists").
+-- Objects filled up with zeros and Nulls, and a struct for each element of another list ("Structs",
+-- "Lists").
 use Rattle.std.specs.Prelude.{◌≡◌, ℕ, zero, suc, ◌+◌, ◌-◌, ◌*◌, ◌^◌, ◌≤◌, ◌<◌, max, if◌then◌else◌}
 use Rattle.std.specs.Prelude.{◌&&◌, nat_le, nat_lt, Result, Ok, Err, List, [], ◌∷◌, ◌++◌, length}
 use Rattle.std.specs.Prelude.{Some}
@@ -53,7 +54,8 @@ pub record GrowsByZeros (S R : Segments) : Type 0 where
 abbrev pub IsStruct : Segments → ℕ → ℕ → ExistingStruct → Tree → Type 0
 IsStruct S s p e t = IsStored S s p t × (struct_in (target S s p) t ≡ Some e)
 
--- The struct that a struct becomes where sections of a size are wanted: each is filled up, and never cut.
+-- The struct that a struct becomes where sections of a size are wanted: each is filled up, and
+-- never cut.
 abbrev pub widened : StructSize → List ℕ → Trees → Tree
 widened size ws ts = Struct (fill_words size.data_words ws) (fill_trees size.pointers ts)
 
@@ -80,7 +82,8 @@ abbrev pub list_widened : ℕ → ℕ → Tree → Result Tree ErrorKind
 list_widened d q Null = Ok Null
 list_widened d q (Capability i) = Err ExistingPointerIsNotAList
 list_widened d q (Struct ws ts) = Err ExistingPointerIsNotAList
-list_widened d q (Flat zero ns) = limited (length ns * (d + q)) (Structs d q (zero_elements d q (length ns)))
+list_widened d q (Flat zero ns) =
+    limited (length ns * (d + q)) (Structs d q (zero_elements d q (length ns)))
 list_widened d q (Flat (suc zero) ns) = Err FoundBitListWhereStructListWasExpected
 list_widened d q (Flat size ns) =
     limited (length ns * (max 1 d + q)) (Structs (max 1 d) q (struct_for_each d q ns))

@@ -43,8 +43,8 @@ pub fn widened_within()
         → (w : Tree) × IsReplaced S R s p t w × SameCanonicalForm t w }
 {}
 
-/// So the whole message has the canonical words that it had, and no word that isn't zero stands outside
-/// of its value.
+/// Where a struct or a list of structs is made wider anywhere in a message, the whole message has the
+/// canonical words that it had, and every word outside of its value is zero.
 pub fn message_widened()
     ensures structs { (S R : Segments) (t : Tree) (path : List Step)
         (u q : ℕ) (ws : List ℕ) (ts : Trees) (size : StructSize)

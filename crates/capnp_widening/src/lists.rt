@@ -19,14 +19,14 @@ use capnp_words::error::ErrorKind;
 use capnp_words::wire_pointer::{ElementSize, StructSize};
 
 /// The list that the pointer at a place leads to, as a list of structs with both sections at least as
-/// large as asked for; `None` where the pointer is null. Elements that are no structs, and structs of
-/// which a section is too small, stand anew: a number as the lowest bits of a first data word, a pointer
-/// as a first pointer, and each section as large as the greater of old and wanted.
+/// large as asked for; `None` where the pointer is null. Elements that are no structs, and structs with
+/// too small a section, are made anew: a number as the lowest bits of a first data word, a pointer as a
+/// first pointer, and each section as large as the greater of old and wanted.
 ///
 /// Anything but a list is `ExistingPointerIsNotAList`, and a list of bits
 /// `FoundBitListWhereStructListWasExpected`. Elements that would take 2^29 words or more are
 /// `MessageTooLarge` of these words. Every other refusal is that of memory, or `MessageTooLarge`; the old
-/// list stands then.
+/// list stays then.
 pub fn get_struct_list<A: BuilderArena>(
     arena: &mut A,
     id: u32,
@@ -95,11 +95,11 @@ fn widen_list<A: BuilderArena>(
     }
 }
 
-/// A list of structs of which a section is too small, where the pointer at a place leads to it, made anew
-/// with each section as large as the greater of old and wanted.
+/// A list of structs with too small a section, where the pointer at a place leads to it, made anew with
+/// each section as large as the greater of old and wanted.
 ///
 /// Structs that would take 2^29 words or more are `MessageTooLarge` of these words. Every other refusal is
-/// that of memory, or `MessageTooLarge`; the old list stands then.
+/// that of memory, or `MessageTooLarge`; the old list stays then.
 fn widen_structs<A: BuilderArena>(
     arena: &mut A,
     id: u32,
@@ -158,7 +158,7 @@ fn widen_pointers<A: BuilderArena>(
     widen_rows(arena, id, at, rows, wide)
 }
 
-/// A list of structs of just a size, all zero, made of a list of void where the pointer at a place leads
+/// A list of structs of exactly a size, all zero, made of a list of void where the pointer at a place leads
 /// to it. Refusals are those of `widen_structs`.
 fn widen_void<A: BuilderArena>(
     arena: &mut A,

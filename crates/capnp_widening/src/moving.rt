@@ -195,7 +195,7 @@ pub fn move_row<A: BuilderArena>(
     }
 }
 
-/// The same into another segment. It isn't inlined: most objects stay in their segment.
+/// Does `move_row` into another segment. It isn't inlined: most objects stay in their segment.
 #[cold]
 #[inline(never)]
 fn move_row_apart<A: BuilderArena>(
@@ -211,7 +211,7 @@ fn move_row_apart<A: BuilderArena>(
     move_each(arena, from, to, count)
 }
 
-/// The same, each pointer in turn. It is inlined twice: within a segment no pointer becomes far.
+/// Does `move_row`, each pointer in turn. It is inlined twice: within a segment no pointer becomes far.
 #[inline(always)]
 fn move_each<A: BuilderArena>(
     arena: &mut A,

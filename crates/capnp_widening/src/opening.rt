@@ -27,7 +27,7 @@ use capnp_words::wire_pointer::StructSize;
 /// large enough is given as it stands, and nothing is changed.
 ///
 /// What is no struct is `MessageContainsNonStructPointerWhereStructPointerWasExpected`, and nothing is
-/// changed. Any other refusal is `AllocationFailed` or `MessageTooLarge`, and what stood stands.
+/// changed. Any other refusal is `AllocationFailed` or `MessageTooLarge`, and what was there stays.
 #[inline(always)]
 pub fn open_struct<A: BuilderArena>(
     arena: &mut A,
@@ -148,7 +148,7 @@ fn open_narrow_struct<A: BuilderArena>(
 ///
 /// What is no list is `ExistingPointerIsNotAList`, a list of bits `FoundBitListWhereStructListWasExpected`,
 /// and elements that would take 2^29 words or more are `MessageTooLarge` of these words; nothing is
-/// changed then. Any other refusal is `AllocationFailed` or `MessageTooLarge`, and the old list stands.
+/// changed then. Any other refusal is `AllocationFailed` or `MessageTooLarge`, and the old list stays.
 pub fn open_struct_list<A: BuilderArena>(
     arena: &mut A,
     id: u32,

@@ -26,15 +26,15 @@ use capnp_words::wire_pointer::{ElementSize, StructSize, WirePointer};
 /// The elements of a list, as rows of whole words.
 #[derive(Clone, Copy)]
 pub struct ElementRows {
-    /// Their segment.
+    /// The segment of the list.
     pub segment: u32,
     /// The first word of the list, its tag included.
     pub at: u32,
     /// How many words stand before the first element: one where there is a tag, else none.
     pub tag: u32,
-    /// How many data words and pointers each has.
+    /// How many data words and pointers each row has.
     pub size: StructSize,
-    /// How many there are.
+    /// How many rows there are.
     pub count: u32,
 }
 
@@ -174,7 +174,7 @@ fn fill_rows<A: BuilderArena>(
 /// Makes a list of structs of the elements of another list, where the pointer at a place leads to it.
 ///
 /// Elements that would take 2^29 words or more are `MessageTooLarge` of these words. Every other refusal
-/// is that of memory, or `MessageTooLarge`; the old list stands then.
+/// is that of memory, or `MessageTooLarge`; the old list stays then.
 pub(crate) fn widen_rows<A: BuilderArena>(
     arena: &mut A,
     id: u32,

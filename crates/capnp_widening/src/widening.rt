@@ -30,9 +30,9 @@ use capnp_words::wire_pointer::{StructSize, WirePointer};
 /// New words for an object.
 #[derive(Clone, Copy)]
 pub struct Room {
-    /// Their segment.
+    /// The segment of the words.
     pub segment: u32,
-    /// The first of them: of the object, or of its landing pad.
+    /// The position of the first of the words: of the object, or of its landing pad.
     pub at: u32,
     /// How many words of landing pads stand before the object: none in the segment of its pointer, else
     /// one.
@@ -127,7 +127,7 @@ pub(crate) fn settle<A: BuilderArena>(arena: &mut A, id: u32, at: u32, room: Roo
 /// again.
 ///
 /// A refusal is that of memory for its words or for a landing pad, or `MessageTooLarge`; the old struct
-/// stands then.
+/// stays then.
 pub(crate) fn widen_known<A: BuilderArena>(
     arena: &mut A,
     id: u32,

@@ -40,7 +40,8 @@ use Rattle.capnp_words.specs.declared.error.ErrorKind.TheVariants.{UnknownPointe
 -- the name of a refusal
 abbrev pub name_of : ErrorKind → List ℕ
 name_of AllocationFailed = codes "AllocationFailed"
-name_of CannotCreateACanonicalMessageWithACapability = codes "CannotCreateACanonicalMessageWithACapability"
+name_of CannotCreateACanonicalMessageWithACapability =
+    codes "CannotCreateACanonicalMessageWithACapability"
 name_of CantHandleNonStructInlineComposite = codes "CantHandleNonStructInlineComposite"
 name_of ExistingListPointerIsNotByteSized = codes "ExistingListPointerIsNotByteSized"
 name_of ExistingListValueIsIncompatibleWithExpectedType =

@@ -57,7 +57,7 @@ pub enum ErrorKind {
     MessageContainsNonStructPointerWhereStructPointerWasExpected,
     /// A capability was expected, and the pointer is null.
     MessageContainsNullCapabilityPointer,
-    /// A pointer leads out of its segment, or to words of which some are outside.
+    /// A pointer leads out of its segment, or to words some of which are outside.
     MessageContainsOutOfBoundsPointer,
     /// A text has no bytes, or its last byte is not 0.
     MessageContainsTextThatIsNotNULTerminated,

@@ -24,7 +24,7 @@ pub struct Values<'l> {
     pub flag: bool,
     /// Decimal digits of a number of any type.
     pub digits: &'l str,
-    /// The same of a mask.
+    /// Decimal digits of a mask.
     pub mask: Option<&'l str>,
     /// Bytes in hex digits.
     pub hex: Option<&'l str>,
@@ -78,7 +78,7 @@ impl<'l> Values<'l> {
         }
     }
 
-    /// The same of what isn't a mere number.
+    /// Reads an argument that isn't a mere number, by its letter.
     fn put_named(&mut self, letter: u8, word: &'l str) -> Result<(), Fault> {
         match letter {
             b's' => self.size = parse::element_size(word)?,
@@ -90,7 +90,7 @@ impl<'l> Values<'l> {
         Ok(())
     }
 
-    /// The same of what is kept as it is written.
+    /// Reads an argument that is kept as it is written, by its letter.
     fn put_text(&mut self, letter: u8, word: &'l str) -> Result<(), Fault> {
         let has_form = match letter {
             b'h' => parse::is_hex(word),

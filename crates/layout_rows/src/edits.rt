@@ -122,7 +122,7 @@ fn step_of(text: &str) -> Result<Step, Fault> {
     }
 }
 
-/// Does an operation at the end of a path: its bytes are read.
+/// Does an operation at the end of a path, whose bytes are still to be read.
 fn read_bytes<A: BuilderArena>(
     alloc: Global,
     arena: &mut A,
@@ -138,7 +138,8 @@ fn read_bytes<A: BuilderArena>(
     read_source(alloc, arena, path, (name, values, given))
 }
 
-/// The same with these bytes: the message that is copied from is read.
+/// Does an operation with given bytes at the end of a path. The message that is copied from is still to
+/// be read.
 fn read_source<A: BuilderArena>(
     alloc: Global,
     arena: &mut A,
@@ -154,7 +155,7 @@ fn read_source<A: BuilderArena>(
     Ok(apply_at(arena, path, call, &message)?)
 }
 
-/// The same with that message.
+/// Does an operation with given bytes at the end of a path, with a message that is copied from.
 fn apply_at<'a, A: BuilderArena>(
     arena: &mut A,
     path: &'a [Step],

@@ -23,9 +23,9 @@ pub struct Memory {
 }
 
 impl Memory {
-    /// Segments of at least `words` words, of which `segments` are granted, or any number where that is `none`.
-    /// Behind a `/` in `words` stand the words of a scratch space, if there is one; behind one in `segments` how many rows
-    /// of segments are kept, if not any number.
+    /// Segments of at least `words` words: `segments` of them are granted, or any number where that is `none`. Behind
+    /// a `/` in `words` come the words of a scratch space, if there is one; behind one in `segments` how many rows of
+    /// segments are kept, if not any number.
     pub fn new(words: &str, segments: &str) -> Result<Self, Fault> {
         let (words, scratch_words) = match words.split_once('/') {
             Some((words, scratch)) => (words, Some(parse::number(scratch)?)),
@@ -72,7 +72,7 @@ impl Memory {
     }
 }
 
-/// So many, or any number for `none`.
+/// A limit in decimal digits; `none` is no limit.
 fn count(text: &str) -> Result<u32, Fault> {
     if text == "none" {
         Ok(u32::MAX)

@@ -7,9 +7,9 @@ use std::alloc::Global;
 /// Another message as three arguments of a call have it.
 #[derive(Clone, Copy)]
 pub struct SourceText<'a> {
-    /// Its segments in hex digits, with slashes between.
+    /// The segments of the message in hex digits, with slashes between.
     pub segments: &'a str,
-    /// How much of it may be read.
+    /// How much of the message may be read.
     pub options: ReaderOptions,
 }
 

@@ -15,7 +15,8 @@ enum Asked<'l> {
     Run(Run<'l>),
     /// A message of a list of so many pointers, while so many bytes are held.
     Segments(u32, usize),
-    /// The same of pointers to so many bytes each, written as a frame.
+    /// A message of a list of so many pointers to so many bytes each, written as a frame, while so many
+    /// bytes are held.
     Framed(u32, usize, usize),
 }
 
@@ -107,7 +108,7 @@ fn read_args(alloc: Global, text: &str) -> Result<Option<Args>, AllocError> {
     Ok(tool::parse_args(words.as_slice()))
 }
 
-/// So many, or as many as there are for `none`.
+/// A limit in decimal digits; `none` is no limit.
 fn count(text: &str) -> Option<u64> {
     if text == "none" {
         Some(u64::MAX)

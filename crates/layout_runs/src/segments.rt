@@ -1,4 +1,4 @@
-//! A message of many segments, which is built, and of which the segments are asked for, while memory is scarce.
+//! A message of many segments, which is built and whose segments are asked for, while memory is scarce.
 
 use capnp_layout::arena::{
     BuilderArena, BuilderArenaImpl, HeapAllocator, ReaderArena, ReaderSegments,
@@ -22,7 +22,7 @@ pub fn answer(alloc: Global, count: u32, held: usize) -> Result<String, AllocErr
     Ok(text)
 }
 
-/// Makes a list of so many pointers, and sets them to these data, of which the first eight bytes are made their number,
+/// Makes a list of so many pointers, and sets them to these data, whose first eight bytes are made their number,
 /// until one is refused. Gives how many were set. Each object has a segment of its own.
 pub fn build(arena: &mut BuilderArenaImpl<HeapAllocator>, count: u32, data: &mut [u8]) -> u32 {
     if arena.allocate_segment(1).is_err() {

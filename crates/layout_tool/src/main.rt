@@ -1,7 +1,7 @@
 //! The program `layout_tool`: what a message says in canonical form, whether it is in that form, or how
 //! large it is; and its frame, the segments of one, and whether a framed message is canonical. Its
 //! arguments are `frame`, `unframe`, or `canon`, `check`, `size`, `framed-canon` or `framed-check` and
-//! then `NESTING BUDGET`; its input is lines of hex digits, of which each is a segment or one a frame.
+//! then `NESTING BUDGET`; its input is lines of hex digits, each of them a segment, or one line a frame.
 #![tactic(auto)]
 
 use capnp_layout::devices::{ReaderInput, WriterOutput};

@@ -34,7 +34,7 @@ pub all_read : (S : Segments) (n s p : ℕ) (ts : Trees) (c : ℕ) → MeansAll 
 all_read S n s p no_trees c m y = tt
 all_read S n s p (tree t ts) c (k, l, one, rest, g) y = (record { means = (n, k, one); tidy = y.0 }, all_read S n s (p + 1) ts l rest y.1)
 
--- so elements
+-- elements one behind the other mean their values within levels together
 element_levels : (S : Segments) (s p d q : ℕ) (es : Elements) → AreElementsRead S s p d q es → ℕ
 element_levels S s p d q no_elements k = 0
 element_levels S s p d q (element ws ts es) k = levels_of S s (p + d) ts k.3 + element_levels S s (p + d + q) d q es k.4

@@ -287,7 +287,7 @@ null_goes S M j J e F = (to, from)
     from : Counts S M J F → Counts S M (j ∷ J) F
     from h = (Null, record { means = (0, 0, (e, refl)); tidy = tt }, counts_same S M (plus M (times [])) J F (λ u v. omega arith) h)
 
--- its landing pads are taken first
+-- the landing pads of a pointer are taken first
 pub pointer_goes : (S : Segments) (M N : Counting) (j : Spot) (J : List Spot) (a : Target) → word_at S j.segment j.at ≢ 0 → leads S j.segment j.at ≡ Some a →
     ((u v : ℕ) → N u v ≡ M u v + times (pads_of (word_at S j.segment j.at)) u v) → (F : Counting) → Counts S M (j ∷ J) F ↔ ObjectCounts S a N J F
 pointer_goes S M N j J a some l is F = (to, from)
@@ -307,14 +307,14 @@ pointer_goes S M N j J a some l is F = (to, from)
         let k = read_of_object S j.segment j.at a t some l o in
         (t, k, counts_same S (plus N (times (object_cover S a t))) (plus M (times (cover S j.segment j.at t))) J F (λ u v. omega (arith, is u v, parts t u v k)) h)
 
--- it leads nowhere
+-- a pointer that leads nowhere
 pub nowhere_fails : (S : Segments) (w : Walk) (j : Spot) → word_at S j.segment j.at ≢ 0 → leads S j.segment j.at ≡ None → FailsWalk S j w
 nowhere_fails S w j some l F (t, k, h) once =
     let m = k.means in
     let x = there_is S m.0 j.segment j.at t m.1 some m.2 k.tidy in
     let e : Some x.0 ≡ None = sym x.1 ∙ l in cc
 
--- its pads are taken already
+-- a pointer whose landing pads are taken already
 pub pads_refused : (S : Segments) (w : Walk) (j : Spot) (a : Target) → FitsRows S w.marks → word_at S j.segment j.at ≢ 0 → leads S j.segment j.at ≡ Some a →
     (PadsInside w.marks (word_at S j.segment j.at) → IsTakenAlready w.marks (times (pads_of (word_at S j.segment j.at)))) → FailsWalk S j w
 pads_refused S w j a fits some l already F (t, k, h) once =
@@ -325,7 +325,7 @@ pads_refused S w j a fits some l already F (t, k, h) once =
     ap (λ is. times is u v) (object_of_read S j.segment j.at a t some l k).1 ∙ times-append (pads_of x) (object_cover S a t) u v in
     omega (arith, parts, held, marked, once u v, counts_least S (plus (word_at w.marks) (times (cover S j.segment j.at t))) w.pending F u v h)
 
--- the same steps, of the walk
+-- the steps of the walk
 
 length-spots : (s p n : ℕ) → length (spots s p n) ≡ n
 length-spots s p zero = refl

@@ -65,7 +65,8 @@ IsTidyObject S a (Structs d q es) =
 
 -- F is M, and what is reached from an object where a leads, and from these places.
 abbrev pub ObjectCounts : Segments → Target → Counting → List Spot → Counting → Type 0
-ObjectCounts S a M J F = (t : Tree) × IsTidyObject S a t × Counts S (plus M (times (object_cover S a t))) J F
+ObjectCounts S a M J F =
+    (t : Tree) × IsTidyObject S a t × Counts S (plus M (times (object_cover S a t))) J F
 
 -- No word is held more often than once.
 abbrev pub IsOnce : Counting → Type 0

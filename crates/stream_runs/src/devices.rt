@@ -48,7 +48,7 @@ impl Input for StrainedInput<'_> {
 impl BufferedInput for StrainedInput<'_> {
     ghost has_enough = { λ _. ⊤ };
 
-    /// It reads nothing ahead.
+    /// The device reads nothing ahead.
     fn is_ahead(&self) -> bool {
         false
     }
@@ -88,7 +88,7 @@ impl Output for StrainedOutput {
 impl BufferedOutput for StrainedOutput {
     ghost kept = { λ _. 0 };
 
-    /// It keeps none.
+    /// The device keeps no bytes.
     fn pass_on(&mut self) -> Result<(), DeviceFault> {
         Ok(())
     }

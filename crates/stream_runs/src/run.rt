@@ -72,7 +72,7 @@ fn read_strain(text: &str) -> Option<Strain> {
     })
 }
 
-/// So many, or as many as there are for `none`.
+/// A limit in decimal digits; `none` is no limit.
 fn count(text: &str) -> Option<u64> {
     if text == "none" {
         Some(u64::MAX)

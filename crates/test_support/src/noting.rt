@@ -34,7 +34,7 @@ impl NotingAllocator {
         }
     }
 
-    /// What it was asked for, in order.
+    /// What the allocator was asked for, in order.
     pub fn requests(&self) -> &[Request] {
         self.requests.as_slice()
     }

@@ -10,7 +10,7 @@ pub fn edit<'a>(path: &'a [Step], op: Op<'a>) -> Edit<'a> {
     Edit { path, op }
 }
 
-/// So many data words, and so many pointers.
+/// The size of a struct.
 pub fn size(data_words: u16, pointers: u16) -> StructSize {
     StructSize {
         data_words,

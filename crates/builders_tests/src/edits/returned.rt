@@ -21,9 +21,9 @@ const STRUCT: &[u8] = b"\0\0\0\0\x01\0\x01\0\x07\0\0\0\0\0\0\0\x01\0\0\0\x12\0\0
 const LIST: &[u8] =
     b"\x01\0\0\0\x17\0\0\0\x08\0\0\0\0\0\x01\0\x05\0\0\0\x12\0\0\0\0\0\0\0\0\0\0\0a\0\0\0\0\0\0\0";
 
-/// Does edits in segments of a word or more, with so many requests for memory granted, of which each segment takes
-/// two. One that is cleared then takes no words and gives no segment back. Checks the words of each segment
-/// as they come back, and then those that were used.
+/// Does edits in segments of a word or more, with so many requests for memory granted: each segment takes two.
+/// Clearing the root then takes no words and gives no segment back. Checks the words of each segment as they
+/// come back, and then those that were used.
 fn check(rt: &impl Abort, alloc: Global, edits: &[Edit<'_>], requests: u64, segments: u64) {
     let returned = Cell::new(0);
     let heap = HeapAllocator::new(alloc, 1);
@@ -76,7 +76,7 @@ fn made(rt: HostRuntime) {
     check_each(&rt, rt.alloc(), edits, OF_STRUCT);
 }
 
-/// They are copied from another message, and so is a list of structs and its text.
+/// A struct and its text, and a list of structs and its text, are copied from another message.
 #[test]
 fn copied(rt: HostRuntime) {
     for (message, is_list, segments) in [(STRUCT, false, OF_STRUCT), (LIST, true, OF_LIST)] {

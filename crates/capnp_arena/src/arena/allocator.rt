@@ -10,10 +10,10 @@ use std::alloc::Global;
 /// The bytes of a segment, which never change their number. Those at the front are ready: they can be read and written. The others are
 /// zero, and become ready as words are allocated.
 pub trait Segment {
-    // All bytes, be they ready or not.
+    // All bytes, ready or not.
     ghost content: { Self → List ℕ };
 
-    // Those that are ready.
+    // The bytes that are ready.
     ghost ready: { Self → List ℕ };
 
     // The segment with other bytes in place of those that are ready.
@@ -29,7 +29,7 @@ pub trait Segment {
     fn empty(alloc: Global) -> Self
         ensures { content result ≡ [] };
 
-    /// How many bytes it has, be they ready or not.
+    /// How many bytes the segment has, ready or not.
     fn len(&self) -> usize
         ensures { result ≡ length (content self.now) };
 
@@ -90,7 +90,7 @@ pub trait Allocator: Drop {
             × (refusals self.new ≡ one_more (refusals self.old))) }
         ensures offers { offers self.new ≡ offers self.old };
 
-    /// Gives a segment back, of which the first `used_words` words were allocated. All words behind
+    /// Gives a segment back, whose first `used_words` words were allocated. All words behind
     /// these are zero.
     fn deallocate_segment(&mut self, segment: Self::Segment, used_words: u32)
         requires within { 8 * used_words ≤ length (Self.Segment.content segment) }

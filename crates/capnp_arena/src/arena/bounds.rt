@@ -15,7 +15,7 @@ ghost use Rattle.capnp_arena.specs.Row.{shown, capacity_at};
 use crate::arena::Segment;
 use crate::arena::row::Row;
 
-/// The first row from `from` on of which no bound says that it has no room for so many words.
+/// The first row from `from` on that no bound says to have no room for so many words.
 fn first_allowed<S: Segment>(rows: &[Row<S>], from: usize, amount: u32) -> Option<usize>
     requires few { length rows.now ≤ max_segments }
     requires bounded { HasBounds S.Segment rows.now }

@@ -69,7 +69,8 @@ fn give_back_list<A: Allocator>(allocator: &mut A, mut rows: Vec<Row<A::Segment>
     rows.destroy_empty();
 }
 
-/// The same for the rows behind a first one that stands apart, of which most messages have none.
+/// Gives the segments of the rows behind a first one that stands apart back to the allocator once, in
+/// order of number. Most messages have no such rows.
 #[inline(never)]
 fn give_back_others<A: Allocator>(allocator: &mut A, rows: Vec<Row<A::Segment>>)
     ensures { RefusesNothing A.Allocator allocator.old allocator.new }
@@ -81,7 +82,8 @@ fn give_back_others<A: Allocator>(allocator: &mut A, rows: Vec<Row<A::Segment>>)
     }
 }
 
-/// The same for all rows where the first stands apart.
+/// Gives the segments of all rows back to the allocator once, in order of number, where the first row
+/// stands apart.
 #[inline(always)]
 fn give_back_apart<A: Allocator>(allocator: &mut A, rows: Rows<A::Segment>)
     ensures { RefusesNothing A.Allocator allocator.old allocator.new }
@@ -105,8 +107,8 @@ fn give_back_apart<A: Allocator>(allocator: &mut A, rows: Rows<A::Segment>)
     }
 }
 
-/// Gives each segment back to the allocator once, in order of number. Of one of the two kinds
-/// there are none.
+/// Gives each segment back to the allocator once, in order of number. There are no rows of one of the
+/// two kinds.
 #[inline(always)]
 fn give_back<A: Allocator>(allocator: &mut A, listed: Listed<A::Segment>, apart: Rows<A::Segment>)
     ensures { RefusesNothing A.Allocator allocator.old allocator.new }
@@ -146,7 +148,7 @@ fn put_behind<A: Allocator>(
     }
 }
 
-/// The same for rows in a list.
+/// Puts a segment behind the others as `put_behind` does, for rows in a list.
 #[tactic(auto, using(crate::proofs::TakingLemmas::pushed, crate::proofs::BoundsLemmas::bounded_pushed))]
 fn put_in_list<A: Allocator>(
     allocator: &mut A,
@@ -206,7 +208,7 @@ fn allocated_of_each<S: Segment>(alloc: Global, rows: &Rows<S>) -> Result<Vec<&[
     Ok(segments)
 }
 
-/// The same for rows in a list.
+/// The allocated words of each row of a list, in order. Want of memory is `AllocationFailed`.
 fn allocated_of_list<S: Segment>(alloc: Global, list: &Listed<S>) -> Result<Vec<&[u8]>, ErrorKind>
     ensures bytes { IfOk result
         (λ v. map (λ s. s.now) v.items ≡ shown S.Segment list.now.rows.items) }
@@ -220,7 +222,7 @@ fn allocated_of_list<S: Segment>(alloc: Global, list: &Listed<S>) -> Result<Vec<
     Ok(segments)
 }
 
-/// What goes out of rows of which the first stands apart.
+/// What goes out of rows whose first one stands apart.
 fn output_apart<S: Segment>(alloc: Global, rows: &Rows<S>) -> Result<OutputSegments<'_>, ErrorKind>
     ensures bytes { IfOk result
         (λ o. output_bytes o ≡ shown S.Segment (all S.Segment rows.now)) }
@@ -269,7 +271,7 @@ fn used_in<S: Segment>(rows: &[Row<S>]) -> usize
     words
 }
 
-/// The same for rows of which the first stands apart.
+/// How many words of rows are allocated, where the first row stands apart.
 fn used_apart<S: Segment>(rows: &Rows<S>) -> usize
     ensures { result ≡ total_words (shown S.Segment (all S.Segment rows.now)) }
 {

@@ -185,7 +185,7 @@ pub(crate) fn allocated_in<S: Segment>(rows: &[Row<S>], id: usize) -> Option<&[u
     }
 }
 
-/// Rows of which the first stands apart.
+/// Rows whose first one stands apart.
 pub(crate) struct Rows<S: Segment> {
     pub(crate) first: Row<S>,
     /// Whether there is a first row; else it is one of no words, and there are no others.
@@ -370,7 +370,8 @@ impl<S: Segment> Rows<S> {
             ≤ length (segment (message (shown S.Segment (all S.Segment self.old))) to.segment) }
         ensures { RewritesRows S.Segment (all S.Segment self.old) (all S.Segment self.new)
             (with_words (message (shown S.Segment (all S.Segment self.old))) to.segment to.at
-            (words_at (message (shown S.Segment (all S.Segment self.old))) from.segment from.at n)) }
+            (words_at (message (shown S.Segment (all S.Segment self.old)))
+            from.segment from.at n)) }
     {
         if from.segment == 0 {
             let new = At {

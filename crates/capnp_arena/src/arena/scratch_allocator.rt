@@ -1,4 +1,4 @@
-//! Segments of which the first is in memory that the caller lends.
+//! Segments whose first one is in memory that the caller lends.
 ghost use Rattle.std.specs.Prelude.{◌++◌, ◌∷◌, [], ◌≡◌, ◌≤◌, ◌<◌, ◌+◌, ◌*◌, ◌/◌, ◌==◌, ℕ, List, length, replicate, min, max, refl, true, false, IsTrue, IsFalse, IsSome, IsNone, IfSome, ◌↔◌, IsOk, IfOk, IsOkAnd, OnOk, IfErr, Err};
 ghost use Rattle.capnp_arena_traits.specs.Allocations.{IsClearFrom, IsFresh, max_segment_words, one_more};
 ghost use Rattle.capnp_words.specs.declared.error.ErrorKind.TheVariants.{AllocationFailed, MessageTooLarge};
@@ -139,14 +139,14 @@ impl<'a> ZeroBytes<'a> {
         ZeroBytes { bytes }
     }
 
-    /// How many of its whole words are a segment.
+    /// How many of the whole words are a segment.
     fn words(&self) -> u32
         ensures { result ≡ min (self.now / 8) max_segment_words }
     {
         (self.bytes.len() / 8).min(MAX_SEGMENT_WORDS as usize) as u32
     }
 
-    /// These words, as bytes.
+    /// The words of the segment, as bytes.
     fn into_words(self) -> &'a mut [u8]
         ensures fresh { IsFresh 0 result.now }
         ensures words { length result.now / 8 ≡ min (self.entry / 8) max_segment_words }
@@ -159,9 +159,9 @@ impl<'a> ZeroBytes<'a> {
 
 /// Makes segments as `HeapAllocator` does, but for one: the scratch space, which is memory that the caller lends.
 ///
-/// Its whole words, at most 536,870,911, are a segment. A request that it can hold is met by it while
-/// it isn't out, takes no memory and is never refused. Given back, it can be handed out again. A
-/// scratch space without a whole word is never handed out.
+/// The whole words of the scratch space, at most 536,870,911, are a segment. A request that it can hold
+/// is met by it while it isn't out, takes no memory and is never refused. Given back, it can be handed
+/// out again. A scratch space without a whole word is never handed out.
 ///
 /// An arena over it keeps the row of its first segment in itself. So a message that fits in the
 /// scratch space takes no memory at all.

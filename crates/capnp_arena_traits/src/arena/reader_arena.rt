@@ -23,7 +23,7 @@ pub trait ReaderArena {
     // The refusal of a segment that is not there.
     ghost absent: { Self → ℕ → ErrorKind };
 
-    // It names the number, or says that there is no segment at all.
+    // The refusal names the number, or says that there is no segment at all.
     ghost absent_named: { (a : Self) (id : ℕ) → IsUnknown (segments a) id (absent a id) };
 
     /// The whole words of segment `id`, as bytes, fewer than 2^35 of them. Segments are numbered from 0.

@@ -84,8 +84,8 @@ pub(crate) fn put_default<A: BuilderArena>(
     copy_default(arena, id, at, bytes)
 }
 
-/// Does so for a text or data, of which none is null: where the pointer is null, a default whose first word
-/// is null is `ExistingPointerIsNotAList`.
+/// Does `put_default` for a text or data, which is never null: where the pointer is null, a default whose
+/// first word is null is `ExistingPointerIsNotAList`.
 pub(crate) fn put_blob_default<A: BuilderArena>(
     arena: &mut A,
     id: u32,

@@ -99,11 +99,11 @@ impl<'a, A: BuilderArena> PointerBuilder<'a, A> {
     /// ("Structs"). One that is large enough is given as it stands, and nothing is changed. Where a section
     /// is too small, the struct stands anew with each section as large as the greater of old and wanted:
     /// its data and its children are the same, with zeros and nulls behind them. A null pointer becomes the
-    /// default's value, as by `put_default`, or a struct of just that size, all zero.
+    /// default's value, as by `put_default`, or a struct of exactly that size, all zero.
     ///
     /// What is no struct is `MessageContainsNonStructPointerWhereStructPointerWasExpected`. Any other
     /// refusal is one of `put_default`, or `AllocationFailed` or `MessageTooLarge` of the words of a struct
-    /// or of landing pads, and then what stood stands. A default that was put stays also where the call is
+    /// or of landing pads, and then what was there stays. A default that was put stays also where the call is
     /// refused then.
     #[inline(always)]
     pub fn get_struct(
@@ -165,14 +165,14 @@ impl<'a, A: BuilderArena> PointerBuilder<'a, A> {
     /// The list that the pointer leads to, as a list of structs to be written, with sections at least as
     /// large as asked for ("Lists"). One that is large enough is given as it stands, and nothing is changed.
     /// Any other list stands anew as one of structs: with sections as large as the greater of old and
-    /// wanted; of just the wanted size from void; a number as the lowest bits of a first data word; a
+    /// wanted; of exactly the wanted size from void; a number as the lowest bits of a first data word; a
     /// pointer as a first pointer. A null pointer becomes the default's value, as by `put_default`, or
     /// gives a void list of none, and then nothing is changed.
     ///
     /// What isn't a list is `ExistingPointerIsNotAList`, a list of bits
     /// `FoundBitListWhereStructListWasExpected`, and elements that would take 2^29 words or more are
     /// `MessageTooLarge` of these words. Any other refusal is one of `put_default`, or `AllocationFailed` or
-    /// `MessageTooLarge` of the words of a list or of landing pads, and then what stood stands. A default
+    /// `MessageTooLarge` of the words of a list or of landing pads, and then what was there stays. A default
     /// that was put stays also where the call is refused then.
     pub fn get_struct_list(
         mut self,

@@ -103,7 +103,7 @@ impl<'a, A: BuilderArena> ListBuilder<'a, A> {
     ghost use Rattle.capnp_builders.specs.contracts.builders.list_builder.ListBuilder.{the_row};
     ghost use mir.Syntax.{named};
 
-    /// The same list, for as long as it is borrowed.
+    /// A builder of this list, for as long as this one is borrowed.
     pub fn reborrow(&mut self) -> ListBuilder<'_, A>
         ensures* lends { sem 𝓛 (follows (the_row (record { mir = named 1; lft = [] }) A.row) A.row
             self.entry.ghost_name result.arena.ghost_name

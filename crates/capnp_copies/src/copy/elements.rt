@@ -22,8 +22,7 @@ use capnp_words::error::ErrorKind;
 use capnp_words::read_limiter::ReadLimiter;
 use capnp_words::words::{count, part};
 
-/// Copies elements, of which `from` is the first word, over words of zero, each cut to the sections that
-/// are kept.
+/// Copies elements, whose first word is `from`, over words of zero, each cut to the sections that are kept.
 #[cycle(copies)]
 #[inline(always)]
 pub(crate) fn copy_elements<A: BuilderArena, B: ReaderArena>(

@@ -18,8 +18,8 @@ use capnp_words::error::ErrorKind;
 use capnp_words::wire_pointer::{ElementSize, data_bits_per_element};
 use capnp_words::words;
 
-/// Copies so many elements, of which these are the words, and sets the pointer at a place to them.
-/// Where the arena refuses it, no word changes.
+/// Copies `count` elements, whose words are given, and sets the pointer at a place to the copies. Where the
+/// arena refuses it, no word changes.
 #[inline(always)]
 pub fn copy_flat<A: BuilderArena>(
     arena: &mut A,

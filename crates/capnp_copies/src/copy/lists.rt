@@ -19,7 +19,7 @@ use capnp_words::error::ErrorKind;
 use capnp_words::read_limiter::ReadLimiter;
 use capnp_words::wire_pointer::{ElementSize, StructSize};
 
-/// Copies a list of so many pointers, of which `from` is the first, to the pointer at a place.
+/// Copies a list of `count` pointers, the first of which is `from`, to the pointer at a place.
 #[cycle(copies)]
 #[inline(always)]
 pub fn copy_pointers<A: BuilderArena, B: ReaderArena>(
@@ -44,8 +44,8 @@ pub fn copy_pointers<A: BuilderArena, B: ReaderArena>(
     copy_in_line(arena, elements, from, count, lim)
 }
 
-/// Copies a list of so many structs, of which `from` is the first word behind the tag, to the pointer
-/// at a place. In canonical form its elements have the least sections that lose nothing.
+/// Copies a list of structs, whose first word behind the tag is `from`, to the pointer at a place. In
+/// canonical form the elements of the copy have the least sections that lose nothing.
 #[cycle(copies)]
 #[inline(always)]
 pub fn copy_structs<A: BuilderArena, B: ReaderArena>(
@@ -81,8 +81,8 @@ pub fn copy_structs<A: BuilderArena, B: ReaderArena>(
     copy_elements(arena, Destination { place, form }, from, sizes, lim)
 }
 
-/// The sections that a copy of so many structs keeps of each, of which `from` is the first word: in
-/// canonical form the least that lose nothing.
+/// The sections that a copy of `count` structs keeps of each, where `from` is the first word: in canonical
+/// form the least that lose nothing.
 fn kept_widths<B: ReaderArena>(
     from: Pointer<'_, B>,
     size: StructSize,

@@ -21,7 +21,7 @@ use capnp_words::read_limiter::ReadLimiter;
 use capnp_words::wire_pointer::StructSize;
 use capnp_words::words::{part, used_part};
 
-/// Copies a struct, of which `from` is the first word, to the pointer at a place. In canonical form
+/// Copies a struct, whose first word is `from`, to the pointer at a place. In canonical form
 /// it is without the zeros and null pointers at the ends of its sections.
 #[cycle(copies)]
 #[inline(always)]
@@ -63,7 +63,7 @@ pub(crate) fn copy_struct<A: BuilderArena, B: ReaderArena>(
     copy_children(arena, Destination { place, form }, children, pointers, lim)
 }
 
-/// The sections that a copy of a struct keeps, of which `from` is the first word: in canonical form
+/// The sections that a copy keeps of a struct, whose first word is `from`: in canonical form
 /// the words of each up to the last that is not zero.
 #[inline(always)]
 fn kept_sections<B: ReaderArena>(
@@ -85,8 +85,8 @@ fn kept_sections<B: ReaderArena>(
     }
 }
 
-/// How much of a struct's sections is used, of which `from` is the first word: the words of each up
-/// to the last that is not zero.
+/// How much of the sections of a struct is used, whose first word is `from`: the words of each up to the
+/// last that is not zero.
 #[inline(always)]
 fn used_sections<B: ReaderArena>(from: Pointer<'_, B>, size: StructSize) -> StructSize
     requires inside { from.place.at + (size.data_words + size.pointers)

@@ -32,7 +32,7 @@ pub(crate) enum Wanted {
 pub(crate) struct Copying<'a> {
     /// The message.
     pub(crate) source: Source<'a>,
-    /// What its root is to lead to.
+    /// What the source's root is to lead to.
     pub(crate) wanted: Wanted,
     /// Whether the copy is in canonical form.
     pub(crate) canonicalize: bool,

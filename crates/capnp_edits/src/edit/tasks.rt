@@ -28,20 +28,20 @@ pub(crate) enum NewObject<'a> {
 /// A bit, or a number of 1, 2, 4 or 8 bytes, and its index among numbers as wide.
 #[derive(Clone, Copy)]
 pub(crate) struct Number {
-    /// How wide it is.
+    /// How wide the number is.
     pub(crate) size: ElementSize,
-    /// Which one it is.
+    /// The index of the number.
     pub(crate) index: u32,
-    /// What it becomes.
+    /// What the number becomes.
     pub(crate) value: u64,
 }
 
 /// What is done with a struct, at a pointer that leads to one or at an element of a list.
 #[derive(Clone, Copy)]
 pub(crate) enum StructChange<'a> {
-    /// A number of its data section is written.
+    /// A number of the struct's data section is written.
     Bits(Number),
-    /// Its content becomes that of the struct that the root of another message leads to.
+    /// The struct's content becomes that of the struct that the root of another message leads to.
     Content(Source<'a>),
 }
 

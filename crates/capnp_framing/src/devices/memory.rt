@@ -79,7 +79,8 @@ impl Output for MemoryOutput {
     fn write(&mut self, from: &[u8]) -> Result<usize, DeviceFault>
         ensures takes { WriteTakes ⟦<Self as Output>⟧ result self.old self.new from.now }
         ensures all { IfOk result (λ n. n ≡ length from.now) }
-        ensures full { OnErr result (vec_capacity self.old.bytes < vec_len self.old.bytes + length from.now) }
+        ensures full { OnErr result
+            (vec_capacity self.old.bytes < vec_len self.old.bytes + length from.now) }
     {
         if self.bytes.extend_from_slice(from).is_err() {
             self.failed = true;

@@ -35,7 +35,8 @@ impl<R: Read> Input for ReaderInput<R> {
 
     fn read(&mut self, to: &mut [u8]) -> Result<usize, DeviceFault>
         ensures gives { ReadGives ⟦<Self as Input>⟧ result self.old self.new to.new }
-        ensures stops { self.old.failed ≡ true → IsErr result × (self.new.reader ≡ self.old.reader) }
+        ensures stops { self.old.failed ≡ true
+            → IsErr result × (self.new.reader ≡ self.old.reader) }
     {
         if self.failed {
             return Err(DeviceFault);

@@ -106,7 +106,7 @@ impl ReaderSegments for FrameSegments<'_> {
 /// Reads a message from the front of bytes, where they stand: nothing is copied, and no memory is taken. Bytes
 /// behind the message are not looked at. `None` is no bytes.
 ///
-/// It refuses what `read` refuses, in the same order, but for what a device or want of memory may do.
+/// The call refuses what `read` refuses, in the same order, but for what a device or want of memory may do.
 pub fn read_from_flat_slice(
     bytes: &[u8],
     max_words: u64,

@@ -89,7 +89,7 @@ impl ReaderSegments for OwnedSegments {
     }
 }
 
-/// Those that are lent.
+/// Segments that are lent.
 impl ReaderSegments for &OwnedSegments {
     ghost segments = { λ m. ⟦<OwnedSegments as ReaderSegments>⟧.segments m.now };
 

@@ -65,8 +65,8 @@ pub(super) fn make_room<A: Allocator>(
     }
 }
 
-/// Makes room for a byte or more behind all bytes, of which n are kept. An allocator counts where there is
-/// no memory for one.
+/// Makes room for a byte or more behind the first n bytes, which are kept. An allocator counts where there
+/// is no memory for one.
 #[cold]
 #[inline(never)]
 fn make_some_room<A: Allocator>(
@@ -185,7 +185,7 @@ pub(super) fn words_between(table: &[u8], first: usize, end: usize) -> u64
     words
 }
 
-/// Before which word each segment ends of which a table tells the length, and how many words there are.
+/// Before which word each segment ends whose length a table tells, and how many words there are.
 fn ends_of<A: Allocator>(
     allocator: &mut A,
     table: &[u8],
@@ -265,7 +265,8 @@ pub fn read_into_with<A: Allocator, R: Input>(
     into: &mut OwnedSegments,
 ) -> Result<bool, FrameError>
     requires { R.has_failed input.old ≡ false }
-    ensures end { result ≡ Ok false → IsAtEnd (R.remaining input.old) × IsAtEnd (R.remaining input.new) }
+    ensures end { result ≡ Ok false
+        → IsAtEnd (R.remaining input.old) × IsAtEnd (R.remaining input.new) }
     ensures none { result ≡ Ok false → ⟦<OwnedSegments as ReaderSegments>⟧.segments into.new ≡ [] }
     ensures read { result ≡ Ok true → IsFrameRead R.Input input.old input.new
         (message (⟦<OwnedSegments as ReaderSegments>⟧.segments into.new)) }
@@ -303,7 +304,8 @@ pub fn read_into<R: Input>(
     into: &mut OwnedSegments,
 ) -> Result<bool, FrameError>
     requires { R.has_failed input.old ≡ false }
-    ensures end { result ≡ Ok false → IsAtEnd (R.remaining input.old) × IsAtEnd (R.remaining input.new) }
+    ensures end { result ≡ Ok false
+        → IsAtEnd (R.remaining input.old) × IsAtEnd (R.remaining input.new) }
     ensures none { result ≡ Ok false → ⟦<OwnedSegments as ReaderSegments>⟧.segments into.new ≡ [] }
     ensures read { result ≡ Ok true → IsFrameRead R.Input input.old input.new
         (message (⟦<OwnedSegments as ReaderSegments>⟧.segments into.new)) }
@@ -320,14 +322,15 @@ pub fn read_into<R: Input>(
 /// Reads a message from the front of an input, and leaves what stands behind it. `None` is an input that
 /// is at its end at once.
 ///
-/// It refuses what `read_into` refuses, and leaves as much unread then.
+/// The call refuses what `read_into` refuses, and leaves as much unread then.
 pub fn read<R: Input>(
     alloc: Global,
     input: &mut R,
     max_words: u64,
 ) -> Result<Option<OwnedSegments>, FrameError>
     requires { R.has_failed input.old ≡ false }
-    ensures end { result ≡ Ok None → IsAtEnd (R.remaining input.old) × IsAtEnd (R.remaining input.new) }
+    ensures end { result ≡ Ok None
+        → IsAtEnd (R.remaining input.old) × IsAtEnd (R.remaining input.new) }
     ensures read { IfOk result (λ m.
         IfSome m (λ owned. IsFrameRead R.Input input.old input.new
         (message (⟦<OwnedSegments as ReaderSegments>⟧.segments owned)))) }

@@ -82,7 +82,7 @@ pub fn copy_canonical_with<A: Allocator, B: ReaderArena>(
     messages::copy_canonical_with(alloc, allocator, from.pointer(), lim)
 }
 
-/// The same as `copy_canonical_with`, with memory of the heap: just as many words as each try asks for.
+/// Does `copy_canonical_with` with memory of the heap: exactly as many words as each try asks for.
 pub fn copy_canonical<B: ReaderArena>(
     alloc: Global,
     from: PointerReader<'_, B>,

@@ -18,8 +18,8 @@ use capnp_words::read_limiter::ReadLimiter;
 pub(crate) fn is_canonical(source: Message, options: ReaderOptions) -> Result<bool, ErrorKind>
     ensures small { OnOk result (IsSmall (segments_in source)) }
     ensures check { IfOk result (CheckOf (message (segments_in source)) options) }
-    ensures answered { IsSmall (segments_in source) → CheckOf (message (segments_in source)) options true
-        → IsOk result }
+    ensures answered { IsSmall (segments_in source)
+        → CheckOf (message (segments_in source)) options true → IsOk result }
     ensures refused { IfErr result (RefusesMessage (segments_in source) (Args.Check options)) }
 {
     within_limits(&source)?;

@@ -1,4 +1,4 @@
-//! A copy in canonical form ("Canonicalization"), in a segment of which the size is found by tries: the
+//! A copy in canonical form ("Canonicalization"), in a segment whose size is found by tries: the
 //! first asks for the words of the message that is read and one more, each further one for twice those
 //! of the one before, so that all together take no longer than twice the last. While one runs, its
 //! allocator is taken out, so that it ends where that segment does.
@@ -62,8 +62,8 @@ fn copy_root<A: BuilderArena, B: ReaderArena>(
     Ok(lim)
 }
 
-/// The same into its only segment, which has room for so many words. What doesn't fit there is
-/// `MessageTooLarge` with that number.
+/// Copies what a pointer means to the root of a message, into the first `room` words of its only segment.
+/// What doesn't fit there is `MessageTooLarge(room)`.
 fn copy_to_segment<A: Allocator, B: ReaderArena>(
     arena: &mut BuilderArenaImpl<A>,
     from: Pointer<'_, B>,
@@ -133,9 +133,9 @@ fn count_pointers(lim: &mut ReadLimiter, pointers: u64)
     }
 }
 
-/// Charges and counts what a copy has spent, of which its own limiter is given: it had as many words
-/// as this one, and no pointer was followed. Where none was followed here either, the copy's limiter
-/// takes the place of this one, and nothing is counted.
+/// Charges and counts what a copy has spent by its own limiter, which had as many words as this one at
+/// first, and no pointer followed. Where none was followed here either, the copy's limiter takes the place
+/// of this one, and nothing is counted.
 fn settle(lim: &mut ReadLimiter, own: ReadLimiter)
     requires { IsLeftOf own.left lim.old.left }
     ensures left { lim.new.left ≡ own.left }
@@ -309,7 +309,7 @@ pub fn copy_canonical_with<A: Allocator, B: ReaderArena>(
 /// A message in canonical form, in a segment on the heap.
 pub type CanonicalCopy = BuilderArenaImpl<HeapAllocator>;
 
-/// The same as `copy_canonical_with`, with memory of the heap: just as many words as each try asks for.
+/// Does `copy_canonical_with` with memory of the heap: exactly as many words as each try asks for.
 pub fn copy_canonical<B: ReaderArena>(
     alloc: Global,
     from: Pointer<'_, B>,

@@ -5,17 +5,17 @@
 pub enum Form {
     /// As a frame of one segment ("Serialization Over a Stream").
     Framed,
-    /// As its bare words.
+    /// As the bare words of the message.
     Flat,
 }
 
 /// What is asked of a message.
 #[derive(Clone, Copy, Debug, PartialEq, Eq)]
 pub enum Command {
-    /// Its canonical words ("Canonicalization").
+    /// The canonical words of the message ("Canonicalization").
     Canon(Form),
-    /// Whether it is canonical as a whole.
+    /// Whether the message is canonical as a whole.
     Check,
-    /// How many words and capabilities it has, without landing pads.
+    /// How many words and capabilities the message has, without landing pads.
     Size,
 }

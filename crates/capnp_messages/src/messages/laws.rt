@@ -1,4 +1,4 @@
-//! What is so of canonical messages. Each function does nothing: its contract is the law, proved for all
+//! What is true of canonical messages. Each function does nothing: its contract is the law, proved for all
 //! messages ("Canonicalization").
 
 ghost use Rattle.std.specs.Prelude.{◌≡◌, ◌↔◌, ◌≤◌, ℕ};

@@ -23,7 +23,7 @@ impl<'a> Model for LentZeros<'a> {
 }
 
 impl<'a> LentZeros<'a> {
-    /// All bytes of these, which are zero.
+    /// Lends all of these bytes, which are zero.
     fn new(bytes: &'a mut [u8]) -> Self
         requires { bytes.old ≡ replicate (length bytes.old) 0 }
         ensures { result ≡ length bytes.old }
@@ -31,14 +31,14 @@ impl<'a> LentZeros<'a> {
         LentZeros { bytes }
     }
 
-    /// How many there are.
+    /// How many bytes there are.
     fn len(&self) -> usize
         ensures { result ≡ self.now }
     {
         self.bytes.len()
     }
 
-    /// Those of so many words at the front.
+    /// The bytes of the first `words` words.
     fn into_words(self, words: u32) -> &'a mut [u8]
         requires { 8 * words ≤ self }
         ensures { result.now ≡ zeros words }
@@ -48,8 +48,9 @@ impl<'a> LentZeros<'a> {
     }
 }
 
-/// Makes one segment in memory that is lent, of just as many words as are asked for, and takes no other memory for it.
-/// A further segment is refused, and so is one for which the memory is too small: nothing is lent then either.
+/// Makes one segment in memory that is lent, of exactly as many words as are asked for, and takes no
+/// other memory. A further segment is refused, and so is one for which the memory is too small: nothing
+/// is lent then either.
 #[derive(Drop)]
 pub struct LentMemory<'a> {
     memory: Option<LentZeros<'a>>,
@@ -57,7 +58,7 @@ pub struct LentMemory<'a> {
 }
 
 impl<'a> LentMemory<'a> {
-    /// Over memory that is zero.
+    /// An allocator over memory that is zero.
     pub fn new(memory: &'a mut [u8]) -> Self
         requires { memory.old ≡ replicate (length memory.old) 0 }
         ensures refused { result.refused ≡ 0 }
@@ -70,7 +71,7 @@ impl<'a> LentMemory<'a> {
         }
     }
 
-    /// So many words, if there are as many and none were lent yet.
+    /// Lends the first `words` words, if there are as many and none were lent yet.
     fn lend(&mut self, words: u32) -> Option<&'a mut [u8]>
         ensures lent { IfSome self.old.memory (λ bytes. 8 * words ≤ bytes → IsSome result) }
         ensures fresh { IfSome result (λ s. s.now ≡ zeros words) }
@@ -116,7 +117,7 @@ impl<'a> Allocator for LentMemory<'a> {
         }
     }
 
-    /// It isn't lent again.
+    /// The memory isn't lent again.
     fn deallocate_segment(&mut self, _segment: &'a mut [u8], _used_words: u32) {}
 
     fn keep<T>(&mut self, list: &mut Vec<T>, row: T) -> Option<T> {

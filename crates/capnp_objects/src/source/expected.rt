@@ -105,7 +105,7 @@ impl<'a, A: ReaderArena> Entrance<'a, A> {
     }
 }
 
-// How it is refused that so many levels are left.
+// The refusal where `depth` levels are left, if that is too few for what is expected.
 fn name_of_depth(expected: Expected, depth: u32) -> Option<ErrorKind>
     ensures { result ≡ (expectation expected).too_deep depth }
 {
@@ -116,7 +116,7 @@ fn name_of_depth(expected: Expected, depth: u32) -> Option<ErrorKind>
     }
 }
 
-// How it is refused that this word describes an object of another kind.
+// The refusal where a word describes an object of another kind than what is expected, if it does.
 fn name_of_kind(expected: Expected, word: WirePointer) -> Option<ErrorKind>
     ensures { result ≡ (expectation expected).another_kind word.0 }
 {
@@ -145,7 +145,7 @@ fn name_of_kind(expected: Expected, word: WirePointer) -> Option<ErrorKind>
     }
 }
 
-// How it is refused that an object of the kind is none that was expected.
+// The refusal where an object of the kind isn't as expected, if it isn't.
 fn name_of_misfit(expected: Expected, object: Object) -> Option<ErrorKind>
     requires { IsAtHand object }
     ensures { result ≡ object_misfit expected object.entry }
@@ -187,7 +187,7 @@ fn ends_in_zero(start: Place, count: u32) -> bool
     word >> (8 * (last % 8)) & 0xff == 0
 }
 
-// How it is refused that a list has elements of a size that is too narrow.
+// The refusal where the elements of a list are too narrow, if they are.
 fn name_of_narrow_elements(expected: ElementSize, found: ElementSize) -> Option<ErrorKind>
     requires { size_number found < 7 }
     ensures { result ≡ narrow_elements expected (size_number found) }
@@ -203,7 +203,7 @@ fn name_of_narrow_elements(expected: ElementSize, found: ElementSize) -> Option<
     }
 }
 
-// How it is refused that a list has structs of these sections.
+// The refusal where the sections of a list of structs are too narrow, if they are.
 fn name_of_narrow_structs(expected: ElementSize, sections: StructSize) -> Option<ErrorKind>
     ensures { result ≡ narrow_structs expected sections }
 {

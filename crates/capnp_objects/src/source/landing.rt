@@ -15,11 +15,11 @@ use std::alloc::AllocError;
 
 // What following a pointer found, in the source that it is read from.
 pub(crate) struct Entrance<'a, A: ReaderArena> {
-    // Where it is read from.
+    // Where the object is read from.
     pub(crate) source: Source<'a, A>,
     // The word that describes the object, and where that starts.
     pub(crate) found: Found<'a>,
-    // How many levels are left, of which a struct and a list take one.
+    // How many levels are left: a struct and a list take one.
     pub(crate) depth: u32,
     ghost held: { IsHeld (source_start A.ReaderArena source).segments found.start },
 }
@@ -206,7 +206,7 @@ impl<'a, A: ReaderArena> Entrance<'a, A> {
     }
 }
 
-// How it is refused that a list of structs has no tag.
+// The refusal of a list of structs without a tag.
 fn name_of_non_struct_tag(purpose: Purpose) -> ErrorKind
     ensures value { purpose ≡ Value
         → result ≡ InlineCompositeListsOfNonStructTypeAreNotSupported }

@@ -12,11 +12,11 @@ pub enum Place {
     Kept { bits: u8, left: u8 },
     /// Before the number of words of zero behind one.
     Zeros,
-    /// Before a byte of a word that is given as it stands, with so many bytes behind it.
+    /// Before a byte of a word that is given as it is, with so many bytes behind it.
     Whole(u8),
-    /// Before the number of words behind that one that are given as they stand.
+    /// Before the number of words behind that one that are given as they are.
     Count,
-    /// Before a byte of such words, with so many bytes behind it.
+    /// Before a byte of the words that are given as they are, with so many bytes behind it.
     Raw(u16),
 }
 
@@ -102,7 +102,7 @@ fn step_zeros(count: u8) -> Taken
     }
 }
 
-/// What a byte of a word gives that is given as it stands, with so many bytes behind it.
+/// What a byte of a word gives that is given as it is, with so many bytes behind it.
 fn step_whole(left: u8, byte: u8) -> Taken
     ensures byte { result.byte ≡ byte_given (Place.Whole left) byte }
     ensures zeros { result.zeros ≡ zeros_given (Place.Whole left) byte }
@@ -120,7 +120,7 @@ fn step_whole(left: u8, byte: u8) -> Taken
     }
 }
 
-/// What the number of words gives that are given as they stand.
+/// What the number of words gives that are given as they are.
 fn step_count(count: u8) -> Taken
     ensures byte { result.byte ≡ byte_given Place.Count count }
     ensures zeros { result.zeros ≡ zeros_given Place.Count count }
@@ -138,7 +138,7 @@ fn step_count(count: u8) -> Taken
     }
 }
 
-/// What a byte of such words gives, with so many bytes behind it.
+/// What a byte of the words gives that are given as they are, with so many bytes behind it.
 fn step_raw(left: u16, byte: u8) -> Taken
     ensures byte { result.byte ≡ byte_given (Place.Raw left) byte }
     ensures zeros { result.zeros ≡ zeros_given (Place.Raw left) byte }

@@ -20,7 +20,7 @@ pub(super) struct ReadAhead<R> {
 }
 
 impl<R: Input> ReadAhead<R> {
-    /// An input of which nothing is read.
+    /// An input from which nothing is read yet.
     pub(super) fn new(input: R) -> Self
         ensures { ⟦<Self as Input>⟧.remaining result ≡ R.remaining input }
     {

@@ -1,4 +1,4 @@
-//! Packed bytes unpacked to a slice that has just the room for what they stand for ("Packing").
+//! Packed bytes unpacked to a slice that has exactly the room for what they stand for ("Packing").
 ghost use Rattle.std.specs.Prelude.{◌≡◌, ◌≤◌, ◌+◌, ◌^◌, length, take, IfSome, IsNone};
 ghost use Rattle.capnp_packing.specs.Packing.{all_given, place_after, place_at_end, unpacked_bytes};
 

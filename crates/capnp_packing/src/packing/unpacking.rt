@@ -51,7 +51,7 @@ fn put_word(tag: u8, packed: &[u8], to: &mut [u8]) -> usize
     at
 }
 
-/// Words of zero, of which so many stand behind the first: as many as there is room for.
+/// Unpacks a word of zero and so many words of zero behind it: as many as there is room for.
 #[inline(always)]
 fn unpack_zeros(more: u8, to: &mut [u8]) -> Progress
     requires { 8 ≤ length to.old }

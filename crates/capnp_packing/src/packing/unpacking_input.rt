@@ -112,7 +112,7 @@ impl<R: Input> UnpackingInput<R> {
         Ok(given)
     }
 
-    /// Reads some bytes, of which there are none only where the packed bytes have ended.
+    /// Reads some bytes, and none only where the packed bytes have ended.
     fn unpack_some(&mut self, to: &mut [u8]) -> Result<usize, DeviceFault>
         requires { 0 < length to.old }
         ensures { UnpacksSome R.Input result self.old self.new to.new }
@@ -165,8 +165,8 @@ impl<R: Input> UnpackingInput<R> {
         n
     }
 
-    /// Reads words that are given as they stand, of which there are so many bytes behind the first.
-    /// They go straight to where they are wanted.
+    /// Reads words that are given as they are, with so many bytes behind the first one. The bytes go
+    /// straight to where they are wanted.
     fn read_raw(&mut self, left: u16, to: &mut [u8]) -> Result<usize, DeviceFault>
         requires place { self.old.place ≡ Place.Raw left }
         requires zeros { self.old.zeros ≡ 0 }

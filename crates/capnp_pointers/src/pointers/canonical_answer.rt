@@ -83,7 +83,7 @@ pub(crate) fn reason_of(word: WirePointer) -> CanonicalFaultReason
     }
 }
 
-// How it is refused that the object of a word isn't read.
+// The refusal where the object of a word isn't read.
 fn name_of_refusal(word: WirePointer, kind: ErrorKind) -> ErrorKind
     ensures { result ≡ level_refusal_name word.0 kind }
 {

@@ -68,11 +68,11 @@ impl<'a, A: ReaderArena> Pointer<'a, A> {
         }
     }
 
-    /// The size of an object that has so many words of its own and so many pointers, of which this is the
-    /// first: itself and all below.
+    /// The size of an object that has so many words of its own and so many pointers, the first of which is
+    /// this one: itself and all below.
     ///
-    /// Its own words aren't charged, and take no level. The pointers stand one behind the other; each is
-    /// counted, charged and refused as `total_size` does it, in order, with the sums begun at the
+    /// The object's own words aren't charged, and take no level. The pointers stand one behind the other;
+    /// each is counted, charged and refused as `total_size` does it, in order, with the sums begun at the
     /// object's own words.
     pub fn total_size_of(
         &self,

@@ -37,7 +37,7 @@ pub struct ListPlace {
 
 /// A list that is read, with the words of its elements at hand.
 pub struct ListReader<'a, A: ReaderArena> {
-    /// Where it is read from.
+    /// Where the list is read from.
     pub source: Source<'a, A>,
     /// The words of the elements.
     pub content: &'a [u8],

@@ -45,7 +45,7 @@ impl<'a, A: ReaderArena> StructReader<'a, A> {
     /// How many words the struct takes, itself and all below, without landing pads, and how many
     /// capabilities it has ("Structs").
     ///
-    /// Its own words are its data section, rounded up to words, and its pointers; they aren't
+    /// The struct's own words are its data section, rounded up to words, and its pointers; they aren't
     /// charged, and take no level. Each pointer is counted, charged and refused as
     /// `PointerReader::total_size` does it, in order, with the sums begun at the struct's own words.
     pub fn total_size(&self, lim: &mut ReadLimiter) -> Result<MessageSize, ErrorKind>

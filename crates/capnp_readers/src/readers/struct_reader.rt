@@ -36,7 +36,7 @@ pub struct StructPlace {
 
 /// A struct that is read, with its data section at hand.
 pub struct StructReader<'a, A: ReaderArena> {
-    /// Where it is read from.
+    /// Where the struct is read from.
     pub source: Source<'a, A>,
     /// The bytes of the data section.
     pub content: &'a [u8],

@@ -8,9 +8,9 @@ use capnp_words::error::ErrorKind;
 /// Why a message of a stream isn't answered.
 #[derive(Clone, Copy, Debug, PartialEq, Eq)]
 pub enum Fault {
-    /// No frame of it is read, or the answer isn't written; with the refusal of the frame.
+    /// No frame of the message is read, or the answer isn't written; with the refusal of the frame.
     Frame(FrameError),
-    /// What it means isn't copied, tested or measured; with the refusal of that.
+    /// What the message means isn't copied, tested or measured; with the refusal of that.
     Layout(ErrorKind),
     /// There were more messages than 64 bits count.
     TooManyMessages,

@@ -28,9 +28,9 @@ pub struct Task {
 /// What the program is asked for.
 #[derive(Clone, Copy)]
 pub enum Request {
-    /// What its arguments mean.
+    /// What the program's arguments mean.
     Help,
-    /// Its name and version.
+    /// The program's name and version.
     Version,
     /// A task, done with each message of its input, and how many of the last words are files.
     /// Without files it is standard input.

@@ -55,7 +55,7 @@ const WORDS: [Word; 16] = [
 ];
 
 impl Word {
-    /// Its text.
+    /// The text of the word.
     fn text(self) -> &'static str
         ensures { result.now ≡ text_of_word self }
     {
@@ -106,7 +106,7 @@ pub(super) struct Line {
     from_flat: bool,
     hex: bool,
     quiet: bool,
-    /// The option of which the value comes next.
+    /// The option whose value comes next.
     expects: Option<Setting>,
 }
 
@@ -128,7 +128,7 @@ impl Line {
         }
     }
 
-    /// Whether its command has all of its options.
+    /// Whether the line's command has all of the line's options.
     fn has_its_options(&self) -> bool
         ensures { result ≡ verb_allows self.now.verb self.now.pack self.now.hex self.now.quiet }
     {
@@ -140,7 +140,7 @@ impl Line {
         }
     }
 
-    /// Whether its input is one message's bare words.
+    /// Whether the line's input is one message's bare words.
     fn reads_flat(&self) -> bool
         ensures { result ≡ line_reads_flat self.now }
     {
@@ -150,7 +150,7 @@ impl Line {
         }
     }
 
-    /// Whether its options go together: digits are neither bare words nor packed, and bare words
+    /// Whether the line's options go together: digits are neither bare words nor packed, and bare words
     /// that are read aren't packed.
     fn has_one_form(&self) -> bool
         ensures { result ≡ options_agree self.now }
@@ -161,7 +161,7 @@ impl Line {
         !self.unpack || !self.reads_flat()
     }
 
-    /// Whether its options are those of its command, and go together.
+    /// Whether the line's options are those of its command, and go together.
     fn is_allowed(&self) -> bool
         ensures { result ≡ line_is_allowed self.now }
     {
@@ -362,7 +362,8 @@ fn read_alone(text: &str, from: Line) -> Option<Line>
 fn parted(text: &str) -> Option<(&str, &str)>
     ensures { MatchOption result (position_or_len is_equals text.now ≡ length text.now) (λ x.
         (position_or_len is_equals text.now < length text.now)
-        × (x.0.now ≡ before_first is_equals text.now) × (x.1.now ≡ after_first is_equals text.now)) }
+        × (x.0.now ≡ before_first is_equals text.now)
+        × (x.1.now ≡ after_first is_equals text.now)) }
 {
     text.split_once('=')
 }

@@ -24,9 +24,9 @@ use capnp_words::wire_pointer::{ElementSize, StructSize};
 /// pointers where they are its elements, as structs, or as numbers with padding of zero. Its own words
 /// and its count cost nothing, and what its elements lead to costs what reading it does.
 ///
-/// Its words stand behind those of the pointer's segment, in the canonical order of objects, where they
-/// all fit its room, or where the message has but one segment afterwards; then no other word changes but
-/// the pointer.
+/// The words of the copy stand behind those of the pointer's segment, in the canonical order of objects,
+/// where they all fit its room, or where the message has but one segment afterwards; then no other word
+/// changes but the pointer.
 ///
 /// A refusal of the arena is `AllocationFailed` or `MessageTooLarge`, and comes only where the words
 /// don't fit behind those of the pointer's segment; a capability is

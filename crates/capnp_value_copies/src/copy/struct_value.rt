@@ -28,9 +28,9 @@ use capnp_words::words::used_part;
 /// data section is padded with zeros to whole words. Its own words cost nothing, and what its pointers
 /// mean costs what reading it does.
 ///
-/// Its words stand behind those of the pointer's segment, in the canonical order of objects, where they
-/// all fit its room, or where the message has but one segment afterwards; then no other word changes but
-/// the pointer.
+/// The words of the copy stand behind those of the pointer's segment, in the canonical order of objects,
+/// where they all fit its room, or where the message has but one segment afterwards; then no other word
+/// changes but the pointer.
 ///
 /// A refusal of the arena is `AllocationFailed` or `MessageTooLarge`, and comes only where the words
 /// don't fit behind those of the pointer's segment; a capability is

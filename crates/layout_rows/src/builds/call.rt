@@ -6,30 +6,30 @@ use crate::types::NumberType;
 /// A call, by what it is made of.
 #[derive(Clone, Copy)]
 pub enum Call {
-    /// Of the message.
+    /// A call of the message.
     Message(MessageCall),
-    /// Of a pointer, a struct or a list: what a reader of it reads.
+    /// A call of a pointer, a struct or a list: what a reader of it reads.
     Read,
-    /// Of a pointer.
+    /// A call of a pointer.
     Pointer(PointerCall),
-    /// Of a pointer that leads to text or to data.
+    /// A call of a pointer that leads to text or to data.
     Bytes(Blob, BlobCall),
-    /// Of a pointer, which becomes a copy.
+    /// A call of a pointer, which becomes a copy.
     Copy(Copying),
-    /// Of a struct.
+    /// A call of a struct.
     Struct(StructCall),
-    /// Of a struct, whose content becomes a copy.
+    /// A call of a struct, whose content becomes a copy.
     Content,
-    /// Of a list.
+    /// A call of a list.
     List(ListCall),
 }
 
 /// A call of the message.
 #[derive(Clone, Copy)]
 pub enum MessageCall {
-    /// Its words.
+    /// The words of the message.
     Words,
-    /// How many segments it has.
+    /// How many segments the message has.
     Len,
     /// How many requests for memory were refused.
     Refused,
@@ -37,7 +37,7 @@ pub enum MessageCall {
     Size,
     /// The allocated words of a segment, as they are lent to be written.
     Allocated,
-    /// The same, and a byte of them is written.
+    /// A byte of the allocated words of a segment is written.
     WriteAllocated,
     /// The pointer of a word.
     PointerAt,
@@ -65,13 +65,13 @@ pub enum WordCall {
 /// How an object is made or looked for.
 #[derive(Clone, Copy)]
 pub enum Verb {
-    /// It is made, and its place is given.
+    /// The object is made, and its place is given.
     Put,
-    /// It is made, and its builder is given.
+    /// The object is made, and its builder is given.
     Init,
-    /// It is looked for, and its place is given.
+    /// The object is looked for, and its place is given.
     Find,
-    /// It is looked for, and its builder is given.
+    /// The object is looked for, and its builder is given.
     Get,
 }
 
@@ -85,30 +85,30 @@ pub enum Blob {
 /// A call on a text or on data.
 #[derive(Clone, Copy)]
 pub enum BlobCall {
-    /// So many bytes are made, and some of them written.
+    /// Zero bytes are made, and some of them written.
     Init,
-    /// These bytes are made.
+    /// Given bytes are made.
     Set,
-    /// They are looked for.
+    /// The bytes are looked for.
     Find,
-    /// They are lent.
+    /// The bytes are lent.
     Get,
-    /// One of them is written.
+    /// One of the bytes is written.
     Write,
 }
 
-/// What is copied of another message.
+/// What is copied of another message, the source.
 #[derive(Clone, Copy)]
 pub enum Copying {
-    /// What its root means.
+    /// What the source's root means.
     Value,
-    /// The struct that its root leads to.
+    /// The struct that the source's root leads to.
     Struct,
-    /// The list that its root leads to, of elements of a size.
+    /// The list that the source's root leads to, of elements of a size.
     List,
-    /// An element of the list that its root leads to, as a struct.
+    /// An element of the list that the source's root leads to, as a struct.
     Element,
-    /// The pointers of the struct that its root leads to, as a list.
+    /// The pointers of the struct that the source's root leads to, as a list.
     Section,
 }
 

@@ -40,7 +40,7 @@ pub fn number<A: BuilderArena>(
     }
 }
 
-// The same of its type.
+// Adds a number of the type `T`, of a struct or a list, or writes it.
 fn number_as<
     A: BuilderArena,
     T: Primitive + Zero + Mask<T = T> + PrimitiveElement + FromStr + Display + Drop,

@@ -104,7 +104,7 @@ fn structure<A: BuilderArena>(
     Ok(Some(Place::Struct(place)))
 }
 
-/// The same of a list whose elements aren't structs.
+/// Makes a list whose elements aren't structs where a pointer leads, or looks for it.
 fn list<A: BuilderArena>(
     mut pointer: PointerBuilder<'_, A>,
     verb: Verb,
@@ -127,7 +127,7 @@ fn list<A: BuilderArena>(
     Ok(Some(Place::List(place)))
 }
 
-/// The same of a list of structs.
+/// Makes a list of structs where a pointer leads, or looks for it.
 fn struct_list<A: BuilderArena>(
     mut pointer: PointerBuilder<'_, A>,
     verb: Verb,

@@ -25,7 +25,7 @@ pub enum Op {
     Size,
     /// The test for canonical form, from a head on.
     Canonical,
-    /// The same of a struct, with a head for it and one for what its pointers lead to.
+    /// The test of a struct for canonical form, with a head for it and one for what its pointers lead to.
     CanonicalStruct,
     CanonicalShared,
     Number(NumberType),

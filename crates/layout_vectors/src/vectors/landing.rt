@@ -76,7 +76,8 @@ fn follow_near<A: ReaderArena>(
     word: WirePointer,
     pads: u32,
 ) -> Option<PointerTarget>
-    ensures { option_map target_at result ≡ near (message (A.segments arena.now)) id at word.0 pads }
+    ensures { option_map target_at result
+        ≡ near (message (A.segments arena.now)) id at word.0 pads }
 {
     match word.target(at, length_of(arena, id)) {
         Some(start) => Some(PointerTarget {

@@ -25,9 +25,9 @@ use std::alloc::{AllocError, Global};
 /// and every other word is zero.
 ///
 /// There are fewer than 2^32 segments, each of fewer than 2^32 words, and segment 0 has a word.
-/// `AllocationFailed` is want of memory, of which it takes a byte for each word, and eight for each
-/// pointer that is still to be looked at. It looks at each word at most twice, and takes no more of
-/// the machine's stack the deeper the message is.
+/// `AllocationFailed` is want of memory. The call takes a byte for each word, and eight for each pointer
+/// that is still to be looked at. It looks at each word at most twice, and takes no more of the machine's
+/// stack the deeper the message is.
 pub fn audit(alloc: Global, segments: &[&[u8]]) -> Result<bool, ErrorKind>
     requires small { AreSmall segments.now }
     requires root { IsPlace (message (map (λ s. s.now) segments.now)) 0 0 }
@@ -51,7 +51,7 @@ pub fn audit(alloc: Global, segments: &[&[u8]]) -> Result<bool, ErrorKind>
     }
 }
 
-/// Whether a message is one that a builder made, with marks for its words of which none is set yet.
+/// Whether a message is one that a builder made, with marks for its words, none of which is set yet.
 fn walk_from_root<A: ReaderArena>(
     alloc: Global,
     arena: &A,

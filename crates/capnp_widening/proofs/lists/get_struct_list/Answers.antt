@@ -164,7 +164,7 @@ returns-in_err-old-clause-stays g c =
       | inr (d, q, es, x, l, m) ↦ not_a_list _ _ (c.in_err-old.ensures.found (Structs d q es) x)
     ]))
 
--- Those that are large enough are given as they stand.
+-- A list whose structs are large enough is given as it is.
 wide_stays : (S : Segments) (s p : ℕ) (l : ExistingList) (size : StructSize) → ((t : Tree) → IsStored S s p t → Ok (Some l) ≡ list_in (target S s p) Void t) → ((l.size ≡ InlineComposite) × (size.data_words ≤ l.struct_size.data_words) × (size.pointers ≤ l.struct_size.pointers) → ⊥) →
     IsStored S s p Null ⊎ ((d : ℕ) × (q : ℕ) × (es : Elements) × IsStored S s p (Structs d q es) × (size.data_words ≤ d) × (size.pointers ≤ q)) → ⊥
 wide_stays S s p l size found narrow (inl x) = found_none l (found Null x)

@@ -14,7 +14,7 @@ use Rattle.capnp_format.specs.Tree.{element_count}
 use Rattle.capnp_contents.specs.declared.existing.ExistingList.{ExistingList}
 use Rattle.capnp_widening.proofs.lists.widen_structs.Goals as goal
 
--- It stands anew, with each section as large as the greater of old and wanted.
+-- The list is made anew, with each section as large as the greater of old and wanted.
 pub returns : goal.returns
 returns g c = record {
   widened = (let S : Segments = (g.A.BuilderArena.view c.args.arena.now).words in

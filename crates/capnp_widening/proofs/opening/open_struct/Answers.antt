@@ -5,7 +5,7 @@ use Rattle.capnp_widening.proofs.StructRooms.{no_struct}
 use Rattle.capnp_widening.proofs.StructsOpened.{struct_wide, some_struct, no_truth}
 use Rattle.capnp_widening.proofs.opening.open_struct.Goals as goal
 
--- It is large enough.
+-- The struct that is there is large enough.
 pub returns-then-is_wide-clause-opened : goal.returns-then-is_wide-clause-opened
 returns-then-is_wide-clause-opened g c = λ t stored.
     (let wide : (c.args.size.data_words ≤ c.in-Some.old.size.data_words) × (c.args.size.pointers ≤ c.in-Some.old.size.pointers) = c.is_wide.ensures.0 (search rules) in
@@ -25,7 +25,7 @@ returns-then-not-is_null-clause-fits g c = λ h. absurd (elim h [
   | inr (ws, ts, x, room) ↦ no_struct _ (c.in-None.ensures.found (Struct ws ts) x)
 ])
 
--- It is null.
+-- The pointer is null.
 pub returns-else-not-is_null-clause-fits : goal.returns-else-not-is_null-clause-fits
 returns-else-not-is_null-clause-fits g c = λ h. elim h [
   | inl (null, room) ↦ c.new_struct.ensures.fits room

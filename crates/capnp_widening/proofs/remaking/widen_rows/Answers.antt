@@ -51,7 +51,7 @@ returns-then-not-are_inside-clause-remakes g c = record {
   few = search rules;
 }
 
--- So many words are refused at once.
+-- A list of more words than a list pointer can say is refused at once.
 pub returns-then-words-ge536870912-clause-large : goal.returns-then-words-ge536870912-clause-large
 returns-then-words-ge536870912-clause-large g c = λ many.
     (let size = c.args.size in

@@ -19,7 +19,7 @@ copy_from-requires-clause-inside g c =
     let cut : IsCut rows front back c.args.to.row = record { parts = c.split_at_mut-front.ensures.value; long = c.split_at_mut-front.ensures.front_len; there = c.requires.rows.1 } in
     room_back g.S.Segment rows front back c.args.to.row _ c.index-back-0.result cut c.index-back-0.is c.requires.inside
 
--- It stands behind the other one: the rows are cut before it.
+-- The row that is copied stands behind the other one: the rows are cut before it.
 pub copy_from-requires-else-from-to-clause-there : goal.copy_from-requires-else-from-to-clause-there
 copy_from-requires-else-from-to-clause-there g c =
     let rows = c.args.rows.now in

@@ -63,7 +63,7 @@ returns-in_err-opened-clause-there g c = λ t stored.
     let (u, stands) = stands_then (object_default c.args.default t) s p a m t c.in_ok-put_default.field-0 stored (c.in_ok-put_default.ensures.put.put t stored) in
     still_there a m b s p c.requires.there c.in_ok-put_default.ensures.put.longer (list_longer c.args.size m b s p u (Err c.in_err-opened.field-0.0) (c.in_err-opened.ensures.opened u stands)))
 
--- It isn't refused where there is room: not for the default, and not once that is put.
+-- The call isn't refused where there is room: not for the default, and not once that is put.
 pub returns-in_err-put_default-clause-fits : goal.returns-in_err-put_default-clause-fits
 returns-in_err-put_default-clause-fits g c = λ h.
     (let (t, stored, fits) = h in
