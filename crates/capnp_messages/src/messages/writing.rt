@@ -25,14 +25,7 @@ use capnp_framing::devices::{DeviceFault, Output, write_all};
 use capnp_framing::framing::{FrameError, write};
 use capnp_pointers::pointers::Pointer;
 use capnp_words::read_limiter::ReadLimiter;
-use capnp_words::words::{count, part};
 use std::alloc::Global;
-
-/// Bytes are those of their words. It does nothing; its contract says so.
-fn are_words(bytes: &[u8])
-    requires { length bytes.now ≡ 8 * length (words_of bytes.now) }
-    ensures { bytes_of_words (words_of bytes.now) ≡ bytes.now }
-{}
 
 /// The bytes of the whole words of a segment.
 pub(super) fn whole_words(segment: &[u8]) -> &[u8]
@@ -40,9 +33,7 @@ pub(super) fn whole_words(segment: &[u8]) -> &[u8]
     ensures words { words_of result.now ≡ words_of segment.now }
     ensures shorter { length result.now ≤ 8 * (length segment.now / 8) }
 {
-    let words = part(segment, 0, count(segment));
-    are_words(words);
-    words
+    &segment[..8 * (segment.len() / 8)]
 }
 
 /// The bytes of a message of one segment, eight for each word.

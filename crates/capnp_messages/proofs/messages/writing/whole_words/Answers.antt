@@ -1,19 +1,20 @@
-use Rattle.std.proofs.Common.{◌≡◌, ◌∙◌, sym, ap, arith, take_all}
+-- The words of the first bytes, eight for each whole word, are all words, and bytes are those of their words.
+use Rattle.std.proofs.Common.{◌≡◌, ℕ, ◌*◌, ◌/◌, ◌∙◌, List, length, take, sym, ap, arith, take_all, length-take}
 use Rattle.capnp_format.specs.Bytes.{words_of}
-use Rattle.capnp_format.proofs.WordsOf.{words}
+use Rattle.capnp_format.proofs.WordsOf.{words, words_of-take}
+use Rattle.capnp_framing.proofs.TableLemmas.{below_take, bytes-words}
 use Rattle.capnp_framing.specs.Frames.{bytes_of_words}
 use Rattle.capnp_messages.proofs.messages.writing.whole_words.Goals as goal
 
-pub part-words-requires : goal.part-words-requires
-part-words-requires c = omega (arith, words c.args.segment.now, c.count.ensures)
+same_words : (bs : List ℕ) → words_of (take (8 * (length bs / 8)) bs) ≡ words_of bs
+same_words bs = words_of-take (length bs / 8) bs (omega arith) ∙ take_all (length bs / 8) (words_of bs) (omega (arith, words bs))
 
 pub returns-clause-bytes : goal.returns-clause-bytes
 returns-clause-bytes c =
-    let same : words_of c.part-words.result.now ≡ words_of c.args.segment.now = c.part-words.ensures.words ∙ take_all c.count.result (words_of c.args.segment.now) (omega (arith, c.count.ensures)) in
-    sym c.are_words.ensures ∙ ap bytes_of_words same
+    let s = c.args.segment.now in
+    let n = length s / 8 in
+    sym (bytes-words n (take (8 * n) s) (omega (arith, length-take (8 * n) s)) (below_take (8 * n) s (λ i. (c.type_inv.segment i).fits)))
+    ∙ ap bytes_of_words (same_words s)
 
 pub returns-clause-words : goal.returns-clause-words
-returns-clause-words c = c.part-words.ensures.words ∙ take_all c.count.result (words_of c.args.segment.now) (omega (arith, c.count.ensures))
-
-pub returns-clause-shorter : goal.returns-clause-shorter
-returns-clause-shorter c = omega (arith, words c.args.segment.now, c.count.ensures, c.part-words.ensures.length)
+returns-clause-words c = same_words c.args.segment.now
