@@ -1,21 +1,37 @@
 -- What writing a canonical frame says, by what its copy says, and what a limiter has left behind a copy.
-use Rattle.std.proofs.Common.{◌≡◌, ℕ, Bool, true, false, List, [], ◌∷◌, Option, Some, None, Result, Ok, Err, OnOk, sym, ap, ◌∙◌, subst, arith}
+use Rattle.std.proofs.Common.{◌≡◌, ℕ, Bool, true, false, List, [], ◌∷◌, Option, Some, None, Result, Ok, Err, OnOk, IfErr, sym, ap, ◌∙◌, subst, arith}
 use Rattle.capnp_words.specs.Meter.{Meter, Affords, FitsIn, less, raised, unused}
 use Rattle.capnp_format.specs.Segments.{Segments}
 use Rattle.capnp_format.specs.Tree.{Tree}
 use Rattle.capnp_format.specs.Canonical.{encoding, trim}
+use Rattle.capnp_words.specs.declared.error.ErrorKind.{ErrorKind}
 use Rattle.capnp_framing.specs.Frames.{frame}
+use Rattle.capnp_framing.specs.declared.framing.frame_error.FrameError.{FrameError}
+use Rattle.capnp_framing.specs.declared.framing.frame_error.FrameError.TheVariants.{WriteFailed}
 use Rattle.capnp_objects.specs.Outcomes.{Reads}
 use Rattle.capnp_objects.specs.Reading.{Reading}
 use Rattle.capnp_objects.specs.Spending.{after, pointers_in}
 use Rattle.capnp_objects.specs.Wanted.{canonical}
 use Rattle.capnp_messages.specs.CanonicalErrors.{IsLeftOf}
+use Rattle.capnp_messages.specs.declared.messages.canonical_error.CanonicalError.{CanonicalError}
+use Rattle.capnp_messages.specs.declared.messages.canonical_error.CanonicalError.TheVariants.{Frame, Layout}
 
 -- the frame of what was made is that of the canonical words
 pub frame_written : {X E : Type 0} (r : Reading) (words : Segments) (old new : Meter) (o : Result X E) (P : List ℕ → Type 0) → (t : Tree) × Reads canonical r old new t × (words ≡ encoding (trim t) ∷ []) → OnOk o (P (frame words)) →
     OnOk o ((t : Tree) × Reads canonical r old new t × P (frame (encoding (trim t) ∷ [])))
 frame_written r words old new (Ok x) P (t, read, is_made) printed = (t, read, subst (λ (S : Segments). P (frame S)) is_made printed)
 frame_written r words old new (Err k) P copied printed = tt
+
+-- a frame that isn't written is no copy that is refused, and is said to be that
+pub no_layout : {A : Type 0} (P : Type 0) (Q : ErrorKind → Type 0) (o : Result A CanonicalError) → IfErr o (λ e. (e ≡ Frame WriteFailed) × P) →
+    IfErr o (λ e. (k : ErrorKind) → e ≡ Layout k → Q k)
+no_layout P Q (Ok x) failed = tt
+no_layout P Q (Err e) failed = λ k same. absurd (let wrong : Frame WriteFailed ≡ Layout k = sym failed.0 ∙ same in cc)
+
+pub frame_failed : {A : Type 0} (P : Type 0) (o : Result A CanonicalError) → IfErr o (λ e. (e ≡ Frame WriteFailed) × P) →
+    IfErr o (λ e. (f : FrameError) → e ≡ Frame f → (f ≡ WriteFailed) × P)
+frame_failed P (Ok x) failed = tt
+frame_failed P (Err e) failed = λ f same. (let is : Frame f ≡ Frame WriteFailed = sym same ∙ failed.0 in cc, failed.1)
 
 none_raised : (f : ℕ) → raised f 0 ≡ f
 none_raised f = omega arith

@@ -7,7 +7,7 @@ use Rattle.capnp_framing.specs.Writing.{Prints}
 use Rattle.capnp_pointers.specs.Pointers.{reading}
 use Rattle.capnp_messages.specs.Copies.{RefusesCopy}
 use Rattle.capnp_messages.proofs.CanonLemmas.{or_memory}
-use Rattle.capnp_messages.proofs.CanonicalFrameLemmas.{frame_written}
+use Rattle.capnp_messages.proofs.CanonicalFrameLemmas.{frame_failed, frame_written, no_layout}
 use Rattle.capnp_messages.proofs.messages.writing.write_canonical.Goals as goal
 
 pub returns-in-Ok-clause-written : goal.returns-in-Ok-clause-written
@@ -23,3 +23,18 @@ returns-clause-layout g c = λ k same.
     let named : c.in-Err.kind ≡ k = cc in
     let why = subst (λ (x : ErrorKind). (x ≡ AllocationFailed) ⊎ RefusesCopy (reading g.B.ReaderArena c.args.from) c.args.lim.now.left max_segment_words x) named (or_memory c.in-Err.ensures.refused) in
     (why, (refl, refl))
+
+pub returns-in-Ok-clause-works : goal.returns-in-Ok-clause-works
+returns-in-Ok-clause-works g c = c.write_copy.ensures.works
+
+pub returns-in-Ok-clause-layout : goal.returns-in-Ok-clause-layout
+returns-in-Ok-clause-layout g c = no_layout _ _ c.write_copy.result c.write_copy.ensures.refused
+
+pub returns-in-Ok-clause-unread : goal.returns-in-Ok-clause-unread
+returns-in-Ok-clause-unread g c = no_layout _ _ c.write_copy.result c.write_copy.ensures.refused
+
+pub returns-in-Ok-clause-frame : goal.returns-in-Ok-clause-frame
+returns-in-Ok-clause-frame g c = frame_failed _ c.write_copy.result c.write_copy.ensures.refused
+
+pub returns-clause-unread : goal.returns-clause-unread
+returns-clause-unread g c = λ k same. c.in-Err.ensures.unread
