@@ -28,7 +28,7 @@ pub behind_long : (len : ℕ) (room xs : List ℕ) → length xs ≡ len → len
 behind_long len room xs long = ap length (take_at xs (drop (length xs) room) len long) ∙ long
 
 -- what was read stands at the front of known bytes
-begins_so : (a b : Option (List ℕ)) (front : List ℕ) (P : List ℕ → Type 0) → Consumes a b front → ((rest : List ℕ) → P (front ++ rest)) → IfSome a P
+pub begins_so : (a b : Option (List ℕ)) (front : List ℕ) (P : List ℕ → Type 0) → Consumes a b front → ((rest : List ℕ) → P (front ++ rest)) → IfSome a P
 begins_so None b front P f h = tt
 begins_so (Some x) None front P f h = absurd f
 begins_so (Some x) (Some y) front P f h = subst P (sym f) (h y)

@@ -1,4 +1,5 @@
 pub mod BareLemmas
+pub mod CountLemmas
 pub mod FlatLemmas
 pub mod FrameLemmas
 pub mod OwnedLemmas

@@ -1,6 +1,7 @@
 -- Why nothing was read, one read behind another.
-use Rattle.std.proofs.Common.{true, false, ◌≡◌, ◌⊎◌, ℕ, ◌+◌, ◌*◌, ◌<◌, ◌≤◌, inl, inr, Result, Ok, Err, List, [], ◌++◌, length, sym, ap, ◌∙◌, subst, arith, length-append, take_at, take_all, refl, Option, Some, None, IfSome, OnOk, IfErr}
+use Rattle.std.proofs.Common.{Bool, true, false, ◌≡◌, ◌⊎◌, ℕ, ◌+◌, ◌*◌, ◌<◌, ◌≤◌, inl, inr, Result, Ok, Err, List, [], ◌++◌, length, sym, ap, ◌∙◌, subst, arith, length-append, take_at, take_all, refl, Option, Some, None, IfSome, OnOk, IfErr}
 use Rattle.std.specs.Int.{from_le_bytes, w32}
+use Rattle.std.specs.Option.{is_some}
 use Rattle.std.specs.Io.KnownBytes.{Consumes}
 use Rattle.capnp_arena_traits.specs.Limits.{IsSmall}
 use Rattle.capnp_framing.specs.Bare.{HasTakenBare, NoSegmentRead}
@@ -39,6 +40,11 @@ on_err P r is = subst (λ r. OnOk r P) (sym is) tt
 
 pub if_err : {A E : Type 0} (P : E → Type 0) (r : Result A E) {a e : E} → r ≡ Err a → a ≡ e → P e → IfErr r P
 if_err P r is same h = subst (λ r. IfErr r P) (sym is) (subst P (sym same) h)
+
+-- what is so of a row that was given back, as one is where there was no memory for it
+pub row_back : {A Q : Type 0} {b : Bool} (r : Option A) (P : A → Type 0) → b ≡ is_some r → b ≡ true → IfSome r P → ((x : A) → P x → Q) → Q
+row_back None P same back h then = absurd (let wrong : ⊥ = cc in wrong)
+row_back (Some x) P same back h then = then x h
 
 -- a call that is refused gives nothing
 pub gives_nothing : {A E P : Type 0} (r : Result A E) (a : A) {e : E} → r ≡ Err e → r ≡ Ok a → P

@@ -1,4 +1,8 @@
-use Rattle.std.proofs.Common.{◌+◌, ◌-◌, ◌*◌, ◌%◌, List, ℕ, length, take, drop, arith, take_all, length-drop, length-take, rules}
+use Rattle.std.proofs.Common.{◌≡◌, ◌∙◌, ◌<◌, refl, ap, ap₂, subst, ◌+◌, ◌-◌, ◌*◌, ◌%◌, List, ℕ, length, take, drop, arith, take_all, length-drop, length-take, rules}
+use Rattle.capnp_framing.specs.Reading.{segments_told, too_long, too_many, words_in_table, words_told}
+use Rattle.capnp_framing.specs.declared.framing.frame_error.FrameError.TheVariants.{MessageTooLong, TooManySegments}
+use Rattle.capnp_framing.proofs.CountLemmas.{table_short, table_there, words_short}
+use Rattle.capnp_framing.proofs.UnreadLemmas.{gives_nothing}
 use Rattle.capnp_framing.proofs.FlatLemmas.{AtFrame, flat_frame, flat_small}
 use Rattle.capnp_framing.proofs.framing.flat.read_from_flat_slice.Goals as goal
 
@@ -23,4 +27,51 @@ returns c =
       read = flat_frame c.args.max_words at (omega (arith, c.if-words-max_words.false, c.starts_of-words.ensures.sum));
       small = flat_small at;
       refused = search rules;
+    }
+
+pub returns-then-told : goal.returns-then-told
+returns-then-told c =
+    let same : c.from-told.result + 1 ≡ segments_told c.args.bytes.now = ap (λ k. k + 1) (c.from-told.ensures ∙ c.number_at.ensures) in
+    record {
+      end = gives_nothing _ _ refl;
+      read = tt;
+      small = tt;
+      refused = too_many c.if-bytes-lt4.false (subst (λ k. 512 < k) same c.if-told.true) (ap TooManySegments same);
+    }
+
+pub returns-then-bytes-size : goal.returns-then-bytes-size
+returns-then-bytes-size c =
+    let same : c.from-told.result + 1 ≡ segments_told c.args.bytes.now = ap (λ k. k + 1) (c.from-told.ensures ∙ c.number_at.ensures) in
+    record {
+      end = gives_nothing _ _ refl;
+      read = tt;
+      small = tt;
+      refused = table_short c.args.bytes.now (c.from-told.result + 1) c.args.max_words c.if-bytes-lt4.false same c.if-told.false c.if-bytes-size.true;
+    }
+
+pub returns-then-words-max_words : goal.returns-then-words-max_words
+returns-then-words-max_words c =
+    let bytes : List ℕ = c.args.bytes.now in
+    let n : ℕ = c.from-told.result + 1 in
+    let same : n ≡ segments_told bytes = ap (λ k. k + 1) (c.from-told.ensures ∙ c.number_at.ensures) in
+    let words : c.starts_of-words.result.1 ≡ words_in_table bytes = c.starts_of-words.ensures.sum ∙ ap₂ words_told same (take_all (length bytes - 4) (drop 4 bytes) (omega (arith, length-drop 4 bytes))) in
+    record {
+      end = gives_nothing _ _ refl;
+      read = tt;
+      small = tt;
+      refused = too_long (table_there bytes n c.if-bytes-lt4.false same c.if-told.false c.if-bytes-size.false) (subst (λ k. c.args.max_words < k) words c.if-words-max_words.true) (ap MessageTooLong words);
+    }
+
+pub returns-then-words-there : goal.returns-then-words-there
+returns-then-words-there c =
+    let bytes : List ℕ = c.args.bytes.now in
+    let n : ℕ = c.from-told.result + 1 in
+    let same : n ≡ segments_told bytes = ap (λ k. k + 1) (c.from-told.ensures ∙ c.number_at.ensures) in
+    let words : c.starts_of-words.result.1 ≡ words_in_table bytes = c.starts_of-words.ensures.sum ∙ ap₂ words_told same (take_all (length bytes - 4) (drop 4 bytes) (omega (arith, length-drop 4 bytes))) in
+    record {
+      end = gives_nothing _ _ refl;
+      read = tt;
+      small = tt;
+      refused = words_short bytes n c.starts_of-words.result.1 c.args.max_words (table_there bytes n c.if-bytes-lt4.false same c.if-told.false c.if-bytes-size.false) same words c.if-words-max_words.false
+          (omega (arith, c.if-words-there.true, c.if-bytes-size.false));
     }
