@@ -1,6 +1,8 @@
 -- Bytes are written one after the other.
-use Rattle.std.proofs.Common.{◌≡◌, ℕ, List, [], ◌++◌, Option, Some, None, refl, sym, ap, ◌∙◌, append-nil, arith}
+use Rattle.std.proofs.Common.{◌≡◌, ℕ, Result, Err, List, [], ◌++◌, Option, Some, None, refl, sym, ap, ◌∙◌, append-nil, arith}
 use Rattle.std.specs.Io.KnownBytes.{Appends}
+use Rattle.capnp_framing.specs.declared.framing.frame_error.FrameError.{FrameError}
+use Rattle.capnp_framing.specs.declared.framing.frame_error.FrameError.TheVariants.{NoSegments, TooManySegments, WriteFailed}
 use Rattle.std.proofs.lemmas.Grind.{common_steps}
 
 -- Of known bytes that some more were to be appended to, those that are left over.
@@ -37,3 +39,10 @@ appends_both None b c first more f g = tt
 appends_both (Some x) None c first more f g = absurd f
 appends_both (Some x) (Some y) None first more f g = absurd g
 appends_both (Some x) (Some y) (Some z) first more f g = grind (arith, common_steps)
+
+-- a number of segments that is refused isn't the output's failure
+pub none_not_failed : {A P : Type 0} {r : Result A FrameError} → r ≡ Err NoSegments → r ≡ Err WriteFailed → P
+none_not_failed is e = absurd (let wrong : ⊥ = cc in wrong)
+
+pub many_not_failed : {A P : Type 0} {r : Result A FrameError} {n : ℕ} → r ≡ Err (TooManySegments n) → r ≡ Err WriteFailed → P
+many_not_failed is e = absurd (let wrong : ⊥ = cc in wrong)
