@@ -1,2 +1,3 @@
 pub mod MessageLemmas
+mod Placed
 pub mod WordsOver
