@@ -7,6 +7,7 @@ pub mod ListPushed
 pub mod ListedLemmas
 pub mod PutLemmas
 pub mod RangeLemmas
+pub mod Refused
 pub mod RowLemmas
 pub mod RowsCopied
 pub mod RowsLemmas

@@ -41,3 +41,10 @@ narrow-preserved g c =
       inside = c.narrow.invariant.inside;
       passed = c.narrow.invariant.passed;
     }
+
+pub returns-then-at-rows-clause-passed : goal.returns-then-at-rows-clause-passed
+returns-then-at-rows-clause-passed g c = c.narrow.invariant.passed
+
+-- `at` is the number of rows then.
+pub returns-else-at-rows-clause-none : goal.returns-else-at-rows-clause-none
+returns-else-at-rows-clause-none g c _ k after before = c.narrow.invariant.passed k after (omega arith)

@@ -6,6 +6,7 @@ use Rattle.capnp_arena.specs.Row.{shown}
 use Rattle.capnp_arena_traits.specs.Taking.{IsFirstFit, IsFull}
 use Rattle.capnp_arena_traits.specs.View.{View}
 use Rattle.capnp_arena_traits.proofs.MessageLemmas.{length-message}
+use Rattle.capnp_arena.proofs.Refused.{ok_not_err}
 use Rattle.capnp_arena.proofs.TakingLemmas.{fit_not_full, fit_taken, fit_found, fit_another, fit_granted, another_as_before}
 use Rattle.capnp_arena.proofs.arena.builder_arena_impl.BuilderArenaImplBuilderArena.allocate_anywhere.Goals as goal
 
@@ -58,8 +59,8 @@ returns-in_ok-id-in-None g c =
       another = λ _. h.taken;
       room = h.room;
       granted = h.granted;
-      many = λ _ most. absurd (cc (h.many most));
-      large = λ more less. absurd (cc (h.large more less));
+      many = λ _ most. absurd (ok_not_err (h.many most));
+      large = λ more less. absurd (ok_not_err (h.large more less));
       named = tt;
       refused = tt;
     }

@@ -17,6 +17,23 @@ copy_from-requires-clause-there g c =
     let there : c.args.from.segment - 1 < length b.others.items = other_there seg b.there b.first b.others.items c.args.from.segment some c.requires.rows.0 in
     omega (arith, c.requires.there, ap length (other_words seg b.there b.first b.others.items c.args.from.segment b.few some), row_old seg b.others.items (c.args.from.segment - 1) c.index.result.now there c.index.ensures)
 
+pub invariant_of-self : goal.invariant_of-self
+invariant_of-self g c =
+    let seg = g.S.Segment in
+    let b = c.args.self.now in
+    let is = c.deref_mut.ensures.value in
+    let h = c.copy_in.ensures.kept in
+    record {
+      few = others_few seg b.others _ _ _ is h.many b.few;
+      bounded = others_bounded seg b.others _ _ is h.many h.bounded b.bounded;
+    }
+
+pub invariant_of-self-then-to-eq0 : goal.invariant_of-self-then-to-eq0
+invariant_of-self-then-to-eq0 g c = record { few = c.args.self.now.few; bounded = c.args.self.now.bounded }
+
+pub copy_across_in-requires-clause-apart : goal.copy_across_in-requires-clause-apart
+copy_across_in-requires-clause-apart g c = λ same. c.requires.apart (omega (arith, same, c.if-from-eq0.false, c.if-to-eq0.false))
+
 pub invariant_of-self-else-to-eq0-clause-few : goal.invariant_of-self-else-to-eq0-clause-few
 invariant_of-self-else-to-eq0-clause-few g c =
     others_few g.S.Segment c.args.self.now.others _ _ _ c.deref_mut-else-to-eq0.ensures.value c.copy_across_in.ensures.kept.many c.args.self.now.few

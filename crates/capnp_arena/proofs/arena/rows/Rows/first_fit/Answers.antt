@@ -1,10 +1,13 @@
 use Rattle.capnp_arena.proofs.ItemsLemmas.{as_many_shown, others_shown}
-use Rattle.std.proofs.Common.{◌+◌, ◌≤◌, refl, sym, ◌∙◌, subst}
+use Rattle.std.proofs.Common.{◌+◌, ◌≤◌, ℕ, Bool, true, false, length, refl, sym, ap, ◌∙◌, subst, arith}
 use Rattle.std.proofs.lemmas.Bool.{false≢true}
-use Rattle.capnp_arena.specs.Bounds.{view_of_rows}
-use Rattle.capnp_arena.specs.Row.{capacity}
+use Rattle.capnp_arena.specs.Bounds.{HasBounds, view_of_rows}
+use Rattle.capnp_arena.specs.Row.{capacity, most_others, shown}
+use Rattle.capnp_arena_traits.specs.Allocations.{max_segments}
+use Rattle.capnp_arena_traits.proofs.MessageLemmas.{length-message}
+use Rattle.capnp_arena.proofs.RowsLemmas.{length_shown}
 use Rattle.capnp_arena_traits.specs.Taking.{IsFirstFit, IsFull}
-use Rattle.capnp_arena.proofs.ListedLemmas.{fit_first, fit_other, full_none, full_others, others_kept}
+use Rattle.capnp_arena.proofs.ListedLemmas.{fit_first, fit_other, full_none, full_others, others_kept, others_few, others_bounded}
 use Rattle.capnp_arena.proofs.arena.rows.Rows.first_fit.Goals as goal
 
 pub returns-then-has_room : goal.returns-then-has_room
@@ -55,4 +58,29 @@ returns-else-self g c =
       full = λ _. full_none g.S.Segment b.there b.first b.others.items c.args.amount c.if-self.false;
       segments = refl;
       capacity = refl;
+    }
+
+-- The others that were lent are those of the rows.
+few_others : (t : Bool) (n : ℕ) → n ≤ most_others t → n ≤ max_segments
+few_others false n few = omega arith
+few_others true n few = omega arith
+
+pub first_by_bounds-requires-clause-few : goal.first_by_bounds-requires-clause-few
+first_by_bounds-requires-clause-few g c =
+    let b = c.args.self.now in
+    subst (λ rows. length rows ≤ max_segments) (sym c.deref_mut.ensures.value) (few_others b.there (length b.others.items) b.few)
+
+pub first_by_bounds-requires-clause-bounded : goal.first_by_bounds-requires-clause-bounded
+first_by_bounds-requires-clause-bounded g c = subst (HasBounds g.S.Segment) (sym c.deref_mut.ensures.value) c.args.self.now.bounded
+
+pub invariant_of-self : goal.invariant_of-self
+invariant_of-self g c =
+    let seg = g.S.Segment in
+    let b = c.args.self.now in
+    let is = c.deref_mut.ensures.value in
+    let h = c.first_by_bounds.ensures in
+    let many = as_many_shown seg c.deref_mut.result.now c.first_by_bounds.new.rows h.found.segments in
+    record {
+      few = others_few seg b.others _ _ _ is many b.few;
+      bounded = others_bounded seg b.others _ _ is many (λ _. h.bounded) b.bounded;
     }
