@@ -1,5 +1,6 @@
 pub mod BoundsLemmas
 pub mod Fronts
+pub mod Gained
 pub mod ItemsLemmas
 pub mod KeptLemmas
 pub mod LentLemmas

@@ -1,4 +1,6 @@
-use Rattle.std.proofs.Common.{◌<◌, length, inl, inr, refl, ◌∙◌, arith, sym}
+use Rattle.std.proofs.Common.{◌<◌, ◌≤◌, length, inl, inr, refl, ◌∙◌, arith, sym, subst}
+use Rattle.capnp_arena_traits.specs.Allocations.{max_segments}
+use Rattle.capnp_arena.proofs.ItemsLemmas.{as_many_shown}
 use Rattle.std.proofs.lemmas.Bool.{cases_lt, false≢true}
 use Rattle.capnp_arena.specs.Row.{shown}
 use Rattle.capnp_arena_traits.proofs.MessageLemmas.{length-message}
@@ -59,3 +61,29 @@ loop-at-preserved g c =
             | inr last ↦ too_full seg rows at k c.args.amount _ _ _ as_before.0 as_before.1 c.has_room.ensures.1 c.if-has_room.false (omega (arith, below, last))
           ];
     }
+
+pub loop-at-init : goal.loop-at-init
+loop-at-init g c = record {
+  inside = omega arith;
+  bounded = c.requires.bounded;
+  segments = refl;
+  capacity = refl;
+  passed = λ k below. absurd (omega (arith, below));
+}
+
+-- There are as many rows as before.
+pub first_allowed-requires-clause-few : goal.first_allowed-requires-clause-few
+first_allowed-requires-clause-few g c =
+    subst (λ n. n ≤ max_segments) (sym (as_many_shown g.S.Segment c.args.rows.now c.loop-at.rows c.loop-at.invariant.segments)) c.requires.few
+
+pub overflow_cast-result : goal.overflow_cast-result
+overflow_cast-result g c =
+    omega (arith, c.in-Some.ensures.there.1, as_many_shown g.S.Segment c.args.rows.now c.loop-at.rows c.loop-at.invariant.segments, c.requires.few)
+
+pub overflow_add-from : goal.overflow_add-from
+overflow_add-from g c =
+    omega (arith, c.in-Some.ensures.there.1, as_many_shown g.S.Segment c.args.rows.now c.loop-at.rows c.loop-at.invariant.segments, c.requires.few)
+
+pub loop-at-smaller : goal.loop-at-smaller
+loop-at-smaller g c =
+    omega (arith, c.in-Some.ensures.there.0, c.in-Some.ensures.there.1, as_many_shown g.S.Segment c.loop-at.rows c.lower.new.rows c.lower.ensures.segments)

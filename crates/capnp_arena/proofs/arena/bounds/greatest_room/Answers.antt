@@ -35,6 +35,11 @@ widen-preserved g c =
           ];
     }
 
+pub overflow_sub-at : goal.overflow_sub-at
+overflow_sub-at g c =
+    let even : c.widen.rest % 2 ≡ 0 = omega arith in
+    omega (arith, twice_inside (c.args.at + 1) c.widen.width c.widen.rest c.widen.invariant.aligned even c.widen.invariant.some)
+
 -- Each range that ends with the row begins behind those that are not covered.
 pub returns : goal.returns
 returns g c from width k range ends begins before =
