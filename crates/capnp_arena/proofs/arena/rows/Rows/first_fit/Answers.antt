@@ -1,11 +1,9 @@
 use Rattle.capnp_arena.proofs.ItemsLemmas.{as_many_shown, others_shown}
-use Rattle.std.proofs.Common.{◌+◌, ◌≤◌, ℕ, Bool, true, false, length, refl, sym, ap, ◌∙◌, subst, arith}
+use Rattle.std.proofs.Common.{◌+◌, ◌≤◌, ℕ, Bool, true, false, length, refl, sym, ◌∙◌, subst, arith}
 use Rattle.std.proofs.lemmas.Bool.{false≢true}
 use Rattle.capnp_arena.specs.Bounds.{HasBounds, view_of_rows}
-use Rattle.capnp_arena.specs.Row.{capacity, most_others, shown}
+use Rattle.capnp_arena.specs.Row.{capacity, most_others}
 use Rattle.capnp_arena_traits.specs.Allocations.{max_segments}
-use Rattle.capnp_arena_traits.proofs.MessageLemmas.{length-message}
-use Rattle.capnp_arena.proofs.RowsLemmas.{length_shown}
 use Rattle.capnp_arena_traits.specs.Taking.{IsFirstFit, IsFull}
 use Rattle.capnp_arena.proofs.ListedLemmas.{fit_first, fit_other, full_none, full_others, others_kept, others_few, others_bounded}
 use Rattle.capnp_arena.proofs.arena.rows.Rows.first_fit.Goals as goal

@@ -1,4 +1,4 @@
-use Rattle.std.proofs.Common.{◌++◌, ◌<◌, ◌-◌, replicate, length, sym, ap, ◌∙◌, arith, ◌+◌, subst}
+use Rattle.std.proofs.Common.{◌++◌, ◌<◌, ◌-◌, replicate, length, sym, ap, ◌∙◌, arith, subst}
 use Rattle.capnp_format.specs.Bytes.{message}
 use Rattle.capnp_format.specs.Segments.{segment}
 use Rattle.capnp_arena.specs.Row.{capacity_at, shown}
