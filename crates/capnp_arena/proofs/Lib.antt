@@ -6,6 +6,7 @@ pub mod KeptLemmas
 pub mod LentLemmas
 pub mod ListPushed
 pub mod ListedLemmas
+pub mod Looked
 pub mod PutLemmas
 pub mod RangeLemmas
 pub mod Refused
