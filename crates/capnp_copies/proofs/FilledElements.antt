@@ -1,5 +1,5 @@
 -- The copy of the elements of a list of structs, to a message of any number of segments: none yet, one element more, and where an element stops it.
-use Rattle.std.proofs.Common.{◌≡◌, inl, inr, ℕ, suc, ◌+◌, ◌-◌, ◌*◌, ◌<◌, ◌≤◌, List, length, take, refl, sym, ap, ◌∙◌, subst, arith}
+use Rattle.std.proofs.Common.{◌≡◌, inl, inr, ℕ, suc, ◌+◌, ◌-◌, ◌*◌, ◌^◌, ◌<◌, ◌≤◌, List, length, take, drop, refl, sym, ap, ◌∙◌, subst, arith}
 use Rattle.capnp_words.specs.declared.error.ErrorKind.{ErrorKind}
 use Rattle.capnp_words.specs.Meter.{Meter}
 use Rattle.capnp_format.specs.Segments.{Segments, Grows, segment, word_at, IsPlace}
@@ -18,7 +18,7 @@ use Rattle.capnp_objects.specs.Reading.{Reading, behind, segment_read, words_fro
 use Rattle.capnp_objects.specs.Wanted.{Form, canonical}
 use Rattle.capnp_objects.proofs.Copies.{read_no_element, with_last_element}
 use Rattle.capnp_objects.proofs.Walked.{row_within}
-use Rattle.capnp_copies.specs.Changes.{Change, change, CopiesChildren, StopsAtChildren, CopiesRows, StopsAtElements, RefusesToCopy}
+use Rattle.capnp_copies.specs.Changes.{Change, change, HasNulls, CopiesChildren, StopsAtChildren, CopiesRows, StopsAtElements, RefusesToCopy}
 use Rattle.capnp_copies.specs.Forms.{kept_each, kept_elements}
 use Rattle.capnp_copies.specs.declared.widths.ElementSizes.{ElementSizes}
 use Rattle.capnp_copies.proofs.TightElements.{CopiesElement, element_tight, no_row_tight, no_width_tight, row_tight}
@@ -248,3 +248,46 @@ module _ {r : Reading} {sizes : ElementSizes} {n i : ℕ} {b : Form} {s p : ℕ}
         };
         memory = keeps_then_spends old mid new k rows_grow.segments here.rows.memory stop.memory;
       }
+
+  -- Where the parts of the next element stand, in the words of a call that finds a row of the source w words wide, and one
+  -- of the copy v.
+
+  pub source_start : {w f k : ℕ} → w ≡ sizes.source.data_words + sizes.source.pointers → f ≡ sizes.source.data_words → k ≡ 8 * length (segment_read r) → k < 8 * 2 ^ 32 → r.at + i * w + f < 2 ^ 32
+  source_start is_w is_f bytes small = omega (arith, ap (λ j. i * j) is_w, is_f, next_inside, bytes, small)
+
+  pub part_inside : {w f k : ℕ} → w ≡ sizes.source.data_words + sizes.source.pointers → f ≡ d → k ≡ 8 * length (segment_read r) → 8 * (r.at + i * w + f) ≤ k
+  part_inside is_w is_f bytes = omega (arith, ap (λ j. i * j) is_w, is_f, next_inside, here.fits.less_data, bytes)
+
+  pub children_inside : {w f h : ℕ} → w ≡ sizes.source.data_words + sizes.source.pointers → f ≡ sizes.source.data_words → h ≡ q → r.at + i * w + f + h ≤ length (segment_read r)
+  children_inside is_w is_f is_h = omega (arith, ap (λ j. i * j) is_w, is_f, is_h, next_inside, here.fits.less_pointers)
+
+  pub place_start : {v f l : ℕ} → v ≡ d + q → f ≡ d → length (segment mid.words s) ≤ l → l < 2 ^ 29 → p + i * v + f < 2 ^ 32
+  place_start is_v is_f within small = omega (arith, ap (λ j. i * j) is_v, is_f, next_room, within, small)
+
+  pub data_room : {v f k : ℕ} → v ≡ d + q → k ≡ f → f ≡ d → p + i * v + k ≤ length (segment mid.words s)
+  data_room is_v is_k is_f = omega (arith, ap (λ j. i * j) is_v, is_k, is_f, next_room)
+
+  pub next_nulls : {S : Segments} {v g h k f : ℕ} → v ≡ d + q → g ≡ d → h ≡ q → k ≡ f → f ≡ d → length (segment S s) ≡ length (segment mid.words s) → ((j : ℕ) → p + i * v + k ≤ j → word_at S s j ≡ word_at mid.words s j) → HasNulls S s (p + i * v + g) h
+  next_nulls {S} {v} {g} {h} {k} is_v is_g is_h is_k is_f long behind_row =
+      let row : i * v ≡ i * (d + q) = ap (λ j. i * j) is_v in
+      record {
+        room = omega (arith, row, is_g, is_h, next_room, long);
+        null = λ j less. (let same : p + i * v + g + j ≡ p + i * (d + q) + d + j = omega (arith, row, is_g) in
+            behind_row (p + i * v + g + j) (omega (arith, is_k, is_f, is_g)) ∙ ap (word_at mid.words s) same ∙ next_null j (omega (arith, less, is_h)));
+      }
+
+  pub row_put : {put : View} {w v f : ℕ} {bs ws : List ℕ} → w ≡ sizes.source.data_words + sizes.source.pointers → v ≡ d + q → f ≡ d → bs ≡ segment_read r → ws ≡ take f (drop (r.at + i * w) bs) → put ≡ record mid { words = with_words mid.words s (p + i * v) ws } →
+      DataWritten (behind r (i * (sizes.source.data_words + sizes.source.pointers))) sizes mid put s (p + i * (d + q))
+  row_put {put} {w} {v} {f} {bs} {ws} is_w is_v is_f is_bs is_ws writes =
+      let section : ws ≡ next_words = is_ws ∙ ap (λ j. take f (drop (r.at + i * j) bs)) is_w ∙ ap (λ j. take j (drop (r.at + i * (sizes.source.data_words + sizes.source.pointers)) bs)) is_f ∙ ap (λ us. take d (drop (r.at + i * (sizes.source.data_words + sizes.source.pointers)) us)) is_bs in
+      row_written (writes ∙ ap (λ us. record mid { words = with_words mid.words s (p + i * v) us }) section ∙ ap (λ j. record mid { words = with_words mid.words s (p + i * j) next_words }) is_v)
+
+  pub row_done : {put new : View} {m'' : Meter} {w v f g h l : ℕ} → w ≡ sizes.source.data_words + sizes.source.pointers → v ≡ d + q → f ≡ sizes.source.data_words → g ≡ d → h ≡ q → l ≡ r.levels →
+      DataWritten (behind r (i * (sizes.source.data_words + sizes.source.pointers))) sizes mid put s (p + i * (d + q)) → CopiesChildren (record (behind (behind r (i * w)) f) { levels = l }) h (change b (call_at s (p + i * v + g) put new) m' m'') →
+      CopiesRows r sizes (i + 1) (n - (i + 1)) (change b (call_at s p old new) m m'')
+  row_done is_w is_v is_f is_g is_h is_l put children = row_copied (element_copied put (rw (is_w, is_v, is_f, is_g, is_h, is_l) at children))
+
+  pub row_refused : {put new : View} {m'' : Meter} {k : ErrorKind} {w v f g h l : ℕ} → w ≡ sizes.source.data_words + sizes.source.pointers → v ≡ d + q → f ≡ sizes.source.data_words → g ≡ d → h ≡ q → l ≡ r.levels → TakesForCopy (elements_original r sizes i) (change b (call_at s p old mid) m m') →
+      DataWritten (behind r (i * (sizes.source.data_words + sizes.source.pointers))) sizes mid put s (p + i * (d + q)) → StopsAtChildren (record (behind (behind r (i * w)) f) { levels = l }) h (change b (call_at s (p + i * v + g) put new) m' m'') k →
+      StopsAtElements r sizes n (change b (call_at s p old new) m m'') k
+  row_refused is_w is_v is_f is_g is_h is_l taken put stop = row_stops taken (element_stops put (rw (is_w, is_v, is_f, is_g, is_h, is_l) at stop))

@@ -19,7 +19,7 @@ use Rattle.capnp_making.proofs.FillingMade.{IsBegun, struct_ready, struct_done, 
 use Rattle.capnp_making.proofs.Memory.{keeps_both, keeps_written, keeps_then_spends, words_refused_after}
 use Rattle.capnp_making.proofs.WordsPut.{words_put}
 use Rattle.capnp_objects.specs.Outcomes.{ReadsAll}
-use Rattle.capnp_objects.specs.Reading.{Reading, segment_read, words_from}
+use Rattle.capnp_objects.specs.Reading.{Reading, behind, segment_read, words_from}
 use Rattle.capnp_objects.specs.Spending.{pointers_in_all}
 use Rattle.capnp_objects.specs.Wanted.{Form, canonical}
 use Rattle.capnp_copies.specs.Changes.{change, ComesToObject, FindsNoRoom, MakesCopy, CopiesChildren, StopsAtChildren}
@@ -173,3 +173,13 @@ module _ {b : Form} {ws : List ℕ} {r : Reading} {q : ℕ} {least : StructSize}
       ]
       )
       ((_, struct_done old.words made.words mid.words new.words s p least.pointers h section stop.left is_begun writes (rw (sym long) at stop.made) stop.few), keeps_then_spends old mid new k segments keeps stop.memory)
+
+-- The same in the words of a call, which counts what it finds by f, g, k and l.
+
+pub sections_done : {b : Form} {ws : List ℕ} {q : ℕ} {least : StructSize} {s p : ℕ} {old made mid new : View} {h : Start} {m m' : Meter} {f g k l : ℕ} (r : Reading) (n : ℕ) → SectionsBegun b ws (behind r n) q least s p old made mid h → f ≡ n → g ≡ least.data_words → k ≡ least.pointers → l ≡ r.levels →
+    CopiesChildren (record (behind r f) { levels = l }) k (change b (call_at h.segment (h.at + g) mid new) m m') → MakesCopy (sections_original ws (behind r n) q) (change b (call_at s p old new) m m')
+sections_done r n o is_f is_g is_k is_l children = sections_copied o (rw (is_f, is_g, is_k, is_l) at children)
+
+pub sections_refused : {b : Form} {ws : List ℕ} {q : ℕ} {least : StructSize} {s p : ℕ} {old made mid new : View} {h : Start} {m m' : Meter} {e : ErrorKind} {f g k l : ℕ} (r : Reading) (n : ℕ) → SectionsBegun b ws (behind r n) q least s p old made mid h → f ≡ n → g ≡ least.data_words → k ≡ least.pointers → l ≡ r.levels →
+    StopsAtChildren (record (behind r f) { levels = l }) k (change b (call_at h.segment (h.at + g) mid new) m m') e → StopsHalfway (sections_original ws (behind r n) q) (change b (call_at s p old new) m m') e
+sections_refused r n o is_f is_g is_k is_l stop = sections_stop o (rw (is_f, is_g, is_k, is_l) at stop)

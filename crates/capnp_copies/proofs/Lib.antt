@@ -6,6 +6,7 @@ pub mod Copying
 pub mod ElementSteps
 pub mod ElementsCopied
 pub mod ElementsLaid
+pub mod Falls
 pub mod FlatRead
 pub mod LeastWidths
 pub mod ListSteps

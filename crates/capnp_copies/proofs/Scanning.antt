@@ -1,7 +1,8 @@
 -- The widest of elements, one after another.
-use Rattle.std.proofs.Common.{◌≡◌, ℕ, zero, suc, ◌+◌, ◌-◌, ◌<◌, ◌≤◌, max, Bool, true, false, nat_eq, List, [], ◌∷◌, length, take, drop, refl, ap, ◌∙◌, arith, length-take, length-drop, drop-drop}
+use Rattle.std.proofs.Common.{◌≡◌, ℕ, zero, suc, ◌+◌, ◌-◌, ◌*◌, ◌<◌, ◌≤◌, max, Bool, true, false, nat_eq, List, [], ◌∷◌, length, take, drop, refl, ap, subst, ◌∙◌, arith, length-take, length-drop, drop-drop}
 use Rattle.std.proofs.lemmas.List.{drop-take}
 use Rattle.capnp_format.specs.Canonical.{used_from, used_words}
+use Rattle.capnp_objects.proofs.Walked.{row_within}
 use Rattle.capnp_copies.specs.Widths.{most_used}
 
 -- what is used beyond the first n words, and at least these
@@ -56,3 +57,40 @@ data_more ws p d q k least = omega arith
 
 pub pointers_more : (ws : List ℕ) (p d q k least : ℕ) → max least (pointers_used ws p d q (suc k)) ≡ max (max least (used_words (take q (drop (p + d) ws)))) (pointers_used ws (p + (d + q)) d q k)
 pointers_more ws p d q k least = omega (arith, next_used ws p d q k)
+
+-- nothing is looked at yet, and all is
+
+pub none_yet : (ws : List ℕ) (p d stride n : ℕ) → max 0 (most_used ws p d stride (n - 0)) ≡ most_used ws p d stride n
+none_yet ws p d stride n =
+    let all : n - 0 ≡ n = omega arith in
+    ap (λ k. max 0 (most_used ws p d stride k)) all ∙ omega arith
+
+pub no_more : {n i : ℕ} → n ≤ i → i ≤ n → n - i ≡ 0
+no_more less more = omega arith
+
+pub none_left : (ws : List ℕ) (p d stride least : ℕ) {k all : ℕ} → k ≡ 0 → max least (most_used ws p d stride k) ≡ all → least ≡ all
+none_left ws p d stride least {k} {all} none e =
+    let f : max least (most_used ws p d stride 0) ≡ all = subst (λ j. max least (most_used ws p d stride j) ≡ all) none e in omega (arith, f)
+
+-- where the sections of the next element stand
+
+pub first_at : (p w : ℕ) → p ≡ p + 0 * w
+first_at p w = omega arith
+
+pub none_fits : (n : ℕ) → 0 ≤ n
+none_fits n = omega arith
+
+pub data_inside : (p d q : ℕ) {at i n l b : ℕ} → at ≡ p + i * (d + q) → p + n * (d + q) ≤ l → b ≡ 8 * l → i < n → 8 * (at + d) ≤ b
+data_inside p d q {i = i} {n = n} place inside bytes less = omega (arith, row_within i n (d + q) less, place, inside, bytes)
+
+pub pointers_inside : (p q : ℕ) {at i n d l b f : ℕ} → at ≡ p + i * (d + q) → p + n * (d + q) ≤ l → b ≡ 8 * l → i < n → f ≡ d → 8 * (at + f + q) ≤ b
+pointers_inside p q {i = i} {n = n} {d = d} place inside bytes less same = omega (arith, row_within i n (d + q) less, place, inside, bytes, same)
+
+pub next_at : (at : ℕ) {f g d q : ℕ} → f ≡ d → g ≡ q → at + f + g ≡ at + (d + q)
+next_at at is_f is_g = omega arith
+
+row_more : (i w : ℕ) → (i + 1) * w ≡ i * w + w
+row_more i w = grind arith
+
+pub next_reached : (p i w : ℕ) {at e : ℕ} → at ≡ p + i * w → e ≡ at + w → e ≡ p + (i + 1) * w
+next_reached p i w place next = omega (arith, place, next, row_more i w)

@@ -11,6 +11,9 @@ part_inside p k d q room less = omega arith
 pub behind_inside : (p d q : ℕ) {l : ℕ} → p + (d + q) ≤ l → p + d + q ≤ l
 behind_inside p d q room = omega arith
 
+pub kept_inside : (p d : ℕ) {q k l : ℕ} → p + (d + q) ≤ l → k ≤ q → p + d + k ≤ l
+kept_inside p d room less = omega arith
+
 pub rows_inside : (p n : ℕ) {l : ℕ} → p + (1 + n) ≤ l → p + 1 + n ≤ l
 rows_inside p n room = omega arith
 

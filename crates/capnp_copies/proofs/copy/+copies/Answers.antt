@@ -28,11 +28,12 @@ use Rattle.std.proofs.lemmas.Result.{err_from_is_err_and}
 use Rattle.capnp_arena_traits.specs.View.{View}
 use Rattle.capnp_copies.specs.Changes.{HasNulls}
 use Rattle.capnp_copies.proofs.ElementsLaid.{words_taken}
-use Rattle.capnp_copies.proofs.FilledSections.{SectionsBegun, sections_fit, sections_null, sections_copied, sections_stop}
+use Rattle.capnp_copies.proofs.FilledSections.{SectionsBegun, sections_fit, sections_null, sections_done, sections_refused}
 use Rattle.capnp_copies.specs.Forms.{form_in}
 use Rattle.capnp_copies.proofs.FlatRead.{word_count-flat}
 use Rattle.capnp_copies.proofs.FilledChildren.{no_child, children_grow, child_ahead, child_copied, child_stops}
-use Rattle.capnp_copies.proofs.FilledElements.{element_copied, element_stops, no_row, no_width, AtRow, row_written, next_room, next_null, next_inside, row_copied, row_stops}
+use Rattle.capnp_copies.proofs.Falls.{falls_below, falls_last, falls_in}
+use Rattle.capnp_copies.proofs.FilledElements.{no_row, no_width, AtRow, source_start, part_inside as element_inside, children_inside, place_start, data_room, next_nulls, row_put, row_done, row_refused}
 use Rattle.capnp_copies.proofs.FilledObjects.{nothing_made, ObjectBegun, pointers_copied, pointers_stop, widths_keep, structs_copied, structs_stop}
 use Rattle.capnp_copies.proofs.FilledValues.{read_stops, null_copied, CapabilityCopied, capability_value, capability_value_stops, struct_value, struct_value_stops, pointers_value, pointers_value_stops, structs_value, structs_value_stops, FlatOutcome, flat_value, flat_stops}
 use Rattle.capnp_copies.proofs.Copying.{there}
@@ -42,7 +43,7 @@ use Rattle.capnp_copies.proofs.KeptForms.{SourceKept, SectionsCut}
 use Rattle.capnp_copies.proofs.Originals.{halfway, sections_large, pointers_large, structs_large}
 use Rattle.capnp_copies.proofs.TightElements.{all_rows}
 use Rattle.capnp_copies.proofs.TooLarge.{no_pointers_room, no_structs_room, no_sections_room}
-use Rattle.capnp_copies.proofs.WordsInside.{child_there, part_inside, behind_inside, rows_inside, one_more, some_more, some_words, fewer_words, first_fits, row_fits, product_fits, kept_fits, child_fits, null_fits, children_fit, kept_starts}
+use Rattle.capnp_copies.proofs.WordsInside.{child_there, part_inside, behind_inside, rows_inside, one_more, some_more, kept_inside, some_words, fewer_words, first_fits, row_fits, product_fits, kept_fits, child_fits, null_fits, children_fit, kept_starts}
 use Rattle.capnp_copies.proofs.copy.+copies.Goals as goal
 
 -- Positions fit 32 bits.
@@ -84,7 +85,7 @@ children::copy_in_line-copy_child-requires g t c κs within =
     c.requires.nulls.room c.loop-i-test.true (le_refl _)) ∙ c.requires.nulls.null c.loop-i.i
     c.loop-i-test.true in
     let nl = to_z-of_z w32 c.args.from.nesting_limit (search rules) in
-    (omega (arith, ap levels nl, c.decreases), (within.0, (within.1, record { place = PLACE; null = NULL })))
+    (falls_below 1 0 (ap levels nl) c.decreases, (within.0, (within.1, record { place = PLACE; null = NULL })))
 
 pub children::copy_in_line-returns-in_err-copy_child : goal.children::copy_in_line-returns-in_err-copy_child
 children::copy_in_line-returns-in_err-copy_child g t c =
@@ -127,14 +128,14 @@ children::copy_children-returns-then-count-eq0 g t c =
 
 pub children::copy_row-copy_in_line-requires : goal.children::copy_row-copy_in_line-requires
 children::copy_row-copy_in_line-requires g t c κs within =
-    (omega (arith, c.decreases), (within.0, (within.1, c.requires)))
+    (falls_below 2 0 refl c.decreases, (within.0, (within.1, c.requires)))
 
 pub children::copy_row-returns : goal.children::copy_row-returns
 children::copy_row-returns g t c = c.copy_in_line.ensures
 
 pub children::copy_children-copy_row-requires : goal.children::copy_children-copy_row-requires
 children::copy_children-copy_row-requires g t c κs within =
-    (omega (arith, c.decreases), (within.0, (within.1, c.requires)))
+    (falls_below 3 0 refl c.decreases, (within.0, (within.1, c.requires)))
 
 pub children::copy_children-returns : goal.children::copy_children-returns
 children::copy_children-returns g t c = c.copy_row.ensures
@@ -149,7 +150,7 @@ children::copy_child-returns-then-is_null g t c =
 
 pub children::copy_child-copy_object-requires : goal.children::copy_child-copy_object-requires
 children::copy_child-copy_object-requires g t c κs within =
-    (omega (arith, c.decreases), (within.0, (within.1, c.requires)))
+    (falls_last 0 refl c.decreases, (within.0, (within.1, c.requires)))
 
 pub children::copy_child-returns-then-is_of_bits : goal.children::copy_child-returns-then-is_of_bits
 children::copy_child-returns-then-is_of_bits g t c = c.copy_near_flat.ensures (form_in c.args.to.form)
@@ -201,7 +202,7 @@ children::copy_near_struct-copy_struct-requires g t c κs within =
     let LESS = less object.1.meets.levels in
     let SOME = object.1.meets.levels in
     let INSIDE : c.in_ok-start.start + (c.struct_size.result.data_words + c.struct_size.result.pointers) ≤ length (segment r.segments c.args.from.place.segment) = struct_room start c.struct_size.result object in
-    (omega (arith, LESS, SOME, c.decreases), (within.0, (within.1, (c.requires.place, INSIDE))))
+    (falls_in LESS SOME c.decreases, (within.0, (within.1, (c.requires.place, INSIDE))))
 
 -- What a pointer means.
 
@@ -223,7 +224,7 @@ copy_object-copy_struct-requires g t c κs within =
     let SOME = object.1.meets.levels in
     let LESS = one_level_in c.args.from.nesting_limit fits SOME in
     let INSIDE = struct_room c.in-Struct.start c.in-Struct.size object in
-    (omega (arith, LESS, SOME, c.decreases), (within.0, (within.1, (c.requires, INSIDE))))
+    (falls_in LESS SOME c.decreases, (within.0, (within.1, (c.requires, INSIDE))))
 
 pub copy_object-copy_pointers-requires : goal.copy_object-copy_pointers-requires
 copy_object-copy_pointers-requires g t c κs within =
@@ -233,7 +234,7 @@ copy_object-copy_pointers-requires g t c κs within =
     let object = rw (c.in-Pointers.is, nl) at c.in_ok-object.ensures.object in
     let SOME = object.1.meets.levels in
     let LESS = one_level_in c.args.from.nesting_limit fits SOME in
-    (omega (arith, LESS, SOME, c.decreases), (within.0, (within.1, (c.requires, (FEW, search rules)))))
+    (falls_in LESS SOME c.decreases, (within.0, (within.1, (c.requires, (FEW, search rules)))))
 
 pub copy_object-copy_structs-requires : goal.copy_object-copy_structs-requires
 copy_object-copy_structs-requires g t c κs within =
@@ -245,7 +246,7 @@ copy_object-copy_structs-requires g t c κs within =
     let object = rw (c.in-Structs.is, nl) at c.in_ok-object.ensures.object in
     let SOME = object.1.meets.levels in
     let LESS = one_level_in c.args.from.nesting_limit fits SOME in
-    (omega (arith, LESS, SOME, c.decreases), (within.0, (within.1, (c.requires, (FEW, (WORDS, search rules))))))
+    (falls_in LESS SOME c.decreases, (within.0, (within.1, (c.requires, (FEW, (WORDS, search rules))))))
 
 pub copy_object-returns-in-Null : goal.copy_object-returns-in-Null
 copy_object-returns-in-Null g t c =
@@ -386,11 +387,7 @@ elements::copy_elements-overflow_add-children g t c =
     record { inside = c.requires.inside; less_data = c.requires.less.data_words; less_pointers = c.requires.less.pointers; used = widths_keep (form_in c.args.to.form) from c.args.sizes c.args.sizes.count c.requires.kept } in
     let here : AtRow from c.args.sizes c.args.sizes.count c.loop-i.i (form_in c.args.to.form) c.args.to.place.segment c.args.to.place.at (g.A.BuilderArena.view c.args.arena.now) (g.A.BuilderArena.view c.loop-i.arena) c.args.lim.now c.loop-i.lim =
     record { fits = fits; room = c.requires.room; zero = c.requires.zero; wide = some_words c.total-kept_words.ensures c.if-kept_words-eq0.false; more = c.loop-i-test.true; rows = c.loop-i.invariant.0 } in
-    let INSIDE : c.args.from.place.at + c.loop-i.i * c.total-source_words.result + (c.args.sizes.source.data_words + c.args.sizes.source.pointers) ≤ length (segment from.segments from.segment) = rw c.total-source_words.ensures (next_inside here) in
-    record {
-      fits = children_fit (c.args.from.place.at + c.loop-i.i * c.total-source_words.result) c.args.sizes.source.data_words
-          c.args.sizes.source.pointers INSIDE c.from.ensures c.args.from.held.1 c.args.from.held.2;
-    }
+    record { fits = source_start here c.total-source_words.ensures c.from.ensures c.args.from.held.1 c.args.from.held.2 }
 
 pub elements::copy_elements-overflow_add-place : goal.elements::copy_elements-overflow_add-place
 elements::copy_elements-overflow_add-place g t c =
@@ -399,12 +396,10 @@ elements::copy_elements-overflow_add-place g t c =
     record { inside = c.requires.inside; less_data = c.requires.less.data_words; less_pointers = c.requires.less.pointers; used = widths_keep (form_in c.args.to.form) from c.args.sizes c.args.sizes.count c.requires.kept } in
     let here : AtRow from c.args.sizes c.args.sizes.count c.loop-i.i (form_in c.args.to.form) c.args.to.place.segment c.args.to.place.at (g.A.BuilderArena.view c.args.arena.now) (g.A.BuilderArena.view c.loop-i.arena) c.args.lim.now c.loop-i.lim =
     record { fits = fits; room = c.requires.room; zero = c.requires.zero; wide = some_words c.total-kept_words.ensures c.if-kept_words-eq0.false; more = c.loop-i-test.true; rows = c.loop-i.invariant.0 } in
-    let ROOM : c.args.to.place.at + c.loop-i.i * c.total-kept_words.result + (c.args.sizes.kept.data_words + c.args.sizes.kept.pointers) ≤ length (segment (g.A.BuilderArena.view c.loop-i.arena).words c.args.to.place.segment) = rw c.total-kept_words.ensures (next_room here) in
     let now = c.loop-i.arena in
     record {
-      fits = first_fits (c.args.to.place.at + c.loop-i.i * c.total-kept_words.result) c.args.sizes.kept.data_words c.args.sizes.kept.pointers
-          ROOM (g.met.A.BuilderArena.within now c.args.to.place.segment)
-          (g.met.A.BuilderArena.small now c.args.to.place.segment) c.from-in-loop-i.ensures;
+      fits = place_start here c.total-kept_words.ensures c.from-in-loop-i.ensures (g.met.A.BuilderArena.within now c.args.to.place.segment)
+          (g.met.A.BuilderArena.small now c.args.to.place.segment);
     }
 
 pub elements::copy_elements-part-data-requires : goal.elements::copy_elements-part-data-requires
@@ -414,8 +409,7 @@ elements::copy_elements-part-data-requires g t c =
     record { inside = c.requires.inside; less_data = c.requires.less.data_words; less_pointers = c.requires.less.pointers; used = widths_keep (form_in c.args.to.form) from c.args.sizes c.args.sizes.count c.requires.kept } in
     let here : AtRow from c.args.sizes c.args.sizes.count c.loop-i.i (form_in c.args.to.form) c.args.to.place.segment c.args.to.place.at (g.A.BuilderArena.view c.args.arena.now) (g.A.BuilderArena.view c.loop-i.arena) c.args.lim.now c.loop-i.lim =
     record { fits = fits; room = c.requires.room; zero = c.requires.zero; wide = some_words c.total-kept_words.ensures c.if-kept_words-eq0.false; more = c.loop-i-test.true; rows = c.loop-i.invariant.0 } in
-    let INSIDE : c.args.from.place.at + c.loop-i.i * c.total-source_words.result + (c.args.sizes.source.data_words + c.args.sizes.source.pointers) ≤ length (segment from.segments from.segment) = rw c.total-source_words.ensures (next_inside here) in
-    omega (arith, INSIDE, c.requires.less.data_words, c.from-data_words.ensures, ap length c.args.from.held.0, c.args.from.held.1, c.args.from.held.2)
+    element_inside here c.total-source_words.ensures c.from-data_words.ensures c.args.from.held.1
 
 pub elements::copy_elements-put_words-requires-clause-inside : goal.elements::copy_elements-put_words-requires-clause-inside
 elements::copy_elements-put_words-requires-clause-inside g t c =
@@ -424,8 +418,7 @@ elements::copy_elements-put_words-requires-clause-inside g t c =
     record { inside = c.requires.inside; less_data = c.requires.less.data_words; less_pointers = c.requires.less.pointers; used = widths_keep (form_in c.args.to.form) from c.args.sizes c.args.sizes.count c.requires.kept } in
     let here : AtRow from c.args.sizes c.args.sizes.count c.loop-i.i (form_in c.args.to.form) c.args.to.place.segment c.args.to.place.at (g.A.BuilderArena.view c.args.arena.now) (g.A.BuilderArena.view c.loop-i.arena) c.args.lim.now c.loop-i.lim =
     record { fits = fits; room = c.requires.room; zero = c.requires.zero; wide = some_words c.total-kept_words.ensures c.if-kept_words-eq0.false; more = c.loop-i-test.true; rows = c.loop-i.invariant.0 } in
-    let ROOM : c.args.to.place.at + c.loop-i.i * c.total-kept_words.result + (c.args.sizes.kept.data_words + c.args.sizes.kept.pointers) ≤ length (segment (g.A.BuilderArena.view c.loop-i.arena).words c.args.to.place.segment) = rw c.total-kept_words.ensures (next_room here) in
-    omega (arith, ROOM, c.part-data.ensures.count, c.from-data_words.ensures)
+    data_room here c.total-kept_words.ensures c.part-data.ensures.count c.from-data_words.ensures
 
 pub elements::copy_elements-copy_in_line-requires : goal.elements::copy_elements-copy_in_line-requires
 elements::copy_elements-copy_in_line-requires g t c κs within =
@@ -434,16 +427,19 @@ elements::copy_elements-copy_in_line-requires g t c κs within =
     record { inside = c.requires.inside; less_data = c.requires.less.data_words; less_pointers = c.requires.less.pointers; used = widths_keep (form_in c.args.to.form) from c.args.sizes c.args.sizes.count c.requires.kept } in
     let here : AtRow from c.args.sizes c.args.sizes.count c.loop-i.i (form_in c.args.to.form) c.args.to.place.segment c.args.to.place.at (g.A.BuilderArena.view c.args.arena.now) (g.A.BuilderArena.view c.loop-i.arena) c.args.lim.now c.loop-i.lim =
     record { fits = fits; room = c.requires.room; zero = c.requires.zero; wide = some_words c.total-kept_words.ensures c.if-kept_words-eq0.false; more = c.loop-i-test.true; rows = c.loop-i.invariant.0 } in
-    let INSIDE : c.args.from.place.at + c.loop-i.i * c.total-source_words.result + (c.args.sizes.source.data_words + c.args.sizes.source.pointers) ≤ length (segment from.segments from.segment) = rw c.total-source_words.ensures (next_inside here) in
-    let ROOM : c.args.to.place.at + c.loop-i.i * c.total-kept_words.result + (c.args.sizes.kept.data_words + c.args.sizes.kept.pointers) ≤ length (segment (g.A.BuilderArena.view c.loop-i.arena).words c.args.to.place.segment) = rw c.total-kept_words.ensures (next_room here) in
-    let NULL : (j : ℕ) → j < c.args.sizes.kept.pointers → word_at (g.A.BuilderArena.view c.loop-i.arena).words c.args.to.place.segment (c.args.to.place.at + c.loop-i.i * c.total-kept_words.result + c.args.sizes.kept.data_words + j) ≡ 0 = rw c.total-kept_words.ensures (next_null here) in
-    let NULLS : HasNulls (g.A.BuilderArena.view c.put_words.new.arena).words c.args.to.place.segment (c.args.to.place.at + c.loop-i.i * c.total-kept_words.result + c.from-in-loop-i.result) c.from-pointers.result =
-    rw (c.from-in-loop-i.ensures, c.from-pointers.ensures) (record {
-      room = omega (arith, ROOM, c.put_words.ensures.length);
-      null = λ j less. c.put_words.ensures.behind (c.args.to.place.at + c.loop-i.i * c.total-kept_words.result + c.args.sizes.kept.data_words + j) (omega (arith, c.part-data.ensures.count, c.from-data_words.ensures)) ∙ NULL j less;
-    }) in
-    let nl = to_z-of_z w32 c.args.from.nesting_limit (search rules) in
-    (omega (arith, ap levels nl, c.decreases), (within.0, (within.1, record { nulls = NULLS; inside = rw (c.from.ensures, c.from-pointers.ensures) (omega (arith, INSIDE, c.requires.less.pointers)) })))
+    let nl = to_z-of_z w32 c.args.from.nesting_limit (search rules) in (
+      falls_below 2 1 (ap levels nl) c.decreases,
+      (
+        within.0,
+        (
+          within.1,
+          record {
+            nulls = next_nulls here c.total-kept_words.ensures c.from-in-loop-i.ensures c.from-pointers.ensures c.part-data.ensures.count c.from-data_words.ensures c.put_words.ensures.length c.put_words.ensures.behind;
+            inside = children_inside here c.total-source_words.ensures c.from.ensures c.from-pointers.ensures;
+          },
+        ),
+      ),
+    )
 
 pub elements::copy_elements-loop-i-preserved : goal.elements::copy_elements-loop-i-preserved
 elements::copy_elements-loop-i-preserved g t c =
@@ -453,12 +449,10 @@ elements::copy_elements-loop-i-preserved g t c =
     record { inside = c.requires.inside; less_data = c.requires.less.data_words; less_pointers = c.requires.less.pointers; used = widths_keep (form_in c.args.to.form) from c.args.sizes c.args.sizes.count c.requires.kept } in
     let here : AtRow from c.args.sizes c.args.sizes.count c.loop-i.i (form_in c.args.to.form) c.args.to.place.segment c.args.to.place.at (g.A.BuilderArena.view c.args.arena.now) (g.A.BuilderArena.view c.loop-i.arena) c.args.lim.now c.loop-i.lim =
     record { fits = fits; room = c.requires.room; zero = c.requires.zero; wide = some_words c.total-kept_words.ensures c.if-kept_words-eq0.false; more = c.loop-i-test.true; rows = c.loop-i.invariant.0 } in
-    let held : words_of c.args.from.place.bytes.now ≡ segment_read from = c.args.from.held.0 in
-    let section : words_of c.part-data.result.now ≡ words_from (behind from (c.loop-i.i * c.total-source_words.result)) c.args.sizes.kept.data_words = rw (c.from-data_words.ensures, held) at c.part-data.ensures.words in
-    let put = row_written here (rw (c.total-source_words.ensures, c.total-kept_words.ensures) at (rw section at c.put_words.ensures.words)) in
+    let put = row_put here c.total-source_words.ensures c.total-kept_words.ensures c.from-data_words.ensures c.args.from.held.0 c.part-data.ensures.words c.put_words.ensures.words in
     let none = c.put_words.ensures.taken in
     let last = none_itself (g.A.BuilderArena.view c.copy_in_line.new.arena) in (
-      row_copied here (element_copied put (rw (c.total-source_words.ensures, c.total-kept_words.ensures, c.from.ensures, c.from-in-loop-i.ensures, c.from-pointers.ensures, nl) at c.in_ok-copy_in_line.ensures.copied)),
+      row_done here c.total-source_words.ensures c.total-kept_words.ensures c.from.ensures c.from-in-loop-i.ensures c.from-pointers.ensures (ap levels nl) put c.in_ok-copy_in_line.ensures.copied,
       row_taken fits c.loop-i-test.true c.loop-i.invariant.1 (all_within none last (rw (c.total-source_words.ensures, c.from.ensures, c.from-pointers.ensures, nl) at c.in_ok-copy_in_line.ensures.taken)),
     )
 
@@ -470,15 +464,13 @@ elements::copy_elements-returns-in_err-copy_in_line g t c =
     record { inside = c.requires.inside; less_data = c.requires.less.data_words; less_pointers = c.requires.less.pointers; used = widths_keep (form_in c.args.to.form) from c.args.sizes c.args.sizes.count c.requires.kept } in
     let here : AtRow from c.args.sizes c.args.sizes.count c.loop-i.i (form_in c.args.to.form) c.args.to.place.segment c.args.to.place.at (g.A.BuilderArena.view c.args.arena.now) (g.A.BuilderArena.view c.loop-i.arena) c.args.lim.now c.loop-i.lim =
     record { fits = fits; room = c.requires.room; zero = c.requires.zero; wide = some_words c.total-kept_words.ensures c.if-kept_words-eq0.false; more = c.loop-i-test.true; rows = c.loop-i.invariant.0 } in
-    let held : words_of c.args.from.place.bytes.now ≡ segment_read from = c.args.from.held.0 in
-    let section : words_of c.part-data.result.now ≡ words_from (behind from (c.loop-i.i * c.total-source_words.result)) c.args.sizes.kept.data_words = rw (c.from-data_words.ensures, held) at c.part-data.ensures.words in
-    let put = row_written here (rw (c.total-source_words.ensures, c.total-kept_words.ensures) at (rw section at c.put_words.ensures.words)) in
+    let put = row_put here c.total-source_words.ensures c.total-kept_words.ensures c.from-data_words.ensures c.args.from.held.0 c.part-data.ensures.words c.put_words.ensures.words in
     let none = c.put_words.ensures.taken in
     let last = none_itself (g.A.BuilderArena.view c.copy_in_line.new.arena) in
     let p = err_from_is_err_and c.from_residual.result c.from_residual.ensures.1 in
     record {
       copied = rw p.1 tt;
-      refused = rw (p.1, p.2) (row_stops here c.loop-i.invariant.1 (element_stops put (rw (c.total-source_words.ensures, c.total-kept_words.ensures, c.from.ensures, c.from-in-loop-i.ensures, c.from-pointers.ensures, nl) at c.in_err-copy_in_line.ensures.refused)));
+      refused = rw (p.1, p.2) (row_refused here c.total-source_words.ensures c.total-kept_words.ensures c.from.ensures c.from-in-loop-i.ensures c.from-pointers.ensures (ap levels nl) c.loop-i.invariant.1 put c.in_err-copy_in_line.ensures.refused);
       taken = rw p.1 (row_stop_taken fits c.loop-i-test.true c.loop-i.invariant.1 (among_within (le_refl _) none last (rw (c.total-source_words.ensures, c.from.ensures, c.from-pointers.ensures, nl) at c.in_err-copy_in_line.ensures.taken)));
     }
 
@@ -498,7 +490,7 @@ lists::copy_pointers-copy_in_line-requires g t c κs within =
     let M : Segments = (g.A.BuilderArena.view c.make_list.new.arena).words in
     let begun : IsBegun S M c.args.to.place.segment c.args.to.place.at c.args.count c.in_ok-start.start (Pointers (nulls c.args.count)) = record { made = c.in_ok-start.ensures.made; start = c.in_ok-start.ensures.start.leads; inside = c.in_ok-start.ensures.start.inside } in
     let NULLS : HasNulls M c.in_ok-start.start.segment c.in_ok-start.start.at c.args.count = record { room = begun.inside.1; null = pointers_ready S M c.args.to.place.segment c.args.to.place.at c.args.count c.in_ok-start.start begun } in
-    (omega (arith, c.decreases), (within.0, (within.1, record { nulls = NULLS; inside = c.requires.inside })))
+    (falls_below 2 2 refl c.decreases, (within.0, (within.1, record { nulls = NULLS; inside = c.requires.inside })))
 
 pub lists::copy_pointers-returns : goal.lists::copy_pointers-returns
 lists::copy_pointers-returns g t c =
@@ -533,7 +525,7 @@ lists::copy_structs-copy_elements-requires g t c κs within =
     let ROOM : c.in_ok-made.made.at + 1 + c.args.list.count * (least.data_words + least.pointers) ≤ length (segment M c.in_ok-made.made.segment) =
     rows_inside c.in_ok-made.made.at (c.args.list.count * (least.data_words + least.pointers)) begun.inside.1 in
     let ZERO : (i : ℕ) → i < c.args.list.count * (least.data_words + least.pointers) → word_at M c.in_ok-made.made.segment (c.in_ok-made.made.at + 1 + i) ≡ 0 = structs_ready S M c.args.to.place.segment c.args.to.place.at least.data_words least.pointers c.args.list.count c.in_ok-made.made begun in
-    (omega (arith, c.decreases), (within.0, (within.1, (ROOM, (ZERO, (c.requires.inside, (c.kept_widths-kept.ensures.less, c.kept_widths-kept.ensures.kept)))))))
+    (falls_below 4 0 refl c.decreases, (within.0, (within.1, (ROOM, (ZERO, (c.requires.inside, (c.kept_widths-kept.ensures.less, c.kept_widths-kept.ensures.kept)))))))
 
 pub lists::copy_structs-overflow_add-place : goal.lists::copy_structs-overflow_add-place
 lists::copy_structs-overflow_add-place g t c =
@@ -629,7 +621,7 @@ structs::copy_struct-returns g t c =
         behind = c.in_ok-start.ensures.start.behind;
         near = c.in_ok-start.ensures.near;
         empty = c.in_ok-start.ensures.empty;
-      } in ok_so c.copy_children.result c.copy_children.ensures.copied (λ x made. sections_copied begun (rw (c.from.ensures, c.from-2.ensures, c.from-pointers.ensures, nl) at made)));
+      } in ok_so c.copy_children.result c.copy_children.ensures.copied (λ x made. sections_done r c.args.size.data_words begun c.from.ensures c.from-2.ensures c.from-pointers.ensures (ap levels nl) made));
       refused = (let begun : SectionsBegun (form_in c.args.to.form) (words_from r c.args.size.data_words) (behind r c.args.size.data_words) c.args.size.pointers least c.args.to.place.segment c.args.to.place.at (g.A.BuilderArena.view c.args.arena.now) (g.A.BuilderArena.view c.make_struct.new.arena) (g.A.BuilderArena.view c.put_words.new.arena) c.in_ok-start.start = record {
         cut = record {
           inside = behind_inside c.args.from.place.at c.args.size.data_words c.args.size.pointers
@@ -646,7 +638,7 @@ structs::copy_struct-returns g t c =
         behind = c.in_ok-start.ensures.start.behind;
         near = c.in_ok-start.ensures.near;
         empty = c.in_ok-start.ensures.empty;
-      } in err_so c.copy_children.result c.copy_children.ensures.refused (λ k stop. sections_stop begun (rw (c.from.ensures, c.from-2.ensures, c.from-pointers.ensures, nl) at stop)));
+      } in err_so c.copy_children.result c.copy_children.ensures.refused (λ k stop. sections_refused r c.args.size.data_words begun c.from.ensures c.from-2.ensures c.from-pointers.ensures (ap levels nl) stop));
       taken = (let made = struct_begins c.args.to.place.segment c.args.to.place.at least (g.A.BuilderArena.view c.args.arena.now) (g.A.BuilderArena.view c.make_struct.new.arena) c.in_ok-start.start c.requires.place.place c.in_ok-start.ensures.memory.taken c.in_ok-start.ensures.memory.granted c.in_ok-start.ensures.start.behind c.in_ok-start.ensures.start.leads c.in_ok-start.ensures.empty in let put = c.put_words.ensures.taken in let last = none_itself (g.A.BuilderArena.view c.copy_children.new.arena) in let fewer = c.kept_sections-kept.ensures.less.pointers in let cut : SectionsCut (form_in c.args.to.form) (words_from r c.args.size.data_words) (behind r
           c.args.size.data_words) c.args.size.pointers least = record {
             inside = behind_inside
@@ -690,7 +682,7 @@ structs::copy_struct-copy_children-requires g t c κs within =
     } in
     let NULLS : HasNulls N c.in_ok-start.start.segment (c.in_ok-start.start.at + c.from-2.result) c.from-pointers.result = rw (c.from-2.ensures, c.from-pointers.ensures) (record { room = sections_fit begun; null = sections_null begun }) in
     let nl = to_z-of_z w32 c.args.from.nesting_limit (search rules) in
-    (omega (arith, ap levels nl, c.decreases), (within.0, (within.1, record { nulls = NULLS; inside = rw (c.from.ensures, c.from-pointers.ensures) (omega (arith, c.requires.inside)) })))
+    (falls_below 4 0 (ap levels nl) c.decreases, (within.0, (within.1, record { nulls = NULLS; inside = rw (c.from.ensures, c.from-pointers.ensures) (kept_inside c.args.from.place.at c.args.size.data_words c.requires.inside c.kept_sections-kept.ensures.less.pointers) })))
 
 pub structs::copy_struct-overflow_add-place : goal.structs::copy_struct-overflow_add-place
 structs::copy_struct-overflow_add-place g t c =
