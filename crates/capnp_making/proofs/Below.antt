@@ -3,7 +3,7 @@ use Rattle.std.proofs.Common.{◌≡◌, ◌≢◌, ℕ, zero, suc, pred, ◌+�
 use Rattle.std.proofs.lemmas.Bool.Decides.{nat_tests}
 use Rattle.capnp_format.specs.Word.{kind}
 use Rattle.capnp_format.specs.Numbers.{words_for}
-use Rattle.capnp_format.specs.Segments.{Segments, word_at, Target, Grows, leads}
+use Rattle.capnp_format.specs.Segments.{Segments, segment, word_at, Target, Grows, leads}
 use Rattle.capnp_format.specs.Tree.{Tree, Null, Capability, Struct, Flat, Pointers, Structs, Trees, no_trees, tree, count, element_count}
 use Rattle.capnp_format.specs.Means.{Means}
 use Rattle.capnp_format.specs.Forest.{Interval, times, pads_of, object_of, target_in, cover, cover_all, cover_elements}
@@ -80,6 +80,10 @@ rest_none (tree t ts) = rest_none ts
 abbrev pub Done : Segments → Segments → ℕ → ℕ → Trees → ℕ → Type 0
 Done S K s p ts i = (is : List Interval) × IsZeroed S K is × ((v r : ℕ) → times is v r + times (child_extents S s (p + i) (rest i ts)) v r ≡ times (child_extents S s p ts) v r)
 
+-- none at first
+pub none_done : (S : Segments) (s p : ℕ) (ts : Trees) → Done S S s p ts 0
+none_done S s p ts = ([], nothing_zeroed S, λ v r. omega (arith, ap (λ q. times (child_extents S s q ts) v r) (let e : p + 0 ≡ p = omega arith in e)))
+
 -- the next child is apart, and zero as well once it is
 pub next_done : (S K L : Segments) (s p i : ℕ) (ts : Trees) → i < count ts → AreApart S s p ts → Done S K s p ts i → ((t : Tree) → IsApart K s (p + i) t → IsZeroed K L (extent K s (p + i) t)) → Done S L s p ts (i + 1)
 next_done S K L s p i ts l a (is, z, sum) h =
@@ -103,6 +107,17 @@ pub all_done : (S K : Segments) (s p : ℕ) (ts : Trees) → Done S K s p ts (co
 all_done S K s p ts (is, z, sum) =
     let none : (v r : ℕ) → times (child_extents S s (p + count ts) (rest (count ts) ts)) v r ≡ 0 = λ v r. ap (λ us. times (child_extents S s (p + count ts) us) v r) (rest_none ts) in
     zeroed_again S S K [] is (row s p (count ts) ∷ cover_all S s p ts) (λ v r. (λ x. omega (arith, sum v r, none v r, times-children S s p ts v r), λ x. omega (arith, sum v r, none v r, times-children S s p ts v r))) (nothing_zeroed S) z
+
+-- the words of a struct, whose pointers are zero with all below them
+pub struct_done : (S K L : Segments) (s p d q : ℕ) (ts : Trees) {a b n : ℕ} → a ≡ p + d → b ≡ q → n ≡ d + q → count ts ≡ q → p + (d + q) ≤ length (segment S s) → AreApart S s (p + d) ts → length (segment K s) ≡ length (segment S s) →
+    ((us : Trees) → (count us ≡ b) × (a + b ≤ length (segment S s)) × AreApart S s a us → IsZeroed S K (row s a b ∷ cover_all S s a us)) → (p + n ≤ length (segment K s) → IsZeroed K L (row s p n ∷ [])) →
+    IsZeroed S L (row s p (d + q) ∷ cover_all S s (p + d) ts)
+struct_done S K L s p d q ts {a} {b} {n} is_a is_b is_n many fits apart long h k =
+    let all : IsZeroed S K (row s a b ∷ cover_all S s a ts) = h ts (many ∙ sym is_b, omega (arith, is_a, is_b, fits), subst (λ x. AreApart S s x ts) (sym is_a) apart) in
+    let below : IsZeroed S K (row s (p + d) q ∷ cover_all S s (p + d) ts) = subst (λ x. IsZeroed S K (row s (p + d) x ∷ cover_all S s (p + d) ts)) is_b (subst (λ x. IsZeroed S K (row s x b ∷ cover_all S s x ts)) is_a all) in
+    let own : IsZeroed K L (row s p (d + q) ∷ []) = subst (λ x. IsZeroed K L (row s p x ∷ [])) is_n (k (omega (arith, is_n, long, fits))) in
+    zeroed_again S K L (row s (p + d) q ∷ cover_all S s (p + d) ts) (row s p (d + q) ∷ []) (row s p (d + q) ∷ cover_all S s (p + d) ts)
+    (λ v r. let f = split_row s p d q v r in (λ x. omega (arith, f, x), λ x. omega (arith, f, x))) below own
 
 -- the object that a place leads to
 pub place_object : (S : Segments) (n s p : ℕ) (t : Tree) (c : ℕ) → word_at S s p ≢ 0 → Means S n s p t c →

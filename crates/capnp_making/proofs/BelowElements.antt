@@ -136,3 +136,15 @@ structs_zeroed S K L s p g n d q w is_n is_d is_q is_w long h k is_g (Structs e 
     let apart : AreApartElements S s (p + 1) (sections d q) es = subst (λ x. AreApartElements S s (p + 1) (sections x q) es) (sym same_d) (subst (λ x. AreApartElements S s (p + 1) (sections e x) es) (sym same_q) a) in
     let below : IsZeroed S K (element_extents S s (p + 1) (sections e f) es) = subst (λ x. IsZeroed S K (element_extents S s (p + 1) (sections e x) es)) same_q (subst (λ x. IsZeroed S K (element_extents S s (p + 1) (sections x q) es)) same_d (h es (sym same_n, apart))) in
     structs_done S K L s p e f es below (subst (λ x. IsZeroed K L (row s p x ∷ [])) same_w (k (omega (arith, same_w, long))))
+
+-- a list of structs that doesn't lie in its segment isn't one, by its tag
+pub list_outside : (S : Segments) (s p g n d q w : ℕ) → n ≡ offset_bits g → d ≡ data_words g → q ≡ pointer_count g → w ≡ 1 + n * (d + q) → length (segment S s) < p + w → g ≡ word_at S s p → (t : Tree) → IsStructListApart S s p t → ⊥
+list_outside S s p g n d q w is_n is_d is_q is_w out is_g Null a = a
+list_outside S s p g n d q w is_n is_d is_q is_w out is_g (Capability i) a = a
+list_outside S s p g n d q w is_n is_d is_q is_w out is_g (Struct ws ts) a = a
+list_outside S s p g n d q w is_n is_d is_q is_w out is_g (Flat size ns) a = a
+list_outside S s p g n d q w is_n is_d is_q is_w out is_g (Pointers ts) a = a
+list_outside S s p g n d q w is_n is_d is_q is_w out is_g (Structs e f es) (here, fits, a) =
+    let tag : IsTag g (element_count es) e f = rw is_g here in
+    let same_w : w ≡ 1 + element_count es * (e + f) = is_w ∙ ap₂ (λ x y. 1 + x * y) (is_n ∙ tag.counts) (ap₂ (λ x y. x + y) (is_d ∙ tag.data_of) (is_q ∙ tag.pointers)) in
+    omega (arith, same_w, out, fits)

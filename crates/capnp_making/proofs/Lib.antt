@@ -22,6 +22,7 @@ pub mod Shapes
 pub mod Starts
 pub mod Taken
 pub mod Tidy
+pub mod WordsInside
 pub mod WordsPut
 pub mod Written
 pub mod Zeros

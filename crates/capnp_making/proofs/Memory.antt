@@ -21,6 +21,14 @@ room_left old new id n limits pruned (inr (k, first)) =
     let same : (j : ℕ) → new.room j ≡ old.room j = λ j. ap (λ (v : View). v.room j) limits in
     inr (k, (omega (arith, first.0, pruned.segments), omega (arith, first.1, pruned.words k, same k), λ j less. omega (arith, first.2 j less, pruned.words j, same j)))
 
+-- nothing but words is changed by a write, nor by one call after another
+
+pub limits_written : (a b : View) (S : Segments) → b ≡ record a { words = S } → KeepsLimits a b
+limits_written a b S e = subst (KeepsLimits a) (sym e) refl
+
+pub limits_again : (a b c : View) → KeepsLimits a b → KeepsLimits b c → KeepsLimits a c
+limits_again a b c x y = y ∙ ap (λ (v : View). record v { words = c.words }) x
+
 -- one call after another
 
 pub keeps_itself : (v : View) → KeepsMemory v v

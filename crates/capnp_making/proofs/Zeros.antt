@@ -1,5 +1,5 @@
 -- Words written over with zeros.
-use Rattle.std.proofs.Common.{cond, nat_eq, ◌≡◌, ◌≢◌, inl, inr, ◌⊎◌, ℕ, zero, suc, ◌+◌, ◌-◌, ◌<◌, ◌≤◌, List, [], ◌∷◌, length, set, replicate, get_or, refl, sym, ap, ◌∙◌, subst, arith}
+use Rattle.std.proofs.Common.{cond, nat_eq, ◌≡◌, ◌≢◌, inl, inr, ◌⊎◌, ℕ, zero, suc, ◌+◌, ◌-◌, ◌*◌, ◌<◌, ◌≤◌, List, [], ◌∷◌, length, set, replicate, get_or, refl, sym, ap, ◌∙◌, subst, arith}
 use Rattle.std.proofs.lemmas.List.{length-set, length-replicate, get_or-set_same, get_or-set_other}
 use Rattle.std.proofs.lemmas.Bool.{cases_lt, cases_eq}
 use Rattle.std.proofs.lemmas.Bool.Decides.{nat_tests}
@@ -124,7 +124,17 @@ word_zeroed S R s p l e =
       λ n. omega (arith, fewer_in S s made here, set_zero W p n),
     ))
 
+-- A call comes below one of a larger measure, where no more words are not zero.
+pub falls_below : {m n t : ℕ} (i k : ℕ) → m ≤ n → 5 * n + (i + suc k) ≡ t → 5 * m + i < t
+falls_below i k fewer is = omega (arith, fewer, is)
+
+pub falls_first : {m n t : ℕ} (k : ℕ) → m ≤ n → 5 * n + suc k ≡ t → 5 * m < t
+falls_first k fewer is = omega (arith, fewer, is)
+
 -- nothing becomes zero
+pub pruned_itself : (S : Segments) → IsPruned S S
+pruned_itself S = record { segments = refl; words = λ v. refl; only = λ v r. inl refl }
+
 pub nothing_zeroed : (S : Segments) → IsZeroed S S []
 nothing_zeroed S = record { segments = refl; words = λ v. refl; zero = λ v r h. absurd (omega arith); kept = λ v r h. refl }
 
