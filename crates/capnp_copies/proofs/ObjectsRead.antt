@@ -11,7 +11,8 @@ use Rattle.capnp_format.specs.Means.{MeansAll, MeansElements}
 use Rattle.capnp_words.specs.Meter.{Meter, Affords}
 use Rattle.capnp_objects.specs.declared.object.Place.{Place}
 use Rattle.capnp_objects.specs.declared.object.Object.TheVariants.{Capability as ObjectCapability, Flat as ObjectFlat}
-use Rattle.capnp_objects.specs.Objects.{IsObject}
+use Rattle.capnp_objects.specs.declared.object.Object.{Object}
+use Rattle.capnp_objects.specs.Objects.{IsObject, IsFew}
 use Rattle.capnp_objects.proofs.Faultless.{same_target}
 use Rattle.capnp_objects.specs.Demands.{tag}
 use Rattle.capnp_objects.specs.Faults.{LeadsTo}
@@ -22,6 +23,15 @@ use Rattle.capnp_objects.specs.Spending.{after, Paid}
 use Rattle.capnp_objects.specs.Wanted.{Form, plain, canonical, of_default, BreaksObject}
 use Rattle.capnp_objects.specs.declared.object.Purpose.TheVariants.{Value}
 use Rattle.capnp_objects.proofs.Stops.{same_word}
+
+-- An object by its form, and by the levels of its place in other words: over plain readings, since what an object of no
+-- known form is takes long to write out.
+
+pub object_read : (r : Reading) (m m' : Meter) {o x : Object} {l : ℕ} → o ≡ x → l ≡ r.levels → IsObject Value (record r { levels = l }) m m' o → IsObject Value r m m' x
+object_read r m m' {o} {x} {l} is same object = subst (λ y. IsObject Value r m m' y) is (subst (λ k. IsObject Value (record r { levels = k }) m m' o) same object)
+
+pub few_read : {o x : Object} → o ≡ x → IsFew o → IsFew x
+few_read is few = subst IsFew is few
 
 -- the start of an object, with so many levels
 abbrev pub inside : Reading → ℕ → Place → Reading

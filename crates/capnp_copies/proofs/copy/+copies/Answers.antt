@@ -38,6 +38,7 @@ use Rattle.capnp_copies.proofs.FilledObjects.{nothing_made, ObjectBegun, pointer
 use Rattle.capnp_copies.proofs.FilledValues.{read_stops, null_copied, CapabilityCopied, capability_value, capability_value_stops, struct_value, struct_value_stops, pointers_value, pointers_value_stops, structs_value, structs_value_stops, FlatOutcome, flat_value, flat_stops}
 use Rattle.capnp_copies.proofs.Copying.{there}
 use Rattle.capnp_copies.proofs.Growth.{none_itself, none_refused, taken_so, none_taken, one_taken, stop_taken, all_taken, no_row_taken, blank_taken, row_taken, row_stop_taken, rows_taken, all_within, among_within, no_wider, read_stop_taken, null_takes, capability_value_takes, struct_takes, struct_stop_takes, flat_takes, flat_stop_takes, pointers_take, pointers_stop_take, structs_take, structs_stop_take, made_none, pointers_behind, pointers_stop_behind, structs_behind, structs_stop_behind, sections_behind, sections_stop_behind}
+use Rattle.capnp_copies.proofs.ObjectsRead.{object_read, few_read}
 use Rattle.capnp_copies.proofs.ObjectsMade.{Begins, struct_begins, no_own_room}
 use Rattle.capnp_copies.proofs.KeptForms.{SourceKept, SectionsCut}
 use Rattle.capnp_copies.proofs.Originals.{halfway, sections_large, pointers_large, structs_large}
@@ -220,7 +221,7 @@ pub copy_object-copy_struct-requires : goal.copy_object-copy_struct-requires
 copy_object-copy_struct-requires g t c κs within =
     let fits : SFits w32 c.args.from.nesting_limit = search rules in
     let nl = to_z-of_z w32 c.args.from.nesting_limit fits in
-    let object = rw (c.in-Struct.is, nl) at c.in_ok-object.ensures.object in
+    let object = object_read (reading g.B.ReaderArena c.args.from) c.args.lim.now c.read_object.new.lim c.in-Struct.is (ap levels nl) c.in_ok-object.ensures.object in
     let SOME = object.1.meets.levels in
     let LESS = one_level_in c.args.from.nesting_limit fits SOME in
     let INSIDE = struct_room c.in-Struct.start c.in-Struct.size object in
@@ -228,34 +229,36 @@ copy_object-copy_struct-requires g t c κs within =
 
 pub copy_object-copy_pointers-requires : goal.copy_object-copy_pointers-requires
 copy_object-copy_pointers-requires g t c κs within =
-    let FEW : c.in-Pointers.count < 2 ^ 29 = rw c.in-Pointers.is at c.in_ok-object.ensures.few in
+    let FEW : c.in-Pointers.count < 2 ^ 29 = few_read c.in-Pointers.is c.in_ok-object.ensures.few in
     let fits : SFits w32 c.args.from.nesting_limit = search rules in
     let nl = to_z-of_z w32 c.args.from.nesting_limit fits in
-    let object = rw (c.in-Pointers.is, nl) at c.in_ok-object.ensures.object in
+    let object = object_read (reading g.B.ReaderArena c.args.from) c.args.lim.now c.read_object.new.lim c.in-Pointers.is (ap levels nl) c.in_ok-object.ensures.object in
     let SOME = object.1.meets.levels in
     let LESS = one_level_in c.args.from.nesting_limit fits SOME in
     (falls_in LESS SOME c.decreases, (within.0, (within.1, (c.requires, (FEW, search rules)))))
 
 pub copy_object-copy_structs-requires : goal.copy_object-copy_structs-requires
 copy_object-copy_structs-requires g t c κs within =
-    let few : (c.in-Structs.count < 2 ^ 30) × (c.in-Structs.count * (c.in-Structs.size.data_words + c.in-Structs.size.pointers) < 2 ^ 29) = rw c.in-Structs.is at c.in_ok-object.ensures.few in
+    let few : (c.in-Structs.count < 2 ^ 30) × (c.in-Structs.count * (c.in-Structs.size.data_words + c.in-Structs.size.pointers) < 2 ^ 29) = few_read c.in-Structs.is c.in_ok-object.ensures.few in
     let FEW : c.in-Structs.count < 2 ^ 30 = few.0 in
     let WORDS : c.in-Structs.count * (c.in-Structs.size.data_words + c.in-Structs.size.pointers) < 2 ^ 29 = few.1 in
     let fits : SFits w32 c.args.from.nesting_limit = search rules in
     let nl = to_z-of_z w32 c.args.from.nesting_limit fits in
-    let object = rw (c.in-Structs.is, nl) at c.in_ok-object.ensures.object in
+    let object = object_read (reading g.B.ReaderArena c.args.from) c.args.lim.now c.read_object.new.lim c.in-Structs.is (ap levels nl) c.in_ok-object.ensures.object in
     let SOME = object.1.meets.levels in
     let LESS = one_level_in c.args.from.nesting_limit fits SOME in
     (falls_in LESS SOME c.decreases, (within.0, (within.1, (c.requires, (FEW, (WORDS, search rules))))))
 
 pub copy_object-returns-in-Null : goal.copy_object-returns-in-Null
 copy_object-returns-in-Null g t c =
-    let object = rw c.in-Null.is at c.in_ok-object.ensures.object in
+    let nl = to_z-of_z w32 c.args.from.nesting_limit (search rules) in
+    let object = object_read (reading g.B.ReaderArena c.args.from) c.args.lim.now c.read_object.new.lim c.in-Null.is (ap levels nl) c.in_ok-object.ensures.object in
     record { copied = null_copied object c.requires.place c.requires.null; refused = tt; taken = null_takes object }
 
 pub copy_object-returns-in-Capability : goal.copy_object-returns-in-Capability
 copy_object-returns-in-Capability g t c =
-    let object = rw c.in-Capability.is at c.in_ok-object.ensures.object in
+    let nl = to_z-of_z w32 c.args.from.nesting_limit (search rules) in
+    let object = object_read (reading g.B.ReaderArena c.args.from) c.args.lim.now c.read_object.new.lim c.in-Capability.is (ap levels nl) c.in_ok-object.ensures.object in
     let outcome : CapabilityCopied c.copy_capability.result (form_in c.args.form) c.args.to.segment c.args.to.at c.in-Capability.index (g.A.BuilderArena.view c.args.arena.now) (g.A.BuilderArena.view c.copy_capability.new.arena) =
     record { as_it_stands = c.copy_capability.ensures.as_it_stands; copied = c.copy_capability.ensures.copied; refused = c.copy_capability.ensures.refused; unchanged = c.copy_capability.ensures.unchanged } in
     record {
@@ -268,7 +271,7 @@ pub copy_object-returns-in-Struct : goal.copy_object-returns-in-Struct
 copy_object-returns-in-Struct g t c =
     let fits : SFits w32 c.args.from.nesting_limit = search rules in
     let nl = to_z-of_z w32 c.args.from.nesting_limit fits in
-    let object = rw (c.in-Struct.is, nl) at c.in_ok-object.ensures.object in
+    let object = object_read (reading g.B.ReaderArena c.args.from) c.args.lim.now c.read_object.new.lim c.in-Struct.is (ap levels nl) c.in_ok-object.ensures.object in
     let less = one_level_in c.args.from.nesting_limit fits in
     record {
       copied = ok_so c.copy_struct.result c.copy_struct.ensures.copied (λ x made. struct_value c.in-Struct.start less object made);
@@ -279,7 +282,7 @@ copy_object-returns-in-Struct g t c =
 pub copy_object-returns-in-Flat : goal.copy_object-returns-in-Flat
 copy_object-returns-in-Flat g t c =
     let nl = to_z-of_z w32 c.args.from.nesting_limit (search rules) in
-    let object = rw (c.in-Flat.is, nl) at c.in_ok-object.ensures.object in
+    let object = object_read (reading g.B.ReaderArena c.args.from) c.args.lim.now c.read_object.new.lim c.in-Flat.is (ap levels nl) c.in_ok-object.ensures.object in
     let outcome : FlatOutcome c.copy_flat.result c.args.to.segment c.args.to.at (words_for (size_number c.in-Flat.size) c.in-Flat.count) (g.A.BuilderArena.view c.args.arena.now) (g.A.BuilderArena.view c.copy_flat.new.arena) (Flat (size_number c.in-Flat.size) (unpacked (size_number c.in-Flat.size) c.in-Flat.count (words_of c.part-elements.result.now))) =
     record {
       copied = c.copy_flat.ensures.copied;
@@ -302,11 +305,11 @@ pub copy_object-returns-in-Pointers : goal.copy_object-returns-in-Pointers
 copy_object-returns-in-Pointers g t c =
     let fits : SFits w32 c.args.from.nesting_limit = search rules in
     let nl = to_z-of_z w32 c.args.from.nesting_limit fits in
-    let object = rw (c.in-Pointers.is, nl) at c.in_ok-object.ensures.object in
+    let object = object_read (reading g.B.ReaderArena c.args.from) c.args.lim.now c.read_object.new.lim c.in-Pointers.is (ap levels nl) c.in_ok-object.ensures.object in
     let less = one_level_in c.args.from.nesting_limit fits in
     record {
       copied = ok_so c.copy_pointers.result c.copy_pointers.ensures.copied (λ x made. pointers_value c.in-Pointers.start less object made);
-      refused = err_so c.copy_pointers.result c.copy_pointers.ensures.refused (λ k stop. pointers_value_stops c.in-Pointers.start less object (rw c.in-Pointers.is at c.in_ok-object.ensures.few) stop);
+      refused = err_so c.copy_pointers.result c.copy_pointers.ensures.refused (λ k stop. pointers_value_stops c.in-Pointers.start less object (few_read c.in-Pointers.is c.in_ok-object.ensures.few) stop);
       taken = taken_so c.copy_pointers.result _ _ _ _ (λ x. pointers_take c.in-Pointers.start less object x) (λ x. pointers_stop_take c.in-Pointers.start less object x) c.copy_pointers.ensures.taken;
     }
 
@@ -314,11 +317,11 @@ pub copy_object-returns-in-Structs : goal.copy_object-returns-in-Structs
 copy_object-returns-in-Structs g t c =
     let fits : SFits w32 c.args.from.nesting_limit = search rules in
     let nl = to_z-of_z w32 c.args.from.nesting_limit fits in
-    let object = rw (c.in-Structs.is, nl) at c.in_ok-object.ensures.object in
+    let object = object_read (reading g.B.ReaderArena c.args.from) c.args.lim.now c.read_object.new.lim c.in-Structs.is (ap levels nl) c.in_ok-object.ensures.object in
     let less = one_level_in c.args.from.nesting_limit fits in
     record {
       copied = ok_so c.copy_structs.result c.copy_structs.ensures.copied (λ x made. structs_value c.in-Structs.start less object made);
-      refused = err_so c.copy_structs.result c.copy_structs.ensures.refused (λ k stop. structs_value_stops c.in-Structs.start less object (rw c.in-Structs.is at c.in_ok-object.ensures.few) stop);
+      refused = err_so c.copy_structs.result c.copy_structs.ensures.refused (λ k stop. structs_value_stops c.in-Structs.start less object (few_read c.in-Structs.is c.in_ok-object.ensures.few) stop);
       taken = taken_so c.copy_structs.result _ _ _ _ (λ x. structs_take c.in-Structs.start less object x) (λ x. structs_stop_take c.in-Structs.start less object x) c.copy_structs.ensures.taken;
     }
 
