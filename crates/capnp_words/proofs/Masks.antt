@@ -6,7 +6,7 @@ use Rattle.std.proofs.lemmas.Int.{ints, of_z-to_z, to_z-of_z}
 use Rattle.std.proofs.lemmas.Nat.{xor_lt}
 use mir.Val.{SFits, bits}
 
-bits_below : (w : Width) (z : ℤ) → SFits w z → of_z w z < 2 ^ bits w
+pub bits_below : (w : Width) (z : ℤ) → SFits w z → of_z w z < 2 ^ bits w
 bits_below w8 z f = omega (arith, ints)
 bits_below w16 z f = omega (arith, ints)
 bits_below w32 z f = omega (arith, ints)

@@ -1,0 +1,13 @@
+use Rattle.std.proofs.Common.{ap, ◌∙◌}
+use Rattle.std.specs.Int.{w32, from_le_bytes, to_le_bytes}
+use Rattle.capnp_words.proofs.LittleEndian.{read_4, signed_value, signed_bits}
+use Rattle.capnp_words.proofs.primitive.I32Primitive.load.Goals as goal
+
+pub returns : goal.returns
+returns c =
+    let bs = c.args.bytes.now in
+    let call = c.from_le_bytes in
+    let read = read_4 bs c.requires (λ i. (c.type_inv.bytes i).fits) in
+    let value = signed_value w32 call.result (from_le_bytes w32 bs) call.ensures read.below in
+    let bits = signed_bits w32 call.result (from_le_bytes w32 bs) call.ensures read.below in
+    record { value = value; again = ap (to_le_bytes w32) bits ∙ read.again; little_endian = bits ∙ read.number }

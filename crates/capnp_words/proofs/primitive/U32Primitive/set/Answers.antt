@@ -1,0 +1,12 @@
+use Rattle.std.proofs.Common.{◌≡◌, ap, ◌∙◌}
+use Rattle.std.specs.Int.{w32, from_le_bytes, to_le_bytes}
+use Rattle.capnp_format.specs.Numbers.{from_digits}
+use Rattle.capnp_words.proofs.LittleEndian.{written_4}
+use Rattle.capnp_words.proofs.primitive.U32Primitive.set.Goals as goal
+
+pub returns : goal.returns
+returns c =
+    let fits = c.ranges.value.fits in
+    let written = written_4 c.args.value fits in
+    let e : c.to_le_bytes.result ≡ to_le_bytes w32 c.args.value = c.to_le_bytes.ensures in
+    record { bytes = e; again = ap (from_le_bytes w32) e ∙ written.again; little_endian = ap (from_digits 256) e ∙ written.number }
