@@ -15,5 +15,6 @@ returns c =
     record {
       bytes = e;
       again = ap (λ bs. to_z w16 (from_le_bytes w16 bs)) e ∙ ap (to_z w16) written.again ∙ to_z-of_z w16 z c.ranges.self;
-      little_endian = ap (from_digits 256) e ∙ written.number; fits = fits;
+      little_endian = ap (from_digits 256) e ∙ written.number;
+      fits = fits;
     }

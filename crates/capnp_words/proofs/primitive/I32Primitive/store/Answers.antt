@@ -15,5 +15,6 @@ returns c =
     record {
       bytes = e;
       again = ap (λ bs. to_z w32 (from_le_bytes w32 bs)) e ∙ ap (to_z w32) written.again ∙ to_z-of_z w32 z c.ranges.self;
-      little_endian = ap (from_digits 256) e ∙ written.number; fits = fits;
+      little_endian = ap (from_digits 256) e ∙ written.number;
+      fits = fits;
     }
