@@ -27,6 +27,10 @@ pub one_written : (bs : List ℕ) (x : ℕ) → length bs ≡ 1 → from_digits 
 one_written (a ∷ []) x l = omega arith
 one_written _ x l = absurd (omega arith)
 
+pub one_set : (bs : List ℕ) (x : ℕ) → length bs ≡ 1 → set bs 0 x ≡ x ∷ []
+one_set (a ∷ []) x l = refl
+one_set _ x l = absurd (omega arith)
+
 pub ruleset little_endian = (one_byte, two_bytes, four_bytes, eight_bytes, one_written)
 
 -- what is read of bytes
