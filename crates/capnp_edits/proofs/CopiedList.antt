@@ -34,7 +34,7 @@ use Rattle.capnp_objects.proofs.Objects.{read_null, read_flat, read_pointers, re
 use Rattle.capnp_objects.proofs.Parts.{claim_list, claim_flat}
 use Rattle.capnp_objects.proofs.Refusals.{stops_pointers, stops_structs, unreadable, affords_less}
 use Rattle.capnp_readers.specs.Calls.{IsListRead}
-use Rattle.capnp_pointers.specs.Rows.{rows_sized}
+use Rattle.capnp_objects.specs.Rows.{rows_sized}
 use Rattle.capnp_readers.specs.Readers.{read_by, IsTargetList, ShowsList}
 use Rattle.capnp_readers.specs.declared.readers.PointerReader.{PointerReader}
 use Rattle.capnp_readers.specs.declared.readers.list_reader.ListReader.{ListReader}

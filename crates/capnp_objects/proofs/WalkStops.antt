@@ -22,6 +22,7 @@ use Rattle.capnp_objects.specs.Objects.{IsObject}
 use Rattle.capnp_objects.specs.Refusals.{GoesBefore, in_struct, in_pointers, in_element, CanBeRead}
 use Rattle.capnp_objects.specs.Reading.{Reading, behind, pointers_of, tag_size, sized}
 use Rattle.capnp_objects.specs.Sizing.{Sized, SizedAll, SizedThere, FitSize, Tally, tally, WalksAll, WalksElements, SizeStopped, unmeasured, too_large, too_many, SizeStops, here, below, SizesStop, RowsStop}
+use Rattle.capnp_objects.specs.Rows.{rows_sized}
 use Rattle.capnp_objects.specs.Spending.{Paid, after}
 use Rattle.capnp_objects.proofs.Budgets.{affords_rest, after_none}
 use Rattle.capnp_objects.proofs.Measures.{with_object_counted, can_not, paid_words}
@@ -45,7 +46,7 @@ pointers_stop_at : {r : Reading} {from : Tally} {m' m'' : Meter} {a : Target} {k
 pointers_stop_at {a = a} o z six h = below a (a.start + count h.first) o (in_pointers h.first z six h.fewer refl h.are_walked) h.stops
 
 structs_stop_at : {r : Reading} {from : Tally} {m' m'' : Meter} {a : Target} {k : ErrorKind} → Entered Size r from.meter m' a → kind a.word ≡ 1 → element_size a.word ≡ 7 →
-    RowsStop (child_at r a (pred r.levels) (a.start + 1)) (tag_size r.segments a) (offset_bits (tag r.segments a)) (with_object_counted from a r.segments m') m'' k → SizeStops k r from m''
+    RowsStop (child_at r a (pred r.levels) (a.start + 1)) (rows_sized (tag_size r.segments a) (offset_bits (tag r.segments a))) (with_object_counted from a r.segments m') m'' k → SizeStops k r from m''
 structs_stop_at {r = r} {a = a} o z seven h =
     below a ((pointers_of (child_at r a (pred r.levels) (a.start + 1)) (tag_size r.segments a) (element_count h.first)).at + count h.stops.first) o
     (in_element h.first h.stops.first h.mid (z, seven) h.fewer h.stops.fewer refl h.are_walked h.stops.are_walked) h.stops.stops
@@ -73,16 +74,16 @@ pointers_stop {r} {from} {m'} {m''} {k} start i (a, o, z, six, (held, seg, at), 
     (subst (λ x. SizesStop x i (tally (from.words + i) from.caps m') m'' k) there h))))
 
 pub structs_stop : {r : Reading} {from : Tally} {m' m'' : Meter} {k : ErrorKind} (start : Place) (size : StructSize) (i : ℕ) → IsObject Size r from.meter m' (ObjectStructs start size i) →
-    RowsStop (inside r start 0) size i (tally (from.words + (1 + i * (size.data_words + size.pointers))) from.caps m') m'' k → SizeStops k r from m''
+    RowsStop (inside r start 0) (rows_sized size i) (tally (from.words + (1 + i * (size.data_words + size.pointers))) from.caps m') m'' k → SizeStops k r from m''
 structs_stop {r} {from} {m'} {m''} {k} start size i (a, o, z, seven, (held, seg, at), many, wide, pointers) h =
     let there : inside r start 0 ≡ child_at r a (pred r.levels) (a.start + 1) = same_place r seg (omega (arith, at)) in
     let of_size : size ≡ tag_size r.segments a = same_size r.segments a wide pointers in
     let counted : 1 + i * (size.data_words + size.pointers) ≡ counted_words r.segments a = ap₂ (λ x y. 1 + x * (y.data_words + y.pointers)) many of_size ∙ sym (counted_structs r.segments a z seven) in
     structs_stop_at {r = r} o z seven (
-    subst (λ w. RowsStop (child_at r a (pred r.levels) (a.start + 1)) (tag_size r.segments a) (offset_bits (tag r.segments a)) (tally (from.words + w) from.caps m') m'' k) counted
-    (subst (λ q. RowsStop (child_at r a (pred r.levels) (a.start + 1)) (tag_size r.segments a) q (tally (from.words + (1 + i * (size.data_words + size.pointers))) from.caps m') m'' k) many
-    (subst (λ y. RowsStop (child_at r a (pred r.levels) (a.start + 1)) y i (tally (from.words + (1 + i * (size.data_words + size.pointers))) from.caps m') m'' k) of_size
-    (subst (λ x. RowsStop x size i (tally (from.words + (1 + i * (size.data_words + size.pointers))) from.caps m') m'' k) there h))))
+    subst (λ w. RowsStop (child_at r a (pred r.levels) (a.start + 1)) (rows_sized (tag_size r.segments a) (offset_bits (tag r.segments a))) (tally (from.words + w) from.caps m') m'' k) counted
+    (subst (λ q. RowsStop (child_at r a (pred r.levels) (a.start + 1)) (rows_sized (tag_size r.segments a) q) (tally (from.words + (1 + i * (size.data_words + size.pointers))) from.caps m') m'' k) many
+    (subst (λ y. RowsStop (child_at r a (pred r.levels) (a.start + 1)) (rows_sized y i) (tally (from.words + (1 + i * (size.data_words + size.pointers))) from.caps m') m'' k) of_size
+    (subst (λ x. RowsStop x (rows_sized size i) (tally (from.words + (1 + i * (size.data_words + size.pointers))) from.caps m') m'' k) there h))))
 
 -- sums that are too much at the object itself
 
@@ -331,7 +332,7 @@ no_row_walk : {r : Reading} {size : StructSize} {from mid : Tally} → WalksElem
 no_row_walk walk = tally_same (omega (arith, walk.words_are)) (omega (arith, walk.caps_are)) (unspent walk.is_sized walk.paid)
 
 -- one element: a struct, and a list of pointers
-pub one_row_stops : {r : Reading} {size : StructSize} {from : Tally} {m' : Meter} {k : ErrorKind} → RowsStop r size 1 from m' k → SizesStop (behind r size.data_words) size.pointers from m' k
+pub one_row_stops : {r : Reading} {size : StructSize} {from : Tally} {m' : Meter} {k : ErrorKind} → RowsStop r (rows_sized size 1) from m' k → SizesStop (behind r size.data_words) size.pointers from m' k
 one_row_stops {r} {size} {from} {m'} {k} h = go h.first h.mid h.fewer h.are_walked h.stops
   where
     go : (es : Elements) (mid : Tally) → element_count es < 1 → WalksElements r size from mid es → SizesStop (pointers_of r size (element_count es)) size.pointers mid m' k → SizesStop (behind r size.data_words) size.pointers from m' k
@@ -341,15 +342,15 @@ one_row_stops {r} {size} {from} {m'} {k} h = go h.first h.mid h.fewer h.are_walk
         subst (λ x. SizesStop (behind r size.data_words) size.pointers x m' k) (no_row_walk walk) (subst (λ p. SizesStop (record r { at = p }) size.pointers mid m' k) first stops)
 
 pub struct_row_stops : {r : Reading} {from : Tally} {m' m'' : Meter} {k : ErrorKind} (start : Place) (size : StructSize) → IsObject Size r from.meter m' (ObjectStruct start size) →
-    RowsStop (beginning r start) size 1 (tally (from.words + (size.data_words + size.pointers)) from.caps m') m'' k → SizeStops k r from m''
+    RowsStop (beginning r start) (rows_sized size 1) (tally (from.words + (size.data_words + size.pointers)) from.caps m') m'' k → SizeStops k r from m''
 struct_row_stops {r} {from} start size object h = struct_stops {r = r} {from = from} start size object (one_row_stops h)
 
 pub pointers_row_stops : {r : Reading} {from : Tally} {m' m'' : Meter} {k : ErrorKind} (start : Place) (i : ℕ) → IsObject Size r from.meter m' (ObjectPointers start i) →
-    RowsStop (beginning r start) (sized 0 i) 1 (tally (from.words + i) from.caps m') m'' k → SizeStops k r from m''
+    RowsStop (beginning r start) (rows_sized (sized 0 i) 1) (tally (from.words + i) from.caps m') m'' k → SizeStops k r from m''
 pointers_row_stops {r} {from} start i object h = pointers_stop {r = r} {from = from} start i object (one_row_stops h)
 
 pub structs_rows_stop : {r : Reading} {from : Tally} {m' m'' : Meter} {k : ErrorKind} (start : Place) (size : StructSize) (i : ℕ) → IsObject Size r from.meter m' (ObjectStructs start size i) →
-    RowsStop (beginning r start) size i (tally (from.words + (1 + i * (size.data_words + size.pointers))) from.caps m') m'' k → SizeStops k r from m''
+    RowsStop (beginning r start) (rows_sized size i) (tally (from.words + (1 + i * (size.data_words + size.pointers))) from.caps m') m'' k → SizeStops k r from m''
 structs_rows_stop {r} {from} {m'} {m''} {k} start size i object h =
     let there : beginning r start ≡ inside r start 0 = same_place r refl (omega arith) in
-    structs_stop {r = r} {from = from} start size i object (subst (λ x. RowsStop x size i (tally (from.words + (1 + i * (size.data_words + size.pointers))) from.caps m') m'' k) there h)
+    structs_stop {r = r} {from = from} start size i object (subst (λ x. RowsStop x (rows_sized size i) (tally (from.words + (1 + i * (size.data_words + size.pointers))) from.caps m') m'' k) there h)

@@ -2,6 +2,7 @@ pub mod Follow
 pub mod Demands
 pub mod Source
 pub mod Reading
+pub mod Rows
 pub mod Wanted
 pub mod Spending
 pub mod Faults

@@ -21,6 +21,7 @@ use Rattle.capnp_objects.specs.Measures.{counted_words, NotMeasured}
 use Rattle.capnp_objects.specs.Outcomes.{Entered}
 use Rattle.capnp_objects.specs.Reading.{Reading, pointers_of}
 use Rattle.capnp_objects.specs.Refusals.{GoesBefore}
+use Rattle.capnp_objects.specs.Rows.{Rows}
 use Rattle.capnp_objects.specs.Spending.{Paid, pointers_in, pointers_in_all, pointers_in_elements}
 
 -- The walk from a place goes over the value t within n levels, and charges c words. It is `Means`
@@ -152,11 +153,10 @@ pub record SizesStop (r : Reading) (i : ℕ) (from : Tally) (m' : Meter) (k : Er
   pub are_walked : WalksAll r from mid first
   pub stops : SizeStops k (record r { at = r.at + count first }) mid m'
 
--- The walk from i elements stops at a pointer of one of them, when the elements before it were walked over.
-pub record RowsStop (r : Reading) (size : StructSize) (i : ℕ) (from : Tally) (m' : Meter)
-    (k : ErrorKind) : Type 0 where
+-- The walk from elements stops at a pointer of one of them, when the elements before it were walked over.
+pub record RowsStop (r : Reading) (n : Rows) (from : Tally) (m' : Meter) (k : ErrorKind) : Type 0 where
   pub first : Elements
-  pub fewer : element_count first < i
+  pub fewer : element_count first < n.count
   pub mid : Tally
-  pub are_walked : WalksElements r size from mid first
-  pub stops : SizesStop (pointers_of r size (element_count first)) size.pointers mid m' k
+  pub are_walked : WalksElements r n.size from mid first
+  pub stops : SizesStop (pointers_of r n.size (element_count first)) n.size.pointers mid m' k

@@ -37,7 +37,7 @@ use Rattle.capnp_words.specs.Sizes.{size_number}
 use Rattle.capnp_objects.specs.declared.object.Purpose.TheVariants.{Value}
 use Rattle.capnp_pointers.specs.Standing.{AllStand, ElementsStand, EndsUsed, IsPadded}
 use Rattle.capnp_objects.specs.Refusals.{in_struct, in_pointers, in_element}
-use Rattle.capnp_pointers.specs.Rows.{rows_sized}
+use Rattle.capnp_objects.specs.Rows.{rows_sized}
 use Rattle.capnp_pointers.specs.Checking.{Progress, progress, Finds, FindsAll, FindsElements, IsFound, AreFound, IsCanonicalAt, AreCanonicalAt, TestEnds, below, TestsEnd, RowTestsEnd, IsTested, StartsRight, Tells, TellsAll, TellsFlat, TellsStruct, TellsRows}
 use Rattle.capnp_pointers.proofs.Accepts.{IsNear, near_to, null_stands, empty_stands, struct_stands, pointers_stand, flat_stands, structs_stand, used_where_standing, blanks_stand, data_width-blank, pointer_width-blank, words-blank}
 use Rattle.capnp_pointers.proofs.Found.{struct_found, pointers_found, flat_found, structs_found, empty_found}

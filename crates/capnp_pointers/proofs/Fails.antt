@@ -23,7 +23,7 @@ use Rattle.capnp_pointers.specs.declared.pointers.canonical_fault.CanonicalFault
 use Rattle.capnp_pointers.specs.declared.pointers.canonical_fault.CanonicalFaultReason.TheVariants.{EmptyStructPlace, ObjectPlace, Padding, ElementWords, ElementData, ElementPointers}
 use Rattle.capnp_pointers.specs.Faults.{FaultIs}
 use Rattle.capnp_pointers.specs.Standing.{IsPadded}
-use Rattle.capnp_pointers.specs.Rows.{rows_sized}
+use Rattle.capnp_objects.specs.Rows.{rows_sized}
 use Rattle.capnp_pointers.specs.Checking.{Progress, progress, AreFound, AreFoundTooWide, IsTested, StartsRight, TestsEnd, RowTestsEnd, here, below, IsFault, IsUnfit, HasWideSection, empty_elsewhere, elsewhere, not_padded, other_claim, wide_sections, wide_elements, TestEnds, SectionsFail, RowsFail}
 use Rattle.capnp_pointers.proofs.Checks.{near_object, struct_pointers, list_elements, padded_at, some_starts, lists_alone, AreSeen, struct_ends, structs_end}
 use Rattle.capnp_objects.proofs.Followed.{entered_leads}

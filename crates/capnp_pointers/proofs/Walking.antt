@@ -16,6 +16,7 @@ use Rattle.capnp_objects.specs.declared.object.Purpose.TheVariants.{Size}
 use Rattle.capnp_objects.specs.Objects.{IsObject}
 use Rattle.capnp_objects.proofs.Parts.{claim_struct, claim_list}
 use Rattle.capnp_objects.specs.Reading.{Reading, segment_read, sized}
+use Rattle.capnp_objects.specs.Rows.{rows_sized}
 use Rattle.capnp_objects.specs.Sizing.{FitSize, SizesStop, SizeStops, RowsStop, Tally, tally, WalksPlace, WalksPointers}
 use Rattle.capnp_objects.specs.Source.{levels}
 use Rattle.capnp_objects.proofs.Walked.{beginning, null_walked, flat_walked, struct_row_walked, pointers_row_walked, structs_rows_walked}
@@ -136,7 +137,7 @@ object_walked (ObjectCapability i) o h = absurd o.has
 object_walked (ObjectFlat start size i) o h = absurd o.has
 
 pub object_stops : {r : Reading} {from : Tally} {m' m'' : Meter} {k : ErrorKind} {rows : MeasuredRows} (x : Object) → Opened r from.meter m' x rows →
-    RowsStop (beginning r rows.start) (sized rows.data_words rows.pointers) rows.count (tally (from.words + object_words x) from.caps m') m'' k → SizeStops k r from m''
+    RowsStop (beginning r rows.start) (rows_sized (sized rows.data_words rows.pointers) rows.count) (tally (from.words + object_words x) from.caps m') m'' k → SizeStops k r from m''
 object_stops {r} {from} (ObjectStruct start size) o h = struct_row_stops {r = r} {from = from} start size o.is_measured (rw (o.has.0, o.has.1, o.has.2, o.has.3) at h)
 object_stops {r} {from} (ObjectPointers start i) o h = pointers_row_stops {r = r} {from = from} start i o.is_measured (rw (o.has.0, o.has.1, o.has.2, o.has.3) at h)
 object_stops {r} {from} (ObjectStructs start size i) o h = structs_rows_stop {r = r} {from = from} start size i o.is_measured (rw (o.has.0, o.has.1, o.has.2, o.has.3) at h)

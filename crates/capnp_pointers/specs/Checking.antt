@@ -47,7 +47,7 @@ use Rattle.capnp_pointers.specs.declared.pointers.canonical_fault.CanonicalFault
 use Rattle.capnp_pointers.specs.declared.pointers.canonical_fault.CanonicalFaultReason.TheVariants.{ElementWords}
 use Rattle.capnp_pointers.specs.declared.pointers.canonical_fault.CanonicalFaultReason.TheVariants.{ElementData}
 use Rattle.capnp_pointers.specs.declared.pointers.canonical_fault.CanonicalFaultReason.TheVariants.{ElementPointers}
-use Rattle.capnp_pointers.specs.Rows.{Rows}
+use Rattle.capnp_objects.specs.Rows.{Rows}
 use Rattle.capnp_pointers.specs.Standing.{AllStand, ForOffsets, ElementsStand}
 use Rattle.capnp_pointers.specs.Standing.{EndsUsed, IsPadded}
 

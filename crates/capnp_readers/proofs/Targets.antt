@@ -10,7 +10,7 @@ use Rattle.capnp_words.specs.declared.wire_pointer.StructSize.{StructSize}
 use Rattle.capnp_arena_traits.specs.declared.arena.reader_arena.ReaderArena.{Ghosts}
 use Rattle.capnp_objects.specs.Objects.{IsObject}
 use Rattle.capnp_objects.specs.Reading.{Reading, sized}
-use Rattle.capnp_pointers.specs.Rows.{rows_sized}
+use Rattle.capnp_objects.specs.Rows.{rows_sized}
 use Rattle.capnp_readers.specs.Readers.{ShowsStruct, ShowsList, IsTargetList, IsTarget, read_by}
 use Rattle.capnp_objects.specs.declared.object.Place.{Place}
 use Rattle.capnp_objects.specs.declared.object.Object.{Object}

@@ -12,7 +12,7 @@ use Rattle.capnp_words.specs.declared.wire_pointer.ElementSize.TheVariants.{Poin
 use Rattle.capnp_arena_traits.specs.declared.arena.reader_arena.ReaderArena.{Ghosts}
 use Rattle.capnp_objects.specs.Demands.{tag}
 use Rattle.capnp_objects.specs.Reading.{Reading, source_start, reading_at, word_of, sized, tag_size}
-use Rattle.capnp_pointers.specs.Rows.{Rows, rows_sized}
+use Rattle.capnp_objects.specs.Rows.{Rows, rows_sized}
 use Rattle.capnp_words.specs.declared.wire_pointer.StructSize.{StructSize}
 use Rattle.capnp_objects.specs.Outcomes.{Entered}
 use Rattle.capnp_readers.specs.Sections.{bytes_for, elements_words, step_bits}

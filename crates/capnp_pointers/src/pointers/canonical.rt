@@ -8,7 +8,7 @@ ghost use Rattle.capnp_objects.specs.Reading.{behind, segment_read, word_of};
 ghost use Rattle.capnp_objects.specs.Source.{levels};
 ghost use Rattle.capnp_pointers.specs.Faults.{FaultIs};
 ghost use Rattle.capnp_pointers.specs.Pointers.{reading, reading_on};
-ghost use Rattle.capnp_pointers.specs.Rows.{rows_sized};
+ghost use Rattle.capnp_objects.specs.Rows.{rows_sized};
 ghost use Rattle.capnp_pointers.specs.Checking.{progress, level_refusal_name, IsFound, AreFound, IsCanonicalAt, AreCanonicalAt, IsTestedWord, StartsRight, TellsFlat, TellsStruct, TellsRows, CanBeFound, CanAllBeFound, Unread, TestStops, TestEnds, TestsPlace, TestsPointers, IsFault, IsUnfit, TestsEnd, RowTestsEnd, SectionsFail, RowsFail};
 
 use crate::pointers::Pointer;

@@ -7,6 +7,7 @@ ghost use Rattle.capnp_words.specs.declared.error.ErrorKind.TheVariants.{Message
 ghost use Rattle.capnp_objects.specs.Objects.{IsFew};
 ghost use Rattle.capnp_objects.specs.Reading.{segment_read, sized, word_of};
 ghost use Rattle.capnp_format.specs.Tree.{Elements, element_count};
+ghost use Rattle.capnp_objects.specs.Rows.{rows_sized};
 ghost use Rattle.capnp_objects.specs.Sizing.{FitSize, Tally, tally, WalksPlace, WalksPointers, WalksElements, SizeStops, SizesStop, RowsStop};
 ghost use Rattle.capnp_pointers.specs.Pointers.{reading, reading_on};
 ghost use Rattle.capnp_pointers.specs.declared.pointers.sizes.MeasuredRows.{MeasuredRows};
@@ -305,7 +306,8 @@ fn add_rows<A: ReaderArena>(
         × WalksElements (reading A.ReaderArena from.now) (sized data_words pointers)
         (so_far walk.old.sums.size walk.old.lim) (so_far walk.new.sums.size walk.new.lim) es) }
     ensures refused { OnErr result
-        (RowsStop (reading A.ReaderArena from.now) (sized data_words pointers) count
+        (RowsStop (reading A.ReaderArena from.now)
+        (rows_sized (sized data_words pointers) count)
         (so_far walk.old.sums.size walk.old.lim) walk.new.lim walk.new.sums.refusal) }
 {
     if pointers == 0 {

@@ -6,7 +6,7 @@ ghost use Rattle.capnp_words.specs.declared.wire_pointer.ElementSize.TheVariants
 ghost use Rattle.capnp_format.specs.Numbers.{element_bits, from_digits};
 ghost use Rattle.capnp_words.specs.Sizes.{size_number};
 ghost use Rattle.capnp_objects.specs.Reading.{source_start};
-ghost use Rattle.capnp_pointers.specs.Rows.{rows_sized};
+ghost use Rattle.capnp_objects.specs.Rows.{rows_sized};
 ghost use Rattle.capnp_objects.specs.Objects.{IsHeld};
 ghost use Rattle.capnp_readers.specs.Sections.{IsPart, HasWordsFrom, HoldsPointer, elements_words, pointers_behind, bit_at, step_bits, data_bits, low_data};
 

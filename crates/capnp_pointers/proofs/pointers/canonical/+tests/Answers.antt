@@ -14,7 +14,7 @@ use Rattle.capnp_objects.specs.declared.object.Purpose.TheVariants.{Value}
 use Rattle.capnp_objects.proofs.Walked.{row_within}
 use Rattle.capnp_pointers.specs.Pointers.{reading_on}
 use Rattle.capnp_pointers.specs.Faults.{other_reason}
-use Rattle.capnp_pointers.specs.Rows.{rows_sized}
+use Rattle.capnp_objects.specs.Rows.{rows_sized}
 use Rattle.capnp_pointers.specs.Checking.{level_refusal_name, IsTested, Progress, progress, StartsRight, Tells, TellsStruct, TellsAll, TestsEnd, RowTestsEnd, Unread, IsFault, SectionsFail, here, no_pointer, other_pointer}
 use Rattle.capnp_pointers.proofs.Walking.{ok_so, err_so, err_with, on_err, on_err_so, on_err_both, on_ok_so}
 use Rattle.capnp_pointers.proofs.Checks.{tested, finds_none, pointer_found, pointer_never, unplaced_never, null_found_at, empty_tells, flat_tells, struct_tells, pointers_tell, structs_tell, pointer_ends, row_ends, struct_ends, pointers_end, structs_end, pointers_room, structs_room, some_right, level_falls, place_begins, elements_begin, pointers_here, structs_here, none_seen, row_seen, row_never, rows_unused, empties_found, lists_alone, no_list_else, still_seen, seen_now, RowDataUsed, RowPointersUsed, AreFoundRows, TellsClaimed}
