@@ -8,16 +8,17 @@ use Rattle.capnp_words.specs.declared.wire_pointer.StructSize.{StructSize}
 use Rattle.capnp_readers.specs.declared.readers.struct_reader.StructPlace.{StructPlace}
 use Rattle.capnp_making.specs.Made.{words_of_zero, nulls, zero_struct}
 use Rattle.capnp_making.specs.Memory.{start_of}
-use Rattle.capnp_making.specs.Path.{Child, PathLeads, Step, put_tree, tree_at, update}
+use Rattle.capnp_making.specs.Path.{Child, node, PathLeads, Step, put_tree, tree_at, update}
 use Rattle.capnp_making.specs.Stored.{Puts}
 use Rattle.capnp_making.proofs.Placed.{count-nulls}
+use Rattle.capnp_making.proofs.Paths.{node_of_parts}
 use Rattle.capnp_making.proofs.Replaced.{forest_stored, forest_updated, stored_within}
 use Rattle.capnp_widening.specs.Opening.{existing_struct}
 use Rattle.capnp_making.specs.Makes.{CallAt}
 use Rattle.capnp_builders.specs.Places.{IsStructOf, struct_place}
 
 pub root_put : (S R : Segments) (t y : Tree) → IsForest S t → Puts S R 0 0 y → IsForest R y
-root_put S R t y forest puts = forest_updated S R t [] 0 0 t y forest (refl, refl, refl) (puts t (forest_stored S t forest))
+root_put S R t y forest puts = forest_updated S R t [] 0 0 t y forest refl (puts t (forest_stored S t forest))
 
 null_first : (q : ℕ) → tree_at (nulls q) 0 ≡ Null
 null_first zero = refl
@@ -31,11 +32,11 @@ field_put S M R t y size place forest first leads some puts =
     let made = root_put S M t (zero_struct size) forest first in
     let long : length (words_of_zero size.data_words) ≡ size.data_words = length-replicate {A = ℕ} size.data_words 0 in
     let at : (target M 0 0).start + length (words_of_zero size.data_words) + 0 ≡ place.pointers_at = omega (arith, is_pointers, long) in
-    let path : PathLeads M 0 0 (zero_struct size) (Child 0 ∷ []) place.segment (place.pointers_at) Null = (omega (arith, count-nulls size.pointers), (sym is_segment, at, null_first size.pointers)) in
+    let path : PathLeads M (node 0 0 (zero_struct size)) (Child 0 ∷ []) (node place.segment (place.pointers_at) Null) = (omega (arith, count-nulls size.pointers), node_of_parts (sym is_segment) at (null_first size.pointers)) in
     forest_updated M R (zero_struct size) (Child 0 ∷ []) place.segment (place.pointers_at) Null y made path (puts Null (stored_within M 0 0 (zero_struct size) (Child 0 ∷ []) place.segment (place.pointers_at) Null path (forest_stored M (zero_struct size) made)))
 
 -- what is put at a pointer, wherever in a tree it is
-pub put_where_it_leads : (S R : Segments) (s p : ℕ) (y : Tree) → Puts S R s p y → (t x : Tree) (path : List Step) → IsForest S t → PathLeads S 0 0 t path s p x → IsForest R (update t path y)
+pub put_where_it_leads : (S R : Segments) (s p : ℕ) (y : Tree) → Puts S R s p y → (t x : Tree) (path : List Step) → IsForest S t → PathLeads S (node 0 0 t) path (node s p x) → IsForest R (update t path y)
 put_where_it_leads S R s p y puts t x path forest leads = forest_updated S R t path s p x y forest leads (puts x (stored_within S 0 0 t path s p x leads (forest_stored S t forest)))
 
 -- where the sections of a struct are that a pointer leads to

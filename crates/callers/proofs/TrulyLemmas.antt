@@ -12,7 +12,7 @@ use Rattle.capnp_arena_traits.specs.Allocations.{max_segment_words}
 use Rattle.capnp_arena_traits.specs.Taking.{IsAllocationRefusal}
 use Rattle.capnp_arena_traits.specs.View.{View}
 use Rattle.capnp_making.specs.Memory.{HasRoom, IsRefusedFor}
-use Rattle.capnp_making.specs.Path.{PathLeads}
+use Rattle.capnp_making.specs.Path.{node, PathLeads}
 use Rattle.capnp_widening.specs.Rooms.{is_allocation_name}
 use Rattle.capnp_edits.specs.declared.edit.Edit.{Edit}
 use Rattle.capnp_edits.specs.declared.edit.Op.{Op}
@@ -60,7 +60,7 @@ no_tree y e = cc
 
 -- an object that an edit makes is refused as its words are
 asked_by : (old new : View) (e : Edit) (r : Option ErrorKind) (step : IsStep old new e r) (op : Op) → e.op ≡ op → (object t x : Tree) (s p : ℕ) (k : ErrorKind) → object_made op ≡ Some object → IsForest old.words t →
-    PathLeads old.words 0 0 t (map step_of e.path.now) s p x → IsSomeAnd step.path_end (λ place. IsSomeAnd (task_of e.op) (λ task. IsRefusedAt old new task k place)) → IsRefusedFor old new (word_count object) k
+    PathLeads old.words (node 0 0 t) (map step_of e.path.now) (node s p x) → IsSomeAnd step.path_end (λ place. IsSomeAnd (task_of e.op) (λ task. IsRefusedAt old new task k place)) → IsRefusedFor old new (word_count object) k
 asked_by old new e r step (InitStruct size) same object t x s p k is forest leads named =
     let there = step_is_there old new e r t x s p step forest leads in
     let by = subst (λ (o : Op). IsSomeAnd step.path_end (λ place. IsSomeAnd (task_of o) (λ task. IsRefusedAt old new task k place))) same named in
@@ -106,7 +106,7 @@ asked_by old new e r step _ same object t x s p k is forest leads named = absurd
 
 -- and has room where they have
 fits_by : (old new : View) (e : Edit) (r : Option ErrorKind) (step : IsStep old new e r) (op : Op) → e.op ≡ op → (object t x : Tree) (s p : ℕ) → object_made op ≡ Some object → IsForest old.words t →
-    PathLeads old.words 0 0 t (map step_of e.path.now) s p x → length (segment old.words s) + word_count object ≤ old.room s →
+    PathLeads old.words (node 0 0 t) (map step_of e.path.now) (node s p x) → length (segment old.words s) + word_count object ≤ old.room s →
     IfSome step.path_end (λ place. IfSome (task_of e.op) (λ task. FitsAt old task place))
 fits_by old new e r step (InitStruct size) same object t x s p is forest leads fits =
     let there = step_is_there old new e r t x s p step forest leads in

@@ -11,7 +11,7 @@ use Rattle.capnp_format.specs.Tree.{Tree, Flat}
 use Rattle.capnp_arena_traits.specs.Allocations.{max_segment_words, one_more}
 use Rattle.capnp_arena_traits.specs.View.{View}
 use Rattle.capnp_making.specs.Made.{zero_list, zero_struct, zero_structs}
-use Rattle.capnp_making.specs.Path.{PathLeads}
+use Rattle.capnp_making.specs.Path.{node, PathLeads}
 use Rattle.capnp_objects.specs.Reading.{Reading}
 use Rattle.capnp_widening.specs.Rooms.{is_allocation_name}
 use Rattle.capnp_edits.specs.declared.edit.Edit.{Edit}
@@ -41,12 +41,13 @@ pub record IsRefusedTruly (old new : View) (edit : Edit) (r : Option ErrorKind) 
   pub others : (r ≡ Some AllocationFailed → ⊥) → new.refusals ≡ old.refusals
   pub fits :
       (object t x : Tree) (s p : ℕ) → object_made edit.op ≡ Some object → IsForest old.words t →
-      PathLeads old.words 0 0 t (map step_of edit.path.now) s p x →
+      PathLeads old.words (node 0 0 t) (map step_of edit.path.now) (node s p x) →
       length (segment old.words s) + word_count object ≤ old.room s →
       (k : ErrorKind) → r ≡ Some k → is_allocation_name k ≡ false
   pub asked :
       (object t x : Tree) (s p n : ℕ) → object_made edit.op ≡ Some object → IsForest old.words t →
-      PathLeads old.words 0 0 t (map step_of edit.path.now) s p x → r ≡ Some (MessageTooLarge n) →
+      PathLeads old.words (node 0 0 t) (map step_of edit.path.now) (node s p x) →
+      r ≡ Some (MessageTooLarge n) →
       ((n ≡ word_count object + 1) × (max_segment_words < n)) ⊎
       ((n ≡ 2 ^ 64 - 1) × (length old.words ≡ 2 ^ 32 - 1))
 

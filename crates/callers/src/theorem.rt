@@ -24,7 +24,7 @@ ghost use Rattle.capnp_messages.specs.CanonicalMessages.{IsCanonicalMessage};
 ghost use Rattle.capnp_messages.specs.Commands.{form_bytes};
 ghost use Rattle.capnp_messages.specs.Copies.{LacksMemoryOr, RefusesCopy, RefusesCopyAnywhere};
 ghost use Rattle.capnp_messages.specs.Messages.{HasCanonicalCopy, IsReadable, IsValueOf, RefusesAt, RefusesCanon, RefusesCheck, left_of, root_within};
-ghost use Rattle.capnp_making.specs.Path.{PathLeads, Step, update};
+ghost use Rattle.capnp_making.specs.Path.{node, PathLeads, Step, update};
 ghost use Rattle.capnp_format.specs.Forest.{IsForest, target};
 ghost use Rattle.callers.specs.Truly.{AreRefusedTruly, read_at};
 
@@ -363,13 +363,13 @@ pub fn struct_made<A: BuilderArena>(
         builder.old.at }
     ensures made { OnOk result ((t x : Tree) (path : List Step)
         → IsForest (A.view builder.old.arena.now).words t
-        → PathLeads (A.view builder.old.arena.now).words 0 0 t path builder.old.segment
-        builder.old.at x
+        → PathLeads (A.view builder.old.arena.now).words (node 0 0 t) path
+        (node builder.old.segment builder.old.at x)
         → IsForest (A.view builder.new.arena.now).words (update t path (zero_struct size))) }
     ensures refused { OnErr result ((t x : Tree) (path : List Step)
         → IsForest (A.view builder.old.arena.now).words t
-        → PathLeads (A.view builder.old.arena.now).words 0 0 t path builder.old.segment
-        builder.old.at x
+        → PathLeads (A.view builder.old.arena.now).words (node 0 0 t) path
+        (node builder.old.segment builder.old.at x)
         → IsForest (A.view builder.new.arena.now).words (update t path Null)) }
     ensures leads { IfOk result (λ place.
         let there = target (A.view builder.new.arena.now).words builder.old.segment builder.old.at

@@ -8,7 +8,7 @@ ghost use Rattle.capnp_format.specs.Numbers.{element_bits};
 ghost use Rattle.capnp_format.specs.Segments.{Segments, segment, word_at};
 ghost use Rattle.capnp_format.specs.Tree.{Tree, Struct, Flat, Structs, Trees, Elements, element_count};
 ghost use Rattle.capnp_making.specs.Fields.{put_field, with_field, field_in};
-ghost use Rattle.capnp_making.specs.Path.{Step, PathLeads, update, extent, struct_at, put_struct};
+ghost use Rattle.capnp_making.specs.Path.{Step, node, PathLeads, update, extent, struct_at, put_struct};
 ghost use Rattle.capnp_making.specs.Stored.{IsStored, IsReplaced, Puts};
 
 /// Where a message is a forest (its value holds no word twice, and all other words are zero), it is
@@ -16,7 +16,7 @@ ghost use Rattle.capnp_making.specs.Stored.{IsStored, IsReplaced, Puts};
 /// as before but for that value.
 pub fn forest_after()
     ensures { (S R : Segments) (t : Tree) (path : List Step) (u q : ℕ) (x y : Tree)
-        → IsForest S t → PathLeads S 0 0 t path u q x → Puts S R u q y
+        → IsForest S t → PathLeads S (node 0 0 t) path (node u q x) → Puts S R u q y
         → IsForest R (update t path y) }
 {}
 
@@ -24,7 +24,7 @@ pub fn forest_after()
 /// reached from it.
 pub fn others_stay()
     ensures { (S R : Segments) (t : Tree) (path : List Step) (u q : ℕ) (x y : Tree)
-        → IsForest S t → PathLeads S 0 0 t path u q x → Puts S R u q y
+        → IsForest S t → PathLeads S (node 0 0 t) path (node u q x) → Puts S R u q y
         → (v r : ℕ) → r < length (segment S v) → times (extent S u q x) v r ≡ 0
         → word_at R v r ≡ word_at S v r }
 {}

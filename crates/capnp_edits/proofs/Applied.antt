@@ -22,7 +22,7 @@ use Rattle.capnp_making.specs.Made.{words_of_zero, nulls, zero_elements, zero_st
 use Rattle.capnp_making.specs.Makes.{CallAt, MakesObject, call_at}
 use Rattle.capnp_making.specs.Memory.{IsRefusedFor, StandsBehind, start_of}
 use Rattle.capnp_making.specs.Near.{LeadsToEnd}
-use Rattle.capnp_making.specs.Path.{Element, struct_at, put_struct, update, PathLeads, word_interval}
+use Rattle.capnp_making.specs.Path.{Element, struct_at, put_struct, update, node, PathLeads, word_interval}
 use Rattle.capnp_making.specs.Stored.{IsStored, IsReplaced, Puts}
 use Rattle.capnp_making.proofs.Extents.{once_held, times-first}
 use Rattle.capnp_contents.proofs.FieldsWritten.{data_field_written, element_has_words, element_field_written}
@@ -255,7 +255,7 @@ no_struct a (Content source) (Pointers ts) none = refl
 no_struct a (Content source) (Structs d q es) none = refl
 
 -- at a pointer
-at_pointer : (S R : Segments) (e : Edit) (place : PointerPlace) (making : Making) (r : Option ErrorKind) (t x : Tree) → made (task_of e.op) (PointerTo x) ≡ making → PathLeads S 0 0 t (map step_of e.path.now) place.segment place.word x →
+at_pointer : (S R : Segments) (e : Edit) (place : PointerPlace) (making : Making) (r : Option ErrorKind) (t x : Tree) → made (task_of e.op) (PointerTo x) ≡ making → PathLeads S (node 0 0 t) (map step_of e.path.now) (node place.segment place.word x) →
     found t (map step_of e.path.now) ≡ Some (PointerTo x) → IsForest S t → DoesAt S R place making x r → (u : Tree) × IsForest R u × Takes e r t u
 at_pointer S R e place making r t x makes leads end_value forest does = stands does.left (subst (λ m. Leaves m r does.left) (sym makes) does.leaves) does.stands
   where

@@ -8,8 +8,9 @@ use Rattle.capnp_format.specs.Forest.{IsForest, target, cover}
 use Rattle.capnp_format.specs.Segments.{Segments, segment}
 use Rattle.capnp_format.specs.Tree.{Tree, Struct, Pointers, Structs, count, element_count}
 use Rattle.capnp_making.proofs.Extents.{once_held, times-first}
+use Rattle.capnp_making.proofs.Paths.{same_node}
 use Rattle.capnp_making.proofs.Replaced.{forest_stored}
-use Rattle.capnp_making.specs.Path.{Step, Child, Element, tree_at, struct_at, next, PathLeads, word_interval}
+use Rattle.capnp_making.specs.Path.{Step, Child, Element, tree_at, struct_at, next, node, PathLeads, word_interval}
 use Rattle.capnp_making.specs.Stored.{IsStored}
 use Rattle.capnp_edits.specs.declared.edit.Edit.{Edit}
 use Rattle.capnp_edits.specs.declared.edit.tasks.Task.{Task}
@@ -89,8 +90,11 @@ next_step a b c es rs i d q r l long same before one =
     subst (λ xs. AreSteps a c xs (take (i + 1) (set rs i r))) (sym (take_more es i d l)) (subst (AreSteps a c (take i es ++ get_or es i d ∷ [])) (sym (take_more_set rs i r less)) all)
 
 -- a path leads to one place
-same_end : (S : Segments) (s p : ℕ) (t : Tree) (path : List Step) (u q : ℕ) (x : Tree) (v r : ℕ) (y : Tree) → PathLeads S s p t path u q x → PathLeads S s p t path v r y → (u ≡ v) × (q ≡ r)
-same_end S s p t [] u q x v r y h k = (sym h.0 ∙ k.0, sym h.1 ∙ k.1)
+same_end : (S : Segments) (s p : ℕ) (t : Tree) (path : List Step) (u q : ℕ) (x : Tree) (v r : ℕ) (y : Tree) → PathLeads S (node s p t) path (node u q x) → PathLeads S (node s p t) path (node v r y) → (u ≡ v) × (q ≡ r)
+same_end S s p t [] u q x v r y h k =
+    let a = same_node h in
+    let b = same_node k in
+    (sym a.0 ∙ b.0, sym a.1 ∙ b.1)
 same_end S s p (Struct ws ts) (Child i ∷ path) u q x v r y h k = same_end S (target S s p).segment ((target S s p).start + length ws + i) (tree_at ts i) path u q x v r y h.1 k.1
 same_end S s p (Pointers ts) (Element i ∷ path) u q x v r y h k = same_end S (target S s p).segment ((target S s p).start + i) (tree_at ts i) path u q x v r y h.1 k.1
 same_end S s p (Structs d w es) (Element i ∷ Child j ∷ path) u q x v r y h k =
@@ -98,8 +102,8 @@ same_end S s p (Structs d w es) (Element i ∷ Child j ∷ path) u q x v r y h k
 same_end S s p t (step ∷ path) u q x v r y h k = absurd h
 
 -- to a pointer
-leads_value : (S : Segments) (s p : ℕ) (t : Tree) (path : List Step) (u q : ℕ) (x : Tree) → PathLeads S s p t path u q x → found t path ≡ Some (PointerTo x)
-leads_value S s p t [] u q x h = ap (λ y. Some (PointerTo y)) h.2
+leads_value : (S : Segments) (s p : ℕ) (t : Tree) (path : List Step) (u q : ℕ) (x : Tree) → PathLeads S (node s p t) path (node u q x) → found t path ≡ Some (PointerTo x)
+leads_value S s p t [] u q x h = ap (λ y. Some (PointerTo y)) (same_node h).2
 leads_value S s p (Struct ws ts) (Child i ∷ path) u q x h =
     first i (count ts) _ _ h.0 ∙ leads_value S (target S s p).segment ((target S s p).start + length ws + i) (tree_at ts i) path u q x h.1
 leads_value S s p (Pointers ts) (Element i ∷ path) u q x h = first i (count ts) _ _ h.0 ∙ leads_value S (target S s p).segment ((target S s p).start + i) (tree_at ts i) path u q x h.1
@@ -114,8 +118,8 @@ no_value x e = cc
 no_element : (x y : Tree) → Some (PointerTo x) ≡ Some (ElementOf y) → ⊥
 no_element x y e = cc
 
--- a step is done where its path leads
-pub step_is_there : (old new : View) (edit : Edit) (r : Option ErrorKind) (t x : Tree) (u q : ℕ) (s : IsStep old new edit r) → IsForest old.words t → PathLeads old.words 0 0 t (map step_of edit.path.now) u q x →
+-- so a step is done there
+pub step_is_there : (old new : View) (edit : Edit) (r : Option ErrorKind) (t x : Tree) (u q : ℕ) (s : IsStep old new edit r) → IsForest old.words t → PathLeads old.words (node 0 0 t) (map step_of edit.path.now) (node u q x) →
     s.path_end ≡ Some (AtPointer (record { segment = u; word = q }))
 step_is_there old new edit r t x u q s forest leads = go s.path_end (s.leads t (forest_stored old.words t forest))
   where

@@ -12,9 +12,10 @@ use Rattle.capnp_words.specs.declared.wire_pointer.ElementSize.TheVariants.{Void
 use Rattle.capnp_contents.specs.declared.existing.ExistingList.{ExistingList}
 use Rattle.capnp_contents.specs.declared.existing.ExistingStruct.{ExistingStruct}
 use Rattle.capnp_contents.specs.Existing.{struct_in, list_in, size_of, plain_list, struct_list, plain_misfit, unless}
-use Rattle.capnp_making.specs.Path.{Step, Child, Element, tree_at, struct_at, next, PathLeads, word_interval}
+use Rattle.capnp_making.specs.Path.{Step, Child, Element, tree_at, struct_at, next, node, PathLeads, word_interval}
 use Rattle.capnp_making.specs.Stored.{IsStored}
 use Rattle.capnp_making.proofs.Extents.{once_held, times-first}
+use Rattle.capnp_making.proofs.Paths.{node_of_parts}
 use Rattle.capnp_making.proofs.Replaced.{stored_within}
 use Rattle.capnp_edits.specs.declared.edit.Step.{Step as EditStep}
 use Rattle.capnp_edits.specs.declared.edit.path.PathEnd.{PathEnd}
@@ -24,7 +25,7 @@ use Rattle.capnp_edits.proofs.Walks.{leads_further, found-append}
 use Rattle.capnp_widening.proofs.Listed.{same_list}
 
 -- a place of a value lies in the message
-pub place_inside : (S : Segments) (s p : ℕ) (t : Tree) (path : List Step) (u q : ℕ) (x : Tree) → PathLeads S s p t path u q x → IsStored S s p t → IsPlace S u q
+pub place_inside : (S : Segments) (s p : ℕ) (t : Tree) (path : List Step) (u q : ℕ) (x : Tree) → PathLeads S (node s p t) path (node u q x) → IsStored S s p t → IsPlace S u q
 place_inside S s p t path u q x l stored =
     (stored_within S s p t path u q x l stored).inside u q (omega (arith, times-first (word_interval u q) (cover S u q x) u q, once_held u q))
 
@@ -53,7 +54,7 @@ struct_child S s p i (Struct ws ts) e r is_e stored exactly =
     elim (cases_lt i (count ts)) [
       | inl l ↦
           let is_there : child_in f i ≡ Some (AtPointer (record { segment = a.segment; word = a.start + length ws + i })) = first i (count ts) _ _ l in
-          let leads : PathLeads S s p (Struct ws ts) (Child i ∷ []) a.segment (a.start + length ws + i) (tree_at ts i) = (l, (refl, refl, refl)) in
+          let leads : PathLeads S (node s p (Struct ws ts)) (Child i ∷ []) (node a.segment (a.start + length ws + i) (tree_at ts i)) = (l, refl) in
           let inside = place_inside S s p (Struct ws ts) (Child i ∷ []) a.segment (a.start + length ws + i) (tree_at ts i) leads stored in
           subst (IsPathFound S (record { segment = s; word = p }) (Struct ws ts) (Child i ∷ [])) (sym (known (subst (λ (o : Option PathEnd). IfSome o (EndLiesIn S)) (sym is_there) inside) ∙ is_there))
           (tree_at ts i, leads, first i (count ts) _ _ l)
@@ -115,7 +116,7 @@ list_element S s p i (Pointers ts) l r is_l stored few exactly =
     let same = same_list l (plain_list a Pointer (count ts)) is_l in
     let known : IfSome (element_in (plain_list a Pointer (count ts)) i) (EndLiesIn S) → r ≡ element_in (plain_list a Pointer (count ts)) i = subst (λ x. IfSome (element_in x i) (EndLiesIn S) → r ≡ element_in x i) same exactly in
     let less : i < count ts = subst (λ x. i < x.count) same few in
-    let leads : PathLeads S s p (Pointers ts) (Element i ∷ []) a.segment (a.start + i) (tree_at ts i) = (less, (refl, refl, refl)) in
+    let leads : PathLeads S (node s p (Pointers ts)) (Element i ∷ []) (node a.segment (a.start + i) (tree_at ts i)) = (less, refl) in
     let inside = place_inside S s p (Pointers ts) (Element i ∷ []) a.segment (a.start + i) (tree_at ts i) leads stored in
     subst (IsPathFound S (record { segment = s; word = p }) (Pointers ts) (Element i ∷ [])) (sym (known inside)) (tree_at ts i, leads, first i (count ts) _ _ less)
 list_element S s p i (Structs d q es) l r is_l stored few exactly =
@@ -134,7 +135,7 @@ list_element S s p i (Structs d q es) l r is_l stored few exactly =
       list_segment = s;
       list_at = p;
       elements = es;
-      leads = (refl, refl, refl);
+      leads = refl;
       end_value = refl;
       counts = less;
       segment_is = refl;
@@ -204,12 +205,12 @@ element_child S s p t path e j r f stored exactly =
       | inl l ↦
           let is_there : child_in e j ≡ Some (AtPointer (record { segment = e.segment; word = e.start + d + j })) = first j q _ _ l in
           let a = target S f.list_segment f.list_at in
-          let near : PathLeads S f.list_segment f.list_at list (Element f.index ∷ Child j ∷ []) e.segment (e.start + d + j) child =
-          (f.counts, l, (sym f.segment_is, ap (λ b. b + d + j) (sym f.start_is), refl)) in
+          let near : PathLeads S (node f.list_segment f.list_at list) (Element f.index ∷ Child j ∷ []) (node e.segment (e.start + d + j) child) =
+          (f.counts, l, node_of_parts (sym f.segment_is) (ap (λ b. b + d + j) (sym f.start_is)) refl) in
           let leads = leads_further S s p t f.front (Element f.index ∷ Child j ∷ []) f.list_segment f.list_at list e.segment (e.start + d + j) child f.leads near in
           let inside = place_inside S s p t (f.front ++ Element f.index ∷ Child j ∷ []) e.segment (e.start + d + j) child leads stored in
           subst (IsPathFound S (record { segment = s; word = p }) t (path ++ Child j ∷ [])) (sym (exactly (subst (λ (o : Option PathEnd). IfSome o (EndLiesIn S)) (sym is_there) inside) ∙ is_there))
-          (child, subst (λ x. PathLeads S s p t x e.segment (e.start + d + j) child) (sym (joined [])) leads, all [] ∙ first j q _ _ l)
+          (child, subst (λ x. PathLeads S (node s p t) x (node e.segment (e.start + d + j) child)) (sym (joined [])) leads, all [] ∙ first j q _ _ l)
       | inr l ↦
           let none : child_in e j ≡ None = second j q _ _ l in
           subst (IsPathFound S (record { segment = s; word = p }) t (path ++ Child j ∷ [])) (sym (exactly (subst (λ (o : Option PathEnd). IfSome o (EndLiesIn S)) (sym none) tt) ∙ none))

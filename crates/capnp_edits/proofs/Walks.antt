@@ -3,11 +3,14 @@ use Rattle.std.proofs.Common.{◌≡◌, ℕ, ◌+◌, ◌*◌, Bool, true, fals
 use Rattle.capnp_format.specs.Segments.{Segments}
 use Rattle.capnp_format.specs.Tree.{Tree, Null, Capability, Struct, Flat, Pointers, Structs, count, element_count}
 use Rattle.capnp_format.specs.Forest.{target}
-use Rattle.capnp_making.specs.Path.{Step, Child, Element, tree_at, struct_at, next, put, update, PathLeads}
+use Rattle.capnp_making.proofs.Paths.{same_node}
+use Rattle.capnp_making.specs.Path.{Step, Child, Element, tree_at, struct_at, next, put, update, node, PathLeads}
 use Rattle.capnp_edits.specs.Paths.{EndValue, PointerTo, ElementOf, found}
 
-pub leads_further : (S : Segments) (s p : ℕ) (t : Tree) (path more : List Step) (u q : ℕ) (x : Tree) (v r : ℕ) (y : Tree) → PathLeads S s p t path u q x → PathLeads S u q x more v r y → PathLeads S s p t (path ++ more) v r y
-leads_further S s p t [] more u q x v r y h k = rw (h.0, h.1, h.2) k
+pub leads_further : (S : Segments) (s p : ℕ) (t : Tree) (path more : List Step) (u q : ℕ) (x : Tree) (v r : ℕ) (y : Tree) → PathLeads S (node s p t) path (node u q x) → PathLeads S (node u q x) more (node v r y) → PathLeads S (node s p t) (path ++ more) (node v r y)
+leads_further S s p t [] more u q x v r y h k =
+    let same = same_node h in
+    rw (same.0, same.1, same.2) k
 leads_further S s p (Struct ws ts) (Child i ∷ path) more u q x v r y h k =
     (h.0, leads_further S (target S s p).segment ((target S s p).start + length ws + i) (tree_at ts i) path more u q x v r y h.1 k)
 leads_further S s p (Pointers ts) (Element i ∷ path) more u q x v r y h k = (h.0, leads_further S (target S s p).segment ((target S s p).start + i) (tree_at ts i) path more u q x v r y h.1 k)

@@ -7,7 +7,7 @@ use Rattle.capnp_format.specs.Tree.{Tree, Struct, Pointers, Structs, Elements, c
 use Rattle.capnp_format.specs.Forest.{target}
 use Rattle.capnp_contents.specs.Existing.{StructLiesIn}
 use Rattle.capnp_making.specs.Stored.{IsStored}
-use Rattle.capnp_making.specs.Path.{Step, Child, Element, tree_at, struct_at, next, PathLeads}
+use Rattle.capnp_making.specs.Path.{Step, Child, Element, tree_at, struct_at, next, node, PathLeads}
 use Rattle.capnp_contents.specs.declared.existing.ExistingList.{ExistingList}
 use Rattle.capnp_contents.specs.declared.existing.ExistingStruct.{ExistingStruct}
 use Rattle.capnp_edits.specs.declared.edit.Step.{Step as EditStep}
@@ -48,8 +48,8 @@ pub record IsElementFound (S : Segments) (s p : ℕ) (t : Tree) (path : List Ste
   pub list_segment : ℕ
   pub list_at : ℕ
   pub elements : Elements
-  pub leads : PathLeads S s p t front list_segment list_at
-      (Structs e.size.data_words e.size.pointers elements)
+  pub leads : PathLeads S (node s p t) front
+      (node list_segment list_at (Structs e.size.data_words e.size.pointers elements))
   pub end_value : found t front ≡ Some (PointerTo (Structs e.size.data_words e.size.pointers elements))
   pub counts : index < element_count elements
   pub segment_is : e.segment ≡ (target S list_segment list_at).segment
@@ -60,8 +60,9 @@ pub record IsElementFound (S : Segments) (s p : ℕ) (t : Tree) (path : List Ste
 -- path leads anywhere.
 abbrev pub IsPathFound : Segments → PointerPlace → Tree → List Step → Option PathEnd → Type 0
 IsPathFound S from t path (Some (AtPointer place)) =
-    (x : Tree) × PathLeads S from.segment from.word t path place.segment place.word x ×
-    (found t path ≡ Some (PointerTo x))
+    (x : Tree)
+    × PathLeads S (node from.segment from.word t) path (node place.segment place.word x)
+    × (found t path ≡ Some (PointerTo x))
 IsPathFound S from t path (Some (AtElement e)) = IsElementFound S from.segment from.word t path e
 IsPathFound S from t path None = (more : List Step) → found t (path ++ more) ≡ None
 

@@ -7,7 +7,7 @@ ghost use Rattle.capnp_arena_traits.specs.View.{View};
 ghost use Rattle.capnp_format.specs.Forest.{IsForest};
 ghost use Rattle.capnp_format.specs.Segments.{segment};
 ghost use Rattle.capnp_format.specs.Tree.{Tree, count};
-ghost use Rattle.capnp_making.specs.Path.{PathLeads};
+ghost use Rattle.capnp_making.specs.Path.{node, PathLeads};
 ghost use Rattle.capnp_edits.specs.declared.edit.Edit.{Edit};
 ghost use Rattle.capnp_edits.specs.declared.edit.Source.{Source};
 ghost use Rattle.capnp_edits.specs.declared.edit.copying.Copying.{Copying};
@@ -39,7 +39,7 @@ pub fn filled_or_refused()
 pub fn step_is_there()
     ensures { (old new : View) (edit : Edit) (r : Option ErrorKind) (t x : Tree) (u q : ℕ)
         (s : IsStep old new edit r) → IsForest old.words t
-        → PathLeads old.words 0 0 t (map step_of edit.path.now) u q x
+        → PathLeads old.words (node 0 0 t) (map step_of edit.path.now) (node u q x)
         → s.path_end ≡ Some (AtPointer (record { segment = u; word = q })) }
 {}
 

@@ -8,7 +8,7 @@ use Rattle.capnp_format.specs.Forest.{Interval, times, pads_of, object_of, targe
 use Rattle.capnp_format.proofs.Frame.{leads_agree}
 use Rattle.capnp_making.specs.Filled.{AreFilled}
 use Rattle.capnp_making.specs.Made.{nulls}
-use Rattle.capnp_making.specs.Path.{Step, Child, Element, tree_at, put_tree, update, PathLeads, word_interval}
+use Rattle.capnp_making.specs.Path.{Step, Child, Element, tree_at, put_tree, update, node, PathLeads, word_interval}
 use Rattle.capnp_making.specs.Stored.{IsStored, IsReplaced}
 use Rattle.capnp_making.proofs.Extents.{word_within, once_held, times-first, times-object}
 use Rattle.capnp_making.proofs.Placed.{count-nulls}
@@ -21,7 +21,7 @@ unchanged S s p t a = grown S S s p t (record { segments = omega arith; words = 
 
 -- A place holds an object of n words from a on: the value for these children, whose pointers stand from position b on.
 pub record IsHolder (F : Trees → Tree) (path : ℕ → List Step) (s p q : ℕ) (a : Target) (b n : ℕ) : Type 0 where
-  pub leads : (S : Segments) (X : Trees) (i : ℕ) → Leads S s p a → count X ≡ q → i < q → PathLeads S s p (F X) (path i) a.segment (b + i) (tree_at X i)
+  pub leads : (S : Segments) (X : Trees) (i : ℕ) → Leads S s p a → count X ≡ q → i < q → PathLeads S (node s p (F X)) (path i) (node a.segment (b + i) (tree_at X i))
   pub puts : (X : Trees) (i : ℕ) (u : Tree) → update (F X) (path i) u ≡ F (put_tree X i u)
   pub covers :
       (S : Segments) (X : Trees) →
@@ -97,7 +97,7 @@ filled_from : (F : Trees → Tree) (path : ℕ → List Step) (S R : Segments) (
 filled_from F path S R s p q a b n X no_trees i h y len fits null same =
     subst (λ T. IsReplaced S T s p (F X) (F X) × Leads T s p a) (sym same) (unchanged S s p (F X) y.stored, y.leads)
 filled_from F path S R s p q a b n X (tree u us) i h y len fits null (M, one, rest) =
-    let at = subst (PathLeads S s p (F X) (path i) a.segment (b + i)) (null i (omega arith)) (h.leads S X i y.leads len (omega arith)) in
+    let at = subst (λ x. PathLeads S (node s p (F X)) (path i) (node a.segment (b + i) x)) (null i (omega arith)) (h.leads S X i y.leads len (omega arith)) in
     let first : IsReplaced S M s p (F X) (F (put_tree X i u)) = subst (IsReplaced S M s p (F X)) (h.puts X i u) (replaced_within S M s p (F X) (path i) a.segment (b + i) Null u at y.stored one) in
     let (more, parts, below) = h.covers S X len y.leads in
     let lead = still_leads S M s p n a (F X) more y.leads y.stored parts (record { segments = one.segments; words = one.words }) (λ v r z l. one.kept v r (omega (arith, z, word_within a n (b + i) v r (omega (arith, h.low)) (omega (arith, h.high)))) l) in
@@ -120,7 +120,7 @@ in_struct S s p a w more v r l = times-object S s p w a more v r l.1
 
 pub struct_holder : (s p q : ℕ) (a : Target) (ws : List ℕ) → IsHolder (Struct ws) (λ i. Child i ∷ []) s p q a (a.start + length ws) (length ws + q)
 struct_holder s p q a ws = record {
-  leads = λ S X i l len m. (omega arith, (ap (λ b. b.segment) (ap target_in l.1), ap (λ b. b.start + length ws + i) (ap target_in l.1), refl));
+  leads = λ S X i l len m. (omega arith, ap (λ b. node b.segment (b.start + length ws + i) (tree_at X i)) (ap target_in l.1));
   puts = λ X i u. refl;
   covers = λ S X len l. (
     cover_all S a.segment (a.start + length ws) X,
@@ -133,7 +133,7 @@ struct_holder s p q a ws = record {
 
 pub pointers_holder : (s p q : ℕ) (a : Target) → IsHolder Pointers (λ i. Element i ∷ []) s p q a a.start q
 pointers_holder s p q a = record {
-  leads = λ S X i l len m. (omega arith, (ap (λ b. b.segment) (ap target_in l.1), ap (λ b. b.start + i) (ap target_in l.1), refl));
+  leads = λ S X i l len m. (omega arith, ap (λ b. node b.segment (b.start + i) (tree_at X i)) (ap target_in l.1));
   puts = λ X i u. refl;
   covers = λ S X len l. (
     cover_all S a.segment a.start X,

@@ -15,6 +15,7 @@ use Rattle.capnp_making.specs.Zeroed.{row}
 use Rattle.capnp_making.proofs.Filling.{IsHolder, Holds, in_struct, holder_filled, put_from, put_all, still_leads, unchanged}
 use Rattle.capnp_making.proofs.PlacedStructs.{count-zero_elements}
 use Rattle.capnp_making.proofs.Replace.{times-others}
+use Rattle.capnp_making.proofs.Paths.{node_of_parts}
 use Rattle.capnp_making.proofs.Replaced.{replaced_again}
 use Rattle.capnp_making.proofs.WordsPut.{ArePut, words_put}
 use Rattle.capnp_making.proofs.Written.{same_grows, with_data, element_data_written, data_written}
@@ -98,7 +99,7 @@ element_holder s p d q a X i ws m = record {
   leads = λ S ts j l len k. (
     omega (arith, put_struct-count X i ws ts),
     k,
-    (ap (λ b. b.segment) (ap target_in l.1), ap (λ b. b.start + 1 + i * (d + q) + d + j) (ap target_in l.1), ap (λ t. next t (Child j)) (put_struct-here X i ws ts m)),
+    node_of_parts (ap (λ b. b.segment) (ap target_in l.1)) (ap (λ b. b.start + 1 + i * (d + q) + d + j) (ap target_in l.1)) (ap (λ t. next t (Child j)) (put_struct-here X i ws ts m)),
   );
   puts = λ ts j u. ap (λ t. Structs d q (put_struct (put_struct X i (Struct ws ts)) i t)) (child_put ts j u) ∙ ap (Structs d q) (put_struct-again X i ws ws ts (put_tree ts j u));
   covers = λ S ts len l.

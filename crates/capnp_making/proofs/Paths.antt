@@ -5,7 +5,7 @@ use Rattle.capnp_format.specs.Segments.{Segments, segment, word_at, Target, lead
 use Rattle.capnp_format.specs.Tree.{Tree, Struct, Pointers, Structs, Trees, no_trees, tree, Elements, no_elements, element, count, element_count}
 use Rattle.capnp_format.specs.Means.{IsTag, count_cost, Means, MeansAll, MeansElements}
 use Rattle.capnp_format.specs.Forest.{Interval, times, pads_of, object_of, target, target_in, cover, cover_all, cover_elements, IsTidy, AreTidy, AreTidyElements}
-use Rattle.capnp_making.specs.Path.{Step, Child, Element, tree_at, put_tree, struct_at, put_struct, next, put, update, PathLeads, word_interval, extent}
+use Rattle.capnp_making.specs.Path.{Step, Child, Element, tree_at, put_tree, struct_at, put_struct, next, put, update, Node, node, PathLeads, word_interval, extent}
 use Rattle.capnp_format.specs.Segments.{Grows}
 use Rattle.capnp_format.proofs.Frame.{Agree, times-append, agree_left, agree_right, has_words_kept, list_kept, frame, frame_all, frame_elements}
 use Rattle.capnp_making.proofs.Replace.{cover_others, times-others, cover_other_elements, put_tree-count}
@@ -175,13 +175,31 @@ put_element_child S R n s p d q (element ws ts es) c (suc i) j y e grows l m fit
       counts = ap suc others.counts;
     }
 
+abbrev segment_in : Node → ℕ
+segment_in (node s p t) = s
+
+abbrev word_in : Node → ℕ
+word_in (node s p t) = p
+
+abbrev value_in : Node → Tree
+value_in (node s p t) = t
+
+-- the same pointer with the same value, and its parts
+pub same_node : {s p u q : ℕ} {t x : Tree} → node s p t ≡ node u q x → (s ≡ u) × (p ≡ q) × (t ≡ x)
+same_node h = (ap segment_in h, ap word_in h, ap value_in h)
+
+pub node_of_parts : {s p u q : ℕ} {t x : Tree} → s ≡ u → p ≡ q → t ≡ x → node s p t ≡ node u q x
+node_of_parts a b c = rw (a, b, c) refl
+
 -- what is held along the path is held by the whole
-pub part_within : (S : Segments) (n s p : ℕ) (t : Tree) (c : ℕ) (path : List Step) (u q : ℕ) (x : Tree) → PathLeads S s p t path u q x → Means S n s p t c →
+pub part_within : (S : Segments) (n s p : ℕ) (t : Tree) (c : ℕ) (path : List Step) (u q : ℕ) (x : Tree) → PathLeads S (node s p t) path (node u q x) → Means S n s p t c →
     (v r : ℕ) → times (extent S u q x) v r ≤ times (extent S s p t) v r
-part_within S n s p t c [] u q x h m v r = rw (h.0, h.1, h.2) (omega arith)
+part_within S n s p t c [] u q x h m v r =
+    let same = same_node h in
+    rw (same.0, same.1, same.2) (omega arith)
 part_within S n s p (Struct ws ts) c (Child i ∷ path) u q x h (a, k, some, o, claim, e, all, g) v r =
     let here = a.start + length ws + i in
-    let way = subst (λ b. PathLeads S b.segment (b.start + length ws + i) (tree_at ts i) path u q x) (ap target_in o.leads_to.1) h.1 in
+    let way = subst (λ b. PathLeads S (node b.segment (b.start + length ws + i) (tree_at ts i)) path (node u q x)) (ap target_in o.leads_to.1) h.1 in
     let child = means_child S (pred n) a.segment (a.start + length ws) ts k i h.0 all in
     omega (
       arith,
@@ -194,7 +212,7 @@ part_within S n s p (Struct ws ts) c (Child i ∷ path) u q x h (a, k, some, o, 
     )
 part_within S n s p (Pointers ts) c (Element i ∷ path) u q x h (a, k, some, o, claim, all, g) v r =
     let here = a.start + i in
-    let way = subst (λ b. PathLeads S b.segment (b.start + i) (tree_at ts i) path u q x) (ap target_in o.leads_to.1) h.1 in
+    let way = subst (λ b. PathLeads S (node b.segment (b.start + i) (tree_at ts i)) path (node u q x)) (ap target_in o.leads_to.1) h.1 in
     let child = means_child S (pred n) a.segment a.start ts k i h.0 all in
     omega (
       arith,
@@ -208,7 +226,7 @@ part_within S n s p (Pointers ts) c (Element i ∷ path) u q x h (a, k, some, o,
 part_within S n s p (Structs d w es) c (Element i ∷ Child j ∷ path) u q x h (a, m, k, some, o, claim, tag, fits, all, g) v r =
     let here = a.start + 1 + i * (d + w) + d + j in
     let old = next (struct_at es i) (Child j) in
-    let way = subst (λ b. PathLeads S b.segment (b.start + 1 + i * (d + w) + d + j) old path u q x) (ap target_in o.leads_to.1) h.2 in
+    let way = subst (λ b. PathLeads S (node b.segment (b.start + 1 + i * (d + w) + d + j) old) path (node u q x)) (ap target_in o.leads_to.1) h.2 in
     let child = means_element_child S (pred n) a.segment (a.start + 1) d w es k i j h.0 h.1 all in
     omega (
       arith,
@@ -243,9 +261,10 @@ pub record IsUpdated (S R : Segments) (n s p : ℕ) (t : Tree) (path : List Step
   pub covers : (v r : ℕ) → times (extent R s p (update t path y)) v r + times (extent S u q x) v r ≡ times (extent S s p t) v r + times (extent R u q y) v r
   pub tidy : IsTidy S s p t → IsTidy R u q y → IsTidy R s p (update t path y)
 
-pub updated : (S R : Segments) (n m s p : ℕ) (t : Tree) (c : ℕ) (path : List Step) (u q : ℕ) (x y : Tree) (e : ℕ) → Grows S R → m + length path ≤ n → PathLeads S s p t path u q x →
+pub updated : (S R : Segments) (n m s p : ℕ) (t : Tree) (c : ℕ) (path : List Step) (u q : ℕ) (x y : Tree) (e : ℕ) → Grows S R → m + length path ≤ n → PathLeads S (node s p t) path (node u q x) →
     AgreeBeside S R (extent S u q x) (extent S s p t) → Means S n s p t c → Means R m u q y e → IsUpdated S R n s p t path u q x y
-updated S R n m s p t c [] u q x y e grows levels h agree old new =
+updated S R n m s p t c [] u q x y e grows levels way agree old new =
+    let h = same_node way in
     let lifted = other_levels n y (omega (arith, depth_within y (record { means = new }))) (record { means = new }) in
     record {
       cost = e;
@@ -259,7 +278,7 @@ updated S R n m s p (Struct ws ts) c (Child i ∷ path) u q x y e grows levels h
     let old = tree_at ts i in
     let inner = update old path y in
     let child = means_child S (pred n) a.segment from ts k i h.0 all in
-    let way = subst (λ b. PathLeads S b.segment (b.start + length ws + i) old path u q x) (ap target_in o.leads_to.1) h.1 in
+    let way = subst (λ b. PathLeads S (node b.segment (b.start + length ws + i) old) path (node u q x)) (ap target_in o.leads_to.1) h.1 in
     let keep = keeps_object S R s p (length ws + count ts) here a (cover S a.segment here old) (cover_others S a.segment from ts i) (extent S u q x) (λ b. cover_all S b.segment (b.start + length ws) ts) grows o.leads_to (omega arith) (omega arith)
     (λ v r. times-others S a.segment from ts i v r h.0) (λ v r. part_within S (pred n) a.segment here old child.0 path u q x way child.1 v r) agree in
     let below = updated S R (pred n) m a.segment here old child.0 path u q x y e grows (omega arith) way keep.inner child.1 new in
@@ -294,7 +313,7 @@ updated S R n m s p (Pointers ts) c (Element i ∷ path) u q x y e grows levels 
     let old = tree_at ts i in
     let inner = update old path y in
     let child = means_child S (pred n) a.segment a.start ts k i h.0 all in
-    let way = subst (λ b. PathLeads S b.segment (b.start + i) old path u q x) (ap target_in o.leads_to.1) h.1 in
+    let way = subst (λ b. PathLeads S (node b.segment (b.start + i) old) path (node u q x)) (ap target_in o.leads_to.1) h.1 in
     let keep = keeps_object S R s p (count ts) here a (cover S a.segment here old) (cover_others S a.segment a.start ts i) (extent S u q x) (λ b. cover_all S b.segment b.start ts) grows o.leads_to (omega arith) (omega arith)
     (λ v r. times-others S a.segment a.start ts i v r h.0) (λ v r. part_within S (pred n) a.segment here old child.0 path u q x way child.1 v r) agree in
     let below = updated S R (pred n) m a.segment here old child.0 path u q x y e grows (omega arith) way keep.inner child.1 new in
@@ -331,7 +350,7 @@ updated S R n m s p (Structs d w es) c (Element i ∷ Child j ∷ path) u q x y 
     let width = element_count es * (d + w) in
     let written = put_struct es i (put (struct_at es i) (Child j) inner) in
     let child = means_element_child S (pred n) a.segment from d w es k i j h.0 h.1 all in
-    let way = subst (λ b. PathLeads S b.segment (b.start + 1 + i * (d + w) + d + j) old path u q x) (ap target_in o.leads_to.1) h.2 in
+    let way = subst (λ b. PathLeads S (node b.segment (b.start + 1 + i * (d + w) + d + j) old) path (node u q x)) (ap target_in o.leads_to.1) h.2 in
     let keep = keeps_object S R s p (1 + width) here a (cover S a.segment here old) (cover_other_elements S a.segment from d w es i j) (extent S u q x) (λ b. cover_elements S b.segment (b.start + 1) d w es) grows o.leads_to
     (omega arith) (omega (arith, row_within i (element_count es) (d + w) (d + j) h.0 (omega arith)))
     (λ v r. times-other-elements S (pred n) a.segment from d w es k i j v r h.0 h.1 all) (λ v r. part_within S (pred n) a.segment here old child.0 path u q x way child.1 v r) agree in

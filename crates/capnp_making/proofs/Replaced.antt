@@ -7,39 +7,41 @@ use Rattle.capnp_format.specs.Segments.{Segments, segment, word_at}
 use Rattle.capnp_format.specs.Tree.{Tree, Null, Struct, Pointers, Structs}
 use Rattle.capnp_format.specs.Means.{Means}
 use Rattle.capnp_format.specs.Forest.{times, target_in, cover, IsTidy, AreTidy, AreTidyElements, IsForest}
-use Rattle.capnp_making.specs.Path.{Step, Child, Element, tree_at, struct_at, next, update, PathLeads, word_interval, extent}
+use Rattle.capnp_making.specs.Path.{Step, Child, Element, tree_at, struct_at, next, update, node, PathLeads, word_interval, extent}
 use Rattle.capnp_making.specs.Stored.{IsStored, IsReplaced}
 use Rattle.capnp_format.specs.Segments.{Grows}
 use Rattle.capnp_format.proofs.Frame.{Agree, frame}
 use Rattle.capnp_making.proofs.Tidy.{tidy_kept}
 use Rattle.capnp_format.proofs.Levels.{other_levels, depth_within}
 use Rattle.capnp_making.proofs.Extents.{AgreeBeside, once_held, times-first}
-use Rattle.capnp_making.proofs.Paths.{means_child, means_element_child, tidy_child, tidy_element_child, part_within, updated}
+use Rattle.capnp_making.proofs.Paths.{means_child, means_element_child, tidy_child, tidy_element_child, same_node, part_within, updated}
 
 -- what a path leads to means its value, and is tidy
-pub within_means : (S : Segments) (n s p : ℕ) (t : Tree) (c : ℕ) (path : List Step) (u q : ℕ) (x : Tree) → PathLeads S s p t path u q x → Means S n s p t c → IsTidy S s p t →
+pub within_means : (S : Segments) (n s p : ℕ) (t : Tree) (c : ℕ) (path : List Step) (u q : ℕ) (x : Tree) → PathLeads S (node s p t) path (node u q x) → Means S n s p t c → IsTidy S s p t →
     (m : ℕ) × (k : ℕ) × Means S m u q x k × IsTidy S u q x
-within_means S n s p t c [] u q x h m y = (n, c, rw (h.0, h.1, h.2) at m, rw (h.0, h.1, h.2) at y)
+within_means S n s p t c [] u q x way m y =
+    let h = same_node way in
+    (n, c, rw (h.0, h.1, h.2) at m, rw (h.0, h.1, h.2) at y)
 within_means S n s p (Struct ws ts) c (Child i ∷ path) u q x h (a, k, some, o, claim, e, all, g) y =
     let child = means_child S (pred n) a.segment (a.start + length ws) ts k i h.0 all in
     within_means S (pred n) a.segment (a.start + length ws + i) (tree_at ts i) child.0 path u q x
-    (subst (λ b. PathLeads S b.segment (b.start + length ws + i) (tree_at ts i) path u q x) (ap target_in o.leads_to.1) h.1) child.1
+    (subst (λ b. PathLeads S (node b.segment (b.start + length ws + i) (tree_at ts i)) path (node u q x)) (ap target_in o.leads_to.1) h.1) child.1
     (tidy_child S a.segment (a.start + length ws) ts i h.0 (subst (λ b. AreTidy S b.segment (b.start + length ws) ts) (ap target_in o.leads_to.1) y))
 within_means S n s p (Pointers ts) c (Element i ∷ path) u q x h (a, k, some, o, claim, all, g) y =
     let child = means_child S (pred n) a.segment a.start ts k i h.0 all in
     within_means S (pred n) a.segment (a.start + i) (tree_at ts i) child.0 path u q x
-    (subst (λ b. PathLeads S b.segment (b.start + i) (tree_at ts i) path u q x) (ap target_in o.leads_to.1) h.1) child.1
+    (subst (λ b. PathLeads S (node b.segment (b.start + i) (tree_at ts i)) path (node u q x)) (ap target_in o.leads_to.1) h.1) child.1
     (tidy_child S a.segment a.start ts i h.0 (subst (λ b. AreTidy S b.segment b.start ts) (ap target_in o.leads_to.1) y))
 within_means S n s p (Structs d w es) c (Element i ∷ Child j ∷ path) u q x h (a, m, k, some, o, claim, tag, fits, all, g) y =
     let old = next (struct_at es i) (Child j) in
     let child = means_element_child S (pred n) a.segment (a.start + 1) d w es k i j h.0 h.1 all in
     within_means S (pred n) a.segment (a.start + 1 + i * (d + w) + d + j) old child.0 path u q x
-    (subst (λ b. PathLeads S b.segment (b.start + 1 + i * (d + w) + d + j) old path u q x) (ap target_in o.leads_to.1) h.2) child.1
+    (subst (λ b. PathLeads S (node b.segment (b.start + 1 + i * (d + w) + d + j) old) path (node u q x)) (ap target_in o.leads_to.1) h.2) child.1
     (tidy_element_child S (pred n) a.segment (a.start + 1) d w es k i j h.0 h.1 all (subst (λ b. AreTidyElements S b.segment (b.start + 1) d w es) (ap target_in o.leads_to.1) y.1))
 within_means S n s p t c (step ∷ path) u q x h m y = absurd h
 
 -- what a path leads to is stored, where its start is
-pub stored_within : (S : Segments) (s p : ℕ) (t : Tree) (path : List Step) (u q : ℕ) (x : Tree) → PathLeads S s p t path u q x → IsStored S s p t → IsStored S u q x
+pub stored_within : (S : Segments) (s p : ℕ) (t : Tree) (path : List Step) (u q : ℕ) (x : Tree) → PathLeads S (node s p t) path (node u q x) → IsStored S s p t → IsStored S u q x
 stored_within S s p t path u q x h a =
     let m = a.means in
     let w = within_means S m.0 s p t m.1 path u q x h m.2 a.tidy in
@@ -52,7 +54,7 @@ stored_within S s p t path u q x h a =
     }
 
 -- replaced at the end of a path, so replaced at its start
-pub replaced_within : (S R : Segments) (s p : ℕ) (t : Tree) (path : List Step) (u q : ℕ) (x y : Tree) → PathLeads S s p t path u q x → IsStored S s p t → IsReplaced S R u q x y → IsReplaced S R s p t (update t path y)
+pub replaced_within : (S R : Segments) (s p : ℕ) (t : Tree) (path : List Step) (u q : ℕ) (x y : Tree) → PathLeads S (node s p t) path (node u q x) → IsStored S s p t → IsReplaced S R u q x y → IsReplaced S R s p t (update t path y)
 replaced_within S R s p t path u q x y h a b =
     let old = a.means in
     let new = b.stored.means in
@@ -130,7 +132,7 @@ pub forest_of : (S : Segments) (t : Tree) → IsStored S 0 0 t → ((v r : ℕ) 
 forest_of S t a zeros = record { means = a.means; apart = a.apart; inside = a.inside; zero_elsewhere = zeros; tidy = a.tidy }
 
 -- a value replaced at the end of a path: the forest has the tree with the new value there
-pub forest_updated : (S R : Segments) (t : Tree) (path : List Step) (u q : ℕ) (x y : Tree) → IsForest S t → PathLeads S 0 0 t path u q x → IsReplaced S R u q x y → IsForest R (update t path y)
+pub forest_updated : (S R : Segments) (t : Tree) (path : List Step) (u q : ℕ) (x y : Tree) → IsForest S t → PathLeads S (node 0 0 t) path (node u q x) → IsReplaced S R u q x y → IsForest R (update t path y)
 forest_updated S R t path u q x y a h b =
     let whole = replaced_within S R 0 0 t path u q x y h (forest_stored S t a) b in
     forest_of R (update t path y) whole.stored (λ v r none. elim (cases_eq (times (extent S 0 0 t) v r) 0) [

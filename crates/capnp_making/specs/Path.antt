@@ -54,19 +54,24 @@ abbrev pub update : Tree → List Step → Tree → Tree
 update t [] u = u
 update t (step ∷ path) u = put t step (update (next t step) path u)
 
--- from a place that means t the path leads to the place (u, q), which means x
-abbrev pub PathLeads : Segments → ℕ → ℕ → Tree → List Step → ℕ → ℕ → Tree → Type 0
-PathLeads S s p t [] u q x = (s ≡ u) × (p ≡ q) × (t ≡ x)
-PathLeads S s p (Struct ws ts) (Child i ∷ path) u q x =
-    (i < count ts) × PathLeads S (target S s p).segment ((target S s p).start + length ws + i)
-    (tree_at ts i) path u q x
-PathLeads S s p (Pointers ts) (Element i ∷ path) u q x =
-    (i < count ts) × PathLeads S (target S s p).segment ((target S s p).start + i) (tree_at ts i) path u q x
-PathLeads S s p (Structs d k es) (Element i ∷ Child j ∷ path) u q x =
-    (i < element_count es) × (j < k) ×
-    PathLeads S (target S s p).segment ((target S s p).start + 1 + i * (d + k) + d + j)
-    (next (struct_at es i) (Child j)) path u q x
-PathLeads S s p t path u q x = ⊥
+-- A pointer of a message, by its segment and word, and the value that it means.
+pub data Node : Type 0 where
+  node : ℕ → ℕ → Tree → Node
+
+-- from one pointer with its value the path leads to another
+abbrev pub PathLeads : Segments → Node → List Step → Node → Type 0
+PathLeads S from [] to = from ≡ to
+PathLeads S (node s p (Struct ws ts)) (Child i ∷ path) to =
+    let child = node (target S s p).segment ((target S s p).start + length ws + i) (tree_at ts i) in
+    (i < count ts) × PathLeads S child path to
+PathLeads S (node s p (Pointers ts)) (Element i ∷ path) to =
+    let element = node (target S s p).segment ((target S s p).start + i) (tree_at ts i) in
+    (i < count ts) × PathLeads S element path to
+PathLeads S (node s p (Structs d k es)) (Element i ∷ Child j ∷ path) to =
+    let child = node (target S s p).segment ((target S s p).start + 1 + i * (d + k) + d + j)
+    (next (struct_at es i) (Child j)) in
+    (i < element_count es) × (j < k) × PathLeads S child path to
+PathLeads S from path to = ⊥
 
 -- the word at a place
 abbrev pub word_interval : ℕ → ℕ → Interval

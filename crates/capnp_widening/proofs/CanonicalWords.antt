@@ -7,7 +7,8 @@ use Rattle.capnp_format.specs.Canonical.{trim, encoding}
 use Rattle.capnp_format.specs.Forest.{target}
 use Rattle.capnp_words.specs.declared.wire_pointer.StructSize.{StructSize}
 use Rattle.capnp_words.specs.declared.error.ErrorKind.{ErrorKind}
-use Rattle.capnp_making.specs.Path.{Step, Child, Element, tree_at, put_tree, struct_at, put_struct, next, put, update, PathLeads}
+use Rattle.capnp_making.specs.Path.{Step, Child, Element, tree_at, put_tree, struct_at, put_struct, next, put, update, node, PathLeads}
+use Rattle.capnp_making.proofs.Paths.{same_node}
 use Rattle.capnp_making.proofs.Replaced.{stored_within}
 use Rattle.capnp_making.specs.Stored.{IsStored}
 use Rattle.capnp_widening.specs.Laws.{SameCanonicalForm, HaveSize}
@@ -51,8 +52,8 @@ put_child_same no_elements i j = refl
 put_child_same (element ws ts es) zero j = ap (λ us. element ws us es) (put_tree_same ts j)
 put_child_same (element ws ts es) (suc i) j = ap (element ws ts) (put_child_same es i j)
 
-update_same : (S : Segments) (s p : ℕ) (t : Tree) (path : List Step) (u q : ℕ) (x : Tree) → PathLeads S s p t path u q x → update t path x ≡ t
-update_same S s p t [] u q x h = sym h.2
+update_same : (S : Segments) (s p : ℕ) (t : Tree) (path : List Step) (u q : ℕ) (x : Tree) → PathLeads S (node s p t) path (node u q x) → update t path x ≡ t
+update_same S s p t [] u q x h = sym (same_node h).2
 update_same S s p (Struct ws ts) (Child i ∷ path) u q x h =
     ap (λ y. Struct ws (put_tree ts i y)) (update_same S (target S s p).segment ((target S s p).start + length ws + i) (tree_at ts i) path u q x h.1) ∙ ap (Struct ws) (put_tree_same ts i)
 update_same S s p (Pointers ts) (Element i ∷ path) u q x h =
@@ -64,14 +65,14 @@ update_same S s p (Structs d w es) (Element i ∷ Child j ∷ path) u q x h =
 update_same S s p t (step ∷ path) u q x h = absurd h
 
 -- another value of the same canonical form there
-same_at : (S : Segments) (s p : ℕ) (t : Tree) (path : List Step) (u q : ℕ) (x y : Tree) → PathLeads S s p t path u q x → trim y ≡ trim x → SameCanonicalForm t (update t path y)
+same_at : (S : Segments) (s p : ℕ) (t : Tree) (path : List Step) (u q : ℕ) (x y : Tree) → PathLeads S (node s p t) path (node u q x) → trim y ≡ trim x → SameCanonicalForm t (update t path y)
 same_at S s p t path u q x y h e = same_words t (update t path y) (trim-update S s p t path u q x y x h e ∙ ap trim (update_same S s p t path u q x h))
 
 -- what it becomes: a struct, and a list of structs, which has elements of one size since it is stored
-pub struct_within : (S : Segments) (s p : ℕ) (t : Tree) (path : List Step) (u q : ℕ) (ws : List ℕ) (ts : Trees) (size : StructSize) → PathLeads S s p t path u q (Struct ws ts) → SameCanonicalForm t (update t path (widened size ws ts))
+pub struct_within : (S : Segments) (s p : ℕ) (t : Tree) (path : List Step) (u q : ℕ) (ws : List ℕ) (ts : Trees) (size : StructSize) → PathLeads S (node s p t) path (node u q (Struct ws ts)) → SameCanonicalForm t (update t path (widened size ws ts))
 struct_within S s p t path u q ws ts size h = same_at S s p t path u q (Struct ws ts) (widened size ws ts) h (trim-filled size.data_words size.pointers ws ts)
 
-pub list_within : (S : Segments) (s p : ℕ) (t : Tree) (path : List Step) (u q d k : ℕ) (es : Elements) (size : StructSize) (v : Tree) → IsStored S s p t → PathLeads S s p t path u q (Structs d k es) →
+pub list_within : (S : Segments) (s p : ℕ) (t : Tree) (path : List Step) (u q d k : ℕ) (es : Elements) (size : StructSize) (v : Tree) → IsStored S s p t → PathLeads S (node s p t) path (node u q (Structs d k es)) →
     list_widened size.data_words size.pointers (Structs d k es) ≡ Ok v → SameCanonicalForm t (update t path v)
 list_within S s p t path u q d k es size v a h made =
     let stored = stored_within S s p t path u q (Structs d k es) h a in

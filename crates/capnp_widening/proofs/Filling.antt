@@ -4,7 +4,7 @@ use Rattle.std.proofs.lemmas.List.{take-append-le}
 use Rattle.capnp_format.specs.Tree.{Tree, Null, Struct, Pointers, Structs, Trees, no_trees, tree, Elements, no_elements, element, count}
 use Rattle.capnp_format.specs.Segments.{Segments}
 use Rattle.capnp_format.specs.Forest.{target}
-use Rattle.capnp_making.specs.Path.{Step, Child, Element, tree_at, put_tree, struct_at, put_struct, next, put, update, PathLeads}
+use Rattle.capnp_making.specs.Path.{Step, Child, Element, tree_at, put_tree, struct_at, put_struct, next, put, update, node, PathLeads}
 use Rattle.capnp_format.specs.Canonical.{used_from, used_words, is_null, used_trees, take_trees, data_width, pointer_width, cut_to, cut_struct, cut_structs, trim, trim_each, trim_elements}
 use Rattle.capnp_making.specs.Made.{words_of_zero, nulls}
 use Rattle.capnp_widening.specs.Laws.{HaveSize}
@@ -96,7 +96,7 @@ put_child-trim (element ws ts es) zero j u w e = ap (λ us. element ws us (trim_
 put_child-trim (element ws ts es) (suc i) j u w e = ap (element ws (trim_each ts)) (put_child-trim es i j u w e)
 
 -- values of one canonical form at a place make one canonical form of the whole
-pub trim-update : (S : Segments) (s p : ℕ) (t : Tree) (path : List Step) (u q : ℕ) (x y z : Tree) → PathLeads S s p t path u q x → trim y ≡ trim z → trim (update t path y) ≡ trim (update t path z)
+pub trim-update : (S : Segments) (s p : ℕ) (t : Tree) (path : List Step) (u q : ℕ) (x y z : Tree) → PathLeads S (node s p t) path (node u q x) → trim y ≡ trim z → trim (update t path y) ≡ trim (update t path z)
 trim-update S s p t [] u q x y z h e = e
 trim-update S s p (Struct ws ts) (Child i ∷ path) u q x y z h e =
     ap (cut_struct ws) (put_tree-trim ts i (update (tree_at ts i) path y) (update (tree_at ts i) path z) (trim-update S (target S s p).segment ((target S s p).start + length ws + i) (tree_at ts i) path u q x y z h.1 e))

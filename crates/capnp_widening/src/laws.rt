@@ -4,7 +4,7 @@ ghost use Rattle.std.specs.Prelude.{◌≡◌, ℕ, List, Ok};
 ghost use Rattle.capnp_format.specs.Forest.{IsForest};
 ghost use Rattle.capnp_format.specs.Segments.{Segments};
 ghost use Rattle.capnp_format.specs.Tree.{Tree, Trees, Struct, Elements, Structs};
-ghost use Rattle.capnp_making.specs.Path.{Step, PathLeads};
+ghost use Rattle.capnp_making.specs.Path.{Step, node, PathLeads};
 ghost use Rattle.capnp_making.specs.Stored.{IsStored, IsReplaced};
 ghost use Rattle.capnp_widening.specs.Laws.{HaveSize, SameCanonicalForm};
 ghost use Rattle.capnp_widening.specs.Widened.{fill_words, fill_trees, list_widened, widened};
@@ -32,12 +32,12 @@ pub fn wider_list()
 pub fn widened_within()
     ensures structs { (S R : Segments) (s p : ℕ) (t : Tree) (path : List Step)
         (u q : ℕ) (ws : List ℕ) (ts : Trees) (size : StructSize)
-        → IsStored S s p t → PathLeads S s p t path u q (Struct ws ts)
+        → IsStored S s p t → PathLeads S (node s p t) path (node u q (Struct ws ts))
         → IsReplaced S R u q (Struct ws ts) (widened size ws ts)
         → (w : Tree) × IsReplaced S R s p t w × SameCanonicalForm t w }
     ensures lists { (S R : Segments) (s p : ℕ) (t : Tree) (path : List Step)
         (u q d k : ℕ) (es : Elements) (size : StructSize) (v : Tree)
-        → IsStored S s p t → PathLeads S s p t path u q (Structs d k es)
+        → IsStored S s p t → PathLeads S (node s p t) path (node u q (Structs d k es))
         → list_widened size.data_words size.pointers (Structs d k es) ≡ Ok v
         → IsReplaced S R u q (Structs d k es) v
         → (w : Tree) × IsReplaced S R s p t w × SameCanonicalForm t w }
@@ -48,12 +48,12 @@ pub fn widened_within()
 pub fn message_widened()
     ensures structs { (S R : Segments) (t : Tree) (path : List Step)
         (u q : ℕ) (ws : List ℕ) (ts : Trees) (size : StructSize)
-        → IsForest S t → PathLeads S 0 0 t path u q (Struct ws ts)
+        → IsForest S t → PathLeads S (node 0 0 t) path (node u q (Struct ws ts))
         → IsReplaced S R u q (Struct ws ts) (widened size ws ts)
         → (w : Tree) × IsForest R w × SameCanonicalForm t w }
     ensures lists { (S R : Segments) (t : Tree) (path : List Step)
         (u q d k : ℕ) (es : Elements) (size : StructSize) (v : Tree)
-        → IsForest S t → PathLeads S 0 0 t path u q (Structs d k es)
+        → IsForest S t → PathLeads S (node 0 0 t) path (node u q (Structs d k es))
         → list_widened size.data_words size.pointers (Structs d k es) ≡ Ok v
         → IsReplaced S R u q (Structs d k es) v
         → (w : Tree) × IsForest R w × SameCanonicalForm t w }
