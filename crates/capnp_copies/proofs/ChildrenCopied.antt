@@ -8,7 +8,8 @@ use Rattle.capnp_format.proofs.Lies.{pointer_ahead}
 use Rattle.capnp_format.proofs.Unique.{for_offset}
 use Rattle.capnp_format.proofs.Children.{with_last, count-with_last}
 use Rattle.capnp_format.proofs.Appending.{append_trees, pointers-append, bodies-append}
-use Rattle.capnp_copies.specs.Copied.{copied, with_children}
+use Rattle.capnp_copies.specs.Copied.{with_children}
+use Rattle.capnp_copies.proofs.Copied.{copied}
 use Rattle.capnp_copies.proofs.Shapes.{AreShaped, length-bodies}
 
 with_last-append : (ts : Trees) (u : Tree) → with_last ts u ≡ append_trees ts (tree u no_trees)

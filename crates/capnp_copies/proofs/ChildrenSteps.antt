@@ -9,7 +9,8 @@ use Rattle.capnp_arena_traits.specs.View.{View}
 use Rattle.capnp_arena_traits.specs.Written.{with_segment}
 use Rattle.capnp_objects.specs.Reading.{Reading, behind}
 use Rattle.capnp_objects.specs.Wanted.{Form}
-use Rattle.capnp_copies.specs.Copied.{copied, with_children}
+use Rattle.capnp_copies.specs.Copied.{with_children}
+use Rattle.capnp_copies.proofs.Copied.{copied}
 use Rattle.capnp_copies.proofs.InPlace.{AreCopied}
 use Rattle.capnp_copies.proofs.CopiesNear.{Call, call_of, CopiesValue, CopiesChildren}
 use Rattle.capnp_copies.specs.Forms.{kept, kept_each}

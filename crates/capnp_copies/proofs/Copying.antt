@@ -6,7 +6,7 @@ use Rattle.capnp_format.specs.Canonical.{encoding}
 use Rattle.capnp_arena_traits.proofs.WordsOver.{segment_here}
 use Rattle.capnp_words.specs.declared.error.ErrorKind.{ErrorKind}
 use Rattle.capnp_copies.specs.Changes.{Change, StopsCopy}
-use Rattle.capnp_copies.specs.Copied.{copied}
+use Rattle.capnp_copies.proofs.Copied.{copied}
 use Rattle.capnp_copies.specs.Originals.{Original}
 use Rattle.capnp_copies.proofs.InPlace.{IsCopied}
 

@@ -3,7 +3,8 @@ use Rattle.std.proofs.Common.{◌≡◌, ℕ}
 use Rattle.capnp_format.specs.Segments.{Segments, segment}
 use Rattle.capnp_format.specs.Tree.{Tree, Trees}
 use Rattle.capnp_arena_traits.specs.Written.{with_segment}
-use Rattle.capnp_copies.specs.Copied.{copied, with_children}
+use Rattle.capnp_copies.specs.Copied.{with_children}
+use Rattle.capnp_copies.proofs.Copied.{copied}
 
 abbrev pub IsCopied : Segments → Segments → ℕ → ℕ → Tree → Type 0
 IsCopied M M' id at t = M' ≡ with_segment M id (copied (segment M id) at t)

@@ -1,4 +1,5 @@
 pub mod InPlace
+pub mod Copied
 pub mod ChildrenCopied
 pub mod CopiesNear
 pub mod ChildrenSteps

@@ -5,7 +5,8 @@ use Rattle.capnp_format.specs.Segments.{Segments, segment, word_at}
 use Rattle.capnp_format.specs.Tree.{Null, Trees, count}
 use Rattle.capnp_format.specs.Canonical.{pointers, bodies}
 use Rattle.capnp_arena_traits.specs.Written.{with_segment}
-use Rattle.capnp_copies.specs.Copied.{copied, with_children}
+use Rattle.capnp_copies.specs.Copied.{with_children}
+use Rattle.capnp_copies.proofs.Copied.{copied}
 use Rattle.capnp_copies.proofs.SegmentsWritten.{not_written}
 
 -- an object whose children are its last words

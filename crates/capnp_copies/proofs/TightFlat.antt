@@ -8,7 +8,7 @@ use Rattle.capnp_format.specs.Word.{list_word}
 use Rattle.capnp_arena_traits.specs.Written.{with_segment, with_word, with_words, extended}
 use Rattle.capnp_making.specs.Near.{offset_behind, with_object}
 use Rattle.capnp_making.proofs.NearMade.{long_as}
-use Rattle.capnp_copies.specs.Copied.{copied}
+use Rattle.capnp_copies.proofs.Copied.{copied}
 use Rattle.capnp_copies.proofs.Copying.{there}
 use Rattle.capnp_copies.proofs.Padding.{all_written}
 use Rattle.capnp_copies.proofs.PointersFirst.{place_kept}

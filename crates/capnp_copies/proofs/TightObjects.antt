@@ -20,7 +20,8 @@ use Rattle.capnp_making.proofs.NearMade.{long_as}
 use Rattle.capnp_making.proofs.WordsPut.{none_over}
 use Rattle.capnp_copies.specs.Changes.{change, StayInSegment, IsCopiedInRoom, EndsInZeros, CopiesChildren, CopiesRows}
 use Rattle.capnp_copies.specs.Forms.{kept, kept_each}
-use Rattle.capnp_copies.specs.Copied.{copied, with_children}
+use Rattle.capnp_copies.specs.Copied.{with_children}
+use Rattle.capnp_copies.proofs.Copied.{copied}
 use Rattle.capnp_copies.proofs.Shapes.{rows_laid}
 use Rattle.capnp_copies.proofs.InPlace.{AreCopied}
 use Rattle.capnp_copies.proofs.CopiesNear.{TakesWords}

@@ -1,12 +1,13 @@
 -- What a copy into a message of any number of segments leaves, and why it stops.
-use Rattle.std.specs.Prelude.{◌≡◌, ◌≢◌, ◌⊎◌, ℕ, pred, ◌+◌, ◌*◌, ◌^◌, ◌<◌, ◌≤◌, ◌++◌, take, length, replicate}
+use Rattle.std.specs.Prelude.{◌≡◌, ◌≢◌, ◌⊎◌, ℕ, pred, ◌+◌, ◌*◌, ◌^◌, ◌<◌, ◌≤◌, ◌++◌, take, length, replicate, set}
 use Rattle.capnp_words.specs.declared.error.ErrorKind.{ErrorKind}
 use Rattle.capnp_words.specs.Meter.{Meter}
 use Rattle.capnp_format.specs.Numbers.{words_for}
 use Rattle.capnp_format.specs.Segments.{Segments, Target, segment, words_at, word_at, IsPlace}
 use Rattle.capnp_format.specs.Word.{kind, offset_bits, data_words, pointer_count, element_size, list_count}
 use Rattle.capnp_format.specs.Tree.{Tree, Null, Trees, Elements, count, element_count}
-use Rattle.capnp_format.specs.Canonical.{cut_to, rows, element_bodies, word_count, word_count_all, word_count_elements}
+use Rattle.capnp_format.specs.Canonical.{body, pointer, offset_to, cut_to, rows, element_bodies}
+use Rattle.capnp_format.specs.Canonical.{word_count, word_count_all, word_count_elements}
 use Rattle.capnp_arena_traits.specs.View.{View}
 use Rattle.capnp_arena_traits.specs.Written.{with_segment}
 use Rattle.capnp_making.specs.Filled.{AreFilled, AreElementsFilled, ArePartlyFilled}
@@ -22,7 +23,7 @@ use Rattle.capnp_objects.specs.Reading.{Reading, behind, segment_read, tag_size,
 use Rattle.capnp_objects.specs.Wanted.{Form}
 use Rattle.capnp_objects.specs.declared.object.Purpose.TheVariants.{Value}
 use Rattle.capnp_copies.specs.Forms.{form_in, kept, kept_each, kept_elements}
-use Rattle.capnp_copies.specs.Copied.{copied, with_children}
+use Rattle.capnp_copies.specs.Copied.{with_children}
 use Rattle.capnp_copies.specs.Originals.{Original, value_original, children_original}
 use Rattle.capnp_copies.specs.Originals.{elements_original, kept_count}
 use Rattle.capnp_copies.specs.Widths.{widths_kept}
@@ -91,7 +92,9 @@ StayInSegment old new id n = HasOwnRoom old id n ⊎ (length new.words ≡ 1)
 abbrev pub IsCopiedInRoom : View → View → ℕ → ℕ → Tree → Type 0
 IsCopiedInRoom old new id at t =
     StayInSegment old new id (word_count t) →
-    new.words ≡ with_segment old.words id (copied (segment old.words id) at t)
+    new.words ≡ with_segment old.words id
+    (set (segment old.words id ++ body t) at
+    (pointer t (offset_to at (length (segment old.words id)))))
 
 -- Of the object a, to which the pointer at a place leads, n words are made: of a struct its sections
 -- that are kept, of a list its elements, and of a list of structs its tag and its elements, cut to the

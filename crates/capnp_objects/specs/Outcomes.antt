@@ -19,7 +19,7 @@ MeansThere r t c = Means r.segments r.levels r.segment r.at t c
 -- The place means t, at a cost that m covers and m' is less by.
 pub record Reads (form : Form) (r : Reading) (m m' : Meter) (t : Tree) : Type 0 where
   pub cost : ℕ
-  pub means : MeansThere r t cost
+  pub means : Means r.segments r.levels r.segment r.at t cost
   pub takes : AllowsCapabilities form (capabilities t)
   pub covers : Affords r.charging m cost
   pub spent : m' ≡ after r.charging m cost (pointers_in t)

@@ -102,7 +102,7 @@ module _ {A : Type 0} (g : Ghosts A) where
   IsStructThere from m m' r =
       (a : Target) × Entered Value (read_by from) m m' a × (kind a.word ≡ 0)
       × ShowsStruct (read_by from).segments r a.segment a.start
-      (sized (data_words a.word) (pointer_count a.word))
+      (record { data_words = data_words a.word; pointers = pointer_count a.word })
       × (r.source ≡ from.source) × (r.nesting_limit ≡ from.nesting_limit -ℤ pos 1)
 
   -- The pointer of a reader leads to the list that another shows, whose words are checked and
