@@ -1,18 +1,19 @@
 -- A pointer of a message that is built.
-use Rattle.std.specs.Prelude.{IfErr, OnOk, ◌≡◌, ◌<◌, ◌≤◌, ℕ, true, Result}
+use Rattle.std.specs.Prelude.{IfErr, ◌≡◌, ◌<◌, ◌≤◌, ℕ, true, Result}
 use Rattle.std.specs.Borrow.{MutBor}
 use Rattle.capnp_words.specs.declared.error.ErrorKind.{ErrorKind}
 use Rattle.capnp_format.specs.Segments.{Segments, word_at, IsPlace}
 use Rattle.capnp_format.specs.Tree.{Tree}
 use Rattle.capnp_arena_traits.specs.View.{View}
 use Rattle.capnp_contents.specs.Existing.{is_unfound}
-use Rattle.capnp_making.specs.Memory.{KeepsMemory, SpendsMemory}
+use Rattle.capnp_making.specs.Memory.{KeepsMemory}
 use Rattle.capnp_making.specs.Stored.{IsStored}
 use Rattle.capnp_making.specs.Makes.{CallAt, call_at}
 use Rattle.capnp_readers.specs.Readers.{IsStructPlace, IsListPlace}
 use Rattle.capnp_readers.specs.Sections.{IsInside, data_bits}
 use Rattle.capnp_readers.specs.declared.readers.list_reader.ListPlace.{ListPlace}
 use Rattle.capnp_readers.specs.declared.readers.struct_reader.StructPlace.{StructPlace}
+use Rattle.capnp_widening.specs.Rooms.{UsesMemory}
 use Rattle.capnp_builders.specs.declared.builders.PointerBuilder.{PointerBuilder}
 use Rattle.capnp_builders.specs.declared.builders.struct_builder.StructBuilder.{StructBuilder}
 use Rattle.capnp_builders.specs.declared.builders.list_builder.ListBuilder.{ListBuilder}
@@ -94,12 +95,6 @@ pub record HandsOn {A : Type 0} (view : A → View) (old new : MutBor A) : Type 
   pub same : new.ghost_name ≡ old.ghost_name
   pub granted : KeepsMemory (view old.now) (view new.now)
 
--- A call changes nothing but words, and the room of segments that are new; where it is refused,
--- also how often memory was refused.
-pub record ChangesWords {A : Type 0} (result : Result A ErrorKind) (old new : View) : Type 0 where
-  pub granted : OnOk result (KeepsMemory old new)
-  pub refused : IfErr result (SpendsMemory old new)
-
 -- A call on a builder; and one that is done with it, with an arena that it reached.
 abbrev pub calling : {A : Type 0} → (A → View) → PointerBuilder A → PointerBuilder A → CallAt
 calling view b b' = call_at b.segment b.at (view b.arena.now) (view b'.arena.now)
@@ -124,7 +119,7 @@ pub record FindsStored {A C : Type 0} (view : A → View)
     (P : Result C ErrorKind → CallAt → Tree → Type 0) (b : PointerBuilder A) (now : A)
     (result : Result C ErrorKind) : Type 0 where
   pub found : OfStored (built view b) (P result (calling_last view b now))
-  pub memory : ChangesWords result (view b.arena.now) (view now)
+  pub memory : UsesMemory result (view b.arena.now) (view now)
 
 -- A call that looks for a value changes nothing where the place isn't null, and a refusal there is
 -- one of what is there.

@@ -24,7 +24,8 @@ use Rattle.capnp_copies.specs.Growth.{MakesAtMost}
 use Rattle.capnp_copies.specs.Originals.{value_original}
 use Rattle.capnp_copies.specs.Rooms.{CanBeCopied}
 use Rattle.capnp_making.specs.Makes.{CallAt, call_at}
-use Rattle.capnp_builders.specs.Building.{Building, ChangesWords, IsThere}
+use Rattle.capnp_widening.specs.Rooms.{UsesMemory}
+use Rattle.capnp_builders.specs.Building.{Building, IsThere}
 
 -- The first word of a default, whose bytes are one segment. Nothing is charged there, and as many
 -- levels may be entered as a nesting limit can say.
@@ -145,4 +146,4 @@ pub record PutsDefaultBy (use_of : Tree → DefaultUse) (c : CallAt) (result : R
   pub put : (t : Tree) → IsStored c.old.words c.segment c.at t → PutsDefaultOver (use_of t) c t result
   pub stays : (word_at c.old.words c.segment c.at ≡ 0 → ⊥) → IsOk result × (c.new ≡ c.old)
   pub longer : Grows c.old.words c.new.words
-  pub memory : ChangesWords result c.old c.new
+  pub memory : UsesMemory result c.old c.new

@@ -5,7 +5,7 @@ ghost use Rattle.capnp_format.specs.Segments.{IsPlace};
 ghost use Rattle.capnp_format.specs.Tree.{Tree};
 ghost use Rattle.capnp_making.specs.Makes.{call_at};
 ghost use Rattle.capnp_copies.specs.Changes.{IsNullPlace};
-ghost use Rattle.capnp_builders.specs.Building.{ChangesWords};
+ghost use Rattle.capnp_widening.specs.Rooms.{UsesMemory};
 ghost use Rattle.capnp_builders.specs.Defaults.{DropsDefault, PutsDefault, PutsDefaultBy, IsShortDefault, object_default, blob_default, DefaultCopyFits, DefaultFits};
 
 use capnp_arena_traits::arena::BuilderArena;
@@ -40,7 +40,7 @@ pub fn copy_default<A: BuilderArena>(
     ensures fits { DefaultCopyFits default.now (A.view arena.old) id → IsOk result }
     ensures dropped { IfErr result (DropsDefault default.now
         (call_at id at (A.view arena.old) (A.view arena.new))) }
-    ensures memory { ChangesWords result (A.view arena.old) (A.view arena.new) }
+    ensures memory { UsesMemory result (A.view arena.old) (A.view arena.new) }
 {
     let from: PointerReader<'_, A> = PointerReader::from_default(default)?;
     let mut lim = ReadLimiter::new(None);
