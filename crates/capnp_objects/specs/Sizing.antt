@@ -145,16 +145,20 @@ pub data SizeStops (k : ErrorKind) : Reading → Tally → Meter → Type 0 wher
       SizeStops k (child_at r a (pred r.levels) q) mid m' →
       SizeStops k r from m'
 
--- The walk from i pointers from a place on stops at one of them, when those before it were walked over.
-pub record SizesStop (r : Reading) (i : ℕ) (from : Tally) (m' : Meter) (k : ErrorKind) : Type 0 where
+-- The walk from i pointers from a place on stops at one of them, when those before it were walked
+-- over.
+pub record SizesStop (r : Reading) (i : ℕ) (from : Tally) (m' : Meter) (k : ErrorKind)
+    : Type 0 where
   pub first : Trees
   pub fewer : count first < i
   pub mid : Tally
   pub are_walked : WalksAll r from mid first
   pub stops : SizeStops k (record r { at = r.at + count first }) mid m'
 
--- The walk from elements stops at a pointer of one of them, when the elements before it were walked over.
-pub record RowsStop (r : Reading) (n : Rows) (from : Tally) (m' : Meter) (k : ErrorKind) : Type 0 where
+-- The walk from elements stops at a pointer of one of them, when the elements before it were walked
+-- over.
+pub record RowsStop (r : Reading) (n : Rows) (from : Tally) (m' : Meter) (k : ErrorKind)
+    : Type 0 where
   pub first : Elements
   pub fewer : element_count first < n.count
   pub mid : Tally
