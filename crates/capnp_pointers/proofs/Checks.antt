@@ -582,6 +582,10 @@ pub rows_unused : {r : Reading} {size : StructSize} {n : ℕ} {to : Progress} {b
 rows_unused {r} {size} {n} from seen fails =
     widths_fail r.segments r.segment r.at size.data_words size.pointers from.head n seen.elements seen.found.stand seen.counts (λ e. fails (seen.data_is.1 e.0, seen.pointers_are.1 e.1))
 
+-- elements that use both of their sections are those of a value
+pub rows_seen : {r : Reading} {size : StructSize} {n e : ℕ} {from : Progress} {m' : Meter} {b c : Bool} → AreSeen r size n from (progress e m') b c → IsTrue b → IsTrue c → TellsRows r (rows_sized size n) from m' (Some e)
+rows_seen seen d q = (seen.elements, seen.counts, seen.data_is.0 d, seen.pointers_are.0 q, seen.found)
+
 -- objects: where the test ends at one of their pointers
 
 struct_ends_at : {P : Reading → Progress → Meter → Type 0} {r : Reading} {from : Progress} {m' m'' : Meter} {a : Target} → kind (word_of r) < 2 → Entered Value r from.meter m' a → kind a.word ≡ 0 → a.start ≡ from.head →

@@ -17,11 +17,15 @@ use Rattle.capnp_pointers.specs.Faults.{other_reason}
 use Rattle.capnp_objects.specs.Rows.{rows_sized}
 use Rattle.capnp_pointers.specs.Checking.{level_refusal_name, IsTested, Progress, progress, StartsRight, Tells, TellsStruct, TellsAll, TestsEnd, RowTestsEnd, Unread, IsFault, SectionsFail, here, no_pointer, other_pointer}
 use Rattle.capnp_pointers.proofs.Walking.{ok_so, err_so, err_with, on_err, on_err_so, on_err_both, on_ok_so}
-use Rattle.capnp_pointers.proofs.Checks.{tested, finds_none, pointer_found, pointer_never, unplaced_never, null_found_at, empty_tells, flat_tells, struct_tells, pointers_tell, structs_tell, pointer_ends, row_ends, struct_ends, pointers_end, structs_end, pointers_room, structs_room, some_right, level_falls, place_begins, elements_begin, pointers_here, structs_here, none_seen, row_seen, row_never, rows_unused, empties_found, lists_alone, no_list_else, still_seen, seen_now, RowDataUsed, RowPointersUsed, AreFoundRows, TellsClaimed}
+use Rattle.capnp_pointers.proofs.Checks.{rows_seen, tested, finds_none, pointer_found, pointer_never, unplaced_never, null_found_at, empty_tells, flat_tells, struct_tells, pointers_tell, structs_tell, pointer_ends, row_ends, struct_ends, pointers_end, structs_end, pointers_room, structs_room, some_right, level_falls, place_begins, elements_begin, pointers_here, structs_here, none_seen, row_seen, row_never, rows_unused, empties_found, lists_alone, no_list_else, still_seen, seen_now, RowDataUsed, RowPointersUsed, AreFoundRows, TellsClaimed}
 use Rattle.capnp_pointers.proofs.NearRead.{struct_by_word}
 use Rattle.capnp_pointers.proofs.Fails.{empty_fails, struct_fails, unplaced_fails, flat_fails, sections_fail, claimed_fails, ClaimedFails, rows_wide_data, rows_wide_pointers}
 use Rattle.capnp_pointers.proofs.pointers.canonical.+tests.Goals.{test_rows-then-is_data_used, test_rows-else-is_data_used, test_rows-then-are_pointers_used, test_rows-else-are_pointers_used}
 use Rattle.capnp_pointers.proofs.pointers.canonical.+tests.Goals as goal
+
+-- a loop that is at its bound
+reached : {i n : ℕ} → i ≤ n → n ≤ i → i ≡ n
+reached le ge = omega (arith, le, ge)
 
 pub test_children-loop-i-init : goal.test_children-loop-i-init
 test_children-loop-i-init g t c =
@@ -35,7 +39,9 @@ test_children-returns-in_err-head g t c =
       never = (
           let from : Progress = progress c.args.first c.args.test.now.lim in
           on_err c.from_residual.result (on_ok_so c.test_place.new.test.answer c.in_err-head.ensures.never (λ h. pointer_never from c.args.count c.loop-i.invariant c.loop-i-test.true h)));
-      refused = search rules;
+      refused = (
+          let nl = to_z-of_z w32 c.args.nesting_limit c.ranges.nesting_limit in
+          on_err c.from_residual.result (err_so c.test_place.new.test.answer c.in_err-head.ensures.refused (λ k h. pointer_ends c.args.count (rw nl at c.loop-i.invariant) c.loop-i-test.true (rw nl at h))));
       failed = (
           let nl = to_z-of_z w32 c.args.nesting_limit c.ranges.nesting_limit in
           on_err c.from_residual.result (ok_so c.test_place.new.test.answer c.in_err-head.ensures.failed (λ f h. pointer_ends c.args.count (rw nl at c.loop-i.invariant) c.loop-i-test.true (rw nl at h))));
@@ -52,9 +58,9 @@ test_place-returns-then-is_null g t c =
     let ready : IsTested r = tested r bytes c.args.from.now.held.0 c.whole_words.ensures.small (omega (arith, c.whole_words.ensures.count, c.if-at-whole_words.false)) (rw c.word-word.ensures.value at (c.is_positional.ensures.0 c.if-not-is_positional.false)) in
     record {
       tells = null_found_at {r = r} {from = progress c.args.head c.args.test.now.lim} ready (sym word ∙ c.is_null.ensures.0 c.if-is_null.true) refl;
-      never = search rules;
-      refused = search rules;
-      failed = search rules;
+      never = tt;
+      refused = tt;
+      failed = tt;
     }
 
 pub test_struct-returns-in-Err : goal.test_struct-returns-in-Err
@@ -63,10 +69,10 @@ test_struct-returns-in-Err g t c =
     let ready : IsTested r = c.requires.tested.ready in
     let nl = to_z-of_z w32 c.args.nesting_limit c.ranges.nesting_limit in
     record {
-      tells = search rules;
-      never = search rules;
+      tells = tt;
+      never = rw c.refused.ensures tt;
       refused = rw c.refused.ensures (here (record { name = c.in-Err.kind; near = ready.near; stopped = rw nl at c.in-Err.ensures.refused; named = ap (λ w. level_refusal_name w c.in-Err.kind) c.requires.tested.there }));
-      failed = search rules;
+      failed = rw c.refused.ensures tt;
     }
 
 pub test_list-returns-in-Err : goal.test_list-returns-in-Err
@@ -75,10 +81,10 @@ test_list-returns-in-Err g t c =
     let ready : IsTested r = c.requires.tested.ready in
     let nl = to_z-of_z w32 c.args.nesting_limit c.ranges.nesting_limit in
     record {
-      tells = search rules;
-      never = search rules;
+      tells = tt;
+      never = rw c.refused.ensures tt;
       refused = rw c.refused.ensures (here (record { name = c.in-Err.kind; near = ready.near; stopped = rw nl at c.in-Err.ensures.refused; named = ap (λ w. level_refusal_name w c.in-Err.kind) c.requires.tested.there }));
-      failed = search rules;
+      failed = rw c.refused.ensures tt;
     }
 
 pub test_list-returns-then-not-starts_right : goal.test_list-returns-then-not-starts_right
@@ -88,9 +94,9 @@ test_list-returns-then-not-starts_right g t c =
     let nl = to_z-of_z w32 c.args.nesting_limit c.ranges.nesting_limit in
     let object : IsObject Value r c.args.test.now.lim c.read_object.new.lim c.in-Ok.object = rw nl at c.in-Ok.ensures.object in
     record {
-      tells = search rules;
+      tells = tt;
       never = rw c.fault_at.ensures (unplaced_never r c.args.test.now.lim c.read_object.new.lim c.args.head c.in-Ok.object ready object (λ right. false≢true (sym c.if-not-starts_right.true ∙ c.starts_right.ensures.1 right)));
-      refused = search rules;
+      refused = rw c.fault_at.ensures tt;
       failed = rw c.fault_at.ensures (unplaced_fails {r = r} {from = progress c.args.head c.args.test.now.lim} c.in-Ok.object (refl, refl, refl) ready (rw c.requires.tested.there at c.requires.is_list) object (λ right. false≢true (sym c.if-not-starts_right.true ∙ c.starts_right.ensures.1 right)));
     }
 
@@ -186,13 +192,13 @@ test_rows-loop-i-preserved g t c =
 pub test_rows-returns-then-not-is_data_used-clause-never : goal.test_rows-returns-then-not-is_data_used-clause-never
 test_rows-returns-then-not-is_data_used-clause-never g t c =
     let head : ℕ = c.args.start + c.args.count * (c.args.size.data_words + c.args.size.pointers) in
-    let all : c.loop-i.i ≡ c.args.count = omega (arith, c.loop-i.auto.i-end, c.loop-i-test.false) in
+    let all : c.loop-i.i ≡ c.args.count = reached c.loop-i.auto.i-end c.loop-i-test.false in
     rw c.fault_at.ensures (rows_unused (progress head c.args.test.now.lim) (rw all at c.loop-i.invariant) (λ both. false≢true (sym c.if-not-is_data_used.true ∙ both.0)))
 
 pub test_rows-returns-then-not-are_pointers_used-clause-never : goal.test_rows-returns-then-not-are_pointers_used-clause-never
 test_rows-returns-then-not-are_pointers_used-clause-never g t c =
     let head : ℕ = c.args.start + c.args.count * (c.args.size.data_words + c.args.size.pointers) in
-    let all : c.loop-i.i ≡ c.args.count = omega (arith, c.loop-i.auto.i-end, c.loop-i-test.false) in
+    let all : c.loop-i.i ≡ c.args.count = reached c.loop-i.auto.i-end c.loop-i-test.false in
     rw c.fault_at-then-not-are_pointers_used.ensures (rows_unused (progress head c.args.test.now.lim) (rw all at c.loop-i.invariant) (λ both. false≢true (sym c.if-not-are_pointers_used.true ∙ both.1)))
 
 pub test_structs-returns-then-total-eq0-clause-tells : goal.test_structs-returns-then-total-eq0-clause-tells
@@ -216,9 +222,9 @@ test_struct-returns-then-start-at g t c =
     let none : size.data_words + size.pointers ≡ 0 = sym c.total.ensures ∙ c.if-total-eq0.true in
     record {
       tells = empty_tells {r = r} (progress c.args.head c.args.test.now.lim) start size ready object none (c.if-start-at.true ∙ sym (ap (λ n. cond (nat_eq n 0) c.args.at c.args.head) none));
-      never = search rules;
-      refused = search rules;
-      failed = search rules;
+      never = tt;
+      refused = tt;
+      failed = tt;
     }
 
 pub test_struct-returns : goal.test_struct-returns
@@ -278,9 +284,9 @@ test_struct-returns-then-total-eq0 g t c =
     struct_by_word {r = r} start size (rw c.requires.tested.there at c.requires.is_struct) c.args.from.now.held refl (rw nl at c.in-Ok.ensures.object) (c.struct_size-size.ensures.data_of ∙ ap data_words c.requires.tested.there) (c.struct_size-size.ensures.pointers_of ∙ ap pointer_count c.requires.tested.there) in
     let none : size.data_words + size.pointers ≡ 0 = sym c.total.ensures ∙ c.if-total-eq0.true in
     record {
-      tells = search rules;
+      tells = tt;
       never = search rules;
-      refused = search rules;
+      refused = rw c.fault_at.ensures tt;
       failed = rw c.fault_at.ensures (empty_fails {r = r} {from = progress c.args.head c.args.test.now.lim} start size (refl, refl, refl) ready object none c.if-start-at.false);
     }
 
@@ -299,9 +305,9 @@ test_struct-returns-then-start-head g t c =
     struct_by_word {r = r} start size (rw c.requires.tested.there at c.requires.is_struct) c.args.from.now.held refl (rw nl at c.in-Ok.ensures.object) (c.struct_size-size.ensures.data_of ∙ ap data_words c.requires.tested.there) (c.struct_size-size.ensures.pointers_of ∙ ap pointer_count c.requires.tested.there) in
     let some : 0 < size.data_words + size.pointers = omega (arith, c.total.ensures, c.if-total-eq0.false) in
     record {
-      tells = search rules;
+      tells = tt;
       never = rw c.fault_at-then-start-head.ensures (unplaced_never r c.args.test.now.lim c.read_near_struct.new.lim c.args.head (ObjectStruct start size) ready object (λ right. c.if-start-head.true (head_right c.args.at some right)));
-      refused = search rules;
+      refused = rw c.fault_at-then-start-head.ensures tt;
       failed = rw c.fault_at-then-start-head.ensures (struct_fails {r = r} {from = progress c.args.head c.args.test.now.lim} start size (refl, refl, refl) ready object some c.if-start-head.true);
     }
 
@@ -313,22 +319,22 @@ test_rows-returns-in_err-head-clause-failed g t c =
 pub test_rows-returns-then-not-is_data_used-clause-failed : goal.test_rows-returns-then-not-is_data_used-clause-failed
 test_rows-returns-then-not-is_data_used-clause-failed g t c =
     let nl = to_z-of_z w32 c.args.nesting_limit c.ranges.nesting_limit in
-    let all : c.loop-i.i ≡ c.args.count = omega (arith, c.loop-i.auto.i-end, c.loop-i-test.false) in
+    let all : c.loop-i.i ≡ c.args.count = reached c.loop-i.auto.i-end c.loop-i-test.false in
     rw c.fault_at.ensures (inr (c.loop-i.head, rows_wide_data (refl, refl, refl) (rw all at (rw nl at c.loop-i.invariant)) (λ used. false≢true (sym c.if-not-is_data_used.true ∙ used))))
 
 pub test_rows-returns-then-not-are_pointers_used-clause-failed : goal.test_rows-returns-then-not-are_pointers_used-clause-failed
 test_rows-returns-then-not-are_pointers_used-clause-failed g t c =
     let nl = to_z-of_z w32 c.args.nesting_limit c.ranges.nesting_limit in
-    let all : c.loop-i.i ≡ c.args.count = omega (arith, c.loop-i.auto.i-end, c.loop-i-test.false) in
+    let all : c.loop-i.i ≡ c.args.count = reached c.loop-i.auto.i-end c.loop-i-test.false in
     rw c.fault_at-then-not-are_pointers_used.ensures (inr (c.loop-i.head, rows_wide_pointers (refl, refl, refl) (rw all at (rw nl at c.loop-i.invariant)) c.if-not-is_data_used.false (λ used. false≢true (sym c.if-not-are_pointers_used.true ∙ used))))
 
 pub test_place-returns-then-at-whole_words : goal.test_place-returns-then-at-whole_words
 test_place-returns-then-at-whole_words g t c =
     let r : Reading = reading_on g.A.ReaderArena c.args.from.now c.args.at c.args.nesting_limit in
     record {
-      tells = search rules;
+      tells = tt;
       never = search rules;
-      refused = search rules;
+      refused = rw c.fault_at.ensures tt;
       failed = rw c.fault_at.ensures (here {r = r} (no_pointer (refl, refl, refl) (λ there. omega (arith, there, c.whole_words.ensures.count, c.if-at-whole_words.true, ap length c.args.from.now.held.0)) refl));
     }
 
@@ -340,9 +346,9 @@ test_place-returns-then-not-is_positional g t c =
     let far : 2 ≤ kind c.word-word.result.0 = omega (arith, near) in
     let there : IsPlace r.segments r.segment r.at = omega (arith, c.whole_words.ensures.count, c.if-at-whole_words.false, ap length c.args.from.now.held.0) in
     record {
-      tells = search rules;
+      tells = tt;
       never = search rules;
-      refused = search rules;
+      refused = rw c.fault_at-then-not-is_positional.ensures tt;
       failed = rw c.fault_at-then-not-is_positional.ensures (here {r = r} (other_pointer (c.reason_of.ensures ∙ ap other_reason word, refl, refl) there (subst (λ w. 2 ≤ kind w) word far) refl));
     }
 
@@ -351,9 +357,9 @@ pub test_row-returns-then-count-eq0 : goal.test_row-returns-then-count-eq0
 test_row-returns-then-count-eq0 g t c =
     record {
       tells = (no_trees, sym c.if-count-eq0.true, finds_none (reading_on g.A.ReaderArena c.args.from.now c.args.at c.args.nesting_limit) (progress c.args.first c.args.test.now.lim));
-      never = search rules;
-      refused = search rules;
-      failed = search rules;
+      never = tt;
+      refused = tt;
+      failed = tt;
     }
 
 pub test_structs-returns-clause-failed : goal.test_structs-returns-clause-failed
@@ -428,3 +434,166 @@ test_place-returns-in_default-2 g t c =
       refused = rw nl at c.test_list.ensures.refused;
       failed = rw nl at c.test_list.ensures.failed;
     }
+
+-- The sections of a struct, where its pointers are tested before its words are looked at.
+
+pub test_sections-returns-clause-tells : goal.test_sections-returns-clause-tells
+test_sections-returns-clause-tells g t c =
+    let nl = to_z-of_z w32 c.args.nesting_limit c.ranges.nesting_limit in
+    let used = rw (c.from-data_words.ensures, c.args.from.now.held.0) at (c.ends_used.ensures.0 c.if-not-ends_used.false) in
+    let used_too = rw (c.from-data_words.ensures, c.from-pointers.ensures, c.args.from.now.held.0) at (c.ends_used-2.ensures.0 c.if-not-ends_used-2.false) in
+    ((used, used_too), rw (nl, c.from-data_words.ensures, c.from-pointers.ensures) at c.in_ok-end.ensures.tells)
+
+pub test_sections-returns-clause-never : goal.test_sections-returns-clause-never
+test_sections-returns-clause-never g t c =
+    tt
+
+pub test_sections-returns-clause-refused : goal.test_sections-returns-clause-refused
+test_sections-returns-clause-refused g t c =
+    tt
+
+pub test_sections-returns-clause-failed : goal.test_sections-returns-clause-failed
+test_sections-returns-clause-failed g t c =
+    tt
+
+pub test_sections-returns-in_err-end-clause-never : goal.test_sections-returns-in_err-end-clause-never
+test_sections-returns-in_err-end-clause-never g t c =
+    on_err c.from_residual.result (on_ok_so c.test_row.new.test.answer (rw (c.from-data_words.ensures, c.from-pointers.ensures) at c.in_err-end.ensures.never) (λ h both. h both.1))
+
+pub test_sections-returns-in_err-end-clause-refused : goal.test_sections-returns-in_err-end-clause-refused
+test_sections-returns-in_err-end-clause-refused g t c =
+    let nl = to_z-of_z w32 c.args.nesting_limit c.ranges.nesting_limit in
+    on_err c.from_residual.result (rw (nl, c.from-data_words.ensures, c.from-pointers.ensures) at c.in_err-end.ensures.refused)
+
+pub test_sections-returns-in_err-end-clause-failed : goal.test_sections-returns-in_err-end-clause-failed
+test_sections-returns-in_err-end-clause-failed g t c =
+    let nl = to_z-of_z w32 c.args.nesting_limit c.ranges.nesting_limit in
+    on_err c.from_residual.result (ok_so c.test_row.new.test.answer (rw (nl, c.from-data_words.ensures, c.from-pointers.ensures) at c.in_err-end.ensures.failed) (λ f h. inl h))
+
+pub test_sections-returns-then-not-ends_used-clause-tells : goal.test_sections-returns-then-not-ends_used-clause-tells
+test_sections-returns-then-not-ends_used-clause-tells g t c =
+    tt
+
+pub test_sections-returns-then-not-ends_used-clause-refused : goal.test_sections-returns-then-not-ends_used-clause-refused
+test_sections-returns-then-not-ends_used-clause-refused g t c =
+    rw c.fault_at.ensures tt
+
+pub test_sections-returns-then-not-ends_used-clause-never : goal.test_sections-returns-then-not-ends_used-clause-never
+test_sections-returns-then-not-ends_used-clause-never g t c =
+    let ends = rw (c.from-data_words.ensures, c.args.from.now.held.0) at c.ends_used.ensures in
+    rw c.fault_at.ensures (λ both. false≢true (sym c.if-not-ends_used.true ∙ ends.1 both.0.0))
+
+pub test_sections-returns-then-not-ends_used-clause-failed : goal.test_sections-returns-then-not-ends_used-clause-failed
+test_sections-returns-then-not-ends_used-clause-failed g t c =
+    let nl = to_z-of_z w32 c.args.nesting_limit c.ranges.nesting_limit in
+    let ends = rw (c.from-data_words.ensures, c.args.from.now.held.0) at c.ends_used.ensures in
+    let word = ap (λ d. c.args.start + d - 1) c.from-data_words.ensures in
+    rw c.fault_at.ensures (inr (c.in_ok-end.end, rw (nl, c.from-data_words.ensures, c.from-pointers.ensures) at c.in_ok-end.ensures.tells, inl ((refl, refl, word), λ unused. false≢true (sym c.if-not-ends_used.true ∙ ends.1 unused))))
+
+pub test_sections-returns-then-not-ends_used-2-clause-tells : goal.test_sections-returns-then-not-ends_used-2-clause-tells
+test_sections-returns-then-not-ends_used-2-clause-tells g t c =
+    tt
+
+pub test_sections-returns-then-not-ends_used-2-clause-refused : goal.test_sections-returns-then-not-ends_used-2-clause-refused
+test_sections-returns-then-not-ends_used-2-clause-refused g t c =
+    rw c.fault_at-then-not-ends_used-2.ensures tt
+
+pub test_sections-returns-then-not-ends_used-2-clause-never : goal.test_sections-returns-then-not-ends_used-2-clause-never
+test_sections-returns-then-not-ends_used-2-clause-never g t c =
+    let ends = rw (c.from-data_words.ensures, c.from-pointers.ensures, c.args.from.now.held.0) at c.ends_used-2.ensures in
+    rw c.fault_at-then-not-ends_used-2.ensures (λ both. false≢true (sym c.if-not-ends_used-2.true ∙ ends.1 both.0.1))
+
+-- The elements of a list of structs.
+
+pub test_rows-returns-clause-tells : goal.test_rows-returns-clause-tells
+test_rows-returns-clause-tells g t c =
+    let nl = to_z-of_z w32 c.args.nesting_limit c.ranges.nesting_limit in
+    let all : c.loop-i.i ≡ c.args.count = reached c.loop-i.auto.i-end c.loop-i-test.false in
+    rows_seen (rw all at (rw nl at c.loop-i.invariant)) c.if-not-is_data_used.false c.if-not-are_pointers_used.false
+
+pub test_rows-returns-clause-never : goal.test_rows-returns-clause-never
+test_rows-returns-clause-never g t c =
+    tt
+
+pub test_rows-returns-clause-refused : goal.test_rows-returns-clause-refused
+test_rows-returns-clause-refused g t c =
+    tt
+
+pub test_rows-returns-clause-failed : goal.test_rows-returns-clause-failed
+test_rows-returns-clause-failed g t c =
+    tt
+
+pub test_rows-returns-in_err-head-clause-refused : goal.test_rows-returns-in_err-head-clause-refused
+test_rows-returns-in_err-head-clause-refused g t c =
+    let nl = to_z-of_z w32 c.args.nesting_limit c.ranges.nesting_limit in
+    on_err c.from_residual.result (err_so c.test_row.new.test.answer c.in_err-head.ensures.refused (λ k h. row_ends c.args.count (rw nl at c.loop-i.invariant) c.loop-i-test.true (rw (nl, c.from-data_words.ensures, c.from-pointers.ensures) at h)))
+
+pub test_rows-returns-then-not-are_pointers_used-clause-tells : goal.test_rows-returns-then-not-are_pointers_used-clause-tells
+test_rows-returns-then-not-are_pointers_used-clause-tells g t c =
+    tt
+
+pub test_rows-returns-then-not-are_pointers_used-clause-refused : goal.test_rows-returns-then-not-are_pointers_used-clause-refused
+test_rows-returns-then-not-are_pointers_used-clause-refused g t c =
+    rw c.fault_at-then-not-are_pointers_used.ensures tt
+
+pub test_rows-returns-then-not-is_data_used-clause-tells : goal.test_rows-returns-then-not-is_data_used-clause-tells
+test_rows-returns-then-not-is_data_used-clause-tells g t c =
+    tt
+
+pub test_rows-returns-then-not-is_data_used-clause-refused : goal.test_rows-returns-then-not-is_data_used-clause-refused
+test_rows-returns-then-not-is_data_used-clause-refused g t c =
+    rw c.fault_at.ensures tt
+
+pub test_structs-returns-clause-tells : goal.test_structs-returns-clause-tells
+test_structs-returns-clause-tells g t c =
+    let nl = to_z-of_z w32 c.args.nesting_limit c.ranges.nesting_limit in
+    let exact : c.args.count * (c.args.size.data_words + c.args.size.pointers) ≡ c.args.claimed = sym (ap₂ (λ x y. x * y) c.from.ensures (c.from-2.ensures ∙ c.total.ensures)) ∙ c.if-from.false ∙ c.from-3.ensures in
+    ok_so c.test_rows.result c.test_rows.ensures.tells (λ end h. (exact, rw (nl, exact) at h))
+
+pub test_structs-returns-clause-never : goal.test_structs-returns-clause-never
+test_structs-returns-clause-never g t c =
+    let exact : c.args.count * (c.args.size.data_words + c.args.size.pointers) ≡ c.args.claimed = sym (ap₂ (λ x y. x * y) c.from.ensures (c.from-2.ensures ∙ c.total.ensures)) ∙ c.if-from.false ∙ c.from-3.ensures in
+    on_err_so c.test_rows.result c.test_rows.ensures.never (λ x. on_ok_so c.test_rows.new.test.answer x (λ h same. rw exact at h))
+
+pub test_structs-returns-clause-exact : goal.test_structs-returns-clause-exact
+test_structs-returns-clause-exact g t c =
+    let exact : c.args.count * (c.args.size.data_words + c.args.size.pointers) ≡ c.args.claimed = sym (ap₂ (λ x y. x * y) c.from.ensures (c.from-2.ensures ∙ c.total.ensures)) ∙ c.if-from.false ∙ c.from-3.ensures in
+    on_err c.test_rows.result (on_err c.test_rows.new.test.answer exact)
+
+pub test_structs-returns-then-total-eq0-clause-exact : goal.test_structs-returns-then-total-eq0-clause-exact
+test_structs-returns-then-total-eq0-clause-exact g t c =
+    tt
+
+pub test_structs-returns-then-total-eq0-clause-never : goal.test_structs-returns-then-total-eq0-clause-never
+test_structs-returns-then-total-eq0-clause-never g t c =
+    tt
+
+pub test_structs-returns-then-total-eq0-clause-refused : goal.test_structs-returns-then-total-eq0-clause-refused
+test_structs-returns-then-total-eq0-clause-refused g t c =
+    tt
+
+pub test_structs-returns-then-total-eq0-clause-failed : goal.test_structs-returns-then-total-eq0-clause-failed
+test_structs-returns-then-total-eq0-clause-failed g t c =
+    tt
+
+pub test_structs-returns-then-from-clause-tells : goal.test_structs-returns-then-from-clause-tells
+test_structs-returns-then-from-clause-tells g t c =
+    tt
+
+pub test_structs-returns-then-from-clause-exact : goal.test_structs-returns-then-from-clause-exact
+test_structs-returns-then-from-clause-exact g t c =
+    rw c.fault_at.ensures tt
+
+pub test_structs-returns-then-from-clause-refused : goal.test_structs-returns-then-from-clause-refused
+test_structs-returns-then-from-clause-refused g t c =
+    rw c.fault_at.ensures tt
+
+pub test_structs-returns-then-from-clause-never : goal.test_structs-returns-then-from-clause-never
+test_structs-returns-then-from-clause-never g t c =
+    let other : c.args.count * (c.args.size.data_words + c.args.size.pointers) ≡ c.args.claimed → ⊥ = λ e. c.if-from.true (ap₂ (λ x y. x * y) c.from.ensures (c.from-2.ensures ∙ c.total.ensures) ∙ e ∙ sym c.from-3.ensures) in
+    rw c.fault_at.ensures (λ e. absurd (other e))
+
+pub test_structs-returns-then-from-clause-failed : goal.test_structs-returns-then-from-clause-failed
+test_structs-returns-then-from-clause-failed g t c =
+    let other : c.args.count * (c.args.size.data_words + c.args.size.pointers) ≡ c.args.claimed → ⊥ = λ e. c.if-from.true (ap₂ (λ x y. x * y) c.from.ensures (c.from-2.ensures ∙ c.total.ensures) ∙ e ∙ sym c.from-3.ensures) in
+    rw c.fault_at.ensures (inl ((refl, refl, refl), other, refl))

@@ -1,4 +1,4 @@
-use Rattle.std.proofs.Common.{◌≡◌, ◌≤◌, Some, None, ap, ◌∙◌, refl, rules}
+use Rattle.std.proofs.Common.{◌≡◌, ◌≤◌, Some, None, ap, ◌∙◌, refl}
 use Rattle.std.proofs.lemmas.Int.{to_z-of_z}
 use mir.Syntax.{w32}
 use Rattle.capnp_format.specs.Word.{kind, element_size, list_count}
@@ -19,10 +19,10 @@ pub returns-in-Err : goal.returns-in-Err
 returns-in-Err g c =
     let nl = to_z-of_z w32 c.args.nesting_limit c.ranges.nesting_limit in
     record {
-      tells = search rules;
-      never = search rules;
+      tells = tt;
+      never = rw c.refused.ensures tt;
       refused = rw c.refused.ensures (here (record { name = c.in-Err.kind; near = c.requires.tested.ready.near; stopped = rw nl at c.in-Err.ensures.refused; named = ap (λ w. level_refusal_name w c.in-Err.kind) c.requires.tested.there }));
-      failed = search rules;
+      failed = rw c.refused.ensures tt;
     }
 
 pub returns-then-start-head : goal.returns-then-start-head
@@ -38,9 +38,9 @@ returns-then-start-head g c =
     let object : IsObject Value r c.args.test.now.lim c.read_near_flat.new.lim (ObjectFlat start size count) =
     flat_by_word {r = r} start size count of_bits c.args.from.now.held refl (rw nl at c.in-Ok.ensures.object) width many in
     record {
-      tells = search rules;
+      tells = tt;
       never = rw c.fault_at.ensures (unplaced_never r c.args.test.now.lim c.read_near_flat.new.lim c.args.head (ObjectFlat start size count) c.requires.tested.ready object c.if-start-head.true);
-      refused = search rules;
+      refused = rw c.fault_at.ensures tt;
       failed = rw c.fault_at.ensures (unplaced_fails {r = r} {from = progress c.args.head c.args.test.now.lim} (ObjectFlat start size count) (refl, refl, refl) c.requires.tested.ready of_bits.0 object c.if-start-head.true);
     }
 
