@@ -62,8 +62,12 @@ class Function:
     cycle: str
 
     def has_answer(self, file):
-        """Whether an answer for it stands in this file."""
+        """Whether an answer for it stands in this file, which those of a cycle share."""
         return f'/{self.path.replace("::", "/")}/' in file or self.cycle and f'/+{self.cycle}/' in file
+
+    def has_goal(self, line):
+        """Whether the goal that a line names is one of this function, and not of another one of its cycle."""
+        return not self.cycle or re.search(rf'`(?:\w+::)*{self.path.rpartition("::")[2]}-', line)
 
 
 @dataclasses.dataclass
@@ -224,29 +228,31 @@ def checked(crates, edits):
     return run.returncode, run.stdout.rstrip('\n').split('\n')
 
 
-def open_goal(function, lines):
+def open_goal(function, lines, is_alone):
     """What the check says first of a goal of this function that stays open, or of an answer to it: a goal, before a name that a proof has and the edited
-    function hasn't."""
+    function hasn't. Of a cycle of functions in which other edits stand too, only what names this function counts."""
     found = []
     for line in lines:
         said = SAID.match(line)
         if said and 'error' not in said[3] and not line.startswith('note: '):
             continue
-        if said and (said[1] == function.file and function.first <= int(said[2]) <= function.last or function.has_answer(said[1])):
+        is_within = said and said[1] == function.file and function.first <= int(said[2]) <= function.last
+        if is_within or said and function.has_answer(said[1]) and (is_alone or function.has_goal(line)):
             found.append(line.removeprefix('note: ').removeprefix('./'))
     # the line of the function names its own goals too
     own = (it for it in lines if it.startswith('fn ') and f'::{function.path}: ' in it)
-    named = next((it for it in own if '` did not prove `' in it or ': could not tell' in it), None)
+    told = (it for it in own if is_alone or function.has_goal(it))
+    named = next((it for it in told if '` did not prove `' in it or ': could not tell' in it), None)
     return next((it for it in found if not NAMES.search(it)), None) or next(iter(found), named)
 
 
-def verdict(edit, lines):
-    """Whether an edit is refused, and what to say of it."""
+def verdict(edit, lines, is_alone):
+    """Whether an edit is refused, and what to say of it; is_alone: whether no other one is tried with it."""
     if edit.anywhere:
         goal = next((it.removeprefix('note: ') for it in lines if SAID.match(it) and ('error' in it or it.startswith('note: '))), None)
         return (True, goal) if goal and lines[-1].startswith('logic=not-proved') else (False, 'NOT REFUSED: the crate is still proved')
     for function in edit.functions:
-        if goal := open_goal(function, lines):
+        if goal := open_goal(function, lines, is_alone):
             return True, f'{function.path}: {goal}'
     return False, f'NOT REFUSED: {", ".join(it.path for it in edit.functions)} is still proved'
 
@@ -271,7 +277,7 @@ def tried(crates, edits):
         return [(it, False, 'NOT TRIED: its check was killed, most likely for memory') for it in edits]
     bad = unread(edits, lines)
     if not bad and (lines[-1].startswith(('logic=', 'rattle: no verdict')) or any(it.startswith('fn ') for it in lines)):
-        told = [(it, *verdict(it, lines)) for it in edits]
+        told = [(it, *verdict(it, lines, len(edits) == 1)) for it in edits]
         left = [edit for edit, is_refused, _ in told if not is_refused]
         if not left or len(edits) == 1:
             return told
