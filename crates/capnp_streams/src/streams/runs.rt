@@ -1,5 +1,5 @@
 //! A task done with each message of a stream.
-ghost use Rattle.std.specs.Prelude.{◌≡◌, ◌⊎◌, ◌&&◌, [], Some, true, Ok, None, IsSome, OnOk, IfOk, IfErr, IfSome, IsSomeAnd};
+ghost use Rattle.std.specs.Prelude.{◌≡◌, ◌⊎◌, [], Some, true, Ok, None, IsSome, OnOk, IfOk, IfErr, IfSome, IsSomeAnd};
 ghost use Rattle.std.specs.Io.KnownBytes.{IsAtEnd, Keeps};
 ghost use Rattle.capnp_framing.specs.declared.framing.frame_error.FrameError.TheVariants.{ReadFailed};
 ghost use Rattle.capnp_framing.specs.Wholeness.{KeepsWhole};
@@ -57,13 +57,6 @@ pub(super) fn words_of(limits: ReaderOptions) -> u64
         Some(words) => words as u64,
         None => u64::MAX,
     }
-}
-
-/// Whether both are.
-fn both(a: bool, b: bool) -> bool
-    ensures { result ≡ a && b }
-{
-    a && b
 }
 
 /// Passes on the answers so far, unless the next message is read ahead; reads that message, and answers to it. `None` where
@@ -173,7 +166,7 @@ pub fn run_with<A: Allocator, R: BufferedInput, W: BufferedOutput>(
             }
             Ok(Some(here)) => {
                 bytes = bytes.saturating_add(here.bytes);
-                holds = both(holds, here.holds);
+                holds &= here.holds;
             }
             Err(fault) => {
                 let stop = Stop {

@@ -17,7 +17,7 @@ pub loop-number-preserved : goal.loop-number-preserved
 loop-number-preserved g c =
     let all = more_done c.loop-number.invariant.done (rw c.in-Ok-Some.field-0-is at c.in-Ok-Some.ensures.answered) in
     record {
-      done = rw (c.both-holds.ensures, c.saturating_add-bytes.ensures) all;
+      done = rw c.saturating_add-bytes.ensures all;
       whole = keeps_whole_both _ _ _ c.loop-number.invariant.whole c.in-Ok-Some.ensures.whole;
       work = c.in-Ok-Some.ensures.work;
       there = c.in-Ok-Some.ensures.memory.there;
