@@ -118,7 +118,7 @@ no_value x e = cc
 no_element : (x y : Tree) → Some (PointerTo x) ≡ Some (ElementOf y) → ⊥
 no_element x y e = cc
 
--- so a step is done there
+-- a step is done where its path leads
 pub step_is_there : (old new : View) (edit : Edit) (r : Option ErrorKind) (t x : Tree) (u q : ℕ) (s : IsStep old new edit r) → IsForest old.words t → PathLeads old.words (node 0 0 t) (map step_of edit.path.now) (node u q x) →
     s.path_end ≡ Some (AtPointer (record { segment = u; word = q }))
 step_is_there old new edit r t x u q s forest leads = go s.path_end (s.leads t (forest_stored old.words t forest))
