@@ -1,4 +1,6 @@
-//! Each segment goes back to its allocator once, in order of number, with how many of its words were used.
+//! What goes back to the allocator of an arena that is dropped or taken apart: each segment once, in order of number, with
+//! how many of its words were used; before these, at once and unused, each whose row was refused. From an arena without
+//! its allocator nothing goes back.
 use capnp_arena::arena::{Allocator, BuilderArena, BuilderArenaImpl, HeapAllocator};
 use capnp_words::error::ErrorKind;
 use std::alloc::Global;

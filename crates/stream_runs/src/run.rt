@@ -1,4 +1,5 @@
-//! One run, as a line of text asks for it.
+//! One run, as a line of text asks for it. How each device works is a word of that line, read as a `Strain`: how many of
+//! its calls succeed, and how many bytes each moves at most, with a comma between them (`none`: no limit).
 ghost use Rattle.std.specs.Prelude.{◌≡◌, false};
 
 use crate::devices::{Strain, StrainedInput, StrainedOutput};

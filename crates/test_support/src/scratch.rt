@@ -1,4 +1,5 @@
-//! An allocator that has a scratch space and no memory besides.
+//! An allocator that has a scratch space and no memory besides: each further segment and each row is refused, which it
+//! counts, and `keep` gives the row back.
 ghost use Rattle.std.specs.Prelude.{◌≡◌, true};
 
 use capnp_arena::arena::{Allocator, MAX_SEGMENT_WORDS, ScratchSegment, ScratchSpaceHeapAllocator};

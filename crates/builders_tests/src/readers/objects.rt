@@ -1,5 +1,5 @@
 //! The object that a pointer leads to, read by `Source::read_object` and its kin of `capnp_objects`,
-//! which `capnp_readers` gives again.
+//! which `capnp_readers` gives again. `object` reads it for the tests, and charges the limiter that it is given.
 use super::messages::*;
 use capnp_arena::arena::ReaderArena;
 use capnp_readers::object::{Expected, Object, Place};
