@@ -73,6 +73,8 @@ fn check_returned<A: Allocator>(
     assert!(rt; returned.get() == want, "{made} segments");
 }
 
+/// An arena that is granted all four segments, and memory for the rows of four, of three or of none, gives back the same
+/// where it is dropped as where it is taken apart (`into_allocator`).
 #[test]
 fn dropped_or_taken_apart(rt: HostRuntime) {
     for (rows, made, want) in [(4, 4, ALL_USED), (3, 3, LAST_AT_ONCE), (0, 0, NONE_USED)] {

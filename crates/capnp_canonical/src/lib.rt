@@ -1,5 +1,6 @@
 //! Canonical form for programs in C, and for what calls C ("Canonicalization"): a message, given as a
-//! frame in a buffer or by its segments, is copied, tested or measured. Nothing is kept between calls.
+//! frame in a buffer, by its segments or as its bare words, is copied, tested or measured, and packed bytes
+//! are unpacked. Nothing is kept between calls.
 //!
 //! `bindings/c/capnp_canonical.h` says how each is called. The answer is 0, or the number of a refusal.
 #![tactic(auto)]
@@ -111,7 +112,7 @@ pub extern "C" fn capnp_canonical_copy_flat(
 /// Says whether the message of a frame is canonical: one segment, which holds the canonical words of a
 /// value and nothing else; and if not why and where. `nesting` is how many structs and lists may stand one inside
 /// of the other; `words` bounds the words of the frame, and those that may be read. Where it is refused
-/// `is_canonical` is false and `fault` all 0, so the answer 0 is what tells a no.
+/// `is_canonical` is false and `fault` all 0; it says that the message isn't canonical only where the answer is 0.
 #[unsafe(no_mangle)]
 pub extern "C" fn capnp_canonical_check(
     frame: &[u8],

@@ -1,5 +1,6 @@
-//! One run, as a line of text asks for it. How each device works is a word of that line, read as a `Strain`: how many of
-//! its calls succeed, and how many bytes each moves at most, with a comma between them (`none`: no limit).
+//! One run, as a line of text asks for it. How each device works is a word of that line, read as a
+//! `Strain`: how many of its calls succeed, and how many bytes each moves at most, with a comma between
+//! them (`none`: no limit).
 ghost use Rattle.std.specs.Prelude.{◌≡◌, false};
 
 use crate::devices::{Strain, StrainedInput, StrainedOutput};
@@ -64,7 +65,8 @@ fn read_task(alloc: Global, text: &str) -> Result<Option<Task>, AllocError> {
 }
 
 /// How a device works: two numbers with a comma between them, how many of its calls succeed and how
-/// many bytes each moves at most. `None` where the text isn't of this form.
+/// many bytes each moves at most; each in decimal digits, or `none` for no limit. `None` where the text
+/// isn't of this form.
 fn read_strain(text: &str) -> Option<Strain> {
     let (calls, most) = text.split_once(',')?;
     Some(Strain {
@@ -132,8 +134,8 @@ fn run_to<W: BufferedOutput>(alloc: Global, run: &Run, output: &mut W) -> Result
     }
 }
 
-/// How a run ended: how many messages there were, and whether each answer was a yes; or how many were answered, and
-/// why the next one wasn't. Behind a `-` what was written.
+/// How a run ended: how many messages there were, and whether each answer was a yes; or how many were
+/// answered, and why the next one wasn't. Behind a `-` what was written.
 fn told(alloc: Global, ended: Result<Summary, Stop>, written: &[u8]) -> Result<String, AllocError> {
     let digits = hex::encode(alloc, written)?;
     match ended {

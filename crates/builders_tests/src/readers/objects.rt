@@ -1,5 +1,5 @@
 //! The object that a pointer leads to, read by `Source::read_object` and its kin of `capnp_objects`,
-//! which `capnp_readers` gives again. `object` reads it for the tests, and charges the limiter that it is given.
+//! which `capnp_readers` re-exports.
 use super::messages::*;
 use capnp_arena::arena::ReaderArena;
 use capnp_readers::object::{Expected, Object, Place};
@@ -9,7 +9,8 @@ use capnp_words::error::ErrorKind;
 use capnp_words::read_limiter::ReadLimiter;
 use capnp_words::wire_pointer::{ElementSize, PointerType};
 
-/// Reads the object that a pointer leads to.
+/// Reads the object that a pointer leads to, within the nesting limit of the pointer's reader, and
+/// charges the limiter for it. A null pointer gives `Object::Null`.
 fn object<'a, A: ReaderArena>(
     pointer: PointerReader<'a, A>,
     lim: &mut ReadLimiter,

@@ -1,5 +1,6 @@
-//! The rows of a builder arena. The first stands in the struct itself, so that no memory is taken
-//! for it, and the others in a list.
+//! The rows of a builder arena whose allocator has the first one kept in the arena
+//! (`keeps_first_in_arena`): the first stands in the struct itself, so that no memory is taken for it,
+//! and the others in a list. All other arenas have `listed`.
 //!
 //! Most messages have one segment, and most words are written in it. So what is asked of row 0 is
 //! answered in place, and what is asked of another by a function that is called.

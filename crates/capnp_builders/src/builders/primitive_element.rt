@@ -1,5 +1,5 @@
-//! Elements of lists of a message that is built, read and written: numbers, bits or nothing
-//! ("Lists").
+//! Elements of lists, numbers, bits or nothing: of a list that is read they are read, and of a list
+//! that is built read and written ("Lists").
 ghost use Rattle.std.specs.Prelude.{◌≡◌, ◌<◌, ◌≤◌, ℕ, List, cond};
 ghost use Rattle.capnp_format.specs.Numbers.{element_bits};
 ghost use Rattle.capnp_words.specs.Sizes.{size_number};
@@ -51,9 +51,10 @@ pub trait PrimitiveElement {
         ensures { HasField (A.view list.now.arena.now) list.now.place.segment list.now.place.byte
             (lowest_bits list.now.place index (element_bits (size_number size)) (bits_of result)) };
 
-    /// Writes an element of a list: the lowest bits of its data, as many as the value has. There are more
-    /// elements than `index`, and each has at least as many bits of data as the value; `()` asks for
-    /// neither, and nothing is written. Of a struct the lowest bits of its data section are written.
+    /// Writes an element of a list: the lowest bits of its data, as many as the value has. There are
+    /// more elements than `index`, and each has at least as many bits of data as the value; `()` asks
+    /// for neither, and nothing is written. Of a struct the lowest bits of its data section are
+    /// written.
     fn set<A: BuilderArena>(list: &mut ListBuilder<'_, A>, index: u32, value: Self)
         requires inside { IsListPlace (A.view list.old.arena.now).words list.old.place }
         requires range { 0 < element_bits (size_number size) → index < list.old.place.count }

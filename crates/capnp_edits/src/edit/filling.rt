@@ -37,10 +37,10 @@ fn place_in<A: BuilderArena>(arena: &A, parent: ExistingStruct) -> Option<Struct
 }
 
 /// Makes the data and pointers of a struct those of the struct that the root of the source, another
-/// message, leads to. Where there is no struct to be copied, nothing is changed. Where the copy of a
-/// pointer is refused, the data and the pointers before it are copied, and that one and those behind it
-/// are null. In the clauses `AtElement parent` is this struct, whether it is an element or a pointer
-/// leads to it.
+/// message, leads to. A null root counts as a struct of no words, which leaves zeros and null pointers;
+/// a root that is no struct, or can't be read, changes nothing. Where the copy of a pointer is refused,
+/// the data and the pointers before it are copied, and that one and those behind it are null. In the
+/// clauses `AtElement parent` is this struct, whether it is an element or a pointer leads to it.
 pub(crate) fn fill<A: BuilderArena>(
     arena: &mut A,
     parent: ExistingStruct,

@@ -8,7 +8,8 @@ use capnp_arena::arena::Allocator;
 use std::alloc::Global;
 
 /// Gives all bytes that an input still has. `BadInput` says that a read failed, `NoMemory` that the
-/// allocator refused, which it has counted; the bytes read until then are lost.
+/// allocator refused, which it has counted; the bytes read until then are lost. The list of bytes is
+/// made over `alloc`, and grows by `Allocator::keep`, so `allocator` may refuse any byte.
 pub(crate) fn read_text<A: Allocator, R: Input>(
     alloc: Global,
     allocator: &mut A,

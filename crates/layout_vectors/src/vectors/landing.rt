@@ -90,7 +90,10 @@ fn follow_near<A: ReaderArena>(
     }
 }
 
-/// Where a far pointer leads.
+/// Where a far pointer leads, its landing pad of one or two words read. `None` where the pad isn't
+/// within its segment; where what describes the object, the pad of one word or the second word of two,
+/// is itself a far pointer; where a pad of one word leads out of its segment; and where a pad of two
+/// words names a segment that isn't there. The position that the latter names isn't checked here.
 fn follow_far<A: ReaderArena>(arena: &A, word: WirePointer) -> Option<PointerTarget>
     ensures { option_map target_at result
         ≡ far (message (A.segments arena.now)) word.0 (is_double word.0) }
