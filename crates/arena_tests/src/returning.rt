@@ -73,8 +73,10 @@ fn check_returned<A: Allocator>(
     assert!(rt; returned.get() == want, "{made} segments");
 }
 
-/// An arena that is granted all four segments, and memory for the rows of four, of three or of none, gives back the same
-/// where it is dropped as where it is taken apart (`into_allocator`).
+/// An arena that is granted all four segments, and memory for the rows of four, of three or of none, is dropped or
+/// taken apart (`into_allocator`). What came back, and how many segments were made and refused, is compared with what
+/// the test expects. As in every test `rt`, the runtime of the host, gives the allocator of the heap, and ends the test
+/// at the first assertion that fails.
 #[test]
 fn dropped_or_taken_apart(rt: HostRuntime) {
     for (rows, made, want) in [(4, 4, ALL_USED), (3, 3, LAST_AT_ONCE), (0, 0, NONE_USED)] {

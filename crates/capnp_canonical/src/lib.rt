@@ -2,7 +2,8 @@
 //! frame in a buffer, by its segments or as its bare words, is copied, tested or measured, and packed bytes
 //! are unpacked. Nothing is kept between calls.
 //!
-//! `bindings/c/capnp_canonical.h` says how each is called. The answer is 0, or the number of a refusal.
+//! `bindings/c/capnp_canonical.h` says how each is called. The answer is 0, or the number of a refusal,
+//! but for names, texts and versions, which are never refused.
 #![tactic(auto)]
 
 ghost use Rattle.std.specs.Prelude.{◌≡◌, ◌≢◌, ◌⊎◌, ◌≤◌, ⊤, ◌+◌, ◌*◌, ◌++◌, ℕ, List, codes, false, length, take, drop};

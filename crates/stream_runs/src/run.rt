@@ -65,8 +65,8 @@ fn read_task(alloc: Global, text: &str) -> Result<Option<Task>, AllocError> {
 }
 
 /// How a device works: two numbers with a comma between them, how many of its calls succeed and how
-/// many bytes each moves at most; each in decimal digits, or `none` for no limit. `None` where the text
-/// isn't of this form.
+/// many bytes each moves at most; each in decimal digits, a `+` before them or none, or `none` for no
+/// limit. `None` where the text isn't of this form.
 fn read_strain(text: &str) -> Option<Strain> {
     let (calls, most) = text.split_once(',')?;
     Some(Strain {

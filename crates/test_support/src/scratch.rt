@@ -1,5 +1,5 @@
-//! An allocator that has a scratch space and no memory besides: each further segment and each row is refused, which it
-//! counts, and `keep` gives the row back.
+//! An allocator that hands out its scratch space and nothing else: every other segment, which it may take from the heap
+//! and drops at once, and each row is refused. It counts these refusals, and `keep` gives the row back.
 ghost use Rattle.std.specs.Prelude.{◌≡◌, true};
 
 use capnp_arena::arena::{Allocator, MAX_SEGMENT_WORDS, ScratchSegment, ScratchSpaceHeapAllocator};
