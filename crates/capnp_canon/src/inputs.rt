@@ -63,12 +63,18 @@ fn answer_file<W: BufferedOutput>(
     match File::open(rt, name) {
         Ok(file) => answer(rt, task, Some(name), file, output),
         Err(error) => {
-            if output.pass_on().is_err() {
-                return Err(Unanswered::WriteFailed);
-            }
+            pass_on(output)?;
             let _ = eprintln!(rt; "{name}: {error}");
             Err(Unanswered::Said)
         }
+    }
+}
+
+/// Passes on what is written to an output.
+fn pass_on<W: BufferedOutput>(output: &mut W) -> Result<(), Unanswered> {
+    match output.pass_on() {
+        Ok(()) => Ok(()),
+        Err(_) => Err(Unanswered::WriteFailed),
     }
 }
 
@@ -80,26 +86,27 @@ fn answer<R: Read + Drop, W: BufferedOutput>(
     reader: R,
     output: &mut W,
 ) -> Result<bool, Unanswered> {
-    // bare words are waited for to their end
-    if (task.from_flat && output.pass_on().is_err()) || output.failed() {
+    if task.from_flat {
+        // bare words are waited for to their end
+        pass_on(output)?;
+    }
+    if output.failed() {
         return Err(Unanswered::WriteFailed);
     }
     let seen = Seen::new();
     let reader = Watched::new(reader, &seen);
     let Ok(reader) = BufReader::with_capacity(rt.alloc(), BUFFER, reader) else {
-        if output.pass_on().is_err() {
-            return Err(Unanswered::WriteFailed);
-        }
+        pass_on(output)?;
         let _ = rt.eprintln(NO_MEMORY);
         return Err(Unanswered::Said);
     };
     match run(rt, task, BufReaderInput::new(reader), output) {
         Ok(summary) => Ok(summary.holds),
         Err(stop) => {
-            let is_written = !matches!(stop.fault, Fault::Frame(FrameError::WriteFailed));
-            if !is_written || output.pass_on().is_err() {
+            if matches!(stop.fault, Fault::Frame(FrameError::WriteFailed)) {
                 return Err(Unanswered::WriteFailed);
             }
+            pass_on(output)?;
             refuse(rt, task, name, stop, &seen);
             Err(Unanswered::Said)
         }
