@@ -6,20 +6,11 @@
  * Each buffer is a block of the heap of its very size, so that valgrind and the address sanitizer see any byte too many. The
  * last line is `N passed, M failed`: a count is one comparison. */
 #include "capnp_canonical.h"
-#include <stdio.h>
-#include <stdlib.h>
-#include <string.h>
+#include "blocks.h"
 
-enum { MOST_SEGMENTS = 512, FILL = 0xa5 };
+enum { MOST_SEGMENTS = 512 };
 static const int32_t NESTING = CAPNP_CANONICAL_NESTING;
 static const uint64_t WORDS = CAPNP_CANONICAL_WORDS;
-static unsigned long passed, failed;
-static const char *place = "";
-
-struct bytes {
-    uint8_t *at;
-    size_t size;
-};
 
 /* A message of the file. */
 struct message {
@@ -41,15 +32,6 @@ struct copier {
     const struct parts *parts;
 };
 
-static void expect(int holds, const char *what) {
-    if (holds) {
-        passed++;
-    } else {
-        failed++;
-        printf("%s: %s\n", place, what);
-    }
-}
-
 #ifdef WRAP
 /* How many blocks are given before one is refused; none is where it is negative. */
 static long blocks = -1;
@@ -60,27 +42,6 @@ static int is_refused(void) { return blocks >= 0 && blocks-- == 0; }
 void *__wrap_malloc(size_t size) { return is_refused() ? NULL : __real_malloc(size); }
 void *__wrap_realloc(void *block, size_t size) { return is_refused() ? NULL : __real_realloc(block, size); }
 #endif
-
-/* A block of its very size; null where that is 0. */
-static struct bytes block(size_t size) {
-    struct bytes made = {size ? malloc(size) : NULL, size};
-    if (size && !made.at) abort();
-    if (size) memset(made.at, FILL, size);
-    return made;
-}
-
-static struct bytes copy_of(const uint8_t *from, size_t size) {
-    struct bytes made = block(size);
-    if (size) memcpy(made.at, from, size);
-    return made;
-}
-
-static int is_filled(struct bytes of) {
-    for (size_t i = 0; i < of.size; i++) {
-        if (of.at[i] != FILL) return 0;
-    }
-    return 1;
-}
 
 static int are_same(const uint8_t *one, size_t size, struct bytes other) {
     return size == other.size && (size == 0 || memcmp(one, other.at, size) == 0);
@@ -439,17 +400,6 @@ static void test_limits(void) {
     struct capnp_canonical_segment segment = {frame.at + 8, 16};
     expect(capnp_canonical_segments_copy(&segment, 1, 1, 1, NULL, 0, &size) == CAPNP_CANONICAL_READ_LIMIT_EXCEEDED && !size, "a traversal limit");
     free(frame.at);
-}
-
-static struct bytes from_hex(const char *digits) {
-    size_t size = strcmp(digits, "-") ? strlen(digits) / 2 : 0;
-    struct bytes made = block(size);
-    for (size_t i = 0; i < size; i++) {
-        unsigned byte = 0;
-        sscanf(digits + 2 * i, "%2x", &byte);
-        made.at[i] = (uint8_t)byte;
-    }
-    return made;
 }
 
 int main(int count, char **words) {

@@ -6,27 +6,11 @@
  * Each buffer is a block of the heap of its very size, so that valgrind and the address sanitizer see any byte too many. The
  * last line is `N passed, M failed`: a count is one comparison. */
 #include "capnp_canonical.h"
-#include <stdio.h>
-#include <stdlib.h>
-#include <string.h>
+#include "blocks.h"
 
-enum { FILL = 0xa5, MOST = 1 << 15, RANDOM = 20000, RUNS = 1000 };
-static unsigned long passed, failed, blocks;
-static const char *place = "";
-
-struct bytes {
-    uint8_t *at;
-    size_t size;
-};
-
-static void expect(int holds, const char *what) {
-    if (holds) {
-        passed++;
-    } else {
-        failed++;
-        printf("%s: %s\n", place, what);
-    }
-}
+enum { MOST = 1 << 15, RANDOM = 20000, RUNS = 1000 };
+/* How often malloc and realloc were called, where they are wrapped. */
+static unsigned long blocks;
 
 #ifdef WRAP
 void *__real_malloc(size_t size);
@@ -34,27 +18,6 @@ void *__real_realloc(void *block, size_t size);
 void *__wrap_malloc(size_t size) { return blocks++, __real_malloc(size); }
 void *__wrap_realloc(void *block, size_t size) { return blocks++, __real_realloc(block, size); }
 #endif
-
-/* A block of its very size; null where that is 0. */
-static struct bytes block(size_t size) {
-    struct bytes made = {size ? malloc(size) : NULL, size};
-    if (size && !made.at) abort();
-    if (size) memset(made.at, FILL, size);
-    return made;
-}
-
-static struct bytes copy_of(const uint8_t *from, size_t size) {
-    struct bytes made = block(size);
-    if (size) memcpy(made.at, from, size);
-    return made;
-}
-
-static int is_filled(const uint8_t *from, size_t size) {
-    for (size_t i = 0; i < size; i++) {
-        if (from[i] != FILL) return 0;
-    }
-    return 1;
-}
 
 /* What packed bytes stand for, by the words of the specification; the size SIZE_MAX where they are cut. */
 static struct bytes wanted_of(struct bytes packed) {
@@ -102,9 +65,9 @@ static void test_room(struct bytes packed, struct bytes wanted, size_t room) {
     } else {
         expect(answer == CAPNP_CANONICAL_DONE && written == wanted.size, "the size");
         expect(written == 0 || memcmp(to.at, wanted.at, written) == 0, "the bytes");
-        expect(room == written || is_filled(to.at + written, room - written), "what stands behind them is written");
+        expect(room == written || is_filled((struct bytes){to.at + written, room - written}), "what stands behind them is written");
     }
-    if (answer != CAPNP_CANONICAL_DONE) expect(room == 0 || is_filled(to.at, room), "a refused call has written");
+    if (answer != CAPNP_CANONICAL_DONE) expect(is_filled(to), "a refused call has written");
     free(to.at);
 }
 
@@ -163,16 +126,6 @@ static void test_runs(void) {
     free(packed.at);
     place = "no packed bytes";
     expect(unpacked(none, none, &written) == CAPNP_CANONICAL_DONE && written == 0, "null");
-}
-
-static struct bytes from_hex(const char *digits) {
-    struct bytes made = block(strcmp(digits, "-") ? strlen(digits) / 2 : 0);
-    for (size_t i = 0; i < made.size; i++) {
-        unsigned byte = 0;
-        sscanf(digits + 2 * i, "%2x", &byte);
-        made.at[i] = (uint8_t)byte;
-    }
-    return made;
 }
 
 int main(int count, char **words) {
