@@ -2,7 +2,7 @@
 ghost use Rattle.std.specs.Prelude.{◌≡◌, ◌+◌, ◌*◌, ◌<◌, ◌≤◌, [], Ok, None, IfSome, IfOk, IfErr, length};
 ghost use Rattle.capnp_format.specs.Bytes.{message};
 ghost use Rattle.capnp_arena_traits.specs.Limits.{IsSmall};
-ghost use Rattle.capnp_framing.specs.Flat.{AreStarts, BeginsWithFrame, part_at, parts};
+ghost use Rattle.capnp_framing.specs.Flat.{AreStarts, BeginsWithFrame, parts};
 ghost use Rattle.capnp_framing.specs.Frames.{frame};
 ghost use Rattle.capnp_framing.specs.Reading.{NoFrame, max_length, table_size, words_told};
 
@@ -52,7 +52,7 @@ fn starts_of(table: &[u8], count: usize) -> ([u64; STARTS], u64)
     (starts, sum)
 }
 
-impl<'a> FrameSegments<'a> {
+impl FrameSegments<'_> {
     /// How many bytes the frame takes at the front of those that it was read from: the table with its padding, and
     /// the words. The next frame of a row begins behind them.
     pub fn size_in_bytes(&self) -> usize
@@ -74,16 +74,6 @@ impl<'a> FrameSegments<'a> {
             self.starts[k] + words_between(self.table, STEP * k, id)
         }
     }
-
-    /// The segment with this number.
-    fn segment(&self, id: usize) -> &'a [u8]
-        requires { id < self.now.count }
-        ensures { result.now ≡ part_at id self.now.table.now self.now.words.now }
-    {
-        let at = 8 * self.words_before(id) as usize;
-        let size = 8 * number_at(self.table, 4 * id) as usize;
-        &self.words[at..at + size]
-    }
 }
 
 impl ReaderSegments for FrameSegments<'_> {
@@ -91,11 +81,12 @@ impl ReaderSegments for FrameSegments<'_> {
 
     fn get_segment(&self, id: u32) -> Option<&[u8]> {
         let id = id as usize;
-        if id < self.count {
-            Some(self.segment(id))
-        } else {
-            None
+        if id >= self.count {
+            return None;
         }
+        let at = 8 * self.words_before(id) as usize;
+        let size = 8 * number_at(self.table, 4 * id) as usize;
+        Some(&self.words[at..at + size])
     }
 
     fn len(&self) -> usize {

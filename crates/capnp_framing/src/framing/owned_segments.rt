@@ -1,7 +1,7 @@
 //! The segments of a message that was read.
 ghost use Rattle.std.specs.Prelude.{◌≡◌, ◌<◌, ◌≤◌, ◌+◌, ◌*◌, [], length};
 ghost use Rattle.capnp_format.specs.Bytes.{message};
-ghost use Rattle.capnp_framing.specs.Flat.{AreEnds, part_at, parts};
+ghost use Rattle.capnp_framing.specs.Flat.{AreEnds, parts};
 ghost use Rattle.capnp_framing.specs.Frames.{frame};
 ghost use Rattle.capnp_framing.specs.Reading.{words_told};
 
@@ -60,16 +60,6 @@ impl OwnedSegments {
         let table = 4 + 4 * self.count + 4 * ((self.count + 1) % 2);
         table + 8 * self.words_before(self.count)
     }
-
-    /// The segment with this number.
-    fn segment(&self, id: usize) -> &[u8]
-        requires { id < self.now.count }
-        ensures { result.now ≡ part_at id self.now.table.items self.now.words.items }
-    {
-        let start = self.words_before(id);
-        let end = self.end_of(id);
-        &self.words.as_slice()[8 * start..8 * end]
-    }
 }
 
 impl ReaderSegments for OwnedSegments {
@@ -77,11 +67,12 @@ impl ReaderSegments for OwnedSegments {
 
     fn get_segment(&self, id: u32) -> Option<&[u8]> {
         let id = id as usize;
-        if id < self.count {
-            Some(self.segment(id))
-        } else {
-            None
+        if id >= self.count {
+            return None;
         }
+        let start = self.words_before(id);
+        let end = self.end_of(id);
+        Some(&self.words.as_slice()[8 * start..8 * end])
     }
 
     fn len(&self) -> usize {
