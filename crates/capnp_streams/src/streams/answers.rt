@@ -1,8 +1,8 @@
 //! The answer to one message.
-ghost use Rattle.std.specs.Prelude.{◌≡◌, ℕ, Some, Ok, Err, false, IsSome, OnOk, OnErr, IfErr};
+ghost use Rattle.std.specs.Prelude.{◌≡◌, Some, Ok, Err, false, IsSome, OnOk, OnErr};
 ghost use Rattle.capnp_arena_traits.specs.Limits.{IsSmall};
 ghost use Rattle.capnp_framing.specs.declared.framing.frame_error.FrameError.TheVariants.{WriteFailed};
-ghost use Rattle.capnp_streams.specs.Streams.{Answers, CountsRefusals, question_on, refusals_behind};
+ghost use Rattle.capnp_streams.specs.Streams.{Answers, CountsRefusals, question_on};
 
 use super::fault::Fault;
 use super::task::Task;
@@ -135,45 +135,6 @@ fn canon<A: Allocator, S: ReaderSegments + Drop, W: Output>(
     canon_copy(memory, form, task, &source, output)
 }
 
-/// Writes whether a message is canonical, and if not where and why; gives whether it is.
-fn check<S: ReaderSegments + Drop, W: Output>(
-    task: Task,
-    segments: S,
-    output: &mut W,
-) -> Result<bool, Fault>
-    requires small { IsSmall (S.segments segments) }
-    requires works { W.has_failed output.old ≡ false }
-    ensures answer { Answers W.Output output.old output.new
-        (question_on Command.Check task (S.segments segments)) result }
-    ensures uncounted { IfErr result (λ fault.
-        (n : ℕ) → refusals_behind Command.Check fault n ≡ n) }
-{
-    match canonical_fault_of(segments, task.limits) {
-        Ok(None) => if_written(write_canonical(output), true),
-        Ok(Some(fault)) => if_written(write_fault(output, fault), false),
-        Err(kind) => Err(Fault::Layout(kind)),
-    }
-}
-
-/// Writes how large a message is.
-fn size<S: ReaderSegments + Drop, W: Output>(
-    task: Task,
-    segments: S,
-    output: &mut W,
-) -> Result<bool, Fault>
-    requires small { IsSmall (S.segments segments) }
-    requires works { W.has_failed output.old ≡ false }
-    ensures answer { Answers W.Output output.old output.new
-        (question_on Command.Size task (S.segments segments)) result }
-    ensures uncounted { IfErr result (λ fault.
-        (n : ℕ) → refusals_behind Command.Size fault n ≡ n) }
-{
-    match size_of(segments, task.limits) {
-        Ok(size) => if_written(write_size(output, size), true),
-        Err(kind) => Err(Fault::Layout(kind)),
-    }
-}
-
 /// Answers to one message: writes what its task asks for, and gives whether that is a yes.
 pub(super) fn answer<A: Allocator, S: ReaderSegments + Drop, W: Output>(
     memory: &mut Memory<A>,
@@ -191,7 +152,14 @@ pub(super) fn answer<A: Allocator, S: ReaderSegments + Drop, W: Output>(
 {
     match task.command {
         Command::Canon(form) => canon(memory, form, task, segments, output),
-        Command::Check => check(task, segments, output),
-        Command::Size => size(task, segments, output),
+        Command::Check => match canonical_fault_of(segments, task.limits) {
+            Ok(None) => if_written(write_canonical(output), true),
+            Ok(Some(fault)) => if_written(write_fault(output, fault), false),
+            Err(kind) => Err(Fault::Layout(kind)),
+        },
+        Command::Size => match size_of(segments, task.limits) {
+            Ok(size) => if_written(write_size(output, size), true),
+            Err(kind) => Err(Fault::Layout(kind)),
+        },
     }
 }
