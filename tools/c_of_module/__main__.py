@@ -84,7 +84,7 @@ class Module:
         if self.is_program:
             yield '#define _POSIX_C_SOURCE 200809L'
             yield from (f'#include <{it}.h>' for it in ('errno', 'fcntl', 'signal', 'unistd'))
-        has_vectors = re.search(r'\b(ldv|stv|any|mask16)', written)
+        has_vectors = re.search(r'\b(ldv|stv|any|mask)', written)
         for part in 'module', *['vectors'] * bool(has_vectors), 'runtime', *['program'] * self.is_program:
             yield '\n' + (pathlib.Path(__file__).parent / f'{part}.h').read_text(encoding='utf-8').rstrip('\n')
         yield from ['', '#include "capnp_canonical.h"'] * is_library

@@ -246,8 +246,8 @@ class Writer:
         to = it.type()
         it.end()
         text, reads = self.get(kind, value)
-        if kind == ('vector', 16, 'i1') and to == 'i16':
-            return self.define(name, to, f'mask16({text})', reads)
+        if kind in (('vector', 8, 'i1'), ('vector', 16, 'i1')) and to == f'i{kind[1]}':
+            return self.define(name, to, f'mask{kind[1]}({text})', reads)
         if kind == 'i64' and to == ('vector', 8, 'i8'):
             return self.define(name, to, f'v8_of({text})', reads)
         raise Unknown('cast')
@@ -326,6 +326,8 @@ class Writer:
             raise Unknown('a struct that is written')
         (text, _), (pointer, _) = self.get(kind, value), self.get(at, where)
         self.settle()
+        if kind == ('vector', 8, 'i1'):
+            return self.emit(f'st8({pointer}, mask8({text}));')
         if kind[0] == 'vector':
             return self.store_bytes(kind[1], pointer, text)
         return self.emit(f'st{suffix(kind)}({pointer}, {text});')

@@ -5,3 +5,4 @@ pub mod SliceLemmas
 pub mod UnitLemmas
 pub mod UnpackingLemmas
 pub mod WholeLemmas
+pub mod WordLemmas

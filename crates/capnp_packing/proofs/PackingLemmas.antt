@@ -1,12 +1,15 @@
 -- Packed bytes unpack to what was packed, also behind what was packed before.
-use Rattle.std.proofs.Common.{◌≡◌, ℕ, zero, suc, ◌+◌, ◌-◌, ◌*◌, ◌/◌, ◌%◌, ◌<◌, ◌≤◌, ◌≢◌, List, [], ◌∷◌, ◌++◌, replicate, length, take, drop, set, take-add, take_all, ap₂, Option, Some, None, refl, sym, ap, ◌∙◌, arith, add-one, append_assoc, append-nil, length-append, length-drop, length-set, length-take}
-use Rattle.std.specs.Prelude.{cond, if◌then◌else◌, nat_eq, slice_range}
+use Rattle.std.proofs.Common.{◌≡◌, ℕ, zero, suc, ◌+◌, ◌-◌, ◌*◌, ◌/◌, ◌%◌, ◌^◌, ◌<◌, ◌≤◌, ◌≢◌, List, [], ◌∷◌, ◌++◌, replicate, map, length, take, drop, set, take-add, take_all, ap₂, Option, Some, None, refl, sym, ap, ◌∙◌, arith, add-one, append_assoc, append-nil, length-append, length-drop, length-set, length-take}
+use Rattle.std.specs.Prelude.{cond, if◌then◌else◌, nat_eq, slice_range, Bool, not}
 use Rattle.std.specs.Io.KnownBytes.{Appends, Keeps, append_known}
 use Rattle.std.proofs.KnownBytes.{Keeps-refl, Keeps-trans, append_known-moved}
 use Rattle.std.proofs.Math.Dec.{eqb-suc-zero}
 use Rattle.std.proofs.lemmas.Bool.{ne_eqb}
 use Rattle.std.proofs.lemmas.List.{nil_from_length, replicate-append-replicate, take_more_set, take_rest}
+use Rattle.std.proofs.lemmas.Simd.{bitmask_splat}
 use borrow.Rule.Slice.PartMut.{put_mid, post_of}
+use lib.Lanes.{mask_l, top, zip2}
+use mir.Syntax.{w8}
 use Rattle.capnp_packing.specs.Packing.{IsWhole, Packs, is_tag, lead, nonzero_bytes, place_at_end, place_within, tag_of_word, unpacked_bytes, unpacked_known}
 use Rattle.capnp_packing.proofs.UnitLemmas.{length_front, parts_of, written}
 use Rattle.capnp_packing.proofs.UnpackingLemmas.{
@@ -114,25 +117,20 @@ keeps_unpacked (Some xs) (Some ys) h = rw h (Keeps-refl (unpacked_known (Some xs
 
 -- ---- the tag
 
-abbrev bound : ℕ → ℕ
-bound zero = 1
-bound (suc n) = 2 * bound n
+abbrev differs : ℕ → ℕ → Bool
+differs a b = not (nat_eq a b)
 
-bound_some : (n : ℕ) → 1 ≤ bound n
-bound_some zero = omega arith
-bound_some (suc n) = omega (arith, bound_some n)
+-- a bit for each byte that isn't zero
+tag_bits : (bs : List ℕ) → mask_l (map (λ b. differs b 0) bs) ≡ tag_of_word bs
+tag_bits [] = refl
+tag_bits (zero ∷ bs) = ap (λ n. 0 + 2 * n) (tag_bits bs)
+tag_bits (suc b ∷ bs) = rw (eqb-suc-zero b) (ap (λ n. 1 + 2 * n) (tag_bits bs))
 
-bit_small : (b : ℕ) → cond (nat_eq b 0) 0 1 ≤ 1
-bit_small zero = omega arith
-bit_small (suc b) = rw (eqb-suc-zero b) (omega arith)
-
-tag_below : (bs : List ℕ) (n : ℕ) → length bs ≤ n → tag_of_word bs < bound n
-tag_below [] n h = omega (arith, bound_some n)
-tag_below (b ∷ bs) zero h = absurd (omega (arith, h))
-tag_below (b ∷ bs) (suc n) h = omega (arith, bit_small b, tag_below bs n (omega (arith, h)))
-
-pub tag_of_seven : (bs : List ℕ) → length bs ≤ 7 → tag_of_word bs < 128
-tag_of_seven bs h = tag_below bs 7 h
+pub tag_compared : (word : List ℕ) → length word ≡ 8
+    → mask_l (map (top 7) (zip2 (λ a b. cond (differs a b) 255 0) (take 8 word) (replicate 8 0))) % 2 ^ 64 ≡ tag_of_word word
+tag_compared word long =
+    let all : take 8 word ≡ word = take_all 8 word (omega (arith, long)) in
+    bitmask_splat w8 differs (take 8 word) 8 0 (ap length all ∙ long) (omega arith) ∙ tag_bits (take 8 word) ∙ ap tag_of_word all
 
 tag_zero : (bs : List ℕ) → tag_of_word bs ≡ 0 → bs ≡ replicate (length bs) 0
 tag_zero [] h = refl
@@ -201,6 +199,13 @@ full_packed to from word run n k room l is few there =
     let bytes : take (8 + 8 * n) from ≡ word ++ run =
     take-add 8 (8 * n) from ∙ ap₂ (λ (us vs : List ℕ). us ++ vs) (sym is) (sym there) in
     rw (packed, bytes) (gives_full word run n long many)
+
+pub full_alone : (to from word : List ℕ) (n : ℕ) → n ≡ 0 → 10 ≤ length to → 8 ≤ length from → word ≡ take 8 from
+    → Packs (take 10 (set (put_mid 1 8 (set to 0 255) word) 9 n)) (take 8 from)
+full_alone to from word n none room l is =
+    let long : length word ≡ 8 = ap length is ∙ length_front 8 from l in
+    let bytes : take 8 from ≡ word ++ [] = sym is ∙ sym (append-nil word) in
+    rw (ten_put to word n room long, bytes) (gives_full word [] n long (omega (arith, none)))
 
 pub word_packed : (to from new : List ℕ) (n t k : ℕ) → 1 ≤ length to → 8 ≤ length from → t ≡ tag_of_word (take 8 from) → t ≢ 0
     → t ≢ 255 → n ≤ length new → take n new ≡ nonzero_bytes (take 8 from)

@@ -1,8 +1,8 @@
 -- What a tag and the bytes behind it give, where they are parts of slices.
-use Rattle.std.proofs.Common.{◌≡◌, ℕ, suc, ◌+◌, ◌-◌, ◌*◌, ◌/◌, ◌%◌, ◌<◌, ◌≤◌, ◌≢◌, List, [], ◌∷◌, ◌++◌, replicate, length, take, drop, set, take-add, take_at, drop_at, take-take, drop-drop, drop-cons, get_or-drop, take_all, ap₂, Option, Some, None, sym, ap, ◌∙◌, arith, append_assoc, append-nil, length-append, length-take, length-drop}
+use Rattle.std.proofs.Common.{◌≡◌, ℕ, suc, ◌+◌, ◌-◌, ◌*◌, ◌<◌, ◌≤◌, ◌≢◌, List, [], ◌∷◌, ◌++◌, replicate, length, take, drop, take-add, take_at, drop_at, take-take, drop-drop, drop-cons, ap₂, Option, Some, None, sym, ap, ◌∙◌, arith, append_assoc, append-nil, length-append, length-take, length-drop}
 use Rattle.std.specs.Prelude.{slice_index, slice_range}
 use Rattle.std.specs.Io.KnownBytes.{Consumes, prepend_known}
-use Rattle.std.proofs.lemmas.List.{length-replicate, take-append-le, take_more_set, take_rest}
+use Rattle.std.proofs.lemmas.List.{length-replicate, take-append-le, take_rest}
 use Rattle.std.proofs.lemmas.Slice.{take-put_mid_below}
 use Rattle.std.proofs.KnownBytes.{prepend_known-nil}
 use borrow.Rule.Slice.PartMut.{put_mid, post_of}
@@ -74,6 +74,10 @@ pub zeros_unit : (more n : ℕ) (new rest to : List ℕ) → n ≤ length to →
     → new ≡ replicate (length (take n to)) 0
     → GivesAndLeads Tag (0 ∷ more ∷ []) (take n (new ++ rest)) (8 + 8 * more - n) Tag
 zeros_unit more n new rest to l m is = leads_zeros more n _ m (zeros_written n new rest to l is)
+
+pub zero_unit : (more : ℕ) (new rest to : List ℕ) → more ≡ 0 → 8 ≤ length to → new ≡ replicate (length (take 8 to)) 0
+    → GivesAndLeads Tag (0 ∷ more ∷ []) (take 8 (new ++ rest)) 0 Tag
+zero_unit more new rest to none l is = rw none (zeros_unit 0 8 new rest to l (omega arith) is)
 
 pub zeros_due : (place : Place) (n due : ℕ) (known : Option (List ℕ)) (new rest to : List ℕ) → n ≤ length to → n ≤ due
     → new ≡ replicate (length (take n to)) 0 → Unpacks due place known (due - n) place known (take n (new ++ rest))
@@ -151,49 +155,6 @@ word_unit packed new rest n l some few many most long is =
     let word = take_at new rest 8 long ∙ is in
     rw (front, word, many)
     (leads_word (slice_index packed 0) (take 8 (drop 1 packed)) some few (omega (arith, word_long packed l, many, most)))
-
-expanded_more : (i bits at : ℕ) (packed : List ℕ) → i < 8 → expanded (8 - i) bits (drop at packed)
-    ≡ slice_index packed at * (bits % 2) ∷ expanded (8 - (i + 1)) (bits / 2) (drop (at + bits % 2) packed)
-unfolding expanded
-expanded_more i bits at packed h =
-    let e : 8 - i ≡ suc (8 - (i + 1)) = omega (arith, h) in
-    let none : at + 0 ≡ at = omega arith in
-    ap (λ n. expanded n bits (drop at packed)) e
-    ∙ ap₂ (λ (x : ℕ) (l : List ℕ). x * (bits % 2) ∷ expanded (8 - (i + 1)) (bits / 2) l)
-    (get_or-drop at packed 0 0 ∙ ap (λ k. slice_index packed k) none) (drop-drop (bits % 2) at packed)
-
-pub byte_put : (i bits at v : ℕ) (to packed all : List ℕ) → i < 8 → i < length to → v ≡ slice_index packed at * (bits % 2)
-    → take i to ++ expanded (8 - i) bits (drop at packed) ≡ all
-    → take (i + 1) (set to i v) ++ expanded (8 - (i + 1)) (bits / 2) (drop (at + bits % 2) packed) ≡ all
-byte_put i bits at v to packed all h room is before =
-    ap (λ l. l ++ expanded (8 - (i + 1)) (bits / 2) (drop (at + bits % 2) packed)) (take_more_set to i v room)
-    ∙ append_assoc (take i to) (v ∷ []) _
-    ∙ ap (λ x. take i to ++ x ∷ expanded (8 - (i + 1)) (bits / 2) (drop (at + bits % 2) packed)) is
-    ∙ ap (λ l. take i to ++ l) (sym (expanded_more i bits at packed h))
-    ∙ before
-
-pub bits_put : (i bits at all : ℕ) → i < 8 → at + ones (8 - i) bits ≡ all
-    → at + bits % 2 + ones (8 - (i + 1)) (bits / 2) ≡ all
-unfolding ones
-bits_put i bits at all h before =
-    let e : 8 - i ≡ suc (8 - (i + 1)) = omega (arith, h) in
-    let more = ap (λ n. ones n bits) e in
-    omega (arith, before, more)
-
-pub bytes_put : (i bits : ℕ) (to packed all : List ℕ) → 8 ≤ i → length to ≡ 8
-    → take i to ++ expanded (8 - i) bits packed ≡ all → to ≡ all
-unfolding expanded
-bytes_put i bits to packed all h long before =
-    let e : 8 - i ≡ 0 = omega (arith, h) in
-    sym (take_all i to (omega (arith, long, h))) ∙ sym (append-nil (take i to))
-    ∙ ap (λ n. take i to ++ expanded n bits packed) (sym e) ∙ before
-
-pub all_put : (i bits at all : ℕ) → 8 ≤ i → at + ones (8 - i) bits ≡ all → at ≡ all
-unfolding ones
-all_put i bits at all h before =
-    let e : 8 - i ≡ 0 = omega (arith, h) in
-    let more = ap (λ n. ones n bits) e in
-    omega (arith, before, more)
 
 -- ---- one behind another
 

@@ -1,5 +1,6 @@
 //! Words unpacked from packed bytes in memory ("Packing").
 ghost use Rattle.std.specs.Prelude.{◌≡◌, ◌≢◌, ◌≤◌, ◌<◌, ◌+◌, ◌∷◌, [], length, take, drop, slice_index, replicate};
+ghost use Rattle.std.specs.Int.{to_le_bytes, w32};
 ghost use Rattle.capnp_packing.specs.Packing.{GivesAndLeads, expanded, ones};
 ghost use Rattle.capnp_packing.specs.Words.{CanUnpack, UnpacksFront};
 
@@ -22,12 +23,52 @@ pub(super) struct Progress {
 }
 
 /// Makes all bytes zero.
+#[inline(always)]
 pub(super) fn put_zeros(to: &mut [u8])
     ensures { to.new ≡ replicate (length to.old) 0 }
 {
     for byte in to.iter_mut() {
         *byte = 0;
     }
+}
+
+/// What the next packed bytes are worth in a number of four bytes, by the four bits of a tag that say of these.
+static WORTHS: [[u32; 4]; 16] = [
+    [0, 0, 0, 0],
+    [1, 0, 0, 0],
+    [1 << 8, 0, 0, 0],
+    [1, 1 << 8, 0, 0],
+    [1 << 16, 0, 0, 0],
+    [1, 1 << 16, 0, 0],
+    [1 << 8, 1 << 16, 0, 0],
+    [1, 1 << 8, 1 << 16, 0],
+    [1 << 24, 0, 0, 0],
+    [1, 1 << 24, 0, 0],
+    [1 << 8, 1 << 24, 0, 0],
+    [1, 1 << 8, 1 << 24, 0],
+    [1 << 16, 1 << 24, 0, 0],
+    [1, 1 << 16, 1 << 24, 0],
+    [1 << 8, 1 << 16, 1 << 24, 0],
+    [1, 1 << 8, 1 << 16, 1 << 24],
+];
+
+/// Four bytes of a word as a number, the first one the lowest: the next packed one where its bit is set, and else
+/// zero.
+#[inline(always)]
+fn half_word(bits: u8, packed: &[u8]) -> u32
+    requires bits { bits < 16 }
+    requires packed { 4 ≤ length packed.now }
+    ensures { to_le_bytes w32 result ≡ expanded 4 bits packed.now }
+{
+    let worths = &WORTHS[bits as usize];
+    let first = u32::from(packed[0]).wrapping_mul(worths[0]);
+    let second = u32::from(packed[1]).wrapping_mul(worths[1]);
+    let third = u32::from(packed[2]).wrapping_mul(worths[2]);
+    let last = u32::from(packed[3]).wrapping_mul(worths[3]);
+    first
+        .wrapping_add(second)
+        .wrapping_add(third)
+        .wrapping_add(last)
 }
 
 /// Gives the bytes of a word: the next packed one where its bit is set, and else zero. How many
@@ -40,15 +81,10 @@ fn put_word(tag: u8, packed: &[u8], to: &mut [u8]) -> usize
     ensures taken { result ≡ ones 8 tag }
     ensures within { result ≤ 8 }
 {
-    let mut bits = tag;
-    let mut at = 0;
-    for i in 0..8 {
-        let bit = bits % 2;
-        to[i] = packed[at] * bit;
-        at += bit as usize;
-        bits /= 2;
-    }
-    at
+    let behind = (tag % 16).count_ones() as usize;
+    to[..4].copy_from_slice(&half_word(tag % 16, packed).to_le_bytes());
+    to[4..].copy_from_slice(&half_word(tag / 16, &packed[behind..]).to_le_bytes());
+    tag.count_ones() as usize
 }
 
 /// Unpacks a word of zero and so many words of zero behind it: as many as there is room for.
@@ -61,6 +97,15 @@ fn unpack_zeros(more: u8, to: &mut [u8]) -> Progress
     ensures leads { GivesAndLeads Place.Tag (0 ∷ more ∷ []) (take result.given to.new)
         result.zeros result.place }
 {
+    if more == 0 {
+        put_zeros(&mut to[..8]);
+        return Progress {
+            taken: 2,
+            given: 8,
+            zeros: 0,
+            place: Place::Tag,
+        };
+    }
     let due = 8 + 8 * more as usize;
     let given = to.len().min(due);
     put_zeros(&mut to[..given]);

@@ -3,6 +3,8 @@ ghost use Rattle.std.specs.Prelude.{◌≡◌, ◌≤◌, ◌<◌, ◌+◌, ◌*
 ghost use Rattle.capnp_packing.specs.Packing.{nonzero_bytes, tag_of_word};
 ghost use Rattle.capnp_packing.specs.Words.{CanPack, PacksFront};
 
+use std::simd::prelude::*;
+
 /// The most packed bytes that are made at once: a tag, a word, a number, and so many words as it
 /// can tell.
 pub(super) const MOST_BYTES: usize = 2050;
@@ -22,13 +24,7 @@ fn tag_of(word: &[u8]) -> u8
     requires { length word.now ≡ 8 }
     ensures { result ≡ tag_of_word word.now }
 {
-    let mut bits = 0;
-    let mut i = 8;
-    while i > 0 {
-        i -= 1;
-        bits = 2 * bits + u8::from(word[i] != 0);
-    }
-    bits
+    u8x8::from_slice(word).simd_ne(u8x8::splat(0)).to_bitmask() as u8
 }
 
 /// How many words of zero there are at the front, as far as a byte can tell.
@@ -47,11 +43,12 @@ fn zero_words(bytes: &[u8]) -> u8
     n
 }
 
-/// How many bytes of a word aren't zero.
+/// Whether at most one byte of a word is zero: the highest bits of those that are tell it.
 #[inline(always)]
-fn count_of(word: u64) -> u32 {
+fn is_full(word: u64) -> bool {
     const LOW: u64 = 0x7f7f_7f7f_7f7f_7f7f;
-    (((word & LOW).wrapping_add(LOW) | word) & !LOW).count_ones()
+    let zeros = !((word & LOW).wrapping_add(LOW) | word | LOW);
+    zeros & zeros.wrapping_sub(1) == 0
 }
 
 /// How many words at the front have at most one byte of zero, as far as a byte can tell.
@@ -60,7 +57,7 @@ fn full_words(bytes: &[u8]) -> u8
 {
     let mut n = 0;
     for word in bytes.as_chunks::<8>().0 {
-        if n == 255 || count_of(u64::from_le_bytes(*word)) < 7 {
+        if n == 255 || !is_full(u64::from_le_bytes(*word)) {
             break;
         }
         n += 1;
@@ -113,6 +110,12 @@ fn pack_full(to: &mut [u8], from: &[u8]) -> Packed
     to[0] = 255;
     to[1..9].copy_from_slice(&from[..8]);
     to[9] = n;
+    if n == 0 {
+        return Packed {
+            taken: 8,
+            given: 10,
+        };
+    }
     to[10..10 + more].copy_from_slice(&from[8..8 + more]);
     Packed {
         taken: 8 + more,

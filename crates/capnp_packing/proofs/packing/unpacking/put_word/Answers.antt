@@ -1,16 +1,12 @@
-use Rattle.std.proofs.Common.{refl, rules}
-use Rattle.capnp_packing.proofs.UnitLemmas.{all_put, bits_put, byte_put, bytes_put}
+use Rattle.std.proofs.Common.{◌∙◌, refl}
+use Rattle.capnp_packing.proofs.WordLemmas.{behind_long, counted_word, word_put}
 use Rattle.capnp_packing.proofs.packing.unpacking.put_word.Goals as goal
 
-pub loop-i-preserved : goal.loop-i-preserved
-loop-i-preserved c = record {
-  bytes = byte_put c.loop-i.i c.loop-i.bits c.loop-i.at _ c.loop-i.to c.args.packed.now _ c.loop-i-test.true (search rules) refl c.loop-i.invariant.bytes;
-  taken = bits_put c.loop-i.i c.loop-i.bits c.loop-i.at _ c.loop-i-test.true c.loop-i.invariant.taken;
-  within = search rules;
-}
+pub half_word-requires-2-clause-packed : goal.half_word-requires-2-clause-packed
+half_word-requires-2-clause-packed c = behind_long c.args.tag c.args.packed.now c.requires.packed
 
 pub returns-clause-bytes : goal.returns-clause-bytes
-returns-clause-bytes c = bytes_put c.loop-i.i c.loop-i.bits c.loop-i.to _ _ c.loop-i-test.false (search rules) c.loop-i.invariant.bytes
+returns-clause-bytes c = word_put c.args.tag _ c.args.packed.now c.args.to.now c.copy_from_slice.new.self c.copy_from_slice-2.new.self c.requires.room refl (c.copy_from_slice.ensures.after ∙ c.to_le_bytes.ensures ∙ c.half_word.ensures) (c.copy_from_slice-2.ensures.after ∙ c.to_le_bytes-2.ensures ∙ c.half_word-2.ensures)
 
 pub returns-clause-taken : goal.returns-clause-taken
-returns-clause-taken c = all_put c.loop-i.i c.loop-i.bits c.loop-i.at _ c.loop-i-test.false c.loop-i.invariant.taken
+returns-clause-taken c = counted_word c.args.tag c.ranges.tag.fits
