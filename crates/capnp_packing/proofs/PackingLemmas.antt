@@ -1,5 +1,5 @@
 -- Packed bytes unpack to what was packed, also behind what was packed before.
-use Rattle.std.proofs.Common.{◌≡◌, ℕ, zero, suc, ◌+◌, ◌-◌, ◌*◌, ◌/◌, ◌%◌, ◌^◌, ◌<◌, ◌≤◌, ◌≢◌, List, [], ◌∷◌, ◌++◌, replicate, map, length, take, drop, set, take-add, take_all, ap₂, Option, Some, None, refl, sym, ap, ◌∙◌, arith, add-one, append_assoc, append-nil, length-append, length-drop, length-set, length-take}
+use Rattle.std.proofs.Common.{◌≡◌, ℕ, zero, suc, ◌+◌, ◌-◌, ◌*◌, ◌/◌, ◌%◌, ◌^◌, ◌<◌, ◌≤◌, ◌≢◌, List, [], ◌∷◌, ◌++◌, replicate, map, length, take, drop, set, take-add, take-append-drop, take_all, ap₂, Option, Some, None, refl, sym, ap, ◌∙◌, arith, add-one, append_assoc, append-nil, length-append, length-drop, length-set, length-take}
 use Rattle.std.specs.Prelude.{cond, if◌then◌else◌, nat_eq, slice_range, Bool, not}
 use Rattle.std.specs.Io.KnownBytes.{Appends, Keeps, append_known}
 use Rattle.std.proofs.KnownBytes.{Keeps-refl, Keeps-trans, append_known-moved}
@@ -223,6 +223,43 @@ pub all_kept : (to word : List ℕ) (i n : ℕ) → length word ≤ i → take n
 all_kept to word i n h before =
     let none : drop i word ≡ [] = nil_from_length (drop i word) (omega (arith, length-drop i word, h)) in
     sym (append-nil (take n to)) ∙ ap (λ l. take n to ++ nonzero_bytes l) (sym none) ∙ before
+
+nonzero_bytes-append : (xs ys : List ℕ) → nonzero_bytes (xs ++ ys) ≡ nonzero_bytes xs ++ nonzero_bytes ys
+nonzero_bytes-append [] ys = refl
+nonzero_bytes-append (zero ∷ xs) ys = nonzero_bytes-append xs ys
+nonzero_bytes-append (suc b ∷ xs) ys = rw (eqb-suc-zero b) (ap (λ l. suc b ∷ l) (nonzero_bytes-append xs ys))
+
+none_kept : (bs : List ℕ) → tag_of_word bs ≡ 0 → nonzero_bytes bs ≡ []
+none_kept [] h = refl
+none_kept (zero ∷ bs) h = none_kept bs (omega (arith, h))
+none_kept (suc b ∷ bs) h = let e = rw (eqb-suc-zero b) at h in absurd (omega (arith, e))
+
+-- a tag below 32 says that none is packed behind the fifth byte
+none_behind : (word : List ℕ) → 5 ≤ length word → tag_of_word word < 32 → tag_of_word (drop 5 word) ≡ 0
+none_behind [] l h = absurd (omega (arith, l))
+none_behind (a ∷ []) l h = absurd (omega (arith, l))
+none_behind (a ∷ b ∷ []) l h = absurd (omega (arith, l))
+none_behind (a ∷ b ∷ c ∷ []) l h = absurd (omega (arith, l))
+none_behind (a ∷ b ∷ c ∷ d ∷ []) l h = absurd (omega (arith, l))
+none_behind (a ∷ b ∷ c ∷ d ∷ e ∷ rest) l h = omega (arith, h)
+
+kept_parts : (word : List ℕ) → nonzero_bytes word ≡ nonzero_bytes (take 5 word) ++ nonzero_bytes (drop 5 word)
+kept_parts word = ap nonzero_bytes (sym (take-append-drop 5 word)) ∙ nonzero_bytes-append (take 5 word) (drop 5 word)
+
+pub kept_front : (to word : List ℕ) (n t : ℕ) → 5 ≤ length word → t ≡ tag_of_word word → t < 32
+    → take n to ≡ nonzero_bytes (take 5 word) → take n to ≡ nonzero_bytes word
+kept_front to word n t l is few kept =
+    let none = none_kept (drop 5 word) (none_behind word l (omega (arith, is, few))) in
+    kept ∙ sym (append-nil (nonzero_bytes (take 5 word)))
+    ∙ ap (λ l. nonzero_bytes (take 5 word) ++ l) (sym none) ∙ sym (kept_parts word)
+
+pub kept_both : (to new word : List ℕ) (n m k : ℕ) → n ≤ length to → m ≤ length new
+    → take n to ≡ nonzero_bytes (take 5 word) → take m new ≡ nonzero_bytes (take (length word - 5) (drop 5 word))
+    → take (n + m) (put_mid n k to new) ≡ nonzero_bytes word
+kept_both to new word n m k l inside front behind =
+    written n m k to new l inside
+    ∙ ap₂ (λ (us vs : List ℕ). us ++ vs) front (behind ∙ ap nonzero_bytes (take_rest word 5))
+    ∙ sym (kept_parts word)
 
 -- ---- one behind another
 

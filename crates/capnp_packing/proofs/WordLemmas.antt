@@ -82,6 +82,20 @@ half_is bits a b c d packed few l fits first second third last =
     rw (first, second, third, last) (le_bytes_4 (expanded 4 bits packed) _ (length-expanded 4 bits packed)
     (expanded_small 4 bits packed small) (bytes_is bits packed few l small))
 
+last_small : (bits x : ℕ) (packed : List ℕ) → bits < 2 → slice_index packed 0 < 256 → x ≡ slice_index packed 0
+    → x * bits % 2 ^ 32 ≡ from_le_bytes w32 (expanded 4 bits packed)
+unfolding expanded
+last_small zero x packed few small is = omega (arith, is)
+last_small (suc zero) x packed few small is = omega (arith, small, is)
+last_small (suc (suc bits)) x packed few small is = absurd (omega (arith, few))
+
+pub last_is : (bits x b : ℕ) (packed : List ℕ) → bits < 2 → ((i : ℕ) → Fits w8 (slice_index packed i))
+    → x ≡ slice_index packed 0 → b ≡ bits → to_le_bytes w32 (x * b % 2 ^ 32) ≡ expanded 4 bits packed
+last_is bits x b packed few fits is same =
+    let small : (i : ℕ) → slice_index packed i < 256 = λ i. (fits i).fits in
+    rw same (le_bytes_4 (expanded 4 bits packed) _ (length-expanded 4 bits packed) (expanded_small 4 bits packed small)
+    (last_small bits x packed few (small 0) is))
+
 -- ---- how many are packed
 
 abbrev bound : ℕ → ℕ

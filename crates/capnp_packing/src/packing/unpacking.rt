@@ -71,6 +71,20 @@ fn half_word(bits: u8, packed: &[u8]) -> u32
         .wrapping_add(last)
 }
 
+/// The last four bytes of a word as a number, as `half_word` says of them. In most words all but the first are zero,
+/// as in a small number or the pointer to a short text.
+#[inline(always)]
+fn last_half(bits: u8, packed: &[u8]) -> u32
+    requires bits { bits < 16 }
+    requires packed { 4 ≤ length packed.now }
+    ensures { to_le_bytes w32 result ≡ expanded 4 bits packed.now }
+{
+    if bits < 2 {
+        return u32::from(packed[0]).wrapping_mul(u32::from(bits));
+    }
+    half_word(bits, packed)
+}
+
 /// Gives the bytes of a word: the next packed one where its bit is set, and else zero. How many
 /// were packed.
 #[inline(always)]
@@ -83,7 +97,7 @@ fn put_word(tag: u8, packed: &[u8], to: &mut [u8]) -> usize
 {
     let behind = (tag % 16).count_ones() as usize;
     to[..4].copy_from_slice(&half_word(tag % 16, packed).to_le_bytes());
-    to[4..].copy_from_slice(&half_word(tag / 16, &packed[behind..]).to_le_bytes());
+    to[4..].copy_from_slice(&last_half(tag / 16, &packed[behind..]).to_le_bytes());
     tag.count_ones() as usize
 }
 

@@ -65,22 +65,38 @@ fn full_words(bytes: &[u8]) -> u8
     n
 }
 
-/// Puts the bytes of a word that aren't zero to the front; how many these are.
+/// Puts the bytes that aren't zero to the front; how many these are.
 #[inline(always)]
-fn put_kept(to: &mut [u8], word: &[u8]) -> usize
+fn put_kept(to: &mut [u8], bytes: &[u8]) -> usize
+    requires { length bytes.now ≤ length to.old }
+    ensures kept { take result to.new ≡ nonzero_bytes bytes.now }
+    ensures within { result ≤ length bytes.now }
+{
+    let mut n = 0;
+    for i in 0..bytes.len() {
+        to[n] = bytes[i];
+        if bytes[i] != 0 {
+            n += 1;
+        }
+    }
+    n
+}
+
+/// Puts the bytes of a word that aren't zero to the front; how many these are. In most words the last three are zero,
+/// as in a small number or the pointer to a short text.
+#[inline(always)]
+fn put_kept_of(tag: u8, to: &mut [u8], word: &[u8]) -> usize
+    requires tag { tag ≡ tag_of_word word.now }
     requires room { length to.old ≡ 8 }
     requires word { length word.now ≡ 8 }
     ensures kept { take result to.new ≡ nonzero_bytes word.now }
     ensures within { result ≤ 8 }
 {
-    let mut n = 0;
-    for i in 0..8 {
-        to[n] = word[i];
-        if word[i] != 0 {
-            n += 1;
-        }
+    let n = put_kept(to, &word[..5]);
+    if tag < 32 {
+        return n;
     }
-    n
+    n + put_kept(&mut to[n..], &word[5..])
 }
 
 /// Packs a word of zero and those behind it.
@@ -137,7 +153,7 @@ fn pack_unit(to: &mut [u8], from: &[u8]) -> Packed
         return pack_full(to, from);
     }
     to[0] = tag;
-    let n = put_kept(&mut to[1..9], &from[..8]);
+    let n = put_kept_of(tag, &mut to[1..9], &from[..8]);
     Packed {
         taken: 8,
         given: 1 + n,
