@@ -1,5 +1,5 @@
 -- Texts and data that are found in a message lie in it.
-use Rattle.std.proofs.Common.{◌≡◌, ℕ, ◌+◌, ◌-◌, ◌<◌, ◌≤◌, Bool, true, false, cond, nat_eq, length, Option, Some, None, IfSome, IsNone, Result, Ok, Err, refl, sym, ap, ◌∙◌, subst, arith}
+use Rattle.std.proofs.Common.{◌≡◌, ℕ, ◌+◌, ◌-◌, ◌<◌, ◌≤◌, Bool, true, false, cond, nat_eq, length, Option, Some, None, IfSome, IfOk, Result, Ok, Err, refl, ap, subst, arith}
 use Rattle.std.proofs.lemmas.Bool.{eqb-true}
 use Rattle.capnp_words.specs.declared.error.ErrorKind.{ErrorKind}
 use Rattle.capnp_words.specs.declared.error.ErrorKind.TheVariants.{ExistingListPointerIsNotByteSized, TextBlobMissingNULTerminator}
@@ -66,8 +66,14 @@ text_inside S s p t b there stored e = let m = stored.means in meant m.0 m.1 t m
     meant n c (Pointers ts) m e = cc
     meant n c (Structs d q es) m e = cc
 
--- bytes that were found are what the call gives
-pub bytes_found : (S : Segments) (s : ℕ) (q : Found) (found : Option ExistingBytes) (r : Result ExistingBytes ErrorKind) → q ≡ Ok found → ((b : ExistingBytes) → q ≡ Ok (Some b) → BytesLieIn S b) → IfSome found (λ b. BytesLieIn S b → r ≡ Ok b) →
-    (IsNone found → r ≡ Ok (record { segment = s; start = 0; length = 0 })) → r ≡ bytes_given s q
-bytes_found S s q (Some b) r e inside some none = some (inside b e) ∙ sym (ap (bytes_given s) e)
-bytes_found S s q None r e inside some none = none refl ∙ sym (ap (bytes_given s) e)
+-- bytes that are found lie in the message
+all_inside : (S : Segments) (q : Found) → ((b : ExistingBytes) → q ≡ Ok (Some b) → BytesLieIn S b) → IfOk q (λ there. IfSome there (BytesLieIn S))
+all_inside S (Ok (Some b)) inside = inside b refl
+all_inside S (Ok None) inside = tt
+all_inside S (Err k) inside = tt
+
+-- and then they are what the call gives
+pub found_given : (S : Segments) (s : ℕ) (q found : Found) (r : Result ExistingBytes ErrorKind) → found ≡ q → ((b : ExistingBytes) → q ≡ Ok (Some b) → BytesLieIn S b) →
+    (IfOk found (λ there. IfSome there (BytesLieIn S)) → r ≡ bytes_given s found) → r ≡ bytes_given s q
+found_given S s q found r same inside given =
+    subst (λ (f : Found). IfOk f (λ there. IfSome there (BytesLieIn S)) → r ≡ bytes_given s f) same given (all_inside S q inside)

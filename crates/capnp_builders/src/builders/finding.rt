@@ -20,12 +20,12 @@ ghost use Rattle.capnp_builders.specs.Places.{IsAligned};
 
 use super::PointerBuilder;
 use super::defaults::{put_blob_default, put_default};
-use super::found::{found_list, look_for_data, look_for_list, look_for_text};
+use super::found::{found_bytes, found_list, look_for_list};
 use super::list_builder::ListBuilder;
 use super::places::struct_place;
 use super::struct_builder::StructBuilder;
 use capnp_arena_traits::arena::BuilderArena;
-use capnp_contents::existing::ExistingBytes;
+use capnp_contents::existing::{self, ExistingBytes};
 use capnp_contents::lent;
 use capnp_readers::readers::{ListPlace, StructPlace};
 use capnp_widening::opening::{open_struct, open_struct_list};
@@ -245,7 +245,8 @@ impl<'a, A: BuilderArena> PointerBuilder<'a, A> {
         ensures stays { StaysThere A.view self.old self.new }
     {
         put_blob_default(&mut *self.arena, self.segment, self.at, default)?;
-        look_for_data(&*self.arena, self.segment, self.at)
+        let found = existing::get_data(&*self.arena, self.segment, self.at);
+        found_bytes(&*self.arena, self.segment, found)
     }
 
     /// The data that the pointer leads to, lent to be written in place ("Lists"). A null pointer becomes the
@@ -261,12 +262,7 @@ impl<'a, A: BuilderArena> PointerBuilder<'a, A> {
             (LooksUp A.view (FindsBytes data_in default.entry) self.entry) result }
     {
         let bytes = self.find_data(default)?;
-        let PointerBuilder {
-            arena,
-            segment: _,
-            at: _,
-        } = self;
-        Ok(lent::bytes_mut(arena, bytes))
+        Ok(self.into_bytes(bytes))
     }
 
     /// Where the text is that the pointer leads to, as `get_text` looks for it. With both outcomes, it is
@@ -279,7 +275,8 @@ impl<'a, A: BuilderArena> PointerBuilder<'a, A> {
         ensures stays { StaysThere A.view self.old self.new }
     {
         put_blob_default(&mut *self.arena, self.segment, self.at, default)?;
-        look_for_text(&*self.arena, self.segment, self.at)
+        let found = existing::get_text(&*self.arena, self.segment, self.at);
+        found_bytes(&*self.arena, self.segment, found)
     }
 
     /// The text that the pointer leads to, without the zero byte behind it, lent to be written in place
@@ -295,11 +292,20 @@ impl<'a, A: BuilderArena> PointerBuilder<'a, A> {
             (LooksUp A.view (FindsBytes text_in default.entry) self.entry) result }
     {
         let bytes = self.find_text(default)?;
+        Ok(self.into_bytes(bytes))
+    }
+
+    /// Lends bytes of the message, to be written in place, for as long as its arena is borrowed.
+    #[inline(always)]
+    fn into_bytes(self, bytes: ExistingBytes) -> &'a mut [u8]
+        requires { BytesLieIn (A.view self.arena.now).words bytes }
+        ensures { LendsBytes A.segments self.entry.arena.now bytes result }
+    {
         let PointerBuilder {
             arena,
             segment: _,
             at: _,
         } = self;
-        Ok(lent::bytes_mut(arena, bytes))
+        lent::bytes_mut(arena, bytes)
     }
 }

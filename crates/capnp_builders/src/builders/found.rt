@@ -1,9 +1,9 @@
 //! What is found where a list, a text or data is looked for ("Lists").
-ghost use Rattle.std.specs.Prelude.{◌≡◌, ◌<◌, ◌≤◌, true, length, Ok, IsNone, IfSome, IfOk, IfErr};
+ghost use Rattle.std.specs.Prelude.{◌≡◌, ◌<◌, ◌≤◌, true, length, Ok, IfSome, IfOk, IfErr};
 ghost use Rattle.capnp_format.specs.Forest.{target};
 ghost use Rattle.capnp_format.specs.Segments.{IsPlace};
 ghost use Rattle.capnp_format.specs.Tree.{Tree};
-ghost use Rattle.capnp_contents.specs.Existing.{BytesLieIn, is_unfound, list_in, data_in, text_in};
+ghost use Rattle.capnp_contents.specs.Existing.{BytesLieIn, is_unfound, list_in};
 ghost use Rattle.capnp_making.specs.Stored.{IsStored};
 ghost use Rattle.capnp_words.specs.Sizes.{size_number};
 ghost use Rattle.capnp_readers.specs.Readers.{IsListPlace};
@@ -53,55 +53,24 @@ pub(crate) fn look_for_list<A: BuilderArena>(
     Ok(found_list(id, found))
 }
 
-/// The data that the pointer at a place leads to; nothing is changed.
-pub(crate) fn look_for_data<A: BuilderArena>(
-    arena: &A,
-    id: u32,
-    at: u32,
-) -> Result<ExistingBytes, ErrorKind>
-    requires { IsPlace (A.view arena.now).words id at }
-    ensures found { (t : Tree) → IsStored (A.view arena.now).words id at t
-        → result ≡ bytes_given id (data_in (target (A.view arena.now).words id at) t) }
-    ensures inside { IfOk result (BytesLieIn (A.view arena.now).words) }
-    ensures named { IfErr result (λ k. is_unfound k ≡ true) }
-{
-    let found = existing::get_data(arena, id, at)?;
-    found_bytes(arena, id, found)
-}
-
-/// The text that the pointer at a place leads to; nothing is changed.
-pub(crate) fn look_for_text<A: BuilderArena>(
-    arena: &A,
-    id: u32,
-    at: u32,
-) -> Result<ExistingBytes, ErrorKind>
-    requires { IsPlace (A.view arena.now).words id at }
-    ensures found { (t : Tree) → IsStored (A.view arena.now).words id at t
-        → result ≡ bytes_given id (text_in (target (A.view arena.now).words id at) t) }
-    ensures inside { IfOk result (BytesLieIn (A.view arena.now).words) }
-    ensures named { IfErr result (λ k. is_unfound k ≡ true) }
-{
-    let found = existing::get_text(arena, id, at)?;
-    found_bytes(arena, id, found)
-}
-
-/// The bytes that were found, or none for a null pointer of a segment.
+/// The bytes that were looked for, or none in a segment whose pointer is null.
 ///
 /// Bytes that don't lie in the message, which no stored value has, are
 /// `MessageContainsOutOfBoundsPointer`.
-fn found_bytes<A: BuilderArena>(
+#[inline(always)]
+pub(crate) fn found_bytes<A: BuilderArena>(
     arena: &A,
     segment: u32,
-    found: Option<ExistingBytes>,
+    found: Result<Option<ExistingBytes>, ErrorKind>,
 ) -> Result<ExistingBytes, ErrorKind>
-    requires { segment < length (A.view arena.now).words }
-    ensures some { IfSome found (λ b. BytesLieIn (A.view arena.now).words b → result ≡ Ok b) }
-    ensures none { IsNone found
-        → result ≡ Ok (record { segment = segment; start = 0; length = 0 }) }
+    requires there { segment < length (A.view arena.now).words }
+    requires named { IfErr found (λ k. is_unfound k ≡ true) }
+    ensures given { IfOk found (λ there. IfSome there (BytesLieIn (A.view arena.now).words))
+        → result ≡ bytes_given segment found }
     ensures inside { IfOk result (BytesLieIn (A.view arena.now).words) }
     ensures named { IfErr result (λ k. is_unfound k ≡ true) }
 {
-    match found {
+    match found? {
         Some(bytes) => {
             if are_inside(arena, bytes) {
                 Ok(bytes)
