@@ -8,7 +8,7 @@ pub mod Filling
 pub mod Kept
 pub mod ListRemade
 pub mod ListRooms
-pub mod ListsAnew
+pub mod ListsBecome
 pub mod ListSteps
 pub mod Listed
 pub mod ListsWidened

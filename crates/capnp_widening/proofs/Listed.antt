@@ -1,6 +1,5 @@
 -- Which list a value is, and what it becomes.
-use Rattle.std.proofs.Common.{◌≡◌, ℕ, zero, suc, ◌+◌, ◌*◌, ◌^◌, ◌<◌, ◌≤◌, max, Bool, true, false, cond, ◌&&◌, nat_lt, nat_le, Option, Some, None, Result, Ok, Err, IfOk, OnOk, OnErr, IfErr, List, length, refl, sym, ap, ◌∙◌, arith, inl, inr, subst}
-use Rattle.std.proofs.lemmas.Bool.{cases_lt}
+use Rattle.std.proofs.Common.{◌≡◌, ℕ, zero, suc, ◌+◌, ◌*◌, ◌^◌, ◌<◌, ◌≤◌, max, true, false, cond, ◌&&◌, nat_lt, nat_le, Option, Some, None, Result, Ok, Err, OnErr, IfErr, List, length, refl, sym, ap, ◌∙◌, arith}
 use Rattle.std.proofs.lemmas.Bool.Decides.{nat_tests}
 use Rattle.capnp_words.specs.declared.error.ErrorKind.{ErrorKind}
 use Rattle.capnp_words.specs.declared.error.ErrorKind.TheVariants.{MessageTooLarge}
@@ -81,14 +80,6 @@ few_enough n t l = ap (λ b. cond b (Ok t) (Err (MessageTooLarge n))) (let e : n
 pub too_many : (n : ℕ) (t : Tree) → 2 ^ 29 ≤ n → limited n t ≡ Err (MessageTooLarge n)
 too_many n t l = ap (λ b. cond b (Ok t) (Err (MessageTooLarge n))) (let e : nat_lt n (2 ^ 29) ≡ false = grind (arith, nat_tests) in e)
 
--- whichever list they are of
-pub refused_for_any : (n : ℕ) (t u : Tree) (k : ErrorKind) → limited n t ≡ Err k → limited n u ≡ Err k
-refused_for_any n t u k e = by_test (nat_lt n (2 ^ 29)) e
-  where
-    by_test : (b : Bool) → cond b (Ok t) (Err (MessageTooLarge n)) ≡ Err k → cond b (Ok u) (Err (MessageTooLarge n)) ≡ Err k
-    by_test true f = cc
-    by_test false f = cc
-
 -- a list of structs
 
 filled_alike : (S : Segments) (n s p d k : ℕ) (es : Elements) (c e f : ℕ) → MeansElements S n s p d k es c → fill_elements (max d e) (max k f) es ≡ fill_elements e f es
@@ -118,11 +109,7 @@ pub structs_widen : (d q e k : ℕ) (es : Elements) → (d ≤ e → q ≤ k →
 structs_widen d q e k es h =
     ap (λ b. cond b (Ok (Structs e k es)) (limited (element_count es * (max e d + max k q)) (Structs (max e d) (max k q) (fill_elements d q es)))) (narrow_test d e q k h)
 
--- what two clauses say of an outcome together, and what one says of a refusal
-pub if_ok_both : {A E : Type 0} (r : Result A E) (P W : A → Type 0) (Q : Type 0) → IfOk r P → OnOk r Q → ((x : A) → P x → Q → W x) → IfOk r W
-if_ok_both (Ok x) P W Q h g f = f x h g
-if_ok_both (Err k) P W Q h g f = tt
-
+-- what one clause says of a refusal, and two say together
 pub if_err_so : {A E : Type 0} (r : Result A E) (P Q : E → Type 0) → IfErr r P → ((k : E) → P k → Q k) → IfErr r Q
 if_err_so (Ok x) P Q h f = tt
 if_err_so (Err k) P Q h f = f k h
@@ -134,31 +121,6 @@ err_both (Err k) P Q h g = (g, h)
 pub if_err_both : {A E : Type 0} (r : Result A E) (P Q W : E → Type 0) → IfErr r P → IfErr r Q → ((k : E) → P k → Q k → W k) → IfErr r W
 if_err_both (Ok x) P Q W h g f = tt
 if_err_both (Err k) P Q W h g f = f k h g
-
--- a refusal that names so many words is for being too many
-limited_refused : (n : ℕ) (u : Tree) (k : ErrorKind) → limited n u ≡ Err k → (2 ^ 29 ≤ n) × (MessageTooLarge n ≡ k)
-limited_refused n u k e = elim (cases_lt n (2 ^ 29)) [
-  | inl l ↦ absurd (no_refusal u k (sym (few_enough n u l) ∙ e))
-  | inr l ↦ (l, named_so _ k (sym (too_many n u l) ∙ e))
-]
-  where
-    no_refusal : (u : Tree) (k : ErrorKind) → ◌≡◌ {A = Result Tree ErrorKind} (Ok u) (Err k) → ⊥
-    no_refusal u k e = cc
-
-    named_so : (j k : ErrorKind) → ◌≡◌ {A = Result Tree ErrorKind} (Err j) (Err k) → j ≡ k
-    named_so j k e = cc
-
--- Elements that would take too many words are refused by that name, and nothing is changed.
-pub exact_rows : {A : Type 0} (r : Result A ErrorKind) (Same : Type 0) (n m : ℕ) (u : Tree) (k : ErrorKind) → n ≡ m → (2 ^ 29 ≤ n → Same × IfErr r (λ name. name ≡ MessageTooLarge n)) → limited m u ≡ Err k →
-    Same × IfErr r (λ name. name ≡ k)
-exact_rows r Same n m u k e large refused =
-    let (many, named) = limited_refused m u k refused in
-    let (same, name) = large (subst (λ i. 2 ^ 29 ≤ i) (sym e) many) in
-    (same, if_err_so r (λ j. j ≡ MessageTooLarge n) (λ j. j ≡ k) name (λ j is. is ∙ ap (λ i. MessageTooLarge i) e ∙ named))
-
--- A refusal that is none.
-pub exact_few : (n m : ℕ) (u : Tree) (k : ErrorKind) → n ≡ m → n < 2 ^ 29 → limited m u ≡ Err k → ⊥
-exact_few n m u k e few refused = let (many, named) = limited_refused m u k refused in omega (arith, many, few, e)
 
 pub same_refusal : (j k : ErrorKind) (r : Result Tree ErrorKind) → r ≡ Err j → r ≡ Err k → j ≡ k
 same_refusal j k r e f = cc

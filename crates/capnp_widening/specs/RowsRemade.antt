@@ -1,5 +1,5 @@
 -- Lists of structs made anew of the elements of other lists, as rows of words ("Lists").
-use Rattle.std.specs.Prelude.{◌≡◌, ◌≢◌, ◌⊎◌, ℕ, zero, suc, ◌+◌, ◌*◌, ◌^◌, ◌<◌, ◌≤◌, Option, Some, None}
+use Rattle.std.specs.Prelude.{◌≡◌, ◌≢◌, ◌⊎◌, ℕ, zero, suc, ◌+◌, ◌-◌, ◌*◌, ◌^◌, ◌<◌, ◌≤◌, Option, Some, None}
 use Rattle.std.specs.Prelude.{IfErr, IfOk, IsOk, Ok, Err, List, OnErr, OnOk, Result, [], ◌∷◌, length}
 use Rattle.capnp_words.specs.Sizes.{size_number}
 use Rattle.capnp_words.specs.declared.error.ErrorKind.{ErrorKind}
@@ -10,7 +10,9 @@ use Rattle.capnp_format.specs.Tree.{Tree, Null, Flat, Pointers, Structs, count, 
 use Rattle.capnp_format.specs.Means.{IsTag}
 use Rattle.capnp_format.specs.Forest.{times, target}
 use Rattle.capnp_words.specs.declared.wire_pointer.StructSize.{StructSize}
-use Rattle.capnp_words.specs.declared.wire_pointer.ElementSize.TheVariants.{Void}
+use Rattle.capnp_words.specs.declared.wire_pointer.ElementSize.{ElementSize}
+use Rattle.capnp_words.specs.declared.wire_pointer.ElementSize.TheVariants.{Void, Pointer}
+use Rattle.capnp_words.specs.declared.wire_pointer.ElementSize.TheVariants.{InlineComposite}
 use Rattle.capnp_contents.specs.declared.existing.ExistingList.{ExistingList}
 use Rattle.capnp_making.specs.declared.making.Start.{Start}
 use Rattle.capnp_contents.specs.Existing.{list_in}
@@ -25,10 +27,10 @@ use Rattle.capnp_widening.specs.declared.moving.PointerRows.{PointerRows}
 use Rattle.capnp_widening.specs.declared.remaking.ElementRows.{ElementRows}
 use Rattle.capnp_widening.specs.Anew.{BecomesAnew, OnlyWrites, WritesAnew}
 use Rattle.capnp_widening.specs.Moved.{Move, Moves, rows_of_moves}
-use Rattle.capnp_widening.specs.Rooms.{GrowsByAtMost, RefusesGrowth, RefusesToBecome, WiderListFits}
+use Rattle.capnp_widening.specs.Rooms.{GrowsByAtMost, HasRoomFor, RefusesToBecome, WiderListFits}
 use Rattle.capnp_widening.specs.Rooms.{direct_pointers, widened_words}
 use Rattle.capnp_widening.specs.Widened.{GrowsByZeros, HasSections, fill_elements, struct_for_each}
-use Rattle.capnp_widening.specs.Widened.{struct_for_each_tree, limited, list_widened}
+use Rattle.capnp_widening.specs.Widened.{struct_for_each_tree, list_widened}
 
 -- The first words of each of so many rows, copied over those of other rows.
 pub record RowCopy : Type 0 where
@@ -152,6 +154,30 @@ rows_in a (Flat zero ns) =
     })
 rows_in a t = None
 
+-- The smallest struct that holds an element of a list that isn't one of bits: a number as the lowest
+-- bits of a data word, a pointer as its first one, and a struct, which has a size, as it is.
+abbrev pub struct_for : ElementSize → StructSize → StructSize
+struct_for Void size = record { data_words = 0; pointers = 0 }
+struct_for Pointer size = record { data_words = 0; pointers = 1 }
+struct_for InlineComposite size = size
+struct_for number size = record { data_words = 1; pointers = 0 }
+
+-- How many words stand before the first element of a list: the tag of structs.
+abbrev pub tag_words : ElementSize → ℕ
+tag_words InlineComposite = 1
+tag_words plain = 0
+
+-- The elements of a list as rows of whole words, where they are no numbers.
+abbrev pub element_rows : ExistingList → ElementRows
+element_rows l =
+    record {
+      segment = l.segment;
+      at = l.start - tag_words l.size;
+      tag = tag_words l.size;
+      size = struct_for l.size l.struct_size;
+      count = l.count;
+    }
+
 -- The list of structs of at least their size that the elements of a list become.
 abbrev pub as_structs : StructSize → Tree → Tree
 as_structs size (Flat zero ns) =
@@ -179,15 +205,6 @@ StoresRows S s p rows t = IsStored S s p t × (rows_in (target S s p) t ≡ Some
 abbrev pub BecomesList : CallAt → ExistingList → Tree → Tree → Type 0
 BecomesList c l t u = IsReplaced c.old.words c.new.words c.segment c.at t u
     × (list_in (target c.new.words c.segment c.at) Void u ≡ Ok (Some l))
-
--- A call is refused by the name k: the elements would take too many words, and nothing is changed;
--- or memory is refused for their list, or for a landing pad of one of their pointers.
-abbrev pub RefusesRows : ElementRows → StructSize → CallAt → ErrorKind → Type 0
-RefusesRows rows size c k =
-    ((c.new ≡ c.old) × ((t : Tree) → StoresRows c.old.words c.segment c.at rows t →
-    limited (rows.count * (size.data_words + size.pointers)) (as_structs size t) ≡ Err k))
-    ⊎ (SpendsMemory c.old c.new k × RefusesGrowth c.old c.new (structs_words rows.count size)
-    (rows.count * rows.size.pointers) k)
 
 -- The place stores t in S, which is the list l.
 abbrev pub IsList : Segments → ℕ → ℕ → ExistingList → Tree → Type 0
@@ -224,6 +241,26 @@ pub record RemakesRows (result : Result ExistingList ErrorKind) (rows : ElementR
   pub few :
       GrowsByAtMost c.old.words c.new.words
       (structs_words rows.count size + 1 + 2 * (rows.count * rows.size.pointers))
+
+-- A call is refused by the name k: there is no such list, and nothing is changed; or memory is
+-- refused for what the list becomes, or for a landing pad of one of its pointers.
+abbrev pub RefusesStructs : (Tree → Type 0) → StructSize → CallAt → ErrorKind → Type 0
+RefusesStructs Stands size c k =
+    ((c.new ≡ c.old) × ((t : Tree) → Stands t → ⊥))
+    ⊎ RefusesToBecome Stands (λ t. Ok (as_structs size t)) c.old c.new k
+
+-- A call makes the list that stands at a place anew, as structs of a size made of its elements; or
+-- that is refused, and the list stands as it stood. It never is where there is room. No more words
+-- are taken than the new list has, a pad, and two for each pointer of the old one.
+pub record MakesListOfStructs (result : Result ExistingList ErrorKind) (Stands : Tree → Type 0)
+    (size : StructSize) (c : CallAt) : Type 0 where
+  pub made : MakesListAnew result Stands size c
+  pub named : IfErr result (RefusesStructs Stands size c)
+  pub fits : (t : Tree) → Stands t →
+      HasRoomFor c.old c.segment c.at t (as_structs size t) → IsOk result
+  pub few : (t : Tree) → Stands t →
+      GrowsByAtMost c.old.words c.new.words
+      (widened_words (as_structs size t) + 1 + 2 * direct_pointers t)
 
 -- A call makes the list that stands at a place one of structs of at least a size, anew where it
 -- isn't; or that is refused, and the list stands as it stood. It never is where there is room. No

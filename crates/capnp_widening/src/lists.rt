@@ -6,13 +6,13 @@ ghost use Rattle.capnp_words.specs.Sizes.{size_number};
 ghost use Rattle.capnp_making.specs.Makes.{call_at};
 ghost use Rattle.capnp_making.specs.Stored.{IsStored, IsReplaced};
 ghost use Rattle.capnp_widening.specs.Opening.{LeadsToAll};
-ghost use Rattle.capnp_widening.specs.RowsRemade.{MakesListWider, WidensList};
+ghost use Rattle.capnp_widening.specs.RowsRemade.{MakesListWider, WidensList, element_rows, struct_for, tag_words};
 ghost use Rattle.capnp_widening.specs.Widened.{list_widened};
 ghost use Rattle.capnp_words.specs.declared.wire_pointer.ElementSize.TheVariants.{InlineComposite};
 
 use crate::numbers::widen_numbers;
 use crate::remaking::{ElementRows, widen_rows};
-use crate::widening::{greater, is_wide};
+use crate::widening::{greater_size, is_wide};
 use capnp_arena_traits::arena::BuilderArena;
 use capnp_contents::existing::{self, ExistingList};
 use capnp_words::error::ErrorKind;
@@ -83,104 +83,65 @@ fn widen_list<A: BuilderArena>(
         → size.pointers ≤ old.struct_size.pointers → ⊥ }
     ensures { WidensList result old size (call_at id at (A.view arena.old) (A.view arena.new)) }
 {
+    if old.size == ElementSize::Bit {
+        return Err(ErrorKind::FoundBitListWhereStructListWasExpected);
+    }
+    let wide = greater_size(struct_for(old), size);
+    let words = u64::from(old.count) * u64::from(wide.total());
+    if words >= 0x2000_0000 {
+        return Err(ErrorKind::MessageTooLarge(words as usize));
+    }
     match old.size {
-        ElementSize::Void => widen_void(arena, id, at, old, size),
-        ElementSize::Bit => Err(ErrorKind::FoundBitListWhereStructListWasExpected),
-        ElementSize::Pointer => widen_pointers(arena, id, at, old, size),
-        ElementSize::InlineComposite => widen_structs(arena, id, at, old, size),
         ElementSize::Byte
         | ElementSize::TwoBytes
         | ElementSize::FourBytes
-        | ElementSize::EightBytes => widen_numbers(arena, id, at, old, size),
+        | ElementSize::EightBytes => widen_numbers(arena, id, at, old, wide),
+        _ => widen_rows(arena, id, at, element_rows(old), wide),
     }
 }
 
-/// A list of structs with too small a section, where the pointer at a place leads to it, made anew with
-/// each section as large as the greater of old and wanted.
-///
-/// Structs that would take 2^29 words or more are `MessageTooLarge` of these words. Every other refusal is
-/// that of memory, or `MessageTooLarge`; the old list stays then.
-fn widen_structs<A: BuilderArena>(
-    arena: &mut A,
-    id: u32,
-    at: u32,
-    old: ExistingList,
-    size: StructSize,
-) -> Result<ExistingList, ErrorKind>
-    requires place { IsPlace (A.view arena.old).words id at }
-    requires kind { size_number old.size ≡ 7 }
-    requires narrow { size.data_words ≤ old.struct_size.data_words
-        → size.pointers ≤ old.struct_size.pointers → ⊥ }
-    ensures { WidensList result old size (call_at id at (A.view arena.old) (A.view arena.new)) }
+/// The smallest struct that holds an element of a list that isn't one of bits: a data word for a number,
+/// a pointer for a pointer, and the struct itself for a struct.
+fn struct_for(list: ExistingList) -> StructSize
+    ensures { result ≡ struct_for list.size list.struct_size }
 {
-    let had = old.struct_size;
-    let rows = ElementRows {
-        segment: old.segment,
-        at: old.start.saturating_sub(1),
-        tag: 1,
-        size: had,
-        count: old.count,
-    };
-    let wide = StructSize {
-        data_words: greater(had.data_words, size.data_words),
-        pointers: greater(had.pointers, size.pointers),
-    };
-    widen_rows(arena, id, at, rows, wide)
-}
-
-/// A list of structs of at least one pointer, made of a list of pointers where the pointer at a place
-/// leads to it: each is the first pointer of a struct. Refusals are those of `widen_structs`.
-fn widen_pointers<A: BuilderArena>(
-    arena: &mut A,
-    id: u32,
-    at: u32,
-    old: ExistingList,
-    size: StructSize,
-) -> Result<ExistingList, ErrorKind>
-    requires place { IsPlace (A.view arena.old).words id at }
-    requires kind { size_number old.size ≡ 6 }
-    ensures { WidensList result old size (call_at id at (A.view arena.old) (A.view arena.new)) }
-{
-    let rows = ElementRows {
-        segment: old.segment,
-        at: old.start,
-        tag: 0,
-        size: StructSize {
-            data_words: 0,
-            pointers: 1,
-        },
-        count: old.count,
-    };
-    let wide = StructSize {
-        data_words: size.data_words,
-        pointers: greater(1, size.pointers),
-    };
-    widen_rows(arena, id, at, rows, wide)
-}
-
-/// A list of structs of exactly a size, all zero, made of a list of void where the pointer at a place leads
-/// to it. Refusals are those of `widen_structs`.
-fn widen_void<A: BuilderArena>(
-    arena: &mut A,
-    id: u32,
-    at: u32,
-    old: ExistingList,
-    size: StructSize,
-) -> Result<ExistingList, ErrorKind>
-    requires place { IsPlace (A.view arena.old).words id at }
-    requires kind { size_number old.size ≡ 0 }
-    requires few { old.count < 2 ^ 30 }
-    ensures { WidensList result old size (call_at id at (A.view arena.old) (A.view arena.new)) }
-{
-    let rows = ElementRows {
-        segment: old.segment,
-        at: old.start,
-        tag: 0,
-        size: StructSize {
+    match list.size {
+        ElementSize::Void => StructSize {
             data_words: 0,
             pointers: 0,
         },
-        count: old.count,
-    };
-    widen_rows(arena, id, at, rows, size)
+        ElementSize::Pointer => StructSize {
+            data_words: 0,
+            pointers: 1,
+        },
+        ElementSize::InlineComposite => list.struct_size,
+        _ => StructSize {
+            data_words: 1,
+            pointers: 0,
+        },
+    }
+}
+
+/// The elements of a list as rows of whole words, each the smallest struct for it. Numbers and bits are none.
+fn element_rows(list: ExistingList) -> ElementRows
+    ensures { result ≡ element_rows list }
+{
+    let tag = tag_words(list.size);
+    ElementRows {
+        segment: list.segment,
+        at: list.start.saturating_sub(tag),
+        tag,
+        size: struct_for(list),
+        count: list.count,
+    }
+}
+
+/// How many words stand before the first element of a list: the tag of structs.
+fn tag_words(size: ElementSize) -> u32
+    ensures { result ≡ tag_words size }
+{
+    match size {
+        ElementSize::InlineComposite => 1,
+        _ => 0,
+    }
 }

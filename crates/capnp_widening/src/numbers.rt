@@ -9,10 +9,10 @@ ghost use Rattle.capnp_making.specs.Fields.{field_in};
 ghost use Rattle.capnp_making.specs.Makes.{call_at};
 ghost use Rattle.capnp_making.specs.Memory.{HasRoom, RefusesWords};
 ghost use Rattle.capnp_widening.specs.Rooms.{GrowsByAtMost};
-ghost use Rattle.capnp_widening.specs.RowsRemade.{AreNumbersCopied, IsList, MakesListAnew, NumbersInside, WidensList};
+ghost use Rattle.capnp_widening.specs.RowsRemade.{AreNumbersCopied, IsList, MakesListAnew, MakesListOfStructs, NumbersInside};
 
 use crate::remaking::begin_list;
-use crate::widening::{greater, settle};
+use crate::widening::settle;
 use capnp_arena_traits::arena::BuilderArena;
 use capnp_contents::existing::ExistingList;
 use capnp_making::landing::{length_of, word_of};
@@ -21,8 +21,10 @@ use capnp_making::zeroing::{zero_pads, zero_part};
 use capnp_words::error::ErrorKind;
 use capnp_words::wire_pointer::{ElementSize, StructSize, data_bits_per_element};
 
-/// A list of structs of at least one data word, made of a list of numbers where the pointer at a place
-/// leads to it. Refusals are those of `lists::widen_structs`.
+/// Makes a list of structs of at least one data word of a list of numbers, where the pointer at a place
+/// leads to it.
+///
+/// Where the place stores that list, a refusal is one of memory. The old list stays then.
 pub(crate) fn widen_numbers<A: BuilderArena>(
     arena: &mut A,
     id: u32,
@@ -32,20 +34,15 @@ pub(crate) fn widen_numbers<A: BuilderArena>(
 ) -> Result<ExistingList, ErrorKind>
     requires place { IsPlace (A.view arena.old).words id at }
     requires kind { (2 ≤ size_number old.size) × (size_number old.size ≤ 5) }
-    ensures { WidensList result old size (call_at id at (A.view arena.old) (A.view arena.new)) }
+    requires data { 0 < size.data_words }
+    requires small { old.count * (size.data_words + size.pointers) < 2 ^ 29 }
+    ensures { MakesListOfStructs result (IsList (A.view arena.old).words id at old) size
+        (call_at id at (A.view arena.old) (A.view arena.new)) }
 {
-    let wide = StructSize {
-        data_words: greater(1, size.data_words),
-        pointers: size.pointers,
-    };
-    let words = u64::from(old.count) * u64::from(wide.total());
-    if words >= 0x2000_0000 {
-        return Err(ErrorKind::MessageTooLarge(words as usize));
-    }
     if !are_numbers_inside(arena, old) {
         return Err(ErrorKind::MessageContainsOutOfBoundsPointer);
     }
-    remake_numbers(arena, id, at, old, wide)
+    remake_numbers(arena, id, at, old, size)
 }
 
 /// Whether the words of a list of numbers lie in their segment.

@@ -5,11 +5,10 @@ ghost use Rattle.capnp_arena_traits.specs.View.{KeepsLimits};
 ghost use Rattle.capnp_format.specs.Segments.{Segments, segment, IsPlace, Grows};
 ghost use Rattle.capnp_making.specs.Made.{structs_words};
 ghost use Rattle.capnp_making.specs.Memory.{KeepsMemory, SpendsMemory, RefusesWords, StandsBehind, TakesWords};
-ghost use Rattle.capnp_words.specs.declared.error.ErrorKind.TheVariants.{MessageTooLarge};
 ghost use Rattle.capnp_widening.specs.Rooms.{GrowsByAtMost, HasPadRoom, HasRoomAndPads, RefusesGrowth, UsesMemory};
 ghost use Rattle.capnp_widening.specs.Housed.{IsRoom, TakesRoom, object_start};
 ghost use Rattle.capnp_widening.specs.Moved.{MovesSome, Unmoves, near_pointers};
-ghost use Rattle.capnp_widening.specs.RowsRemade.{AreRowsCopied, CanBecome, CopiesData, FillsRows, IsTagWritten, RowsInside, RefusesRows, RemakesRows, element_moves};
+ghost use Rattle.capnp_widening.specs.RowsRemade.{AreRowsCopied, CanBecome, CopiesData, FillsRows, IsTagWritten, MakesListOfStructs, RowsInside, RemakesRows, StoresRows, element_moves};
 ghost use Rattle.capnp_making.specs.Makes.{call_at};
 ghost use Rattle.capnp_making.specs.declared.making.Start.{Start};
 
@@ -173,8 +172,7 @@ fn fill_rows<A: BuilderArena>(
 
 /// Makes a list of structs of the elements of another list, where the pointer at a place leads to it.
 ///
-/// Elements that would take 2^29 words or more are `MessageTooLarge` of these words. Every other refusal
-/// is that of memory, or `MessageTooLarge`; the old list stays then.
+/// Where the place stores that list, a refusal is one of memory. The old list stays then.
 pub(crate) fn widen_rows<A: BuilderArena>(
     arena: &mut A,
     id: u32,
@@ -184,22 +182,10 @@ pub(crate) fn widen_rows<A: BuilderArena>(
 ) -> Result<ExistingList, ErrorKind>
     requires place { IsPlace (A.view arena.old).words id at }
     requires wider { CanBecome old size }
-    ensures remakes { RemakesRows result old size
+    requires small { old.count * (size.data_words + size.pointers) < 2 ^ 29 }
+    ensures { MakesListOfStructs result (StoresRows (A.view arena.old).words id at old) size
         (call_at id at (A.view arena.old) (A.view arena.new)) }
-    ensures small { OnOk result (old.count * (size.data_words + size.pointers) < 2 ^ 29) }
-    ensures large { 2 ^ 29 ≤ old.count * (size.data_words + size.pointers)
-        → (A.view arena.new ≡ A.view arena.old)
-        × IfErr result (λ k. k ≡ MessageTooLarge (old.count * (size.data_words + size.pointers))) }
-    ensures named { IfErr result
-        (RefusesRows old size (call_at id at (A.view arena.old) (A.view arena.new))) }
-    ensures fits { RowsInside (A.view arena.old).words old → (to : Start)
-        → HasRoomAndPads (A.view arena.old) id (structs_words old.count size) old.segment
-        (near_pointers (A.view arena.old).words (element_moves old to size)) → IsOk result }
 {
-    let words = u64::from(old.count) * u64::from(size.total());
-    if words >= 0x2000_0000 {
-        return Err(ErrorKind::MessageTooLarge(words as usize));
-    }
     if !are_inside(arena, old) {
         return Err(ErrorKind::MessageContainsOutOfBoundsPointer);
     }

@@ -155,15 +155,23 @@ pub(crate) fn widen_known<A: BuilderArena>(
         → GrowsByAtMost (A.view arena.old).words (A.view arena.new).words
         (widened_words (widened size ws ts) + 1 + 2 * count ts) }
 {
-    let wide = StructSize {
-        data_words: greater(old.size.data_words, size.data_words),
-        pointers: greater(old.size.pointers, size.pointers),
-    };
+    let wide = greater_size(old.size, size);
     widen_struct(arena, id, at, old, wide)
 }
 
+/// The size of which each section is as large as the greater of two.
+pub(crate) fn greater_size(a: StructSize, b: StructSize) -> StructSize
+    ensures data_words { result.data_words ≡ max a.data_words b.data_words }
+    ensures pointers { result.pointers ≡ max a.pointers b.pointers }
+{
+    StructSize {
+        data_words: greater(a.data_words, b.data_words),
+        pointers: greater(a.pointers, b.pointers),
+    }
+}
+
 /// The greater of two numbers.
-pub(crate) fn greater(a: u16, b: u16) -> u16
+fn greater(a: u16, b: u16) -> u16
     ensures { result ≡ max a b }
 {
     if a < b { b } else { a }

@@ -18,8 +18,7 @@ use Rattle.capnp_widening.specs.Widened.{list_widened}
 use Rattle.capnp_words.specs.declared.wire_pointer.StructSize.{StructSize}
 use Rattle.capnp_words.specs.declared.wire_pointer.ElementSize.{ElementSize}
 use Rattle.capnp_words.specs.declared.wire_pointer.ElementSize.TheVariants.{Void, Bit, Byte, TwoBytes, FourBytes, EightBytes, Pointer, InlineComposite}
-use Rattle.capnp_widening.proofs.StructLists.{structs_kept}
-use Rattle.capnp_widening.proofs.ListsAnew.{structs_not_anew}
+use Rattle.capnp_widening.proofs.StructLists.{structs_kept, structs_not_anew}
 use Rattle.capnp_widening.proofs.StructsOpened.{no_truth}
 use Rattle.capnp_widening.proofs.lists.get_struct_list.Goals as goal
 

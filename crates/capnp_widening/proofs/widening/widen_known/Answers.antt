@@ -29,7 +29,7 @@ returns-clause-wider g c =
           let same = same_struct (the_struct a.words c.args.id c.args.at ws ts) c.args.old found in
           let d = ap (λ e. e.size.data_words) same in
           let k = ap (λ e. e.size.pointers) same in
-          greater_size a.words b.words c.args.id c.args.at c.args.size.data_words c.args.size.pointers c.greater.result c.greater-2.result ws ts (omega (arith, c.greater.ensures, d)) (omega (arith, c.greater-2.ensures, k)) (w ws ts (x, found))));
+          greater_size a.words b.words c.args.id c.args.at c.args.size.data_words c.args.size.pointers c.greater_size-wide.result.data_words c.greater_size-wide.result.pointers ws ts (omega (arith, c.greater_size-wide.ensures.data_words, d)) (omega (arith, c.greater_size-wide.ensures.pointers, k)) (w ws ts (x, found))));
       leads = if_ok_so c.widen_struct.result _ _ e.leads (λ o w. λ ws ts x. w ws ts (x, c.requires.known (Struct ws ts) x));
       anew = on_made_so c.widen_struct.result _ _ e.anew (λ w. λ ws ts x.
           (let found = c.requires.known (Struct ws ts) x in
@@ -37,7 +37,7 @@ returns-clause-wider g c =
           let d = ap (λ e. e.size.data_words) same in
           let k = ap (λ e. e.size.pointers) same in
           subst (λ u. BecomesAnew (call_at c.args.id c.args.at a b) (Struct ws ts) u)
-          (same_wide c.args.size.data_words c.args.size.pointers c.greater.result c.greater-2.result ws ts (omega (arith, c.greater.ensures, d)) (omega (arith, c.greater-2.ensures, k))) (w ws ts (x, found))));
+          (same_wide c.args.size.data_words c.args.size.pointers c.greater_size-wide.result.data_words c.greater_size-wide.result.pointers ws ts (omega (arith, c.greater_size-wide.ensures.data_words, d)) (omega (arith, c.greater_size-wide.ensures.pointers, k))) (w ws ts (x, found))));
       granted = e.granted;
       memory = e.memory;
       refused = on_err_so c.widen_struct.result _ _ e.refused (λ left. λ t x. left t (x, c.requires.known t x));
@@ -51,11 +51,11 @@ returns-clause-fits g c = λ h.
     let same = same_struct (the_struct v.words c.args.id c.args.at ws ts) c.args.old (c.requires.known (Struct ws ts) x) in
     let d = ap (λ e. e.size.data_words) same in
     let k = ap (λ e. e.size.pointers) same in
-    let n = wider_words c.args.size ws ts c.greater.result c.greater-2.result (omega (arith, c.greater.ensures, d)) (omega (arith, c.greater-2.ensures, k)) in
+    let n = wider_words c.args.size ws ts c.greater_size-wide.result.data_words c.greater_size-wide.result.pointers (omega (arith, c.greater_size-wide.ensures.data_words, d)) (omega (arith, c.greater_size-wide.ensures.pointers, k)) in
     let a : Start = start_of (target v.words c.args.id c.args.at) in
     let to : Start = record { segment = a.segment; at = a.at + length (fill_words c.args.size.data_words ws) } in
     let asks : ℕ → ExistingStruct → Type 0 = λ m e. HasRoomAndPads v c.args.id m e.segment (near_pointers v.words (row_moves e.segment (e.start + e.size.data_words) to.segment to.at e.size.pointers)) in
-    c.widen_struct.ensures.fits to (subst (λ e. asks (c.greater.result + c.greater-2.result) e) same (subst (λ m. asks m (the_struct v.words c.args.id c.args.at ws ts)) n room)))
+    c.widen_struct.ensures.fits to (subst (λ e. asks (c.greater_size-wide.result.data_words + c.greater_size-wide.result.pointers) e) same (subst (λ m. asks m (the_struct v.words c.args.id c.args.at ws ts)) n room)))
 
 pub returns-clause-few : goal.returns-clause-few
 returns-clause-few g c = λ ws ts x.
@@ -63,10 +63,10 @@ returns-clause-few g c = λ ws ts x.
     let same = same_struct (the_struct v.words c.args.id c.args.at ws ts) c.args.old (c.requires.known (Struct ws ts) x) in
     let d = ap (λ e. e.size.data_words) same in
     let k = ap (λ e. e.size.pointers) same in
-    let n = wider_words c.args.size ws ts c.greater.result c.greater-2.result (omega (arith, c.greater.ensures, d)) (omega (arith, c.greater-2.ensures, k)) in
+    let n = wider_words c.args.size ws ts c.greater_size-wide.result.data_words c.greater_size-wide.result.pointers (omega (arith, c.greater_size-wide.ensures.data_words, d)) (omega (arith, c.greater_size-wide.ensures.pointers, k)) in
     omega (arith, c.widen_struct.ensures.few, n, k))
 
 pub returns-clause-size : goal.returns-clause-size
 returns-clause-size g c =
     if_ok_so c.widen_struct.result _ _ c.widen_struct.ensures.size
-    (λ e same. (ap (λ (x : StructSize). x.data_words) same ∙ c.greater.ensures, ap (λ (x : StructSize). x.pointers) same ∙ c.greater-2.ensures))
+    (λ e same. (ap (λ (x : StructSize). x.data_words) same ∙ c.greater_size-wide.ensures.data_words, ap (λ (x : StructSize). x.pointers) same ∙ c.greater_size-wide.ensures.pointers))
