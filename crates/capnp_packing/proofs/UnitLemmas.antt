@@ -1,5 +1,5 @@
 -- What a tag and the bytes behind it give, where they are parts of slices.
-use Rattle.std.proofs.Common.{◌≡◌, ℕ, suc, ◌+◌, ◌-◌, ◌*◌, ◌<◌, ◌≤◌, ◌≢◌, List, [], ◌∷◌, ◌++◌, replicate, length, take, drop, take-add, take_at, drop_at, take-take, drop-drop, drop-cons, ap₂, Option, Some, None, sym, ap, ◌∙◌, arith, append_assoc, append-nil, length-append, length-take, length-drop}
+use Rattle.std.proofs.Common.{◌≡◌, ℕ, suc, ◌+◌, ◌-◌, ◌*◌, ◌<◌, ◌≤◌, ◌≢◌, List, [], ◌∷◌, ◌++◌, replicate, length, take, drop, take-add, take_at, drop_at, take-take, drop-drop, drop-cons, ap₂, Option, Some, None, sym, ap, subst, ◌∙◌, arith, append_assoc, append-nil, length-append, length-take, length-drop}
 use Rattle.std.specs.Prelude.{slice_index, slice_range}
 use Rattle.std.specs.Io.KnownBytes.{Consumes, prepend_known}
 use Rattle.std.proofs.lemmas.List.{length-replicate, take-append-le, take_rest}
@@ -54,6 +54,16 @@ consumed bytes at end n None l = tt
 consumed bytes at end n (Some more) l =
     ap (λ l. l ++ more) (parts_of bytes at end n l)
     ∙ append_assoc (take n (slice_range bytes at end)) (slice_range bytes (at + n) end) more
+
+-- the first byte that is ahead is taken
+pub byte_ahead : (bytes : List ℕ) (at end : ℕ) (known : Option (List ℕ)) → at < end → at < length bytes
+    → Consumes (prepend_known (slice_range bytes at end) known) (prepend_known (slice_range bytes (at + 1) end) known)
+    (slice_index bytes at ∷ [])
+byte_ahead bytes at end known l inside =
+    let one : take 1 (slice_range bytes at end) ≡ slice_index bytes at ∷ [] =
+    take-take 1 (end - at) (drop at bytes) (omega (arith, l)) ∙ cons_at bytes at 0 inside in
+    subst (λ (taken : List ℕ). Consumes (prepend_known (slice_range bytes at end) known)
+    (prepend_known (slice_range bytes (at + 1) end) known) taken) one (consumed bytes at end 1 known (omega (arith, l)))
 
 pub none_ahead : (bytes : List ℕ) (at end : ℕ) (known : Option (List ℕ)) → at ≡ end
     → prepend_known (slice_range bytes at end) known ≡ known
