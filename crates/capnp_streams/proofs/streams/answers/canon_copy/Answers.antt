@@ -1,9 +1,10 @@
 use Rattle.std.proofs.Common.{◌≡◌, ◌∙◌, [], ◌∷◌, Some, refl, rules, sym}
 use Rattle.capnp_format.specs.Bytes.{words_of}
 use Rattle.capnp_format.specs.Canonical.{encoding, trim}
+use Rattle.capnp_messages.specs.declared.messages.command.Command.TheVariants.{Canon}
 use Rattle.capnp_streams.specs.Streams.{written_words}
 use Rattle.capnp_streams.proofs.AnsweredLemmas.{answer_refuses, answer_written, copy_refused}
-use Rattle.capnp_streams.proofs.CountingLemmas.{copy_counted}
+use Rattle.capnp_streams.proofs.CountingLemmas.{copy_counted, memory_counted, written_uncounted}
 use Rattle.capnp_streams.proofs.streams.answers.canon_copy.Goals as goal
 
 pub returns-in-Ok-clause-answer : goal.returns-in-Ok-clause-answer
@@ -13,6 +14,12 @@ returns-in-Ok-clause-answer g c =
     let same : words_of c.canonical_bytes-words.result.now ≡ encoding (trim t) = cc in
     answer_written _ _ _ _ _ _ (written_words c.args.task.hex c.args.form (encoding (trim t))) (rw same at c.write_canonical_words-written.ensures)
     c.if_written.ensures.written c.if_written.ensures.failed (refl, (t, value, refl))
+
+pub returns-in-Ok-clause-memory : goal.returns-in-Ok-clause-memory
+returns-in-Ok-clause-memory g c =
+    let here : c.args.memory.now.allocator ≡ Some c.in-Some.allocator = search rules in
+    memory_counted _ _ _ (Canon c.args.form) _ refl (rw here (c.into_allocator.ensures.refusals ∙ c.in-Ok.ensures.tries.granted))
+    (written_uncounted (Canon c.args.form) _ _ _ c.if_written.ensures.written c.if_written.ensures.failed)
 
 pub returns-in-Err-clause-answer : goal.returns-in-Err-clause-answer
 returns-in-Err-clause-answer g c = answer_refuses _ _ _ _ (copy_refused c.in-Err.ensures.refused)
