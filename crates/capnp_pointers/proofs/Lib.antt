@@ -8,5 +8,7 @@ pub mod Exactly
 pub mod Takes
 pub mod NearRead
 pub mod Checks
+pub mod Falls
 pub mod Fails
+pub mod Stopped
 pub mod NeverStops

@@ -1,4 +1,4 @@
-use Rattle.std.proofs.Common.{◌≡◌, ℕ, ◌+◌, ◌*◌, ◌^◌, ◌<◌, ◌≤◌, length, get_or, refl, ap, ap₂, sym, ◌∙◌, arith, rules, add-zero}
+use Rattle.std.proofs.Common.{◌≡◌, ℕ, ℤ, subst, ◌+◌, ◌*◌, ◌^◌, ◌<◌, ◌≤◌, length, get_or, refl, ap, ap₂, sym, ◌∙◌, arith, rules, add-zero}
 use Rattle.std.proofs.lemmas.Bool.{false≢true}
 use Rattle.std.proofs.lemmas.Int.{to_z-of_z}
 use mir.Syntax.{w32}
@@ -7,7 +7,7 @@ use Rattle.capnp_format.specs.Segments.{Target}
 use Rattle.capnp_format.specs.Word.{kind, data_words, pointer_count}
 use Rattle.capnp_objects.specs.declared.object.Purpose.TheVariants.{Size}
 use Rattle.capnp_objects.specs.Measures.{counted_words}
-use Rattle.capnp_objects.specs.Objects.{IsObject, near_at}
+use Rattle.capnp_objects.specs.Objects.{EntersNear, IsObject, near_at}
 use Rattle.capnp_objects.specs.Outcomes.{Entered}
 use Rattle.capnp_objects.specs.Reading.{Reading, segment_read, sized, word_of}
 use Rattle.capnp_objects.specs.Sizing.{Tally, SizeStops, here, unmeasured}
@@ -15,8 +15,11 @@ use Rattle.capnp_objects.proofs.Walked.{counted_struct, struct_at, walks_none, p
 use Rattle.capnp_objects.proofs.WalkStops.{beyond_at, struct_stops_at, capability_beyond}
 use Rattle.capnp_format.specs.Tree.{no_trees, no_elements}
 use Rattle.capnp_pointers.specs.Pointers.{reading, reading_on}
-use Rattle.capnp_pointers.specs.Sizes.{so_far, object_words}
+use Rattle.capnp_pointers.specs.Sizes.{AddsPlace, AddsPointers, so_far, object_words}
 use Rattle.capnp_pointers.proofs.Walking.{on_err, one_level_in, ok_so, err_so, beyond_with, Opened, object_level, object_inside, leaf_walked, object_walked, object_stops, object_beyond}
+use Rattle.capnp_pointers.proofs.Falls.{falls_below, falls_in_one}
+use Rattle.capnp_pointers.proofs.Stopped.{end_fits, end_fits_wide, object_held, one_less_fits, pointers_stop, row_lies, row_start_fits, row_words_fit, rows_stop, struct_lies, within_fits}
+use Rattle.capnp_objects.specs.Source.{levels}
 use Rattle.capnp_pointers.proofs.pointers.sizes.+sizes.Goals as goal
 
 pub add_object-returns-in-Err : goal.add_object-returns-in-Err
@@ -178,31 +181,74 @@ add_struct-returns g t c =
 
 -- What is handed on.
 pub add_pointer-returns-in-Struct : goal.add_pointer-returns-in-Struct
-add_pointer-returns-in-Struct g t c =
-    record {
-      sized = rw (to_z-of_z w32 c.args.nesting_limit c.ranges.nesting_limit) at c.add_struct.ensures.sized;
-      refused = rw (to_z-of_z w32 c.args.nesting_limit c.ranges.nesting_limit) at c.add_struct.ensures.refused;
-    }
+add_pointer-returns-in-Struct g t c = subst (λ (z : ℤ). AddsPlace (reading_on g.A.ReaderArena c.args.from.now c.args.at z) c.args.walk.now c.add_struct.new.walk c.add_struct.result) (to_z-of_z w32 c.args.nesting_limit c.ranges.nesting_limit) c.add_struct.ensures
 
 pub add_pointer-returns-in-List : goal.add_pointer-returns-in-List
-add_pointer-returns-in-List g t c =
-    let nl = to_z-of_z w32 c.args.nesting_limit c.ranges.nesting_limit in
-    record {
-      sized = rw nl at c.add_flat.ensures.sized;
-      refused = rw nl at c.add_flat.ensures.refused;
-    }
+add_pointer-returns-in-List g t c = subst (λ (z : ℤ). AddsPlace (reading_on g.A.ReaderArena c.args.from.now c.args.at z) c.args.walk.now c.add_flat.new.walk c.add_flat.result) (to_z-of_z w32 c.args.nesting_limit c.ranges.nesting_limit) c.add_flat.ensures
 
 pub add_pointer-returns-in_default : goal.add_pointer-returns-in_default
-add_pointer-returns-in_default g t c =
-    let nl = to_z-of_z w32 c.args.nesting_limit c.ranges.nesting_limit in
-    record {
-      sized = rw nl at c.add_object.ensures.sized;
-      refused = rw nl at c.add_object.ensures.refused;
-    }
+add_pointer-returns-in_default g t c = subst (λ (z : ℤ). AddsPlace (reading_on g.A.ReaderArena c.args.from.now c.args.at z) c.args.walk.now c.add_object.new.walk c.add_object.result) (to_z-of_z w32 c.args.nesting_limit c.ranges.nesting_limit) c.add_object.ensures
 
 pub add_pointers-returns : goal.add_pointers-returns
-add_pointers-returns g t c =
-    record {
-      sized = rw (to_z-of_z w32 c.args.nesting_limit c.ranges.nesting_limit) at c.add_row.ensures.sized;
-      refused = rw (to_z-of_z w32 c.args.nesting_limit c.ranges.nesting_limit) at c.add_row.ensures.refused;
-    }
+add_pointers-returns g t c = subst (λ (z : ℤ). AddsPointers (reading_on g.A.ReaderArena c.args.from.now c.args.at z) c.args.count c.args.walk.now c.add_row.new.walk c.add_row.result) (to_z-of_z w32 c.args.nesting_limit c.ranges.nesting_limit) c.add_row.ensures
+
+pub add_object-overflow_sub-inner : goal.add_object-overflow_sub-inner
+add_object-overflow_sub-inner g t c =
+    let opened : Opened (reading_on g.A.ReaderArena c.args.from.now c.args.at c.args.nesting_limit) c.args.walk.now.lim c.measure_object.new.lim c.in-Ok.object c.in-Some.rows = record { is_measured = subst (λ (z : ℤ). IsObject Size (reading_on g.A.ReaderArena c.args.from.now c.args.at z) c.args.walk.now.lim c.measure_object.new.lim c.in-Ok.object) (to_z-of_z w32 c.args.nesting_limit c.ranges.nesting_limit) c.in-Ok.ensures.object; has = c.in-Some.ensures } in
+    one_less_fits c.args.nesting_limit c.ranges.nesting_limit (object_level c.in-Ok.object opened)
+
+pub add_object-invariant_of-inner : goal.add_object-invariant_of-inner
+add_object-invariant_of-inner g t c =
+    let opened : Opened (reading_on g.A.ReaderArena c.args.from.now c.args.at c.args.nesting_limit) c.args.walk.now.lim c.measure_object.new.lim c.in-Ok.object c.in-Some.rows = record { is_measured = subst (λ (z : ℤ). IsObject Size (reading_on g.A.ReaderArena c.args.from.now c.args.at z) c.args.walk.now.lim c.measure_object.new.lim c.in-Ok.object) (to_z-of_z w32 c.args.nesting_limit c.ranges.nesting_limit) c.in-Ok.ensures.object; has = c.in-Some.ensures } in
+    record { held = object_held c.in-Ok.object opened }
+
+pub add_struct-overflow_sub-nesting_limit : goal.add_struct-overflow_sub-nesting_limit
+add_struct-overflow_sub-nesting_limit g t c =
+    let measured : EntersNear Size (reading_on g.A.ReaderArena c.args.from.now c.args.at c.args.nesting_limit) c.args.walk.now.lim c.measure_near.new.lim c.in-Ok.start = subst (λ (z : ℤ). EntersNear Size (reading_on g.A.ReaderArena c.args.from.now c.args.at z) c.args.walk.now.lim c.measure_near.new.lim c.in-Ok.start) (to_z-of_z w32 c.args.nesting_limit c.ranges.nesting_limit) c.in-Ok.ensures.object in
+    one_less_fits c.args.nesting_limit c.ranges.nesting_limit measured.meets.levels
+
+pub add_struct-overflow_add-first : goal.add_struct-overflow_add-first
+add_struct-overflow_add-first g t c =
+    let measured : EntersNear Size (reading_on g.A.ReaderArena c.args.from.now c.args.at c.args.nesting_limit) c.args.walk.now.lim c.measure_near.new.lim c.in-Ok.start = subst (λ (z : ℤ). EntersNear Size (reading_on g.A.ReaderArena c.args.from.now c.args.at z) c.args.walk.now.lim c.measure_near.new.lim c.in-Ok.start) (to_z-of_z w32 c.args.nesting_limit c.ranges.nesting_limit) c.in-Ok.ensures.object in
+    let is_struct : kind (word_of (reading_on g.A.ReaderArena c.args.from.now c.args.at c.args.nesting_limit)) ≡ 0 = subst (λ w. kind w ≡ 0) c.requires.word.there c.requires.is_struct in
+    record { fits = within_fits _ _ _ (struct_lies {r = reading_on g.A.ReaderArena c.args.from.now c.args.at c.args.nesting_limit} measured is_struct (c.from-2.ensures ∙ c.struct_size-size.ensures.data_of ∙ ap data_words c.requires.word.there) (c.struct_size-size.ensures.pointers_of ∙ ap pointer_count c.requires.word.there)) c.args.from.now.held.1 c.args.from.now.held.2 }
+
+pub add_struct-add_pointers-requires : goal.add_struct-add_pointers-requires
+add_struct-add_pointers-requires g t c κs within =
+    let measured : EntersNear Size (reading_on g.A.ReaderArena c.args.from.now c.args.at c.args.nesting_limit) c.args.walk.now.lim c.measure_near.new.lim c.in-Ok.start = subst (λ (z : ℤ). EntersNear Size (reading_on g.A.ReaderArena c.args.from.now c.args.at z) c.args.walk.now.lim c.measure_near.new.lim c.in-Ok.start) (to_z-of_z w32 c.args.nesting_limit c.ranges.nesting_limit) c.in-Ok.ensures.object in
+    let is_struct : kind (word_of (reading_on g.A.ReaderArena c.args.from.now c.args.at c.args.nesting_limit)) ≡ 0 = subst (λ w. kind w ≡ 0) c.requires.word.there c.requires.is_struct in
+    let less = one_level_in c.args.nesting_limit c.ranges.nesting_limit measured.meets.levels in
+    (falls_in_one 4 (search rules) less measured.meets.levels c.decreases, (within, struct_lies {r = reading_on g.A.ReaderArena c.args.from.now c.args.at c.args.nesting_limit} measured is_struct (c.from-2.ensures ∙ c.struct_size-size.ensures.data_of ∙ ap data_words c.requires.word.there) (c.from-count.ensures ∙ c.struct_size-size.ensures.pointers_of ∙ ap pointer_count c.requires.word.there)))
+
+pub add_rows-overflow_mul-at : goal.add_rows-overflow_mul-at
+add_rows-overflow_mul-at g t c =
+    record { fits = row_words_fit c.args.from.now.place.at c.from-in-loop-i-2.ensures c.from.ensures c.from-2.ensures c.loop-i-test.true c.requires.inside c.args.from.now.held.1 c.args.from.now.held.2 }
+
+pub add_rows-overflow_add-at : goal.add_rows-overflow_add-at
+add_rows-overflow_add-at g t c =
+    record { fits = row_start_fits c.from-in-loop-i.ensures c.from-in-loop-i-2.ensures c.from.ensures c.from-2.ensures c.loop-i-test.true c.requires.inside c.args.from.now.held.1 c.args.from.now.held.2 }
+
+pub add_rows-overflow_add-at-in-loop-i : goal.add_rows-overflow_add-at-in-loop-i
+add_rows-overflow_add-at-in-loop-i g t c =
+    record { fits = end_fits_wide c.args.pointers (row_lies c.from-in-loop-i.ensures c.from-in-loop-i-2.ensures c.from.ensures c.from-2.ensures c.from-in-loop-i-3.ensures c.loop-i-test.true c.requires.inside) c.args.from.now.held.1 c.args.from.now.held.2 }
+
+pub add_rows-overflow_cast-at : goal.add_rows-overflow_cast-at
+add_rows-overflow_cast-at g t c =
+    record { fits = end_fits c.args.pointers (row_lies c.from-in-loop-i.ensures c.from-in-loop-i-2.ensures c.from.ensures c.from-2.ensures c.from-in-loop-i-3.ensures c.loop-i-test.true c.requires.inside) c.args.from.now.held.1 c.args.from.now.held.2 }
+
+pub add_rows-add_row-requires : goal.add_rows-add_row-requires
+add_rows-add_row-requires g t c κs within =
+    (falls_below 3 0 (ap levels (to_z-of_z w32 c.args.from.now.nesting_limit (search rules))) c.decreases, (within, row_lies c.from-in-loop-i.ensures c.from-in-loop-i-2.ensures c.from.ensures c.from-2.ensures c.from-in-loop-i-3.ensures c.loop-i-test.true c.requires.inside))
+
+pub add_row-returns-in_err-add_pointer : goal.add_row-returns-in_err-add_pointer
+add_row-returns-in_err-add_pointer g t c =
+    subst (λ (z : ℤ). AddsPointers (reading_on g.A.ReaderArena c.args.from.now c.args.at z) c.args.count c.args.walk.now c.add_pointer.new.walk c.from_residual.result) (to_z-of_z w32 c.args.nesting_limit c.ranges.nesting_limit)
+    (pointers_stop c.from_residual.result c.from_residual.ensures.0 c.loop-i.invariant c.loop-i-test.true c.in_err-add_pointer.ensures)
+
+pub add_rows-returns-in_err-add_row-clause-refused : goal.add_rows-returns-in_err-add_row-clause-refused
+add_rows-returns-in_err-add_row-clause-refused g t c =
+    let r : Reading = reading g.A.ReaderArena c.args.from.now in
+    let at : c.from-in-loop-i.result + c.from-in-loop-i-2.result * (c.from.result + c.from-2.result) + c.from-in-loop-i-3.result ≡ r.at + c.loop-i.i * (c.args.data_words + c.args.pointers) + c.args.data_words =
+    ap₂ (λ x y. x + y) (ap₂ (λ x y. x + y) c.from-in-loop-i.ensures (ap₂ (λ x y. x * y) c.from-in-loop-i-2.ensures (ap₂ (λ x y. x + y) c.from.ensures c.from-2.ensures))) c.from-in-loop-i-3.ensures in
+    let nl = to_z-of_z w32 c.args.from.now.nesting_limit (search rules) in
+    rows_stop {size = sized c.args.data_words c.args.pointers} c.from_residual.result c.loop-i.invariant c.loop-i-test.true (rw (at, nl) at c.in_err-add_row.ensures.refused)
