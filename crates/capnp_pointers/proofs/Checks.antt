@@ -658,9 +658,6 @@ IsList (ObjectStructs start size n) = Unit {0}
 pub place_begins : {n : ℕ} (r : Reading) (start : Place) → n ≡ pred r.levels → r.segment ≡ start.segment → record r { levels = n; at = start.at } ≡ beginning r start
 place_begins r start e f = ap₂ (λ n s. record r { levels = n; segment = s; at = start.at }) e f
 
-pub elements_begin : {n : ℕ} (r : Reading) (start : Place) → n ≡ pred r.levels → r.segment ≡ start.segment → record r { levels = n; at = start.at } ≡ beginning r start
-elements_begin r start e f = ap₂ (λ n s. record r { levels = n; segment = s; at = start.at }) e f
-
 -- An object stands in the segment of its pointer.
 pub pointers_here : {r : Reading} {m m' : Meter} (start : Place) (n : ℕ) → IsTested r → IsObject Value r m m' (ObjectPointers start n) → r.segment ≡ start.segment
 pointers_here {r} start n ready (a, o, z, six, (held, seg, at), many) = sym (seg ∙ (near_object r ready.near (entered_leads o)).same_segment)
@@ -716,8 +713,3 @@ pointers_room {r} start n (a, o, z, six, (held, seg, at), many) = omega (arith, 
 -- A struct with words starts at the head.
 pub some_right : {n h x : ℕ} (p : ℕ) → 0 < n → x ≡ h → x ≡ cond (nat_eq n 0) p h
 some_right {n} {h} {x} p some e = starts_at n p h x (λ none. absurd (omega arith)) (λ more. e)
-
--- One level less is less, also by a measure that spends five steps on a level.
-pub level_falls : (n : ℕ) → 0 < n → 5 * pred n + 4 < 5 * n
-level_falls zero some = absurd (omega arith)
-level_falls (suc n) some = omega arith

@@ -10,5 +10,7 @@ pub mod NearRead
 pub mod Checks
 pub mod Falls
 pub mod Fails
+pub mod Rooms
+pub mod Returned
 pub mod Stopped
 pub mod NeverStops

@@ -1,27 +1,35 @@
-use Rattle.std.proofs.Common.{◌≡◌, ℕ, slice_index, nat_eq, cond, pred, ◌+◌, ◌*◌, ◌-◌, ◌<◌, ◌≤◌, ◌↔◌, ◌⊎◌, IsTrue, OnOk, OnErr, length, Some, None, inl, inr, refl, sym, ap, ap₂, ◌∙◌, subst, arith, rules}
+use Rattle.std.proofs.Common.{◌≡◌, ℕ, ℤ, slice_index, nat_eq, cond, ◌+◌, ◌*◌, ◌-◌, ◌<◌, ◌≤◌, ◌↔◌, ◌⊎◌, IsTrue, length, Ok, inl, inr, refl, sym, ap, ap₂, ◌∙◌, subst, arith, rules}
 use Rattle.std.proofs.lemmas.Bool.{false≢true, ne_eqb}
 use Rattle.std.proofs.lemmas.Int.{to_z-of_z}
 use mir.Syntax.{w32}
 use mir.Val.{to_z, of_z}
-use Rattle.capnp_format.specs.Word.{kind, data_words, pointer_count, list_count}
+use Rattle.capnp_format.specs.Word.{kind, list_count}
 use Rattle.capnp_format.specs.Segments.{segment, IsPlace}
 use Rattle.capnp_format.specs.Tree.{no_trees}
 use Rattle.capnp_objects.specs.declared.object.Object.TheVariants.{Struct as ObjectStruct, Flat as ObjectFlat, Pointers as ObjectPointers, Structs as ObjectStructs}
 use Rattle.capnp_objects.specs.Source.{levels}
-use Rattle.capnp_objects.specs.Objects.{IsObject}
-use Rattle.capnp_objects.specs.Reading.{Reading, segment_read, behind, word_of}
+use Rattle.capnp_objects.specs.Objects.{EntersNear, IsFew, IsObject}
+use Rattle.capnp_objects.specs.Refusals.{Stopped as Stops}
+use Rattle.capnp_objects.specs.Wanted.{plain}
+use Rattle.capnp_objects.specs.Reading.{Reading, segment_read, word_of}
 use Rattle.capnp_objects.specs.declared.object.Purpose.TheVariants.{Value}
 use Rattle.capnp_objects.proofs.Walked.{row_within}
 use Rattle.capnp_pointers.specs.Pointers.{reading_on}
 use Rattle.capnp_pointers.specs.Faults.{other_reason}
-use Rattle.capnp_objects.specs.Rows.{rows_sized}
-use Rattle.capnp_pointers.specs.Checking.{level_refusal_name, IsTested, Progress, progress, StartsRight, Tells, TellsStruct, TellsAll, TestsEnd, RowTestsEnd, Unread, IsFault, SectionsFail, here, no_pointer, other_pointer}
-use Rattle.capnp_pointers.proofs.Walking.{ok_so, err_so, err_with, on_err, on_err_so, on_err_both, on_ok_so}
-use Rattle.capnp_pointers.proofs.Checks.{rows_seen, tested, finds_none, pointer_found, pointer_never, unplaced_never, null_found_at, empty_tells, flat_tells, struct_tells, pointers_tell, structs_tell, pointer_ends, row_ends, struct_ends, pointers_end, structs_end, pointers_room, structs_room, some_right, level_falls, place_begins, elements_begin, pointers_here, structs_here, none_seen, row_seen, row_never, rows_unused, empties_found, lists_alone, no_list_else, still_seen, seen_now, RowDataUsed, RowPointersUsed, AreFoundRows, TellsClaimed}
-use Rattle.capnp_pointers.proofs.NearRead.{struct_by_word}
-use Rattle.capnp_pointers.proofs.Fails.{empty_fails, struct_fails, unplaced_fails, flat_fails, sections_fail, claimed_fails, ClaimedFails, rows_wide_data, rows_wide_pointers}
+use Rattle.capnp_pointers.specs.Checking.{level_refusal_name, IsTested, progress, StartsRight, TestsPlace, TestsPointers, here, no_pointer, other_pointer}
+use Rattle.capnp_pointers.proofs.Walking.{ok_so, err_so, on_err, on_err_so, on_ok_so}
+use Rattle.capnp_pointers.proofs.Checks.{rows_seen, tested, finds_none, pointer_found, unplaced_never, null_found_at, empty_tells, row_ends, pointers_room, struct_room, place_begins, pointers_here, structs_here, none_seen, row_seen, row_never, rows_unused, empties_found, lists_alone, no_list_else, still_seen, seen_now, RowDataUsed, RowPointersUsed, AreFoundRows}
+use Rattle.capnp_pointers.specs.declared.pointers.canonical_answer.Stopped.{Stopped}
+use Rattle.capnp_pointers.proofs.Falls.{falls_below, falls_in}
+use Rattle.capnp_pointers.proofs.Rooms.{flat_room, flat_short, flat_size, last_of, pointers_fit, row_end, row_fits, some_section}
+use Rattle.capnp_pointers.proofs.Returned.{far_never, structs_room_at, inner_levels, is_word, list_tested, flat_tested, elements_tested, no_word, not_near, object_is, pointers_passed, pointers_stopped, some_words, stopped_by_fault, stopped_unread, struct_read, struct_tested}
+use Rattle.capnp_pointers.proofs.Fails.{empty_fails, struct_fails, unplaced_fails, rows_wide_data, rows_wide_pointers}
 use Rattle.capnp_pointers.proofs.pointers.canonical.+tests.Goals.{test_rows-then-is_data_used, test_rows-else-is_data_used, test_rows-then-are_pointers_used, test_rows-else-are_pointers_used}
 use Rattle.capnp_pointers.proofs.pointers.canonical.+tests.Goals as goal
+
+-- the elements of a list start behind its tag
+behind_tag : {x : ℕ} (h : ℕ) → x ≡ h + 1 → 0 < x
+behind_tag h e = omega (arith, e)
 
 -- a loop that is at its bound
 reached : {i n : ℕ} → i ≤ n → n ≤ i → i ≡ n
@@ -34,18 +42,8 @@ test_children-loop-i-init g t c =
 
 pub test_children-returns-in_err-head : goal.test_children-returns-in_err-head
 test_children-returns-in_err-head g t c =
-    record {
-      tells = search rules;
-      never = (
-          let from : Progress = progress c.args.first c.args.test.now.lim in
-          on_err c.from_residual.result (on_ok_so c.test_place.new.test.answer c.in_err-head.ensures.never (λ h. pointer_never from c.args.count c.loop-i.invariant c.loop-i-test.true h)));
-      refused = (
-          let nl = to_z-of_z w32 c.args.nesting_limit c.ranges.nesting_limit in
-          on_err c.from_residual.result (err_so c.test_place.new.test.answer c.in_err-head.ensures.refused (λ k h. pointer_ends c.args.count (rw nl at c.loop-i.invariant) c.loop-i-test.true (rw nl at h))));
-      failed = (
-          let nl = to_z-of_z w32 c.args.nesting_limit c.ranges.nesting_limit in
-          on_err c.from_residual.result (ok_so c.test_place.new.test.answer c.in_err-head.ensures.failed (λ f h. pointer_ends c.args.count (rw nl at c.loop-i.invariant) c.loop-i-test.true (rw nl at h))));
-    }
+    subst (λ (z : ℤ). TestsPointers (reading_on g.A.ReaderArena c.args.from.now c.args.at z) c.args.count (progress c.args.first c.args.test.now.lim) c.test_place.new.test c.from_residual.result) (to_z-of_z w32 c.args.nesting_limit c.ranges.nesting_limit)
+    (pointers_stopped c.test_place.new.test c.from_residual.result c.from_residual.ensures.0 c.loop-i.invariant c.loop-i-test.true c.in_err-head.ensures)
 
 pub test_children-loop-i-preserved : goal.test_children-loop-i-preserved
 test_children-loop-i-preserved g t c = pointer_found c.loop-i.invariant c.in_ok-head.ensures.tells
@@ -66,96 +64,55 @@ test_place-returns-then-is_null g t c =
 pub test_struct-returns-in-Err : goal.test_struct-returns-in-Err
 test_struct-returns-in-Err g t c =
     let r : Reading = reading_on g.A.ReaderArena c.args.from.now c.args.at c.args.nesting_limit in
-    let ready : IsTested r = c.requires.tested.ready in
-    let nl = to_z-of_z w32 c.args.nesting_limit c.ranges.nesting_limit in
-    record {
-      tells = tt;
-      never = rw c.refused.ensures tt;
-      refused = rw c.refused.ensures (here (record { name = c.in-Err.kind; near = ready.near; stopped = rw nl at c.in-Err.ensures.refused; named = ap (λ w. level_refusal_name w c.in-Err.kind) c.requires.tested.there }));
-      failed = rw c.refused.ensures tt;
-    }
+    let stops = subst (λ (z : ℤ). Stops Value plain (reading_on g.A.ReaderArena c.args.from.now c.args.at z) c.args.test.now.lim c.read_near_struct.new.lim c.in-Err.kind) (to_z-of_z w32 c.args.nesting_limit c.ranges.nesting_limit) c.in-Err.ensures.refused in
+    stopped_unread {r = r} {from = progress c.args.head c.args.test.now.lim} c.refused.ensures (here (record { name = c.in-Err.kind; near = c.requires.tested.ready.near; stopped = stops; named = ap (λ w. level_refusal_name w c.in-Err.kind) c.requires.tested.there }))
 
 pub test_list-returns-in-Err : goal.test_list-returns-in-Err
 test_list-returns-in-Err g t c =
     let r : Reading = reading_on g.A.ReaderArena c.args.from.now c.args.at c.args.nesting_limit in
-    let ready : IsTested r = c.requires.tested.ready in
-    let nl = to_z-of_z w32 c.args.nesting_limit c.ranges.nesting_limit in
-    record {
-      tells = tt;
-      never = rw c.refused.ensures tt;
-      refused = rw c.refused.ensures (here (record { name = c.in-Err.kind; near = ready.near; stopped = rw nl at c.in-Err.ensures.refused; named = ap (λ w. level_refusal_name w c.in-Err.kind) c.requires.tested.there }));
-      failed = rw c.refused.ensures tt;
-    }
+    let stops = subst (λ (z : ℤ). Stops Value plain (reading_on g.A.ReaderArena c.args.from.now c.args.at z) c.args.test.now.lim c.read_object.new.lim c.in-Err.kind) (to_z-of_z w32 c.args.nesting_limit c.ranges.nesting_limit) c.in-Err.ensures.refused in
+    stopped_unread {r = r} {from = progress c.args.head c.args.test.now.lim} c.refused.ensures (here (record { name = c.in-Err.kind; near = c.requires.tested.ready.near; stopped = stops; named = ap (λ w. level_refusal_name w c.in-Err.kind) c.requires.tested.there }))
 
 pub test_list-returns-then-not-starts_right : goal.test_list-returns-then-not-starts_right
 test_list-returns-then-not-starts_right g t c =
     let r : Reading = reading_on g.A.ReaderArena c.args.from.now c.args.at c.args.nesting_limit in
     let ready : IsTested r = c.requires.tested.ready in
-    let nl = to_z-of_z w32 c.args.nesting_limit c.ranges.nesting_limit in
-    let object : IsObject Value r c.args.test.now.lim c.read_object.new.lim c.in-Ok.object = rw nl at c.in-Ok.ensures.object in
-    record {
-      tells = tt;
-      never = rw c.fault_at.ensures (unplaced_never r c.args.test.now.lim c.read_object.new.lim c.args.head c.in-Ok.object ready object (λ right. false≢true (sym c.if-not-starts_right.true ∙ c.starts_right.ensures.1 right)));
-      refused = rw c.fault_at.ensures tt;
-      failed = rw c.fault_at.ensures (unplaced_fails {r = r} {from = progress c.args.head c.args.test.now.lim} c.in-Ok.object (refl, refl, refl) ready (rw c.requires.tested.there at c.requires.is_list) object (λ right. false≢true (sym c.if-not-starts_right.true ∙ c.starts_right.ensures.1 right)));
-    }
+    let object : IsObject Value r c.args.test.now.lim c.read_object.new.lim (c.in-Ok.object) =
+    object_is (λ (z : ℤ). reading_on g.A.ReaderArena c.args.from.now c.args.at z) c.args.test.now.lim c.read_object.new.lim (to_z-of_z w32 c.args.nesting_limit c.ranges.nesting_limit) refl c.in-Ok.ensures.object in
+    let other : StartsRight c.in-Ok.object c.args.at c.args.head → ⊥ = λ right. false≢true (sym c.if-not-starts_right.true ∙ c.starts_right.ensures.1 right) in
+    stopped_by_fault {r = r} {from = progress c.args.head c.args.test.now.lim} c.fault_at.ensures (unplaced_never r c.args.test.now.lim c.read_object.new.lim c.args.head c.in-Ok.object ready object other)
+    (unplaced_fails {r = r} {from = progress c.args.head c.args.test.now.lim} c.in-Ok.object (refl, refl, refl) ready (subst (λ w. kind w ≡ 1) c.requires.tested.there c.requires.is_list) object other)
 
 pub test_list-returns-in-Flat : goal.test_list-returns-in-Flat
 test_list-returns-in-Flat g t c =
     let r : Reading = reading_on g.A.ReaderArena c.args.from.now c.args.at c.args.nesting_limit in
     let ready : IsTested r = c.requires.tested.ready in
-    let nl = to_z-of_z w32 c.args.nesting_limit c.ranges.nesting_limit in
-    let object : IsObject Value r c.args.test.now.lim c.read_object.new.lim (ObjectFlat c.in-Flat.start c.in-Flat.size c.in-Flat.count) = rw nl at (rw c.in-Flat.is at c.in-Ok.ensures.object) in
-    let right : StartsRight (ObjectFlat c.in-Flat.start c.in-Flat.size c.in-Flat.count) c.args.at c.args.head = rw c.in-Flat.is at (c.starts_right.ensures.0 c.if-not-starts_right.false) in
-    record {
-      tells = ok_so c.test_flat.result c.test_flat.ensures.tells (λ e h. flat_tells {r = r} (progress c.args.head c.args.test.now.lim) c.in-Flat.start c.in-Flat.size c.in-Flat.count (Some e) ready object right h);
-      never = on_err_both c.test_flat.result c.test_flat.ensures.never c.test_flat.ensures.failed (λ fails is. rw is (flat_tells {r = r} (progress c.args.head c.args.test.now.lim) c.in-Flat.start c.in-Flat.size c.in-Flat.count None ready object right fails));
-      refused = on_err_so c.test_flat.result c.test_flat.ensures.failed (λ is. rw is tt);
-      failed = on_err_both c.test_flat.result c.test_flat.ensures.never c.test_flat.ensures.failed (λ fails is. rw is (flat_fails {r = r} {from = progress c.args.head c.args.test.now.lim} c.in-Flat.start c.in-Flat.size c.in-Flat.count ready object right fails (refl, refl, refl)));
-    }
+    let object : IsObject Value r c.args.test.now.lim c.read_object.new.lim (ObjectFlat c.in-Flat.start c.in-Flat.size c.in-Flat.count) =
+    object_is (λ (z : ℤ). reading_on g.A.ReaderArena c.args.from.now c.args.at z) c.args.test.now.lim c.read_object.new.lim (to_z-of_z w32 c.args.nesting_limit c.ranges.nesting_limit) c.in-Flat.is c.in-Ok.ensures.object in
+    let right : StartsRight (ObjectFlat c.in-Flat.start c.in-Flat.size c.in-Flat.count) c.args.at c.args.head = subst (λ x. StartsRight x c.args.at c.args.head) c.in-Flat.is (c.starts_right.ensures.0 c.if-not-starts_right.false) in
+    flat_tested {r = r} c.in-Flat.start c.in-Flat.size c.in-Flat.count ready object right c.test_flat.ensures.tells c.test_flat.ensures.never c.test_flat.ensures.failed
 
 pub test_list-returns-in-Pointers : goal.test_list-returns-in-Pointers
 test_list-returns-in-Pointers g t c =
     let r : Reading = reading_on g.A.ReaderArena c.args.from.now c.args.at c.args.nesting_limit in
     let ready : IsTested r = c.requires.tested.ready in
-    let nl = to_z-of_z w32 c.args.nesting_limit c.ranges.nesting_limit in
-    let object : IsObject Value r c.args.test.now.lim c.read_object.new.lim (ObjectPointers c.in-Pointers.start c.in-Pointers.count) = rw nl at (rw c.in-Pointers.is at c.in-Ok.ensures.object) in
-    let right : StartsRight (ObjectPointers c.in-Pointers.start c.in-Pointers.count) c.args.at c.args.head = rw c.in-Pointers.is at (c.starts_right.ensures.0 c.if-not-starts_right.false) in
-    let nm = to_z-of_z w32 c.less.result (search rules) in
-    let there = place_begins r c.in-Pointers.start (rw nl at c.less.ensures) (pointers_here {r = r} c.in-Pointers.start c.in-Pointers.count ready object) in
-    record {
-      tells = ok_so c.test_children.result c.test_children.ensures.tells (λ e h. pointers_tell {r = r} (progress c.args.head c.args.test.now.lim) c.test_children.new.test.lim c.in-Pointers.start c.in-Pointers.count (Some e) ready object right
-          (subst (λ x. TellsAll x c.in-Pointers.count (progress (c.in-Pointers.start.at + c.in-Pointers.count) c.read_object.new.lim) c.test_children.new.test.lim (Some e)) there (rw nm at h)));
-      never = on_err_so c.test_children.result c.test_children.ensures.never (λ x. on_ok_so c.test_children.new.test.answer x (λ h. pointers_tell {r = r} (progress c.args.head c.args.test.now.lim) c.test_children.new.test.lim c.in-Pointers.start c.in-Pointers.count None ready object right
-          (subst (λ x. TellsAll x c.in-Pointers.count (progress (c.in-Pointers.start.at + c.in-Pointers.count) c.read_object.new.lim) c.test_children.new.test.lim None) (ap (λ z. reading_on g.A.ReaderArena c.args.from.now c.in-Pointers.start.at z) nm ∙ there) h)));
-      refused = on_err_so c.test_children.result c.test_children.ensures.refused (λ x. err_so c.test_children.new.test.answer x (λ k h. pointers_end {r = r} {from = progress c.args.head c.args.test.now.lim} c.in-Pointers.start c.in-Pointers.count ready object right
-          (subst (λ x. TestsEnd (Unread k) x c.in-Pointers.count (progress (c.in-Pointers.start.at + c.in-Pointers.count) c.read_object.new.lim) c.test_children.new.test.lim) there (rw nm at h))));
-      failed = on_err_so c.test_children.result c.test_children.ensures.failed (λ x. ok_so c.test_children.new.test.answer x (λ f fails. pointers_end {r = r} {from = progress c.args.head c.args.test.now.lim} c.in-Pointers.start c.in-Pointers.count ready object right
-          (subst (λ x. TestsEnd (IsFault f) x c.in-Pointers.count (progress (c.in-Pointers.start.at + c.in-Pointers.count) c.read_object.new.lim) c.test_children.new.test.lim) there (rw nm at fails))));
-    }
+    let object : IsObject Value r c.args.test.now.lim c.read_object.new.lim (ObjectPointers c.in-Pointers.start c.in-Pointers.count) =
+    object_is (λ (z : ℤ). reading_on g.A.ReaderArena c.args.from.now c.args.at z) c.args.test.now.lim c.read_object.new.lim (to_z-of_z w32 c.args.nesting_limit c.ranges.nesting_limit) c.in-Pointers.is c.in-Ok.ensures.object in
+    let right : StartsRight (ObjectPointers c.in-Pointers.start c.in-Pointers.count) c.args.at c.args.head = subst (λ x. StartsRight x c.args.at c.args.head) c.in-Pointers.is (c.starts_right.ensures.0 c.if-not-starts_right.false) in
+    let inner = inner_levels c.args.nesting_limit c.less.result c.ranges.nesting_limit (record { sfits = c.less.type_inv }) c.less.ensures in
+    list_tested {r = r} c.in-Pointers.start c.in-Pointers.count ready object right (place_begins r c.in-Pointers.start inner (pointers_here {r = r} c.in-Pointers.start c.in-Pointers.count ready object)) c.test_children.ensures
 
 pub test_list-returns-in-Structs : goal.test_list-returns-in-Structs
 test_list-returns-in-Structs g t c =
     let r : Reading = reading_on g.A.ReaderArena c.args.from.now c.args.at c.args.nesting_limit in
     let ready : IsTested r = c.requires.tested.ready in
-    let nl = to_z-of_z w32 c.args.nesting_limit c.ranges.nesting_limit in
-    let object : IsObject Value r c.args.test.now.lim c.read_object.new.lim (ObjectStructs c.in-Structs.start c.in-Structs.size c.in-Structs.count) = rw nl at (rw c.in-Structs.is at c.in-Ok.ensures.object) in
-    let right : StartsRight (ObjectStructs c.in-Structs.start c.in-Structs.size c.in-Structs.count) c.args.at c.args.head = rw c.in-Structs.is at (c.starts_right.ensures.0 c.if-not-starts_right.false) in
-    let nk = to_z-of_z w32 c.less-inner.result (search rules) in
-    let there = elements_begin r c.in-Structs.start (rw nl at c.less-inner.ensures) (structs_here {r = r} c.in-Structs.start c.in-Structs.size c.in-Structs.count ready object) in
+    let object : IsObject Value r c.args.test.now.lim c.read_object.new.lim (ObjectStructs c.in-Structs.start c.in-Structs.size c.in-Structs.count) =
+    object_is (λ (z : ℤ). reading_on g.A.ReaderArena c.args.from.now c.args.at z) c.args.test.now.lim c.read_object.new.lim (to_z-of_z w32 c.args.nesting_limit c.ranges.nesting_limit) c.in-Structs.is c.in-Ok.ensures.object in
+    let right : StartsRight (ObjectStructs c.in-Structs.start c.in-Structs.size c.in-Structs.count) c.args.at c.args.head = subst (λ x. StartsRight x c.args.at c.args.head) c.in-Structs.is (c.starts_right.ensures.0 c.if-not-starts_right.false) in
+    let inner = inner_levels c.args.nesting_limit c.less-inner.result c.ranges.nesting_limit (record { sfits = c.less-inner.type_inv }) c.less-inner.ensures in
     let claimed : c.list_inline_composite_word_count-claimed.result ≡ list_count (word_of r) = c.list_inline_composite_word_count-claimed.ensures.value ∙ ap list_count c.requires.tested.there in
-    record {
-      tells = ok_so c.test_structs.result c.test_structs.ensures.tells (λ e h. structs_tell {r = r} (progress c.args.head c.args.test.now.lim) c.test_structs.new.test.lim c.in-Structs.start c.in-Structs.size c.in-Structs.count (Some e) ready object right
-          (subst (λ x. TellsClaimed x c.in-Structs.size c.in-Structs.count (list_count (word_of r)) c.read_object.new.lim c.test_structs.new.test.lim (Some e)) there (rw (nk, claimed) at h)));
-      never = on_err_so c.test_structs.result c.test_structs.ensures.never (λ x. on_ok_so c.test_structs.new.test.answer x (λ h. structs_tell {r = r} (progress c.args.head c.args.test.now.lim) c.test_structs.new.test.lim c.in-Structs.start c.in-Structs.size c.in-Structs.count None ready object right
-          (subst (λ x. TellsClaimed x c.in-Structs.size c.in-Structs.count (list_count (word_of r)) c.read_object.new.lim c.test_structs.new.test.lim None) there
-          (subst (λ z. TellsClaimed (reading_on g.A.ReaderArena c.args.from.now c.in-Structs.start.at z) c.in-Structs.size c.in-Structs.count (list_count (word_of r)) c.read_object.new.lim c.test_structs.new.test.lim None) nk
-          (subst (λ w. TellsClaimed (reading_on g.A.ReaderArena c.args.from.now c.in-Structs.start.at (to_z w32 (of_z w32 c.less-inner.result))) c.in-Structs.size c.in-Structs.count w c.read_object.new.lim c.test_structs.new.test.lim None) claimed h)))));
-      refused = on_err_both c.test_structs.result c.test_structs.ensures.exact c.test_structs.ensures.refused (λ x y. err_with c.test_structs.new.test.answer x y (λ exact k h. structs_end {r = r} {from = progress c.args.head c.args.test.now.lim} c.in-Structs.start c.in-Structs.size c.in-Structs.count ready object right (exact ∙ claimed)
-          (subst (λ x. RowTestsEnd (Unread k) x (rows_sized c.in-Structs.size c.in-Structs.count) (progress (x.at + list_count (word_of r)) c.read_object.new.lim) c.test_structs.new.test.lim) there (rw (nk, claimed) at h))));
-      failed = on_err_so c.test_structs.result c.test_structs.ensures.failed (λ x. ok_so c.test_structs.new.test.answer x (λ f fails. claimed_fails {r = r} {from = progress c.args.head c.args.test.now.lim} c.in-Structs.start c.in-Structs.size c.in-Structs.count ready object right
-          (subst (λ x. ClaimedFails f x c.in-Structs.size c.in-Structs.count (list_count (word_of r)) c.read_object.new.lim c.test_structs.new.test.lim) there (rw (nk, claimed) at fails))));
-    }
+    elements_tested {r = r} c.in-Structs.start c.in-Structs.size c.in-Structs.count ready object right (place_begins r c.in-Structs.start inner (structs_here {r = r} c.in-Structs.start c.in-Structs.size c.in-Structs.count ready object)) claimed
+    c.test_structs.ensures.tells c.test_structs.ensures.never c.test_structs.ensures.exact c.test_structs.ensures.refused c.test_structs.ensures.failed
 
 pub test_rows-loop-i-init : goal.test_rows-loop-i-init
 test_rows-loop-i-init g t c =
@@ -214,11 +171,12 @@ pub test_struct-returns-then-start-at : goal.test_struct-returns-then-start-at
 test_struct-returns-then-start-at g t c =
     let r : Reading = reading_on g.A.ReaderArena c.args.from.now c.args.at c.args.nesting_limit in
     let ready : IsTested r = c.requires.tested.ready in
-    let nl = to_z-of_z w32 c.args.nesting_limit c.ranges.nesting_limit in
     let start = record c.args.from.now.place { at = c.in-Ok.start } in
     let size = c.struct_size-size.result in
+    let entered : EntersNear Value r c.args.test.now.lim c.read_near_struct.new.lim c.in-Ok.start =
+    subst (λ (z : ℤ). EntersNear Value (reading_on g.A.ReaderArena c.args.from.now c.args.at z) c.args.test.now.lim c.read_near_struct.new.lim c.in-Ok.start) (to_z-of_z w32 c.args.nesting_limit c.ranges.nesting_limit) c.in-Ok.ensures.object in
     let object : IsObject Value r c.args.test.now.lim c.read_near_struct.new.lim (ObjectStruct start size) =
-    struct_by_word {r = r} start size (rw c.requires.tested.there at c.requires.is_struct) c.args.from.now.held refl (rw nl at c.in-Ok.ensures.object) (c.struct_size-size.ensures.data_of ∙ ap data_words c.requires.tested.there) (c.struct_size-size.ensures.pointers_of ∙ ap pointer_count c.requires.tested.there) in
+    struct_read {r = r} start size c.requires.tested.there c.requires.is_struct c.args.from.now.held refl entered c.struct_size-size.ensures.data_of c.struct_size-size.ensures.pointers_of in
     let none : size.data_words + size.pointers ≡ 0 = sym c.total.ensures ∙ c.if-total-eq0.true in
     record {
       tells = empty_tells {r = r} (progress c.args.head c.args.test.now.lim) start size ready object none (c.if-start-at.true ∙ sym (ap (λ n. cond (nat_eq n 0) c.args.at c.args.head) none));
@@ -231,64 +189,50 @@ pub test_struct-returns : goal.test_struct-returns
 test_struct-returns g t c =
     let r : Reading = reading_on g.A.ReaderArena c.args.from.now c.args.at c.args.nesting_limit in
     let ready : IsTested r = c.requires.tested.ready in
-    let nl = to_z-of_z w32 c.args.nesting_limit c.ranges.nesting_limit in
     let start = record c.args.from.now.place { at = c.in-Ok.start } in
     let size = c.struct_size-size.result in
+    let entered : EntersNear Value r c.args.test.now.lim c.read_near_struct.new.lim c.in-Ok.start =
+    subst (λ (z : ℤ). EntersNear Value (reading_on g.A.ReaderArena c.args.from.now c.args.at z) c.args.test.now.lim c.read_near_struct.new.lim c.in-Ok.start) (to_z-of_z w32 c.args.nesting_limit c.ranges.nesting_limit) c.in-Ok.ensures.object in
     let object : IsObject Value r c.args.test.now.lim c.read_near_struct.new.lim (ObjectStruct start size) =
-    struct_by_word {r = r} start size (rw c.requires.tested.there at c.requires.is_struct) c.args.from.now.held refl (rw nl at c.in-Ok.ensures.object) (c.struct_size-size.ensures.data_of ∙ ap data_words c.requires.tested.there) (c.struct_size-size.ensures.pointers_of ∙ ap pointer_count c.requires.tested.there) in
-    let some : 0 < size.data_words + size.pointers = omega (arith, c.total.ensures, c.if-total-eq0.false) in
-    let nm = to_z-of_z w32 c.less.result (search rules) in
-    let there = place_begins r start (rw nl at c.less.ensures) refl in
-    record {
-      tells = ok_so c.test_sections.result c.test_sections.ensures.tells (λ e h. struct_tells {r = r} (progress c.args.head c.args.test.now.lim) c.test_sections.new.test.lim start size (Some e) ready object some (some_right c.args.at some c.if-start-head.false)
-          (subst (λ x. TellsStruct x size c.read_near_struct.new.lim c.test_sections.new.test.lim (Some e)) there (rw nm at h)));
-      never = on_err_so c.test_sections.result c.test_sections.ensures.never (λ x. on_ok_so c.test_sections.new.test.answer x (λ h. struct_tells {r = r} (progress c.args.head c.args.test.now.lim) c.test_sections.new.test.lim start size None ready object some (some_right c.args.at some c.if-start-head.false)
-          (subst (λ x. TellsStruct x size c.read_near_struct.new.lim c.test_sections.new.test.lim None) (ap (λ z. reading_on g.A.ReaderArena c.args.from.now c.in-Ok.start z) nm ∙ there) h)));
-      refused = on_err_so c.test_sections.result c.test_sections.ensures.refused (λ x. err_so c.test_sections.new.test.answer x (λ k h. struct_ends {r = r} {from = progress c.args.head c.args.test.now.lim} start size ready object some (some_right c.args.at some c.if-start-head.false)
-          (subst (λ x. TestsEnd (Unread k) (behind x size.data_words) size.pointers (progress (c.in-Ok.start + size.data_words + size.pointers) c.read_near_struct.new.lim) c.test_sections.new.test.lim) there (rw nm at h))));
-      failed = on_err_so c.test_sections.result c.test_sections.ensures.failed (λ x. ok_so c.test_sections.new.test.answer x (λ f fails. sections_fail {r = r} {from = progress c.args.head c.args.test.now.lim} start size ready object some (some_right c.args.at some c.if-start-head.false)
-          (subst (λ x. SectionsFail f x size c.read_near_struct.new.lim c.test_sections.new.test.lim) there (rw nm at fails))));
-    }
+    struct_read {r = r} start size c.requires.tested.there c.requires.is_struct c.args.from.now.held refl entered c.struct_size-size.ensures.data_of c.struct_size-size.ensures.pointers_of in
+    let some : 0 < size.data_words + size.pointers = some_words c.total.ensures c.if-total-eq0.false in
+    let inner = inner_levels c.args.nesting_limit c.less.result c.ranges.nesting_limit (record { sfits = c.less.type_inv }) c.less.ensures in
+    struct_tested {r = r} start size ready object some c.if-start-head.false (place_begins r start inner refl) c.test_sections.ensures.tells c.test_sections.ensures.never c.test_sections.ensures.refused c.test_sections.ensures.failed
 
 pub test_list-test_children-requires : goal.test_list-test_children-requires
 test_list-test_children-requires g t c κs within =
     let r : Reading = reading_on g.A.ReaderArena c.args.from.now c.args.at c.args.nesting_limit in
     let ready : IsTested r = c.requires.tested.ready in
-    let nl = to_z-of_z w32 c.args.nesting_limit c.ranges.nesting_limit in
-    let object : IsObject Value r c.args.test.now.lim c.read_object.new.lim (ObjectPointers c.in-Pointers.start c.in-Pointers.count) = rw nl at (rw c.in-Pointers.is at c.in-Ok.ensures.object) in
+    let object : IsObject Value r c.args.test.now.lim c.read_object.new.lim (ObjectPointers c.in-Pointers.start c.in-Pointers.count) =
+    object_is (λ (z : ℤ). reading_on g.A.ReaderArena c.args.from.now c.args.at z) c.args.test.now.lim c.read_object.new.lim (to_z-of_z w32 c.args.nesting_limit c.ranges.nesting_limit) c.in-Pointers.is c.in-Ok.ensures.object in
     let room = subst (λ i. c.in-Pointers.start.at + c.in-Pointers.count ≤ length (segment r.segments i)) (sym (pointers_here {r = r} c.in-Pointers.start c.in-Pointers.count ready object)) (pointers_room {r = r} c.in-Pointers.start c.in-Pointers.count object) in
-    (search rules, (search rules, room))
+    (falls_in 2 (search rules) (inner_levels c.args.nesting_limit c.less.result c.ranges.nesting_limit (record { sfits = c.less.type_inv }) c.less.ensures) object.1.meets.levels c.decreases, (within, room))
 
 pub test_list-test_structs-requires : goal.test_list-test_structs-requires
 test_list-test_structs-requires g t c κs within =
     let r : Reading = reading_on g.A.ReaderArena c.args.from.now c.args.at c.args.nesting_limit in
     let ready : IsTested r = c.requires.tested.ready in
-    let nl = to_z-of_z w32 c.args.nesting_limit c.ranges.nesting_limit in
-    let object : IsObject Value r c.args.test.now.lim c.read_object.new.lim (ObjectStructs c.in-Structs.start c.in-Structs.size c.in-Structs.count) = rw nl at (rw c.in-Structs.is at c.in-Ok.ensures.object) in
-    let nk = to_z-of_z w32 c.less-inner.result (search rules) in
-    let falls = level_falls (levels c.args.nesting_limit) object.1.meets.levels in
-    let inner : levels c.less-inner.result ≡ pred (levels c.args.nesting_limit) = rw nl at c.less-inner.ensures in
+    let object : IsObject Value r c.args.test.now.lim c.read_object.new.lim (ObjectStructs c.in-Structs.start c.in-Structs.size c.in-Structs.count) =
+    object_is (λ (z : ℤ). reading_on g.A.ReaderArena c.args.from.now c.args.at z) c.args.test.now.lim c.read_object.new.lim (to_z-of_z w32 c.args.nesting_limit c.ranges.nesting_limit) c.in-Structs.is c.in-Ok.ensures.object in
+    let right : StartsRight (ObjectStructs c.in-Structs.start c.in-Structs.size c.in-Structs.count) c.args.at c.args.head = subst (λ x. StartsRight x c.args.at c.args.head) c.in-Structs.is (c.starts_right.ensures.0 c.if-not-starts_right.false) in
     let claimed : list_count (word_of r) ≡ c.list_inline_composite_word_count-claimed.result = sym (c.list_inline_composite_word_count-claimed.ensures.value ∙ ap list_count c.requires.tested.there) in
-    let room = rw claimed at (subst (λ i. c.in-Structs.start.at + list_count (word_of r) ≤ length (segment r.segments i)) (sym (structs_here {r = r} c.in-Structs.start c.in-Structs.size c.in-Structs.count ready object)) (structs_room {r = r} c.in-Structs.start c.in-Structs.size c.in-Structs.count ready.near object)) in
-    let right : StartsRight (ObjectStructs c.in-Structs.start c.in-Structs.size c.in-Structs.count) c.args.at c.args.head = rw c.in-Structs.is at (c.starts_right.ensures.0 c.if-not-starts_right.false) in
-    (search (rules, nk, nl, inner, falls), (search rules, (room, omega (arith, right))))
+    let room = structs_room_at {r = r} c.in-Structs.start c.in-Structs.size c.in-Structs.count claimed (structs_here {r = r} c.in-Structs.start c.in-Structs.size c.in-Structs.count ready object) ready.near object in
+    (falls_in 5 (search rules) (inner_levels c.args.nesting_limit c.less-inner.result c.ranges.nesting_limit (record { sfits = c.less-inner.type_inv }) c.less-inner.ensures) object.1.meets.levels c.decreases, (within, (room, behind_tag c.args.head right)))
 
 pub test_struct-returns-then-total-eq0 : goal.test_struct-returns-then-total-eq0
 test_struct-returns-then-total-eq0 g t c =
     let r : Reading = reading_on g.A.ReaderArena c.args.from.now c.args.at c.args.nesting_limit in
     let ready : IsTested r = c.requires.tested.ready in
-    let nl = to_z-of_z w32 c.args.nesting_limit c.ranges.nesting_limit in
     let start = record c.args.from.now.place { at = c.in-Ok.start } in
     let size = c.struct_size-size.result in
+    let entered : EntersNear Value r c.args.test.now.lim c.read_near_struct.new.lim c.in-Ok.start =
+    subst (λ (z : ℤ). EntersNear Value (reading_on g.A.ReaderArena c.args.from.now c.args.at z) c.args.test.now.lim c.read_near_struct.new.lim c.in-Ok.start) (to_z-of_z w32 c.args.nesting_limit c.ranges.nesting_limit) c.in-Ok.ensures.object in
     let object : IsObject Value r c.args.test.now.lim c.read_near_struct.new.lim (ObjectStruct start size) =
-    struct_by_word {r = r} start size (rw c.requires.tested.there at c.requires.is_struct) c.args.from.now.held refl (rw nl at c.in-Ok.ensures.object) (c.struct_size-size.ensures.data_of ∙ ap data_words c.requires.tested.there) (c.struct_size-size.ensures.pointers_of ∙ ap pointer_count c.requires.tested.there) in
+    struct_read {r = r} start size c.requires.tested.there c.requires.is_struct c.args.from.now.held refl entered c.struct_size-size.ensures.data_of c.struct_size-size.ensures.pointers_of in
     let none : size.data_words + size.pointers ≡ 0 = sym c.total.ensures ∙ c.if-total-eq0.true in
-    record {
-      tells = tt;
-      never = search rules;
-      refused = rw c.fault_at.ensures tt;
-      failed = rw c.fault_at.ensures (empty_fails {r = r} {from = progress c.args.head c.args.test.now.lim} start size (refl, refl, refl) ready object none c.if-start-at.false);
-    }
+    stopped_by_fault {r = r} {from = progress c.args.head c.args.test.now.lim} c.fault_at.ensures
+    (unplaced_never r c.args.test.now.lim c.read_near_struct.new.lim c.args.head (ObjectStruct start size) ready object (λ right. c.if-start-at.false (right ∙ ap (λ n. cond (nat_eq n 0) c.args.at c.args.head) none)))
+    (empty_fails {r = r} {from = progress c.args.head c.args.test.now.lim} start size (refl, refl, refl) ready object none c.if-start-at.false)
 
 -- a struct of some words that starts elsewhere than at the head doesn't start right
 head_right : {n h x : ℕ} (p : ℕ) → 0 < n → x ≡ cond (nat_eq n 0) p h → x ≡ h
@@ -298,18 +242,16 @@ pub test_struct-returns-then-start-head : goal.test_struct-returns-then-start-he
 test_struct-returns-then-start-head g t c =
     let r : Reading = reading_on g.A.ReaderArena c.args.from.now c.args.at c.args.nesting_limit in
     let ready : IsTested r = c.requires.tested.ready in
-    let nl = to_z-of_z w32 c.args.nesting_limit c.ranges.nesting_limit in
     let start = record c.args.from.now.place { at = c.in-Ok.start } in
     let size = c.struct_size-size.result in
+    let entered : EntersNear Value r c.args.test.now.lim c.read_near_struct.new.lim c.in-Ok.start =
+    subst (λ (z : ℤ). EntersNear Value (reading_on g.A.ReaderArena c.args.from.now c.args.at z) c.args.test.now.lim c.read_near_struct.new.lim c.in-Ok.start) (to_z-of_z w32 c.args.nesting_limit c.ranges.nesting_limit) c.in-Ok.ensures.object in
     let object : IsObject Value r c.args.test.now.lim c.read_near_struct.new.lim (ObjectStruct start size) =
-    struct_by_word {r = r} start size (rw c.requires.tested.there at c.requires.is_struct) c.args.from.now.held refl (rw nl at c.in-Ok.ensures.object) (c.struct_size-size.ensures.data_of ∙ ap data_words c.requires.tested.there) (c.struct_size-size.ensures.pointers_of ∙ ap pointer_count c.requires.tested.there) in
-    let some : 0 < size.data_words + size.pointers = omega (arith, c.total.ensures, c.if-total-eq0.false) in
-    record {
-      tells = tt;
-      never = rw c.fault_at-then-start-head.ensures (unplaced_never r c.args.test.now.lim c.read_near_struct.new.lim c.args.head (ObjectStruct start size) ready object (λ right. c.if-start-head.true (head_right c.args.at some right)));
-      refused = rw c.fault_at-then-start-head.ensures tt;
-      failed = rw c.fault_at-then-start-head.ensures (struct_fails {r = r} {from = progress c.args.head c.args.test.now.lim} start size (refl, refl, refl) ready object some c.if-start-head.true);
-    }
+    struct_read {r = r} start size c.requires.tested.there c.requires.is_struct c.args.from.now.held refl entered c.struct_size-size.ensures.data_of c.struct_size-size.ensures.pointers_of in
+    let some : 0 < size.data_words + size.pointers = some_words c.total.ensures c.if-total-eq0.false in
+    stopped_by_fault {r = r} {from = progress c.args.head c.args.test.now.lim} c.fault_at-then-start-head.ensures
+    (unplaced_never r c.args.test.now.lim c.read_near_struct.new.lim c.args.head (ObjectStruct start size) ready object (λ right. c.if-start-head.true (head_right c.args.at some right)))
+    (struct_fails {r = r} {from = progress c.args.head c.args.test.now.lim} start size (refl, refl, refl) ready object some c.if-start-head.true)
 
 pub test_rows-returns-in_err-head-clause-failed : goal.test_rows-returns-in_err-head-clause-failed
 test_rows-returns-in_err-head-clause-failed g t c =
@@ -331,26 +273,16 @@ test_rows-returns-then-not-are_pointers_used-clause-failed g t c =
 pub test_place-returns-then-at-whole_words : goal.test_place-returns-then-at-whole_words
 test_place-returns-then-at-whole_words g t c =
     let r : Reading = reading_on g.A.ReaderArena c.args.from.now c.args.at c.args.nesting_limit in
-    record {
-      tells = tt;
-      never = search rules;
-      refused = rw c.fault_at.ensures tt;
-      failed = rw c.fault_at.ensures (here {r = r} (no_pointer (refl, refl, refl) (λ there. omega (arith, there, c.whole_words.ensures.count, c.if-at-whole_words.true, ap length c.args.from.now.held.0)) refl));
-    }
+    let outside : r.at < length (segment_read r) → ⊥ = λ there. no_word (c.whole_words.ensures.count ∙ ap length c.args.from.now.held.0) c.if-at-whole_words.true there in
+    stopped_by_fault {r = r} {from = progress c.args.head c.args.test.now.lim} c.fault_at.ensures (λ stands. outside stands.1.0) (here {r = r} (no_pointer (refl, refl, refl) outside refl))
 
 pub test_place-returns-then-not-is_positional : goal.test_place-returns-then-not-is_positional
 test_place-returns-then-not-is_positional g t c =
     let r : Reading = reading_on g.A.ReaderArena c.args.from.now c.args.at c.args.nesting_limit in
     let word : c.word-word.result.0 ≡ word_of r = c.word-word.ensures.value ∙ ap (λ ws. slice_index ws c.args.at) c.args.from.now.held.0 in
-    let near : kind c.word-word.result.0 < 2 → ⊥ = λ small. false≢true (sym c.if-not-is_positional.true ∙ c.is_positional.ensures.1 small) in
-    let far : 2 ≤ kind c.word-word.result.0 = omega (arith, near) in
-    let there : IsPlace r.segments r.segment r.at = omega (arith, c.whole_words.ensures.count, c.if-at-whole_words.false, ap length c.args.from.now.held.0) in
-    record {
-      tells = tt;
-      never = search rules;
-      refused = rw c.fault_at-then-not-is_positional.ensures tt;
-      failed = rw c.fault_at-then-not-is_positional.ensures (here {r = r} (other_pointer (c.reason_of.ensures ∙ ap other_reason word, refl, refl) there (subst (λ w. 2 ≤ kind w) word far) refl));
-    }
+    let far : 2 ≤ kind c.word-word.result.0 = not_near (λ small. false≢true (sym c.if-not-is_positional.true ∙ c.is_positional.ensures.1 small)) in
+    let there : IsPlace r.segments r.segment r.at = is_word (c.whole_words.ensures.count ∙ ap length c.args.from.now.held.0) c.if-at-whole_words.false in
+    stopped_by_fault {r = r} {from = progress c.args.head c.args.test.now.lim} c.fault_at-then-not-is_positional.ensures (far_never r c.args.head (subst (λ w. 2 ≤ kind w) word far)) (here {r = r} (other_pointer (c.reason_of.ensures ∙ ap other_reason word, refl, refl) there (subst (λ w. 2 ≤ kind w) word far) refl))
 
 -- An element without pointers.
 pub test_row-returns-then-count-eq0 : goal.test_row-returns-then-count-eq0
@@ -394,21 +326,11 @@ test_sections-returns-then-not-ends_used-2-clause-failed g t c =
 -- What a test that is handed on tells.
 pub test_place-returns-in-Struct : goal.test_place-returns-in-Struct
 test_place-returns-in-Struct g t c =
-    record {
-      tells = rw (to_z-of_z w32 c.args.nesting_limit c.ranges.nesting_limit) at c.test_struct.ensures.tells;
-      never = subst (λ z. OnErr c.test_struct.result (OnOk c.test_struct.new.test.answer (Tells (reading_on g.A.ReaderArena c.args.from.now c.args.at z) (progress c.args.head c.args.test.now.lim) c.test_struct.new.test.lim None))) (to_z-of_z w32 c.args.nesting_limit c.ranges.nesting_limit) c.test_struct.ensures.never;
-      refused = rw (to_z-of_z w32 c.args.nesting_limit c.ranges.nesting_limit) at c.test_struct.ensures.refused;
-      failed = rw (to_z-of_z w32 c.args.nesting_limit c.ranges.nesting_limit) at c.test_struct.ensures.failed;
-    }
+    subst (λ (z : ℤ). TestsPlace (reading_on g.A.ReaderArena c.args.from.now c.args.at z) (progress c.args.head c.args.test.now.lim) c.test_struct.new.test c.test_struct.result) (to_z-of_z w32 c.args.nesting_limit c.ranges.nesting_limit) c.test_struct.ensures
 
 pub test_row-returns : goal.test_row-returns
 test_row-returns g t c =
-    record {
-      tells = rw (to_z-of_z w32 c.args.nesting_limit c.ranges.nesting_limit) at c.test_children.ensures.tells;
-      never = subst (λ z. OnErr c.test_children.result (OnOk c.test_children.new.test.answer (TellsAll (reading_on g.A.ReaderArena c.args.from.now c.args.at z) c.args.count (progress c.args.first c.args.test.now.lim) c.test_children.new.test.lim None))) (to_z-of_z w32 c.args.nesting_limit c.ranges.nesting_limit) c.test_children.ensures.never;
-      refused = rw (to_z-of_z w32 c.args.nesting_limit c.ranges.nesting_limit) at c.test_children.ensures.refused;
-      failed = rw (to_z-of_z w32 c.args.nesting_limit c.ranges.nesting_limit) at c.test_children.ensures.failed;
-    }
+    subst (λ (z : ℤ). TestsPointers (reading_on g.A.ReaderArena c.args.from.now c.args.at z) c.args.count (progress c.args.first c.args.test.now.lim) c.test_children.new.test c.test_children.result) (to_z-of_z w32 c.args.nesting_limit c.ranges.nesting_limit) c.test_children.ensures
 
 pub test_structs-returns-clause-refused : goal.test_structs-returns-clause-refused
 test_structs-returns-clause-refused g t c =
@@ -417,23 +339,11 @@ test_structs-returns-clause-refused g t c =
 
 pub test_place-returns-in_default : goal.test_place-returns-in_default
 test_place-returns-in_default g t c =
-    let nl = to_z-of_z w32 c.args.nesting_limit c.ranges.nesting_limit in
-    record {
-      tells = rw nl at c.test_near_flat.ensures.tells;
-      never = subst (λ z. OnErr c.test_near_flat.result (OnOk c.test_near_flat.new.test.answer (Tells (reading_on g.A.ReaderArena c.args.from.now c.args.at z) (progress c.args.head c.args.test.now.lim) c.test_near_flat.new.test.lim None))) nl c.test_near_flat.ensures.never;
-      refused = rw nl at c.test_near_flat.ensures.refused;
-      failed = rw nl at c.test_near_flat.ensures.failed;
-    }
+    subst (λ (z : ℤ). TestsPlace (reading_on g.A.ReaderArena c.args.from.now c.args.at z) (progress c.args.head c.args.test.now.lim) c.test_near_flat.new.test c.test_near_flat.result) (to_z-of_z w32 c.args.nesting_limit c.ranges.nesting_limit) c.test_near_flat.ensures
 
 pub test_place-returns-in_default-2 : goal.test_place-returns-in_default-2
 test_place-returns-in_default-2 g t c =
-    let nl = to_z-of_z w32 c.args.nesting_limit c.ranges.nesting_limit in
-    record {
-      tells = rw nl at c.test_list.ensures.tells;
-      never = subst (λ z. OnErr c.test_list.result (OnOk c.test_list.new.test.answer (Tells (reading_on g.A.ReaderArena c.args.from.now c.args.at z) (progress c.args.head c.args.test.now.lim) c.test_list.new.test.lim None))) nl c.test_list.ensures.never;
-      refused = rw nl at c.test_list.ensures.refused;
-      failed = rw nl at c.test_list.ensures.failed;
-    }
+    subst (λ (z : ℤ). TestsPlace (reading_on g.A.ReaderArena c.args.from.now c.args.at z) (progress c.args.head c.args.test.now.lim) c.test_list.new.test c.test_list.result) (to_z-of_z w32 c.args.nesting_limit c.ranges.nesting_limit) c.test_list.ensures
 
 -- The sections of a struct, where its pointers are tested before its words are looked at.
 
@@ -597,3 +507,70 @@ pub test_structs-returns-then-from-clause-failed : goal.test_structs-returns-the
 test_structs-returns-then-from-clause-failed g t c =
     let other : c.args.count * (c.args.size.data_words + c.args.size.pointers) ≡ c.args.claimed → ⊥ = λ e. c.if-from.true (ap₂ (λ x y. x * y) c.from.ensures (c.from-2.ensures ∙ c.total.ensures) ∙ e ∙ sym c.from-3.ensures) in
     rw c.fault_at.ensures (inl ((refl, refl, refl), other, refl))
+
+pub test_rows-overflow_mul-at : goal.test_rows-overflow_mul-at
+test_rows-overflow_mul-at g t c =
+    record { fits = (row_fits c.args.start c.from-data_words.ensures c.from-pointers.ensures c.loop-i-test.true c.requires.inside c.args.from.now.held.1 c.args.from.now.held.2).0 }
+
+pub test_rows-overflow_add-at : goal.test_rows-overflow_add-at
+test_rows-overflow_add-at g t c =
+    record { fits = (row_fits c.args.start c.from-data_words.ensures c.from-pointers.ensures c.loop-i-test.true c.requires.inside c.args.from.now.held.1 c.args.from.now.held.2).1 }
+
+pub test_rows-overflow_add-first : goal.test_rows-overflow_add-first
+test_rows-overflow_add-first g t c =
+    record { fits = (row_fits c.args.start c.from-data_words.ensures c.from-pointers.ensures c.loop-i-test.true c.requires.inside c.args.from.now.held.1 c.args.from.now.held.2).2 }
+
+pub test_rows-ends_used-is_data_used-requires : goal.test_rows-ends_used-is_data_used-requires
+test_rows-ends_used-is_data_used-requires g t c =
+    (row_fits c.args.start c.from-data_words.ensures c.from-pointers.ensures c.loop-i-test.true c.requires.inside c.args.from.now.held.1 c.args.from.now.held.2).2
+
+pub test_rows-ends_used-are_pointers_used-requires : goal.test_rows-ends_used-are_pointers_used-requires
+test_rows-ends_used-are_pointers_used-requires g t c =
+    (row_fits c.args.start c.from-data_words.ensures c.from-pointers.ensures c.loop-i-test.true c.requires.inside c.args.from.now.held.1 c.args.from.now.held.2).3
+
+pub test_rows-test_row-requires : goal.test_rows-test_row-requires
+test_rows-test_row-requires g t c κs within =
+    (falls_below 3 0 (ap levels (to_z-of_z w32 c.args.nesting_limit c.ranges.nesting_limit)) c.decreases, (within, row_end c.args.start c.from-data_words.ensures c.from-pointers.ensures c.loop-i-test.true c.requires.inside))
+
+pub test_list-overflow_add-end : goal.test_list-overflow_add-end
+test_list-overflow_add-end g t c =
+    let r : Reading = reading_on g.A.ReaderArena c.args.from.now c.args.at (to_z w32 (of_z w32 c.args.nesting_limit)) in
+    let object : IsObject Value r c.args.test.now.lim c.read_object.new.lim (ObjectPointers c.in-Pointers.start c.in-Pointers.count) = subst (λ o. IsObject Value r c.args.test.now.lim c.read_object.new.lim o) c.in-Pointers.is c.in-Ok.ensures.object in
+    record { fits = pointers_fit {r = r} c.in-Pointers.start c.in-Pointers.count object }
+
+pub test_list-test_flat-requires : goal.test_list-test_flat-requires
+test_list-test_flat-requires g t c =
+    let r : Reading = reading_on g.A.ReaderArena c.args.from.now c.args.at (to_z w32 (of_z w32 c.args.nesting_limit)) in
+    let object : IsObject Value r c.args.test.now.lim c.read_object.new.lim (ObjectFlat c.in-Flat.start c.in-Flat.size c.in-Flat.count) = subst (λ o. IsObject Value r c.args.test.now.lim c.read_object.new.lim o) c.in-Flat.is c.in-Ok.ensures.object in
+    record {
+      inside = flat_room {r = r} c.in-Flat.start c.in-Flat.size c.in-Flat.count object;
+      small = flat_short {r = r} c.in-Flat.start c.in-Flat.size c.in-Flat.count object;
+      is_flat = flat_size {r = r} c.in-Flat.start c.in-Flat.size c.in-Flat.count object;
+      few = subst IsFew c.in-Flat.is c.in-Ok.ensures.few;
+    }
+
+pub test_struct-test_sections-requires : goal.test_struct-test_sections-requires
+test_struct-test_sections-requires g t c κs within =
+    let r : Reading = reading_on g.A.ReaderArena c.args.from.now c.args.at c.args.nesting_limit in
+    let ready : IsTested r = c.requires.tested.ready in
+    let start = record c.args.from.now.place { at = c.in-Ok.start } in
+    let size = c.struct_size-size.result in
+    let entered : EntersNear Value r c.args.test.now.lim c.read_near_struct.new.lim c.in-Ok.start =
+    subst (λ (z : ℤ). EntersNear Value (reading_on g.A.ReaderArena c.args.from.now c.args.at z) c.args.test.now.lim c.read_near_struct.new.lim c.in-Ok.start) (to_z-of_z w32 c.args.nesting_limit c.ranges.nesting_limit) c.in-Ok.ensures.object in
+    let object : IsObject Value r c.args.test.now.lim c.read_near_struct.new.lim (ObjectStruct start size) =
+    struct_read {r = r} start size c.requires.tested.there c.requires.is_struct c.args.from.now.held refl entered c.struct_size-size.ensures.data_of c.struct_size-size.ensures.pointers_of in
+    let inner = inner_levels c.args.nesting_limit c.less.result c.ranges.nesting_limit (record { sfits = c.less.type_inv }) c.less.ensures in
+    (falls_in 4 (search rules) inner object.1.meets.levels c.decreases, (within, struct_room {r = r} start size object))
+
+pub test_sections-overflow_sub-first : goal.test_sections-overflow_sub-first
+test_sections-overflow_sub-first g t c =
+    last_of c.args.start (some_section c.from-data_words.result c.if-not-ends_used.true c.ends_used.ensures)
+
+pub test_sections-overflow_sub-behind : goal.test_sections-overflow_sub-behind
+test_sections-overflow_sub-behind g t c =
+    last_of (c.args.start + c.from-data_words.result) (some_section c.from-pointers.result c.if-not-ends_used-2.true c.ends_used-2.ensures)
+
+pub test_children-returns : goal.test_children-returns
+test_children-returns g t c =
+    subst (λ (z : ℤ). TestsPointers {E = Stopped} (reading_on g.A.ReaderArena c.args.from.now c.args.at z) c.args.count (progress c.args.first c.args.test.now.lim) c.loop-i.test (Ok c.loop-i.head)) (to_z-of_z w32 c.args.nesting_limit c.ranges.nesting_limit)
+    (pointers_passed c.loop-i.test c.loop-i.invariant (reached c.loop-i.auto.i-end c.loop-i-test.false))
