@@ -29,19 +29,18 @@ use Rattle.capnp_objects.specs.declared.object.Object.TheVariants.{Null as Objec
 use Rattle.capnp_objects.specs.declared.object.Purpose.TheVariants.{Value}
 use Rattle.capnp_objects.proofs.Limits.{not_for_memory}
 use Rattle.capnp_objects.proofs.Objects.{read_null, read_flat, read_struct, read_pointers, read_structs}
-use Rattle.capnp_objects.proofs.Refusals.{unreadable, stops_struct, stops_pointers, stops_structs}
-use Rattle.capnp_copies.specs.Changes.{as_numbers, Change, change, IsCopiedInRoom, StayInSegment, MakesCopy, StopsCopy}
+use Rattle.capnp_objects.proofs.Refusals.{stops_struct, stops_pointers, stops_structs}
+use Rattle.capnp_copies.specs.Changes.{as_numbers, change, IsCopiedInRoom, StayInSegment, MakesCopy}
 use Rattle.capnp_copies.proofs.Copying.{StopsHalfway}
 use Rattle.capnp_copies.specs.Forms.{kept}
 use Rattle.capnp_copies.proofs.InPlace.{IsCopied}
-use Rattle.capnp_copies.specs.Rooms.{CanBeCopied}
 use Rattle.capnp_copies.specs.Originals.{value_original, sections_original, pointers_original, structs_original}
 use Rattle.capnp_copies.proofs.KeptForms.{kept_count-le}
 use Rattle.capnp_copies.proofs.FilledObjects.{nothing_left}
 use Rattle.capnp_copies.proofs.FlatRead.{word_count-flat}
 use Rattle.capnp_copies.proofs.NoRoom.{entered_comes, struct_value_comes, pointers_value_comes, structs_value_comes}
 use Rattle.capnp_copies.proofs.TooLarge.{struct_value_too_large, pointers_value_too_large, structs_value_too_large, flat_too_large}
-use Rattle.capnp_copies.proofs.Originals.{halfway, refused_rightly, sections_beyond, pointers_beyond, structs_beyond}
+use Rattle.capnp_copies.proofs.Originals.{halfway, sections_beyond, pointers_beyond, structs_beyond}
 use Rattle.capnp_copies.proofs.StructsCopied.{null_written}
 use Rattle.capnp_copies.proofs.ObjectsRead.{inside, stopped_in, capability_stopped, default_stopped, flat_held}
 use Rattle.capnp_objects.proofs.Followed.{leads_there}
@@ -256,7 +255,3 @@ flat_stops {s = s} {p = p} {i = i} {old = old} {new = new} {m = m} {m' = m'} {ws
       inr (entered_comes {n = words_for (size_number size) i} (change b (call_at s p old new) m m') k o (as_numbers z small (ap₂ words_for ez ei)) refl (f.refused, omega (arith, full, word_count-flat (size_number size) i ws))),
       flat_too_large b (length (segment old.words s)) (old.room s) (flat_read_in b start size (a, o, z, small, held, ez, ei) words part) (λ room. full (omega (arith, room, ap word_count (kept_flat b (size_number size) (unpacked (size_number size) i ws))))),
     )) ((Null, nothing_left old.words new.words s p place null f.kept), f.memory)
-
--- one that can be copied behind the words of its segment does not stop
-pub stops_rightly : {r : Reading} {c : Change} {t : Tree} {k : ErrorKind} → StopsCopy (value_original r) c t k → CanBeCopied (value_original r) c.form c.before c.old c.segment → ⊥
-stops_rightly stop can = refused_rightly (λ m u refused read. (unreadable refused).only u read.cost read.means read.takes read.covers) stop can

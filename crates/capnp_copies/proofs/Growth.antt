@@ -247,12 +247,12 @@ pub sections_within : (ws : List ℕ) (r : Reading) (q : ℕ) (c d : Change) →
     (sections_original ws r q).takes c.form c.before c.after (MakesAtMost d.segment d.old d.new)
 sections_within ws r q c d before after same (ts, counts, x, made) = (ts, counts, x, made_elsewhere c d before after same made)
 
+pub sections_until_more : (ws : List ℕ) (r : Reading) (q : ℕ) (b : Form) (m m' : Meter) (P Q : ℕ → ℕ → Type 0) → ((i j : ℕ) → P i j → Q i j) → (sections_original ws r q).takes_until b m m' P → (sections_original ws r q).takes_until b m m' Q
+sections_until_more ws r q b m m' P Q f tried = elim tried [ inl x ↦ inl (x.0, f _ _ x.1) | inr x ↦ inr (x.0, f _ _ x.1) ]
+
 pub sections_until_within : (ws : List ℕ) (r : Reading) (q : ℕ) (c d : Change) → TakesNone d.old c.old → TakesNone c.new d.new → d.segment ≡ c.segment → (sections_original ws r q).takes_until c.form c.before c.after (MakesAtMost c.segment c.old c.new) →
     (sections_original ws r q).takes_until c.form c.before c.after (MakesAtMost d.segment d.old d.new)
-sections_until_within ws r q c d before after same tried = elim tried [
-  | inl x ↦ inl (x.0, made_elsewhere c d before after same x.1)
-  | inr x ↦ inr (x.0, made_elsewhere c d before after same x.1)
-]
+sections_until_within ws r q c d before after same tried = sections_until_more ws r q c.form c.before c.after (MakesAtMost c.segment c.old c.new) (MakesAtMost d.segment d.old d.new) (λ i j made. made_elsewhere c d before after same made) tried
 
 list_more : (size : ElementSize) (sections : StructSize) (n : ℕ) (r : Reading) (b : Form) (m m' : Meter) (P Q : ℕ → ℕ → Type 0) → ((i j : ℕ) → P i j → Q i j) → (list_original size sections n r).takes b m m' P → (list_original size sections n r).takes b m m' Q
 list_more Pointer sections n r b m m' P Q f (ts, counts, x, made) = (ts, counts, x, f _ _ made)
@@ -264,7 +264,7 @@ list_more TwoBytes sections n r b m m' P Q f (same, made) = (same, f _ _ made)
 list_more FourBytes sections n r b m m' P Q f (same, made) = (same, f _ _ made)
 list_more EightBytes sections n r b m m' P Q f (same, made) = (same, f _ _ made)
 
-list_until_more : (size : ElementSize) (sections : StructSize) (n : ℕ) (r : Reading) (b : Form) (m m' : Meter) (P Q : ℕ → ℕ → Type 0) → ((i j : ℕ) → P i j → Q i j) → (list_original size sections n r).takes_until b m m' P → (list_original size sections n r).takes_until b m m' Q
+pub list_until_more : (size : ElementSize) (sections : StructSize) (n : ℕ) (r : Reading) (b : Form) (m m' : Meter) (P Q : ℕ → ℕ → Type 0) → ((i j : ℕ) → P i j → Q i j) → (list_original size sections n r).takes_until b m m' P → (list_original size sections n r).takes_until b m m' Q
 list_until_more Pointer sections n r b m m' P Q f tried = elim tried [ inl x ↦ inl (x.0, f _ _ x.1) | inr x ↦ inr (x.0, f _ _ x.1) ]
 list_until_more InlineComposite sections n r b m m' P Q f tried = elim tried [ inl x ↦ inl (x.0, f _ _ x.1) | inr x ↦ inr (x.0, f _ _ x.1) ]
 list_until_more Void sections n r b m m' P Q f (same, made) = (same, f _ _ made)

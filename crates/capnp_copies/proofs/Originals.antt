@@ -18,7 +18,7 @@ use Rattle.capnp_objects.specs.Refusals.{Stopped}
 use Rattle.capnp_objects.specs.Spending.{after, pointers_in, pointers_in_all, pointers_in_elements}
 use Rattle.capnp_objects.specs.Wanted.{Form, plain}
 use Rattle.capnp_objects.specs.declared.object.Purpose.TheVariants.{Value}
-use Rattle.capnp_copies.specs.Changes.{Change, ComesToObject, FindsNoRoom, LacksRoom, RefusesToCopy, MakesCopy, StopsCopy}
+use Rattle.capnp_copies.specs.Changes.{Change, ComesToObject, FindsNoRoom, LacksRoom, RefusesToCopy, StopsCopy}
 use Rattle.capnp_copies.proofs.Copying.{StopsHalfway}
 use Rattle.capnp_copies.specs.Forms.{kept, kept_each, kept_elements}
 use Rattle.capnp_copies.specs.Originals.{Original, value_original, children_original, elements_original, sections_original, numbers_original, pointers_original, structs_original, list_original, FitsListPointer}
@@ -165,18 +165,6 @@ numbers_listed Byte sections n r P pointer struct h = h
 numbers_listed TwoBytes sections n r P pointer struct h = h
 numbers_listed FourBytes sections n r P pointer struct h = h
 numbers_listed EightBytes sections n r P pointer struct h = h
-
-pub pointers_list_copied : (size : ElementSize) (sections : StructSize) (n : ℕ) (r : Reading) {c : Change} → size ≡ Pointer → MakesCopy (pointers_original n r) c → MakesCopy (list_original size sections n r) c
-pointers_list_copied size sections n r {c} is h = pointers_listed size sections n r (λ o. MakesCopy o c) is h
-
-pub structs_list_copied : (size : ElementSize) (sections : StructSize) (n : ℕ) (r : Reading) {c : Change} → size ≡ InlineComposite → MakesCopy (structs_original sections n r) c → MakesCopy (list_original size sections n r) c
-structs_list_copied size sections n r {c} is h = structs_listed size sections n r (λ o. MakesCopy o c) is h
-
-pub pointers_list_stops : (size : ElementSize) (sections : StructSize) (n : ℕ) (r : Reading) {c : Change} {k : ErrorKind} → size ≡ Pointer → StopsHalfway (pointers_original n r) c k → StopsHalfway (list_original size sections n r) c k
-pointers_list_stops size sections n r {c} {k} is h = pointers_listed size sections n r (λ o. StopsHalfway o c k) is h
-
-pub structs_list_stops : (size : ElementSize) (sections : StructSize) (n : ℕ) (r : Reading) {c : Change} {k : ErrorKind} → size ≡ InlineComposite → StopsHalfway (structs_original sections n r) c k → StopsHalfway (list_original size sections n r) c k
-structs_list_stops size sections n r {c} {k} is h = structs_listed size sections n r (λ o. StopsHalfway o c k) is h
 
 -- how many words of a list a copy has
 

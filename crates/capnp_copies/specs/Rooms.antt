@@ -1,9 +1,12 @@
 -- When a copy has room in a segment, and what a call makes that copies a value.
-use Rattle.std.specs.Prelude.{◌≡◌, ℕ, Result, ⊤, Err, IsOk, IfOk, IfErr}
+use Rattle.std.specs.Prelude.{◌≡◌, ℕ, Result, ⊤, Err, IsOk, IfOk, IfErr, OnOk, OnErr}
 use Rattle.capnp_words.specs.declared.error.ErrorKind.{ErrorKind}
 use Rattle.capnp_words.specs.Meter.{Meter}
-use Rattle.capnp_arena_traits.specs.View.{View}
+use Rattle.capnp_arena_traits.specs.View.{View, KeepsLimits}
+use Rattle.capnp_making.specs.Makes.{CallAt}
 use Rattle.capnp_making.specs.Near.{HasOwnRoom}
+use Rattle.capnp_making.specs.Stored.{Puts}
+use Rattle.capnp_making.specs.Zeroed.{IsPruned}
 use Rattle.capnp_format.specs.Tree.{Tree, Null}
 use Rattle.capnp_objects.specs.Wanted.{Form}
 use Rattle.capnp_copies.specs.Changes.{Change, MakesCopy, StopsCopy}
@@ -28,3 +31,11 @@ pub record CopiesOrClears (result : Result ⊤ ErrorKind) (o : Original Tree) (c
   pub refused : IfErr result (StopsCopy o c Null)
   pub taken : TakesAtMost result o c
   pub large : (k : ErrorKind) → o.exceeds c.form k → (result ≡ Err k) × (c.after ≡ c.before)
+
+-- A call ends a copy. Where that was refused, the pointer at the place becomes null, and what it led
+-- to becomes zero; else nothing is changed.
+pub record ClearsRefused (copied : Result ⊤ ErrorKind) (c : CallAt) : Type 0 where
+  pub kept : OnOk copied (c.new ≡ c.old)
+  pub null : OnErr copied (Puts c.old.words c.new.words c.segment c.at Null)
+  pub only : OnErr copied (IsPruned c.old.words c.new.words)
+  pub limits : OnErr copied (KeepsLimits c.old c.new)

@@ -21,22 +21,24 @@ mod children;
 mod elements;
 mod flat;
 mod lists;
+mod refusals;
 mod structs;
 
 use crate::form::{CopyForm, Destination};
 use crate::widths::StructList;
 use capnp_arena_traits::arena::{BuilderArena, ReaderArena};
-use capnp_making::making::{Start, clear};
+use capnp_making::making::Start;
 use capnp_objects::object::Object;
 use capnp_pointers::pointers::Pointer;
 use capnp_words::error::ErrorKind;
 use capnp_words::read_limiter::ReadLimiter;
-use capnp_words::wire_pointer::WirePointer;
+use capnp_words::wire_pointer::{WirePointer, flat_words};
 use capnp_words::words::part;
 pub use children::copy_children;
 pub use elements::put_words;
 pub use flat::copy_flat;
 pub use lists::{copy_pointers, copy_structs};
+pub use refusals::clear_refused;
 
 /// Copies what a pointer means to the null pointer at a place, as it stands or in canonical form, as
 /// `copy_in_form` does.
@@ -84,15 +86,8 @@ pub fn copy_in_form<A: BuilderArena, B: ReaderArena>(
     ensures { CopiesOrClears result (value_original (reading B.ReaderArena from.entry))
         (change_to to (A.view arena.old) (A.view arena.new) lim.old lim.new) }
 {
-    let Start { segment: id, at } = to.place;
-    let form = to.form;
-    match copy_object(arena, to.place, from, lim, form) {
-        Ok(()) => Ok(()),
-        Err(k) => {
-            clear(arena, id, at);
-            Err(k)
-        }
-    }
+    let copied = copy_object(arena, to.place, from, lim, to.form);
+    clear_refused(arena, to.place, copied)
 }
 
 /// Does what `copy_in_form` does, but leaves what it made where it is refused.
@@ -125,7 +120,7 @@ fn copy_object<A: BuilderArena, B: ReaderArena>(
             structs::copy_struct(arena, destination, inner, size, lim)
         }
         Object::Flat { start, size, count } => {
-            let words = flat::flat_words(size, count);
+            let words = flat_words(size, count);
             let elements = part(start.bytes, start.at as usize, words as usize);
             flat::copy_flat(arena, to, size, count, elements)
         }

@@ -23,15 +23,14 @@ use Rattle.capnp_objects.specs.declared.object.Place.{Place}
 use Rattle.capnp_objects.specs.Wanted.{Form}
 use Rattle.capnp_readers.specs.Sections.{IsPart, HasWordsFrom, elements_words}
 use Rattle.capnp_readers.proofs.Sections.{flat_words}
-use Rattle.capnp_copies.specs.Changes.{Change, change, StayInSegment, MakesCopy}
-use Rattle.capnp_copies.proofs.Copying.{StopsHalfway}
+use Rattle.capnp_copies.specs.Changes.{Change, change, StayInSegment, MakesCopy, StopsCopy}
 use Rattle.capnp_copies.proofs.InPlace.{IsCopied}
 use Rattle.capnp_copies.specs.Forms.{kept}
 use Rattle.capnp_copies.specs.Originals.{numbers_original, list_original, FitsListPointer}
 use Rattle.capnp_copies.proofs.FilledObjects.{nothing_left}
 use Rattle.capnp_copies.proofs.FilledValues.{FlatOutcome, kept_flat}
 use Rattle.capnp_copies.proofs.FlatRead.{word_count-flat}
-use Rattle.capnp_copies.proofs.Originals.{ExceedsRoom, halfway, list_exceeds}
+use Rattle.capnp_copies.proofs.Originals.{ExceedsRoom, list_exceeds}
 use Rattle.capnp_arena_traits.specs.declared.arena.reader_arena.ReaderArena.{Ghosts}
 use Rattle.capnp_readers.specs.declared.readers.list_reader.ListReader.{ListReader}
 use Rattle.capnp_making.specs.Makes.{call_at}
@@ -42,10 +41,12 @@ first_read g value = reading_at g value.source value.start value.nesting_limit
 
 -- one that is too long leaves all as it was
 pub too_long : (size : ElementSize) (sections : StructSize) (n : ℕ) (r : Reading) {b : Form} {s p : ℕ} {v : View} {m : Meter} → IsPlace v.words s p → word_at v.words s p ≡ 0 → (FitsListPointer size n (sections.data_words + sections.pointers) → ⊥) →
-    StopsHalfway (list_original size sections n r) (change b (call_at s p v v) m m) (MessageTooLarge (2 ^ 64 - 1))
-too_long size sections n r {b} {s} {p} {v} place null long =
-    halfway (inr (inr (list_exceeds size sections n r b long)))
-    ((Null, nothing_left v.words v.words s p place null refl), spends_nothing v v (MessageTooLarge (2 ^ 64 - 1)) (λ n. refl) (keeps_itself v))
+    StopsCopy (list_original size sections n r) (change b (call_at s p v v) m m) Null (MessageTooLarge (2 ^ 64 - 1))
+too_long size sections n r {b} {s} {p} {v} place null long = record {
+  why = inr (inr (list_exceeds size sections n r b long));
+  left = nothing_left v.words v.words s p place null refl;
+  memory = spends_nothing v v (MessageTooLarge (2 ^ 64 - 1)) (λ n. refl) (keeps_itself v);
+}
 
 -- elements that are neither pointers nor structs
 
@@ -118,9 +119,12 @@ numbers_exceed size n r c bytes stand full any m m' t is_read =
     omega (arith, full, ap (λ u. word_count (kept c.form u)) same, ap word_count (kept_flat c.form (size_number size) (unpacked (size_number size) n (words_of bytes))))
 
 pub numbers_stop : (size : ElementSize) (n : ℕ) (r : Reading) (c : Change) (bytes : List ℕ) (result : Result (Unit {0}) ErrorKind) → words_of bytes ≡ words_from r (words_for (size_number size) n) → IsPlace c.old.words c.segment c.at × (word_at c.old.words c.segment c.at ≡ 0) → c.after ≡ c.before →
-    FlatOutcome result c.segment c.at (words_for (size_number size) n) c.old c.new (Flat (size_number size) (unpacked (size_number size) n (words_of bytes))) → IfErr result (StopsHalfway (numbers_original size n r) c)
+    FlatOutcome result c.segment c.at (words_for (size_number size) n) c.old c.new (Flat (size_number size) (unpacked (size_number size) n (words_of bytes))) → IfErr result (StopsCopy (numbers_original size n r) c Null)
 numbers_stop size n r c bytes (Ok x) stand (place, null) free f = tt
 numbers_stop size n r c bytes (Err k) stand (place, null) free f =
     let full : HasOwnRoom c.old c.segment (word_count (Flat (size_number size) (unpacked (size_number size) n (words_of bytes)))) → ⊥ = λ room. (let is = f.fits room in cc is) in
-    halfway (inl (inl (words_for (size_number size) n, free, refl, (f.refused, omega (arith, full, word_count-flat (size_number size) n (words_of bytes)))), numbers_exceed size n r c bytes stand full))
-    ((Null, nothing_left c.old.words c.new.words c.segment c.at place null f.kept), f.memory)
+    record {
+      why = inl (inl (words_for (size_number size) n, free, refl, (f.refused, omega (arith, full, word_count-flat (size_number size) n (words_of bytes)))), numbers_exceed size n r c bytes stand full);
+      left = nothing_left c.old.words c.new.words c.segment c.at place null f.kept;
+      memory = f.memory;
+    }

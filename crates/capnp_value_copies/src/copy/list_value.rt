@@ -1,19 +1,17 @@
 //! The copy of a list that is read, whose words are at hand ("Lists", "Canonicalization").
-ghost use Rattle.std.specs.Prelude.{◌≡◌, ◌+◌, ◌↔◌, IsTrue, Err, IsOk, IfOk, IfErr};
-ghost use Rattle.capnp_words.specs.declared.error.ErrorKind.{ErrorKind};
+ghost use Rattle.std.specs.Prelude.{◌+◌, ◌↔◌, IsTrue};
 ghost use Rattle.capnp_copies.specs.Changes.{change, IsNullPlace};
 ghost use Rattle.capnp_copies.specs.Rooms.{CopiesOrClears};
 ghost use Rattle.capnp_copies.specs.Forms.{form_of};
-ghost use Rattle.capnp_copies.specs.Growth.{CopiesOrLeaves};
 ghost use Rattle.capnp_value_copies.specs.ListValues.{list_read};
 ghost use Rattle.capnp_copies.specs.Originals.{FitsListPointer};
 ghost use Rattle.capnp_making.specs.Makes.{call_at};
 
 use capnp_arena_traits::arena::{BuilderArena, ReaderArena};
-use capnp_copies::copy::{copy_flat, copy_pointers, copy_structs};
+use capnp_copies::copy::{clear_refused, copy_flat, copy_pointers, copy_structs};
 use capnp_copies::form::{CopyForm, Destination};
 use capnp_copies::widths::StructList;
-use capnp_making::making::{Start, clear};
+use capnp_making::making::Start;
 use capnp_pointers::pointers::Pointer;
 use capnp_readers::readers::ListReader;
 use capnp_words::error::ErrorKind;
@@ -46,30 +44,6 @@ pub fn copy_list<A: BuilderArena, B: ReaderArena>(
         (change (form_of canonicalize)
         (call_at to.segment to.at (A.view arena.old) (A.view arena.new)) lim.old lim.new) }
 {
-    match copy_elements_read(arena, to, value, lim, canonicalize) {
-        Ok(()) => Ok(()),
-        Err(k) => {
-            clear(arena, to.segment, to.at);
-            Err(k)
-        }
-    }
-}
-
-/// Does what `copy_list` does, but leaves what it made where it is refused.
-fn copy_elements_read<A: BuilderArena, B: ReaderArena>(
-    arena: &mut A,
-    to: Start,
-    value: ListReader<'_, B>,
-    lim: &mut ReadLimiter,
-    canonicalize: bool,
-) -> Result<(), ErrorKind>
-    requires { IsNullPlace (A.view arena.old).words to.segment to.at }
-    ensures copies { CopiesOrLeaves result (list_read B.ReaderArena value.entry)
-        (change (form_of canonicalize)
-        (call_at to.segment to.at (A.view arena.old) (A.view arena.new)) lim.old lim.new) }
-    ensures long { (k : ErrorKind) → (list_read B.ReaderArena value.entry).exceeds
-        (form_of canonicalize) k → (result ≡ Err k) × (lim.new ≡ lim.old) }
-{
     let count = value.count;
     if !fits_list_pointer(value.element_size, value.struct_size, count) {
         return Err(ErrorKind::MessageTooLarge(usize::MAX));
@@ -84,9 +58,13 @@ fn copy_elements_read<A: BuilderArena, B: ReaderArena>(
     match value.element_size {
         ElementSize::InlineComposite => {
             let size = value.struct_size;
-            copy_structs(arena, list, first, StructList { count, size }, lim)
+            let copied = copy_structs(arena, list, first, StructList { count, size }, lim);
+            clear_refused(arena, to, copied)
         }
-        ElementSize::Pointer => copy_pointers(arena, list, first, count, lim),
+        ElementSize::Pointer => {
+            let copied = copy_pointers(arena, list, first, count, lim);
+            clear_refused(arena, to, copied)
+        }
         size => copy_flat(arena, to, size, count, value.content),
     }
 }

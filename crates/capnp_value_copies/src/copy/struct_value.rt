@@ -1,22 +1,20 @@
 //! The copy of a struct that is read, whose sections may stand apart ("Structs",
 //! "Canonicalization").
-ghost use Rattle.std.specs.Prelude.{◌≡◌, ◌<◌, ◌^◌, Err, IsOk, IfOk, IfErr};
-ghost use Rattle.capnp_words.specs.declared.error.ErrorKind.{ErrorKind};
+ghost use Rattle.std.specs.Prelude.{◌≡◌, ◌<◌, ◌^◌, IfOk, IfErr};
 ghost use Rattle.capnp_objects.specs.Reading.{words_from};
 ghost use Rattle.capnp_readers.specs.Sizes.{pointers_read};
 ghost use Rattle.capnp_copies.specs.Changes.{change, IsNullPlace};
 ghost use Rattle.capnp_copies.specs.Rooms.{CopiesOrClears};
 ghost use Rattle.capnp_copies.specs.Forms.{form_of};
-ghost use Rattle.capnp_copies.specs.Growth.{CopiesOrLeaves};
 ghost use Rattle.capnp_copies.specs.Originals.{kept_count};
 ghost use Rattle.capnp_value_copies.specs.StructValues.{data_of, struct_read};
 ghost use Rattle.capnp_making.specs.Makes.{call_at};
 
 use crate::section::{kept_words, put_section};
 use capnp_arena_traits::arena::{BuilderArena, ReaderArena};
-use capnp_copies::copy::copy_children;
+use capnp_copies::copy::{clear_refused, copy_children};
 use capnp_copies::form::{CopyForm, Destination};
-use capnp_making::making::{Start, clear, make_struct};
+use capnp_making::making::{Start, make_struct};
 use capnp_pointers::pointers::Pointer;
 use capnp_readers::readers::StructReader;
 use capnp_words::error::ErrorKind;
@@ -49,30 +47,6 @@ pub fn copy_struct_value<A: BuilderArena, B: ReaderArena>(
         (change (form_of canonicalize)
         (call_at to.segment to.at (A.view arena.old) (A.view arena.new)) lim.old lim.new) }
 {
-    match copy_sections(arena, to, value, lim, canonicalize) {
-        Ok(()) => Ok(()),
-        Err(k) => {
-            clear(arena, to.segment, to.at);
-            Err(k)
-        }
-    }
-}
-
-/// Does what `copy_struct_value` does, but leaves what it made where it is refused.
-fn copy_sections<A: BuilderArena, B: ReaderArena>(
-    arena: &mut A,
-    to: Start,
-    value: StructReader<'_, B>,
-    lim: &mut ReadLimiter,
-    canonicalize: bool,
-) -> Result<(), ErrorKind>
-    requires { IsNullPlace (A.view arena.old).words to.segment to.at }
-    ensures copies { CopiesOrLeaves result (struct_read B.ReaderArena value.entry)
-        (change (form_of canonicalize)
-        (call_at to.segment to.at (A.view arena.old) (A.view arena.new)) lim.old lim.new) }
-    ensures wide { (k : ErrorKind) → (struct_read B.ReaderArena value.entry).exceeds
-        (form_of canonicalize) k → (result ≡ Err k) × (lim.new ≡ lim.old) }
-{
     let kept = kept_sections(value, canonicalize)?;
     let start = make_struct(arena, to.segment, to.at, kept)?;
     let data_words = kept.data_words;
@@ -88,7 +62,8 @@ fn copy_sections<A: BuilderArena, B: ReaderArena>(
     };
     let pointers = u32::from(kept.pointers);
     let form = CopyForm::of(canonicalize);
-    copy_children(arena, Destination { place, form }, children, pointers, lim)
+    let copied = copy_children(arena, Destination { place, form }, children, pointers, lim);
+    clear_refused(arena, to, copied)
 }
 
 /// The sections that a copy of a struct keeps: in canonical form the words of each up to the last

@@ -1,18 +1,12 @@
-use Rattle.std.proofs.Common.{refl}
 use Rattle.capnp_pointers.specs.Pointers.{reading}
-use Rattle.capnp_copies.specs.Changes.{change_to}
-use Rattle.capnp_copies.proofs.Cleared.{cleared}
-use Rattle.capnp_copies.proofs.FilledValues.{stops_rightly}
-use Rattle.capnp_copies.proofs.Growth.{none_itself, none_pruned, until_within}
+use Rattle.capnp_copies.specs.Forms.{form_in}
+use Rattle.capnp_copies.proofs.Cleared.{place_left, value_apart, copies_or_clears}
 use Rattle.capnp_copies.proofs.copy.copy_in_form.Goals as goal
 
-pub returns-in-Err : goal.returns-in-Err
-returns-in-Err g c = record {
-  copied = tt;
-  fits = λ can. absurd (stops_rightly c.in-Err.ensures.refused.1 can);
-  refused = cleared c.in-Err.ensures.refused c.clear.ensures.limits c.clear.ensures.only c.clear.ensures.cleared;
-  taken = until_within (reading g.B.ReaderArena c.args.from) (change_to c.args.to (g.A.BuilderArena.view c.args.arena.now) (g.A.BuilderArena.view c.copy_object.new.arena) c.args.lim.now c.copy_object.new.lim)
-      (change_to c.args.to (g.A.BuilderArena.view c.args.arena.now) (g.A.BuilderArena.view c.clear.new.arena) c.args.lim.now c.copy_object.new.lim)
-      (none_itself (g.A.BuilderArena.view c.args.arena.now)) (none_pruned (g.A.BuilderArena.view c.copy_object.new.arena) (g.A.BuilderArena.view c.clear.new.arena) c.clear.ensures.limits c.clear.ensures.only) refl c.in-Err.ensures.taken;
-  large = λ k none. absurd none;
-}
+pub clear_refused-requires : goal.clear_refused-requires
+clear_refused-requires g c = place_left _ _ c.copy_object-copied.result c.requires.place c.copy_object-copied.ensures.refused
+
+pub returns : goal.returns
+returns g c =
+    copies_or_clears c.copy_object-copied.result (value_apart (reading g.B.ReaderArena c.args.from) (form_in c.args.to.form) c.args.lim.now c.copy_object-copied.new.lim) (λ k none. none) (λ P Q f x. (x.0, f _ _ x.1)) c.copy_object-copied.ensures
+    c.clear_refused.ensures.same c.clear_refused.ensures.clears

@@ -1,0 +1,31 @@
+//! What a refused copy leaves.
+ghost use Rattle.std.specs.Prelude.{◌≡◌, OnErr};
+ghost use Rattle.capnp_format.specs.Segments.{IsPlace};
+ghost use Rattle.capnp_copies.specs.Rooms.{ClearsRefused};
+ghost use Rattle.capnp_making.specs.Makes.{call_at};
+
+use capnp_arena_traits::arena::BuilderArena;
+use capnp_making::making::{Start, clear};
+use capnp_words::error::ErrorKind;
+
+/// Ends a copy to a place, and returns the copy's outcome: after a refusal the pointer there becomes null,
+/// and what was made for it becomes zero.
+#[inline(always)]
+pub fn clear_refused<A: BuilderArena>(
+    arena: &mut A,
+    to: Start,
+    copied: Result<(), ErrorKind>,
+) -> Result<(), ErrorKind>
+    requires { OnErr copied (IsPlace (A.view arena.old).words to.segment to.at) }
+    ensures same { result ≡ copied }
+    ensures clears { ClearsRefused copied
+        (call_at to.segment to.at (A.view arena.old) (A.view arena.new)) }
+{
+    match copied {
+        Ok(()) => Ok(()),
+        Err(k) => {
+            clear(arena, to.segment, to.at);
+            Err(k)
+        }
+    }
+}
