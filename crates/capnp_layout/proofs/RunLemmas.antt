@@ -1,8 +1,10 @@
 -- What a run answers follows from what it read.
-use Rattle.std.proofs.Common.{◌≡◌, ◌≢◌, ◌⊎◌, refl, inl, inr, ℕ, List, Option, Some, None, IfSome, IsSomeAnd, Result, Ok, Err, OnOk, OnErr, true, false, sym, ap, ◌∙◌, subst, arith}
+use Rattle.std.proofs.Common.{◌≡◌, ◌⊎◌, refl, inl, inr, ℕ, List, Option, Some, None, Result, Ok, Err, OnOk, OnErr, true, false, sym, ap, ◌∙◌, subst}
 use Rattle.capnp_words.specs.declared.error.ErrorKind.{ErrorKind}
 use Rattle.capnp_words.specs.declared.error.ErrorKind.TheVariants.{AllocationFailed}
 use Rattle.capnp_format.specs.Bytes.{message}
+use Rattle.capnp_format.specs.Canonical.{encoding, trim}
+use Rattle.capnp_format.specs.Tree.{Tree}
 use Rattle.capnp_arena_traits.specs.Allocations.{one_more}
 use Rattle.capnp_arena_traits.specs.Limits.{IsSmall}
 use Rattle.capnp_arena.specs.declared.arena.reader_arena_impl.ReaderOptions.{ReaderOptions}
@@ -14,14 +16,15 @@ use Rattle.capnp_layout.specs.declared.tool.engine.Outcome.{Outcome}
 use Rattle.capnp_layout.specs.declared.tool.engine.Outcome.TheVariants.{Done, Refused as RefusedOutcome, BadInput, WriteFailed}
 use Rattle.capnp_layout.specs.declared.tool.refusal.Refusal.{Refusal}
 use Rattle.capnp_layout.specs.declared.tool.refusal.Refusal.TheVariants.{Layout}
-use Rattle.capnp_layout.specs.Lines.{segments_of}
 use Rattle.capnp_layout.specs.Refusals.{refusal_line}
-use Rattle.capnp_layout.specs.Runs.{AreLinesOf, IsBadInput, IsForMemoryOr, Responds, Run, TextHasAnswer}
-use Rattle.capnp_messages.specs.Messages.{RefusesCanon}
+use Rattle.capnp_layout.specs.Runs.{AreLinesOf, IsForMemoryOr, Responds, Run, TextHasAnswer}
+use Rattle.capnp_messages.specs.declared.messages.command.Form.{Form}
+use Rattle.capnp_messages.specs.declared.messages.command.Form.TheVariants.{Flat, Framed}
+use Rattle.capnp_messages.specs.Messages.{IsValueOf, RefusesCanon}
 use Rattle.capnp_messages.proofs.AnsweredLemmas.{copy_lacks_memory}
 use Rattle.capnp_layout.specs.Answers.{RefusesMessage}
 use Rattle.capnp_messages.specs.Copies.{LacksMemoryOr}
-use Rattle.capnp_layout.specs.Commands.{HasAnswer, HasMoreLines, IsAnswer, IsWithin, WhyRefused}
+use Rattle.capnp_layout.specs.Commands.{HasAnswer, IsAnswer, IsWithin, WhyRefused, canonical_args, form_line}
 
 -- what refuses a message, or the memory that it lacks, refuses its segments
 pub refuses_segments : (options : ReaderOptions) (segments : List (List ℕ)) {old new : ℕ} {k : ErrorKind}
@@ -30,19 +33,38 @@ refuses_segments options segments (inl memory) = inl memory
 refuses_segments options segments (inr (refused, same)) = inr (inr refused, same)
 
 -- segments that have a canonical copy are refused one for want of memory alone
-pub only_memory : (options : ReaderOptions) (segments : List (List ℕ)) {old new : ℕ} {k : ErrorKind}
+only_memory : (options : ReaderOptions) (segments : List (List ℕ)) {old new : ℕ} {k : ErrorKind}
     → IsSmall segments → HasAnswer segments (Canon options) → LacksMemoryOr old new k (RefusesMessage segments (Canon options) k)
-    → (k ≡ AllocationFailed) × (new ≡ one_more old)
-only_memory options segments small has (inl memory) = memory
+    → (Layout k ≡ Layout AllocationFailed) × (new ≡ one_more old)
+only_memory options segments small has (inl (named, risen)) = (ap Layout named, risen)
 only_memory options segments small has (inr (inl (named, large), same)) = absurd (large small)
 only_memory options segments small has (inr (inr refused, same)) =
-    copy_lacks_memory (message segments) options has (inr (refused, same))
+    let (named, risen) = copy_lacks_memory (message segments) options has (inr (refused, same)) in
+    (ap Layout named, risen)
 
--- what refuses a copy of what segments mean, or the memory that it lacks, is why `canon` refuses them
-pub copy_refusal : {old new : ℕ} {k : ErrorKind} (options : ReaderOptions) (lines : List (List ℕ))
-    → LacksMemoryOr old new k (RefusesMessage lines (Canon options) k) → IsForMemoryOr old new (Layout k) (WhyRefused lines (Canon options) (Layout k))
-copy_refusal options lines (inl (named, risen)) = inl (ap Layout named, risen)
-copy_refusal {k = k} options lines (inr (refused, same)) = inr ((k, refl, refused), same)
+-- What a command that answers with canonical words says of its lines, in whichever form: by cases of the form.
+pub canonical_memory : (form : Form) (options : ReaderOptions) (lines : List (List ℕ)) {old new : ℕ} {k : ErrorKind}
+    → LacksMemoryOr old new k (RefusesMessage lines (Canon options) k)
+    → IsWithin (canonical_args form options) lines → HasAnswer lines (canonical_args form options)
+    → (Layout k ≡ Layout AllocationFailed) × (new ≡ one_more old)
+canonical_memory Flat options lines why small has = only_memory options lines small has why
+canonical_memory Framed options lines why small has = only_memory options lines small has why
+
+pub canonical_refusal : (form : Form) (options : ReaderOptions) (lines : List (List ℕ)) {old new : ℕ} {k : ErrorKind}
+    → LacksMemoryOr old new k (RefusesMessage lines (Canon options) k)
+    → IsForMemoryOr old new (Layout k) (WhyRefused lines (canonical_args form options) (Layout k))
+canonical_refusal form options lines (inl (named, risen)) = inl (ap Layout named, risen)
+canonical_refusal Flat options lines {k = k} (inr (refused, same)) = inr ((k, refl, refused), same)
+canonical_refusal Framed options lines {k = k} (inr (refused, same)) = inr ((k, refl, refused), same)
+
+pub canonical_within : (form : Form) (options : ReaderOptions) (lines : List (List ℕ)) → IsSmall lines → IsWithin (canonical_args form options) lines
+canonical_within Flat options lines small = small
+canonical_within Framed options lines small = small
+
+pub canonical_answer : (form : Form) (options : ReaderOptions) (lines : List (List ℕ)) {words : List ℕ} (t : Tree)
+    → IsValueOf (message lines) options t → words ≡ encoding (trim t) → IsAnswer lines (canonical_args form options) (form_line form words)
+canonical_answer Flat options lines t value same = (t, value, ap (form_line Flat) same)
+canonical_answer Framed options lines t value same = (t, value, ap (form_line Framed) same)
 
 -- a run of these parts
 abbrev pub run_of : List (List ℕ) → Args → Outcome → ℕ → ℕ → Run

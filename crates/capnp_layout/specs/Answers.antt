@@ -1,6 +1,6 @@
 -- What the program says of a message, and why it refuses one.
 use Rattle.std.specs.Prelude.{◌≡◌, ◌⊎◌, ℕ, ◌+◌, ◌-◌, ◌^◌, ◌≤◌, List, [], ◌∷◌, ◌++◌, Bool, true}
-use Rattle.std.specs.Prelude.{false, Option}
+use Rattle.std.specs.Prelude.{false}
 use Rattle.std.specs.Int.{to_le_bytes, w64}
 use Rattle.hex.specs.Hex.{encode_lower}
 use Rattle.capnp_words.specs.declared.error.ErrorKind.{ErrorKind}

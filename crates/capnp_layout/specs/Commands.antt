@@ -1,6 +1,6 @@
 -- What each command answers to the lines of its input, as bytes, and why it refuses them. A line is
 -- a segment, or holds a frame.
-use Rattle.std.specs.Prelude.{◌≡◌, ◌⊎◌, ◌↔◌, ℕ, ◌+◌, ◌-◌, ◌^◌, ◌≤◌, List, [], ◌∷◌, ◌++◌, Bool, true}
+use Rattle.std.specs.Prelude.{◌≡◌, ◌⊎◌, ◌↔◌, ℕ, ◌-◌, ◌^◌, ◌≤◌, List, [], ◌∷◌, ◌++◌, Bool, true}
 use Rattle.std.specs.Prelude.{false, IsTrue, codes, length, ⊤}
 use Rattle.hex.specs.Hex.{encode_lower}
 use Rattle.capnp_words.specs.declared.error.ErrorKind.{ErrorKind}
@@ -24,6 +24,8 @@ use Rattle.capnp_layout.specs.declared.tool.refusal.Refusal.{Refusal}
 use Rattle.capnp_layout.specs.declared.tool.refusal.Refusal.TheVariants.{Layout}
 use Rattle.capnp_layout.specs.declared.tool.refusal.Refusal.TheVariants.{Frame as NoFrameFor}
 use Rattle.capnp_layout.specs.declared.tool.refusal.Refusal.TheVariants.{NoMessage}
+use Rattle.capnp_messages.specs.declared.messages.command.Form.{Form}
+use Rattle.capnp_messages.specs.declared.messages.command.Form.TheVariants.{Flat, Framed}
 use Rattle.capnp_messages.specs.Messages.{HasCanonicalCopy, HasSizeOf, HasSizeWithin, IsReadable, IsValueOf, RefusesCheck}
 use Rattle.capnp_layout.specs.Answers.{CheckOf, RefusesMessage}
 use Rattle.capnp_messages.specs.Text.{check_line, size_line}
@@ -38,6 +40,16 @@ frame_line S = encode_lower (frame S) ++ 10 ∷ []
 abbrev pub segment_lines : Segments → List ℕ
 segment_lines [] = []
 segment_lines (ws ∷ S) = (digits_of ws ++ 10 ∷ []) ++ segment_lines S
+
+-- what is asked for by canonical words that are written in a form
+abbrev pub canonical_args : Form → ReaderOptions → Args
+canonical_args Flat options = Canon options
+canonical_args Framed options = FramedCanon options
+
+-- the line of canonical words that are written in a form
+abbrev pub form_line : Form → List ℕ → List ℕ
+form_line Flat words = digits_of words ++ 10 ∷ []
+form_line Framed words = frame_line (words ∷ [])
 
 -- Segments can be written: they are within the limits of a reader, and the output has not failed.
 abbrev pub AreWritable : {W : Type 0} → Ghosts W → W → List (List ℕ) → Type 0

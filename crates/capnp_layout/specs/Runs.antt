@@ -27,6 +27,11 @@ pub record Run : Type 0 where
   pub before : ℕ
   pub after : ℕ
 
+-- A run of a command that asks for no memory.
+abbrev pub uncounted : List (List ℕ) → Args → Outcome → Run
+uncounted lines args outcome =
+    record { lines = lines; args = args; outcome = outcome; before = 0; after = 0 }
+
 -- What a command has written, from one state of the output to another, when it ends. Wherever lines
 -- have an answer it is given, or the output has failed, or memory was refused.
 pub record Responds {W : Type 0} (g : Ghosts W) (from to : W) (run : Run) : Type 0 where

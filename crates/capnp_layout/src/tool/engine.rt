@@ -5,24 +5,25 @@ ghost use Rattle.capnp_words.specs.declared.error.ErrorKind.TheVariants.{Allocat
 ghost use Rattle.capnp_framing.specs.Writing.{Prints};
 ghost use Rattle.capnp_layout.specs.Lines.{segments_of};
 ghost use Rattle.capnp_layout.specs.Messages.{segments_in};
-ghost use Rattle.capnp_layout.specs.Commands.{IsAnswer, IsWithin, WhyRefused};
+ghost use Rattle.capnp_layout.specs.Commands.{IsAnswer, IsWithin, WhyRefused, canonical_args};
 ghost use Rattle.capnp_layout.specs.Reading.{CountsRead, WorksUnlessBad};
 ghost use Rattle.capnp_layout.specs.Refusals.{refusal_line};
 ghost use Rattle.capnp_layout.specs.declared.tool.refusal.Refusal.{Refusal};
-ghost use Rattle.capnp_layout.specs.Runs.{AreLinesOf, TextHasAnswer, IsBadInput, IsForMemoryOr, Responds};
+ghost use Rattle.capnp_layout.specs.Runs.{AreLinesOf, TextHasAnswer, IsBadInput, IsForMemoryOr, Responds, uncounted};
 
 use super::args::Args;
 use super::canon::canonical;
 use super::check::is_canonical;
-use super::framed::{frame, framed_canon, framed_check, unframe};
+use super::framed::{frame, framed_check, unframe};
+use super::frames::write_form;
 use super::lines::{InputFault, Message, read_lines};
 use super::reading::read_text;
 use super::refusal::Refusal;
 use super::size::size_of;
-use super::writing::{write_check, write_refusal, write_words};
+use super::writing::{write_check, write_refusal};
 use crate::devices::{DeviceFault, Input, Output};
 use capnp_arena::arena::{Allocator, ReaderOptions, ReaderSegments};
-use capnp_messages::messages::{CopyMemory, canonical_bytes};
+use capnp_messages::messages::{CopyMemory, Form, canonical_bytes};
 use capnp_messages::text::write_size;
 use capnp_words::error::ErrorKind;
 use std::alloc::Global;
@@ -82,18 +83,19 @@ pub(super) fn refuse<W: Output>(output: &mut W, refusal: Refusal) -> Outcome
     ended(write_refusal(output, refusal), Outcome::Refused)
 }
 
-/// Answers to a message with the line of its canonical words, or of its refusal.
+/// Answers to a message with the line of its canonical words in a form, or of its refusal.
 fn canon<A: Allocator, W: Output>(
     alloc: Global,
     allocator: A,
     source: Message,
     options: ReaderOptions,
+    form: Form,
     output: &mut W,
 ) -> (Outcome, A)
     requires { W.has_failed output.old ≡ false }
     ensures { Responds W.Output output.old output.new (record {
       lines = segments_in source;
-      args = Args.Canon options;
+      args = canonical_args form options;
       outcome = result.0;
       before = A.refusals allocator;
       after = A.refusals result.1;
@@ -101,7 +103,7 @@ fn canon<A: Allocator, W: Output>(
 {
     match canonical(alloc, allocator, source, options) {
         Ok(made) => {
-            let written = write_words(output, canonical_bytes(&made));
+            let written = write_form(output, canonical_bytes(&made), form);
             (ended(written, Outcome::Done), made.into_allocator())
         }
         Err((kind, allocator)) => (refuse(output, Refusal::Layout(kind)), allocator),
@@ -111,13 +113,8 @@ fn canon<A: Allocator, W: Output>(
 /// Answers to a message with the line that says whether it is canonical, or of its refusal.
 fn check<W: Output>(source: Message, options: ReaderOptions, output: &mut W) -> Outcome
     requires { W.has_failed output.old ≡ false }
-    ensures { Responds W.Output output.old output.new (record {
-      lines = segments_in source;
-      args = Args.Check options;
-      outcome = result;
-      before = 0;
-      after = 0;
-    }) }
+    ensures { Responds W.Output output.old output.new
+        (uncounted (segments_in source) (Args.Check options) result) }
 {
     match is_canonical(source, options) {
         Ok(yes) => ended(write_check(output, yes), Outcome::Done),
@@ -128,13 +125,8 @@ fn check<W: Output>(source: Message, options: ReaderOptions, output: &mut W) -> 
 /// Answers to a message with the line of its size, or of its refusal.
 fn size<W: Output>(source: Message, options: ReaderOptions, output: &mut W) -> Outcome
     requires { W.has_failed output.old ≡ false }
-    ensures { Responds W.Output output.old output.new (record {
-      lines = segments_in source;
-      args = Args.Size options;
-      outcome = result;
-      before = 0;
-      after = 0;
-    }) }
+    ensures { Responds W.Output output.old output.new
+        (uncounted (segments_in source) (Args.Size options) result) }
 {
     match size_of(source, options) {
         Ok(size) => ended(write_size(output, size), Outcome::Done),
@@ -160,12 +152,14 @@ fn respond<A: Allocator, W: Output>(
     }) }
 {
     match *args {
-        Args::Canon(options) => canon(alloc, allocator, lines, options, output),
+        Args::Canon(options) => canon(alloc, allocator, lines, options, Form::Flat, output),
         Args::Check(options) => (check(lines, options, output), allocator),
         Args::Size(options) => (size(lines, options, output), allocator),
         Args::Frame => (frame(lines, output), allocator),
         Args::Unframe => (unframe(lines, output), allocator),
-        Args::FramedCanon(options) => framed_canon(alloc, allocator, lines, options, output),
+        Args::FramedCanon(options) => {
+            canon(alloc, allocator, lines, options, Form::Framed, output)
+        }
         Args::FramedCheck(options) => (framed_check(lines, options, output), allocator),
     }
 }

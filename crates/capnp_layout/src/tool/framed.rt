@@ -2,26 +2,21 @@
 ghost use Rattle.std.specs.Prelude.{◌≡◌, ◌≢◌, ◌⊎◌, ◌≤◌, ℕ, length, true, false, IsOk, IfOk, IfErr, OnErr, OnOk};
 ghost use Rattle.capnp_format.specs.Bytes.{message};
 ghost use Rattle.capnp_arena_traits.specs.Limits.{IsSmall};
-ghost use Rattle.capnp_framing.specs.Writing.{Writes};
-ghost use Rattle.capnp_layout.specs.Commands.{HasAnswer, HoldsFrame, RefusesFrame, TellsCanonical, WhyRefused, frame_line};
+ghost use Rattle.capnp_layout.specs.Commands.{HasAnswer, HoldsFrame, RefusesFrame, TellsCanonical, WhyRefused};
 ghost use Rattle.capnp_layout.specs.Messages.{segments_in};
-ghost use Rattle.capnp_layout.specs.Runs.{Responds};
+ghost use Rattle.capnp_layout.specs.Runs.{Responds, uncounted};
 
 use super::args::Args;
-use super::canon::canonical;
 use super::engine::{Outcome, ended, refuse};
 use super::frames::{write_frame, write_segments};
 use super::lines::Message;
 use super::refusal::Refusal;
 use super::writing::write_message_check;
-use crate::devices::{DeviceFault, Output};
-use capnp_arena::arena::{
-    Allocator, BuilderArena, BuilderArenaImpl, ReaderArena, ReaderOptions, ReaderSegments,
-};
+use crate::devices::Output;
+use capnp_arena::arena::{ReaderOptions, ReaderSegments};
 use capnp_framing::framing::{FrameError, FrameSegments, MAX_SEGMENTS, read_from_flat_slice};
 use capnp_messages::messages::is_canonical;
 use capnp_words::error::ErrorKind;
-use std::alloc::Global;
 
 /// The greatest number of words of a message whose frame is read.
 const MAX_FRAME_WORDS: u64 = 8_388_608;
@@ -81,13 +76,8 @@ fn count_of(source: &Message) -> Result<usize, Refusal>
 /// Answers to segments with the line of their frame, or of a refusal.
 pub(crate) fn frame<W: Output>(source: Message, output: &mut W) -> Outcome
     requires { W.has_failed output.old ≡ false }
-    ensures { Responds W.Output output.old output.new (record {
-      lines = segments_in source;
-      args = Args.Frame;
-      outcome = result;
-      before = 0;
-      after = 0;
-    }) }
+    ensures { Responds W.Output output.old output.new
+        (uncounted (segments_in source) Args.Frame result) }
 {
     match count_of(&source) {
         Ok(_) => ended(write_frame(output, &source), Outcome::Done),
@@ -99,13 +89,8 @@ pub(crate) fn frame<W: Output>(source: Message, output: &mut W) -> Outcome
 /// refusal. More than one line is bad input.
 pub(crate) fn unframe<W: Output>(lines: Message, output: &mut W) -> Outcome
     requires { W.has_failed output.old ≡ false }
-    ensures { Responds W.Output output.old output.new (record {
-      lines = segments_in lines;
-      args = Args.Unframe;
-      outcome = result;
-      before = 0;
-      after = 0;
-    }) }
+    ensures { Responds W.Output output.old output.new
+        (uncounted (segments_in lines) Args.Unframe result) }
 {
     if lines.len() > 1 {
         return Outcome::BadInput;
@@ -113,48 +98,6 @@ pub(crate) fn unframe<W: Output>(lines: Message, output: &mut W) -> Outcome
     match frame_in(&lines) {
         Ok(segments) => ended(write_segments(output, &segments), Outcome::Done),
         Err(refusal) => refuse(output, refusal),
-    }
-}
-
-/// Writes the frame of a message of one segment as a line.
-fn write_made<A: Allocator, W: Output>(
-    output: &mut W,
-    made: &BuilderArenaImpl<A>,
-) -> Result<(), DeviceFault>
-    requires works { W.has_failed output.old ≡ false }
-    requires single { length (⟦<BuilderArenaImpl<A> as ReaderArena>⟧.segments made.now) ≡ 1 }
-    ensures { Writes W.Output result output.old output.new
-        (frame_line (⟦<BuilderArenaImpl<A> as BuilderArena>⟧.view made.now).words) }
-{
-    match made.get_segments_for_output() {
-        Ok(segments) => write_frame(output, &segments),
-        Err(_) => Err(DeviceFault),
-    }
-}
-
-/// Answers to segments with the line of the frame of their canonical words, or of a refusal.
-pub(crate) fn framed_canon<A: Allocator, W: Output>(
-    alloc: Global,
-    allocator: A,
-    source: Message,
-    options: ReaderOptions,
-    output: &mut W,
-) -> (Outcome, A)
-    requires { W.has_failed output.old ≡ false }
-    ensures { Responds W.Output output.old output.new (record {
-      lines = segments_in source;
-      args = Args.FramedCanon options;
-      outcome = result.0;
-      before = A.refusals allocator;
-      after = A.refusals result.1;
-    }) }
-{
-    match canonical(alloc, allocator, source, options) {
-        Ok(made) => {
-            let written = write_made(output, &made);
-            (ended(written, Outcome::Done), made.into_allocator())
-        }
-        Err((kind, allocator)) => (refuse(output, Refusal::Layout(kind)), allocator),
     }
 }
 
@@ -166,13 +109,8 @@ pub(crate) fn framed_check<W: Output>(
     output: &mut W,
 ) -> Outcome
     requires { W.has_failed output.old ≡ false }
-    ensures { Responds W.Output output.old output.new (record {
-      lines = segments_in lines;
-      args = Args.FramedCheck options;
-      outcome = result;
-      before = 0;
-      after = 0;
-    }) }
+    ensures { Responds W.Output output.old output.new
+        (uncounted (segments_in lines) (Args.FramedCheck options) result) }
 {
     if lines.len() > 1 {
         return Outcome::BadInput;

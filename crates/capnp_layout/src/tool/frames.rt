@@ -7,11 +7,12 @@ ghost use Rattle.capnp_format.specs.Segments.{segment};
 ghost use Rattle.capnp_arena_traits.specs.Limits.{IsSmall};
 ghost use Rattle.capnp_framing.specs.Frames.{contents, lengths, max_frame_segments, padding_size};
 ghost use Rattle.capnp_framing.specs.Writing.{Writes};
-ghost use Rattle.capnp_layout.specs.Commands.{AreWritable, frame_line, segment_lines};
+ghost use Rattle.capnp_layout.specs.Commands.{AreWritable, form_line, frame_line, segment_lines};
 
 use super::writing::{write_digits, write_words};
 use crate::devices::{DeviceFault, Output, write_all};
-use capnp_arena::arena::ReaderSegments;
+use capnp_arena::arena::{OutputSegments, ReaderSegments};
+use capnp_messages::messages::Form;
 
 /// The bytes of a segment. None where there is no such segment.
 fn segment_at<S: ReaderSegments>(segments: &S, id: u32) -> &[u8]
@@ -99,6 +100,22 @@ pub(crate) fn write_frame<W: Output, S: ReaderSegments>(
     write_padding(output, count)?;
     write_contents(output, segments)?;
     write_all(output, b"\n")
+}
+
+/// Writes canonical words as one line of hex digits in a form: the words themselves, or their frame.
+pub(crate) fn write_form<W: Output>(
+    output: &mut W,
+    words: &[u8],
+    form: Form,
+) -> Result<(), DeviceFault>
+    requires works { W.has_failed output.old ≡ false }
+    requires short { length words.now < 2 ^ 35 }
+    ensures { Writes W.Output result output.old output.new (form_line form (words_of words.now)) }
+{
+    match form {
+        Form::Flat => write_words(output, words),
+        Form::Framed => write_frame(output, &OutputSegments::SingleSegment(words)),
+    }
 }
 
 /// Writes a line of hex digits for each segment of a message.

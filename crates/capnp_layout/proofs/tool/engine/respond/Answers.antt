@@ -5,7 +5,7 @@ pub returns-in-Canon : goal.returns-in-Canon
 returns-in-Canon g c = named_run _ _ _ c.in-Canon.is c.canon.ensures
 
 pub returns-in-FramedCanon : goal.returns-in-FramedCanon
-returns-in-FramedCanon g c = named_run _ _ _ c.in-FramedCanon.is c.framed_canon.ensures
+returns-in-FramedCanon g c = named_run _ _ _ c.in-FramedCanon.is c.canon-in-FramedCanon.ensures
 
 pub returns-in-Check : goal.returns-in-Check
 returns-in-Check g c = uncounted_run _ _ _ _ c.in-Check.is c.check.ensures
