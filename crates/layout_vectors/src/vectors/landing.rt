@@ -1,6 +1,7 @@
-//! Where the pointers of a message lead ("Inter-Segment Pointers").
-ghost use Rattle.std.specs.Prelude.{◌≡◌, ◌<◌, ◌^◌, IsTrue, ◌↔◌, length, option_map};
-ghost use Rattle.capnp_format.specs.Bytes.{message};
+//! Where the pointers of a message lead ("Inter-Segment Pointers"). The audit follows them by code of its own, not by that
+//! which builds messages, and trusts no landing pad: it is to find what a builder has done wrong.
+ghost use Rattle.std.specs.Prelude.{◌≡◌, ◌<◌, ◌/◌, ◌^◌, IsTrue, ◌↔◌, length, option_map};
+ghost use Rattle.capnp_format.specs.Bytes.{message, words_of};
 ghost use Rattle.capnp_format.specs.Segments.{segment, word_at, leads, near, far};
 ghost use Rattle.capnp_format.specs.Word.{is_double};
 ghost use Rattle.layout_vectors.specs.Landings.{target_at};
@@ -22,31 +23,32 @@ pub(crate) struct PointerTarget {
     pub(crate) pads: u32,
 }
 
+/// The bytes of a segment, none where there is no such segment.
+fn bytes_of<A: ReaderArena>(arena: &A, id: u32) -> &[u8]
+    ensures words { words_of result.now ≡ segment (message (A.segments arena.now)) id }
+    ensures short { length result.now / 8 < 2 ^ 32 }
+{
+    arena.get_segment(id).unwrap_or(&[])
+}
+
 /// How many words a segment has, none where there is no such segment.
+#[tactic(auto, using(capnp_format::proofs::WordsOf::words))]
 pub(crate) fn length_of<A: ReaderArena>(arena: &A, id: u32) -> u32
     ensures { result ≡ length (segment (message (A.segments arena.now)) id) }
 {
-    match arena.get_segment(id) {
-        Ok(bytes) => (bytes.len() / 8) as u32,
-        Err(_) => 0,
-    }
+    (bytes_of(arena, id).len() / 8) as u32
 }
 
 /// The word at a place, zero where there is none.
+#[tactic(auto, using(capnp_format::proofs::WordsOf::words, std::proofs::lemmas::List::get_or_past))]
 pub(crate) fn word_of<A: ReaderArena>(arena: &A, id: u32, at: u32) -> WirePointer
     ensures { result.0 ≡ word_at (message (A.segments arena.now)) id at }
 {
-    match arena.get_segment(id) {
-        Ok(bytes) => {
-            let at = at as usize;
-            if at < bytes.len() / 8 {
-                WirePointer(words::word_at(bytes, at))
-            } else {
-                WirePointer::null()
-            }
-        }
-        Err(_) => WirePointer::null(),
+    let bytes = bytes_of(arena, id);
+    if at as usize >= bytes.len() / 8 {
+        return WirePointer::null();
     }
+    WirePointer(words::word_at(bytes, at as usize))
 }
 
 /// Whether there is a segment of this number.
@@ -79,15 +81,13 @@ fn follow_near<A: ReaderArena>(
     ensures { option_map target_at result
         ≡ near (message (A.segments arena.now)) id at word.0 pads }
 {
-    match word.target(at, length_of(arena, id)) {
-        Some(start) => Some(PointerTarget {
-            word,
-            segment: id,
-            start,
-            pads,
-        }),
-        None => None,
-    }
+    let start = word.target(at, length_of(arena, id))?;
+    Some(PointerTarget {
+        word,
+        segment: id,
+        start,
+        pads,
+    })
 }
 
 /// Where a far pointer leads, its landing pad of one or two words read. `None` where the pad isn't
