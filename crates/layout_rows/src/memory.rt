@@ -5,7 +5,7 @@ ghost use Rattle.capnp_arena_traits.specs.Allocations.{max_segment_words};
 use crate::output::Output;
 use crate::parse::{self, Fault};
 use capnp_arena::arena::{
-    Allocator, BuilderArena, BuilderArenaImpl, HeapSegment, MAX_SEGMENT_WORDS, ReaderArena,
+    Allocator, BuilderArena, BuilderArenaImpl, HeapAllocator, MAX_SEGMENT_WORDS, ReaderArena,
     ScratchSegment, ScratchSpaceHeapAllocator,
 };
 use capnp_words::error::ErrorKind;
@@ -53,21 +53,16 @@ impl Memory {
     }
 
     /// The allocator where there is no scratch space.
-    pub fn limited(&self, alloc: Global) -> LimitedRows {
-        LimitedRows {
-            inner: LimitedAllocator::new(alloc, self.words, self.segments),
-            rows: self.rows,
-            refused: 0,
-        }
+    pub fn limited(&self, alloc: Global) -> LimitedAllocator<HeapAllocator> {
+        let heap = HeapAllocator::new(alloc, self.words);
+        LimitedAllocator::new(heap, self.segments, self.rows)
     }
 
     /// The allocator over a scratch space.
     pub fn over<'a>(&self, alloc: Global, scratch: &'a mut [u8]) -> LimitedScratch<'a> {
+        let scratch = ScratchSpaceHeapAllocator::new(alloc, scratch, self.words);
         LimitedScratch {
-            inner: ScratchSpaceHeapAllocator::new(alloc, scratch, self.words),
-            left: self.segments,
-            rows: self.rows,
-            refused: 0,
+            inner: LimitedAllocator::new(scratch, self.segments, self.rows),
         }
     }
 }
@@ -81,67 +76,11 @@ fn count(text: &str) -> Result<u32, Fault> {
     }
 }
 
-/// Makes segments as `LimitedAllocator` does, and keeps no more than so many rows.
-#[derive(Drop)]
-pub struct LimitedRows {
-    inner: LimitedAllocator,
-    rows: u32,
-    refused: u64,
-}
-
-impl Allocator for LimitedRows {
-    type Segment = HeapSegment;
-
-    fn keeps_first_in_arena() -> bool {
-        false
-    }
-
-    ghost refusals = { λ a. a.refused };
-
-    ghost offers = { λ a. ⟦<LimitedAllocator as Allocator>⟧.offers a.inner };
-
-    fn allocate_segment(&mut self, min_words: u32) -> Result<HeapSegment, ErrorKind> {
-        if min_words > MAX_SEGMENT_WORDS {
-            return Err(ErrorKind::MessageTooLarge(min_words as usize));
-        }
-        if let Ok(segment) = self.inner.allocate_segment(min_words) {
-            return Ok(segment);
-        }
-        self.refused = self.refused.saturating_add(1);
-        Err(ErrorKind::AllocationFailed)
-    }
-
-    fn deallocate_segment(&mut self, segment: HeapSegment, used_words: u32) {
-        self.inner.deallocate_segment(segment, used_words);
-    }
-
-    fn keep<T>(&mut self, list: &mut Vec<T>, row: T) -> Option<T> {
-        if self.rows == 0 {
-            self.refused = self.refused.saturating_add(1);
-            return Some(row);
-        }
-        let returned = self.inner.keep(list, row);
-        if returned.is_some() {
-            self.refused = self.refused.saturating_add(1);
-        } else {
-            self.rows -= 1;
-        }
-        returned
-    }
-
-    fn refused(&self) -> u64 {
-        self.refused
-    }
-}
-
-/// Makes segments over a scratch space, but no more than so many, and keeps no more than so many rows. It isn't generic over the other allocator: a call of
-/// a function that is generic over allocators would have no generated proof then, since that one names a lifetime.
+/// A limited allocator over a scratch space, as a type of its own: a function that is generic over allocators can't be
+/// called with a `LimitedAllocator` of one that names a lifetime, since that call would have no generated proof.
 #[derive(Drop)]
 pub struct LimitedScratch<'a> {
-    inner: ScratchSpaceHeapAllocator<'a>,
-    left: u32,
-    rows: u32,
-    refused: u64,
+    inner: LimitedAllocator<ScratchSpaceHeapAllocator<'a>>,
 }
 
 impl<'a> Allocator for LimitedScratch<'a> {
@@ -155,25 +94,15 @@ impl<'a> Allocator for LimitedScratch<'a> {
         true
     }
 
-    ghost refusals = { λ a. a.refused };
+    ghost refusals = { λ a. a.inner.refused };
 
-    ghost offers = { λ a. ⟦<ScratchSpaceHeapAllocator<'static> as Allocator>⟧.offers a.inner };
+    ghost offers = { λ a. ⟦<ScratchSpaceHeapAllocator<'static> as Allocator>⟧.offers a.inner.inner };
 
     fn allocate_segment(
         &mut self,
         min_words: u32,
     ) -> Result<ScratchSegment<&'a mut [u8]>, ErrorKind> {
-        if min_words > MAX_SEGMENT_WORDS {
-            return Err(ErrorKind::MessageTooLarge(min_words as usize));
-        }
-        if self.left > 0 {
-            if let Ok(segment) = self.inner.allocate_segment(min_words) {
-                self.left -= 1;
-                return Ok(segment);
-            }
-        }
-        self.refused = self.refused.saturating_add(1);
-        Err(ErrorKind::AllocationFailed)
+        self.inner.allocate_segment(min_words)
     }
 
     fn deallocate_segment(&mut self, segment: ScratchSegment<&'a mut [u8]>, used_words: u32) {
@@ -181,21 +110,11 @@ impl<'a> Allocator for LimitedScratch<'a> {
     }
 
     fn keep<T>(&mut self, list: &mut Vec<T>, row: T) -> Option<T> {
-        if self.rows == 0 {
-            self.refused = self.refused.saturating_add(1);
-            return Some(row);
-        }
-        let returned = self.inner.keep(list, row);
-        if returned.is_some() {
-            self.refused = self.refused.saturating_add(1);
-        } else {
-            self.rows -= 1;
-        }
-        returned
+        self.inner.keep(list, row)
     }
 
     fn refused(&self) -> u64 {
-        self.refused
+        self.inner.refused()
     }
 }
 

@@ -1,57 +1,58 @@
-//! An allocator of so many segments.
-ghost use Rattle.std.specs.Prelude.{◌≡◌, ◌≤◌};
-ghost use Rattle.capnp_arena_traits.specs.Allocations.{max_segment_words};
+//! An allocator of so many segments and rows.
+ghost use Rattle.std.specs.Prelude.{◌≡◌};
 
-use capnp_arena::arena::{Allocator, HeapAllocator, HeapSegment, MAX_SEGMENT_WORDS};
+use capnp_arena::arena::{Allocator, MAX_SEGMENT_WORDS};
 use capnp_words::error::ErrorKind;
-use std::alloc::Global;
 
-/// Makes segments on the heap as `HeapAllocator` does, but no more than so many.
+/// Makes segments as another allocator does, but no more than so many, and keeps no more than so many rows of segments.
 ///
-/// Each further request of at most 536,870,911 words is `AllocationFailed`, and counts in
-/// `refused`. A segment that was given back isn't handed out again, and still counts.
+/// Each further request of at most 536,870,911 words is `AllocationFailed`, and each further row is given back; both
+/// count in `refused`. A segment that was given back and is handed out again counts once more.
 #[derive(Drop)]
-pub struct LimitedAllocator {
-    heap: HeapAllocator,
-    left: u32,
+pub struct LimitedAllocator<A: Allocator> {
+    inner: A,
+    segments: u32,
+    rows: u32,
     refused: u64,
 }
 
-impl LimitedAllocator {
-    /// An allocator of so many segments that has refused nothing yet. `words`, the least number of
-    /// words of a segment, is at most 536,870,911.
-    pub fn new(alloc: Global, words: u32, segments: u32) -> Self
-        requires { words ≤ max_segment_words }
-        ensures words { result.heap.words ≡ words }
-        ensures left { result.left ≡ segments }
+impl<A: Allocator> LimitedAllocator<A> {
+    /// An allocator of so many segments and rows that has refused nothing yet.
+    pub fn new(inner: A, segments: u32, rows: u32) -> Self
+        ensures inner { result.inner ≡ inner }
+        ensures segments { result.segments ≡ segments }
+        ensures rows { result.rows ≡ rows }
         ensures refused { result.refused ≡ 0 }
     {
         LimitedAllocator {
-            heap: HeapAllocator::new(alloc, words),
-            left: segments,
+            inner,
+            segments,
+            rows,
             refused: 0,
         }
     }
 }
 
-impl Allocator for LimitedAllocator {
-    type Segment = HeapSegment;
+impl<A: Allocator> Allocator for LimitedAllocator<A> {
+    type Segment = A::Segment;
+
+    ghost first_in_arena = { A.first_in_arena };
 
     fn keeps_first_in_arena() -> bool {
-        false
+        A::keeps_first_in_arena()
     }
 
     ghost refusals = { λ a. a.refused };
 
-    ghost offers = { λ a. ⟦<HeapAllocator as Allocator>⟧.offers a.heap };
+    ghost offers = { λ a. A.offers a.inner };
 
-    fn allocate_segment(&mut self, min_words: u32) -> Result<HeapSegment, ErrorKind> {
+    fn allocate_segment(&mut self, min_words: u32) -> Result<A::Segment, ErrorKind> {
         if min_words > MAX_SEGMENT_WORDS {
             return Err(ErrorKind::MessageTooLarge(min_words as usize));
         }
-        if self.left > 0 {
-            if let Ok(segment) = self.heap.allocate_segment(min_words) {
-                self.left -= 1;
+        if self.segments > 0 {
+            if let Ok(segment) = self.inner.allocate_segment(min_words) {
+                self.segments -= 1;
                 return Ok(segment);
             }
         }
@@ -59,19 +60,22 @@ impl Allocator for LimitedAllocator {
         Err(ErrorKind::AllocationFailed)
     }
 
-    fn deallocate_segment(&mut self, segment: HeapSegment, _used_words: u32) {
-        drop(segment);
+    fn deallocate_segment(&mut self, segment: A::Segment, used_words: u32) {
+        self.inner.deallocate_segment(segment, used_words);
     }
 
     fn keep<T>(&mut self, list: &mut Vec<T>, row: T) -> Option<T> {
-        match list.push(row) {
-            Ok(()) => None,
-            Err(e) => {
-                self.refused = self.refused.saturating_add(1);
-                let row = e.value;
-                Some(row)
-            }
+        if self.rows == 0 {
+            self.refused = self.refused.saturating_add(1);
+            return Some(row);
         }
+        let returned = self.inner.keep(list, row);
+        if returned.is_some() {
+            self.refused = self.refused.saturating_add(1);
+        } else {
+            self.rows -= 1;
+        }
+        returned
     }
 
     fn refused(&self) -> u64 {
