@@ -1,12 +1,13 @@
 //! One run, as a line of text asks for it.
 
-use crate::devices::{Dripping, Narrow};
 use crate::{frames, segments};
 use capnp_arena::arena::{Allocator, HeapAllocator};
 use capnp_layout::tool::{self, Args, Outcome};
 use std::alloc::{AllocError, Global};
 use std::cell::Cell;
-use test_support::{Granted, TestAllocator};
+use test_support::{
+    Granted, Strain, StrainedInput, StrainedOutput, TestAllocator, arguments, limit,
+};
 
 /// What a line asks for.
 #[derive(Drop)]
@@ -25,9 +26,9 @@ enum Asked<'l> {
 struct Run<'l> {
     args: Args,
     /// How many reads succeed, of a byte each.
-    reads: usize,
+    reads: Strain,
     /// How many writes succeed, of a byte each.
-    writes: usize,
+    writes: Strain,
     /// How many requests for memory are granted.
     requests: u64,
     /// The lines of the input, parted by commas.
@@ -84,14 +85,15 @@ fn read_run<'l>(
     (reads, writes, requests): (&str, &str, &str),
     input: &'l str,
 ) -> Result<Option<Run<'l>>, AllocError> {
-    let Some(args) = read_args(alloc, args)? else {
+    let words = arguments(alloc, args)?;
+    let Some(args) = tool::parse_args(words.as_slice()) else {
         return Ok(None);
     };
-    Ok(match (count(reads), count(writes), count(requests)) {
+    Ok(match (limit(reads), limit(writes), limit(requests)) {
         (Some(reads), Some(writes), Some(requests)) => Some(Run {
             args,
-            reads: reads as usize,
-            writes: writes as usize,
+            reads: by_bytes(reads),
+            writes: by_bytes(writes),
             requests,
             input,
         }),
@@ -99,22 +101,9 @@ fn read_run<'l>(
     })
 }
 
-/// The words behind the program's name, parted by commas.
-fn read_args(alloc: Global, text: &str) -> Result<Option<Args>, AllocError> {
-    let mut words = Vec::new(alloc);
-    for word in text.split(',') {
-        words.push(String::from_str(alloc, word)?)?;
-    }
-    Ok(tool::parse_args(words.as_slice()))
-}
-
-/// A limit in decimal digits; `none` is no limit.
-fn count(text: &str) -> Option<u64> {
-    if text == "none" {
-        Some(u64::MAX)
-    } else {
-        text.parse().ok()
-    }
+/// So many calls succeed, of a byte each.
+fn by_bytes(calls: u64) -> Strain {
+    Strain { calls, most: 1 }
 }
 
 /// The bytes of an input: its lines, each with its end. `-` is none.
@@ -135,16 +124,8 @@ fn run_once(alloc: Global, run: &Run<'_>) -> Result<String, AllocError> {
     let returned = Cell::new(0);
     let heap = HeapAllocator::new(alloc, 0);
     let allocator = TestAllocator::new(heap, Granted::Requests(run.requests), &returned);
-    let mut input = Dripping {
-        bytes: lines.as_bytes(),
-        reads: run.reads,
-        failed: false,
-    };
-    let mut output = Narrow {
-        bytes: Vec::new(alloc),
-        writes: run.writes,
-        failed: false,
-    };
+    let mut input = StrainedInput::new(lines.as_bytes(), run.reads);
+    let mut output = StrainedOutput::new(alloc, run.writes);
     let (outcome, allocator) = tool::run_with(alloc, allocator, &run.args, &mut input, &mut output);
     let ends = match outcome {
         Outcome::Done => "done",

@@ -2,29 +2,11 @@
 //! given places, a line of standard input by a line of standard output. docs/ROWS.md says what a line holds.
 #![tactic(auto)]
 
-mod devices;
 mod run;
 
-use std::io::{self, BufReader, BufWriter, Read, Write};
 use std::process::ExitCode;
+use test_support::answer_lines;
 
 fn main(rt: HostRuntime) -> ExitCode {
-    match respond(&rt) {
-        Ok(()) => ExitCode::SUCCESS,
-        Err(_) => ExitCode::from(1),
-    }
-}
-
-/// Answers each line of standard input. An error is one of reading, of writing, or want of memory.
-fn respond(rt: &HostRuntime) -> io::Result<()> {
-    let mut text = String::new(rt.alloc());
-    let mut reader = BufReader::new(rt.alloc(), rt.reader())?;
-    reader.read_to_string(&mut text)?;
-    let mut writer = BufWriter::new(rt.alloc(), io::writer(rt))?;
-    for line in text.lines() {
-        let answer = run::answer(rt.alloc(), line)?;
-        writer.write_all(answer.as_bytes())?;
-        writer.write_all(b"\n")?;
-    }
-    writer.flush()
+    answer_lines(&rt, run::answer)
 }

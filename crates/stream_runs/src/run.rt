@@ -3,11 +3,11 @@
 //! them (`none`: no limit).
 ghost use Rattle.std.specs.Prelude.{◌≡◌, false};
 
-use crate::devices::{Strain, StrainedInput, StrainedOutput};
 use capnp_packing::buffered::BufferedOutput;
 use capnp_packing::packing::PackingOutput;
 use capnp_streams::streams::{self, Request, Stop, Summary, Task};
 use std::alloc::{AllocError, Global};
+use test_support::{Strain, StrainedInput, StrainedOutput, arguments, limit};
 
 /// What a line asks for.
 #[derive(Drop)]
@@ -52,12 +52,9 @@ fn read_line(alloc: Global, line: &str) -> Result<Option<Run>, AllocError> {
     })
 }
 
-/// The words behind the program's name, parted by commas.
+/// What the words behind the program's name ask for.
 fn read_task(alloc: Global, text: &str) -> Result<Option<Task>, AllocError> {
-    let mut words = Vec::new(alloc);
-    for word in text.split(',') {
-        words.push(String::from_str(alloc, word)?)?;
-    }
+    let words = arguments(alloc, text)?;
     Ok(match streams::parse_args(words.as_slice()) {
         Ok(Request::Run(task, 0)) if !task.from_flat => Some(task),
         _ => None,
@@ -70,18 +67,9 @@ fn read_task(alloc: Global, text: &str) -> Result<Option<Task>, AllocError> {
 fn read_strain(text: &str) -> Option<Strain> {
     let (calls, most) = text.split_once(',')?;
     Some(Strain {
-        calls: count(calls)?,
-        most: count(most)? as usize,
+        calls: limit(calls)?,
+        most: limit(most)? as usize,
     })
-}
-
-/// A limit in decimal digits; `none` is no limit.
-fn count(text: &str) -> Option<u64> {
-    if text == "none" {
-        Some(u64::MAX)
-    } else {
-        text.parse().ok()
-    }
 }
 
 /// The bytes of hex digits. `-` is none.
@@ -97,11 +85,7 @@ fn read_input(alloc: Global, text: &str) -> Result<Option<Vec<u8>>, AllocError> 
 
 /// Makes a run, and says how it ends and what was written.
 fn run_once(alloc: Global, run: &Run) -> Result<String, AllocError> {
-    let mut output = StrainedOutput {
-        bytes: Vec::new(alloc),
-        strain: run.writes,
-        failed: false,
-    };
+    let mut output = StrainedOutput::new(alloc, run.writes);
     if !run.task.pack {
         let ended = run_to(alloc, run, &mut output);
         return told(alloc, ended, output.bytes.as_slice());
@@ -122,11 +106,7 @@ fn run_once(alloc: Global, run: &Run) -> Result<String, AllocError> {
 fn run_to<W: BufferedOutput>(alloc: Global, run: &Run, output: &mut W) -> Result<Summary, Stop>
     requires { W.has_failed output.old ≡ false }
 {
-    let mut input = StrainedInput {
-        bytes: run.input.as_slice(),
-        strain: run.reads,
-        failed: false,
-    };
+    let mut input = StrainedInput::new(run.input.as_slice(), run.reads);
     if run.task.unpack {
         streams::run_packed(alloc, run.task, input, output)
     } else {

@@ -1,16 +1,19 @@
-//! What the crates of tests share: messages written as hex digits, an allocator that refuses memory where
-//! a test wants it and notes what comes back, one that notes what it is asked for, one whose arenas keep
-//! their first row, and one of a scratch space alone.
+//! What the crates of tests share, and the programs that answer lines: messages written as hex digits, an allocator that
+//! refuses memory where a test wants it and notes what comes back, one that notes what it is asked for, one whose arenas
+//! keep their first row, devices that move few bytes at a time and fail, and lines with their answers.
 #![tactic(auto)]
 
 mod allocator;
+mod devices;
 mod first;
+mod lines;
 mod message;
 mod noting;
-mod scratch;
 
 pub use allocator::{Granted, TestAllocator};
+pub use capnp_framing::framing::OwnedSegments;
+pub use devices::{Strain, StrainedInput, StrainedOutput};
 pub use first::FirstInArena;
-pub use message::{Message, arena_of, arena_of_root, bytes_of, has_words};
+pub use lines::{answer_lines, arguments, limit};
+pub use message::{arena_of, arena_of_root, bytes_of, has_words};
 pub use noting::{NotingAllocator, Request};
-pub use scratch::ScratchAlone;

@@ -1,56 +1,12 @@
 //! Messages written as hex digits.
-ghost use Rattle.std.specs.Prelude.{◌≡◌, ◌<◌, ◌/◌, ◌^◌, ℕ, List, length, map, IsTrue, vec_items};
-ghost use Rattle.std.specs.List.{All};
-ghost use Rattle.capnp_arena_traits.specs.Limits.{IsSmall};
 
 use capnp_arena::arena::{
     Allocator, BuilderArena, BuilderArenaImpl, ReaderArena, ReaderArenaImpl, ReaderOptions,
-    ReaderSegments,
+    SegmentArray,
 };
+use capnp_framing::devices::{MemoryInput, MemoryOutput};
+use capnp_framing::framing::{OwnedSegments, read, write};
 use std::alloc::Global;
-
-/// The segments of a message.
-#[derive(Drop)]
-pub struct Message {
-    segments: Vec<Vec<u8>>,
-}
-
-impl Message {
-    // Whether the segments are within the limits of a reader.
-    fn is_small(&self) -> bool
-        ensures { IsTrue result → IsSmall (⟦<Self as ReaderSegments>⟧.segments self.now) }
-    {
-        self.segments.len() < 0x1_0000_0000 && are_small(self.segments.as_slice())
-    }
-}
-
-// Whether each segment has fewer than 2^32 words.
-fn are_small(segments: &[Vec<u8>]) -> bool
-    ensures { IsTrue result → All (λ segment. length segment.items / 8 < 2 ^ 32) segments.now }
-{
-    segments
-        .iter()
-        .all(|segment| segment.len() / 8 < 0x1_0000_0000)
-}
-
-impl ReaderSegments for Message {
-    ghost segments = { λ m. map vec_items m.segments.items };
-
-    fn get_segment(&self, id: u32) -> Option<&[u8]> {
-        match self.segments.get(id as usize) {
-            Some(segment) => Some(segment.as_slice()),
-            None => None,
-        }
-    }
-
-    fn len(&self) -> usize {
-        self.segments.len()
-    }
-
-    fn is_empty(&self) -> bool {
-        self.segments.is_empty()
-    }
-}
 
 /// The bytes of hex digits. Spaces between the pairs are for reading only. `None` where the text
 /// holds anything else, or memory fails.
@@ -64,22 +20,33 @@ pub fn bytes_of(alloc: Global, text: &str) -> Option<Vec<u8>> {
 }
 
 /// The arena of a message whose segments are hex digits, as in `bytes_of`, with commas between
-/// the segments. `None` where the text holds anything else, or memory fails.
+/// the segments, of whole words, at most 512. `None` where the text holds anything else, or memory fails.
 pub fn arena_of(
     alloc: Global,
     text: &str,
     options: ReaderOptions,
-) -> Option<ReaderArenaImpl<Message>> {
+) -> Option<ReaderArenaImpl<OwnedSegments>> {
     let mut segments = Vec::new(alloc);
     for segment in text.split(',') {
         segments.push(bytes_of(alloc, segment)?).ok()?;
     }
-    let message = Message { segments };
-    if message.is_small() {
-        Some(ReaderArenaImpl::new(message, options))
-    } else {
-        None
+    let frame = frame_of(alloc, segments.as_slice())?;
+    match read(alloc, &mut MemoryInput::new(frame.bytes()), u64::MAX) {
+        Ok(Some(segments)) => Some(ReaderArenaImpl::new(segments, options)),
+        _ => None,
     }
+}
+
+// The frame of these segments, in memory.
+fn frame_of(alloc: Global, segments: &[Vec<u8>]) -> Option<MemoryOutput> {
+    let mut lent = Vec::new(alloc);
+    for segment in segments {
+        lent.push(segment.as_slice()).ok()?;
+    }
+    let array = SegmentArray::new(lent.as_slice())?;
+    let mut frame = MemoryOutput::new(alloc);
+    write(&mut frame, &array).ok()?;
+    Some(frame)
 }
 
 /// An arena with one segment, and in it a word for the root. `None` where memory fails.

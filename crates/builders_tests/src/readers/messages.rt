@@ -4,7 +4,7 @@ use capnp_readers::readers::{ListReader, PointerReader, StructReader, Target};
 use capnp_words::read_limiter::ReadLimiter;
 use std::alloc::Global;
 use std::process::Abort;
-use test_support::{Message, arena_of};
+use test_support::{OwnedSegments, arena_of};
 
 pub const NULL_ROOT: &str = "0000000000000000";
 
@@ -34,7 +34,7 @@ pub const POINTERS: &str =
     "010000001e000000 0000000000000000 0400000002000000 0000000000000000 0900000000000000 0000000000000000";
 
 /// The arena of a message, under the options by default.
-pub fn arena(rt: &impl Abort, alloc: Global, text: &str) -> ReaderArenaImpl<Message> {
+pub fn arena(rt: &impl Abort, alloc: Global, text: &str) -> ReaderArenaImpl<OwnedSegments> {
     arena_of(alloc, text, ReaderOptions::default()).expect(rt, "a message")
 }
 

@@ -1,8 +1,9 @@
 //! Devices that move few bytes at a time, and fail behind so many calls.
-ghost use Rattle.std.specs.Prelude.{◌≡◌, Some, true, ⊤};
+ghost use Rattle.std.specs.Prelude.{◌≡◌, [], Some, false, true, ⊤};
 
 use capnp_framing::devices::{DeviceFault, Input, Output};
 use capnp_packing::buffered::{BufferedInput, BufferedOutput};
+use std::alloc::Global;
 
 /// How a device works.
 #[derive(Clone, Copy)]
@@ -16,9 +17,23 @@ pub struct Strain {
 /// Gives bytes of memory.
 #[derive(Drop)]
 pub struct StrainedInput<'a> {
-    pub bytes: &'a [u8],
-    pub strain: Strain,
-    pub failed: bool,
+    bytes: &'a [u8],
+    strain: Strain,
+    failed: bool,
+}
+
+impl<'a> StrainedInput<'a> {
+    /// An input of these bytes, of which no read has failed yet.
+    pub fn new(bytes: &'a [u8], strain: Strain) -> Self
+        ensures bytes { result.bytes.now ≡ bytes.now }
+        ensures works { result.failed ≡ false }
+    {
+        StrainedInput {
+            bytes,
+            strain,
+            failed: false,
+        }
+    }
 }
 
 impl Input for StrainedInput<'_> {
@@ -57,9 +72,24 @@ impl BufferedInput for StrainedInput<'_> {
 /// Takes bytes into memory.
 #[derive(Drop)]
 pub struct StrainedOutput {
+    /// What was taken.
     pub bytes: Vec<u8>,
-    pub strain: Strain,
-    pub failed: bool,
+    strain: Strain,
+    failed: bool,
+}
+
+impl StrainedOutput {
+    /// An output that has taken nothing, and of which no write has failed yet.
+    pub fn new(alloc: Global, strain: Strain) -> Self
+        ensures none { result.bytes.items ≡ [] }
+        ensures works { result.failed ≡ false }
+    {
+        StrainedOutput {
+            bytes: Vec::new(alloc),
+            strain,
+            failed: false,
+        }
+    }
 }
 
 impl Output for StrainedOutput {

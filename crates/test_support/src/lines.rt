@@ -1,0 +1,56 @@
+//! Programs that answer lines of text with lines of text, and what words of these lines hold.
+
+use std::alloc::{AllocError, Global};
+use std::io::{self, BufReader, BufWriter, Read, Write};
+use std::process::ExitCode;
+
+/// Answers each line of standard input with a line of standard output. The program fails where reading, writing or
+/// memory does.
+pub fn answer_lines<F: Fn(Global, &str) -> Result<String, AllocError>>(
+    rt: &HostRuntime,
+    answer: F,
+) -> ExitCode
+    requires { F.IsAlwaysCallable answer }
+{
+    match respond(rt, answer) {
+        Ok(()) => ExitCode::SUCCESS,
+        Err(_) => ExitCode::from(1),
+    }
+}
+
+// Answers each line. An error is one of reading, of writing, or want of memory.
+fn respond<F: Fn(Global, &str) -> Result<String, AllocError>>(
+    rt: &HostRuntime,
+    answer: F,
+) -> io::Result<()>
+    requires { F.IsAlwaysCallable answer }
+{
+    let mut text = String::new(rt.alloc());
+    let mut reader = BufReader::new(rt.alloc(), rt.reader())?;
+    reader.read_to_string(&mut text)?;
+    let mut writer = BufWriter::new(rt.alloc(), io::writer(rt))?;
+    for line in text.lines() {
+        let answered = answer(rt.alloc(), line)?;
+        writer.write_all(answered.as_bytes())?;
+        writer.write_all(b"\n")?;
+    }
+    writer.flush()
+}
+
+/// The arguments of a program as one word, parted by commas.
+pub fn arguments(alloc: Global, text: &str) -> Result<Vec<String>, AllocError> {
+    let mut words = Vec::new(alloc);
+    for word in text.split(',') {
+        words.push(String::from_str(alloc, word)?)?;
+    }
+    Ok(words)
+}
+
+/// A limit in decimal digits; `none` is no limit. `None` where the word is neither.
+pub fn limit(text: &str) -> Option<u64> {
+    if text == "none" {
+        Some(u64::MAX)
+    } else {
+        text.parse().ok()
+    }
+}
