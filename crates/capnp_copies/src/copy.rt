@@ -21,7 +21,6 @@ mod children;
 mod elements;
 mod flat;
 mod lists;
-mod places;
 mod refusals;
 mod structs;
 
@@ -39,7 +38,6 @@ pub use children::copy_children;
 pub use elements::put_words;
 pub use flat::copy_flat;
 pub use lists::{copy_pointers, copy_structs};
-pub use places::{place_behind, pointer_behind};
 pub use refusals::clear_refused;
 
 /// Copies what a pointer means to the null pointer at a place, as it stands or in canonical form, as

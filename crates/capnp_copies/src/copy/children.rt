@@ -10,7 +10,6 @@ ghost use Rattle.capnp_copies.specs.Originals.{value_original};
 ghost use Rattle.capnp_making.specs.Makes.{call_at};
 
 use super::flat::copy_flat;
-use super::places::{place_behind, pointer_behind};
 use super::structs::copy_struct;
 use crate::form::{CopyForm, Destination};
 use capnp_arena_traits::arena::{BuilderArena, ReaderArena};
@@ -83,8 +82,19 @@ pub(crate) fn copy_in_line<A: BuilderArena, B: ReaderArena>(
         (change_to to (A.view arena.old) (A.view arena.new) lim.old lim.new) }
 {
     for i in 0..count {
-        let child = pointer_behind(from, i);
-        let place = place_behind(to.place, i);
+        let child = Pointer {
+            source: from.source,
+            place: Place {
+                segment: from.place.segment,
+                bytes: from.place.bytes,
+                at: from.place.at + i,
+            },
+            nesting_limit: from.nesting_limit,
+        };
+        let place = Start {
+            segment: to.place.segment,
+            at: to.place.at + i,
+        };
         let form = to.form;
         copy_child(arena, Destination { place, form }, child, lim)?;
     }

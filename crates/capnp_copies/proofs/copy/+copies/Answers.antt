@@ -49,14 +49,20 @@ use Rattle.capnp_copies.proofs.copy.+copies.Goals as goal
 
 -- Positions fit 32 bits.
 
-pub children::copy_in_line-pointer_behind-child-requires : goal.children::copy_in_line-pointer_behind-child-requires
-children::copy_in_line-pointer_behind-child-requires g t c =
-    child_fits c.args.from.place.at c.args.count c.loop-i.i c.requires.inside c.loop-i-test.true c.args.from.held.1 c.args.from.held.2
+pub children::copy_in_line-overflow_add-child : goal.children::copy_in_line-overflow_add-child
+children::copy_in_line-overflow_add-child g t c =
+    record {
+      fits = child_fits c.args.from.place.at c.args.count c.loop-i.i c.requires.inside
+          c.loop-i-test.true c.args.from.held.1 c.args.from.held.2;
+    }
 
-pub children::copy_in_line-place_behind-place-requires : goal.children::copy_in_line-place_behind-place-requires
-children::copy_in_line-place_behind-place-requires g t c =
+pub children::copy_in_line-overflow_add-place : goal.children::copy_in_line-overflow_add-place
+children::copy_in_line-overflow_add-place g t c =
     let now = c.args.arena.now in
-    null_fits c.args.to.place.at c.args.count c.loop-i.i c.requires.nulls.room c.loop-i-test.true (g.met.A.BuilderArena.within now c.args.to.place.segment) (g.met.A.BuilderArena.small now c.args.to.place.segment)
+    record {
+      fits = null_fits c.args.to.place.at c.args.count c.loop-i.i c.requires.nulls.room c.loop-i-test.true
+          (g.met.A.BuilderArena.within now c.args.to.place.segment) (g.met.A.BuilderArena.small now c.args.to.place.segment);
+    }
 
 pub structs::copy_struct-overflow_add-children : goal.structs::copy_struct-overflow_add-children
 structs::copy_struct-overflow_add-children g t c =
@@ -79,26 +85,30 @@ children::copy_in_line-copy_child-requires g t c κs within =
     child_ahead c.loop-i.invariant.0 (child_there c.args.to.place.at c.args.count c.loop-i.i
     c.requires.nulls.room c.loop-i-test.true (le_refl _)) ∙ c.requires.nulls.null c.loop-i.i
     c.loop-i-test.true in
-    (falls_below 1 0 (ap (λ (r : Reading). r.levels) c.pointer_behind-child.ensures) c.decreases, (within.0, (within.1, rw c.place_behind-place.ensures (record { place = PLACE; null = NULL }))))
+    let nl = to_z-of_z w32 c.args.from.nesting_limit (search rules) in
+    (falls_below 1 0 (ap levels nl) c.decreases, (within.0, (within.1, record { place = PLACE; null = NULL })))
 
 pub children::copy_in_line-returns-in_err-copy_child : goal.children::copy_in_line-returns-in_err-copy_child
 children::copy_in_line-returns-in_err-copy_child g t c =
+    let nl = to_z-of_z w32 c.args.from.nesting_limit (search rules) in
     let p = err_from_is_err_and c.from_residual.result c.from_residual.ensures.1 in
     rw (p.1, p.2) (record {
       copied = tt;
       refused = child_stops (child_there c.args.to.place.at c.args.count c.loop-i.i c.requires.nulls.room
-          c.loop-i-test.true (le_refl _)) c.loop-i-test.true c.loop-i.invariant.0 c.loop-i.invariant.1 (rw (c.pointer_behind-child.ensures, c.place_behind-place.ensures) at c.in_err-copy_child.ensures.refused);
-      taken = stop_taken c.loop-i-test.true c.loop-i.invariant.1 (rw (c.pointer_behind-child.ensures, c.place_behind-place.ensures) at c.in_err-copy_child.ensures.taken);
+          c.loop-i-test.true (le_refl _)) c.loop-i-test.true c.loop-i.invariant.0 c.loop-i.invariant.1 (rw
+          nl at c.in_err-copy_child.ensures.refused);
+      taken = stop_taken c.loop-i-test.true c.loop-i.invariant.1 (rw nl at c.in_err-copy_child.ensures.taken);
     })
 
 pub children::copy_in_line-loop-i-preserved : goal.children::copy_in_line-loop-i-preserved
 children::copy_in_line-loop-i-preserved g t c =
+    let nl = to_z-of_z w32 c.args.from.nesting_limit (search rules) in
     let few : length (segment (g.A.BuilderArena.view c.loop-i.arena).words c.args.to.place.segment) < 2 ^ 29 =
     lt_of_le_of_lt (g.met.A.BuilderArena.within c.loop-i.arena c.args.to.place.segment) (g.met.A.BuilderArena.small
     c.loop-i.arena c.args.to.place.segment) in (
       child_copied (child_there c.args.to.place.at c.args.count c.loop-i.i c.requires.nulls.room c.loop-i-test.true
-          (le_refl _)) few c.loop-i.invariant.0 (rw (c.pointer_behind-child.ensures, c.place_behind-place.ensures) at c.in_ok-copy_child.ensures.copied),
-      one_taken c.loop-i.invariant.1 (rw (c.pointer_behind-child.ensures, c.place_behind-place.ensures) at c.in_ok-copy_child.ensures.taken),
+          (le_refl _)) few c.loop-i.invariant.0 (rw nl at c.in_ok-copy_child.ensures.copied),
+      one_taken c.loop-i.invariant.1 (rw nl at c.in_ok-copy_child.ensures.taken),
     )
 
 pub children::copy_in_line-returns : goal.children::copy_in_line-returns
