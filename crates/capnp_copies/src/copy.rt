@@ -32,7 +32,7 @@ use capnp_objects::object::Object;
 use capnp_pointers::pointers::Pointer;
 use capnp_words::error::ErrorKind;
 use capnp_words::read_limiter::ReadLimiter;
-use capnp_words::wire_pointer::{WirePointer, flat_words};
+use capnp_words::wire_pointer::WirePointer;
 use capnp_words::words::part;
 pub use children::copy_children;
 pub use elements::put_words;
@@ -120,7 +120,7 @@ fn copy_object<A: BuilderArena, B: ReaderArena>(
             structs::copy_struct(arena, destination, inner, size, lim)
         }
         Object::Flat { start, size, count } => {
-            let words = flat_words(size, count);
+            let words = flat::flat_words(size, count);
             let elements = part(start.bytes, start.at as usize, words as usize);
             flat::copy_flat(arena, to, size, count, elements)
         }

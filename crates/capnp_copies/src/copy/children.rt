@@ -9,7 +9,7 @@ ghost use Rattle.capnp_copies.specs.Forms.{form_in};
 ghost use Rattle.capnp_copies.specs.Originals.{value_original};
 ghost use Rattle.capnp_making.specs.Makes.{call_at};
 
-use super::flat::copy_flat;
+use super::flat::{copy_flat, flat_words};
 use super::structs::copy_struct;
 use crate::form::{CopyForm, Destination};
 use capnp_arena_traits::arena::{BuilderArena, ReaderArena};
@@ -18,7 +18,7 @@ use capnp_objects::object::{Place, PointerWord};
 use capnp_pointers::pointers::Pointer;
 use capnp_words::error::ErrorKind;
 use capnp_words::read_limiter::ReadLimiter;
-use capnp_words::wire_pointer::{WirePointer, WirePointerKind, flat_words, is_of_bits};
+use capnp_words::wire_pointer::{ElementSize, WirePointer, WirePointerKind};
 use capnp_words::words::part;
 
 /// Copies what so many pointers mean, from that of `from` on, to as many null pointers from the
@@ -119,7 +119,7 @@ fn copy_child<A: BuilderArena, B: ReaderArena>(
     if word.is_null() {
         return Ok(());
     }
-    if is_list_of_bits(word) {
+    if is_of_bits(word) {
         return copy_near_flat(arena, to.place, from, word, lim);
     }
     if word.kind() == WirePointerKind::Struct {
@@ -197,10 +197,13 @@ fn copy_near_flat<A: BuilderArena, B: ReaderArena>(
 }
 
 /// Whether a word is the pointer to a list of bits or bytes in its own segment.
-#[inline(always)]
-fn is_list_of_bits(word: WirePointer) -> bool
+fn is_of_bits(word: WirePointer) -> bool
     ensures { IsTrue result
         ↔ (kind word.0 ≡ 1) × (0 < element_size word.0) × (element_size word.0 ≤ 5) }
 {
-    word.kind() == WirePointerKind::List && is_of_bits(word)
+    word.kind() == WirePointerKind::List
+        && !matches!(
+            word.list_element_size(),
+            ElementSize::Void | ElementSize::Pointer | ElementSize::InlineComposite
+        )
 }

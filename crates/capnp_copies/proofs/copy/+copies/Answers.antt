@@ -153,8 +153,8 @@ pub children::copy_child-copy_object-requires : goal.children::copy_child-copy_o
 children::copy_child-copy_object-requires g t c κs within =
     (falls_last 0 refl c.decreases, (within.0, (within.1, c.requires)))
 
-pub children::copy_child-returns-then-is_list_of_bits : goal.children::copy_child-returns-then-is_list_of_bits
-children::copy_child-returns-then-is_list_of_bits g t c = c.copy_near_flat.ensures (form_in c.args.to.form)
+pub children::copy_child-returns-then-is_of_bits : goal.children::copy_child-returns-then-is_of_bits
+children::copy_child-returns-then-is_of_bits g t c = c.copy_near_flat.ensures (form_in c.args.to.form)
 
 pub children::copy_child-returns-then-eq : goal.children::copy_child-returns-then-eq
 children::copy_child-returns-then-eq g t c = c.copy_near_struct.ensures
