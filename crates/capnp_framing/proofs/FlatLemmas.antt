@@ -10,7 +10,7 @@ use Rattle.capnp_format.specs.Bytes.{message, words_of}
 use Rattle.capnp_format.specs.Segments.{Segments}
 use Rattle.capnp_format.proofs.WordsOf.{small_word, words}
 use Rattle.capnp_arena_traits.specs.Limits.{IsSmall}
-use Rattle.capnp_framing.specs.Flat.{BeginsWithFrame, first_told, part_at, parts}
+use Rattle.capnp_framing.specs.Flat.{BeginsWithFrame, first_told, parts}
 use Rattle.capnp_framing.specs.Frames.{AreSegmentWords, contents, frame, lengths, padding_size}
 use Rattle.capnp_framing.specs.Reading.{max_length, table_size, total, words_told}
 use Rattle.capnp_framing.proofs.ReadingLemmas.{AtTable, frame_read, length-frame_with, small_from_short}
@@ -20,6 +20,10 @@ use Rattle.capnp_framing.proofs.TableLemmas.{below_take, bytes-words}
 pub length-parts : (n : ℕ) (table bytes : List ℕ) → length (parts n table bytes) ≡ n
 length-parts zero table bytes = refl
 length-parts (suc n) table bytes = ap suc (length-parts n (drop 4 table) (drop (8 * first_told table) bytes))
+
+-- the bytes of segment id, of segments that stand one behind the other, of as many words as a table tells
+abbrev part_at : ℕ → List ℕ → List ℕ → List ℕ
+part_at id table bytes = take (8 * first_told (drop (4 * id) table)) (drop (8 * words_told id table) bytes)
 
 -- the segment with a number
 pub parts-get : (n id : ℕ) (table bytes : List ℕ) → id < n → slice_get (parts n table bytes) id ≡ Some (part_at id table bytes)

@@ -16,12 +16,6 @@ parts zero table bytes = []
 parts (suc n) table bytes =
     take (8 * first_told table) bytes ∷ parts n (drop 4 table) (drop (8 * first_told table) bytes)
 
--- The bytes of segment id, of segments that stand one behind the other, of as many words as a table
--- tells.
-abbrev pub part_at : ℕ → List ℕ → List ℕ → List ℕ
-part_at id table bytes =
-    take (8 * first_told (drop (4 * id) table)) (drop (8 * words_told id table) bytes)
-
 -- How many words stand before every 32nd of n segments whose lengths a table tells.
 abbrev pub AreStarts : ℕ → List ℕ → List ℕ → Type 0
 AreStarts n table starts =

@@ -1,4 +1,4 @@
--- A word behind its tag, four bytes at a time: each of the next packed bytes is worth the place where its bit is set.
+-- A word behind its tag, four bytes at a time: each of the next packed bytes is multiplied into the place where its bit is set.
 use Rattle.std.proofs.Common.{◌≡◌, ℕ, zero, suc, ◌+◌, ◌-◌, ◌*◌, ◌/◌, ◌%◌, ◌^◌, ◌<◌, ◌≤◌, List, [], ◌∷◌, ◌++◌, length, take, drop, Fits, w8, refl, sym, ap, ap₂, ◌∙◌, arith, append-nil, take_at, drop-drop, get_or-drop, length-drop}
 use Rattle.std.specs.Prelude.{slice_index, slice_index_or}
 use Rattle.std.specs.Int.{from_le_bytes, to_le_bytes, w32}
@@ -8,17 +8,17 @@ use Rattle.std.proofs.lemmas.Nat.{le_bytes_4, ones-le}
 use borrow.Rule.Slice.PartMut.{put_mid, post_of}
 use lib.Count.{ones_step}
 use Rattle.capnp_packing.specs.Packing.{expanded, ones}
-use Rattle.capnp_packing.specs.declared.packing.unpacking.TheConstants.{WORTHS}
+use Rattle.capnp_packing.specs.declared.packing.unpacking.TheConstants.{MULTIPLIERS}
 
 -- ---- four bytes
 
-abbrev worth : ℕ → ℕ → ℕ
-worth bits k = slice_index (slice_index_or WORTHS bits []) k
+abbrev multiplier : ℕ → ℕ → ℕ
+multiplier bits k = slice_index (slice_index_or MULTIPLIERS bits []) k
 
 abbrev summed : ℕ → ℕ → ℕ → ℕ → ℕ → ℕ
 summed bits a b c d =
-    (((a * worth bits 0 % 2 ^ 32 + b * worth bits 1 % 2 ^ 32) % 2 ^ 32 + c * worth bits 2 % 2 ^ 32) % 2 ^ 32
-    + d * worth bits 3 % 2 ^ 32) % 2 ^ 32
+    (((a * multiplier bits 0 % 2 ^ 32 + b * multiplier bits 1 % 2 ^ 32) % 2 ^ 32 + c * multiplier bits 2 % 2 ^ 32) % 2 ^ 32
+    + d * multiplier bits 3 % 2 ^ 32) % 2 ^ 32
 
 -- a fact of each number below 16
 sixteen : (P : ℕ → Type 0) → P 0 → P 1 → P 2 → P 3 → P 4 → P 5 → P 6 → P 7 → P 8 → P 9 → P 10 → P 11 → P 12 → P 13 → P 14 → P 15 → (n : ℕ) → n < 16 → P n

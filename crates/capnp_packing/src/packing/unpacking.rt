@@ -32,8 +32,9 @@ pub(super) fn put_zeros(to: &mut [u8])
     }
 }
 
-/// What the next packed bytes are worth in a number of four bytes, by the four bits of a tag that say of these.
-static WORTHS: [[u32; 4]; 16] = [
+/// By which numbers the next four packed bytes are multiplied to stand in their places of a number of four bytes, by the
+/// four bits of a tag that say of these; 0 for those that belong to no place.
+static MULTIPLIERS: [[u32; 4]; 16] = [
     [0, 0, 0, 0],
     [1, 0, 0, 0],
     [1 << 8, 0, 0, 0],
@@ -60,11 +61,11 @@ fn half_word(bits: u8, packed: &[u8]) -> u32
     requires packed { 4 ≤ length packed.now }
     ensures { to_le_bytes w32 result ≡ expanded 4 bits packed.now }
 {
-    let worths = &WORTHS[bits as usize];
-    let first = u32::from(packed[0]).wrapping_mul(worths[0]);
-    let second = u32::from(packed[1]).wrapping_mul(worths[1]);
-    let third = u32::from(packed[2]).wrapping_mul(worths[2]);
-    let last = u32::from(packed[3]).wrapping_mul(worths[3]);
+    let multipliers = &MULTIPLIERS[bits as usize];
+    let first = u32::from(packed[0]).wrapping_mul(multipliers[0]);
+    let second = u32::from(packed[1]).wrapping_mul(multipliers[1]);
+    let third = u32::from(packed[2]).wrapping_mul(multipliers[2]);
+    let last = u32::from(packed[3]).wrapping_mul(multipliers[3]);
     first
         .wrapping_add(second)
         .wrapping_add(third)
