@@ -21,6 +21,7 @@ mod children;
 mod elements;
 mod flat;
 mod lists;
+mod places;
 mod refusals;
 mod structs;
 
@@ -32,12 +33,14 @@ use capnp_objects::object::Object;
 use capnp_pointers::pointers::Pointer;
 use capnp_words::error::ErrorKind;
 use capnp_words::read_limiter::ReadLimiter;
-use capnp_words::wire_pointer::WirePointer;
+use capnp_words::wire_pointer::{WirePointer, flat_words};
 use capnp_words::words::part;
 pub use children::copy_children;
 pub use elements::put_words;
 pub use flat::copy_flat;
 pub use lists::{copy_pointers, copy_structs};
+use places::pointer_inside;
+pub use places::{place_behind, pointer_behind};
 pub use refusals::clear_refused;
 
 /// Copies what a pointer means to the null pointer at a place, as it stands or in canonical form, as
@@ -112,32 +115,20 @@ fn copy_object<A: BuilderArena, B: ReaderArena>(
         Object::Null => Ok(()),
         Object::Capability(index) => copy_capability(arena, destination, index),
         Object::Struct { start, size } => {
-            let inner = Pointer {
-                source,
-                place: start,
-                nesting_limit: from.nesting_limit - 1,
-            };
+            let inner = pointer_inside(from, start);
             structs::copy_struct(arena, destination, inner, size, lim)
         }
         Object::Flat { start, size, count } => {
-            let words = flat::flat_words(size, count);
+            let words = flat_words(size, count);
             let elements = part(start.bytes, start.at as usize, words as usize);
             flat::copy_flat(arena, to, size, count, elements)
         }
         Object::Pointers { start, count } => {
-            let inner = Pointer {
-                source,
-                place: start,
-                nesting_limit: from.nesting_limit - 1,
-            };
+            let inner = pointer_inside(from, start);
             lists::copy_pointers(arena, destination, inner, count, lim)
         }
         Object::Structs { start, size, count } => {
-            let inner = Pointer {
-                source,
-                place: start,
-                nesting_limit: from.nesting_limit - 1,
-            };
+            let inner = pointer_inside(from, start);
             lists::copy_structs(arena, destination, inner, StructList { size, count }, lim)
         }
     }

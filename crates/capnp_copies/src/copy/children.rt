@@ -9,7 +9,8 @@ ghost use Rattle.capnp_copies.specs.Forms.{form_in};
 ghost use Rattle.capnp_copies.specs.Originals.{value_original};
 ghost use Rattle.capnp_making.specs.Makes.{call_at};
 
-use super::flat::{copy_flat, flat_words};
+use super::flat::copy_flat;
+use super::places::{place_behind, pointer_behind, pointer_inside};
 use super::structs::copy_struct;
 use crate::form::{CopyForm, Destination};
 use capnp_arena_traits::arena::{BuilderArena, ReaderArena};
@@ -18,7 +19,7 @@ use capnp_objects::object::{Place, PointerWord};
 use capnp_pointers::pointers::Pointer;
 use capnp_words::error::ErrorKind;
 use capnp_words::read_limiter::ReadLimiter;
-use capnp_words::wire_pointer::{ElementSize, WirePointer, WirePointerKind};
+use capnp_words::wire_pointer::{WirePointer, WirePointerKind, flat_words, is_of_bits};
 use capnp_words::words::part;
 
 /// Copies what so many pointers mean, from that of `from` on, to as many null pointers from the
@@ -82,19 +83,8 @@ pub(crate) fn copy_in_line<A: BuilderArena, B: ReaderArena>(
         (change_to to (A.view arena.old) (A.view arena.new) lim.old lim.new) }
 {
     for i in 0..count {
-        let child = Pointer {
-            source: from.source,
-            place: Place {
-                segment: from.place.segment,
-                bytes: from.place.bytes,
-                at: from.place.at + i,
-            },
-            nesting_limit: from.nesting_limit,
-        };
-        let place = Start {
-            segment: to.place.segment,
-            at: to.place.at + i,
-        };
+        let child = pointer_behind(from, i);
+        let place = place_behind(to.place, i);
         let form = to.form;
         copy_child(arena, Destination { place, form }, child, lim)?;
     }
@@ -119,7 +109,7 @@ fn copy_child<A: BuilderArena, B: ReaderArena>(
     if word.is_null() {
         return Ok(());
     }
-    if is_of_bits(word) {
+    if is_list_of_bits(word) {
         return copy_near_flat(arena, to.place, from, word, lim);
     }
     if word.kind() == WirePointerKind::Struct {
@@ -145,22 +135,14 @@ fn copy_near_struct<A: BuilderArena, B: ReaderArena>(
     ensures { CopiesOrLeaves result (value_original (reading B.ReaderArena from.entry))
         (change_to to (A.view arena.old) (A.view arena.new) lim.old lim.new) }
 {
-    let source = from.source;
     let pointer = PointerWord {
         place: from.place,
         word,
         nesting_limit: from.nesting_limit,
     };
-    let start = source.read_near_struct(pointer, lim)?;
-    let inner = Pointer {
-        source,
-        place: Place {
-            segment: from.place.segment,
-            bytes: from.place.bytes,
-            at: start,
-        },
-        nesting_limit: from.nesting_limit - 1,
-    };
+    let at = from.source.read_near_struct(pointer, lim)?;
+    let start = Place { at, ..from.place };
+    let inner = pointer_inside(from, start);
     copy_struct(arena, to, inner, word.struct_size(), lim)
 }
 
@@ -197,13 +179,9 @@ fn copy_near_flat<A: BuilderArena, B: ReaderArena>(
 }
 
 /// Whether a word is the pointer to a list of bits or bytes in its own segment.
-fn is_of_bits(word: WirePointer) -> bool
+fn is_list_of_bits(word: WirePointer) -> bool
     ensures { IsTrue result
         ↔ (kind word.0 ≡ 1) × (0 < element_size word.0) × (element_size word.0 ≤ 5) }
 {
-    word.kind() == WirePointerKind::List
-        && !matches!(
-            word.list_element_size(),
-            ElementSize::Void | ElementSize::Pointer | ElementSize::InlineComposite
-        )
+    word.kind() == WirePointerKind::List && is_of_bits(word)
 }

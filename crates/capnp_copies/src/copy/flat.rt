@@ -79,11 +79,3 @@ fn put_elements<A: BuilderArena>(arena: &mut A, id: u32, start: u32, elements: &
         arena.set_word(id, start + last as u32, word & ((1 << used) - 1));
     }
 }
-
-/// How many words so many elements take.
-pub(crate) fn flat_words(size: ElementSize, count: u32) -> u32
-    requires { count < 2 ^ 29 }
-    ensures { result ≡ words_for (size_number size) count }
-{
-    ((u64::from(count) * u64::from(data_bits_per_element(size)) + 63) / 64) as u32
-}

@@ -11,9 +11,8 @@ ghost use Rattle.capnp_copies.specs.Originals.{children_original};
 ghost use Rattle.capnp_making.specs.Makes.{call_at};
 
 use capnp_arena_traits::arena::{BuilderArena, ReaderArena};
-use capnp_copies::copy::copy_value;
+use capnp_copies::copy::{copy_value, place_behind, pointer_behind};
 use capnp_making::making::Start;
-use capnp_objects::object::Place;
 use capnp_pointers::pointers::Pointer;
 use capnp_words::error::ErrorKind;
 use capnp_words::read_limiter::ReadLimiter;
@@ -47,19 +46,8 @@ pub fn copy_each<A: BuilderArena, B: ReaderArena>(
         (call_at to.segment to.at (A.view arena.old) (A.view arena.new)) lim.old lim.new) }
 {
     for i in 0..count {
-        let child = Pointer {
-            source: from.source,
-            place: Place {
-                segment: from.place.segment,
-                bytes: from.place.bytes,
-                at: from.place.at + i,
-            },
-            nesting_limit: from.nesting_limit,
-        };
-        let place = Start {
-            segment: to.segment,
-            at: to.at + i,
-        };
+        let child = pointer_behind(from, i);
+        let place = place_behind(to, i);
         copy_value(arena, place, child, lim, false)?;
     }
     Ok(())

@@ -23,7 +23,7 @@ use Rattle.capnp_objects.specs.declared.object.Purpose.TheVariants.{Value}
 use Rattle.capnp_pointers.specs.Pointers.{reading}
 use Rattle.capnp_pointers.proofs.Checks.{struct_room}
 use Rattle.capnp_pointers.proofs.NearRead.{struct_by_word}
-use Rattle.capnp_pointers.proofs.Walking.{ok_so, err_so, one_level_in}
+use Rattle.capnp_pointers.proofs.Walking.{ok_so, err_so}
 use Rattle.std.proofs.lemmas.Result.{err_from_is_err_and}
 use Rattle.capnp_arena_traits.specs.View.{View}
 use Rattle.capnp_copies.specs.Changes.{HasNulls}
@@ -49,20 +49,14 @@ use Rattle.capnp_copies.proofs.copy.+copies.Goals as goal
 
 -- Positions fit 32 bits.
 
-pub children::copy_in_line-overflow_add-child : goal.children::copy_in_line-overflow_add-child
-children::copy_in_line-overflow_add-child g t c =
-    record {
-      fits = child_fits c.args.from.place.at c.args.count c.loop-i.i c.requires.inside
-          c.loop-i-test.true c.args.from.held.1 c.args.from.held.2;
-    }
+pub children::copy_in_line-pointer_behind-child-requires : goal.children::copy_in_line-pointer_behind-child-requires
+children::copy_in_line-pointer_behind-child-requires g t c =
+    child_fits c.args.from.place.at c.args.count c.loop-i.i c.requires.inside c.loop-i-test.true c.args.from.held.1 c.args.from.held.2
 
-pub children::copy_in_line-overflow_add-place : goal.children::copy_in_line-overflow_add-place
-children::copy_in_line-overflow_add-place g t c =
+pub children::copy_in_line-place_behind-place-requires : goal.children::copy_in_line-place_behind-place-requires
+children::copy_in_line-place_behind-place-requires g t c =
     let now = c.args.arena.now in
-    record {
-      fits = null_fits c.args.to.place.at c.args.count c.loop-i.i c.requires.nulls.room c.loop-i-test.true
-          (g.met.A.BuilderArena.within now c.args.to.place.segment) (g.met.A.BuilderArena.small now c.args.to.place.segment);
-    }
+    null_fits c.args.to.place.at c.args.count c.loop-i.i c.requires.nulls.room c.loop-i-test.true (g.met.A.BuilderArena.within now c.args.to.place.segment) (g.met.A.BuilderArena.small now c.args.to.place.segment)
 
 pub structs::copy_struct-overflow_add-children : goal.structs::copy_struct-overflow_add-children
 structs::copy_struct-overflow_add-children g t c =
@@ -85,30 +79,26 @@ children::copy_in_line-copy_child-requires g t c κs within =
     child_ahead c.loop-i.invariant.0 (child_there c.args.to.place.at c.args.count c.loop-i.i
     c.requires.nulls.room c.loop-i-test.true (le_refl _)) ∙ c.requires.nulls.null c.loop-i.i
     c.loop-i-test.true in
-    let nl = to_z-of_z w32 c.args.from.nesting_limit (search rules) in
-    (falls_below 1 0 (ap levels nl) c.decreases, (within.0, (within.1, record { place = PLACE; null = NULL })))
+    (falls_below 1 0 (ap (λ (r : Reading). r.levels) c.pointer_behind-child.ensures) c.decreases, (within.0, (within.1, rw c.place_behind-place.ensures (record { place = PLACE; null = NULL }))))
 
 pub children::copy_in_line-returns-in_err-copy_child : goal.children::copy_in_line-returns-in_err-copy_child
 children::copy_in_line-returns-in_err-copy_child g t c =
-    let nl = to_z-of_z w32 c.args.from.nesting_limit (search rules) in
     let p = err_from_is_err_and c.from_residual.result c.from_residual.ensures.1 in
     rw (p.1, p.2) (record {
       copied = tt;
       refused = child_stops (child_there c.args.to.place.at c.args.count c.loop-i.i c.requires.nulls.room
-          c.loop-i-test.true (le_refl _)) c.loop-i-test.true c.loop-i.invariant.0 c.loop-i.invariant.1 (rw
-          nl at c.in_err-copy_child.ensures.refused);
-      taken = stop_taken c.loop-i-test.true c.loop-i.invariant.1 (rw nl at c.in_err-copy_child.ensures.taken);
+          c.loop-i-test.true (le_refl _)) c.loop-i-test.true c.loop-i.invariant.0 c.loop-i.invariant.1 (rw (c.pointer_behind-child.ensures, c.place_behind-place.ensures) at c.in_err-copy_child.ensures.refused);
+      taken = stop_taken c.loop-i-test.true c.loop-i.invariant.1 (rw (c.pointer_behind-child.ensures, c.place_behind-place.ensures) at c.in_err-copy_child.ensures.taken);
     })
 
 pub children::copy_in_line-loop-i-preserved : goal.children::copy_in_line-loop-i-preserved
 children::copy_in_line-loop-i-preserved g t c =
-    let nl = to_z-of_z w32 c.args.from.nesting_limit (search rules) in
     let few : length (segment (g.A.BuilderArena.view c.loop-i.arena).words c.args.to.place.segment) < 2 ^ 29 =
     lt_of_le_of_lt (g.met.A.BuilderArena.within c.loop-i.arena c.args.to.place.segment) (g.met.A.BuilderArena.small
     c.loop-i.arena c.args.to.place.segment) in (
       child_copied (child_there c.args.to.place.at c.args.count c.loop-i.i c.requires.nulls.room c.loop-i-test.true
-          (le_refl _)) few c.loop-i.invariant.0 (rw nl at c.in_ok-copy_child.ensures.copied),
-      one_taken c.loop-i.invariant.1 (rw nl at c.in_ok-copy_child.ensures.taken),
+          (le_refl _)) few c.loop-i.invariant.0 (rw (c.pointer_behind-child.ensures, c.place_behind-place.ensures) at c.in_ok-copy_child.ensures.copied),
+      one_taken c.loop-i.invariant.1 (rw (c.pointer_behind-child.ensures, c.place_behind-place.ensures) at c.in_ok-copy_child.ensures.taken),
     )
 
 pub children::copy_in_line-returns : goal.children::copy_in_line-returns
@@ -153,8 +143,8 @@ pub children::copy_child-copy_object-requires : goal.children::copy_child-copy_o
 children::copy_child-copy_object-requires g t c κs within =
     (falls_last 0 refl c.decreases, (within.0, (within.1, c.requires)))
 
-pub children::copy_child-returns-then-is_of_bits : goal.children::copy_child-returns-then-is_of_bits
-children::copy_child-returns-then-is_of_bits g t c = c.copy_near_flat.ensures (form_in c.args.to.form)
+pub children::copy_child-returns-then-is_list_of_bits : goal.children::copy_child-returns-then-is_list_of_bits
+children::copy_child-returns-then-is_list_of_bits g t c = c.copy_near_flat.ensures (form_in c.args.to.form)
 
 pub children::copy_child-returns-then-eq : goal.children::copy_child-returns-then-eq
 children::copy_child-returns-then-eq g t c = c.copy_near_struct.ensures
@@ -162,14 +152,14 @@ children::copy_child-returns-then-eq g t c = c.copy_near_struct.ensures
 pub children::copy_child-returns-else-eq : goal.children::copy_child-returns-else-eq
 children::copy_child-returns-else-eq g t c = c.copy_object.ensures
 
-pub children::copy_near_struct-returns-in_err-start : goal.children::copy_near_struct-returns-in_err-start
-children::copy_near_struct-returns-in_err-start g t c =
+pub children::copy_near_struct-returns-in_err-at : goal.children::copy_near_struct-returns-in_err-at
+children::copy_near_struct-returns-in_err-at g t c =
     let nl = to_z-of_z w32 c.args.from.nesting_limit (search rules) in
     let p = err_from_is_err_and c.from_residual.result c.from_residual.ensures.1 in
     record {
       copied = rw p.1 tt;
-      refused = rw (p.1, p.2) (read_stops c.requires.place.place c.requires.place.null (rw nl at c.in_err-start.ensures.refused));
-      taken = rw p.1 (read_stop_taken (rw nl at c.in_err-start.ensures.refused));
+      refused = rw (p.1, p.2) (read_stops c.requires.place.place c.requires.place.null (rw nl at c.in_err-at.ensures.refused));
+      taken = rw p.1 (read_stop_taken (rw nl at c.in_err-at.ensures.refused));
     }
 
 pub children::copy_near_struct-returns : goal.children::copy_near_struct-returns
@@ -178,15 +168,16 @@ children::copy_near_struct-returns g t c =
     let fits : SFits w32 c.args.from.nesting_limit = search rules in
     let nl = to_z-of_z w32 c.args.from.nesting_limit fits in
     let near : kind (word_of r) ≡ 0 = rw c.requires.word.there at c.requires.is_struct in
-    let start : Place = record c.args.from.place { at = c.in_ok-start.start } in
+    let start : Place = record c.args.from.place { at = c.in_ok-at.at } in
     let wide : c.struct_size.result.data_words ≡ data_words (word_of r) = c.struct_size.ensures.data_of ∙ ap data_words c.requires.word.there in
     let many : c.struct_size.result.pointers ≡ pointer_count (word_of r) = c.struct_size.ensures.pointers_of ∙ ap pointer_count c.requires.word.there in
-    let object : IsObject Value r c.args.lim.now c.read_near_struct.new.lim (ObjectStruct start c.struct_size.result) = struct_by_word start c.struct_size.result near c.args.from.held refl (rw nl at c.in_ok-start.ensures.object) wide many in
-    let less = one_level_in c.args.from.nesting_limit fits in
+    let object : IsObject Value r c.args.lim.now c.read_near_struct.new.lim (ObjectStruct start c.struct_size.result) = struct_by_word start c.struct_size.result near c.args.from.held refl (rw nl at c.in_ok-at.ensures.object) wide many in
+    let inner = c.pointer_inside-inner.ensures in
+    let less = λ (_ : 0 < r.levels). inner.levels in
     record {
-      copied = ok_so c.copy_struct.result c.copy_struct.ensures.copied (λ x made. struct_value start less object made);
-      refused = err_so c.copy_struct.result c.copy_struct.ensures.refused (λ k stop. struct_value_stops start less object stop);
-      taken = taken_so c.copy_struct.result _ _ _ _ (λ x. struct_takes start less object x) (λ x. struct_stop_takes start less object x) c.copy_struct.ensures.taken;
+      copied = ok_so c.copy_struct.result (rw (inner.source, inner.place) at c.copy_struct.ensures.copied) (λ x made. struct_value start less object made);
+      refused = err_so c.copy_struct.result (rw (inner.source, inner.place) at c.copy_struct.ensures.refused) (λ k stop. struct_value_stops start less object stop);
+      taken = taken_so c.copy_struct.result _ _ _ _ (λ x. struct_takes start less object x) (λ x. struct_stop_takes start less object x) (rw (inner.source, inner.place) at c.copy_struct.ensures.taken);
     }
 
 pub children::copy_near_struct-copy_struct-requires : goal.children::copy_near_struct-copy_struct-requires
@@ -195,15 +186,15 @@ children::copy_near_struct-copy_struct-requires g t c κs within =
     let fits : SFits w32 c.args.from.nesting_limit = search rules in
     let nl = to_z-of_z w32 c.args.from.nesting_limit fits in
     let near : kind (word_of r) ≡ 0 = rw c.requires.word.there at c.requires.is_struct in
-    let start : Place = record c.args.from.place { at = c.in_ok-start.start } in
+    let start : Place = record c.args.from.place { at = c.in_ok-at.at } in
     let wide : c.struct_size.result.data_words ≡ data_words (word_of r) = c.struct_size.ensures.data_of ∙ ap data_words c.requires.word.there in
     let many : c.struct_size.result.pointers ≡ pointer_count (word_of r) = c.struct_size.ensures.pointers_of ∙ ap pointer_count c.requires.word.there in
-    let object : IsObject Value r c.args.lim.now c.read_near_struct.new.lim (ObjectStruct start c.struct_size.result) = struct_by_word start c.struct_size.result near c.args.from.held refl (rw nl at c.in_ok-start.ensures.object) wide many in
-    let less = one_level_in c.args.from.nesting_limit fits in
-    let LESS = less object.1.meets.levels in
+    let object : IsObject Value r c.args.lim.now c.read_near_struct.new.lim (ObjectStruct start c.struct_size.result) = struct_by_word start c.struct_size.result near c.args.from.held refl (rw nl at c.in_ok-at.ensures.object) wide many in
+    let inner = c.pointer_inside-inner.ensures in
+    let LESS = inner.levels in
     let SOME = object.1.meets.levels in
-    let INSIDE : c.in_ok-start.start + (c.struct_size.result.data_words + c.struct_size.result.pointers) ≤ length (segment r.segments c.args.from.place.segment) = struct_room start c.struct_size.result object in
-    (falls_in LESS SOME c.decreases, (within.0, (within.1, (c.requires.place, INSIDE))))
+    let INSIDE : c.in_ok-at.at + (c.struct_size.result.data_words + c.struct_size.result.pointers) ≤ length (segment r.segments c.args.from.place.segment) = struct_room start c.struct_size.result object in
+    (falls_in LESS SOME c.decreases, (within.0, (within.1, (c.requires.place, rw (inner.source, inner.place) INSIDE))))
 
 -- What a pointer means.
 
@@ -223,9 +214,10 @@ copy_object-copy_struct-requires g t c κs within =
     let nl = to_z-of_z w32 c.args.from.nesting_limit fits in
     let object = object_read (reading g.B.ReaderArena c.args.from) c.args.lim.now c.read_object.new.lim c.in-Struct.is (ap levels nl) c.in_ok-object.ensures.object in
     let SOME = object.1.meets.levels in
-    let LESS = one_level_in c.args.from.nesting_limit fits SOME in
+    let inner = c.pointer_inside-inner.ensures in
+    let LESS = inner.levels in
     let INSIDE = struct_room c.in-Struct.start c.in-Struct.size object in
-    (falls_in LESS SOME c.decreases, (within.0, (within.1, (c.requires, INSIDE))))
+    (falls_in LESS SOME c.decreases, (within.0, (within.1, (c.requires, rw (inner.source, inner.place) INSIDE))))
 
 pub copy_object-copy_pointers-requires : goal.copy_object-copy_pointers-requires
 copy_object-copy_pointers-requires g t c κs within =
@@ -234,7 +226,8 @@ copy_object-copy_pointers-requires g t c κs within =
     let nl = to_z-of_z w32 c.args.from.nesting_limit fits in
     let object = object_read (reading g.B.ReaderArena c.args.from) c.args.lim.now c.read_object.new.lim c.in-Pointers.is (ap levels nl) c.in_ok-object.ensures.object in
     let SOME = object.1.meets.levels in
-    let LESS = one_level_in c.args.from.nesting_limit fits SOME in
+    let inner = c.pointer_inside-inner-in-Pointers.ensures in
+    let LESS = inner.levels in
     (falls_in LESS SOME c.decreases, (within.0, (within.1, (c.requires, (FEW, search rules)))))
 
 pub copy_object-copy_structs-requires : goal.copy_object-copy_structs-requires
@@ -246,7 +239,8 @@ copy_object-copy_structs-requires g t c κs within =
     let nl = to_z-of_z w32 c.args.from.nesting_limit fits in
     let object = object_read (reading g.B.ReaderArena c.args.from) c.args.lim.now c.read_object.new.lim c.in-Structs.is (ap levels nl) c.in_ok-object.ensures.object in
     let SOME = object.1.meets.levels in
-    let LESS = one_level_in c.args.from.nesting_limit fits SOME in
+    let inner = c.pointer_inside-inner-in-Structs.ensures in
+    let LESS = inner.levels in
     (falls_in LESS SOME c.decreases, (within.0, (within.1, (c.requires, (FEW, (WORDS, search rules))))))
 
 pub copy_object-returns-in-Null : goal.copy_object-returns-in-Null
@@ -272,11 +266,12 @@ copy_object-returns-in-Struct g t c =
     let fits : SFits w32 c.args.from.nesting_limit = search rules in
     let nl = to_z-of_z w32 c.args.from.nesting_limit fits in
     let object = object_read (reading g.B.ReaderArena c.args.from) c.args.lim.now c.read_object.new.lim c.in-Struct.is (ap levels nl) c.in_ok-object.ensures.object in
-    let less = one_level_in c.args.from.nesting_limit fits in
+    let inner = c.pointer_inside-inner.ensures in
+    let less = λ (_ : 0 < levels c.args.from.nesting_limit). inner.levels in
     record {
-      copied = ok_so c.copy_struct.result c.copy_struct.ensures.copied (λ x made. struct_value c.in-Struct.start less object made);
-      refused = err_so c.copy_struct.result c.copy_struct.ensures.refused (λ k stop. struct_value_stops c.in-Struct.start less object stop);
-      taken = taken_so c.copy_struct.result _ _ _ _ (λ x. struct_takes c.in-Struct.start less object x) (λ x. struct_stop_takes c.in-Struct.start less object x) c.copy_struct.ensures.taken;
+      copied = ok_so c.copy_struct.result (rw (inner.source, inner.place) at c.copy_struct.ensures.copied) (λ x made. struct_value c.in-Struct.start less object made);
+      refused = err_so c.copy_struct.result (rw (inner.source, inner.place) at c.copy_struct.ensures.refused) (λ k stop. struct_value_stops c.in-Struct.start less object stop);
+      taken = taken_so c.copy_struct.result _ _ _ _ (λ x. struct_takes c.in-Struct.start less object x) (λ x. struct_stop_takes c.in-Struct.start less object x) (rw (inner.source, inner.place) at c.copy_struct.ensures.taken);
     }
 
 pub copy_object-returns-in-Flat : goal.copy_object-returns-in-Flat
@@ -306,11 +301,12 @@ copy_object-returns-in-Pointers g t c =
     let fits : SFits w32 c.args.from.nesting_limit = search rules in
     let nl = to_z-of_z w32 c.args.from.nesting_limit fits in
     let object = object_read (reading g.B.ReaderArena c.args.from) c.args.lim.now c.read_object.new.lim c.in-Pointers.is (ap levels nl) c.in_ok-object.ensures.object in
-    let less = one_level_in c.args.from.nesting_limit fits in
+    let inner = c.pointer_inside-inner-in-Pointers.ensures in
+    let less = λ (_ : 0 < levels c.args.from.nesting_limit). inner.levels in
     record {
-      copied = ok_so c.copy_pointers.result c.copy_pointers.ensures.copied (λ x made. pointers_value c.in-Pointers.start less object made);
-      refused = err_so c.copy_pointers.result c.copy_pointers.ensures.refused (λ k stop. pointers_value_stops c.in-Pointers.start less object (few_read c.in-Pointers.is c.in_ok-object.ensures.few) stop);
-      taken = taken_so c.copy_pointers.result _ _ _ _ (λ x. pointers_take c.in-Pointers.start less object x) (λ x. pointers_stop_take c.in-Pointers.start less object x) c.copy_pointers.ensures.taken;
+      copied = ok_so c.copy_pointers.result (rw (inner.source, inner.place) at c.copy_pointers.ensures.copied) (λ x made. pointers_value c.in-Pointers.start less object made);
+      refused = err_so c.copy_pointers.result (rw (inner.source, inner.place) at c.copy_pointers.ensures.refused) (λ k stop. pointers_value_stops c.in-Pointers.start less object (few_read c.in-Pointers.is c.in_ok-object.ensures.few) stop);
+      taken = taken_so c.copy_pointers.result _ _ _ _ (λ x. pointers_take c.in-Pointers.start less object x) (λ x. pointers_stop_take c.in-Pointers.start less object x) (rw (inner.source, inner.place) at c.copy_pointers.ensures.taken);
     }
 
 pub copy_object-returns-in-Structs : goal.copy_object-returns-in-Structs
@@ -318,11 +314,12 @@ copy_object-returns-in-Structs g t c =
     let fits : SFits w32 c.args.from.nesting_limit = search rules in
     let nl = to_z-of_z w32 c.args.from.nesting_limit fits in
     let object = object_read (reading g.B.ReaderArena c.args.from) c.args.lim.now c.read_object.new.lim c.in-Structs.is (ap levels nl) c.in_ok-object.ensures.object in
-    let less = one_level_in c.args.from.nesting_limit fits in
+    let inner = c.pointer_inside-inner-in-Structs.ensures in
+    let less = λ (_ : 0 < levels c.args.from.nesting_limit). inner.levels in
     record {
-      copied = ok_so c.copy_structs.result c.copy_structs.ensures.copied (λ x made. structs_value c.in-Structs.start less object made);
-      refused = err_so c.copy_structs.result c.copy_structs.ensures.refused (λ k stop. structs_value_stops c.in-Structs.start less object (few_read c.in-Structs.is c.in_ok-object.ensures.few) stop);
-      taken = taken_so c.copy_structs.result _ _ _ _ (λ x. structs_take c.in-Structs.start less object x) (λ x. structs_stop_take c.in-Structs.start less object x) c.copy_structs.ensures.taken;
+      copied = ok_so c.copy_structs.result (rw (inner.source, inner.place) at c.copy_structs.ensures.copied) (λ x made. structs_value c.in-Structs.start less object made);
+      refused = err_so c.copy_structs.result (rw (inner.source, inner.place) at c.copy_structs.ensures.refused) (λ k stop. structs_value_stops c.in-Structs.start less object (few_read c.in-Structs.is c.in_ok-object.ensures.few) stop);
+      taken = taken_so c.copy_structs.result _ _ _ _ (λ x. structs_take c.in-Structs.start less object x) (λ x. structs_stop_take c.in-Structs.start less object x) (rw (inner.source, inner.place) at c.copy_structs.ensures.taken);
     }
 
 -- The elements of a list of structs.

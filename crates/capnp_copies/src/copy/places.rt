@@ -1,0 +1,56 @@
+//! Where a copy goes on from a pointer: to those that stand behind it, and to those inside of what it
+//! leads to.
+ghost use Rattle.std.specs.Prelude.{◌≡◌, ◌+◌, ◌<◌, ◌^◌, pred};
+ghost use Rattle.capnp_objects.specs.Objects.{IsHeld};
+ghost use Rattle.capnp_objects.specs.Reading.{behind, source_start};
+ghost use Rattle.capnp_objects.specs.Source.{levels};
+ghost use Rattle.capnp_pointers.specs.Pointers.{reading};
+
+use capnp_arena_traits::arena::ReaderArena;
+use capnp_making::making::Start;
+use capnp_objects::object::Place;
+use capnp_pointers::pointers::Pointer;
+
+/// The pointer so many words behind another, in the same segment and with the same nesting limit.
+pub fn pointer_behind<B: ReaderArena>(from: Pointer<'_, B>, words: u32) -> Pointer<'_, B>
+    requires { from.place.at + words < 2 ^ 32 }
+    ensures { reading B.ReaderArena result ≡ behind (reading B.ReaderArena from.entry) words }
+{
+    Pointer {
+        source: from.source,
+        place: Place {
+            at: from.place.at + words,
+            ..from.place
+        },
+        nesting_limit: from.nesting_limit,
+    }
+}
+
+/// The place so many words behind another, in the same segment.
+pub fn place_behind(place: Start, words: u32) -> Start
+    requires { place.at + words < 2 ^ 32 }
+    ensures { result ≡ record place { at = place.at + words } }
+{
+    Start {
+        at: place.at + words,
+        ..place
+    }
+}
+
+/// The pointers at a place that a pointer led to, one level further in.
+pub(super) fn pointer_inside<'a, B: ReaderArena>(
+    from: Pointer<'a, B>,
+    start: Place<'a>,
+) -> Pointer<'a, B>
+    requires held { IsHeld (source_start B.ReaderArena from.source).segments start }
+    requires level { 0 < levels from.nesting_limit }
+    ensures source { result.source ≡ from.entry.source }
+    ensures place { result.place ≡ start.entry }
+    ensures levels { levels result.nesting_limit ≡ pred (levels from.entry.nesting_limit) }
+{
+    Pointer {
+        source: from.source,
+        place: start,
+        nesting_limit: from.nesting_limit - 1,
+    }
+}
