@@ -13,7 +13,8 @@ none or is promised by another one alone; `in: all` asks whether any function of
 
 All edits of a crate that stand in different functions are put together and tried in one check, of these functions alone:
 a function is proved from the contracts of what it calls, whatever their bodies. So there are as many checks as a function,
-or a cycle of functions, has edits. An edit of a definition is tried by itself.
+or a cycle of functions, has edits; each takes from the one before what no edit changes. An edit of a definition is tried by
+itself.
 
 Prints for each edit the function that is refused and the first goal that stays open, and at last `N passed, M failed`. What
 isn't refused fails, and so do an edit that can't be applied, compiled or read, and a check that is killed."""
@@ -209,13 +210,14 @@ def rounds_of(edits):
     return [edits for edits, _, _ in rounds]
 
 
-def checked(crates, edits):
-    """Checks the functions of these edits in a copy of their crate with all of them, and returns the status and the lines that the check printed."""
+def checked(crates, edits, kept):
+    """Checks the functions of these edits in a copy of their crate with all of them, and returns the status and the lines that the check printed. What a check
+    before has kept in this folder, and no edit touches, isn't checked again."""
     name = edits[0].crate
     texts = {}
     for edit in edits:
         texts = edit.applied(texts)
-    words = [f'{crates.kit}/bin/rattle', 'check', *crates.words(name), '--jobs', '1']
+    words = [f'{crates.kit}/bin/rattle', 'check', *crates.words(name), '--incremental', kept, '--jobs', '1']
     for path in dict.fromkeys(it.path for edit in edits for it in edit.functions):
         words += ['--only', path]
     with tempfile.TemporaryDirectory(prefix='edits-') as room:
@@ -269,10 +271,10 @@ def unread(edits, lines):
     return None
 
 
-def tried(crates, edits):
+def tried(crates, edits, kept):
     """Tries edits of one crate together, and returns for each whether it is refused, and what to say of it. A check prints only so many goals: edits of which it names none are
     tried again without the others. Where it comes to no verdict at all, each half is tried."""
-    status, lines = checked(crates, edits)
+    status, lines = checked(crates, edits, kept)
     if status == -signal.SIGKILL:
         return [(it, False, 'NOT TRIED: its check was killed, most likely for memory') for it in edits]
     bad = unread(edits, lines)
@@ -282,12 +284,18 @@ def tried(crates, edits):
         if not left or len(edits) == 1:
             return told
         if len(left) < len(edits):
-            return [it for it in told if it[1]] + tried(crates, left)
+            return [it for it in told if it[1]] + tried(crates, left, kept)
     if len(edits) > 1:
         half = len(edits) // 2
-        return tried(crates, edits[:half]) + tried(crates, edits[half:])
+        return tried(crates, edits[:half], kept) + tried(crates, edits[half:], kept)
     why = bad or next((it for it in lines if re.search(r'\berror[:\[]', it)), lines[0])
     return [(edits[0], False, f'BAD EDIT: it did not reach the prover: {why}')]
+
+
+def all_tried(crates, rounds):
+    """Tries the edits of one crate, one part behind the other: what they leave as it is is checked once."""
+    with tempfile.TemporaryDirectory(prefix='edits-kept-') as kept:
+        return [it for edits in rounds for it in tried(crates, edits, kept)]
 
 
 def side_by_side():
@@ -336,13 +344,13 @@ def main():
             for edit in edits:
                 tell(edit.label(), False, f'NOT TRIED: {lacking} is not built of the sources as they stand: run ./test, or rt check in crates/{name}')
         else:
-            tasks += rounds_of(edits)
-    tasks.sort(key=lambda it: -len(it))
+            tasks.append(rounds_of(edits))
+    tasks.sort(key=lambda it: -sum(map(len, it)))
     with ThreadPoolExecutor(side_by_side()) as pool:
-        for results in pool.map(lambda it: tried(crates, it), tasks):
+        for results in pool.map(lambda it: all_tried(crates, it), tasks):
             for edit, is_refused, text in results:
                 tell(edit.label(), is_refused, text)
-    say(f'{len(tasks)} checks')
+    say(f'{sum(map(len, tasks))} checks')
     say(f'{passed} passed, {failed} failed')
     return 1 if failed else 0
 
