@@ -43,19 +43,19 @@ ORDER = (
 )
 # What the words of the standard library mean that the definitions use: the words, how they are written, what that means.
 WORDS = (
-    ('ℕ zero suc pred', 'ℕ, 0, `suc n`', 'whole numbers from 0 without an upper bound; `suc n` is n + 1, `pred n` is n - 1, and 0 for 0'),
-    ('◌+◌', '+ - * / % ^', 'as on whole numbers: `a - b` is 0 where b is greater; `/` and `%` are quotient and remainder; `^` is a power'),
-    ('max min', '`max`, `min`', 'the greater, the less of two'),
+    ('ℕ zero suc pred', 'ℕ, 0, `suc n`', 'whole numbers from 0 without an upper bound; `suc n` is n + 1, `pred n` is n - 1, or 0 for 0'),
+    ('◌+◌', '+ - * / % ^', 'as on whole numbers, but `a - b` is 0 if b is greater; `/` and `%` are quotient and remainder; `^` is a power'),
+    ('max min', '`max`, `min`', 'the greater and the lesser of two'),
     ('ℤ pos negsuc', 'ℤ, `pos n`, `negsuc n`', 'whole numbers with a sign: n, and -(n + 1)'),
     ('Bool true false not', '`true`, `false`, `&&`, <code>&#124;&#124;</code>, `not`', 'the two truth values; both, either, not'),
     ('nat_eq nat_lt nat_le', '`nat_eq`, `nat_lt`, `nat_le`', 'whether two numbers are equal, the first is less, or at most the second'),
-    ('if◌then◌else◌', '`if b then x else y`', 'x where b is true, else y'),
-    ('List []', '`[]`, `x ∷ xs`, `xs ++ ys`', 'the empty list; x before xs; one list behind the other'),
+    ('if◌then◌else◌', '`if b then x else y`', 'x if b is true, else y'),
+    ('List []', '`[]`, `x ∷ xs`, `xs ++ ys`', 'the empty list; x followed by xs; one list after the other'),
     ('length take drop map replicate sum', '`length`, `take n`, `drop n`, `map f`, `replicate n x`, `sum`', 'of lists: the length, the first n, all but the first n, f of each, n times x, the sum'),
-    ('get_or', '`get_or xs i d`', 'the element at index i, counted from 0, and d where there is none'),
-    ('slice_get', '`slice_get xs i`', '`Some` of the element at index i, `None` where there is none'),
-    ('slice_set', '`slice_set xs i x`', 'xs with x at index i, and xs where there is none'),
-    ('slice_index', '`slice_index xs i`', 'the number at index i, 0 where there is none'),
+    ('get_or', '`get_or xs i d`', 'the element at index i, counted from 0, or d if there is none'),
+    ('slice_get', '`slice_get xs i`', '`Some` of the element at index i, `None` if there is none'),
+    ('slice_set', '`slice_set xs i x`', 'xs with x at index i, or xs if there is no such index'),
+    ('slice_index', '`slice_index xs i`', 'the number at index i, or 0 if there is none'),
     ('Option Some None is_some unwrap_or ok_or', '`Option A`: `Some x`, `None`',
      'an x, or nothing; `is_some o` says which, `unwrap_or o d` is x or d, `ok_or o e` is `Ok x` or `Err e`'),
     ('option_map_or', '`option_map_or f o d`', 'f of what is there, and d where nothing is'),
@@ -68,17 +68,17 @@ WORDS = (
     ('from_le_bytes w64', '`from_le_bytes w64`', 'the number with these eight bytes, the lowest first'),
     ('◌≡◌', '`≡`, `≢`, `<`, `≤`', 'equal, not equal, less, at most'),
     ('◌⊎◌', '`P × Q`, `P ⊎ Q`, `P → Q`, `P ↔ Q`', 'both; one of them; Q follows from P; each from the other'),
-    ('', '`(x : A) → P`, `(x : A) × P`', 'P for every x; there is an x with P. `{x : A}` for `(x : A)` leaves x out where it is called'),
+    ('', '`(x : A) → P`, `(x : A) × P`', 'P for every x; there is an x with P. With `{x : A}` for `(x : A)`, calls leave x out'),
     ('⊤', '`⊤`, `⊥`, `Type 0`', 'what always holds, and what never does; `Type 0` as a result says that a definition is a statement, and `A : Type 0` is any type'),
     ('', '`λ x. e`, `f x y`, `let x = e in y`', 'the function that gives e for x; f called with x and y; y, in which x is e'),
     ('', '`x.0`, `x.1`, `x.field`', 'the first and the second part of a pair; a field of a record or struct'),
-    ('', '`record`, `data`', 'facts or values by name, all of which hold, `record { a = x }` being a value, and `record r { a = x }` r with x as its a; the forms '
-     'that a value, or the ways in which a statement, can have'),
-    ('', '`◌`, `_`', 'in the name of an operator, where an operand stands; in an equation, anything'),
-    ('', '`abbrev`, `pub`, `unfoldable`, `mutual`, `infixl 10`', 'change nothing in the meaning'),
-    ('', '`fn f<A: T>(x: X) -> R`', 'a function of Rust, for every type A that has the trait T, of an x to `result`'),
-    ('', '`requires { P }`, `ensures NAME { P }`', 'P holds where it is called; P holds at its end: this is proved. NAME is how the text calls it'),
-    ('Bor', '`x.old`, `x.new`, `x.now`, `Bor A`', 'what a `&mut` refers to as the call begins, and as it ends; what a `&` refers to; a reference to an A. What is handed over has its plain name'),
+    ('', '`record`, `data`', 'named facts, all of which hold, or named values: `record { a = x }` is a value, and `record r { a = x }` is r with x as its a; '
+     'the forms that a value can have, or the ways in which a statement can hold'),
+    ('', '`◌`, `_`', 'in the name of an operator, the place of an operand; in an equation, anything'),
+    ('', '`abbrev`, `pub`, `unfoldable`, `mutual`, `infixl 10`', 'don\'t change the meaning'),
+    ('', '`fn f<A: T>(x: X) -> R`', 'a Rust function, for every type A that has the trait T, from an x to `result`'),
+    ('', '`requires { P }`, `ensures NAME { P }`', 'P holds when it is called; P holds when it returns, which is proved. NAME is how the text refers to it'),
+    ('Bor', '`x.old`, `x.new`, `x.now`, `Bor A`', 'what a `&mut` refers to when the call begins, and when it ends; what a `&` refers to; a reference to an A. What is passed by value has its plain name'),
     ('', '`A.view x`, `⟦<A as T>⟧.view x`', 'what the type A says of x as a T, by the name `view`'),
 )
 MARK = re.compile(r'<!-- (clauses|function|item|definitions|definition|types|notation|elsewhere|count|tries)\b ?(.*?) ?-->')
@@ -214,8 +214,8 @@ def count(number):
 def both_counts():
     first, second = (found for found, _, _ in parts().values())
     return [
-        f'{len(first)} definitions in {length(first)} lines for the copy and the test, and {len(second)} further ones in '
-        f'{length(second)} lines for both at a pointer and for the edits.'
+        f'{len(first)} definitions in {length(first)} lines for the copy and the test, and another {len(second)} in '
+        f'{length(second)} lines for both at a pointer and for edits.'
     ]
 
 

@@ -1,6 +1,6 @@
-/* Reads framed messages from standard input, one behind the other, and writes the canonical words of each to standard
- * output, which are those that are to be hashed or signed: the bytes that `capnp convert binary:canonical` writes, where the
- * root is a struct and both accept the message. */
+/* Reads framed messages from standard input and writes the canonical words of each to standard output: the bytes to
+ * hash or sign. They are the bytes that `capnp convert binary:canonical` writes, if the root is a struct and both
+ * accept the message. */
 #include "capnp_canonical.h"
 #include <stdio.h>
 #include <stdlib.h>
@@ -10,7 +10,7 @@ struct buffer {
     size_t size;
 };
 
-/* All of standard input; no bytes and the size SIZE_MAX where memory or the input fails. */
+/* All of standard input; no bytes and the size SIZE_MAX if memory or the input fails. */
 static struct buffer read_all(void) {
     struct buffer all = {NULL, 0};
     size_t room = 0, count;
@@ -29,7 +29,8 @@ static struct buffer read_all(void) {
     return (struct buffer){NULL, SIZE_MAX};
 }
 
-/* Writes the canonical words of the frame at the front, and gives how many bytes it takes; 0 where it is refused. */
+/* Writes the canonical words of the frame at the front. Returns the size of the frame in bytes, or 0 if it is
+ * refused. */
 static size_t write_canonical(const uint8_t *frame, size_t size, uint32_t *answer) {
     const int32_t nesting = CAPNP_CANONICAL_NESTING;
     const uint64_t words = CAPNP_CANONICAL_WORDS;
@@ -48,7 +49,7 @@ static size_t write_canonical(const uint8_t *frame, size_t size, uint32_t *answe
     return *answer ? 0 : taken;
 }
 
-/* Says which message is refused, where it begins and why. */
+/* Says which message is refused, where it starts and why. */
 static void say_refused(unsigned long number, const struct buffer *all, size_t at, uint32_t answer) {
     bool is_no_frame = answer == CAPNP_CANONICAL_TOO_MANY_SEGMENTS || answer == CAPNP_CANONICAL_MESSAGE_TOO_LONG || answer == CAPNP_CANONICAL_TRUNCATED;
     const char *like = is_no_frame ? capnp_canonical_looks_like(all->bytes + at, all->size - at) : NULL;

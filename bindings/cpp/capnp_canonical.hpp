@@ -1,16 +1,17 @@
-// Canonical form of Cap'n Proto messages, for C++17 and later: the calls of capnp_canonical.h with containers and exceptions.
+// Canonical form of Cap'n Proto messages, for C++17 and later: capnp_canonical.h with containers and exceptions.
 //
-// A message is given as a frame, which is what capnp::writeMessage and capnp::messageToFlatArray make, or as its segments. Its
-// bare words, which copy_flat and capnp::canonicalize make, are given to the calls whose names begin with `words_` alone: a call
-// that takes a frame may SUCCEED on bare words, and then reads ANOTHER value (capnp_canonical.h says why). What is packed is
-// unpacked first, by unpack.
+// You pass a message as a frame, which is what capnp::writeMessage and capnp::messageToFlatArray make, or as its
+// segments. Pass bare words, which copy_flat and capnp::canonicalize make, only to the calls whose names begin with
+// `words_`: a call that takes a frame may SUCCEED on bare words, and then reads ANOTHER value (capnp_canonical.h says
+// why). Unpack packed bytes first, with unpack.
 //
-// Where <capnp/message.h> is there a message may also be a capnp::MessageReader or a capnp::MessageBuilder, of which no frame
-// is made, or a struct of any place in a message; define CAPNP_CANONICAL_WITHOUT_CAPNP before this header to leave that out.
-// Nothing else here needs Cap'n Proto's own headers or libraries.
+// If <capnp/message.h> is available, a message may also be a capnp::MessageReader or a capnp::MessageBuilder, for which
+// no frame is made, or any struct inside a message. To leave that out, define CAPNP_CANONICAL_WITHOUT_CAPNP before this
+// header. Nothing else here needs Cap'n Proto's own headers or libraries.
 //
-// Each call that is refused throws Error; std::bad_alloc says that memory for a result lacks. No call keeps anything, so
-// calls may run in several threads at once. What capnp_canonical.h says of limits, memory and stack holds here too.
+// A call that is refused throws Error. It throws std::bad_alloc if there is no memory for a result. No call keeps
+// anything, so several threads may call at once. What capnp_canonical.h says about limits, memory and stack holds here
+// too.
 #ifndef CAPNP_CANONICAL_HPP
 #define CAPNP_CANONICAL_HPP
 
@@ -38,27 +39,27 @@
 
 namespace capnp_canonical {
 
-// Within which limits a message is read. The defaults are those of capnp::ReaderOptions.
+// The limits for reading a message. The defaults are those of capnp::ReaderOptions.
 struct Limits {
-    // How many structs and lists may stand one inside of the other.
+    // How deep structs and lists may be nested.
     std::int32_t nesting = CAPNP_CANONICAL_NESTING;
     // How many words may be read, and how many a frame may have.
     std::uint64_t words = CAPNP_CANONICAL_WORDS;
 };
 
-// Where a message stands in a stream.
+// The place of a message in a stream.
 struct Place {
-    // Its number, counted from 1; 0 where it isn't of a stream.
+    // Its number, counted from 1; 0 if it isn't in a stream.
     std::uint64_t message = 0;
-    // Where its frame begins, in bytes.
+    // The byte where its frame starts.
     std::uint64_t byte = 0;
 };
 
 // Why a call is refused.
 class Error : public std::runtime_error {
 public:
-    // Of a number of enum capnp_canonical_answer; and how many bytes are wanted, where there is too little room, and what the
-    // bytes look like, where it is known.
+    // `number` is one of enum capnp_canonical_answer; `wanted` is how many bytes are needed, if the room is too small;
+    // `looks_like` is what the bytes look like, if that is known.
     explicit Error(std::uint32_t number, Place place = {}, std::size_t wanted = 0, const char* looks_like = nullptr)
         : std::runtime_error(sentence(number, place, wanted, looks_like)),
           number_(number),
@@ -66,13 +67,14 @@ public:
           wanted_(wanted) {}
 
     std::uint32_t number() const noexcept { return number_; }
-    // As `Truncated`; empty where the number has no name.
+    // The name, such as `Truncated`; empty if the number has none.
     const char* name() const noexcept { return capnp_canonical_error_name(number_); }
-    // Which message of a stream it is.
+    // Which message of a stream was refused.
     Place place() const noexcept { return place_; }
-    // How many bytes are wanted, where there is too little room.
+    // How many bytes are needed, if the room is too small.
     std::size_t wanted() const noexcept { return wanted_; }
-    // `what` is as `message 2 at byte 40: Truncated: the bytes end within a frame; they look like text`.
+    // `what` is a sentence, such as
+    // `message 2 at byte 40: Truncated: the bytes end within a frame; they look like text`.
 
 private:
     static std::string sentence(std::uint32_t number, Place place, std::size_t wanted, const char* looks_like) {
@@ -115,8 +117,8 @@ constexpr bool holds_words = !holds_bytes<Range> && std::is_class_v<Range> &&
 
 }  // namespace detail
 
-// Bytes that lie elsewhere, at any address: a pointer, and how many there are. A std::span, a std::vector, a std::array, a
-// std::string or a std::string_view of bytes is converted to it, and so is a kj::Array or kj::ArrayPtr of words or bytes.
+// A view of bytes at any address: a pointer and a size. A std::span, std::vector, std::array, std::string or
+// std::string_view of bytes converts to it, and so does a kj::Array or kj::ArrayPtr of words or bytes.
 class Bytes {
 public:
     constexpr Bytes() noexcept = default;
@@ -136,7 +138,7 @@ public:
     bool empty() const noexcept { return size_ == 0; }
     const std::uint8_t* begin() const noexcept { return data_; }
     const std::uint8_t* end() const noexcept { return data_ + size_; }
-    // Of a frame that Frames gives.
+    // A frame from Frames.
     Place place() const noexcept { return place_; }
 
 private:
@@ -145,7 +147,7 @@ private:
     Place place_;
 };
 
-// The segments of a message, which lie elsewhere. The size of each is a multiple of 8 bytes.
+// A view of the segments of a message. The size of each is a multiple of 8 bytes.
 class Segments {
 public:
     Segments() = default;
@@ -153,7 +155,7 @@ public:
         for (Bytes segment : segments) add(segment);
     }
 #ifdef CAPNP_CANONICAL_WITH_CAPNP
-    // Those of MessageBuilder::getSegmentsForOutput.
+    // The result of MessageBuilder::getSegmentsForOutput.
     Segments(kj::ArrayPtr<const kj::ArrayPtr<const capnp::word>> segments) {
         for (auto segment : segments) add(segment);
     }
@@ -165,9 +167,9 @@ public:
     }
 
     const capnp_canonical_segment* data() const noexcept { return segments_.data(); }
-    // How many segments there are.
+    // The number of segments.
     std::size_t size() const noexcept { return segments_.size(); }
-    // How many bytes all of them have.
+    // The total size in bytes.
     std::size_t bytes() const noexcept { return bytes_; }
 
 private:
@@ -183,37 +185,37 @@ struct Fault {
     // The position in the segment, in words.
     std::uint32_t word;
 
-    // The reason in words, as `padding that isn't zero`.
+    // The reason as text, such as `padding that isn't zero`.
     std::string reason_text() const { return capnp_canonical_fault_text(reason); }
-    // As `padding that isn't zero at segment 0, word 3`.
+    // Such as `padding that isn't zero at segment 0, word 3`.
     std::string text() const {
         return reason_text() + " at segment " + std::to_string(segment) + ", word " + std::to_string(word);
     }
 };
 
-// What `check` answers. It is no bool, since `if (check(message))` would say neither yes nor no.
+// What `check` returns. It isn't a bool, because `if (check(message))` would mean neither yes nor no.
 class Checked {
 public:
     explicit Checked(std::optional<Fault> fault) noexcept : fault_(fault) {}
     explicit operator bool() const = delete;
 
     bool is_canonical() const noexcept { return !fault_; }
-    // Why and where it isn't canonical; std::bad_optional_access is thrown where it is.
+    // Why and where the message isn't canonical. Throws std::bad_optional_access if it is.
     const Fault& fault() const { return fault_.value(); }
-    // `canonical`, or as `not canonical: padding that isn't zero at segment 0, word 3`.
+    // `canonical`, or for example `not canonical: padding that isn't zero at segment 0, word 3`.
     std::string text() const { return fault_ ? "not canonical: " + fault_->text() : "canonical"; }
 
 private:
     std::optional<Fault> fault_;
 };
 
-// What the root of a message leads to, without the root pointer and landing pads.
+// The size of what the root of a message leads to, without the root pointer and landing pads.
 struct Size {
     std::uint64_t words;
     std::uint32_t capabilities;
 };
 
-// How many bytes the frame at the front takes. Its message isn't read.
+// The size in bytes of the frame at the front. Its message isn't read.
 inline std::size_t frame_size(Bytes stream, std::uint64_t words = CAPNP_CANONICAL_WORDS) {
     std::size_t size = 0;
     std::uint32_t answer = capnp_canonical_frame_size(stream.data(), stream.size(), words, &size);
@@ -225,7 +227,7 @@ namespace detail {
 
 enum class Form { framed, flat };
 
-// The frame at the front of some bytes, as the calls of C take it.
+// The frame at the front of some bytes, in the form that the C calls take.
 class FrameSource {
 public:
     FrameSource(Bytes stream, Limits limits)
@@ -250,7 +252,7 @@ private:
     Limits limits_;
 };
 
-// Segments, as the calls of C take them.
+// Segments, in the form that the C calls take.
 class SegmentSource {
 public:
     SegmentSource(const Segments& segments, Limits limits) noexcept
@@ -279,8 +281,8 @@ private:
     Limits limits_;
 };
 
-// Copies to room that is as large as the message at first, and as the copy wants where that is too little; `grow` makes it at
-// least so large. Gives how many bytes are written.
+// Copies into room that is first as large as the message, and then as large as the copy needs if that is too small;
+// `grow` makes it at least that large. Returns the number of bytes written.
 template <typename Source, typename Grow>
 std::size_t copied(const Source& source, Form form, std::size_t room, Grow grow) {
     std::size_t written = 0;
@@ -315,7 +317,7 @@ Bytes copy_into(std::vector<std::uint8_t>& buffer, const Source& source, Form fo
     return {buffer.data(), written};
 }
 
-// How many bytes packed bytes stand for, of at most so many words.
+// The unpacked size of packed bytes, which may be at most `words` words.
 inline std::size_t unpacked_size(Bytes packed, std::uint64_t words) {
     std::size_t size = 0;
     std::uint32_t answer = capnp_canonical_unpack(packed.data(), packed.size(), nullptr, 0, &size);
@@ -324,7 +326,7 @@ inline std::size_t unpacked_size(Bytes packed, std::uint64_t words) {
     return size;
 }
 
-// Unpacks to a buffer that is large enough.
+// Unpacks into a buffer that is large enough.
 inline void unpack_to(std::vector<std::uint8_t>& to, Bytes packed) {
     std::size_t size = 0;
     std::uint32_t answer = capnp_canonical_unpack(packed.data(), packed.size(), to.data(), to.size(), &size);
@@ -351,7 +353,7 @@ Size size_of(const Source& source) {
 
 }  // namespace detail
 
-// The canonical message of the frame at the front of the bytes, as a frame of one segment.
+// Makes the message canonical, as a frame of one segment. Bytes after the frame at the front are ignored.
 inline std::vector<std::uint8_t> copy(Bytes frame, Limits limits = {}) {
     return detail::copy_of(detail::FrameSource(frame, limits), detail::Form::framed);
 }
@@ -359,8 +361,8 @@ inline std::vector<std::uint8_t> copy(const Segments& segments, Limits limits = 
     return detail::copy_of(detail::SegmentSource(segments, limits), detail::Form::framed);
 }
 
-// The same as bare words, without the table of a frame: the bytes to be hashed or signed. What is stored of them is read back
-// by words_check and words_copy.
+// Makes the message canonical, as bare words without the table of a frame: the bytes to hash or sign. Read stored words
+// back with words_check and words_copy.
 inline std::vector<std::uint8_t> copy_flat(Bytes frame, Limits limits = {}) {
     return detail::copy_of(detail::FrameSource(frame, limits), detail::Form::flat);
 }
@@ -368,8 +370,8 @@ inline std::vector<std::uint8_t> copy_flat(const Segments& segments, Limits limi
     return detail::copy_of(detail::SegmentSource(segments, limits), detail::Form::flat);
 }
 
-// The same two into a buffer that is kept from one message to the next: it grows where it is too small, and gets no smaller.
-// The bytes that are given are those that were written to its front, up to its next change.
+// The same two into a buffer that you keep from one message to the next: it grows if it is too small, and never
+// shrinks. The returned bytes are those written to its front, and are valid until it changes.
 inline Bytes copy_into(std::vector<std::uint8_t>& buffer, Bytes frame, Limits limits = {}) {
     return detail::copy_into(buffer, detail::FrameSource(frame, limits), detail::Form::framed);
 }
@@ -383,14 +385,14 @@ inline Bytes copy_flat_into(std::vector<std::uint8_t>& buffer, const Segments& s
     return detail::copy_into(buffer, detail::SegmentSource(segments, limits), detail::Form::flat);
 }
 
-// Whether the message is canonical, and else why and where: one segment, which holds the canonical words of a value and
-// nothing else.
+// Tests whether the message is canonical, and if not, says why and where. Canonical means one segment, which holds the
+// canonical words of a value and nothing else.
 inline Checked check(Bytes frame, Limits limits = {}) { return detail::checked(detail::FrameSource(frame, limits)); }
 inline Checked check(const Segments& segments, Limits limits = {}) {
     return detail::checked(detail::SegmentSource(segments, limits));
 }
 
-// Whether the message is canonical. It is false too where the message isn't read, since a limit is met or the bytes are no
+// Whether the message is canonical. Also false if it can't be read, because a limit is exceeded or the bytes are no
 // frame.
 inline bool is_canonical(Bytes frame, Limits limits = {}) noexcept {
     return capnp_canonical_is_canonical(frame.data(), frame.size(), limits.nesting, limits.words);
@@ -399,13 +401,13 @@ inline bool is_canonical(const Segments& segments, Limits limits = {}) noexcept 
     return capnp_canonical_segments_is_canonical(segments.data(), segments.size(), limits.nesting, limits.words);
 }
 
-// How large the message is. Its canonical words take at most 8 bytes more than these words.
+// The size of the message. Its canonical words take at most 8 bytes more than these words.
 inline Size size(Bytes frame, Limits limits = {}) { return detail::size_of(detail::FrameSource(frame, limits)); }
 inline Size size(const Segments& segments, Limits limits = {}) {
     return detail::size_of(detail::SegmentSource(segments, limits));
 }
 
-// The same, of a message given as its bare words: all of the bytes are its one segment, and its copy is bare words too.
+// The same, for a message passed as bare words: all of the bytes are its one segment, and its copy is bare words too.
 inline std::vector<std::uint8_t> words_copy(Bytes words, Limits limits = {}) { return copy_flat(Segments{words}, limits); }
 inline Checked words_check(Bytes words, Limits limits = {}) { return check(Segments{words}, limits); }
 inline bool words_is_canonical(Bytes words, Limits limits = {}) noexcept {
@@ -413,16 +415,17 @@ inline bool words_is_canonical(Bytes words, Limits limits = {}) noexcept {
 }
 inline Size words_size(Bytes words, Limits limits = {}) { return size(Segments{words}, limits); }
 
-// What packed bytes stand for, as capnp::writePackedMessage writes them: the frames of one or more messages, which the calls above
-// take, and Frames one by one. Two packed bytes stand for up to 2,048. So Error is thrown where there are more words than the
-// limit, with the number CAPNP_CANONICAL_MESSAGE_TOO_LONG, before room is made for them; and where the packed bytes are cut.
+// Unpacks what capnp::writePackedMessage writes: the frames of one or more messages, which the calls above take, and
+// Frames one by one. Two packed bytes stand for up to 2,048. If there are more words than the limit, this throws Error
+// with the number CAPNP_CANONICAL_MESSAGE_TOO_LONG, before it makes room for them. It also throws Error if the packed
+// bytes are cut short.
 inline std::vector<std::uint8_t> unpack(Bytes packed, std::uint64_t words = CAPNP_CANONICAL_WORDS) {
     std::vector<std::uint8_t> to(detail::unpacked_size(packed, words));
     detail::unpack_to(to, packed);
     return to;
 }
 
-// The same into a buffer that is kept, as copy_into has it.
+// The same into a buffer that you keep, like copy_into.
 inline Bytes unpack_into(std::vector<std::uint8_t>& buffer, Bytes packed, std::uint64_t words = CAPNP_CANONICAL_WORDS) {
     std::size_t size = detail::unpacked_size(packed, words);
     if (buffer.size() < size) buffer.resize(size);
@@ -430,8 +433,8 @@ inline Bytes unpack_into(std::vector<std::uint8_t>& buffer, Bytes packed, std::u
     return {buffer.data(), size};
 }
 
-// The frames of a stream, one behind the other: `for (Bytes frame : Frames(stream))`. Each knows its place, which an Error then
-// says. Error is thrown where the bytes that are left don't begin with a frame.
+// The frames of a stream, in order: `for (Bytes frame : Frames(stream))`. Each knows its place, and an Error about it
+// reports that. Throws Error if the remaining bytes don't start with a frame.
 class Frames {
 public:
     explicit Frames(Bytes stream, std::uint64_t words = CAPNP_CANONICAL_WORDS) noexcept
@@ -481,7 +484,7 @@ private:
     std::uint64_t words_;
 };
 
-// The version of the library that is linked: major * 10000 + minor * 100 + patch.
+// The version of the linked library: major * 10000 + minor * 100 + patch.
 inline std::uint32_t version() noexcept { return capnp_canonical_version(); }
 
 #ifdef CAPNP_CANONICAL_WITH_CAPNP
@@ -496,16 +499,16 @@ inline Segments segments_of(capnp::MessageReader& message) {
     }
 }
 
-// The segments of a message that is built, as they stand until it is changed.
+// The segments of a message that is being built, valid until it changes.
 inline Segments segments_of(capnp::MessageBuilder& message) { return {message.getSegmentsForOutput()}; }
 inline Segments segments_of(kj::ArrayPtr<const kj::ArrayPtr<const capnp::word>> message) { return {message}; }
 
-// The limits that the reader was made with. None of the traversal limit that the reader counts is taken.
+// The limits that the reader was made with. This takes nothing from the traversal limit that the reader counts.
 inline Limits limits_of(capnp::MessageReader& message) {
     const capnp::ReaderOptions& options = message.getOptions();
     return {options.nestingLimit, options.traversalLimitInWords};
 }
-// The usual ones, in which a reader with the default options reads the message.
+// The defaults, as for a reader with default options.
 inline Limits limits_of(capnp::MessageBuilder&) { return {}; }
 inline Limits limits_of(const Segments&) { return {}; }
 inline Limits limits_of(capnp::AnyStruct::Reader) { return {}; }
@@ -517,7 +520,7 @@ constexpr bool is_message = std::is_base_of_v<capnp::MessageReader, Message> || 
 template <typename Message>
 using IfMessage = std::enable_if_t<is_message<Message>>;
 
-// Uses the segments of a message; and of a struct of any place, which Cap'n Proto copies for it into a message of its own.
+// Uses the segments of a message; for a struct inside a message, Cap'n Proto first copies it into a message of its own.
 template <typename Message, typename Use>
 std::enable_if_t<is_message<Message>, std::invoke_result_t<Use, const Segments&>> with_segments(Message& message, Use use) {
     return use(segments_of(message));
@@ -533,7 +536,7 @@ std::invoke_result_t<Use, const Segments&> with_segments(capnp::AnyStruct::Reade
     return use(segments_of(message));
 }
 
-// What of a message or a struct of any place can be copied, in the form in which it is passed on.
+// What can be copied, a message or a struct inside one, in the form in which it is passed on.
 template <typename Message>
 decltype(auto) given(Message& message) {
     if constexpr (is_message<Message> || std::is_same_v<std::remove_cv_t<Message>, Segments>) {
@@ -551,9 +554,9 @@ using IfCopied = std::enable_if_t<can_be_copied<std::remove_cv_t<std::remove_ref
 
 }  // namespace detail
 
-// The calls above of a MessageReader or a MessageBuilder; and the copies also of a struct of any place in a message, as
-// capnp::canonicalize takes it: any reader of a struct, or AnyStruct::Reader. Cap'n Proto reads such a struct, and throws what it
-// throws where that fails.
+// The calls above for a MessageReader or a MessageBuilder. The copies also take any struct inside a message, as
+// capnp::canonicalize does: any reader of a struct, or AnyStruct::Reader. Cap'n Proto reads such a struct, and throws
+// its own exceptions if that fails.
 template <typename Message, typename = detail::IfCopied<Message>>
 std::vector<std::uint8_t> copy(Message&& message, Limits limits) {
     return detail::with_segments(detail::given(message), [&](const Segments& it) { return copy(it, limits); });
@@ -617,8 +620,8 @@ Size size(Message& message) {
     return size(message, limits_of(message));
 }
 
-// The bare words in an array of words, as capnp::canonicalize gives them; of a message, of its segments or of a struct of any
-// place.
+// The bare words in an array of words, as capnp::canonicalize returns them: for a message, for its segments, or for any
+// struct inside a message.
 template <typename Message>
 kj::Array<capnp::word> canonicalize(Message&& message, Limits limits) {
     return detail::with_segments(detail::given(message), [&](const Segments& it) {
@@ -639,8 +642,8 @@ kj::Array<capnp::word> canonicalize(Message&& message) {
     return canonicalize(message, limits_of(message));
 }
 
-// The same to the front of an array that the caller has, of which the part that is written is given. Error is thrown where it
-// has too little room; it says how much is wanted.
+// The same into the front of an array of yours. Returns the part that is written. Throws Error if the array is too
+// small; it says how much is needed.
 template <typename Message>
 kj::ArrayPtr<const capnp::word> canonicalize_into(kj::ArrayPtr<capnp::word> to, Message&& message, Limits limits) {
     return detail::with_segments(detail::given(message), [&](const Segments& it) {

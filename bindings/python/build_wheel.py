@@ -1,11 +1,11 @@
-"""Builds the package for pip (PEP 517), with nothing beside Python.
+"""Builds the package for pip (PEP 517). It needs nothing but Python.
 
     pip install ./bindings/python
 
-A wheel has the package and the library within. The library is the file that CAPNP_CANONICAL_LIBRARY names; else what the C
-compiler that CC names, or `cc`, makes of capnp_canonical.c, where that stands in `native`, or in `../../generated` as in
-a release; else the one that `pkg-config` finds. The wheel is marked for the platform that it was built on; where it is to have
-another mark, as `manylinux_2_17_x86_64`, that is the config setting `plat-name`.
+A wheel contains the package and the library. The library is the file that CAPNP_CANONICAL_LIBRARY names; or else what
+the C compiler `$CC` or `cc` makes of capnp_canonical.c, if that is in `native`, or in `../../generated` as in a
+release; or else the one that `pkg-config` finds. The wheel is tagged for the platform that it was built on. For another
+tag, such as `manylinux_2_17_x86_64`, set the config setting `plat-name`.
 """
 import base64
 import csv
@@ -25,7 +25,7 @@ HERE = pathlib.Path(__file__).resolve().parent
 NAME = 'capnp_canonical'
 LIBRARY = f'lib{NAME}.so'
 VARIABLE = 'CAPNP_CANONICAL_LIBRARY'
-# A wheel of the same files is the same bytes.
+# Fixed, so that the same files give the same wheel.
 DATE = (1980, 1, 1, 0, 0, 0)
 
 
@@ -34,7 +34,8 @@ def about(key):
 
 
 def native(name):
-    """A file of the library in C: beside this one in a source archive, else in the repository. None where there is none."""
+    """A C file of the library: beside this one in a source archive, or else in the repository. None if there is
+    none."""
     for folder in HERE / 'native', HERE.parents[1] / 'generated', HERE.parent / 'c':
         if (folder / name).is_file():
             return folder / name
@@ -42,7 +43,7 @@ def native(name):
 
 
 def licence():
-    """The file of the licence: beside this one in a source archive, else at the top of the repository."""
+    """The licence file: beside this one in a source archive, or else at the top of the repository."""
     return next(it for it in (HERE / 'LICENSE', HERE.parents[1] / 'LICENSE') if it.is_file())
 
 
@@ -58,7 +59,7 @@ def metadata():
 
 
 def compiled(source, header):
-    """The library made of its C, as bytes."""
+    """The library compiled from its C, as bytes."""
     with tempfile.TemporaryDirectory() as folder:
         library = pathlib.Path(folder) / LIBRARY
         compiler = shlex.split(os.environ.get('CC', 'cc'))
@@ -112,7 +113,7 @@ def build_wheel(wheel_directory, config_settings=None, metadata_directory=None):
 
 
 def build_sdist(sdist_directory, config_settings=None):
-    """A source archive, which compiles the C: so the C has to be there."""
+    """A source archive, which compiles the C, so the C has to be there."""
     stem = f'{NAME}-{about("version")}'
     sources = {name: native(name) for name in (f'{NAME}.c', f'{NAME}.h')}
     if None in sources.values():

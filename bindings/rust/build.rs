@@ -1,7 +1,7 @@
-//! Says where the library is: in the folder that `CAPNP_CANONICAL_LIB_DIR` names; else it is made of `native/capnp_canonical.c`,
-//! where a release has that, by the C compiler that `CC` names, or `cc`; else it is where `pkg-config` finds it. Of an installed
-//! one `libcapnp_canonical.a` is linked, and `libcapnp_canonical.so` where there is no archive or where
-//! `CAPNP_CANONICAL_STATIC` is 0. Where there is no library the crate is built, and can't be linked.
+//! Finds the library: in the folder that `CAPNP_CANONICAL_LIB_DIR` names; or else compiles it from
+//! `native/capnp_canonical.c`, if a release has that, with the C compiler `$CC` or `cc`; or else asks `pkg-config`. It
+//! links an installed `libcapnp_canonical.a`, or `libcapnp_canonical.so` if there is no archive or
+//! `CAPNP_CANONICAL_STATIC` is 0. Without a library the crate builds, but can't be linked.
 use std::env;
 use std::path::{Path, PathBuf};
 use std::process::Command;
@@ -56,7 +56,7 @@ fn folder_by_pkg_config() -> Option<PathBuf> {
     (run.status.success() && !folder.is_empty()).then(|| PathBuf::from(folder))
 }
 
-/// Compiles the library into the folder that cargo gives.
+/// Compiles the library into cargo's output folder.
 fn compiled() -> Result<PathBuf, String> {
     for file in [SOURCE, HEADER] {
         println!("cargo:rerun-if-changed={file}");
@@ -77,8 +77,8 @@ fn compiled() -> Result<PathBuf, String> {
     Ok(folder)
 }
 
-/// A tool of the target: what its variable names, else the one that Linux distributions have for another machine, else the
-/// machine's own.
+/// A tool for the target: the one that its variable names, or else the one that Linux distributions have for another
+/// machine, or else the machine's own.
 fn tool(variable: &str, cross: &str, own: &str) -> String {
     let of_cargo = |name: &str| env::var(name).unwrap_or_default();
     let (target, host) = (of_cargo("TARGET"), of_cargo("HOST"));

@@ -1,25 +1,26 @@
 """Canonical form of Cap'n Proto messages, over the library libcapnp_canonical.so.
 
-A message is given as a frame, which is what `capnp encode`, capnp::writeMessage and pycapnp's `to_bytes` write, or as its
-segments. Bytes behind the frame at the front aren't looked at.
-
     import capnp_canonical, hashlib
     digest = hashlib.sha256(capnp_canonical.copy_flat(frame)).digest()
 
-Its bare words, which `copy_flat` gives, are read back by the calls whose names begin with `words_` alone. A call that takes a
-frame may SUCCEED on bare words, and then reads ANOTHER value, since the pointer to a root without pointers is also the table
-of a frame. What is packed is unpacked first, by `unpack`.
+You pass a message as a frame, which is what `capnp encode`, capnp::writeMessage and pycapnp's `to_bytes` write, or as
+its segments. Bytes after the frame are ignored. Unpack packed bytes first, with `unpack`.
 
-Bytes are any object with a buffer: bytes, bytearray, memoryview, mmap, an array of NumPy. They are read where they lie, and
-nobody may change them meanwhile. Each call that is refused raises `Error`. No call keeps anything, so calls may run in several
-threads at once; while one runs other Python threads do too. A level of nesting takes up to 720 bytes of stack.
+Bare words aren't a frame. Read back what `copy_flat` gives with the calls whose names begin with `words_`. A call that
+takes a frame may SUCCEED on bare words, and then reads ANOTHER value, because the pointer to a root without pointers is
+also the table of a frame.
+
+Bytes are any object with a buffer: bytes, bytearray, memoryview, mmap, a NumPy array. They are read in place, and
+nobody may change them during the call. A call that is refused raises `Error`. No call keeps anything, so several
+threads may call at once, and other Python threads run during a call. A level of nesting takes up to 720 bytes of stack.
 
     python3 -m capnp_canonical --help
 
-names each message of files by a hash, compares two files, and finds equal messages.
+names each message of a file by a hash, compares two files, and finds equal messages.
 
-The library is the file that the environment variable CAPNP_CANONICAL_LIBRARY names; else libcapnp_canonical.so in the folder
-of this package or the one around it, or in the folder `lib` beside that; else the one that the system's loader finds.
+The package loads the library that the environment variable CAPNP_CANONICAL_LIBRARY names; or else libcapnp_canonical.so
+from the package's folder, from the folder around it, or from the folder `lib` beside that; or else the one that the
+system's loader finds.
 """
 from capnp_canonical._answers import Error, Fault, Limits, Reason, Refusal, Size
 from capnp_canonical._calls import (

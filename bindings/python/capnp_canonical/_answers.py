@@ -1,4 +1,4 @@
-"""What the calls take and answer."""
+"""What the calls take and return."""
 from __future__ import annotations
 
 import enum
@@ -11,12 +11,12 @@ from capnp_canonical._library import library, text_of
 
 @dataclass(frozen=True)
 class Limits:
-    """Within which limits a message is read. The defaults are those of C++ and Rust."""
+    """The limits for reading a message. The defaults are those of C++ and Rust."""
 
     nesting: int = 64
-    """How many structs and lists may stand one inside of the other, below 2^31."""
+    """How deep structs and lists may be nested; below 2^31."""
     words: int = 8_388_608
-    """How many words of 8 bytes may be read, and how many a frame may have, below 2^64."""
+    """How many words of 8 bytes may be read, and how many a frame may have; below 2^64."""
 
     def __post_init__(self) -> None:
         for name, number in ('nesting', self.nesting), ('words', self.words):
@@ -31,7 +31,7 @@ class Limits:
 
 
 class Refusal(enum.IntEnum):
-    """The numbers of `enum capnp_canonical_answer`. A later library may answer others too."""
+    """The numbers of `enum capnp_canonical_answer`. A later library may return further ones."""
 
     NO_ROOM = 1
     NO_MESSAGE = 2
@@ -80,7 +80,7 @@ _TEXTS = {
 
 
 class Reason(enum.IntEnum):
-    """The numbers of `enum capnp_canonical_reason`. A later library may give others too."""
+    """The numbers of `enum capnp_canonical_reason`. A later library may return further ones."""
 
     SEGMENT_COUNT = 1
     NO_POINTER = 2
@@ -99,18 +99,19 @@ class Reason(enum.IntEnum):
 
 
 class Error(ValueError):
-    """A call is refused. As a text it is a sentence, as `message 2 at byte 40: Truncated: the bytes end within a frame`."""
+    """A call was refused. `str` gives a sentence, such as
+    `message 2 at byte 40: Truncated: the bytes end within a frame`."""
 
     number: int
-    """Of `Refusal`, where that has it."""
+    """A `Refusal`, or an int if that doesn't have the number."""
     name: str
-    """As `Truncated`; empty where the number has no name."""
+    """The name, such as `Truncated`; empty if the number has none."""
     place: Optional[Tuple[int, int]]
-    """Which message of a stream it is, counted from 1, and at which byte it begins; None where it isn't of a stream."""
+    """In a stream, the number of the message, counted from 1, and the byte where it starts; else None."""
     looks_like: Optional[str]
-    """What the bytes look like, as `gzip`, where they are no frame and it is known. It is a guess."""
+    """If the bytes are no frame, a guess at what they look like, such as `gzip`; None if there is no guess."""
     wanted: int
-    """How many bytes are wanted, where there is too little room."""
+    """How many bytes are needed, if the room is too small."""
 
     def __init__(
         self, number: int, place: Optional[Tuple[int, int]] = None, looks_like: Optional[str] = None, wanted: int = 0
@@ -129,7 +130,7 @@ class Error(ValueError):
         return text + (f'; they look like {self.looks_like}' if self.looks_like else '')
 
     def at(self, message: int, byte: int) -> Error:
-        """The same, of a message that stands there in a stream."""
+        """The same error for the message with this number, at this byte of a stream."""
         return type(self)(self.number, (message, byte), self.looks_like, self.wanted)
 
     def __reduce__(self) -> Tuple[type[Error], Tuple[object, ...]]:
@@ -138,10 +139,11 @@ class Error(ValueError):
 
 @dataclass(frozen=True)
 class Fault:
-    """Why and where a message isn't canonical. It has no truth value, so that `if check(message)` can't be taken for yes."""
+    """Why and where a message isn't canonical. It has no truth value, so that `if check(message)` can't be taken for
+    yes."""
 
     reason: Union[Reason, int]
-    """Of `Reason`, where that has it."""
+    """A `Reason`, or an int if that doesn't have the number."""
     segment: int
     """The number of the segment."""
     word: int
@@ -149,7 +151,7 @@ class Fault:
 
     @property
     def reason_text(self) -> str:
-        """The reason in words, as `padding that isn't zero`."""
+        """The reason as text, such as `padding that isn't zero`."""
         return text_of(library.capnp_canonical_reason_text, self.reason)
 
     def __str__(self) -> str:
@@ -161,9 +163,9 @@ class Fault:
 
 @dataclass(frozen=True)
 class Size:
-    """What the root of a message leads to, without the root pointer and landing pads."""
+    """The size of what the root of a message leads to, without the root pointer and landing pads."""
 
     words: int
-    """In words of 8 bytes. The canonical words take at most one more."""
+    """Words of 8 bytes. The canonical words are at most one more."""
     capabilities: int
-    """How many capabilities there are."""
+    """The number of capabilities."""

@@ -14,7 +14,7 @@ if TYPE_CHECKING:
 
 DONE = 0
 LIMITS = Limits()
-# Up to this size the room for a copy is as large as all that is given, and the frame isn't measured first.
+# Up to this size the room for a copy is as large as all bytes passed, and the frame isn't measured first.
 _SMALL = 4096
 _OF_FRAMES = Refusal.TOO_MANY_SEGMENTS, Refusal.MESSAGE_TOO_LONG, Refusal.TRUNCATED
 _Call = Callable[..., int]
@@ -22,7 +22,8 @@ _REASONS = {int(it): it for it in Reason}
 
 
 class _Given:
-    """A message as the calls of the library take it: its first two arguments, and how many bytes it has. What is lent is kept."""
+    """A message as the library takes it: the first two arguments of a call, and its size in bytes. Keeps the buffers
+    alive."""
 
     __slots__ = 'first', 'second', 'size', 'kept'
 
@@ -58,7 +59,7 @@ def _segments(segments: Iterable[ReadableBuffer]) -> _Given:
 
 
 def _refused(answer: int, first: Any, size: int, wanted: int = 0) -> Error:
-    """The error of a frame; where it is none, what the bytes look like."""
+    """The error of a frame; if the bytes are no frame, with what they look like."""
     taken = ctypes.c_size_t()
     if answer not in _OF_FRAMES or raw_frame_size(first, size, 2**64 - 1, taken) == DONE:
         return Error(answer, wanted=wanted)
@@ -66,7 +67,7 @@ def _refused(answer: int, first: Any, size: int, wanted: int = 0) -> Error:
 
 
 def measured(first: Any, size: int, words: int) -> int:
-    """How many bytes the frame takes at the front of so many bytes at an address."""
+    """The size in bytes of the frame at the front of `size` bytes at an address."""
     taken = ctypes.c_size_t()
     answer: int = raw_frame_size(first, size, words, taken)
     if answer != DONE:
@@ -88,7 +89,7 @@ def _limits(limits: Limits) -> Tuple[int, int]:
 
 
 def _written(call: _Call, given: _Given, limits: Limits, room: int) -> bytes:
-    """What a call writes, which has so much room at first, and again where that is too little."""
+    """What a call writes. It gets this much room, and then as much as it needs if that is too small."""
     nesting, words = _limits(limits)
     to, written = ctypes.create_string_buffer(room), ctypes.c_size_t()
     answer = call(given.first, given.second, nesting, words, to, room, written)
@@ -154,96 +155,98 @@ def _sized(call: _Call, given: _Given, limits: Limits) -> Size:
 
 
 def copy(frame: ReadableBuffer, limits: Limits = LIMITS) -> bytes:
-    """The canonical message of the frame at the front, as a frame of one segment."""
+    """Make the message canonical, as a frame of one segment."""
     return _written_of_frame(library.capnp_canonical_copy, frame, limits)
 
 
 def copy_flat(frame: ReadableBuffer, limits: Limits = LIMITS) -> bytes:
-    """The same as bare words, without the table of a frame: the bytes to be hashed or signed. What is stored of them is read
-    back by `words_check` and `words_copy`."""
+    """Make the message canonical, as bare words without the table of a frame: the bytes to hash or sign. Read stored
+    words back with `words_check` and `words_copy`."""
     return _written_of_frame(library.capnp_canonical_copy_flat, frame, limits)
 
 
 def copy_into(to: WriteableBuffer, frame: ReadableBuffer, limits: Limits = LIMITS) -> int:
-    """As `copy`, to the front of a buffer, which overlaps nothing of the frame. Gives how many bytes are written."""
+    """Like `copy`, but write to the front of a buffer, which must not overlap the frame. Return the number of bytes
+    written."""
     return _written_into(library.capnp_canonical_copy, to, frame, limits)
 
 
 def copy_flat_into(to: WriteableBuffer, frame: ReadableBuffer, limits: Limits = LIMITS) -> int:
-    """As `copy_flat`, to the front of a buffer."""
+    """Like `copy_flat`, but write to the front of a buffer, like `copy_into`."""
     return _written_into(library.capnp_canonical_copy_flat, to, frame, limits)
 
 
 def check(frame: ReadableBuffer, limits: Limits = LIMITS) -> Optional[Fault]:
-    """Why and where the message isn't canonical; None where it is one segment that holds the canonical words of a value
-    and nothing else."""
+    """Say why and where the message isn't canonical; None if it is: one segment that holds the canonical words of a
+    value and nothing else."""
     return _checked(library.capnp_canonical_check, _frame(frame), limits)
 
 
 def is_canonical(frame: ReadableBuffer, limits: Limits = LIMITS) -> bool:
-    """Whether the message is canonical. It is false too where the message isn't read, since a limit is met or the bytes are
-    no frame."""
+    """Test whether the message is canonical. Also False if it can't be read, because a limit is exceeded or the bytes
+    are no frame."""
     return _is_canonical(library.capnp_canonical_check, _frame(frame), limits)
 
 
 def size(frame: ReadableBuffer, limits: Limits = LIMITS) -> Size:
-    """How large the message is."""
+    """Count the words and capabilities of the message."""
     return _sized(library.capnp_canonical_size, _frame(frame), limits)
 
 
 def segments_copy(segments: Iterable[ReadableBuffer], limits: Limits = LIMITS) -> bytes:
-    """As `copy`, of a message of these segments, the length of each a multiple of 8 bytes."""
+    """Like `copy`, for a message of these segments. The size of each is a multiple of 8 bytes."""
     return _written_of_segments(library.capnp_canonical_segments_copy, segments, limits)
 
 
 def segments_copy_flat(segments: Iterable[ReadableBuffer], limits: Limits = LIMITS) -> bytes:
-    """As `copy_flat`, of a message of these segments."""
+    """Like `copy_flat`, for a message of these segments."""
     return _written_of_segments(library.capnp_canonical_segments_copy_flat, segments, limits)
 
 
 def segments_check(segments: Iterable[ReadableBuffer], limits: Limits = LIMITS) -> Optional[Fault]:
-    """As `check`, of a message of these segments."""
+    """Like `check`, for a message of these segments."""
     return _checked(library.capnp_canonical_segments_check, _segments(segments), limits)
 
 
 def segments_is_canonical(segments: Iterable[ReadableBuffer], limits: Limits = LIMITS) -> bool:
-    """As `is_canonical`, of a message of these segments."""
+    """Like `is_canonical`, for a message of these segments."""
     return _is_canonical(library.capnp_canonical_segments_check, _segments(segments), limits)
 
 
 def segments_size(segments: Iterable[ReadableBuffer], limits: Limits = LIMITS) -> Size:
-    """As `size`, of a message of these segments."""
+    """Like `size`, for a message of these segments."""
     return _sized(library.capnp_canonical_segments_size, _segments(segments), limits)
 
 
 def words_copy(words: ReadableBuffer, limits: Limits = LIMITS) -> bytes:
-    """As `copy_flat`, of a message given as its bare words: all of them are its one segment."""
+    """Like `copy_flat`, for a message passed as bare words: all of them are its one segment."""
     return segments_copy_flat([words], limits)
 
 
 def words_check(words: ReadableBuffer, limits: Limits = LIMITS) -> Optional[Fault]:
-    """As `check`, of a message given as its bare words."""
+    """Like `check`, for a message passed as bare words."""
     return segments_check([words], limits)
 
 
 def words_is_canonical(words: ReadableBuffer, limits: Limits = LIMITS) -> bool:
-    """As `is_canonical`, of a message given as its bare words."""
+    """Like `is_canonical`, for a message passed as bare words."""
     return segments_is_canonical([words], limits)
 
 
 def words_size(words: ReadableBuffer, limits: Limits = LIMITS) -> Size:
-    """As `size`, of a message given as its bare words."""
+    """Like `size`, for a message passed as bare words."""
     return segments_size([words], limits)
 
 
 def frame_size(stream: ReadableBuffer, words: int = LIMITS.words) -> int:
-    """How many bytes the frame at the front takes, of at most so many words. Its message isn't read."""
+    """The size in bytes of the frame at the front, which may have at most `words` words. Its message isn't read."""
     with _frame(stream) as given:
         return measured(given.first, given.size, Limits(words=words).words)
 
 
 def _unpacked(given: _Given, to: Any, room: int) -> Tuple[bool, int]:
-    """Unpacks to an address with so much room: whether that was enough, and how many bytes the packed ones stand for."""
+    """Unpack to an address with this much room. Return whether it was enough, and how many bytes the packed ones stand
+    for."""
     written = ctypes.c_size_t()
     answer = library.capnp_canonical_unpack(given.first, given.second, to, room, written)
     if answer not in (DONE, Refusal.NO_ROOM):
@@ -252,11 +255,12 @@ def _unpacked(given: _Given, to: Any, room: int) -> Tuple[bool, int]:
 
 
 def unpack(packed: ReadableBuffer, words: int = LIMITS.words) -> bytes:
-    """What packed bytes stand for, as `capnp encode --packed` and pycapnp's `to_bytes_packed` write them: the frames of one or
-    more messages, which the other calls take, and `frames` one by one.
+    """Unpack what `capnp encode --packed` and pycapnp's `to_bytes_packed` write: the frames of one or more messages,
+    which the other calls take, and `frames` one by one.
 
-    Two packed bytes stand for up to 2,048. So `Error` is raised where there are more than so many words, with the number
-    `Refusal.MESSAGE_TOO_LONG`, before memory is taken for them; and where the packed bytes are cut."""
+    Two packed bytes stand for up to 2,048. If there are more than `words` words, this raises `Error` with the number
+    `Refusal.MESSAGE_TOO_LONG`, before it takes memory for them. It also raises `Error` if the packed bytes are cut
+    short."""
     words = Limits(words=words).words
     with _frame(packed) as given:
         _, size = _unpacked(given, None, 0)
@@ -268,8 +272,8 @@ def unpack(packed: ReadableBuffer, words: int = LIMITS.words) -> bytes:
 
 
 def unpack_into(to: WriteableBuffer, packed: ReadableBuffer) -> int:
-    """The same to the front of a buffer, which overlaps nothing of the packed bytes. Gives how many bytes are written. `Error`
-    says how many are wanted, where there is too little room, and nothing is written then."""
+    """Unpack to the front of a buffer, which must not overlap the packed bytes. Return the number of bytes written. If
+    the room is too small nothing is written, and `Error` says how many bytes are needed."""
     with _frame(packed) as given, Lent(to, writable=True) as lent:
         has_room, size = _unpacked(given, lent.address, lent.size)
     if not has_room:

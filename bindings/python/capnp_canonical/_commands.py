@@ -22,11 +22,11 @@ from capnp_canonical._library import version
 
 NAME = 'capnp_canonical'
 SAME, DIFFERS, TROUBLE = 0, 1, 2
-ABOUT = '''Names messages of Cap'n Proto by the SHA-256 of their canonical words, so that equal values have equal names whatever their
-layout. FILE holds framed messages, one behind the other, as `capnp encode` writes them; `-` is standard input. A message is named
-FILE:N, its number counted from 1. No schema is needed.'''
-STATUS = '''status: 0 where all is well; 1 where a message differs, has no equal in the list, or has one among the others;
-2 where a message isn't read, a file or an argument isn't as it should be.'''
+ABOUT = '''Names Cap'n Proto messages by the SHA-256 of their canonical words, so that equal values have equal names,
+whatever their layout. FILE holds framed messages, one after the other, as `capnp encode` writes them; `-` is standard
+input. Message N of a file is FILE:N, counted from 1. No schema is needed.'''
+STATUS = '''status: 0 if all is well; 1 if a message differs, isn't as listed, or has an equal one;
+2 if a message or a file can't be read, or an argument is wrong.'''
 
 
 def say(text: str) -> None:
@@ -35,7 +35,7 @@ def say(text: str) -> None:
 
 
 class Progress:
-    """How far the work is, on standard error where that is a terminal, from the first second on."""
+    """Shows progress on standard error if that is a terminal, from the first second on."""
 
     def __init__(self, names: List[str]) -> None:
         self._is_shown = sys.stderr.isatty()
@@ -76,7 +76,8 @@ class Reading:
         say(f'{name}: {error}')
 
     def words_of(self, name: str) -> Iterator[Tuple[int, Optional[bytes]]]:
-        """The numbers of the messages of a file and their canonical words, None of one that is refused, which is said."""
+        """The numbers of the messages of a file and their canonical words; None for one that is refused, which is
+        reported."""
         try:
             yield from self._words_of(name)
         except OSError as error:
@@ -108,7 +109,7 @@ class Reading:
 
 @contextlib.contextmanager
 def opened(name: str) -> Iterator[Union[BinaryIO, mmap.mmap]]:
-    """A file, as bytes that are read where they lie if it has a length."""
+    """A file, or its bytes mapped into memory if it has a length."""
     # standard input by a number of its own, so that it stays open
     with open(os.dup(0) if name == '-' else name, 'rb') as file:
         of = os.fstat(file.fileno())
@@ -119,7 +120,7 @@ def opened(name: str) -> Iterator[Union[BinaryIO, mmap.mmap]]:
         try:
             yield mapped
         finally:
-            # a frame that is still held keeps it
+            # a frame that is still held keeps it open
             with contextlib.suppress(BufferError):
                 mapped.close()
 
@@ -129,7 +130,7 @@ _ESCAPES = {'\\': '\\\\', '\n': '\\n', '\r': '\\r'}
 
 
 def line_of(digest: bytes, name: str, number: int) -> str:
-    """A line as sha256sum writes it: a backslash in front says that the name has some."""
+    """A line as sha256sum writes it. A backslash in front means that the name has escapes."""
     whole = f'{name}:{number}'
     if not _ESCAPED.search(whole):
         return f'{digest.hex()}  {whole}'
@@ -137,7 +138,7 @@ def line_of(digest: bytes, name: str, number: int) -> str:
 
 
 def read_line(line: str) -> Optional[Tuple[bytes, str, int]]:
-    """What such a line says; None where it is none."""
+    """What such a line says; None if it isn't one."""
     found = re.fullmatch(r'(\\?)([0-9a-fA-F]{64}) [ *](.*):([1-9][0-9]*)', line)
     if not found:
         return None
@@ -156,7 +157,7 @@ def digest(reading: Reading, names: List[str]) -> int:
 
 
 def check_lists(reading: Reading, lists: List[str], quiet: bool) -> int:
-    """Verifies lists that `digest` has written."""
+    """Verify lists that `digest` has written."""
     failed = 0
     for entries in (entries_of(reading, it) for it in lists):
         for name, group in itertools.groupby(entries, lambda it: it[1]):
@@ -173,7 +174,7 @@ def check_lists(reading: Reading, lists: List[str], quiet: bool) -> int:
 
 
 def entries_of(reading: Reading, name: str) -> Iterator[Tuple[bytes, str, int]]:
-    """The lines of a list. Those that aren't as `digest` writes them are counted, which is said."""
+    """The lines of a list. Reports how many aren't as `digest` writes them."""
     others: List[int] = []
     try:
         with open(os.dup(0) if name == '-' else name, encoding='utf-8', errors='surrogateescape', newline='\n') as file:
@@ -190,7 +191,7 @@ def entries_of(reading: Reading, name: str) -> Iterator[Tuple[bytes, str, int]]:
 
 
 def same(reading: Reading, first: str, second: str) -> int:
-    """Says which messages of two files differ."""
+    """Print which messages of two files differ."""
     differ = 0
     one, other = reading.words_of(first), reading.words_of(second)
     lasts = [0, 0]
@@ -207,7 +208,7 @@ def same(reading: Reading, first: str, second: str) -> int:
 
 
 def duplicates(reading: Reading, names: List[str]) -> int:
-    """Writes each group of equal messages, as lines of `digest`, with an empty line between groups."""
+    """Print each group of equal messages as lines of `digest`, with an empty line between groups."""
     groups: Dict[bytes, List[Tuple[str, int]]] = {}
     for name in names:
         for number, value in reading.digests_of(name):
@@ -222,7 +223,7 @@ def duplicates(reading: Reading, names: List[str]) -> int:
 
 
 class Parser(argparse.ArgumentParser):
-    """Says a mistake in one line."""
+    """Reports a mistake in one line."""
 
     def error(self, message: str) -> NoReturn:
         say(f'{message} (--help says what there is)')
@@ -239,19 +240,19 @@ def parser() -> Parser:
     whole.add_argument('-V', '--version', action='version', version=f'{NAME} {number // 10000}.{number // 100 % 100}.{number % 100}')
     commands = whole.add_subparsers(dest='command', metavar='COMMAND', required=True, parser_class=Parser)
     known: Any = (
-        ('digest', 'write the name of each message, laid out as sha256sum does', '*'),
-        ('same', 'say which messages of two files differ', 2),
-        ('duplicates', 'write the messages that are equal to another', '*'),
+        ('digest', 'print the name of each message, in the layout of sha256sum', '*'),
+        ('same', 'print which messages of two files differ', 2),
+        ('duplicates', 'print the messages that equal another one', '*'),
     )
     for name, about, files in known:
         command = commands.add_parser(name, help=about, description=about)
         command.add_argument('files', metavar='FILE', nargs=files)
         command.add_argument('--nesting', type=int, default=LIMITS.nesting, metavar='N', help='the nesting limit (%(default)s)')
-        command.add_argument('--words', type=words_limit, default=LIMITS.words, metavar='N', help='the traversal limit of each message, and the most words of its frame (%(default)s), or `none`')
+        command.add_argument('--words', type=words_limit, default=LIMITS.words, metavar='N', help='the traversal limit of each message, and the most words its frame may have (%(default)s), or `none`')
         command.add_argument('--flat', action='store_true', help='each FILE is the bare words of one message')
         if name == 'digest':
             command.add_argument('-c', '--check', action='store_true', help='each FILE is a list that `digest` has written: verify it')
-            command.add_argument('--quiet', action='store_true', help='with --check: no line for a message that is as listed')
+            command.add_argument('--quiet', action='store_true', help='with --check, print nothing for a message that is as listed')
     return whole
 
 
@@ -280,7 +281,7 @@ def main(arguments: List[str]) -> int:
     except ValueError as error:
         say(str(error))
     except BrokenPipeError:
-        # whoever reads has enough: no word of it, also when Python ends
+        # nobody reads any more: say nothing of it, also when Python ends
         os.dup2(os.open(os.devnull, os.O_WRONLY), 1)
     except OSError as error:
         say(f'standard output: {error.strerror}')

@@ -19,11 +19,11 @@ class _Readable(Protocol):
 
 
 def frames(stream: Union[ReadableBuffer, _Readable], words: int = LIMITS.words) -> Iterator[memoryview]:
-    """The frames of a stream, one behind the other, each of at most so many words, as views of bytes. `Error` is raised where
-    the bytes that are left don't begin with a frame; it says which message that is, and at which byte.
+    """Iterate over the frames of a stream, each of at most `words` words, as views of bytes. Raises `Error` if the
+    remaining bytes don't start with a frame; it says which message that is, and at which byte.
 
-    The stream is bytes, of which nothing is copied, or a file that is open for reading bytes. Such a file is read piece by
-    piece, and a frame is given as soon as it is there."""
+    The stream is bytes, which aren't copied, or a file that is open for reading bytes. A file is read piece by piece,
+    and a frame is yielded as soon as it is there."""
     words = Limits(words=words).words
     if hasattr(stream, 'read') and not _has_buffer(stream):
         return _frames_of_file(stream, words)
@@ -31,7 +31,7 @@ def frames(stream: Union[ReadableBuffer, _Readable], words: int = LIMITS.words) 
 
 
 def _has_buffer(stream: Any) -> bool:
-    """Whether it is bytes; an mmap has `read` too."""
+    """Whether it is bytes. An mmap has `read` too."""
     try:
         memoryview(stream).release()
     except TypeError:
@@ -55,7 +55,7 @@ def _frames_of_bytes(stream: Any, words: int) -> Iterator[memoryview]:
 
 
 def _bytes_wanted(held: memoryview) -> int:
-    """How many bytes a frame takes, or its table, as far as its first bytes say."""
+    """The size in bytes of a frame, or of its table, as far as its first bytes tell."""
     if len(held) < 4:
         return 8
     count = int.from_bytes(held[:4], 'little') + 1
@@ -66,10 +66,10 @@ def _bytes_wanted(held: memoryview) -> int:
 
 
 class _Pieces:
-    """A file that is read piece by piece, as far as it is wanted."""
+    """A file that is read piece by piece, as far as needed."""
 
     def __init__(self, file: Any) -> None:
-        # what is there, and no more, where the file has a buffer
+        # what is there, and no more, if the file has a buffer
         self._read = getattr(file, 'read1', None) or file.read
         self._held = bytearray()
         self._start = 0
@@ -83,7 +83,7 @@ class _Pieces:
         return len(self._held) - self._start
 
     def grow(self, size: int) -> bool:
-        """Reads until so many bytes are there; false where the file ends before."""
+        """Read until `size` bytes are there. False if the file ends before."""
         if self._start and self.size() < size:
             del self._held[:self._start]
             self._start = 0
@@ -121,7 +121,7 @@ def _frames_of_file(file: Any, words: int) -> Iterator[memoryview]:
 
 
 def _whole_frame(pieces: _Pieces, words: int) -> int:
-    """Reads until the frame at the front is there, and gives how many bytes it takes."""
+    """Read until the frame at the front is there, and return its size in bytes."""
     while True:
         try:
             return pieces.measured(words)

@@ -1,4 +1,4 @@
-"""The library, with the types of its calls, and the bytes that are lent to it."""
+"""The library, with the types of its calls, and the buffers that are lent to it."""
 from __future__ import annotations
 
 import ctypes
@@ -42,7 +42,7 @@ ctypes.pythonapi.PyBuffer_Release.restype = None
 
 
 class Lent:
-    """The bytes of an object, which stay where they are for as long as the `with` block runs."""
+    """The bytes of an object, which stay in place while the `with` block runs."""
 
     __slots__ = '_view', 'address', 'size'
 
@@ -53,7 +53,7 @@ class Lent:
         except BufferError:
             if writable:
                 raise
-            # bytes that don't lie one behind the other
+            # bytes that aren't contiguous
             _get_buffer(memoryview(given).tobytes(), self._view, _SIMPLE)
         self.address: int = self._view.buf or 0
         self.size: int = self._view.len
@@ -107,7 +107,7 @@ def _load() -> ctypes.CDLL:
 
 
 def text_of(call: Callable[..., int], number: int) -> str:
-    """The text that a call writes of a number."""
+    """The text that a call writes for a number."""
     to = ctypes.create_string_buffer(TEXT_ROOM)
     call(number, to, TEXT_ROOM)
     return to.value.decode()
@@ -120,7 +120,7 @@ def version() -> int:
 
 
 library = _load()
-# A call so short that it isn't worth while to let other threads run: of the same library.
+# The same library, for a call so short that it isn't worthwhile to let other threads run.
 _at_once = ctypes.PyDLL(library._name)
 frame_size = _at_once.capnp_canonical_frame_size
 frame_size.argtypes, frame_size.restype = library.capnp_canonical_frame_size.argtypes, ctypes.c_uint32

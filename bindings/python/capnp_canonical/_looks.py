@@ -1,4 +1,4 @@
-"""A guess at what bytes are that were refused as a frame, as capnp_canonical_looks_like of the header makes it."""
+"""Guesses what bytes are that were refused as a frame, like capnp_canonical_looks_like of the header."""
 from __future__ import annotations
 
 from typing import Callable, Optional
@@ -10,7 +10,7 @@ _CONTROLS = {*range(32), 127} - set(b'\t\n\r')
 
 
 def _looks_packed(front: bytes) -> bool:
-    """Whether packed bytes begin with what may be the table of a frame."""
+    """Whether packed bytes start with what may be the table of a frame."""
     word, at = bytearray(8), 1
     for place in range(8):
         if not front[0] >> place & 1:
@@ -24,7 +24,7 @@ def _looks_packed(front: bytes) -> bool:
 
 
 def looks_like(front: bytes, size: int, is_canonical: Callable[[bytes], bool]) -> Optional[str]:
-    """What the first bytes of so many look like, as `gzip`; None where they look like nothing else."""
+    """What the first of `size` bytes look like, such as `gzip`; None if they look like nothing else."""
     if size < 4:
         return None
     for beginning, name in _BEGINNINGS.items():

@@ -1,14 +1,14 @@
-"""Names each message of a data set by a hash, and finds those that are equal, on a cluster of Dask.
+"""Names each message of a data set by a hash, and finds equal ones, on a Dask cluster.
 
     cluster.py [--scheduler ADDRESS | --workers N] [--piece BYTES] digest FILE..
     cluster.py [--scheduler ADDRESS | --workers N] [--piece BYTES] duplicates FILE..
 
-Without an address N processes of this machine are started. What is written is what `python3 -m capnp_canonical` writes with the
-same command and files, whatever the number of processes, and also where some of them die: their tasks are done again. The
-workers have the package, and read the files by the same names.
+Without an address it starts N processes on this machine. The output is that of `python3 -m capnp_canonical` with the
+same command and files, whatever the number of processes. If some of them die, their tasks run again. The workers need
+the package, and read the files by the same names.
 
-A task is a piece of a file, of whole messages and at least so many bytes. Equal messages are found by several tasks at once,
-each for the hashes with some first bytes, so that no process has to hold all of them.
+A task is a piece of a file: whole messages of at least BYTES bytes. Several tasks look for equal messages at once, each
+among the hashes with certain first bytes, so that no process has to hold all of them.
 """
 import argparse
 import hashlib
@@ -55,7 +55,7 @@ class Counts:
 
 
 def mapped(name: str) -> memoryview:
-    """The bytes of a file, which are read where they lie. They are let go with the last part that is held of them."""
+    """The bytes of a file, mapped into memory. The mapping ends with the last view of it."""
     with open(name, 'rb') as file:
         if os.fstat(file.fileno()).st_size == 0:
             return memoryview(b'')
@@ -63,7 +63,8 @@ def mapped(name: str) -> memoryview:
 
 
 def pieces_of(name: str, file: int, size: int) -> Tuple[List[Piece], Optional[str]]:
-    """The pieces of a file, each of at least so many bytes; and why not all of it is messages. Only tables of frames are read."""
+    """The pieces of a file, each of at least `size` bytes; and why not all of it is messages. Reads only frame
+    tables."""
     pieces: List[Piece] = []
     start = at = 0
     first = number = 1
@@ -85,8 +86,8 @@ def pieces_of(name: str, file: int, size: int) -> Tuple[List[Piece], Optional[st
 
 
 def names_in(name: str, piece: Piece, buckets: int) -> Tuple[List[bytes], Counts]:
-    """The records of the messages of a piece, in buckets by the first bytes of their digests; and what is to be counted. Dask moves
-    bytes quickly from process to process, and knows how many they are."""
+    """The records of the messages of a piece, in buckets by the first bytes of their digests; and the counts. Records
+    are bytes because Dask moves those quickly between processes, and knows their size."""
     records = [bytearray() for _ in range(buckets)]
     counts = Counts([], 0, piece.end - piece.start)
     at = piece.start
@@ -110,7 +111,7 @@ def bucket_of(names: Tuple[List[bytes], Counts], bucket: int) -> bytes:
 
 
 def equal_in(parts: List[bytes]) -> List[Tuple[bytes, List[Place]]]:
-    """The messages that have a name together, where that are several."""
+    """The messages that share a name with another one."""
     groups: Dict[bytes, List[Place]] = {}
     for digest, file, number in records_in(parts):
         groups.setdefault(digest, []).append((file, number))
@@ -125,14 +126,14 @@ class Work:
     files: List[str]
     size: int = PIECE
     buckets: int = 1
-    # is told after each task how many of how many are done
+    # called after each task with how many of how many are done
     seen: Callable[[int, int], None] = lambda done, of: None
     refused: List[str] = field(default_factory=list)
     messages: int = 0
     bytes: int = 0
 
     def _tasks(self) -> List[Future]:
-        """A task for each piece of each file. The files are cut by tasks too."""
+        """A task for each piece of each file. Tasks also cut the files."""
         cut = [self.client.submit(pieces_of, name, file, self.size, pure=False) for file, name in enumerate(self.files)]
         tasks = []
         for name, (pieces, refused) in zip(self.files, map(Future.result, cut)):
@@ -155,7 +156,7 @@ class Work:
             yield from sorted(((file, number), digest) for digest, file, number in records_in(buckets))
 
     def duplicates(self) -> List[Tuple[bytes, List[Place]]]:
-        """The groups of equal messages, by their first ones."""
+        """The groups of equal messages, in the order of their first ones."""
         tasks = self._tasks()
         groups = [
             self.client.submit(equal_in, [self.client.submit(bucket_of, task, bucket, pure=False) for task in tasks], pure=False)
@@ -169,7 +170,7 @@ class Work:
 
 
 def write(work: Work, command: str) -> int:
-    """Writes what a command finds, and gives the exit status."""
+    """Print what a command finds, and return the exit status."""
     found = 0
     if command == 'digest':
         for (file, number), digest in work.digest():
@@ -187,7 +188,7 @@ def write(work: Work, command: str) -> int:
 
 
 def show(done: int, of: int) -> None:
-    """How far the work is, where standard error is a terminal."""
+    """Show progress if standard error is a terminal."""
     if sys.stderr.isatty():
         sys.stderr.write(f'\r\033[Kcluster: {done} of {of} tasks' if done < of else '\r\033[K')
         sys.stderr.flush()
@@ -195,8 +196,8 @@ def show(done: int, of: int) -> None:
 
 def main() -> int:
     parser = argparse.ArgumentParser(description=__doc__.splitlines()[0])
-    parser.add_argument('--scheduler', metavar='ADDRESS', help='of a cluster that runs')
-    parser.add_argument('--workers', metavar='N', type=int, default=os.cpu_count(), help='how many processes are started (%(default)s)')
+    parser.add_argument('--scheduler', metavar='ADDRESS', help='the address of a running cluster')
+    parser.add_argument('--workers', metavar='N', type=int, default=os.cpu_count(), help='how many processes to start (%(default)s)')
     parser.add_argument('--piece', metavar='BYTES', type=int, default=PIECE, help='the least size of a task (%(default)s)')
     parser.add_argument('command', choices=['digest', 'duplicates'])
     parser.add_argument('files', metavar='FILE', nargs='+')

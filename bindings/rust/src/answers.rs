@@ -1,4 +1,4 @@
-//! What the calls answer.
+//! What the calls return.
 use crate::ffi::RawFault;
 use crate::texts;
 use alloc::vec::Vec;
@@ -7,13 +7,13 @@ use core::fmt;
 const DONE: u32 = 0;
 pub(crate) const NO_ROOM: u32 = 1;
 
-/// Why a call is refused. `{}` writes its name and what it says, as `Truncated: the bytes end within a frame`.
+/// Why a call is refused. `{}` writes its name and text, such as `Truncated: the bytes end within a frame`.
 #[derive(Clone, Copy, PartialEq, Eq, Hash)]
 pub struct Error(u32);
 
 #[rustfmt::skip]
 impl Error {
-    /// There are no bytes where a frame was to be.
+    /// There are no bytes where a frame was expected.
     pub const NO_MESSAGE: Error = Error(2);
     /// The length of a segment isn't a multiple of 8 bytes.
     pub const SEGMENT_IS_NOT_WHOLE_WORDS: Error = Error(3);
@@ -21,35 +21,35 @@ impl Error {
     pub const TOO_MANY_SEGMENTS: Error = Error(17);
     /// A frame has more words than the limit, or packed bytes stand for more.
     pub const MESSAGE_TOO_LONG: Error = Error(18);
-    /// The bytes end within a frame, or packed ones within a word or before a number.
+    /// The bytes end inside a frame; or packed bytes end inside a word, or before a count.
     pub const TRUNCATED: Error = Error(19);
     /// There is no memory.
     pub const ALLOCATION_FAILED: Error = Error(32);
     /// The value to be copied holds a capability.
     pub const CANNOT_CREATE_A_CANONICAL_MESSAGE_WITH_A_CAPABILITY: Error = Error(33);
-    /// The tag word of a list of structs isn't that of a struct; of a message that is measured.
+    /// The tag of a list of structs isn't that of a struct. From the calls that measure.
     pub const CANT_HANDLE_NON_STRUCT_INLINE_COMPOSITE: Error = Error(34);
     /// The elements of a list of structs take more words than its pointer claims.
     pub const INLINE_COMPOSITE_LISTS_ELEMENTS_OVERRUN_ITS_WORD_COUNT: Error = Error(42);
-    /// The tag word of a list of structs isn't that of a struct.
+    /// The tag of a list of structs isn't that of a struct.
     pub const INLINE_COMPOSITE_LISTS_OF_NON_STRUCT_TYPE_ARE_NOT_SUPPORTED: Error = Error(43);
     /// A segment is named that the message doesn't have.
     pub const INVALID_SEGMENT_ID: Error = Error(44);
     /// A far pointer leads to a landing pad that is itself a far pointer.
     pub const MALFORMED_DOUBLE_FAR_POINTER: Error = Error(45);
-    /// A pointer leads out of its segment.
+    /// A pointer points outside of its segment.
     pub const MESSAGE_CONTAINS_OUT_OF_BOUNDS_POINTER: Error = Error(55);
-    /// The nesting limit is met; of a message that is measured.
+    /// The message is nested too deeply. From the calls that measure.
     pub const MESSAGE_IS_TOO_DEEPLY_NESTED: Error = Error(57);
-    /// The nesting limit is met; of a message that is copied, or a struct of one that is tested.
+    /// The message is nested too deeply. From the calls that copy, and from those that test, at a struct.
     pub const MESSAGE_IS_TOO_DEEPLY_NESTED_OR_CONTAINS_CYCLES: Error = Error(58);
     /// The canonical message or its segments are larger than the format allows.
     pub const MESSAGE_TOO_LARGE: Error = Error(59);
-    /// The nesting limit is met by a list of a message that is tested.
+    /// The message is nested too deeply. From the calls that test, at a list.
     pub const NESTING_LIMIT_EXCEEDED: Error = Error(60);
-    /// The traversal limit doesn't cover what is to be read.
+    /// The traversal limit doesn't cover what has to be read.
     pub const READ_LIMIT_EXCEEDED: Error = Error(62);
-    /// A pointer word that the format doesn't know.
+    /// A pointer is of no known kind.
     pub const UNKNOWN_POINTER_TYPE: Error = Error(66);
 
     /// The number of `enum capnp_canonical_answer`.
@@ -57,18 +57,18 @@ impl Error {
         self.0
     }
 
-    /// As `Truncated`; empty where the number has no name.
+    /// The name, such as `Truncated`; empty if the number has none.
     pub fn name(self) -> &'static str {
         texts::of_error(self.0).0
     }
 
-    /// What it says, as `the bytes end within a frame`.
+    /// The text, such as `the bytes end within a frame`.
     pub fn text(self) -> &'static str {
         texts::of_error(self.0).1
     }
 }
 
-/// Of a number of `enum capnp_canonical_answer`, which isn't 0.
+/// From a number of `enum capnp_canonical_answer`, which isn't 0.
 impl From<u32> for Error {
     fn from(number: u32) -> Self {
         Error(number)
@@ -89,7 +89,7 @@ impl fmt::Debug for Error {
 
 impl core::error::Error for Error {}
 
-/// As invalid data, and want of memory as that.
+/// `ALLOCATION_FAILED` becomes `OutOfMemory`, `TRUNCATED` `UnexpectedEof`, anything else `InvalidData`.
 #[cfg(feature = "std")]
 impl From<Error> for std::io::Error {
     fn from(error: Error) -> Self {
@@ -102,15 +102,16 @@ impl From<Error> for std::io::Error {
     }
 }
 
-/// Why a message isn't canonical. `{}` writes it in words, as `padding that isn't zero`.
+/// Why a message isn't canonical. `{}` writes it as text, such as `padding that isn't zero`. Each constant says which
+/// word the fault names.
 #[derive(Clone, Copy, PartialEq, Eq, Hash)]
 pub struct Reason(u32);
 
 #[rustfmt::skip]
 impl Reason {
-    /// There isn't exactly one segment: the first word of segment 1, or of segment 0 where there is none.
+    /// There isn't exactly one segment: the first word of segment 1, or of segment 0 if there is none.
     pub const SEGMENT_COUNT: Reason = Reason(1);
-    /// There is no word for a pointer: where it would stand.
+    /// There is no word for a pointer: the place where it would be.
     pub const NO_POINTER: Reason = Reason(2);
     /// A far pointer: the word itself.
     pub const FAR_POINTER: Reason = Reason(3);
@@ -118,23 +119,23 @@ impl Reason {
     pub const CAPABILITY: Reason = Reason(4);
     /// A pointer of no known kind: the word itself.
     pub const UNKNOWN_POINTER: Reason = Reason(5);
-    /// A struct without words starts elsewhere than at its pointer: the pointer.
+    /// A struct without words doesn't start at its pointer: the pointer.
     pub const EMPTY_STRUCT_PLACE: Reason = Reason(6);
-    /// An object starts elsewhere than behind the last one: the pointer to it.
+    /// An object doesn't start where the last one ended: the pointer to it.
     pub const OBJECT_PLACE: Reason = Reason(7);
-    /// The bits behind the last number of a list aren't zero: the word with these bits.
+    /// The bits after the last element of a list aren't zero: the word with these bits.
     pub const PADDING: Reason = Reason(8);
     /// The last word of a data section is zero: the word itself.
     pub const DATA_SECTION: Reason = Reason(9);
     /// The last pointer of a pointer section is null: the word itself.
     pub const POINTER_SECTION: Reason = Reason(10);
-    /// The elements of a list of structs take other words than its pointer claims: the tag.
+    /// The elements of a list of structs don't take as many words as its pointer claims: the tag.
     pub const ELEMENT_WORDS: Reason = Reason(11);
     /// The elements of a list of structs have more data words than any of them uses: the tag.
     pub const ELEMENT_DATA: Reason = Reason(12);
     /// The elements of a list of structs have more pointers than any of them uses: the tag.
     pub const ELEMENT_POINTERS: Reason = Reason(13);
-    /// There are words behind the value: the first of these.
+    /// There are words after the value: the first of these.
     pub const WORDS_BEHIND: Reason = Reason(14);
 
     /// The number of `enum capnp_canonical_reason`.
@@ -142,7 +143,7 @@ impl Reason {
         self.0
     }
 
-    /// In words, as `padding that isn't zero`; empty where the number has none.
+    /// The text, such as `padding that isn't zero`; empty if the number has none.
     pub fn text(self) -> &'static str {
         texts::of_reason(self.0)
     }
@@ -164,7 +165,7 @@ impl fmt::Debug for Reason {
 #[derive(Clone, Copy, Debug, PartialEq, Eq, Hash)]
 #[non_exhaustive]
 pub struct Fault {
-    /// Why. Which word is named, each reason says.
+    /// Why. Each reason says which word is named.
     pub reason: Reason,
     /// The number of the segment.
     pub segment: u64,
@@ -182,14 +183,14 @@ impl fmt::Display for Fault {
     }
 }
 
-/// What the root of a message leads to, without the root pointer and landing pads. Its canonical words take at most 8 bytes
-/// more than these words.
+/// The size of what the root of a message leads to, without the root pointer and landing pads. Its canonical words take
+/// at most 8 bytes more than these words.
 #[derive(Clone, Copy, Debug, PartialEq, Eq, Hash)]
 #[non_exhaustive]
 pub struct Size {
-    /// In words of 8 bytes.
+    /// Words of 8 bytes.
     pub words: u64,
-    /// How many capabilities there are.
+    /// The number of capabilities.
     pub capabilities: u32,
 }
 
@@ -200,8 +201,8 @@ pub(crate) fn done(answer: u32) -> Result<(), Error> {
     }
 }
 
-/// Appends what a call writes, which has so much room at first, and again where that is too little. Gives how many bytes that is.
-/// Where the call is refused nothing is appended.
+/// Appends what a call writes. The call first gets `room` bytes, and then as many as it needs if that is too small.
+/// Returns the number of bytes appended. If the call is refused, appends nothing.
 pub(crate) fn append(
     to: &mut Vec<u8>,
     room: usize,
@@ -219,7 +220,7 @@ pub(crate) fn append(
     Ok(written)
 }
 
-/// Calls with the room behind what a vector holds, which is at least so much.
+/// Calls with the room after what a vector holds, which is at least `room` bytes.
 fn attempt(
     to: &mut Vec<u8>,
     room: usize,

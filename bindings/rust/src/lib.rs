@@ -1,14 +1,15 @@
 //! Canonical form of Cap'n Proto messages, over the library `capnp_canonical`.
 //!
-//! A message is a frame, as `capnp::serialize::write_message` writes it, or its segments ([`segments`]). Bytes may lie at any
-//! address, and those behind the frame at the front of a slice aren't looked at. No call keeps anything, so calls may run in
-//! several threads at once. A level of nesting takes up to 720 bytes of stack.
+//! You pass a message as a frame, as `capnp::serialize::write_message` writes it, or as its segments ([`segments`]).
+//! Bytes may lie at any address, and bytes after the frame are ignored. Unpack packed bytes first, with [`unpack`]. No
+//! call keeps anything, so several threads may call at once. A level of nesting takes up to 720 bytes of stack.
 //!
-//! Its bare words, which [`canonical_words`] gives, are read back by the module [`words`] alone. A call that takes a frame may
-//! **succeed** on bare words, and then reads **another** value, since the pointer to a root without pointers is also the table
-//! of a frame. What is packed is unpacked first, by [`unpack`].
+//! Bare words aren't a frame. Read back what [`canonical_words`] returns with the module [`words`]. A call that takes a
+//! frame may **succeed** on bare words, and then reads **another** value, because the pointer to a root without
+//! pointers is also the table of a frame.
 //!
-//! The crate is `no_std`, with `alloc`; the feature `std`, on by default, makes an `Error` an `std::io::Error`.
+//! The crate is `no_std` with `alloc`. The feature `std`, on by default, lets you turn an `Error` into an
+//! `std::io::Error`.
 //!
 //! ```
 //! use capnp_canonical::{canonical_words, check, is_canonical, Limits};
@@ -52,11 +53,11 @@ pub use looks::looks_like;
 pub use packed::{unpack, unpack_into};
 pub use stream::{frames, Frame, Frames, StreamError};
 
-/// Within which limits a message is read. The defaults are those of `capnp::message::ReaderOptions`.
+/// The limits for reading a message. The defaults are those of `capnp::message::ReaderOptions`.
 #[derive(Clone, Copy, Debug, PartialEq, Eq, Hash)]
 #[non_exhaustive]
 pub struct Limits {
-    /// How many structs and lists may stand one inside of the other.
+    /// How deep structs and lists may be nested.
     pub nesting: i32,
     /// How many words may be read, and how many a frame may have.
     pub words: u64,
@@ -75,14 +76,15 @@ impl Default for Limits {
     }
 }
 
-/// The canonical message of the frame at the front of a slice, as a frame of one segment.
+/// Makes the message of the frame at the front of a slice canonical, as a frame of one segment.
 pub fn canonical_copy(frame: impl AsRef<[u8]>, limits: Limits) -> Result<Vec<u8>, Error> {
     let mut to = Vec::new();
     canonical_copy_into(frame, limits, &mut to)?;
     Ok(to)
 }
 
-/// The same, appended to a vector, whose memory is so used again. Gives how many bytes that is. A refusal leaves it as it was.
+/// Like [`canonical_copy`], but appends to a vector, so you can reuse its memory. Returns the number of bytes appended.
+/// A refusal leaves the vector as it was.
 pub fn canonical_copy_into(
     frame: impl AsRef<[u8]>,
     limits: Limits,
@@ -105,15 +107,16 @@ pub fn canonical_copy_into(
     })
 }
 
-/// The canonical message as bare words, without the table of a frame: the bytes to be hashed or signed. What is stored of them
-/// is read back by the module [`words`].
+/// Makes the message canonical, as bare words without the table of a frame: the bytes to hash or sign. Read stored
+/// words back with the module [`words`].
 pub fn canonical_words(frame: impl AsRef<[u8]>, limits: Limits) -> Result<Vec<u8>, Error> {
     let mut to = Vec::new();
     canonical_words_into(frame, limits, &mut to)?;
     Ok(to)
 }
 
-/// The same, appended to a vector. Gives how many bytes that is. A refusal leaves the vector as it was.
+/// Like [`canonical_words`], but appends to a vector. Returns the number of bytes appended. A refusal leaves the vector
+/// as it was.
 pub fn canonical_words_into(
     frame: impl AsRef<[u8]>,
     limits: Limits,
@@ -136,8 +139,8 @@ pub fn canonical_words_into(
     })
 }
 
-/// Why and where the message of the frame at the front of a slice isn't canonical; `None` where it is one segment that holds
-/// the canonical words of a value and nothing else.
+/// Says why and where the message of the frame at the front of a slice isn't canonical; `None` if it is: one segment
+/// that holds the canonical words of a value and nothing else.
 pub fn check(frame: impl AsRef<[u8]>, limits: Limits) -> Result<Option<Fault>, Error> {
     let frame = frame.as_ref();
     fault_of(|is_canonical, fault| {
@@ -155,13 +158,13 @@ pub fn check(frame: impl AsRef<[u8]>, limits: Limits) -> Result<Option<Fault>, E
     })
 }
 
-/// Whether the message of the frame at the front of a slice is canonical. It is false too where the message isn't read, since a
-/// limit is met or the bytes are no frame; [`check`] says why.
+/// Whether the message of the frame at the front of a slice is canonical. Also false if it can't be read, because a
+/// limit is exceeded or the bytes are no frame; [`check`] says why.
 pub fn is_canonical(frame: impl AsRef<[u8]>, limits: Limits) -> bool {
     check(frame, limits) == Ok(None)
 }
 
-/// How large the message of the frame at the front of a slice is.
+/// The size of the message of the frame at the front of a slice.
 pub fn size(frame: impl AsRef<[u8]>, limits: Limits) -> Result<Size, Error> {
     let frame = frame.as_ref();
     size_of(|words, capabilities| {
@@ -179,7 +182,7 @@ pub fn size(frame: impl AsRef<[u8]>, limits: Limits) -> Result<Size, Error> {
     })
 }
 
-/// How many bytes the frame at the front takes, of at most so many words. Its message isn't read.
+/// The size in bytes of the frame at the front, which may have at most `words` words. Its message isn't read.
 pub fn frame_size(stream: impl AsRef<[u8]>, words: u64) -> Result<usize, Error> {
     let stream = stream.as_ref();
     let mut size = 0;
@@ -190,13 +193,13 @@ pub fn frame_size(stream: impl AsRef<[u8]>, words: u64) -> Result<usize, Error> 
     Ok(size)
 }
 
-/// The frame at the front, without what stands behind it.
+/// The frame at the front, without what follows it.
 fn first_frame(stream: &[u8], limits: Limits) -> Result<&[u8], Error> {
     let size = frame_size(stream, limits.words)?;
     stream.get(..size).ok_or(Error::TRUNCATED)
 }
 
-/// The version of the library that is linked: major * 10000 + minor * 100 + patch.
+/// The version of the linked library: major * 10000 + minor * 100 + patch.
 pub fn version() -> u32 {
     // SAFETY: it takes nothing.
     unsafe { ffi::capnp_canonical_version() }

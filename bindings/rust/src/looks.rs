@@ -1,4 +1,4 @@
-//! A guess at what bytes are that were refused as a frame.
+//! Guesses what bytes are that were refused as a frame.
 use crate::{frame_size, words, Limits};
 
 const BEGINNINGS: [(&[u8], &str); 5] = [
@@ -9,8 +9,8 @@ const BEGINNINGS: [(&[u8], &str); 5] = [
     (b"PK\x03\x04", "a zip archive"),
 ];
 
-/// What bytes look like that were refused as a frame, as `gzip`; `None` where they look like nothing else, or do begin with a
-/// frame. It is a guess, for whoever reads a refusal: nothing else is to rest on it.
+/// What bytes look like that were refused as a frame, such as `gzip`; `None` if they look like nothing else, or do
+/// start with a frame. It is a guess, to help people read a refusal; don't base anything else on it.
 pub fn looks_like(bytes: &[u8]) -> Option<&'static str> {
     if bytes.len() < 4 || frame_size(bytes, u64::MAX).is_ok() {
         return None;
@@ -27,7 +27,7 @@ pub fn looks_like(bytes: &[u8]) -> Option<&'static str> {
     is_packed(bytes).then_some("packed messages")
 }
 
-/// Whether the first bytes are text: without controls but tabulators and ends of lines.
+/// Whether the first bytes are text: no control characters but tabs and line ends.
 fn is_text(bytes: &[u8]) -> bool {
     let front = &bytes[..bytes.len().min(64)];
     front
@@ -35,7 +35,7 @@ fn is_text(bytes: &[u8]) -> bool {
         .all(|it| !it.is_ascii_control() || b"\t\n\r".contains(it))
 }
 
-/// Whether packed bytes begin with what may be the table of a frame.
+/// Whether packed bytes start with what may be the table of a frame.
 fn is_packed(bytes: &[u8]) -> bool {
     let (mut table, mut at) = ([0; 8], 1);
     for (place, byte) in table.iter_mut().enumerate() {

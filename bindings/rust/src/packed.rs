@@ -1,12 +1,12 @@
-//! Packed bytes, as what they stand for.
+//! Unpacking packed bytes.
 use crate::answers::{append, done, NO_ROOM};
 use crate::{ffi, Error};
 use alloc::vec::Vec;
 
-/// What packed bytes stand for, as `capnp::serialize_packed::write_message` writes them: the frames of one or more messages,
-/// which the other calls take, and [`frames`](crate::frames) one by one. Two packed bytes stand for up to 2,048. So
-/// [`Error::MESSAGE_TOO_LONG`] is said where there are more than so many words, before memory is taken for them;
-/// [`Error::TRUNCATED`] where the packed bytes are cut.
+/// Unpacks what `capnp::serialize_packed::write_message` writes: the frames of one or more messages, which the other
+/// calls take, and [`frames`](crate::frames) one by one. Two packed bytes stand for up to 2,048. If there are more than
+/// `words` words, this returns [`Error::MESSAGE_TOO_LONG`] before it takes memory for them. If the packed bytes are cut
+/// short, it returns [`Error::TRUNCATED`].
 ///
 /// ```
 /// use capnp_canonical::{unpack, Error};
@@ -22,7 +22,8 @@ pub fn unpack(packed: impl AsRef<[u8]>, words: u64) -> Result<Vec<u8>, Error> {
     Ok(to)
 }
 
-/// The same, appended to a vector. Gives how many bytes that is. A refusal leaves the vector as it was.
+/// Like [`unpack`], but appends to a vector. Returns the number of bytes appended. A refusal leaves the vector as it
+/// was.
 pub fn unpack_into(packed: impl AsRef<[u8]>, words: u64, to: &mut Vec<u8>) -> Result<usize, Error> {
     let packed = packed.as_ref();
     let size = unpacked_size(packed)?;
@@ -35,7 +36,7 @@ pub fn unpack_into(packed: impl AsRef<[u8]>, words: u64, to: &mut Vec<u8>) -> Re
     })
 }
 
-/// How many bytes packed bytes stand for.
+/// The unpacked size of packed bytes, in bytes.
 fn unpacked_size(packed: &[u8]) -> Result<usize, Error> {
     let mut size = 0;
     // SAFETY: the slice is a pointer and its length, and nothing is written where there is no room.

@@ -1,12 +1,13 @@
-//! The same calls, of a message whose segments the caller has. The length of each segment is a multiple of 8 bytes.
+//! The same calls, for a message whose segments you have. The length of each segment is a multiple of 8 bytes.
 use crate::answers::{append, fault_of, size_of};
 use crate::ffi::{self, RawSegment};
 use crate::{Error, Fault, Limits, Size};
 use alloc::vec::Vec;
 
-/// What holds the segments of a message, as `capnp::message::ReaderSegments` does: a slice or a vector of segments is it.
+/// Something that holds the segments of a message, like `capnp::message::ReaderSegments`: for example a slice or a
+/// vector of segments.
 pub trait Segments {
-    /// The segment with this number. They are counted from 0, and the first that isn't there ends them.
+    /// The segment with this number, counted from 0. The first `None` ends the segments.
     fn segment(&self, id: u32) -> Option<&[u8]>;
 }
 
@@ -34,7 +35,7 @@ impl<S: Segments + ?Sized> Segments for &S {
     }
 }
 
-/// Segments as the calls of C take them, and how many bytes they have.
+/// Segments in the form that the C calls take, and their size in bytes.
 struct Raw<'a> {
     segments: Vec<RawSegment>,
     bytes: usize,
@@ -62,7 +63,7 @@ impl<'a> Raw<'a> {
     }
 }
 
-/// The canonical message, as a frame of one segment.
+/// Makes the message canonical, as a frame of one segment.
 pub fn canonical_copy<S: Segments + ?Sized>(
     segments: &S,
     limits: Limits,
@@ -72,7 +73,8 @@ pub fn canonical_copy<S: Segments + ?Sized>(
     Ok(to)
 }
 
-/// The same, appended to a vector. Gives how many bytes that is. A refusal leaves the vector as it was.
+/// Like the call without `_into`, but appends to a vector. Returns the number of bytes appended. A refusal leaves the
+/// vector as it was.
 pub fn canonical_copy_into<S: Segments + ?Sized>(
     segments: &S,
     limits: Limits,
@@ -95,7 +97,7 @@ pub fn canonical_copy_into<S: Segments + ?Sized>(
     })
 }
 
-/// The canonical message as bare words, without the table of a frame: the bytes to be hashed or signed.
+/// Makes the message canonical, as bare words without the table of a frame: the bytes to hash or sign.
 pub fn canonical_words<S: Segments + ?Sized>(
     segments: &S,
     limits: Limits,
@@ -105,7 +107,8 @@ pub fn canonical_words<S: Segments + ?Sized>(
     Ok(to)
 }
 
-/// The same, appended to a vector. Gives how many bytes that is. A refusal leaves the vector as it was.
+/// Like the call without `_into`, but appends to a vector. Returns the number of bytes appended. A refusal leaves the
+/// vector as it was.
 pub fn canonical_words_into<S: Segments + ?Sized>(
     segments: &S,
     limits: Limits,
@@ -128,8 +131,8 @@ pub fn canonical_words_into<S: Segments + ?Sized>(
     })
 }
 
-/// Why and where the message isn't canonical; `None` where it is one segment that holds the canonical words of a value and
-/// nothing else.
+/// Says why and where the message isn't canonical; `None` if it is: one segment that holds the canonical words of a
+/// value and nothing else.
 pub fn check<S: Segments + ?Sized>(segments: &S, limits: Limits) -> Result<Option<Fault>, Error> {
     let raw = Raw::of(segments)?;
     fault_of(|is_canonical, fault| {
@@ -147,12 +150,12 @@ pub fn check<S: Segments + ?Sized>(segments: &S, limits: Limits) -> Result<Optio
     })
 }
 
-/// Whether the message is canonical. It is false too where the message isn't read, since a limit is met.
+/// Whether the message is canonical. Also false if it can't be read, because a limit is exceeded.
 pub fn is_canonical<S: Segments + ?Sized>(segments: &S, limits: Limits) -> bool {
     check(segments, limits) == Ok(None)
 }
 
-/// How large the message is.
+/// The size of the message.
 pub fn size<S: Segments + ?Sized>(segments: &S, limits: Limits) -> Result<Size, Error> {
     let raw = Raw::of(segments)?;
     size_of(|words, capabilities| {

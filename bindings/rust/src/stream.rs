@@ -1,10 +1,10 @@
-//! The frames of a stream, and errors that say where in it they are.
+//! The frames of a stream, and errors that say where in the stream they are.
 use crate::{frame_size, looks_like, Error};
 use core::fmt;
 use core::iter::FusedIterator;
 use core::ops::Deref;
 
-/// The frames of a stream, one behind the other, each of at most so many words.
+/// The frames of a stream, in order, each of at most `words` words.
 pub fn frames(stream: &[u8], words: u64) -> Frames<'_> {
     Frames {
         rest: stream,
@@ -14,8 +14,8 @@ pub fn frames(stream: &[u8], words: u64) -> Frames<'_> {
     }
 }
 
-/// An iterator over the frames of a stream. It ends behind the first error, which comes where the bytes that are left don't
-/// begin with a frame.
+/// An iterator over the frames of a stream. It gives an error if the remaining bytes don't start with a frame, and ends
+/// after it.
 #[derive(Clone, Debug)]
 pub struct Frames<'a> {
     rest: &'a [u8],
@@ -55,20 +55,21 @@ impl<'a> Iterator for Frames<'a> {
 
 impl FusedIterator for Frames<'_> {}
 
-/// A frame of a stream: its bytes, and where it stands.
+/// A frame of a stream: its bytes and its place.
 #[derive(Clone, Copy, Debug, PartialEq, Eq)]
 #[non_exhaustive]
 pub struct Frame<'a> {
-    /// All of its bytes.
+    /// The bytes of the frame.
     pub bytes: &'a [u8],
     /// Its number in the stream, counted from 1.
     pub message: u64,
-    /// Where it begins in the stream, in bytes.
+    /// The byte of the stream where it starts.
     pub byte: u64,
 }
 
 impl Frame<'_> {
-    /// A refusal of this frame's message, with its place: `canonical_words(&frame, limits).map_err(|error| frame.refused(error))`.
+    /// Adds the place of this frame to an error about its message:
+    /// `canonical_words(&frame, limits).map_err(|error| frame.refused(error))`.
     pub fn refused(&self, error: Error) -> StreamError {
         error.at(self.message, self.byte)
     }
@@ -88,8 +89,8 @@ impl AsRef<[u8]> for Frame<'_> {
     }
 }
 
-/// Why a message of a stream is refused, and which it is. `{}` writes a sentence, as `message 2 at byte 40: Truncated: the bytes end
-/// within a frame`.
+/// Which message of a stream is refused, and why. `{}` writes a sentence, such as
+/// `message 2 at byte 40: Truncated: the bytes end within a frame`.
 #[derive(Clone, Copy, Debug, PartialEq, Eq, Hash)]
 #[non_exhaustive]
 pub struct StreamError {
@@ -97,14 +98,14 @@ pub struct StreamError {
     pub error: Error,
     /// The number of the message in the stream, counted from 1.
     pub message: u64,
-    /// Where its frame begins in the stream, in bytes.
+    /// The byte of the stream where its frame starts.
     pub byte: u64,
-    /// What the bytes look like, as `gzip`, where they are no frame and it is known. It is a guess.
+    /// If the bytes are no frame, a guess at what they look like, such as `gzip`; `None` if there is no guess.
     pub looks_like: Option<&'static str>,
 }
 
 impl Error {
-    /// The same, of a message that stands there in a stream.
+    /// The same error for a message at this place of a stream.
     pub fn at(self, message: u64, byte: u64) -> StreamError {
         StreamError {
             error: self,
@@ -139,7 +140,7 @@ impl fmt::Display for StreamError {
 
 impl core::error::Error for StreamError {}
 
-/// As that of its `error`, with the whole sentence.
+/// The kind is that of its `error`; the text is the whole sentence.
 #[cfg(feature = "std")]
 impl From<StreamError> for std::io::Error {
     fn from(error: StreamError) -> Self {

@@ -1,6 +1,7 @@
-//! The texts of numbers: those that `capnp_canonical_name` and `capnp_canonical_reason_text` write, and what a refusal says.
+//! The texts of numbers: those that `capnp_canonical_name` and `capnp_canonical_reason_text` write, and the text of a
+//! refusal.
 
-/// The name of a refusal and what it says; empty where the number has none.
+/// The name and text of a refusal; empty if the number has none.
 pub(crate) fn of_error(number: u32) -> (&'static str, &'static str) {
     match number {
         1 => ("NoRoom", "the buffer has too little room"),
@@ -63,7 +64,7 @@ pub(crate) fn of_error(number: u32) -> (&'static str, &'static str) {
     }
 }
 
-/// What a reason says; empty where the number has none.
+/// The text of a reason; empty if the number has none.
 pub(crate) fn of_reason(number: u32) -> &'static str {
     match number {
         1 => "not exactly one segment",

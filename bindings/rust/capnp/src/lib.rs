@@ -1,5 +1,5 @@
-//! Canonical form of the messages of the crate `capnp`: the calls of `capnp_canonical` over `capnp::message::ReaderSegments`, whose
-//! segments are read where they lie.
+//! Canonical form of the messages of the crate `capnp`: the calls of `capnp_canonical` over
+//! `capnp::message::ReaderSegments`, whose segments are read in place.
 //!
 //! ```
 //! use capnp::message::ReaderOptions;
@@ -24,7 +24,7 @@ use capnp::message::{ReaderOptions, ReaderSegments};
 use capnp_canonical::segments::{self, Segments};
 use capnp_canonical::{Error, Fault, Limits, Size};
 
-/// A message of the crate `capnp`, as `capnp_canonical::segments` takes it.
+/// A message of the crate `capnp`, in the form that `capnp_canonical::segments` takes.
 pub struct Of<'a, S: ReaderSegments + ?Sized>(pub &'a S);
 
 impl<S: ReaderSegments + ?Sized> Segments for Of<'_, S> {
@@ -33,7 +33,7 @@ impl<S: ReaderSegments + ?Sized> Segments for Of<'_, S> {
     }
 }
 
-/// The limits of a reader's options. Those of no limit are the largest there are.
+/// The limits of a reader's options. No limit becomes the largest number.
 pub fn limits(options: &ReaderOptions) -> Limits {
     let words = options
         .traversal_limit_in_words
@@ -41,7 +41,7 @@ pub fn limits(options: &ReaderOptions) -> Limits {
     Limits::new(options.nesting_limit, words)
 }
 
-/// The canonical message, as a frame of one segment.
+/// Makes the message canonical, as a frame of one segment.
 pub fn canonical_copy<S: ReaderSegments + ?Sized>(
     message: &S,
     limits: Limits,
@@ -49,7 +49,7 @@ pub fn canonical_copy<S: ReaderSegments + ?Sized>(
     segments::canonical_copy(&Of(message), limits)
 }
 
-/// The canonical message as bare words, without the table of a frame: the bytes to be hashed or signed.
+/// Makes the message canonical, as bare words without the table of a frame: the bytes to hash or sign.
 pub fn canonical_words<S: ReaderSegments + ?Sized>(
     message: &S,
     limits: Limits,
@@ -57,7 +57,8 @@ pub fn canonical_words<S: ReaderSegments + ?Sized>(
     segments::canonical_words(&Of(message), limits)
 }
 
-/// The same, appended to a vector. Gives how many bytes that is. A refusal leaves the vector as it was.
+/// Like the call above, but appends to a vector. Returns the number of bytes appended. A refusal leaves the vector as
+/// it was.
 pub fn canonical_words_into<S: ReaderSegments + ?Sized>(
     message: &S,
     limits: Limits,
@@ -66,8 +67,8 @@ pub fn canonical_words_into<S: ReaderSegments + ?Sized>(
     segments::canonical_words_into(&Of(message), limits, to)
 }
 
-/// Why and where the message isn't canonical; `None` where it is one segment that holds the canonical words of a value and
-/// nothing else.
+/// Says why and where the message isn't canonical; `None` if it is: one segment that holds the canonical words of a
+/// value and nothing else.
 pub fn check<S: ReaderSegments + ?Sized>(
     message: &S,
     limits: Limits,
@@ -75,12 +76,12 @@ pub fn check<S: ReaderSegments + ?Sized>(
     segments::check(&Of(message), limits)
 }
 
-/// Whether the message is canonical. It is false too where the message isn't read, since a limit is met.
+/// Whether the message is canonical. Also false if it can't be read, because a limit is exceeded.
 pub fn is_canonical<S: ReaderSegments + ?Sized>(message: &S, limits: Limits) -> bool {
     segments::is_canonical(&Of(message), limits)
 }
 
-/// How large the message is.
+/// The size of the message.
 pub fn size<S: ReaderSegments + ?Sized>(message: &S, limits: Limits) -> Result<Size, Error> {
     segments::size(&Of(message), limits)
 }
