@@ -1,4 +1,4 @@
-//! What an arena asks its allocator for.
+//! What an arena requests from its allocator.
 use crate::steps::{take, take_of};
 use capnp_arena::arena::{
     Allocator, BuilderArena, BuilderArenaImpl, HeapAllocator, OutputSegments, ReaderArena,
@@ -33,8 +33,8 @@ fn read_words<A: BuilderArena>(rt: &impl Abort, arena: &A) {
     assert!(rt; arena.refused() == 0);
 }
 
-/// Words in a segment with room, the words of a segment to be written, one segment to be given out, and
-/// what is read: none of it asks for anything.
+/// Allocating words in a segment with room, lending a segment's words for writing, output of one
+/// segment, and reading: none of these requests anything.
 #[test]
 fn nothing_is_asked(rt: HostRuntime) {
     let heap = HeapAllocator::new(rt.alloc(), 4);
@@ -50,7 +50,7 @@ fn nothing_is_asked(rt: HostRuntime) {
     assert!(rt; asked_once(arena.into_allocator().requests(), 1, 1, 0));
 }
 
-/// A segment is asked for with exactly the words that found no room, and then its row.
+/// Requests a segment with exactly the words that found no room, and then its row.
 #[test]
 fn words_elsewhere(rt: HostRuntime) {
     let heap = HeapAllocator::new(rt.alloc(), 4);
@@ -68,7 +68,8 @@ fn words_elsewhere(rt: HostRuntime) {
     assert!(rt; arena.into_allocator().requests() == &asked[..]);
 }
 
-/// Takes the two words of a segment, the second as the first that has room, and writes them.
+/// Allocates the two words of a segment, the second as the first one that has room, and writes
+/// them.
 fn use_segment<A: BuilderArena>(rt: &impl Abort, arena: &mut A, id: u32) {
     assert!(rt; take_of(rt, arena, id, 1) == Some(0));
     assert!(rt; take(arena, 1) == Ok((id, 1)));
@@ -81,8 +82,8 @@ fn use_segment<A: BuilderArena>(rt: &impl Abort, arena: &mut A, id: u32) {
     assert!(rt; arena.contains_interval(id, 0, 2, &mut lim) == Ok(()));
 }
 
-/// Makes so many segments of two words in an arena, does in each what asks for nothing, and has all given out. Gives the
-/// allocator.
+/// Makes `segments` segments of two words in an arena, does in each what requests nothing, and gets
+/// the output of all. Returns the allocator.
 fn use_all<A: Allocator>(rt: &impl Abort, mut arena: BuilderArenaImpl<A>, segments: u32) -> A {
     for _ in 0..segments {
         arena.allocate_segment(2).expect(rt, "memory");
@@ -96,7 +97,8 @@ fn use_all<A: Allocator>(rt: &impl Abort, mut arena: BuilderArenaImpl<A>, segmen
     arena.into_allocator()
 }
 
-/// Whether each segment of so many words was asked for once, each with its row but for those that need none, and nothing else.
+/// Whether each segment of `words` words was requested once, each with its row except for the
+/// `rowless` ones, and nothing else.
 fn asked_once(requests: &[Request], words: u32, segments: usize, rowless: usize) -> bool {
     let mut asked = requests.iter();
     for id in 0..segments {
@@ -121,7 +123,8 @@ fn nothing_is_asked_of_many(rt: HostRuntime) {
     }
 }
 
-/// However many segments there are, each request is for a segment or its row, where the first needs no row.
+/// However many segments there are, each request is for a segment or its row, if the first needs no
+/// row.
 #[test]
 fn nothing_is_asked_behind_the_first(rt: HostRuntime) {
     for segments in [1, 10, 1_000] {

@@ -1,4 +1,4 @@
-//! Messages that are built.
+//! Messages being built.
 use capnp_arena::arena::{
     BuilderArena, BuilderArenaImpl, HeapAllocator, OutputSegments, ReaderArena, ReaderSegments,
 };
@@ -6,7 +6,7 @@ use std::alloc::Global;
 use std::process::Abort;
 use test_support::has_words;
 
-/// Whether these segments are given out, as one where there is one.
+/// Whether the arena's output is these segments, and a single one if there is one.
 fn gives(rt: &impl Abort, arena: &BuilderArenaImpl<HeapAllocator>, want: &[&[u8]]) -> bool {
     let output = arena.get_segments_for_output().expect(rt, "memory");
     let is_single = matches!(output, OutputSegments::SingleSegment(_));
@@ -23,7 +23,7 @@ fn gives(rt: &impl Abort, arena: &BuilderArenaImpl<HeapAllocator>, want: &[&[u8]
         && is_single == (want.len() == 1)
 }
 
-/// Takes two words, and writes the second.
+/// Allocates two words, and writes the second.
 fn write_word<A: BuilderArena>(rt: &impl Abort, alloc: Global, arena: &mut A) {
     assert!(rt; arena.get_segment(0).is_ok());
     assert!(rt; arena.allocate(0, 2) == Some(0));
@@ -37,7 +37,7 @@ fn write_word<A: BuilderArena>(rt: &impl Abort, alloc: Global, arena: &mut A) {
     );
 }
 
-/// Writes the first of two words, and makes the second zero.
+/// Writes the first of two words, and zeroes the second.
 fn write_words<A: BuilderArena>(rt: &impl Abort, arena: &mut A) {
     let words = arena.get_segment(0).expect(rt, "a segment");
     assert!(rt; words.len() == 16);
@@ -45,7 +45,7 @@ fn write_words<A: BuilderArena>(rt: &impl Abort, arena: &mut A) {
     arena.zero_words(0, 1, 1);
 }
 
-/// No segment, one, and two are given out.
+/// The output of no segment, of one, and of two.
 #[test]
 fn words_given_out(rt: HostRuntime) {
     let mut arena = BuilderArenaImpl::new(rt.alloc(), HeapAllocator::new(rt.alloc(), 2));

@@ -1,11 +1,11 @@
-//! An output over a writer: that it has the writer pass on what it has no clause says.
+//! An output over a writer: no clause states that it flushes the writer.
 ghost use Rattle.std.specs.Prelude.{None};
 
 use capnp_framing::devices::WriterOutput;
 use std::cell::Cell;
 use std::io::Write;
 
-/// A writer that counts how often it is to pass on what it has.
+/// A writer that counts how often it is flushed.
 #[derive(Drop)]
 struct Counting<'a> {
     flushes: &'a Cell<u32>,

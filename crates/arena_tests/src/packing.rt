@@ -1,27 +1,27 @@
-//! Words in memory beside what they are packed to, and what is refused. The bytes are those of the encoding
-//! specification's "Packing".
+//! Words in memory, with what they pack to, and what is refused. The bytes are those of the
+//! encoding specification's "Packing".
 use capnp_framing::devices::{DeviceFault, MemoryOutput, Output};
 use capnp_packing::packing::{PackingError, PackingOutput, pack, unpack};
 use std::alloc::Global;
 
-/// Two words that have a few bytes which aren't zero.
+/// Two words with a few bytes that aren't zero.
 const WORDS: &[u8] = b"\x08\0\0\0\x03\0\x02\0\x19\0\0\0\xaa\x01\0\0";
 
-/// The packed `WORDS`: the bytes of each word that aren't zero, behind its tag.
+/// `WORDS` packed: the bytes of each word that aren't zero, after its tag.
 const PACKED: &[u8] = b"\x51\x08\x03\x02\x31\x19\xaa\x01";
 
-/// Four words without a byte of zero: the first is packed behind its tag, then how many stand behind it, and these as
-/// they are.
+/// Four words without a zero byte: the first is packed after its tag, then come the number of the
+/// following ones, and these unchanged.
 const PACKED_WHOLE: &[u8] =
     b"\xff\x8a\x8a\x8a\x8a\x8a\x8a\x8a\x8a\x03\x8a\x8a\x8a\x8a\x8a\x8a\x8a\x8a\x8a\x8a\x8a\x8a\x8a\x8a\x8a\x8a\x8a\x8a\x8a\x8a\x8a\x8a\x8a\x8a";
 
-/// Whether words are packed to these bytes, and these are unpacked to the words.
+/// Whether the words pack to these bytes, and these unpack to the words.
 fn are_packed(alloc: Global, words: &[u8], packed: &[u8]) -> Result<bool, PackingError> {
     let there = pack(alloc, words)?.as_slice() == packed;
     Ok(there && unpack(alloc, packed, words.len())?.as_slice() == words)
 }
 
-/// A number of words is a byte: of 257 words of zero, the last stands behind a tag of its own.
+/// The number of words is one byte: of 257 zero words, the last has a tag of its own.
 #[test]
 fn in_memory(rt: HostRuntime) {
     for (words, packed) in [

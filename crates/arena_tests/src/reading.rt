@@ -1,4 +1,4 @@
-//! Places and words of segments that are read, and what they are charged.
+//! Places and words of segments being read, and what they are charged.
 use capnp_arena::arena::{ReaderArena, ReaderArenaImpl, ReaderOptions, SegmentArray};
 use capnp_words::error::ErrorKind;
 use capnp_words::read_limiter::ReadLimiter;

@@ -1,6 +1,6 @@
-//! What goes back to the allocator of an arena that is dropped or taken apart: each segment once, in order of number, with
-//! how many of its words were used; before these, at once and unused, each whose row was refused. From an arena without
-//! its allocator nothing goes back.
+//! What is returned to the allocator of an arena that is dropped or taken apart: each segment once,
+//! in order of number, with the number of its used words; before these, at once and unused, each
+//! whose row was refused. An arena without its allocator returns nothing.
 use capnp_arena::arena::{Allocator, BuilderArena, BuilderArenaImpl, HeapAllocator};
 use capnp_words::error::ErrorKind;
 use std::alloc::Global;
@@ -8,10 +8,11 @@ use std::cell::Cell;
 use std::process::Abort;
 use test_support::{FirstInArena, Granted, TestAllocator};
 
-// What comes back, two decimal digits for the words of a segment and two for those that were used. A segment
-// that is made needs a row in the list of the arena, and goes back at once, unused, where memory for its row is
-// refused. With memory for four rows all come back used; for three, the fourth at once, then the others; for none,
-// each at once. An arena that keeps its first row in itself needs none for the first segment.
+// What is returned, two decimal digits for the words of a segment and two for those that were used.
+// A new segment needs a row in the list of the arena, and is returned at once, unused, if memory
+// for its row is refused. With memory for four rows all are returned used; for three, the fourth at
+// once, then the others; for none, each at once. An arena that keeps its first row in itself needs
+// none for the first segment.
 const ALL_USED: u64 = 3_03_05_05_07_07_11_11;
 
 const LAST_AT_ONCE: u64 = 11_00_03_03_05_05_07_07;
@@ -20,8 +21,8 @@ const NONE_USED: u64 = 3_00_05_00_07_00_11_00;
 
 const FIRST_USED: u64 = 5_00_07_00_11_00_03_03;
 
-/// Takes words in three segments, and in a fourth, where there are rows for them. Gives the arena and the number
-/// of segments.
+/// Allocates words in three segments, and in a fourth, if there are rows for them. Returns the
+/// arena and the number of segments.
 fn filled_of<A: Allocator>(
     rt: &impl Abort,
     alloc: Global,
@@ -38,7 +39,7 @@ fn filled_of<A: Allocator>(
     (arena, made)
 }
 
-/// Does `filled_of` with an allocator that grants all segments, and so many rows.
+/// Does `filled_of` with an allocator that grants all segments, and `rows` rows.
 fn filled<'a>(
     rt: &impl Abort,
     alloc: Global,
@@ -53,8 +54,8 @@ fn filled<'a>(
     )
 }
 
-/// Whether so many segments were made, and what came back at the latest when the arena was dropped, or was taken
-/// apart: then nothing more comes back from the allocator.
+/// Checks the number of segments made, and what was returned by the time the arena was dropped or
+/// taken apart: afterwards the allocator returns nothing more.
 fn check_returned<A: Allocator>(
     rt: &impl Abort,
     (arena, segments): (BuilderArenaImpl<A>, u64),
@@ -73,10 +74,10 @@ fn check_returned<A: Allocator>(
     assert!(rt; returned.get() == want, "{made} segments");
 }
 
-/// An arena that is granted all four segments, and memory for the rows of four, of three or of none, is dropped or
-/// taken apart (`into_allocator`). What came back, and how many segments were made and refused, is compared with what
-/// the test expects. As in every test `rt`, the runtime of the host, gives the allocator of the heap, and ends the test
-/// at the first assertion that fails.
+/// An arena that is granted all four segments, and memory for the rows of four, of three or of
+/// none, is dropped or taken apart (`into_allocator`). Compares what was returned, and how many
+/// segments were made and refused, with what the test expects. As in every test, `rt`, the runtime
+/// of the host, provides the heap's allocator, and ends the test at the first assertion that fails.
 #[test]
 fn dropped_or_taken_apart(rt: HostRuntime) {
     for (rows, made, want) in [(4, 4, ALL_USED), (3, 3, LAST_AT_ONCE), (0, 0, NONE_USED)] {
@@ -88,8 +89,8 @@ fn dropped_or_taken_apart(rt: HostRuntime) {
     }
 }
 
-/// The first segment needs no row where it stands in the arena. A segment behind it goes back at once where its
-/// row is refused, and isn't dropped.
+/// The first segment needs no row if that is in the arena. A segment after it is returned at once
+/// if its row is refused, and isn't dropped.
 #[test]
 fn first_in_the_arena(rt: HostRuntime) {
     for (rows, made, want) in [(3, 4, ALL_USED), (2, 3, LAST_AT_ONCE), (0, 1, FIRST_USED)] {
@@ -101,8 +102,8 @@ fn first_in_the_arena(rt: HostRuntime) {
     }
 }
 
-/// An arena whose allocator is taken out keeps its segments and gets no more; once it is in again they
-/// go back to it, and one that it gave since.
+/// An arena whose allocator is taken out keeps its segments and gets no more; once the allocator is
+/// in again, they are returned to it, and one that it granted since.
 #[test]
 fn allocator_taken_out(rt: HostRuntime) {
     let returned = Cell::new(0);

@@ -1,4 +1,4 @@
-//! Segments whose first one is in memory that the caller lends.
+//! Segments whose first one is in memory lent by the caller.
 use crate::steps::{take, take_of};
 use capnp_arena::arena::{
     Allocator, BuilderArena, BuilderArenaImpl, ScratchSegment, ScratchSpaceHeapAllocator, Segment,
@@ -7,7 +7,7 @@ use std::alloc::Global;
 use std::process::Abort;
 use test_support::has_words;
 
-/// The first segment is four words of zero. They are written, and outgrown.
+/// The first segment is four zero words. Writes them, and outgrows them.
 fn outgrow<A: BuilderArena>(rt: &impl Abort, alloc: Global, arena: &mut A) {
     assert!(rt; take_of(rt, arena, 0, 4) == Some(0));
     let zeros = "0000000000000000 0000000000000000 0000000000000000 0000000000000000";
@@ -21,7 +21,7 @@ fn outgrow<A: BuilderArena>(rt: &impl Abort, alloc: Global, arena: &mut A) {
     assert!(rt; arena.refused() == 0);
 }
 
-/// An arena takes the memory for its first segment, whatever it held.
+/// An arena uses the memory for its first segment, whatever it held.
 fn use_once<'a>(
     rt: &impl Abort,
     alloc: Global,
@@ -33,7 +33,7 @@ fn use_once<'a>(
     arena.into_allocator()
 }
 
-/// The scratch space is handed out again once it came back.
+/// The scratch space is used again after it was returned.
 #[test]
 fn handed_out_again(rt: HostRuntime) {
     let mut scratch = [0xff; 35];
@@ -42,7 +42,7 @@ fn handed_out_again(rt: HostRuntime) {
     drop(use_once(&rt, rt.alloc(), allocator));
 }
 
-/// Asks for a segment: whether it is lent, and its bytes.
+/// Requests a segment, and checks whether it is lent, and its size in bytes.
 fn check_segment(
     rt: &impl Abort,
     allocator: &mut ScratchSpaceHeapAllocator<'_>,
@@ -54,7 +54,8 @@ fn check_segment(
     assert!(rt; segment.bytes() == &[0; 32][..bytes.min(32)]);
 }
 
-/// The scratch space is handed out once, for what it can hold, and not where it has no whole word.
+/// The scratch space is used once, for what it is large enough for, and never if it has no whole
+/// word.
 #[test]
 fn borrowed_or_owned(rt: HostRuntime) {
     let mut scratch = [0xff; 16];
@@ -67,7 +68,7 @@ fn borrowed_or_owned(rt: HostRuntime) {
     check_segment(&rt, &mut allocator, 0, (false, 0));
 }
 
-/// Zeros are written over all bytes of the scratch space, also behind the last whole word.
+/// All bytes of the scratch space are zeroed, also those after the last whole word.
 #[test]
 fn zeros_over_all_bytes(rt: HostRuntime) {
     let mut scratch = [0xff; 35];

@@ -1,14 +1,15 @@
-//! Steps that promise nothing of what they leave: a test that takes one carries no fact of it further.
+//! Steps without clauses about what they leave: a test that takes one knows nothing of the result
+//! from it.
 use capnp_arena::arena::BuilderArena;
 use capnp_words::error::ErrorKind;
 use std::process::Abort;
 
-/// Takes words wherever there is room. Gives their segment, and where they start.
+/// Allocates words wherever there is room. Returns their segment, and where they start.
 pub fn take<A: BuilderArena>(arena: &mut A, amount: u32) -> Result<(u32, u32), ErrorKind> {
     arena.allocate_anywhere(amount)
 }
 
-/// Takes words of a segment that has to be there, if it has room. Gives where they start.
+/// Allocates words of segment `id`, which has to exist, if it has room. Returns where they start.
 pub fn take_of<A: BuilderArena>(
     rt: &impl Abort,
     arena: &mut A,

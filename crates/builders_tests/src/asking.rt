@@ -1,4 +1,5 @@
-//! What calls of builders ask for: nothing, where the words fit the segment. Here is each call that no row makes.
+//! What calls of builders request: nothing, if the words fit the segment. Has each call that no row
+//! makes.
 use crate::messages::{ONE_EACH, arena_of_root, check_struct, root};
 use capnp_arena::arena::{BuilderArena, BuilderArenaImpl, HeapAllocator, ReaderArena};
 use capnp_builders::builders::{PrimitiveElement, StructBuilder};
@@ -15,13 +16,13 @@ fn message(rt: &impl Abort, alloc: Global) -> BuilderArenaImpl<NotingAllocator> 
     arena_of_root(rt, alloc, NotingAllocator::new(alloc, heap))
 }
 
-/// Nothing was asked for but the segment and its row.
+/// Checks that nothing was requested but the segment and its row.
 fn check_asked(rt: &impl Abort, arena: BuilderArenaImpl<NotingAllocator>) {
     let asked = [Request::Segment(1), Request::Row];
     assert!(rt; arena.into_allocator().requests() == &asked[..]);
 }
 
-/// A pointer is cleared, made a capability, and a struct of no words.
+/// Clears a pointer, and makes it a capability, and a struct of no words.
 fn check_pointer<A: BuilderArena>(rt: &impl Abort, arena: &mut A) {
     let size = StructSize {
         data_words: 0,
@@ -64,7 +65,7 @@ fn read_fields<A: ReaderArena>(rt: &impl Abort, reader: StructReader<'_, A>) {
     assert!(rt; text == Ok(&b"a"[..]));
 }
 
-/// A struct is made, and its fields are written and read.
+/// Makes a struct, and writes and reads its fields.
 fn check_fields<A: BuilderArena>(rt: &impl Abort, arena: &mut A) {
     let mut builder = put_struct(rt, arena);
     write_data(rt, &mut builder);
@@ -73,7 +74,7 @@ fn check_fields<A: BuilderArena>(rt: &impl Abort, arena: &mut A) {
     read_fields(rt, builder.into_reader());
 }
 
-/// A list is made, and its elements are written and read.
+/// Makes a list, and writes and reads its elements.
 fn check_elements<A: BuilderArena>(rt: &impl Abort, arena: &mut A) {
     let mut pointer = root(rt, arena);
     let place = pointer
@@ -105,7 +106,7 @@ fn write_bytes<A: BuilderArena>(rt: &impl Abort, arena: &mut A) {
     bytes[0] = b'y';
 }
 
-/// The bytes that are found are lent, and written in place.
+/// Bytes that are found are lent, and written in place.
 #[test]
 fn bytes(rt: HostRuntime) {
     let mut arena = message(&rt, rt.alloc());

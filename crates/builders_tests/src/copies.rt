@@ -1,5 +1,5 @@
-//! Copies of what no row names: of nothing, of a message that is built, of data sections that are no whole
-//! words, and of a list that is too long.
+//! Copies of what no row names: of nothing, of a message being built, of data sections that aren't
+//! whole words, and of a list that is too long.
 use crate::edits::messages::{check_outcomes, edit};
 use crate::messages::{ONE_EACH, STRUCT, STRUCT_APART, arena_of_root, root, struct_at};
 use capnp_arena::arena::{BuilderArena, HeapAllocator, NullArena, ReaderArena, ReaderOptions};
@@ -24,7 +24,7 @@ fn check_nothing<A: BuilderArena>(rt: &impl Abort, arena: &mut A, canonicalize: 
     assert!(rt; lim.followed() == 0);
 }
 
-/// A pointer from nothing is null, on null and on a capability.
+/// A copy of a pointer from nothing is null, over null and over a capability.
 #[test]
 fn nothing(rt: HostRuntime) {
     for canonicalize in [true, false] {
@@ -36,7 +36,7 @@ fn nothing(rt: HostRuntime) {
     }
 }
 
-/// Reads a struct of the number 7 and of the text `a`, which are charged nothing, and copies it.
+/// Reads a struct of the number 7 and of the text `a`, which costs nothing, and copies it.
 fn check_source<A: ReaderArena>(rt: &impl Abort, alloc: Global, source: PointerReader<'_, A>) {
     let mut lim = ReadLimiter::new(Some(0));
     let reader = source.get_struct(&mut lim, None).expect(rt, "a struct");
@@ -48,8 +48,8 @@ fn check_source<A: ReaderArena>(rt: &impl Abort, alloc: Global, source: PointerR
     assert!(rt; result == Ok(()) && has_words(alloc, &copy, STRUCT));
 }
 
-/// What is read of a message that is built, and copied, is the same in one segment and in more, and
-/// charges nothing.
+/// What is read of a message being built, and copied, is the same in one segment and in more, and
+/// costs nothing.
 #[test]
 fn built_messages(rt: HostRuntime) {
     let edits = &[
@@ -65,7 +65,7 @@ fn built_messages(rt: HostRuntime) {
     }
 }
 
-/// Sets a struct without pointers at the root of an empty message, which then has these words.
+/// Sets a struct without pointers at the root of an empty message, and checks the words of that.
 fn check_set<A: ReaderArena>(
     rt: &impl Abort,
     alloc: Global,
@@ -82,7 +82,8 @@ fn check_set<A: ReaderArena>(
     );
 }
 
-/// Data sections that are a byte, or end inside a word or a byte: the bits behind them are not copied.
+/// Data sections that are a byte, or end inside a word or a byte: the bits after them aren't
+/// copied.
 #[test]
 fn narrow_structs(rt: HostRuntime) {
     let message = "ffffffffffffffff 00000000000000ff 0100020000000000";
@@ -126,7 +127,7 @@ fn narrow_structs(rt: HostRuntime) {
     }
 }
 
-/// Sets a list at the root of an empty message, which then has these words.
+/// Sets a list at the root of an empty message, and checks the words of that.
 fn check_set_list<A: ReaderArena>(
     rt: &impl Abort,
     alloc: Global,
@@ -142,7 +143,7 @@ fn check_set_list<A: ReaderArena>(
     );
 }
 
-/// More elements than a list pointer can say.
+/// More elements than a list pointer can state.
 #[test]
 fn long_lists(rt: HostRuntime) {
     let source = arena_of(rt.alloc(), "0000000000000000", ReaderOptions::default());

@@ -1,6 +1,6 @@
-//! Tests of capnp_builders, by its public calls, of what the rows of building calls don't show: calls
-//! that no row makes, the words that a call asks its allocator for, and sources that no row names.
-//! Beside them are those of capnp_readers and capnp_edits.
+//! Tests of capnp_builders, by its public calls, of what the rows of building calls don't show:
+//! calls that no row makes, the words that a call requests from its allocator, and sources that no
+//! row names. Also tests of capnp_readers and capnp_edits.
 #![tactic(auto)]
 
 #[cfg(test)]

@@ -1,4 +1,4 @@
-//! Messages that are built, and their places.
+//! Messages being built, and their places.
 ghost use Rattle.std.specs.Prelude.{◌<◌, [], get_or, length};
 ghost use Rattle.capnp_readers.specs.Readers.{IsStructPlace};
 
@@ -18,7 +18,7 @@ pub const ONE_EACH: StructSize = StructSize {
 /// A struct of a data word, 7, and of a pointer to the bytes of the text `a`.
 pub const STRUCT: &str = "0000000001000100 0700000000000000 0100000012000000 6100000000000000";
 
-/// The message `STRUCT` with each object behind a landing pad in a segment of its own.
+/// The message `STRUCT` with each object after a landing pad in a segment of its own.
 pub const STRUCT_APART: &str =
     "0200000001000000, 0000000001000100 0700000000000000 0200000002000000, 0100000012000000 6100000000000000";
 
@@ -31,7 +31,7 @@ pub fn arena_of_root<A: Allocator>(
     test_support::arena_of_root(alloc, allocator).expect(rt, "memory")
 }
 
-/// The root pointer, whose word has to be there.
+/// The root pointer, whose word has to exist.
 pub fn root<'a, A: BuilderArena>(rt: &impl Abort, arena: &'a mut A) -> PointerBuilder<'a, A>
     ensures { result.at < length (get_or (A.view result.arena.now).words result.segment []) }
 {
@@ -40,7 +40,7 @@ pub fn root<'a, A: BuilderArena>(rt: &impl Abort, arena: &'a mut A) -> PointerBu
     PointerBuilder::get_root(arena)
 }
 
-/// Checks that both sections of a struct lie in its message.
+/// Checks that both sections of a struct are inside its message.
 pub fn check_struct<A: BuilderArena>(rt: &impl Abort, builder: &StructBuilder<'_, A>)
     ensures { IsStructPlace (A.view builder.now.arena.now).words builder.now.place }
 {
@@ -55,7 +55,8 @@ pub fn check_struct<A: BuilderArena>(rt: &impl Abort, builder: &StructBuilder<'_
     assert!(rt; place.pointers_at as usize + place.pointers as usize <= words);
 }
 
-/// A reader of `bits` bits of data from a byte of a message on, without pointers. The message has a word.
+/// A reader of `bits` bits of data from byte `byte` of a message on, without pointers. The message
+/// has a word.
 pub fn struct_at<'a, A: ReaderArena>(
     rt: &impl Abort,
     arena: &'a A,

@@ -1,4 +1,4 @@
--- Two messages of one meaning.
+-- Two messages of the same meaning.
 use Rattle.std.specs.Prelude.{ℕ}
 use Rattle.capnp_format.specs.Segments.{Segments}
 use Rattle.capnp_format.specs.Tree.{Tree}

@@ -1,4 +1,4 @@
--- What outcomes of edits say of memory; and a pointer of a message that is read.
+-- What outcomes of edits say about memory; and a pointer of a message that is read.
 use Rattle.std.specs.Prelude.{◌≡◌, ◌⊎◌, ℕ, ◌+◌, ◌-◌, ◌^◌, ◌<◌, ◌≤◌, true, false, List, [], ◌∷◌, map}
 use Rattle.std.specs.Prelude.{◌++◌, length, Option, Some, None}
 use Rattle.capnp_words.specs.Sizes.{size_number}
@@ -31,11 +31,12 @@ object_made (SetText bytes) = Some (Flat 2 (bytes.now ++ 0 ∷ []))
 object_made (SetData bytes) = Some (Flat 2 bytes.now)
 object_made _ = None
 
--- From old to new an edit has its outcome truly. AllocationFailed is a request that the allocator has
--- refused and counted, and by any other outcome nothing is counted. Of an edit that makes an object:
--- it isn't refused for memory where the segment of its pointer has room for the object, and a number
--- that is told is how many words were asked for, the object's and one for a landing pad, and more
--- than a segment can have; or there are as many segments as there can be.
+-- From old to new an edit has a true outcome. AllocationFailed is one request that the allocator
+-- has refused and counted; with any other outcome nothing is counted. For an edit that makes an
+-- object: it isn't refused for memory if the segment of its pointer has room for the object. The
+-- number of a MessageTooLarge is the number of words requested, the object's and one for a landing
+-- pad, and more than a segment can have; or it is 2^64 - 1, and there are as many segments as there
+-- can be.
 pub record IsRefusedTruly (old new : View) (edit : Edit) (r : Option ErrorKind) : Type 0 where
   pub counted : r ≡ Some AllocationFailed → new.refusals ≡ one_more old.refusals
   pub others : (r ≡ Some AllocationFailed → ⊥) → new.refusals ≡ old.refusals
@@ -51,14 +52,14 @@ pub record IsRefusedTruly (old new : View) (edit : Edit) (r : Option ErrorKind) 
       ((n ≡ word_count object + 1) × (max_segment_words < n)) ⊎
       ((n ≡ 2 ^ 64 - 1) × (length old.words ≡ 2 ^ 32 - 1))
 
--- From old to new each of several edits has its outcome truly, in order.
+-- From old to new each of several edits, in order, has a true outcome.
 abbrev pub AreRefusedTruly : View → View → List Edit → List (Option ErrorKind) → Type 0
 AreRefusedTruly old new [] [] = new ≡ old
 AreRefusedTruly old new (e ∷ es) (r ∷ rs) =
     (mid : View) × IsRefusedTruly old mid e r × AreRefusedTruly mid new es rs
 AreRefusedTruly old new es rs = ⊥
 
--- The pointer at a place of a message, where reading is charged and n levels may be entered.
+-- The pointer at (s, p), for a reading that is charged and may enter n levels.
 abbrev pub read_at : Segments → ℕ → ℕ → ℕ → Reading
 read_at S n s p =
     record { segments = S; charging = true; of_default = false; levels = n; segment = s; at = p }

@@ -1,5 +1,6 @@
-//! What a reader of the copy and the test wants said of both: one value, one string of words, and that they agree
-//! ("Canonicalization"). Each function does nothing: its contract is the law.
+//! What users of the copy and the test want to know of both: a message has one value and one string
+//! of canonical words, and copy and test agree ("Canonicalization"). Each function does nothing:
+//! its contract is the law.
 ghost use Rattle.std.specs.Prelude.{◌≡◌, ◌↔◌, ◌∷◌, ◌++◌, ◌+◌, ◌≤◌, [], ℕ, List};
 ghost use Rattle.capnp_format.specs.Canonical.{encoding, trim, word_count};
 ghost use Rattle.capnp_format.specs.Forest.{IsForest};
@@ -10,7 +11,7 @@ ghost use Rattle.capnp_arena.specs.declared.arena.reader_arena_impl.ReaderOption
 ghost use Rattle.capnp_messages.specs.CanonicalMessages.{IsCanonicalMessage, IsCanonicalOf};
 ghost use Rattle.capnp_messages.specs.Messages.{IsValueOf};
 
-/// A message has one value at most, whatever the limits.
+/// A message has at most one value, whatever the limits.
 pub fn one_value()
     ensures { (S : Segments) (limits others : ReaderOptions) (t u : Tree) → IsValueOf S limits t
         → IsValueOf S others u → t ≡ u }
@@ -25,7 +26,7 @@ pub fn same_words()
         → (encoding (trim t) ≡ encoding (trim u)) ↔ (trim t ≡ trim u) }
 {}
 
-/// The canonical words of a value don't begin those of another one.
+/// The canonical words of a value aren't a prefix of those of another one.
 pub fn no_words_begin_others()
     ensures { (S R : Segments) (limits others : ReaderOptions) (t u : Tree) (more : List ℕ)
         → AreWords S → AreWords R → IsValueOf S limits t → IsValueOf R others u
@@ -34,7 +35,8 @@ pub fn no_words_begin_others()
         → encoding (trim t) ++ more ≡ encoding (trim u) → more ≡ [] }
 {}
 
-/// The canonical words of a message are a canonical message, and have the trimmed value, within the same limits.
+/// The canonical words of a message are a canonical message, and have the trimmed value, within the
+/// same limits.
 pub fn copy_is_canonical()
     ensures { (S : Segments) (limits : ReaderOptions) (t : Tree) → AreWords S → IsValueOf S limits t
         → 1 + word_count (trim t) ≤ max_segment_words
@@ -49,7 +51,8 @@ pub fn canonical_is_own_copy()
         → IsCanonicalMessage S ↔ (S ≡ encoding (trim t) ∷ []) }
 {}
 
-/// A message whose only word is its root, which is null, is the forest of Null: so building begins.
+/// A message whose only word is its root, which is null, is the forest of Null: this is where
+/// building starts.
 pub fn fresh_forest()
     ensures { IsForest ((0 ∷ []) ∷ []) Null }
 {}

@@ -1,4 +1,4 @@
-//! Callers that know an arena by its contracts alone.
+//! Callers that know an arena only by its contracts.
 ghost use Rattle.std.specs.Prelude.{◌≡◌, ◌≢◌, ◌<◌, ◌≤◌, ◌+◌, ◌^◌, ◌↔◌, ◌++◌, ◌∷◌, [], length, IsTrue, IsOk, IsSome, IsNone, IfSome, IfErr, OnOk, OnErr, slice_set, slice_index_or, replicate};
 ghost use Rattle.std.specs.Bool.{OnTrue, OnFalse};
 ghost use Rattle.capnp_format.specs.Bytes.{message};
@@ -12,7 +12,7 @@ use capnp_arena::arena::{BuilderArena, ReaderArena};
 use capnp_words::error::ErrorKind;
 use capnp_words::read_limiter::ReadLimiter;
 
-/// Takes a word of a segment, and writes it.
+/// Allocates a word of a segment, and writes it.
 #[tactic(auto, using(crate::proofs::Extending::extending))]
 pub fn append<A: BuilderArena>(arena: &mut A, id: u32, word: u64) -> bool
     requires { id < length (A.view arena.old).words }
@@ -30,7 +30,8 @@ pub fn append<A: BuilderArena>(arena: &mut A, id: u32, word: u64) -> bool
     }
 }
 
-/// Takes two words of a segment and writes them. Where only one fits, takes and writes the first alone.
+/// Allocates two words of a segment and writes them; if only one fits, allocates and writes only
+/// the first.
 #[tactic(auto, using(crate::proofs::Extending::extending))]
 pub fn append_both<A: BuilderArena>(arena: &mut A, id: u32, first: u64, second: u64) -> bool
     requires { id < length (A.view arena.old).words }
@@ -57,7 +58,7 @@ pub fn put_two<A: BuilderArena>(arena: &mut A, id: u32, first: u64, second: u64)
     arena.set_word(id, 1, second);
 }
 
-/// Writes the second word of a segment and gives 1. The word 7 isn't written, and gives 0.
+/// Writes the second word of a segment and returns 1; for the word 7, writes nothing and returns 0.
 pub fn put_either<A: BuilderArena>(arena: &mut A, id: u32, word: u64) -> u32
     requires { 2 ≤ length (segment (A.view arena.old).words id) }
     ensures kept { word ≡ 7 → (result ≡ 0) × (A.view arena.new ≡ A.view arena.old) }
@@ -72,7 +73,8 @@ pub fn put_either<A: BuilderArena>(arena: &mut A, id: u32, word: u64) -> u32
     1
 }
 
-/// Takes a word of a segment, writes it and gives its position. `None` where the segment has no room for it.
+/// Allocates a word of a segment, writes it and returns its position; `None` if the segment has no
+/// room for it.
 #[tactic(auto, using(crate::proofs::Extending::extending))]
 pub fn try_append<A: BuilderArena>(arena: &mut A, id: u32, word: u64) -> Option<u32>
     requires { id < length (A.view arena.old).words }
@@ -87,7 +89,7 @@ pub fn try_append<A: BuilderArena>(arena: &mut A, id: u32, word: u64) -> Option<
     Some(at)
 }
 
-/// Makes all allocated words of a segment zero.
+/// Zeroes all allocated words of a segment.
 pub fn clear<A: BuilderArena>(arena: &mut A, id: u32)
     requires { id < length (A.segments arena.old) }
     ensures words { A.segments arena.new ≡ slice_set (A.segments arena.old) id
@@ -98,7 +100,8 @@ pub fn clear<A: BuilderArena>(arena: &mut A, id: u32)
     arena.segment_mut(id).fill(0);
 }
 
-/// Grants the first words of segment 0, and says exactly when, what is left, and by which name it refuses.
+/// Grants the first `words` words of segment 0; the contract states exactly when, what is left, and
+/// each refusal.
 pub fn granted<A: ReaderArena>(
     arena: &A,
     words: u32,

@@ -1,5 +1,5 @@
-//! Callers of builders that know their contracts alone, generic over the arena: they show that a
-//! message's value can be followed from call to call, whether a call is granted or refused.
+//! Callers that know builders only by their contracts, generic over the arena: they show that a
+//! message's value can be followed from call to call, whether a call succeeds or is refused.
 ghost use Rattle.std.specs.Prelude.{ℕ, ◌≡◌, ◌<◌, ◌≤◌, ◌+◌, ◌^◌, ◌∷◌, [], length, IsOk, IsOkAnd, IfErr, IfOk, OnOk, OnErr};
 ghost use Rattle.capnp_words.specs.declared.error.ErrorKind.TheVariants.{AllocationFailed};
 ghost use Rattle.capnp_making.specs.Makes.{call_at};
@@ -28,18 +28,18 @@ use capnp_words::error::ErrorKind;
 use capnp_words::wire_pointer::StructSize;
 use std::alloc::Global;
 
-/// How far `two_structs` came.
+/// How far `two_structs` got.
 #[derive(Clone, Copy, Debug, PartialEq, Eq)]
 pub enum Built {
     /// No struct: the root is null.
     Nothing,
-    /// The root alone, whose first pointer is null.
+    /// Only the root, whose first pointer is null.
     Root,
     /// Both structs.
     Both,
 }
 
-/// Makes the root a struct of this size, and its first pointer another one.
+/// Makes the root a struct of size `outer`, and its first pointer one of size `inner`.
 pub fn two_structs<A: BuilderArena>(arena: &mut A, outer: StructSize, inner: StructSize) -> Built
     requires place { IsPlace (A.view arena.old).words 0 0 }
     requires forest { (t : Tree) × IsForest (A.view arena.old).words t }
@@ -99,9 +99,9 @@ fn field_struct<A: BuilderArena>(
     field.put_struct(size)
 }
 
-/// A message that was built, as those have it who read what it gives to be written out: its words are those of
-/// the message, so each place means there what it means in the message. It is refused for want of memory alone, and
-/// not where it has one segment.
+/// A built message as a reader of its output segments sees it: its words are those of the message,
+/// so each place means what it means in the message. Refuses only if memory runs out, and never
+/// with one segment.
 pub fn read_back<'a, L: Allocator>(
     built: &'a BuilderArenaImpl<L>,
 ) -> Result<ReaderArenaImpl<OutputSegments<'a>>, ErrorKind>
@@ -119,8 +119,8 @@ pub fn read_back<'a, L: Allocator>(
     Ok(ReaderArenaImpl::new(output, ReaderOptions::default()))
 }
 
-/// Does what edits say, and reads what the message then gives to be written out: its root means there
-/// the value to which the edits lead, with their outcomes.
+/// Applies edits, and returns a reader of the message's output segments: its root means the value
+/// that the edits lead to, with their outcomes.
 pub fn edited<'a, L: Allocator>(
     built: &'a mut BuilderArenaImpl<L>,
     edits: &[Edit<'_>],
@@ -180,8 +180,8 @@ fn text_with_room<A: BuilderArena>(
     field.set_text(text)
 }
 
-/// Makes the root a struct of a text and a number. It isn't refused where segment 0 has room for
-/// the words of all.
+/// Makes the root a struct of a text and a number. Never refuses if segment 0 has room for all the
+/// words.
 pub fn text_and_number<A: BuilderArena>(
     arena: &mut A,
     text: &[u8],
@@ -203,7 +203,7 @@ pub fn text_and_number<A: BuilderArena>(
     Ok(())
 }
 
-/// Takes the word of the root in an empty segment, which has room for it.
+/// Allocates the root's word in an empty segment, which has room for it.
 pub(crate) fn root_word<A: BuilderArena>(arena: &mut A)
     requires empty { (A.view arena.old).words ≡ [] ∷ [] }
     requires room { 1 ≤ (A.view arena.old).room 0 }
@@ -213,8 +213,8 @@ pub(crate) fn root_word<A: BuilderArena>(arena: &mut A)
     let _root = arena.allocate(0, 1);
 }
 
-/// Does `text_and_number` in an array of four words on the stack, which is lent as scratch space. The
-/// message takes no memory, so no call is refused for want of it.
+/// Does `text_and_number` in an array of four words on the stack, lent as scratch space. The
+/// message takes no memory, so no call is refused for lack of it.
 pub fn built_on_the_stack(alloc: Global, number: u64) -> Result<(), ErrorKind>
     ensures { IsOk result }
 {

@@ -1,4 +1,4 @@
-//! Callers of canonical copies that know their contracts alone.
+//! Callers that know canonical copies only by their contracts.
 ghost use Rattle.std.specs.Prelude.{◌≡◌, ◌⊎◌, ◌∷◌, ◌+◌, ◌*◌, ◌<◌, ◌≤◌, [], ℕ, true, length, map, sum, IfOk, IfErr, OnErr};
 ghost use Rattle.capnp_words.specs.declared.error.ErrorKind.TheVariants.{AllocationFailed};
 ghost use Rattle.capnp_words.specs.Meter.{FitsIn};
@@ -21,12 +21,13 @@ use capnp_words::error::ErrorKind;
 use capnp_words::read_limiter::ReadLimiter;
 use std::alloc::Global;
 
-/// The canonical copy of what a pointer of a message means, with memory of the heap.
+/// The canonical copy of a pointer's value, with memory from the heap.
 ///
-/// The call succeeds where, and only where, the pointer means a value without capabilities within the levels
-/// of the reader, and the limiter covers what reading it costs, unless there is no memory. The limiter has
-/// paid that cost then, and counted each pointer; a refusal leaves it as it was. The copy's segment has room
-/// for no more than the words of the message and one, or for less than twice the words that are made.
+/// Succeeds exactly if the pointer means a value without capabilities within the levels of the
+/// reader, and the limiter covers what reading it costs, unless there is no memory. The limiter has
+/// then paid that cost, and counted each pointer; a refusal leaves it unchanged. The copy's segment
+/// has room for no more than the words of the message plus one, or for less than twice the words
+/// written.
 pub fn heap_copy_at<S: ReaderSegments>(
     alloc: Global,
     arena: &ReaderArenaImpl<S>,

@@ -1,4 +1,4 @@
-//! Callers of edits that know their contracts alone.
+//! Callers that know edits only by their contracts.
 ghost use Rattle.std.specs.Prelude.{◌≡◌, ◌≤◌, ◌+◌, ◌∷◌, [], length, true, IsOk, All};
 ghost use Rattle.std.specs.List.{sum_by};
 ghost use Rattle.capnp_format.specs.Forest.{IsForest};
@@ -15,8 +15,9 @@ use capnp_words::error::ErrorKind;
 use capnp_words::wire_pointer::{ElementSize, StructSize};
 use std::alloc::Global;
 
-/// Does edits that make objects, or write pointers, fields, elements and bytes, in a message that stands in
-/// its first segment. That one has room for the words of all, so none is refused for memory.
+/// Applies edits that make objects, or write pointers, fields, elements and bytes, to a message
+/// that is all in its first segment. That one has room for all the words, so none is refused for
+/// memory.
 pub fn edits_in_room<A: BuilderArena>(
     arena: &mut A,
     edits: &[Edit<'_>],
@@ -33,7 +34,7 @@ pub fn edits_in_room<A: BuilderArena>(
     apply_all(arena, edits, outcomes);
 }
 
-/// Passes a refusal for memory on, and no other one.
+/// Passes on a refusal for memory, and no other one.
 fn refused_memory(kind: ErrorKind) -> Result<(), ErrorKind>
     ensures { is_of_path kind ≡ true → IsOk result }
 {
@@ -43,7 +44,7 @@ fn refused_memory(kind: ErrorKind) -> Result<(), ErrorKind>
     }
 }
 
-/// Passes the refusal of an edit for memory on, and no other outcome.
+/// Passes on the refusal of an edit for memory, and no other outcome.
 fn pass_memory(outcome: Option<ErrorKind>) -> Result<(), ErrorKind>
     ensures { IsNoneOfMemory outcome → IsOk result }
 {
@@ -53,8 +54,8 @@ fn pass_memory(outcome: Option<ErrorKind>) -> Result<(), ErrorKind>
     }
 }
 
-/// Makes the root a struct of a number and a text, by three edits in a message of an empty root. An error
-/// is a refusal for memory; the words of all fit the segment, so there is none.
+/// Makes the root a struct of a number and a text, with three edits in a message of an empty root.
+/// Fails only if an edit is refused for memory; the words of all fit the segment, so none is.
 #[tactic(auto, using(crate::proofs::Fitting::root_forest, crate::proofs::Fitting::root_first, crate::proofs::Fitting::three_ask, crate::proofs::Fitting::none_at))]
 pub fn three_edits<A: BuilderArena>(arena: &mut A) -> Result<(), ErrorKind>
     requires root { (A.view arena.old).words ≡ (0 ∷ []) ∷ [] }
@@ -87,8 +88,8 @@ pub fn three_edits<A: BuilderArena>(arena: &mut A) -> Result<(), ErrorKind>
     pass_memory(outcomes[2])
 }
 
-/// Does `three_edits` in an array of four words on the stack, which is lent as scratch space. The message
-/// takes no memory, so no edit is refused for want of it.
+/// Does `three_edits` in an array of four words on the stack, lent as scratch space. The message
+/// takes no memory, so no edit is refused for lack of it.
 pub fn edited_on_the_stack(alloc: Global) -> Result<(), ErrorKind>
     ensures { IsOk result }
 {

@@ -1,4 +1,4 @@
-//! Callers that know an arena, or builders, by their contracts alone.
+//! Callers that know an arena, or builders, only by their contracts.
 #![tactic(auto)]
 
 pub mod agreed;

@@ -1,5 +1,5 @@
-//! The theorem of the README as contracts: the canonical copy, the test for canonical form, and the tree
-//! after any list of edits ("Canonicalization"). `docs/THEOREM.md` has all that they cite.
+//! The theorem of the README as contracts: the canonical copy, the test for canonical form, and the
+//! tree after any list of edits ("Canonicalization"). `docs/THEOREM.md` has all that they cite.
 ghost use Rattle.std.specs.Prelude.{◌≡◌, ◌↔◌, ◌⊎◌, ◌∷◌, ◌+◌, ◌*◌, ◌<◌, ◌≤◌, [], ℕ, List, Ok, true, false, length, map, sum, IsOk, IsTrue, IfOk, IfErr, OnOk, OnErr};
 ghost use Rattle.capnp_words.specs.declared.error.ErrorKind.TheVariants.{AllocationFailed};
 ghost use Rattle.capnp_words.specs.Meter.{FitsIn};
@@ -47,11 +47,11 @@ use capnp_words::read_limiter::ReadLimiter;
 use capnp_words::wire_pointer::StructSize;
 use std::alloc::Global;
 
-/// The canonical copy of a message ("Canonicalization"), with memory of an allocator.
+/// The canonical copy of a message ("Canonicalization"), with an allocator's memory.
 ///
-/// It succeeds where, and only where, the message has a value without capabilities within both limits,
-/// unless the allocator refuses memory, which it counts. What it makes is one segment of exactly that
-/// value's canonical words.
+/// Succeeds exactly if the message has a value without capabilities within both limits, unless the
+/// allocator refuses memory, which it counts. Makes one segment of exactly that value's canonical
+/// words.
 pub fn canonical_copy<A: Allocator, S: ReaderSegments + Drop>(
     alloc: Global,
     allocator: A,
@@ -88,17 +88,18 @@ pub fn canonical_copy<A: Allocator, S: ReaderSegments + Drop>(
     }
 }
 
-/// The first segment of a message that is built has no more words than a segment can have. It does nothing; its
-/// contract says so.
+/// The first segment of a message being built has no more words than a segment can have. Does
+/// nothing; its contract states this.
 fn is_short<A: BuilderArena>(made: &A)
     ensures { length (segment (A.view made.now).words 0) ≤ max_segment_words }
 {}
 
-/// The canonical copy of a message into the only segment of a message that is built, behind its root word.
+/// Makes the canonical copy of a message in the only segment of a message being built, after its
+/// root word.
 ///
-/// It succeeds and stays in that segment where, and only where, the message has a value without capabilities
-/// within both limits whose canonical words fit there, whatever memory there is. After a refusal all words
-/// are zero.
+/// Succeeds and stays in that segment exactly if the message has a value without capabilities
+/// within both limits whose canonical words fit there, whatever memory there is. After a refusal
+/// all words are zero.
 pub fn canonical_copy_in_room<A: BuilderArena, S: ReaderSegments + Drop>(
     arena: &mut A,
     segments: S,
@@ -125,10 +126,11 @@ pub fn canonical_copy_in_room<A: BuilderArena, S: ReaderSegments + Drop>(
     PointerBuilder::get_root(arena).copy_from(from, &mut lim, true)
 }
 
-/// The canonical copy of a message as bytes: the frame of its only segment, or that segment's bytes.
+/// Writes the canonical copy of a message as bytes: the frame of its only segment, or that
+/// segment's bytes.
 ///
-/// It is written where, and only where, the message has a canonical copy, unless the allocator refuses memory or
-/// the output fails. Where the message is refused nothing is written.
+/// Writes it exactly if the message has a canonical copy, unless the allocator refuses memory or
+/// the output fails. Writes nothing if the message is refused.
 pub fn canonical_copy_in_bytes<W: Output, A: Allocator, S: ReaderSegments + Drop>(
     alloc: Global,
     allocator: A,
@@ -183,10 +185,10 @@ fn write_bytes<W: Output, A: Allocator>(
     }
 }
 
-/// Copies two messages, and says whether their canonical copies are the same bytes: they are exactly if the
-/// trimmed values are equal, however the two messages are encoded.
+/// Copies two messages, and returns whether their canonical copies are the same bytes: they are
+/// exactly if the trimmed values are equal, however the two messages are encoded.
 ///
-/// It answers where both have a canonical copy, unless an allocator refuses memory.
+/// Answers if both have a canonical copy, unless an allocator refuses memory.
 pub fn two_copies<A: Allocator, S: ReaderSegments + Drop, R: ReaderSegments + Drop>(
     alloc: Global,
     one: A,
@@ -236,8 +238,9 @@ fn same_bytes<A: Allocator>(left: &BuilderArenaImpl<A>, right: &BuilderArenaImpl
 
 /// The test for canonical form ("Canonicalization").
 ///
-/// It says yes of exactly the messages that are one segment of the canonical words of a value. It answers
-/// for every message of one segment that has a value within both limits, and for every other one.
+/// Accepts exactly the messages that are one segment of the canonical words of a value. Answers for
+/// every message of one segment that has a value within both limits, and for every message without
+/// exactly one segment.
 pub fn canonical_test<S: ReaderSegments + Drop>(
     segments: S,
     limits: ReaderOptions,
@@ -252,11 +255,12 @@ pub fn canonical_test<S: ReaderSegments + Drop>(
     is_canonical(segments, limits)
 }
 
-/// The test for canonical form at a pointer of a message, with the head, the word of its segment at which its
-/// first object has to start.
+/// The test for canonical form at a pointer of a message. `head` is the word of its segment at
+/// which its first object has to start.
 ///
-/// It says yes exactly where canonical words of a value stand, and then moves the head behind them and has
-/// charged and counted what reading that value costs. It answers wherever they stand and both limits cover them.
+/// Accepts exactly if canonical words of a value are there; it has then moved `head` past them, and
+/// charged and counted what reading that value costs. Answers whenever they are there and both
+/// limits cover them.
 pub fn canonical_test_at<S: ReaderSegments>(
     arena: &ReaderArenaImpl<S>,
     place: PointerPlace,
@@ -291,11 +295,12 @@ pub fn canonical_test_at<S: ReaderSegments>(
     PointerReader::of_pointer(pointer_at(arena, place)).is_canonical(lim, head)
 }
 
-/// The canonical copy of what a pointer of a message means, with memory of an allocator.
+/// The canonical copy of a pointer's value, with an allocator's memory.
 ///
-/// It succeeds where, and only where, the pointer means a value without capabilities within the levels of the
-/// reader, and the limiter covers what reading it costs, unless the allocator refuses memory, which it counts. The
-/// limiter has paid that cost then, and counted each pointer; a refusal leaves it as it was.
+/// Succeeds exactly if the pointer means a value without capabilities within the levels of the
+/// reader, and the limiter covers what reading it costs, unless the allocator refuses memory, which
+/// it counts. The limiter has then paid that cost, and counted each pointer; a refusal leaves it
+/// unchanged.
 pub fn canonical_copy_at<A: Allocator, S: ReaderSegments>(
     alloc: Global,
     allocator: A,
@@ -353,8 +358,9 @@ pub(crate) fn pointer_at<S: ReaderSegments>(
     Pointer::at(arena, place, arena.nesting_limit())
 }
 
-/// Makes the object of a pointer a struct, all zero: wherever in a tree the pointer is, the message is then the
-/// tree with that struct there, or with null where it is refused. What is given is where its sections are.
+/// Makes the object of a pointer a struct, all zero: wherever in a tree the pointer is, the message
+/// is then the tree with that struct there, or with null if it is refused. Returns where its
+/// sections are.
 pub fn struct_made<A: BuilderArena>(
     builder: &mut PointerBuilder<'_, A>,
     size: StructSize,
@@ -388,8 +394,9 @@ pub fn struct_made<A: BuilderArena>(
 
 /// The value of a message after any list of edits, some of which may be refused.
 ///
-/// Whatever message it is before, if its words are those of a value they are so afterwards. The value then
-/// is what the edits make of the one before. Want of memory is told exactly where an allocator has refused.
+/// Whatever the message was before, if its words are those of a value, they are so afterwards, and
+/// that value is what the edits make of the one before. Lack of memory is reported exactly if an
+/// allocator has refused.
 pub fn edited_tree<A: BuilderArena>(
     arena: &mut A,
     edits: &[Edit<'_>],

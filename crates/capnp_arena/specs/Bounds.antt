@@ -1,5 +1,5 @@
--- How many words more the rows of an arena can hold, and the bounds on that by which the first row
--- with room is found.
+-- The room of an arena's rows, and the bounds on it by which the first row with enough room is
+-- found.
 use Rattle.std.specs.Prelude.{ℕ, List, false, ◌≡◌, ◌≤◌, ◌<◌, ◌+◌, ◌-◌, ◌*◌, ◌^◌, length, map}
 use Rattle.std.specs.Prelude.{slice_index_or, Option, IfSome, IsNone}
 use Rattle.capnp_format.specs.Bytes.{message}
@@ -9,17 +9,17 @@ use Rattle.capnp_arena.specs.Row.{capacity, capacity_at, shown}
 use Rattle.capnp_arena.specs.declared.arena.row.Row.{Row}
 use Rattle.capnp_arena.specs.declared.arena.allocator.Segment.{Ghosts}
 
--- The `width` rows from `from` on are a range: `width` is a power of two, and `from` a multiple of twice
--- that. Each row is the last of one range.
+-- The `width` rows from `from` on are a range: `width` is a power of two, and `from` a multiple of
+-- twice that. Each row is the last of one range.
 abbrev pub IsRange : ℕ → ℕ → Type 0
 IsRange from width = ((e : ℕ) × (width ≡ 2 ^ e)) × ((a : ℕ) × (from ≡ a * (2 * width)))
 
--- no row of the range that ends with row `at` has more room than that
+-- No row of the range that ends with row `at` has more room than `bound`.
 abbrev pub IsBoundAt : List ℕ → ℕ → ℕ → Type 0
 IsBoundAt rooms at bound = (from width k : ℕ) → IsRange from width → from + width ≡ at + 1 →
     from ≤ k → k ≤ at → slice_index_or rooms k 0 ≤ bound
 
--- the rooms from one row up to another are too small for so many words
+-- The rows from `from` to before `end` have room for fewer than `amount` words each.
 abbrev pub HaveNoRoom : List ℕ → ℕ → ℕ → ℕ → Type 0
 HaveNoRoom rooms from end amount = (k : ℕ) → from ≤ k → k < end → slice_index_or rooms k 0 < amount
 
@@ -30,7 +30,7 @@ pub record IsBounded (rooms bounds : List ℕ) : Type 0 where
       ≤ slice_index_or bounds (from + width - 1) 0
 
 module _ {S : Type 0} (g : Ghosts S) where
-  -- how many words more a row can hold
+  -- How many more words a row can hold.
   abbrev pub room : Row S g → ℕ
   room r = capacity g r - r.used
 
@@ -43,12 +43,12 @@ module _ {S : Type 0} (g : Ghosts S) where
   abbrev pub HasBounds : List (Row S g) → Type 0
   HasBounds rows = IsBounded (rooms rows) (bounds rows)
 
-  -- what rows alone hold and can still give
+  -- What rows by themselves hold and can still grant.
   abbrev pub view_of_rows : List (Row S g) → View
   view_of_rows rows = view_of (message (shown g rows)) (capacity_at g rows) 0 (λ _ _. false)
 
-  -- The first row with room for so many words more is found, if there is one. Rows stay as they are,
-  -- but for their bounds.
+  -- From old to new the first row with room for `amount` more words is found, if there is one. The
+  -- rows stay unchanged, except for their bounds.
   pub record FindsFit (old new : List (Row S g)) (amount : ℕ) (found : Option ℕ) : Type 0 where
     pub fit : IfSome found (λ k. IsFirstFit (view_of_rows old) amount k)
     pub full : IsNone found → IsFull (view_of_rows old) amount

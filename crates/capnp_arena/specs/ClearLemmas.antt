@@ -1,5 +1,5 @@
--- Lemmas on rows whose allocated words are written over: the words behind these stay zero. They
--- stand here since a row is made by them, in a law of a trait.
+-- Lemmas on rows whose allocated words are overwritten: the words after these stay zero. They are
+-- in the definitions because a trait's law makes a row with them.
 use Rattle.std.specs.Prelude.{ℕ, List, ◌*◌, ◌≡◌, ◌≤◌, ◌-◌, length, take, drop, replicate}
 use Rattle.std.proofs.Common.{arith, refl, sym, ap, ◌∙◌, subst, length-take}
 use Rattle.std.proofs.lemmas.Slice.{drop-append-drop}
@@ -9,17 +9,17 @@ use Rattle.capnp_arena_traits.specs.Written.{with_front}
 use Rattle.capnp_arena.specs.declared.arena.row.Row.{Row}
 use Rattle.capnp_arena.specs.declared.arena.allocator.Segment.{Ghosts}
 
--- A list is as long as before when others are written over its first elements.
+-- Overwriting the first elements of a list leaves its length unchanged.
 pub length-with_front : (n : ℕ) (xs ws : List ℕ) → n ≤ length xs →
     length (with_front n xs ws) ≡ length xs
 length-with_front n xs ws h = grind (arith, common_steps)
 
--- What stands behind the first n elements stays when others are written over these.
+-- Overwriting the first n elements leaves those after them unchanged.
 pub drop-with_front : (n : ℕ) (xs ws : List ℕ) → drop n (with_front n xs ws) ≡ drop n xs
 drop-with_front n xs ws =
     drop-append-drop (length (take n ws)) xs (take n ws) n (omega (arith, length-take n ws)) refl
 
--- Used words of a segment that are written over leave it as a row: its other words stay zero.
+-- Overwriting the used words of a segment leaves a row: its other words stay zero.
 pub front_row : (used long : ℕ) (bytes ws : List ℕ) → IsRow used bytes long →
     IsRow used (with_front (8 * used) bytes ws) long
 front_row used long bytes ws row =
@@ -31,7 +31,7 @@ front_row used long bytes ws row =
     )
 
 module _ {S : Type 0} (g : Ghosts S) where
-  -- A row whose allocated words are written over stays a row.
+  -- Overwriting the allocated words of a row leaves a row.
   pub clear_behind : (r : Row S g) (ws : List ℕ) →
       (let s = g.with_ready r.segment (with_front (8 * r.used) (g.ready r.segment) ws) in
       IsRow r.used (g.ready s) (length (g.content s)))

@@ -1,4 +1,4 @@
--- The rows that an arena keeps: the first stands apart, or all are in a list.
+-- The rows that an arena keeps: the first one apart, or all in a list.
 use Rattle.std.specs.Prelude.{ℕ, Bool, true, false, List}
 use Rattle.capnp_arena.specs.Rows.{all, with_bytes_apart}
 use Rattle.capnp_arena.specs.Listed.{with_bytes_listed}
@@ -8,7 +8,7 @@ use Rattle.capnp_arena.specs.declared.arena.listed.Listed.{Listed}
 use Rattle.capnp_arena.specs.declared.arena.allocator.Segment.{Ghosts}
 
 module _ {S : Type 0} (g : Ghosts S) where
-  -- all rows, where the first stands apart or all in a list
+  -- All rows, whether the first is apart or all are in a list.
   abbrev pub arena_rows : Bool → Listed S g → Rows S g → List (Row S g)
   arena_rows false v b = v.rows.items
   arena_rows true v b = all g b

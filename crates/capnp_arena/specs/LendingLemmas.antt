@@ -1,5 +1,5 @@
--- Lemmas on what rows hold when the allocated words of one of them were lent to be written. They stand
--- here since a law of a trait may cite nothing else.
+-- Lemmas on what rows hold after the allocated words of one were lent for writing. They are among
+-- the definitions because a trait's law may cite nothing else.
 use Rattle.std.specs.Prelude.{ℕ, List, [], ◌∷◌, ◌*◌, ◌/◌, ◌≡◌, ◌≤◌, ◌-◌, ◌++◌, length, map, take, drop}
 use Rattle.std.specs.Prelude.{slice_get, slice_set, Option, Some, None}
 use Rattle.std.proofs.Common.{zero, suc, refl, sym, ap, subst, ◌∙◌, arith, get_or, set, take_at}
@@ -14,7 +14,8 @@ use Rattle.capnp_arena.specs.ClearLemmas.{length-with_front}
 use Rattle.capnp_arena.specs.declared.arena.row.Row.{Row}
 use Rattle.capnp_arena.specs.declared.arena.allocator.Segment.{Ghosts}
 
--- n elements before all but the first n of a list are these elements over the first n.
+-- n elements, followed by a list without its first n, are that list with them written over its
+-- first n.
 pub front_written : (n : ℕ) (xs ws : List ℕ) → length ws ≡ n → ws ++ drop n xs ≡ with_front n xs ws
 front_written n xs ws e = grind (arith, common_steps)
 
@@ -23,11 +24,11 @@ pub front_taken : (n : ℕ) (xs ws : List ℕ) → length ws ≡ n → take n (w
 front_taken n xs ws e = ap (take n) (sym (front_written n xs ws e)) ∙ take_at ws (drop n xs) n e
 
 module _ {S : Type 0} (g : Ghosts S) where
-  -- The allocated words of a row are as many as it has in use.
+  -- The length of a row's allocated bytes is that of its used words.
   pub allocated_whole : (r : Row S g) → length (allocated g r) ≡ 8 * r.used
   allocated_whole r = omega (arith, length-take (8 * r.used) (g.ready r.segment), r.clear.0)
 
-  -- A row replaced by one that is the same in some way leaves each row the same in it.
+  -- Replacing a row by one with the same f leaves f of each row unchanged.
   pub each_same : {A : Type 0} (f : Row S g → A) (rows : List (Row S g)) (i : ℕ)
       (old new : Row S g) → old ≡ get_or rows i old → f new ≡ f old →
       map f (set rows i new) ≡ map f rows
@@ -35,7 +36,7 @@ module _ {S : Type 0} (g : Ghosts S) where
   each_same f (q ∷ rows) zero old new e same = ap (λ x. x ∷ map f rows) (same ∙ ap f e)
   each_same f (q ∷ rows) (suc i) old new e same = ap (λ xs. f q ∷ xs) (each_same f rows i old new e same)
 
-  -- A row replaced by one as large leaves the room of each row.
+  -- Replacing a row by one of the same capacity leaves the capacity of each row unchanged.
   pub room_same : (rows : List (Row S g)) (i : ℕ) (old new : Row S g) → old ≡ get_or rows i old →
       capacity g new ≡ capacity g old → capacity_at g (set rows i new) ≡ capacity_at g rows
   room_same rows i old new e same =
@@ -48,14 +49,15 @@ module _ {S : Type 0} (g : Ghosts S) where
       g.holds r.segment (with_front (8 * r.used) (g.ready r.segment) ws)
       (length-with_front (8 * r.used) (g.ready r.segment) ws r.clear.0)
 
-  -- Bytes over the allocated words of a row, as many as these, are its allocated words.
+  -- Bytes written over the allocated words of a row, as many as these, are then its allocated
+  -- words.
   pub over : (r : Row S g) (ws : List ℕ) → length ws ≡ length (allocated g r) →
       allocated g (with_allocated g r ws) ≡ ws
   over r ws l =
       ap (take (8 * r.used)) (ready_over r ws) ∙ front_taken (8 * r.used) (g.ready r.segment) ws
       (l ∙ allocated_whole r)
 
-  -- A row holds as many words whatever its allocated words are.
+  -- The capacity of a row doesn't depend on its allocated words.
   pub same_capacity : (r : Row S g) (ws : List ℕ) → capacity g (with_allocated g r ws) ≡ capacity g r
   same_capacity r ws =
       ap (λ n. n / 8) (g.as_long r.segment (with_front (8 * r.used) (g.ready r.segment) ws)
@@ -79,14 +81,14 @@ module _ {S : Type 0} (g : Ghosts S) where
   shown_none (q ∷ rows) zero e = cc
   shown_none (q ∷ rows) (suc i) e = shown_none rows i e
 
-  -- A row that is found at an index stands there.
+  -- A row that is found at an index is the element there.
   pub found_at : (rows : List (Row S g)) (i : ℕ) (r : Row S g) → slice_get rows i ≡ Some r →
       r ≡ get_or rows i r
   found_at [] i r e = cc
   found_at (q ∷ rows) zero r e = cc
   found_at (q ∷ rows) (suc i) r e = found_at rows i r e
 
-  -- Other allocated words of a row are those of its segment, and the other segments stay.
+  -- Rewriting the allocated words of row id changes those of its segment, and no other segment.
   pub with_row_shown : (v : Vec (Row S g)) (id : ℕ) (old ws : List ℕ) →
       slice_get (shown g v.items) id ≡ Some old → length ws ≡ length old →
       shown g (with_row g v id ws).items ≡ slice_set (shown g v.items) id ws
@@ -101,7 +103,7 @@ module _ {S : Type 0} (g : Ghosts S) where
           (over r ws (l ∙ ap length same))
       go None is = let none : slice_get (shown g v.items) id ≡ None = shown_none v.items id is in cc
 
-  -- Other allocated words of a row leave each segment its room.
+  -- Rewriting the allocated words of a row leaves each segment its capacity.
   pub with_row_capacity : (v : Vec (Row S g)) (id : ℕ) (ws : List ℕ) →
       capacity_at g (with_row g v id ws).items ≡ capacity_at g v.items
   with_row_capacity v id ws = go (slice_get v.items id) refl
@@ -113,7 +115,7 @@ module _ {S : Type 0} (g : Ghosts S) where
           (same_capacity r ws)
       go None is = refl
 
-  -- The rows are as few when the allocated words of one are written over.
+  -- Rewriting the allocated words of a row leaves the number of rows at most `most`.
   pub few_with_row : (v : Vec (Row S g)) (id : ℕ) (ws : List ℕ) (most : ℕ) → length v.items ≤ most →
       length (with_row g v id ws).items ≤ most
   few_with_row v id ws most few = go (slice_get v.items id)
@@ -122,7 +124,7 @@ module _ {S : Type 0} (g : Ghosts S) where
       go (Some q) = omega (arith, few, length-set v.items id (with_allocated g q ws))
       go None = few
 
-  -- The bounds stay when the allocated words of a row are written over.
+  -- Rewriting the allocated words of a row keeps the bounds.
   pub bounded_with_row : (v : Vec (Row S g)) (id : ℕ) (ws : List ℕ) → HasBounds g v.items →
       HasBounds g (with_row g v id ws).items
   bounded_with_row v id ws h = go (slice_get v.items id) refl

@@ -1,4 +1,4 @@
--- The rows of a builder arena that all stand in a list.
+-- The rows of a builder arena that are all in a list.
 use Rattle.std.specs.Prelude.{ℕ, List}
 use Rattle.capnp_arena_traits.specs.Allocations.{max_segments}
 use Rattle.capnp_arena.specs.LendingLemmas.{bounded_with_row, few_with_row}
@@ -7,7 +7,7 @@ use Rattle.capnp_arena.specs.declared.arena.listed.Listed.{Listed}
 use Rattle.capnp_arena.specs.declared.arena.allocator.Segment.{Ghosts}
 
 module _ {S : Type 0} (g : Ghosts S) where
-  -- the rows where that at id, if there is one, has ws over its allocated words, as bytes
+  -- The rows with ws, as bytes, over the allocated words of row id, if there is one.
   abbrev pub with_bytes_listed : Listed S g → ℕ → List ℕ → Listed S g
   with_bytes_listed v id ws =
       record v {

@@ -1,4 +1,4 @@
--- The segments that go out of a builder arena.
+-- The segments that a builder arena outputs.
 use Rattle.std.specs.Prelude.{ℕ, List, [], ◌∷◌, Bool, true, false, map}
 use Rattle.capnp_arena.specs.declared.arena.output_segments.OutputSegments.{OutputSegments}
 use Rattle.capnp_arena.specs.declared.arena.output_segments.OutputSegments.TheVariants.{SingleSegment}

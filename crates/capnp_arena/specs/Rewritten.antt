@@ -8,25 +8,28 @@ use Rattle.capnp_arena.specs.declared.arena.row.Row.{Row}
 use Rattle.capnp_arena.specs.declared.arena.allocator.Segment.{Ghosts}
 
 module _ {S : Type 0} (g : Ghosts S) where
-  -- A row's allocated words become ws, as many as they were. It can hold as many as before.
+  -- From old to new the allocated words of a row become ws, as many as they were. Its capacity
+  -- stays.
   pub record RewritesRow (old new : Row S g) (ws : List ℕ) : Type 0 where
     pub words : words_of (allocated g new) ≡ ws
     pub used : new.used ≡ old.used
     pub bound : new.bound ≡ old.bound
     pub capacity : capacity g new ≡ capacity g old
 
-  -- The words of all rows become those of a message. Each row can hold as many as before.
+  -- From old to new the words of all rows become those of the message M. The capacity of each row
+  -- stays.
   pub record RewritesRows (old new : List (Row S g)) (M : Segments) : Type 0 where
     pub words : message (shown g new) ≡ M
     pub room : capacity_at g new ≡ capacity_at g old
 
-  -- A list has as many rows as before, each can hold as many words, and their bounds still hold.
+  -- From old to new a list keeps its number of rows, the capacity of each, and valid bounds.
   pub record KeepsList (old new : List (Row S g)) : Type 0 where
     pub room : capacity_at g new ≡ capacity_at g old
     pub many : length new ≡ length old
     pub bounded : HasBounds g old → HasBounds g new
 
-  -- The words of rows in a list become those of a message, and nothing else of them changes.
+  -- From old to new the words of the rows in a list become those of the message M, and nothing else
+  -- of the rows changes.
   pub record RewritesList (old new : List (Row S g)) (M : Segments) : Type 0 where
     pub words : message (shown g new) ≡ M
     pub kept : KeepsList old new

@@ -9,41 +9,41 @@ use Rattle.capnp_arena.specs.ClearLemmas.{clear_behind}
 use Rattle.capnp_arena.specs.declared.arena.row.Row.{Row}
 use Rattle.capnp_arena.specs.declared.arena.allocator.Segment.{Ghosts}
 
--- how many rows there can be beside the first: none, where that isn't there
+-- How many rows there can be besides the first: none if the first isn't there.
 abbrev pub most_others : Bool → ℕ
 most_others false = 0
 most_others true = max_segments - 1
 
 module _ {S : Type 0} (g : Ghosts S) where
-  -- the allocated words of a row, as bytes
+  -- The allocated words of a row, as bytes.
   abbrev pub allocated : Row S g → List ℕ
   allocated r = take (8 * r.used) (g.ready r.segment)
 
-  -- how many words a row can hold
+  -- How many words a row can hold.
   abbrev pub capacity : Row S g → ℕ
   capacity r = length (g.content r.segment) / 8
 
-  -- the first row, where it is there, and the others
+  -- The first row, if it is there, and the others.
   abbrev pub with_first : Bool → Row S g → List (Row S g) → List (Row S g)
   with_first false first others = []
   with_first true first others = first ∷ others
 
-  -- the allocated words of each segment
+  -- The allocated words of each segment, as bytes.
   abbrev pub shown : List (Row S g) → List (List ℕ)
   shown rows = map allocated rows
 
-  -- how many words each segment can hold, 0 where there is none
+  -- How many words each segment can hold; 0 if there is none.
   abbrev pub capacity_at : List (Row S g) → ℕ → ℕ
   capacity_at rows id = slice_index_or (map capacity rows) id 0
 
-  -- One more row, of this segment and with no word allocated, is behind the others, whose room is
-  -- the same.
+  -- From old to new one row is added after the others, of this segment and with no word allocated.
+  -- The capacity of the others stays.
   pub record GainsRow (old new : List (Row S g)) (segment : S) : Type 0 where
     pub shown_more : shown new ≡ shown old ++ [] ∷ []
     pub room_there : capacity_at new (length old) ≡ length (g.content segment) / 8
     pub room_below : (k : ℕ) → k < length old → capacity_at new k ≡ capacity_at old k
 
-  -- the row with ws over its allocated words, as bytes
+  -- The row with ws, as bytes, over its allocated words.
   abbrev pub with_allocated : Row S g → List ℕ → Row S g
   with_allocated r ws =
       record r {
@@ -51,7 +51,7 @@ module _ {S : Type 0} (g : Ghosts S) where
         clear = clear_behind g r ws;
       }
 
-  -- the rows where that at id, if there is one, has ws over its allocated words, as bytes
+  -- The rows with ws, as bytes, over the allocated words of row id, if there is one.
   abbrev pub with_found : Vec (Row S g) → ℕ → List ℕ → Option (Row S g) → Vec (Row S g)
   with_found v id ws (Some r) = with_item v id (with_allocated r ws)
   with_found v id ws None = v

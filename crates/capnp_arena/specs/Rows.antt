@@ -1,4 +1,4 @@
--- All rows of a builder arena whose first row stands apart.
+-- All rows of a builder arena whose first row is apart.
 use Rattle.std.specs.Prelude.{ℕ, List, zero, suc}
 use Rattle.capnp_arena.specs.LendingLemmas.{bounded_with_row, few_with_row}
 use Rattle.capnp_arena.specs.Row.{most_others, with_allocated, with_first, with_row}
@@ -10,7 +10,7 @@ module _ {S : Type 0} (g : Ghosts S) where
   abbrev pub all : Rows S g → List (Row S g)
   all b = with_first g b.there b.first b.others.items
 
-  -- the rows where that at id, if there is one, has ws over its allocated words, as bytes
+  -- The rows with ws, as bytes, over the allocated words of row id, if there is one.
   abbrev pub with_bytes_apart : Rows S g → ℕ → List ℕ → Rows S g
   with_bytes_apart b zero ws = record b { first = with_allocated g b.first ws }
   with_bytes_apart b (suc k) ws =

@@ -1,4 +1,4 @@
--- A segment in borrowed memory or on the heap, and an allocator that has one in borrowed memory.
+-- A segment in borrowed memory or on the heap, and an allocator with one in borrowed memory.
 use Rattle.std.specs.Prelude.{ℕ, Bool, List, ◌/◌, ◌&&◌, ◌||◌, ◌==◌, length, min, nat_le, nat_lt, ⊤}
 use Rattle.std.specs.Borrow.{MutBor}
 use Rattle.capnp_arena_traits.specs.Allocations.{max_segment_words}
@@ -22,39 +22,41 @@ module _ {B : Type 0} (g : Ghosts B) where
   content_of (Borrowed segment) = g.content segment
   content_of (Owned segment) = segment.bytes.items
 
-  -- the bytes that are ready
+  -- The bytes that are ready.
   abbrev pub ready_of : ScratchSegment B → List ℕ
   ready_of (Borrowed segment) = g.ready segment
   ready_of (Owned segment) = segment.bytes.items
 
-  -- the segment with w in place of the bytes that are ready
+  -- The segment with w in place of the ready bytes.
   abbrev pub with_ready_of : ScratchSegment B → List ℕ → ScratchSegment B
   with_ready_of (Borrowed segment) w = Borrowed (g.with_ready segment w)
   with_ready_of (Owned segment) w = Owned (with_bytes segment w)
 
--- the bytes of a segment, borrowed or on the heap
+-- The bytes of a segment, borrowed or on the heap.
 abbrev pub bytes_of : ScratchSegment (MutBor (List ℕ)) → List ℕ
 bytes_of (Borrowed bytes) = bytes.now
 bytes_of (Owned segment) = segment.bytes.items
 
--- how many words of a scratch space are a segment
+-- The number of words of a scratch space that are a segment.
 abbrev pub whole_words : List ℕ → ℕ
 whole_words bytes = min (length bytes / 8) max_segment_words
 
--- An allocator with a scratch space: whether that is here, and not out; how many bytes of it are at
--- hand, all of them zero; how many words it has; and what makes the other segments.
+-- An allocator with a scratch space: whether the space is here, or else in use; how many of its
+-- bytes are at hand, all of them zero; how many words it has; and the allocator of the other
+-- segments.
 pub record Scratch : Type 0 where
   pub here : Bool
   pub zeros : ℕ
   pub scratch_words : ℕ
   pub heap : HeapAllocator
 
--- whether a request is met by the scratch space: it isn't out, and has a word and at least those
--- asked for
+-- Whether the scratch space meets a request for `asked` words: it is here, has at least one word,
+-- and has at least `asked`.
 abbrev pub lends : Scratch → ℕ → Bool
 lends a asked = a.here && (nat_lt 0 a.scratch_words && nat_le asked a.scratch_words)
 
--- whether a request may be met by a segment of so many words, where the scratch space has so many
+-- Whether a request for `asked` words may be met by a segment of `words` words, if the scratch
+-- space has `scratch_words`.
 abbrev pub offered : (ℕ → ℕ → Bool) → ℕ → ℕ → ℕ → Bool
 offered heap scratch_words asked words =
     heap asked words || ((words == scratch_words) && nat_le asked words)

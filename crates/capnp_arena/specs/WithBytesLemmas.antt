@@ -1,5 +1,5 @@
--- Lemmas on an arena with other bytes in the allocated words of a segment. They stand here since a
--- law of a trait may cite nothing else.
+-- Lemmas on an arena whose allocated words of one segment are replaced. They are among the
+-- definitions because a trait's law may cite nothing else.
 use Rattle.std.specs.Prelude.{ℕ, Bool, true, false, List, ◌∷◌, ◌≡◌, length, map, slice_get, slice_set, Some}
 use Rattle.std.proofs.Common.{zero, suc, refl, ap, ◌∙◌, get_or}
 use Rattle.capnp_arena.specs.Kept.{arena_rows, listed_with_bytes, apart_with_bytes}
@@ -12,14 +12,15 @@ use Rattle.capnp_arena.specs.declared.arena.listed.Listed.{Listed}
 use Rattle.capnp_arena.specs.declared.arena.allocator.Segment.{Ghosts}
 
 module _ {S : Type 0} (g : Ghosts S) where
-  -- The first row replaced by one as large leaves the room of each row.
+  -- Replacing the first row by one of the same capacity leaves the capacity of each row unchanged.
   pub first_kept : (t : Bool) (old new : Row S g) (others : List (Row S g)) →
       capacity g new ≡ capacity g old →
       capacity_at g (with_first g t new others) ≡ capacity_at g (with_first g t old others)
   first_kept false old new others e = refl
   first_kept true old new others e = ap (λ c k. get_or (c ∷ map (capacity g) others) k 0) e
 
-  -- Other rows replaced by rows as large leave the room of each row.
+  -- Replacing the other rows by ones of the same capacities leaves the capacity of each row
+  -- unchanged.
   pub other_kept : (t : Bool) (first : Row S g) (old new : List (Row S g)) →
       capacity_at g new ≡ capacity_at g old →
       capacity_at g (with_first g t first new) ≡ capacity_at g (with_first g t first old)
@@ -30,8 +31,8 @@ module _ {S : Type 0} (g : Ghosts S) where
       at zero = refl
       at (suc k) = ap (λ (f : ℕ → ℕ). f k) e
 
-  -- Where the first row stands apart, other bytes are those of their segment, and the other
-  -- segments stay.
+  -- If the first row is apart, rewriting the allocated words of row id changes those of its
+  -- segment, and no other segment.
   pub with_bytes_shown : (b : Rows S g) (id : ℕ) (old ws : List ℕ) →
       slice_get (shown g (all g b)) id ≡ Some old → length ws ≡ length old →
       shown g (all g (with_bytes_apart g b id ws)) ≡ slice_set (shown g (all g b)) id ws
@@ -51,7 +52,8 @@ module _ {S : Type 0} (g : Ghosts S) where
       go false is = cc
       go true is = ap (λ B. allocated g b.first ∷ B) (with_row_shown g b.others k old ws is l)
 
-  -- Where the first row stands apart, other bytes leave each segment its room.
+  -- If the first row is apart, rewriting the allocated words of a row leaves each segment its
+  -- capacity.
   pub with_bytes_capacity : (b : Rows S g) (id : ℕ) (ws : List ℕ) →
       capacity_at g (all g (with_bytes_apart g b id ws)) ≡ capacity_at g (all g b)
   with_bytes_capacity b zero ws =
@@ -61,7 +63,7 @@ module _ {S : Type 0} (g : Ghosts S) where
       other_kept b.there b.first b.others.items (with_row g b.others k ws).items
       (with_row_capacity g b.others k ws)
 
-  -- Other bytes in an arena are those of their segment, and the other segments stay.
+  -- Rewriting the allocated words of row id changes those of its segment, and no other segment.
   pub kept_shown : (f : Bool) (v : Listed S g) (b : Rows S g) (id : ℕ) (old ws : List ℕ) →
       slice_get (shown g (arena_rows g f v b)) id ≡ Some old → length ws ≡ length old →
       shown g (arena_rows g f (listed_with_bytes g f v id ws) (apart_with_bytes g f b id ws))
@@ -69,7 +71,7 @@ module _ {S : Type 0} (g : Ghosts S) where
   kept_shown false v b id old ws e l = with_row_shown g v.rows id old ws e l
   kept_shown true v b id old ws e l = with_bytes_shown b id old ws e l
 
-  -- Other bytes in an arena leave each segment its room.
+  -- Rewriting the allocated words of a row leaves each segment its capacity.
   pub kept_capacity : (f : Bool) (v : Listed S g) (b : Rows S g) (id : ℕ) (ws : List ℕ) →
       capacity_at g (arena_rows g f (listed_with_bytes g f v id ws) (apart_with_bytes g f b id ws))
       ≡ capacity_at g (arena_rows g f v b)

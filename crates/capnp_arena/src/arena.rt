@@ -1,4 +1,5 @@
-//! What a message is for everything above: segments of whole words, checked and charged, read or written.
+//! What a message is to the crates above: segments of whole words, checked and charged, read or
+//! written.
 
 mod allocator;
 mod bounds;
@@ -25,9 +26,9 @@ pub use reader_arena_impl::{ReaderArenaImpl, ReaderOptions};
 pub use reader_segments::{ReaderSegments, SegmentArray};
 pub use scratch_allocator::{ScratchSegment, ScratchSpaceHeapAllocator};
 
-/// The greatest number of words of a segment that is built, 536,870,911: each position fits the 29 bits that a
-/// far pointer has for it ("Inter-Segment Pointers").
+/// The most words of a segment being built, 536,870,911: each position fits the 29 bits that a far
+/// pointer has for it ("Inter-Segment Pointers").
 pub const MAX_SEGMENT_WORDS: u32 = 0x1fff_ffff;
 
-/// The greatest number of segments of a message that is built, 4,294,967,295: their count is a u32.
+/// The most segments of a message being built, 4,294,967,295: their number is a u32.
 const MAX_SEGMENTS: usize = 0xffff_ffff;

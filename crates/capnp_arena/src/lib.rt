@@ -1,4 +1,5 @@
-//! Segments, limits and allocation: what a Cap'n Proto message is made of, by the sections "Messages" and "Inter-Segment Pointers" of the encoding specification.
+//! Segments, limits and allocation: what a Cap'n Proto message is made of, by the sections
+//! "Messages" and "Inter-Segment Pointers" of the encoding specification.
 #![tactic(auto)]
 
 pub mod arena;

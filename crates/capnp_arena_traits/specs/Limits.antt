@@ -2,15 +2,16 @@
 use Rattle.std.specs.Prelude.{ℕ, List, All, length, take, slice_get, Some, ◌≡◌, ◌*◌, ◌/◌, ◌^◌, ◌<◌}
 use Rattle.std.specs.Borrow.{Bor}
 
--- the whole words of a segment, as bytes
+-- The whole words of a segment, as bytes.
 abbrev pub whole : List ℕ → List ℕ
 whole bytes = take (8 * (length bytes / 8)) bytes
 
--- fewer than 2^32 segments, each of fewer than 2^32 words
+-- There are fewer than 2^32 segments, each of fewer than 2^32 words.
 abbrev pub AreSmall : List (Bor (List ℕ)) → Type 0
 AreSmall segments = (length segments < 2 ^ 32) × All (λ s. length s.now / 8 < 2 ^ 32) segments
 
--- fewer than 2^32 segments, each of fewer than 2^32 words, said of each by its number ("Messages")
+-- There are fewer than 2^32 segments, each of fewer than 2^32 words; stated by the number of each
+-- segment ("Messages").
 abbrev pub IsSmall : List (List ℕ) → Type 0
 IsSmall segments =
     (length segments < 2 ^ 32) × ((k : ℕ) (s : List ℕ) → slice_get segments k ≡ Some s →

@@ -1,4 +1,4 @@
--- Where words are taken in a message that is built.
+-- Where words are allocated in a message being built.
 use Rattle.std.specs.Prelude.{ℕ, ◌≡◌, ◌⊎◌, ◌+◌, ◌<◌, ◌≤◌, ◌-◌, ◌^◌, [], ◌∷◌, ◌++◌, IsTrue, length, replicate}
 use Rattle.capnp_format.specs.Segments.{Segments, segment}
 use Rattle.capnp_words.specs.declared.error.ErrorKind.{ErrorKind}
@@ -7,46 +7,46 @@ use Rattle.capnp_arena_traits.specs.Allocations.{max_segments, max_segment_words
 use Rattle.capnp_arena_traits.specs.View.{View}
 use Rattle.capnp_arena_traits.specs.Written.{extended, with_more}
 
--- no segment has room for so many words more
+-- No segment has room for `amount` more words.
 abbrev pub IsFull : View → ℕ → Type 0
 IsFull v amount = (k : ℕ) → k < length v.words → v.room k < length (segment v.words k) + amount
 
--- segment k is the first that has room for so many words more
+-- Segment k is the first with room for `amount` more words.
 abbrev pub IsFirstFit : View → ℕ → ℕ → Type 0
 IsFirstFit v amount k =
     (k < length v.words) × (length (segment v.words k) + amount ≤ v.room k) ×
     ((j : ℕ) → j < k → v.room j < length (segment v.words j) + amount)
 
--- S, and behind its segments another one of `amount` words of zero
+-- S, and after its segments another one of `amount` zero words.
 abbrev pub with_another : Segments → ℕ → Segments
 with_another S amount = S ++ replicate amount 0 ∷ []
 
--- `amount` words of zero are taken at the end of segment k, from position p on, and nothing else is
--- changed.
+-- From old to new `amount` zero words are allocated at the end of segment k, from position p on,
+-- and nothing else changes.
 abbrev pub GrowsSegment : View → View → ℕ → ℕ → ℕ → Type 0
 GrowsSegment old new amount k p =
     (p ≡ length (segment old.words k)) × (new ≡ with_more old k (replicate amount 0))
 
--- Segment k is new behind the others, as large as the allocator offers for so many words, which are
--- taken in it from position p on.
+-- From old to new segment k is added after the others, with room that the allocator offers for
+-- `amount` words. These are allocated in it, from position p, which is 0.
 abbrev pub GainsSegment : View → View → ℕ → ℕ → ℕ → Type 0
 GainsSegment old new amount k p =
     (k ≡ length old.words) × (p ≡ 0) × (new.words ≡ with_another old.words amount) ×
     (amount ≤ new.room k) × IsTrue (old.offers amount (new.room k))
 
--- `amount` words of zero are new at position p of segment s, behind what was allocated there, or in
--- a segment of their own behind the others
+-- From S to T `amount` zero words are allocated at (s, p): after those of segment s, or in a
+-- segment of their own after the others.
 abbrev pub IsTaken : Segments → Segments → ℕ → ℕ → ℕ → Type 0
 IsTaken S T amount s p =
     ((s < length S) × (p ≡ length (segment S s)) × (T ≡ extended S s (replicate amount 0)))
     ⊎ ((s ≡ length S) × (p ≡ 0) × (T ≡ with_another S amount))
 
--- the room of the segments below n is the same
+-- The segments below n have the same room.
 abbrev pub SameRoomBelow : ℕ → (ℕ → ℕ) → (ℕ → ℕ) → Type 0
 SameRoomBelow n old new = (k : ℕ) → k < n → new k ≡ old k
 
--- a request for so many words in a segment of its own, with so many segments there, is refused by
--- this name
+-- From old to new a request for `amount` words in a segment of their own, where there are
+-- `segments` segments, is refused with e.
 abbrev pub IsAllocationRefusal : View → View → ℕ → ℕ → ErrorKind → Type 0
 IsAllocationRefusal old new segments amount e =
     ((e ≡ AllocationFailed) × (amount ≤ max_segment_words) × (segments < max_segments) ×

@@ -1,4 +1,4 @@
-//! Arenas, by what is asked of them: segments of whole words, checked and charged, read or written.
+//! The traits of arenas: segments of whole words, checked and charged, read or written.
 
 mod builder_arena;
 mod reader_arena;
@@ -9,7 +9,7 @@ pub use reader_arena::ReaderArena;
 /// The number of a segment, counted from 0.
 pub type SegmentId = u32;
 
-/// Where words stand in a message that is built: from the word `at` of a segment on.
+/// A place in a message being built: word `at` of a segment and the words after it.
 #[derive(Clone, Copy)]
 pub struct WordPlace {
     /// The segment.

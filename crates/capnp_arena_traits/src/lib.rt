@@ -1,4 +1,4 @@
-//! What a message is for everything above: the traits of arenas that are read and of arenas that are built.
+//! What a message is to the crates above: the traits of arenas for reading and for building.
 #![tactic(auto)]
 
 pub mod arena;

@@ -1,4 +1,4 @@
--- What a struct of a message that is built has of another struct's content ("Structs").
+-- What a struct of a message being built gets of another struct's content ("Structs").
 use Rattle.std.specs.Prelude.{◌≡◌, ℕ, zero, suc, ◌+◌, ◌-◌, ◌*◌, ◌/◌, ◌%◌, ◌^◌, ◌<◌, List}
 use Rattle.std.specs.Prelude.{slice_index, min, pred, length}
 use Rattle.capnp_words.specs.Meter.{Meter}
@@ -20,21 +20,20 @@ use Rattle.capnp_copies.specs.Originals.{children_original}
 use Rattle.capnp_making.specs.Makes.{call_at}
 use Rattle.capnp_builders.specs.Places.{Field}
 
--- Byte number i of content of so many bits: the bits behind these are zero.
+-- Byte i of content of `bits` bits: the bits after these are zero.
 abbrev pub content_byte : ℕ → List ℕ → ℕ → ℕ
 content_byte bits bytes i = slice_index bytes i % 2 ^ min 8 (bits - 8 * i)
 
--- Fields of w bits each, one behind the other from bit b on, with the numbers of f.
+-- Consecutive fields of w bits each, from bit b on, with the numbers of f.
 abbrev pub fields_from : ℕ → ℕ → (ℕ → ℕ) → ℕ → Field
 fields_from b w f i = record { start = b + i * w; bits = w; value = f i }
 
--- A message with the first n of such fields written in segment s.
+-- S with the first n of the fields F written in segment s.
 abbrev pub with_fields : Segments → ℕ → (ℕ → Field) → ℕ → Segments
 with_fields S s F zero = S
 with_fields S s F (suc n) = with_field (with_fields S s F n) s (F n).start (F n).bits (F n).value
 
--- A message with content in the data section of a struct: in its whole bytes, and then in the bits
--- behind these.
+-- S with content in the data section of a struct: first its whole bytes, then the bits after these.
 abbrev pub with_content : Segments → StructPlace → ℕ → List ℕ → Segments
 with_content S place bits bytes =
     let start = 8 * place.byte in
@@ -43,41 +42,42 @@ with_content S place bits bytes =
     with_fields written place.segment
     (fields_from (start + whole * 8) 1 (λ j. content_byte bits bytes whole / 2 ^ j % 2)) (place.bits % 8)
 
--- From S to R n pointers become null, one after the other from position p of segment s on.
+-- From S to R n consecutive pointers from (s, p) on become null, one after the other.
 abbrev pub AreCleared : Segments → Segments → ℕ → ℕ → ℕ → Type 0
 AreCleared S R s p zero = R ≡ S
 AreCleared S R s p (suc n) = (M : Segments) × AreCleared S M s p n × Puts M R s (p + n) Null
 
--- Pointers are copied, as they stand, from the first pointer of a struct on.
+-- A call that copies pointers as plain values, to the pointers of a struct from the first on.
 abbrev pub pointers_copied : StructPlace → View → View → Meter → Meter → Change
 pointers_copied place old new before after =
     change plain (call_at place.segment place.pointers_at old new) before after
 
--- From S to M content is written in the data section of a struct, and then all its pointers become null.
+-- From S to M content is written in the data section of a struct, and then all its pointers become
+-- null.
 abbrev pub TakesBytes : Segments → Segments → StructPlace → ℕ → List ℕ → Type 0
 TakesBytes S M place bits bytes =
     AreCleared (with_content S place bits bytes) M place.segment place.pointers_at place.pointers
 
--- d data words, each byte of which is that of content.
+-- ws are d data words, each byte of which is that of the content.
 abbrev pub HoldContent : List ℕ → ℕ → ℕ → List ℕ → Type 0
 HoldContent ws d bits bytes =
     (length ws ≡ d) × ((i : ℕ) → i < 8 * d → field_in ws (8 * i) 8 ≡ content_byte bits bytes i)
 
--- Children with nulls behind them, n in all.
+-- The children, followed by nulls, n in all.
 abbrev pub up_to : ℕ → Trees → Trees
 up_to n no_trees = nulls n
 up_to n (tree t ts) = tree t (up_to (pred n) ts)
 
 module _ {A : Type 0} (g : Ghosts A) where
-  -- The data of a struct that is read stands in the data section of a struct, as much as both have,
-  -- and zeros behind it; and then the pointers of that became null.
+  -- From old to new the data section of a struct takes the data of the struct that `value` reads,
+  -- as much as both have, followed by zeros. Then its pointers become null.
   pub record TakesData (value : StructReader A g) (place : StructPlace) (old new : View) : Type 0 where
     pub cleared : TakesBytes old.words new.words place value.bits value.content.now
     pub null : (i : ℕ) → i < place.pointers → word_at new.words place.segment (place.pointers_at + i) ≡ 0
     pub limits : KeepsLimits old new
 
-  -- The data is taken, and then as many pointers are copied as both have; or copying these is
-  -- refused by the name k.
+  -- The data is taken, and then as many pointers are copied as both structs have; or copying these
+  -- is refused with k.
   abbrev pub TakesContent : StructReader A g → StructPlace → Change → Type 0
   TakesContent value place c = (mid : View) × TakesData value place c.old mid ×
       CopiesChildren (pointers_read g value) (min place.pointers value.pointer_count)
@@ -89,8 +89,8 @@ module _ {A : Type 0} (g : Ghosts A) where
       CopiesFirst (pointers_read g value) (min place.pointers value.pointer_count)
       (record c { old = mid }) k
 
-  -- The pointers that both have can be read, and the words of what they mean fit behind those of
-  -- the struct's segment.
+  -- The pointers that both structs have can be read, and the words of what they mean fit after
+  -- those of the struct's segment.
   abbrev pub ContentFits : StructReader A g → StructPlace → Change → Type 0
   ContentFits value place c =
       CanBeCopied (children_original (pointers_read g value)

@@ -1,4 +1,4 @@
--- Defaults: what stands for a null pointer ("Default Values").
+-- Defaults: the values of null pointers ("Default Values").
 use Rattle.std.specs.Prelude.{◌≡◌, ◌⊎◌, ℕ, ◌-◌, ◌/◌, ◌^◌, ◌<◌, ◌≤◌, List, if◌then◌else◌}
 use Rattle.std.specs.Prelude.{nat_eq, length, slice_get, true, false, Option, Some, None, IfSome, Result, Err}
 use Rattle.std.specs.Prelude.{IsOk, IsErrAnd, ⊤}
@@ -27,8 +27,8 @@ use Rattle.capnp_making.specs.Makes.{CallAt, call_at}
 use Rattle.capnp_widening.specs.Rooms.{UsesMemory}
 use Rattle.capnp_builders.specs.Building.{Building, IsThere}
 
--- The first word of a default, whose bytes are one segment. Nothing is charged there, and as many
--- levels may be entered as a nesting limit can say.
+-- The first word of a default, whose bytes are one segment. Reading it isn't charged, and may enter
+-- as many levels as a nesting limit can express.
 abbrev pub default_root : List ℕ → Reading
 default_root bytes =
     record {
@@ -40,8 +40,8 @@ default_root bytes =
       at = 0;
     }
 
--- Why a default isn't copied, by the name k: what its first word leads to has this fault, which a
--- capability is too; or there is no room for an object of it.
+-- A default isn't copied, which is refused with k: what its first word leads to has this fault,
+-- which a capability is too; or there is no room for one of its objects.
 abbrev pub RefusesDefault : List ℕ → CallAt → ErrorKind → Type 0
 RefusesDefault bytes c k =
     let copy = change of_default c (unused None) (unused None) in
@@ -49,7 +49,7 @@ RefusesDefault bytes c k =
     ⊎ (LacksRoom (value_original (default_root bytes)) copy k ×
     IsTooLarge (value_original (default_root bytes)) copy)
 
--- A default is of fewer than 2^32 words.
+-- The default, if there is one, has fewer than 2^32 words.
 abbrev pub IsShortDefault : Option (Bor (List ℕ)) → Type 0
 IsShortDefault default = IfSome default (λ d. length d.now / 8 < 2 ^ 32)
 
@@ -58,14 +58,14 @@ pub record TakesDefault (b : Building) (default : Option (Bor (List ℕ))) : Typ
   pub there : IsThere b
   pub few : IsShortDefault default
 
--- What a call does with its default: nothing; or it is refused by a name; or the value of these
--- bytes is copied in place of null.
+-- What a call does with its default: it ignores it; it is refused with an error; or it copies the
+-- value of these bytes in place of null.
 pub data DefaultUse : Type 0 where
   ignored : DefaultUse
   denied : ErrorKind → DefaultUse
   copied : List ℕ → DefaultUse
 
--- What a call does with a default where t stands: a default is for null alone, and has a first
+-- What a call does with a default where t is. A default is only for null, and must have a first
 -- word. `of_null` is for one whose first word is null.
 abbrev pub default_use : DefaultUse → Option (Bor (List ℕ)) → Tree → DefaultUse
 default_use of_null (Some d) Null =
@@ -73,20 +73,22 @@ default_use of_null (Some d) Null =
     (denied MessageContainsOutOfBoundsPointer)
 default_use of_null default t = ignored
 
--- A default whose first word is null is as none to a struct and a list, and no list to a text and data.
+-- What a call for a struct or a list that finds t does with its default: one whose first word is
+-- null counts as none.
 abbrev pub object_default : Option (Bor (List ℕ)) → Tree → DefaultUse
 object_default default t = default_use ignored default t
 
--- What a call for a text or data that finds null does with its default.
+-- What a call for a text or data that finds t does with its default: one whose first word is null
+-- isn't a list.
 abbrev pub blob_default : Option (Bor (List ℕ)) → Tree → DefaultUse
 blob_default default t = default_use (denied ExistingPointerIsNotAList) default t
 
--- There is no default, or one whose first word is null: an object isn't put in place of null.
+-- There is no default, or one whose first word is null: nothing replaces null.
 abbrev pub IsIgnoredDefault : Option (Bor (List ℕ)) → Type 0
 IsIgnoredDefault default = default_use ignored default Null ≡ ignored
 
--- The value u of a default, which has no capabilities, is stored in place of null, and no more
--- words are taken than reading it costs.
+-- The value u of a default, which has no capabilities, is stored in place of null. It takes at most
+-- as many words as reading it costs, and a landing pad for each pointer followed.
 pub record PutsDefault (bytes : List ℕ) (c : CallAt) (u : Tree) : Type 0 where
   pub meant : (n : ℕ) × MeansThere (default_root bytes) u n
   pub plain : capabilities u ≡ 0
@@ -96,7 +98,7 @@ pub record PutsDefault (bytes : List ℕ) (c : CallAt) (u : Tree) : Type 0 where
   pub taken : (value_original (default_root bytes)).takes of_default (unused None) (unused None)
       (MakesAtMost c.segment c.old c.new)
 
--- The copy of a default is refused by the name k: the pointer stays null, and new words are zero.
+-- The copy of a default is refused with k: the pointer stays null, and new words are zero.
 pub record DropsDefault (bytes : List ℕ) (c : CallAt) (k : ErrorKind) : Type 0 where
   pub named : RefusesDefault bytes c k
   pub replaced : IsReplaced c.old.words c.new.words c.segment c.at Null Null
@@ -104,9 +106,9 @@ pub record DropsDefault (bytes : List ℕ) (c : CallAt) (k : ErrorKind) : Type 0
   pub taken : (value_original (default_root bytes)).takes_until of_default (unused None)
       (unused None) (MakesAtMost c.segment c.old c.new)
 
--- What a call does where t stands, by its use of a default: as P says of t; or it is refused, and
--- nothing is changed; or the default's value is put in place of null, and from there on the call
--- does what P says of it, or its copy is refused.
+-- What a call does where t is, by its use of a default. Without one, P holds for t. Or it is
+-- refused, and nothing changes. Or the default's value replaces null, and from there on P holds for
+-- that value; or the copy of the default is refused.
 abbrev pub WithDefault : {B : Type 0} → DefaultUse → CallAt → Tree → (CallAt → Tree → Type 0) →
     Result B ErrorKind → Type 0
 WithDefault ignored c t P result = P c t
@@ -115,19 +117,19 @@ WithDefault (copied bytes) c t P result =
     ((mid : View) × (value : Tree) × PutsDefault bytes (record c { new = mid }) value ×
     P (record c { old = mid }) value) ⊎ IsErrAnd result (DropsDefault bytes c)
 
--- The value of these bytes has no fault, and its words fit behind those of segment id.
+-- The value of these bytes has no fault, and its words fit after those of segment id.
 abbrev pub DefaultCopyFits : List ℕ → View → ℕ → Type 0
 DefaultCopyFits bytes v id =
     CanBeCopied (value_original (default_root bytes)) of_default (unused None) v id
 
--- A default, if there is one, has a first word and no fault, and its words fit behind those of
+-- The default, if there is one, has a first word and no fault, and its words fit after those of
 -- segment id.
 abbrev pub DefaultFits : Option (Bor (List ℕ)) → View → ℕ → Type 0
 DefaultFits default v id = IfSome default (λ d. (8 ≤ length d.now) × DefaultCopyFits d.now v id)
 
--- A call at a place has room, by its use of a default: where Fits says so of the message v; or
--- where the default's copy fits, and Fits says so of whatever message that can leave. A default
--- that is refused fits nowhere.
+-- A call at (s, p) has room, by its use of a default. Without one, `Fits` holds for the message v.
+-- With one, the default's copy fits, and `Fits` holds for whatever message that can leave. A
+-- default that is refused fits nowhere.
 abbrev pub FitsWithDefault : DefaultUse → View → ℕ → ℕ → (View → Type 0) → Type 0
 FitsWithDefault ignored v s p Fits = Fits v
 FitsWithDefault (denied k) v s p Fits = ⊥
@@ -135,12 +137,12 @@ FitsWithDefault (copied bytes) v s p Fits =
     DefaultCopyFits bytes v s × ((m : View) (u : Tree) → PutsDefault bytes (call_at s p v m) u →
     Fits m)
 
--- A default is put where the call uses one, and nothing else is done.
+-- The call puts its default if it uses one, and does nothing else.
 abbrev pub PutsDefaultOver : DefaultUse → CallAt → Tree → Result ⊤ ErrorKind → Type 0
 PutsDefaultOver w c t result = WithDefault w c t (λ d u. IsOk result × (d.new ≡ d.old)) result
 
--- A call puts a default in place of null, by its use of one where a value stands, whatever it is. What
--- isn't null stays, and no segment becomes shorter.
+-- The call puts a default in place of null, by its use of one for the value that is there, whatever
+-- it is. What isn't null stays, and no segment becomes shorter.
 pub record PutsDefaultBy (use_of : Tree → DefaultUse) (c : CallAt) (result : Result ⊤ ErrorKind)
     : Type 0 where
   pub put : (t : Tree) → IsStored c.old.words c.segment c.at t → PutsDefaultOver (use_of t) c t result

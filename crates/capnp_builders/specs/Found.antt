@@ -1,4 +1,4 @@
--- What a builder call gives that looks for a list, a text or data ("Lists").
+-- What a builder call returns that looks for a list, a text or data ("Lists").
 use Rattle.std.specs.Prelude.{◌≡◌, ℕ, List, Option, Some, None, Result, Ok, Err}
 use Rattle.std.specs.Borrow.{Bor}
 use Rattle.capnp_format.specs.Forest.{target}
@@ -15,7 +15,7 @@ use Rattle.capnp_making.specs.Makes.{CallAt}
 use Rattle.capnp_builders.specs.Defaults.{object_default, blob_default, WithDefault}
 use Rattle.capnp_builders.specs.Places.{list_place}
 
--- A void list of none, in segment id.
+-- An empty list of void, in segment id.
 abbrev pub void_list : ℕ → ListPlace
 void_list id =
     record {
@@ -26,8 +26,8 @@ void_list id =
       count = 0;
     }
 
--- What a call gives at a pointer of segment id, by what is found: a list of none, or no bytes,
--- where that is null.
+-- What a call returns at a pointer of segment id, by what is found: an empty list, or no bytes, if
+-- that is null.
 abbrev pub list_given : ℕ → Result (Option ExistingList) ErrorKind → Result ListPlace ErrorKind
 list_given id (Ok (Some l)) = Ok (list_place l)
 list_given id (Ok None) = Ok (void_list id)
@@ -38,8 +38,8 @@ bytes_given id (Ok (Some b)) = Ok b
 bytes_given id (Ok None) = Ok (record { segment = id; start = 0; length = 0 })
 bytes_given id (Err k) = Err k
 
--- A call puts its default in place of null, and then gives the list that is found where u stands, and
--- nothing is changed; or the bytes, which are data or a text.
+-- The call puts its default in place of null, if it has to. Then it returns the list that is found
+-- there, or the bytes of a data or text, and changes nothing.
 abbrev pub FindsList : ElementSize → Option (Bor (List ℕ)) → Result ListPlace ErrorKind → CallAt →
     Tree → Type 0
 FindsList size default result c t =

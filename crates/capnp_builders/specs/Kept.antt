@@ -14,9 +14,9 @@ use Rattle.capnp_copies.specs.Changes.{Change, StayInSegment, IsCopiedInRoom, Re
 use Rattle.capnp_copies.specs.Forms.{kept}
 use Rattle.capnp_copies.specs.Originals.{Original}
 
--- What is copied is read, and whatever value the place had, what is kept of the value that was read
--- stands in its stead. What the place held becomes zero first, and its words stay allocated; then the
--- words of what is kept are put behind those of the segment, where they have room.
+-- What is copied is read, and what is kept of its value replaces whatever value the place had. The
+-- place's old words are zeroed first, and stay allocated. Then, if they fit, the words of what is
+-- kept come after those of the segment.
 pub record PutsCopy (o : Original Tree) (c : Change) : Type 0 where
   pub value : Tree
   pub is_read : o.reads c.form c.before c.after value
@@ -28,7 +28,7 @@ pub record PutsCopy (o : Original Tree) (c : Change) : Type 0 where
   pub null : Puts c.old.words cleared.words c.segment c.at Null
   pub stands : IsCopiedInRoom cleared c.new c.segment c.at (kept c.form value)
 
--- The copy is refused by the name k, and leaves null in the stead of whatever value the place had.
+-- The copy is refused with k, and replaces whatever value the place had by null.
 pub record LeavesCleared (o : Original Tree) (c : Change) (k : ErrorKind) : Type 0 where
   pub why : RefusesToCopy o c k
   pub cleared : Puts c.old.words c.new.words c.segment c.at Null
@@ -41,7 +41,7 @@ FillsSegment r c =
     × (StayInSegment c.old c.new c.segment (word_count (kept c.form t)) →
     segment c.new.words c.segment ≡ encoding (kept c.form t))
 
--- The source is read; if the message has but one segment, its words are exactly the copy.
+-- The source is read; if the message has only one segment, its words are exactly the copy.
 abbrev pub FillsMessage : Reading → Change → Type 0
 FillsMessage r c =
     (t : Tree) × Reads c.form r c.before c.after t ×

@@ -1,4 +1,4 @@
--- Structs and lists of structs of a message that is built, opened for writing ("Structs", "Lists").
+-- Structs and lists of structs of a message being built, opened for writing ("Structs", "Lists").
 use Rattle.std.specs.Prelude.{◌≡◌, ℕ, Option, Result, List, Ok, IsSomeAnd}
 use Rattle.std.specs.Borrow.{Bor}
 use Rattle.capnp_words.specs.declared.error.ErrorKind.{ErrorKind}
@@ -21,7 +21,7 @@ use Rattle.capnp_builders.specs.Defaults.{object_default, FitsWithDefault, WithD
 use Rattle.capnp_builders.specs.Found.{list_given, void_list}
 use Rattle.capnp_builders.specs.Places.{struct_place}
 
--- The pointer at a place leads to the struct u, which a call gives; or to the list u.
+-- The pointer at (s, p) leads to the struct u, or to the list u, which a call returns as `place`.
 abbrev pub IsStructGiven : Segments → ℕ → ℕ → Tree → StructPlace → Type 0
 IsStructGiven S s p u place =
     IsSomeAnd (struct_in (target S s p) u) (λ e. place ≡ struct_place e) × IsStructPlace S place
@@ -30,14 +30,15 @@ abbrev pub IsListGiven : Segments → ℕ → ℕ → Tree → ListPlace → Typ
 IsListGiven S s p u place =
     (list_given s (list_in (target S s p) Void u) ≡ Ok place) × IsListPlace S place
 
--- A call opens the list of structs that is there, made one of any other list. Null is a list of none,
--- and nothing is changed.
+-- The call opens the list of structs that is there, after making one of any other list. Null is an
+-- empty list, and nothing changes.
 abbrev pub OpensList : StructSize → Result ListPlace ErrorKind → CallAt → Tree → Type 0
 OpensList size result c Null = (result ≡ Ok (void_list c.segment)) × (c.new ≡ c.old)
 OpensList size result c t =
     Opens size IsListGiven c t (list_widened size.data_words size.pointers t) result
 
--- A call puts its default in place of null, and then opens the struct that is there; or the list.
+-- The call puts its default in place of null, if it has to, and then opens the struct that is
+-- there, or the list.
 abbrev pub FindsStruct : StructSize → Option (Bor (List ℕ)) → Result StructPlace ErrorKind →
     CallAt → Tree → Type 0
 FindsStruct size default result c t =
@@ -48,8 +49,8 @@ abbrev pub FindsStructs : StructSize → Option (Bor (List ℕ)) → Result List
 FindsStructs size default result c t =
     WithDefault (object_default default t) c t (OpensList size result) result
 
--- The place stores some value, and there is room for what becomes of the struct that is there once
--- the default is put, or for a new one in place of null; or for what becomes of the list that is
+-- (s, p) stores some value. There is room for the default, if that is put, and then to open the
+-- struct that is there, or a new one in place of null; or for what becomes of the list that is
 -- there then.
 abbrev pub StructFindFits : StructSize → Option (Bor (List ℕ)) → View → ℕ → ℕ → Type 0
 StructFindFits size default v s p =

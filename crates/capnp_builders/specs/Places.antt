@@ -1,4 +1,4 @@
--- Where structs and lists of a message that is built are ("Structs", "Lists").
+-- Where structs and lists of a message being built are ("Structs", "Lists").
 use Rattle.std.specs.Prelude.{◌≡◌, ℕ, ◌+◌, ◌*◌, ◌/◌, ◌%◌, ◌<◌, min}
 use Rattle.capnp_arena_traits.specs.View.{View}
 use Rattle.capnp_making.specs.Fields.{with_field, field_in}
@@ -18,7 +18,7 @@ use Rattle.capnp_readers.specs.Readers.{IsStructPlace, IsListPlace}
 use Rattle.capnp_readers.specs.declared.readers.struct_reader.StructPlace.{StructPlace}
 use Rattle.capnp_readers.specs.declared.readers.list_reader.ListPlace.{ListPlace}
 
--- Where a struct of a message is, as a builder has it.
+-- The place of a struct, as a builder has it.
 abbrev pub struct_place : ExistingStruct → StructPlace
 struct_place e = record {
   segment = e.segment;
@@ -28,7 +28,7 @@ struct_place e = record {
   pointers = e.size.pointers;
 }
 
--- Where a list of a message is, as a builder has it.
+-- The place of a list, as a builder has it.
 abbrev pub list_place : ExistingList → ListPlace
 list_place l =
     record {
@@ -39,19 +39,19 @@ list_place l =
       count = l.count;
     }
 
--- The pointer of a call leads to a struct of this size, whose sections lie in the message.
+-- The pointer of a call leads to a struct of this size, whose sections are inside the message.
 pub record IsStructOf (c : CallAt) (size : StructSize) (place : StructPlace) : Type 0 where
   pub is : place ≡ struct_place (existing_struct (start_of (target c.new.words c.segment c.at)) size)
   pub inside : IsStructPlace c.new.words place
 
--- The pointer of a call leads to a list, which `list` says of where that leads, and whose elements
--- lie in the message.
+-- The pointer of a call leads to the list that `list` makes of its target, and the elements are
+-- inside the message.
 pub record IsListOf (c : CallAt) (list : Target → ExistingList) (place : ListPlace) : Type 0 where
   pub is : place ≡ list_place (list (target c.new.words c.segment c.at))
   pub inside : IsListPlace c.new.words place
 
--- Where element number i of a list of this element size is, as a struct: its two sections, one
--- pointer, or the bits of a number.
+-- Where element i of a list of this element size is, as a struct: its two sections, one pointer, or
+-- the bits of a number.
 abbrev pub element_place : ElementSize → ListPlace → ℕ → StructPlace
 element_place InlineComposite list i =
     let step = list.struct_size.data_words + list.struct_size.pointers in
@@ -76,31 +76,31 @@ element_place size list i =
       pointers = 0;
     }
 
--- A data section starts at a multiple of the widest numbers that it holds, which take 1, 2, 4 or 8
--- bytes.
+-- A data section starts at a multiple of the size of the widest numbers that it holds, which take
+-- 1, 2, 4 or 8 bytes.
 abbrev pub IsAligned : StructPlace → Type 0
 IsAligned place =
     let widest = min 8 (place.bits / 8) in 0 < widest → (8 % widest ≡ 0) × (place.byte % widest ≡ 0)
 
--- Bits that are written: how many bits behind the start they begin, how many they are, and their number.
+-- Bits that are written: their distance in bits from the start, how many they are, and their value.
 pub record Field : Type 0 where
   pub start : ℕ
   pub bits : ℕ
   pub value : ℕ
 
--- Bits that are written, by their start, how many they are, and their number.
+-- A field of these bits, by their start, their number and their value.
 abbrev pub field : ℕ → ℕ → ℕ → Field
 field start bits value = record { start = start; bits = bits; value = value }
 
--- A number of so many bytes, which is element number i of a data section.
+-- The number i of a data section, in numbers of `bytes` bytes.
 abbrev pub number_field : ℕ → ℕ → ℕ → Field
 number_field bytes i value = field (8 * (i * bytes)) (8 * bytes) value
 
--- A field is written behind a byte of a segment, and nothing else is changed.
+-- From old to new the field f is written after byte `byte` of a segment, and nothing else changes.
 abbrev pub WritesField : View → View → ℕ → ℕ → Field → Type 0
 WritesField old new segment byte f =
     new ≡ record old { words = with_field old.words segment (8 * byte + f.start) f.bits f.value }
 
--- A field behind a byte of a segment has its number.
+-- The field f after byte `byte` of segment s has its value.
 abbrev pub HasField : View → ℕ → ℕ → Field → Type 0
 HasField view s byte f = f.value ≡ field_in (segment view.words s) (8 * byte + f.start) f.bits

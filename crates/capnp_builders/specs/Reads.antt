@@ -1,4 +1,4 @@
--- What a reader of a message that is built reads.
+-- What a reader of a message being built reads.
 use Rattle.std.specs.Prelude.{◌≡◌, ◌-◌, ◌*◌, ◌^◌, pos}
 use Rattle.capnp_words.specs.declared.wire_pointer.ElementSize.TheVariants.{InlineComposite}
 use Rattle.capnp_arena_traits.specs.declared.arena.reader_arena.ReaderArena.{Ghosts}
@@ -20,21 +20,21 @@ IsArenaOf (Default d) a = ⊥
 IsArenaOf Nothing a = ⊥
 
 module _ {A : Type 0} (g : Ghosts A) where
-  -- A struct is read at a place.
+  -- r reads a struct at this place.
   abbrev pub IsReadAt : StructPlace → StructReader A g → Type 0
   IsReadAt place r =
       (r.byte ≡ place.byte) × (r.bits ≡ place.bits) × (r.pointers.segment ≡ place.segment) ×
       (r.pointers.at ≡ place.pointers_at) × (r.pointer_count ≡ place.pointers)
 
-  -- A list is read at a place.
+  -- r reads a list at this place.
   abbrev pub IsListReadAt : ListPlace → ListReader A g → Type 0
   IsListReadAt place r =
       (r.element_size ≡ place.size) × (r.count ≡ place.count) ×
       (place.size ≡ InlineComposite → r.struct_size ≡ place.struct_size)
       × (r.start.segment ≡ place.segment) × (8 * r.start.at ≡ place.byte)
 
-  -- A reader of what a builder writes reads the same message, at the same place. It may enter as
-  -- many levels as a nesting limit can say.
+  -- The reader of what a builder writes reads the same message, at the same place. It may enter as
+  -- many levels as a nesting limit can express.
   pub record IsPointerReader (b : PointerBuilder A) (r : PointerReader A g) : Type 0 where
     pub reads : IsArenaOf r.source b.arena.now
     pub place : (r.place.segment ≡ b.segment) × (r.place.at ≡ b.at)

@@ -1,4 +1,4 @@
-//! Builders: places of a message that is built, each with the message borrowed for writing.
+//! Builders: places of a message being built, each with the message borrowed mutably.
 ghost use Rattle.std.specs.Prelude.{◌≡◌, ℕ, List, ◌↔◌, ◌∷◌, ◌++◌, [], ◌+◌, ◌-◌, ◌*◌, ◌^◌, ◌<◌, ◌≤◌, IsTrue, length, Ok, Err, IsOk, IfOk, IfErr, OnOk};
 ghost use Rattle.capnp_format.specs.Bytes.{message, words_of};
 ghost use Rattle.capnp_format.specs.Segments.{segment, word_at, IsPlace};
@@ -52,13 +52,13 @@ pub use list_builder::ListBuilder;
 pub use primitive_element::PrimitiveElement;
 pub use struct_builder::StructBuilder;
 
-// Elements that are no structs have no sections.
+// Elements that aren't structs have no sections.
 const NO_SECTIONS: StructSize = StructSize {
     data_words: 0,
     pointers: 0,
 };
 
-/// A pointer of a message that is built.
+/// A pointer of a message being built.
 #[derive(Drop)]
 pub struct PointerBuilder<'a, A> {
     /// The message.
@@ -77,7 +77,7 @@ impl<'a, A: BuilderArena> PointerBuilder<'a, A> {
     ghost use Rattle.capnp_builders.specs.contracts.builders.PointerBuilder.{the_row};
     ghost use mir.Syntax.{named};
 
-    /// The root pointer of a message: word 0 of segment 0, which is allocated.
+    /// The root pointer of a message: word 0 of segment 0. Precondition: that word is allocated.
     pub fn get_root(arena: &'a mut A) -> Self
         requires { IsPlace (A.view arena.old).words 0 0 }
         ensures same { result.arena.ghost_name ≡ arena.entry.ghost_name }
@@ -91,7 +91,7 @@ impl<'a, A: BuilderArena> PointerBuilder<'a, A> {
         }
     }
 
-    /// A builder of this pointer, for as long as this one is borrowed.
+    /// A builder of this pointer, as long as this one is borrowed.
     pub fn reborrow(&mut self) -> PointerBuilder<'_, A>
         ensures* lends { sem 𝓛 (follows (the_row (record { mir = named 1; lft = [] }) A.row) A.row
             self.entry.ghost_name result.arena.ghost_name
@@ -114,15 +114,15 @@ impl<'a, A: BuilderArena> PointerBuilder<'a, A> {
         words::word_at(segment_bytes(&*self.arena, self.segment), self.at as usize) == 0
     }
 
-    /// The pointer, to be read: nothing is charged, and `i32::MAX` levels may be entered.
+    /// The pointer, for reading: charges nothing, and `i32::MAX` levels may be entered.
     pub fn as_reader(&self) -> PointerReader<'_, A>
         ensures { IsPointerReader A.ReaderArena self.now result }
     {
         reader_at(&*self.arena, self.segment, self.at)
     }
 
-    /// The pointer, to be read once building is over: nothing is charged, and `i32::MAX` levels
-    /// may be entered.
+    /// The pointer, for reading once building is over: charges nothing, and `i32::MAX` levels may
+    /// be entered.
     pub fn into_reader(self) -> PointerReader<'a, A>
         ensures { IsPointerReader A.ReaderArena self.entry result }
     {
@@ -130,8 +130,8 @@ impl<'a, A: BuilderArena> PointerBuilder<'a, A> {
         reader_at(arena, segment, at)
     }
 
-    /// Makes the pointer null, and zero what it held: its object, all below it, and its landing pads.
-    /// These words stay allocated.
+    /// Makes the pointer null, and zeroes what it held: its object, all below it, and its landing
+    /// pads. These words stay allocated.
     pub fn clear(&mut self)
         requires { IsThere (built A.view self.old) }
         ensures cleared { Puts (A.view self.old.arena.now).words
@@ -145,7 +145,7 @@ impl<'a, A: BuilderArena> PointerBuilder<'a, A> {
         making::clear(&mut *self.arena, self.segment, self.at);
     }
 
-    /// Makes the pointer a capability, by its index ("Capabilities (Interfaces)").
+    /// Makes the pointer a capability with this index ("Capabilities (Interfaces)").
     pub fn set_capability(&mut self, index: u32)
         requires { IsThere (built A.view self.old) }
         ensures made { Puts (A.view self.old.arena.now).words
@@ -158,10 +158,10 @@ impl<'a, A: BuilderArena> PointerBuilder<'a, A> {
         initializing::set_capability(&mut *self.arena, self.segment, self.at, index);
     }
 
-    /// Makes a struct, all zero, where the pointer leads, and says where it is; `into_struct` is its
-    /// builder. With both outcomes, it is what `init_struct` is made of.
+    /// Makes the pointer lead to a new struct, all zero, and returns its place; `into_struct` gives
+    /// its builder. `init_struct` is made of both; this call's contract covers success and refusal.
     ///
-    /// A refusal is `AllocationFailed` or `MessageTooLarge`, of the struct's words and one more; the
+    /// Refusals: `AllocationFailed`, or `MessageTooLarge` with the struct's words plus one; the
     /// pointer is null then.
     #[inline(always)]
     pub fn put_struct(&mut self, size: StructSize) -> Result<StructPlace, ErrorKind>
@@ -175,7 +175,7 @@ impl<'a, A: BuilderArena> PointerBuilder<'a, A> {
             ≡ struct_word (2 ^ 30 - 1) 0 0) }
         ensures builder { KeepsBuilder self.old self.new }
     {
-        // No `?`: with it a caller that hands the place on is slower (docs/SPEED.md).
+        // No `?`: it would make callers that pass the place on slower (docs/SPEED.md).
         match initializing::init_struct(&mut *self.arena, self.segment, self.at, size) {
             Ok(start) => Ok(StructPlace {
                 segment: start.segment,
@@ -202,10 +202,10 @@ impl<'a, A: BuilderArena> PointerBuilder<'a, A> {
         StructBuilder { arena, place }
     }
 
-    /// Makes a struct, all zero, where the pointer leads.
+    /// Makes the pointer lead to a new struct, all zero.
     ///
-    /// A refusal is `AllocationFailed` or `MessageTooLarge`, of the struct's words and one more; the
-    /// pointer is null then (`put_struct` says what else is true).
+    /// Refusals: `AllocationFailed`, or `MessageTooLarge` with the struct's words plus one; the
+    /// pointer is null then (`put_struct` states what else holds).
     #[inline(always)]
     pub fn init_struct(mut self, size: StructSize) -> Result<StructBuilder<'a, A>, ErrorKind>
         requires { IsThere (built A.view self) }
@@ -224,11 +224,11 @@ impl<'a, A: BuilderArena> PointerBuilder<'a, A> {
         Ok(self.into_struct(place))
     }
 
-    /// Makes a list of `count` elements that are no structs, all zero or null, where the pointer leads,
-    /// and says where it is; `into_list` is its builder. With both outcomes, it is what `init_list`
-    /// is made of.
+    /// Makes the pointer lead to a new list of `count` elements that aren't structs, all zero or
+    /// null, and returns its place; `into_list` gives its builder. `init_list` is made of both;
+    /// this call's contract covers success and refusal.
     ///
-    /// A refusal is `AllocationFailed` or `MessageTooLarge`, of the list's words and one more; the
+    /// Refusals: `AllocationFailed`, or `MessageTooLarge` with the list's words plus one; the
     /// pointer is null then.
     #[inline(always)]
     pub fn put_list(&mut self, size: ElementSize, count: u32) -> Result<ListPlace, ErrorKind>
@@ -266,10 +266,11 @@ impl<'a, A: BuilderArena> PointerBuilder<'a, A> {
         ListBuilder { arena, place }
     }
 
-    /// Makes a list of `count` elements that are no structs, all zero or null, where the pointer leads.
+    /// Makes the pointer lead to a new list of `count` elements that aren't structs, all zero or
+    /// null.
     ///
-    /// A refusal is `AllocationFailed` or `MessageTooLarge`, of the list's words and one more; the
-    /// pointer is null then (`put_list` says what else is true).
+    /// Refusals: `AllocationFailed`, or `MessageTooLarge` with the list's words plus one; the
+    /// pointer is null then (`put_list` states what else holds).
     #[inline(always)]
     pub fn init_list(
         mut self,
@@ -294,11 +295,12 @@ impl<'a, A: BuilderArena> PointerBuilder<'a, A> {
         Ok(self.into_list(place))
     }
 
-    /// Makes a list of `count` structs, all zero, where the pointer leads, and says where it is;
-    /// `into_list` is its builder. With both outcomes, it is what `init_struct_list` is made of.
+    /// Makes the pointer lead to a new list of `count` structs, all zero, and returns its place;
+    /// `into_list` gives its builder. `init_struct_list` is made of both; this call's contract
+    /// covers success and refusal.
     ///
-    /// A refusal is `AllocationFailed` or `MessageTooLarge`, of the words of the structs, the tag and
-    /// one more; the pointer is null then.
+    /// Refusals: `AllocationFailed`, or `MessageTooLarge` with the words of the structs and the tag
+    /// plus one; the pointer is null then.
     pub fn put_struct_list(&mut self, count: u32, size: StructSize) -> Result<ListPlace, ErrorKind>
         requires there { IsThere (built A.view self.old) }
         requires few { count < 2 ^ 30 }
@@ -325,10 +327,10 @@ impl<'a, A: BuilderArena> PointerBuilder<'a, A> {
         })
     }
 
-    /// Makes a list of `count` structs, all zero, where the pointer leads.
+    /// Makes the pointer lead to a new list of `count` structs, all zero.
     ///
-    /// A refusal is `AllocationFailed` or `MessageTooLarge`, of the words of the structs, the tag and
-    /// one more; the pointer is null then (`put_struct_list` says what else is true).
+    /// Refusals: `AllocationFailed`, or `MessageTooLarge` with the words of the structs and the tag
+    /// plus one; the pointer is null then (`put_struct_list` states what else holds).
     pub fn init_struct_list(
         mut self,
         count: u32,
@@ -349,7 +351,7 @@ impl<'a, A: BuilderArena> PointerBuilder<'a, A> {
         Ok(self.into_list(place))
     }
 
-    /// Lends bytes of the message, to be written in place; nothing else changes.
+    /// Lends bytes of the message, for writing in place; nothing else changes.
     pub fn bytes_mut(&mut self, bytes: ExistingBytes) -> &mut [u8]
         requires there { bytes.segment < length (A.view self.old.arena.now).words }
         requires inside { AreInside (A.view self.old.arena.now).words bytes }
@@ -370,12 +372,12 @@ impl<'a, A: BuilderArena> PointerBuilder<'a, A> {
         lent::bytes_mut(arena, bytes)
     }
 
-    /// Makes data of `size` bytes, all zero, where the pointer leads, to be written in place
-    /// ("Lists").
+    /// Makes the pointer lead to new data of `size` bytes, all zero, and lends them for writing in
+    /// place ("Lists").
     ///
-    /// A refusal is `AllocationFailed` or `MessageTooLarge`, of the list's words and one more; the
-    /// pointer is null then. What the message is once the bytes are written is said by `put_list` and
-    /// `bytes_mut`, which do the same in two steps.
+    /// Refusals: `AllocationFailed`, or `MessageTooLarge` with the list's words plus one; the
+    /// pointer is null then. `put_list` and `bytes_mut` do the same in two steps, and their
+    /// contracts state what the message is once the bytes are written.
     pub fn init_data(self, size: u32) -> Result<&'a mut [u8], ErrorKind>
         requires there { IsThere (built A.view self) }
         requires few { size < 2 ^ 29 }
@@ -389,12 +391,12 @@ impl<'a, A: BuilderArena> PointerBuilder<'a, A> {
         lent::init_data(arena, segment, at, size)
     }
 
-    /// Makes a text of `size` bytes, all zero, where the pointer leads, to be written in place. The
-    /// zero byte behind them isn't lent ("Lists").
+    /// Makes the pointer lead to a new text of `size` bytes, all zero, and lends them for writing
+    /// in place, without the zero byte after them ("Lists").
     ///
-    /// A refusal is `AllocationFailed` or `MessageTooLarge`, of the list's words and one more; the
-    /// pointer is null then. What the message is once the bytes are written is said by `put_list` and
-    /// `bytes_mut`, which do the same in two steps.
+    /// Refusals: `AllocationFailed`, or `MessageTooLarge` with the list's words plus one; the
+    /// pointer is null then. `put_list` and `bytes_mut` do the same in two steps, and their
+    /// contracts state what the message is once the bytes are written.
     pub fn init_text(self, size: u32) -> Result<&'a mut [u8], ErrorKind>
         requires there { IsThere (built A.view self) }
         requires few { size + 1 < 2 ^ 29 }
@@ -408,9 +410,9 @@ impl<'a, A: BuilderArena> PointerBuilder<'a, A> {
         lent::init_text(arena, segment, at, size)
     }
 
-    /// Makes data of the given bytes where the pointer leads ("Lists").
+    /// Makes the pointer lead to new data with these bytes ("Lists").
     ///
-    /// A refusal is `AllocationFailed` or `MessageTooLarge`, of the words of the bytes and one more; the
+    /// Refusals: `AllocationFailed`, or `MessageTooLarge` with the words of the bytes plus one; the
     /// pointer is null then.
     #[inline(always)]
     pub fn set_data(&mut self, bytes: &[u8]) -> Result<(), ErrorKind>
@@ -425,10 +427,10 @@ impl<'a, A: BuilderArena> PointerBuilder<'a, A> {
         bytes::set_data(&mut *self.arena, self.segment, self.at, bytes)
     }
 
-    /// Makes a text of the given bytes where the pointer leads: a list of these and a zero byte behind
-    /// them ("Lists").
+    /// Makes the pointer lead to a new text: a list of these bytes followed by a zero byte
+    /// ("Lists").
     ///
-    /// A refusal is `AllocationFailed` or `MessageTooLarge`, of the words of the bytes and one more; the
+    /// Refusals: `AllocationFailed`, or `MessageTooLarge` with the words of the bytes plus one; the
     /// pointer is null then.
     #[inline(always)]
     pub fn set_text(&mut self, bytes: &[u8]) -> Result<(), ErrorKind>
@@ -441,11 +443,12 @@ impl<'a, A: BuilderArena> PointerBuilder<'a, A> {
         bytes::set_text(&mut *self.arena, self.segment, self.at, bytes)
     }
 
-    /// The capability that the pointer is, by its index ("Capabilities (Interfaces)"). Far pointers
-    /// aren't followed.
+    /// The capability that the pointer is, by its index ("Capabilities (Interfaces)"). Doesn't
+    /// follow far pointers.
     ///
-    /// A null pointer is `MessageContainsNullCapabilityPointer`, any other
-    /// `MessageContainsNonCapabilityPointerWhereCapabilityPointerWasExpected`.
+    /// Refusals: `MessageContainsNullCapabilityPointer` if it is null;
+    /// `MessageContainsNonCapabilityPointerWhereCapabilityPointerWasExpected` for any other
+    /// pointer.
     pub fn get_capability(&self) -> Result<u32, ErrorKind>
         requires { IsThere (built A.view self.now) }
         ensures { result ≡ capability_of
@@ -454,23 +457,23 @@ impl<'a, A: BuilderArena> PointerBuilder<'a, A> {
         existing::get_capability(&*self.arena, self.segment, self.at)
     }
 
-    /// Makes the pointer what another one means: a copy of the whole value, as it stands, or in canonical
-    /// form ("Canonicalization"). The source is charged as reading all of it costs.
+    /// Copies the value of `from` to this pointer, plain or in canonical form ("Canonicalization").
+    /// Charges what reading all of it costs.
     ///
-    /// The value is copied onto any pointer, over as many segments as it takes. What the pointer held before
-    /// becomes zero first, and its words stay allocated. The words of the value stand behind those of the
-    /// pointer's segment, in the canonical order of objects, wherever they fit there, or where the message
-    /// has but one segment afterwards: all words of the sections and elements of a copy as it stands, and
-    /// the trimmed ones in canonical form.
+    /// First zeroes what the pointer held; those words stay allocated. If the copy fits, or the
+    /// message has one segment afterwards, its words come after those of the pointer's segment, in
+    /// the canonical order of objects: all words of the sections and elements in a plain copy, the
+    /// trimmed ones in canonical form. Otherwise it takes as many segments as it needs.
     ///
-    /// A refusal is the first one of reading the source; `CannotCreateACanonicalMessageWithACapability` in
-    /// canonical form; or, where an object finds no room, `AllocationFailed`, or `MessageTooLarge` of its
-    /// words and one more. That comes only where the words don't fit the segment.
+    /// Refusals: the first one of reading `from`; `CannotCreateACanonicalMessageWithACapability`
+    /// for a capability in canonical form; if an object finds no room, `AllocationFailed`, or
+    /// `MessageTooLarge` with its words plus one, which happens only if the words don't fit the
+    /// segment.
     ///
-    /// After a refusal the pointer is null, the words that were taken are zero and stay allocated, and
-    /// what was charged stays charged. At most as many words are taken as reading the value costs, or what
-    /// was read of it before the object where a refused copy breaks off. Only landing pads come on top: one
-    /// of each object for which the segment of its pointer has no room.
+    /// After a refusal the pointer is null, the words taken are zero and stay allocated, and what
+    /// was charged stays charged. Takes at most as many words as reading the value costs (if
+    /// refused, as reading it up to the object that failed), plus one landing pad for each object
+    /// for which the segment of its pointer had no room.
     pub fn copy_from<B: ReaderArena>(
         &mut self,
         from: PointerReader<'_, B>,
@@ -515,21 +518,23 @@ impl<'a, A: BuilderArena> PointerBuilder<'a, A> {
         copy::copy_value(&mut *self.arena, to, value, lim, canonicalize)
     }
 
-    /// Makes the pointer a copy of a struct that is read: as it stands, its data section padded with zeros
-    /// to whole words, or in canonical form ("Structs", "Canonicalization"). The struct's own words cost
-    /// nothing; what its pointers mean is charged as reading it costs, within the reader's nesting limit.
+    /// Copies a struct being read to this pointer: plain, its data section padded with zeros to
+    /// whole words, or in canonical form ("Structs", "Canonicalization"). The struct's own words
+    /// cost nothing; charges what reading the values of its pointers costs, within the reader's
+    /// nesting limit.
     ///
-    /// What the pointer held before becomes zero first. The words of the struct stand behind those of the
-    /// pointer's segment, in the canonical order of objects, wherever they fit there, or where the message
-    /// has but one segment afterwards.
+    /// First zeroes what the pointer held. If the copy fits, or the message has one segment
+    /// afterwards, its words come after those of the pointer's segment, in the canonical order of
+    /// objects.
     ///
-    /// A refusal is the first one of reading what the pointers mean; where the words don't fit there,
-    /// `AllocationFailed`, or `MessageTooLarge` of an object's words and one more;
-    /// `CannotCreateACanonicalMessageWithACapability` in canonical form; or `MessageTooLarge` with the
-    /// number of the data words to be kept where it is above 65535, and nothing is charged then.
+    /// Refusals: the first one of reading what the pointers mean; if the words don't fit there,
+    /// `AllocationFailed`, or `MessageTooLarge` with an object's words plus one;
+    /// `CannotCreateACanonicalMessageWithACapability` for a capability in canonical form;
+    /// `MessageTooLarge` with the number of data words to keep if that is above 65535, and then
+    /// nothing is charged.
     ///
-    /// After a refusal the pointer is null, the words that were taken are zero and stay allocated, and
-    /// what was charged stays charged.
+    /// After a refusal the pointer is null, the words taken are zero and stay allocated, and what
+    /// was charged stays charged.
     pub fn set_struct<B: ReaderArena>(
         &mut self,
         value: &StructReader<'_, B>,
@@ -558,22 +563,23 @@ impl<'a, A: BuilderArena> PointerBuilder<'a, A> {
         copy::copy_struct_value(&mut *self.arena, to, *value, lim, canonicalize)
     }
 
-    /// Makes the pointer a copy of a list that is read, as it stands or in canonical form ("Lists",
-    /// "Canonicalization"): pointers are copied as pointers, structs as structs, and numbers as their
-    /// words, with padding of zero. The list's own words and its count cost nothing; what its elements
-    /// lead to is charged as reading it costs, within the reader's nesting limit.
+    /// Copies a list being read to this pointer, plain or in canonical form ("Lists",
+    /// "Canonicalization"): pointers as pointers, structs as structs, and numbers as their words,
+    /// with zero padding. The list's own words and its count cost nothing; charges what reading the
+    /// values of its elements costs, within the reader's nesting limit.
     ///
-    /// What the pointer held before becomes zero first. The words of the list stand behind those of the
-    /// pointer's segment, in the canonical order of objects, wherever they fit there, or where the message
-    /// has but one segment afterwards.
+    /// First zeroes what the pointer held. If the copy fits, or the message has one segment
+    /// afterwards, its words come after those of the pointer's segment, in the canonical order of
+    /// objects.
     ///
-    /// A refusal is the first one of reading what the elements lead to; where the words don't fit there,
-    /// `AllocationFailed`, or `MessageTooLarge` of an object's words and one more;
-    /// `CannotCreateACanonicalMessageWithACapability` in canonical form; or `MessageTooLarge(usize::MAX)`
-    /// for a list of more elements or words than a list pointer can say, which no message holds.
+    /// Refusals: the first one of reading what the elements lead to; if the words don't fit there,
+    /// `AllocationFailed`, or `MessageTooLarge` with an object's words plus one;
+    /// `CannotCreateACanonicalMessageWithACapability` for a capability in canonical form;
+    /// `MessageTooLarge(usize::MAX)` for a list of more elements or words than a list pointer can
+    /// state, which no message holds.
     ///
-    /// After a refusal the pointer is null, the words that were taken are zero and stay allocated, and
-    /// what was charged stays charged.
+    /// After a refusal the pointer is null, the words taken are zero and stay allocated, and what
+    /// was charged stays charged.
     pub fn set_list<B: ReaderArena>(
         &mut self,
         value: &ListReader<'_, B>,
@@ -603,7 +609,7 @@ impl<'a, A: BuilderArena> PointerBuilder<'a, A> {
     }
 }
 
-/// The words of a segment, none where there is no such segment.
+/// The words of segment `id`; none if there is no such segment.
 fn segment_bytes<A: ReaderArena>(arena: &A, id: u32) -> &[u8]
     ensures words { words_of result.now ≡ segment (message (A.segments arena.now)) id }
     ensures whole { length result.now ≡ 8 * length (segment (message (A.segments arena.now)) id) }
@@ -615,7 +621,7 @@ fn segment_bytes<A: ReaderArena>(arena: &A, id: u32) -> &[u8]
     }
 }
 
-/// A pointer of an arena, to be read.
+/// A pointer of an arena, for reading.
 fn reader_at<A: ReaderArena>(arena: &A, segment: u32, at: u32) -> PointerReader<'_, A>
     ensures reads { IsArenaOf result.source arena.now }
     ensures place { (result.place.segment ≡ segment) × (result.place.at ≡ at) }

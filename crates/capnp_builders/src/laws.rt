@@ -1,5 +1,5 @@
-//! What follows of the calls that copy the content of a struct into a struct that a message has. Each
-//! function does nothing: its contract is the law, proved for all messages.
+//! Laws of the calls that copy a struct's content into a struct of a message. Each function does
+//! nothing: its contract is the law, proved for all messages.
 ghost use Rattle.std.specs.Prelude.{◌≡◌, ℕ, ◌+◌, ◌*◌, ◌<◌, ◌≤◌, List, length};
 ghost use Rattle.capnp_format.specs.Forest.{target};
 ghost use Rattle.capnp_format.specs.Segments.{Segments};
@@ -13,9 +13,9 @@ ghost use Rattle.capnp_widening.specs.Opening.{existing_struct};
 ghost use Rattle.capnp_builders.specs.Content.{TakesBytes, HoldContent, up_to};
 ghost use Rattle.capnp_builders.specs.Places.{struct_place};
 
-/// Where content is taken and the pointers are copied, the pointer that leads to the struct stores one
-/// struct: its data words are of the content, its children the copies, with nulls behind them. It starts
-/// where it did, and nothing else of the message is changed ("Structs").
+/// If content is taken and the pointers are copied, the pointer that leads to the struct stores one
+/// struct: its data words are those of the content, its children the copies, followed by nulls. It
+/// starts where it did, and nothing else of the message is changed ("Structs").
 pub fn content_taken()
     ensures { (S M R : Segments) (s p : ℕ) (ws : List ℕ) (ts us : Trees) (place : StructPlace)
         (bits : ℕ) (bytes : List ℕ) → IsStored S s p (Struct ws ts)
@@ -28,8 +28,8 @@ pub fn content_taken()
         × (target R s p ≡ target S s p) }
 {}
 
-/// Where the copy of a pointer is refused, which leaves it null, the struct is stored with the copies made
-/// before, and with nulls behind them.
+/// If the copy of a pointer is refused, which leaves it null, the struct is stored with the copies
+/// made before, followed by nulls.
 pub fn content_stopped()
     ensures { (S M F R : Segments) (s p : ℕ) (ws : List ℕ) (ts us : Trees) (place : StructPlace)
         (bits : ℕ) (bytes : List ℕ) → IsStored S s p (Struct ws ts)
@@ -43,9 +43,9 @@ pub fn content_stopped()
         × (target R s p ≡ target S s p) }
 {}
 
-/// Where an element of a list of structs takes content and the pointers are copied, the pointer that leads
-/// to the list stores it with that element, which has the content, and nothing else of the message is
-/// changed ("Lists").
+/// If an element of a list of structs takes content and the pointers are copied, the pointer that
+/// leads to the list stores it with that element, which has the content, and nothing else of the
+/// message is changed ("Lists").
 pub fn element_content_taken()
     ensures { (S M R : Segments) (s p d q : ℕ) (es : Elements) (i : ℕ) (ws : List ℕ)
         (ts us : Trees) (place : StructPlace) (bits : ℕ) (bytes : List ℕ)
@@ -62,8 +62,8 @@ pub fn element_content_taken()
         (Structs d q (put_struct es i (Struct vs (up_to q us)))) }
 {}
 
-/// Where the copy of a pointer of the element is refused, the pointer that leads to the list stores it with
-/// that element, which has the copies made before, and nulls behind them.
+/// If the copy of a pointer of the element is refused, the pointer that leads to the list stores it
+/// with that element, which has the copies made before, followed by nulls.
 pub fn element_content_stopped()
     ensures { (S M F R : Segments) (s p d q : ℕ) (es : Elements) (i : ℕ) (ws : List ℕ)
         (ts us : Trees) (place : StructPlace) (bits : ℕ) (bytes : List ℕ)

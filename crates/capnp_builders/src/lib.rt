@@ -1,4 +1,4 @@
-//! Builders: places of a message that is built.
+//! Builders: places of a message being built.
 #![tactic(auto)]
 
 pub mod builders;

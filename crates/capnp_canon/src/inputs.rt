@@ -1,4 +1,5 @@
-//! The inputs of a run: each is opened, read and answered in turn, and what isn't answered is said on standard error.
+//! Opens, reads and answers each input of a run in turn, and reports on standard error what can't
+//! be answered.
 
 ghost use Rattle.std.specs.Prelude.{◌≡◌, false};
 
@@ -17,16 +18,17 @@ use std::io::{BufReader, Read};
 /// Why a run ends before all inputs are answered.
 #[derive(Clone, Copy)]
 pub enum Unanswered {
-    /// Standard error says why. The answers before it are passed on.
+    /// Standard error says why. The answers before it are flushed.
     Said,
-    /// The output failed.
+    /// Writing the output failed.
     WriteFailed,
 }
 
-/// Does a task with each of these files in turn, or with standard input where there is none; says whether each answer was a
-/// yes. The first file that can't be opened or isn't answered to its end ends it.
+/// Does the task with each file in turn, or with standard input if there are no files; returns
+/// whether every answer was yes. Ends at the first file that can't be opened or isn't answered to
+/// its end.
 ///
-/// Of several files each line of an answer begins with the name of its file.
+/// If there are several files, each line of an answer begins with the file's name.
 pub fn answer_all<W: BufferedOutput>(
     rt: &HostRuntime,
     task: Task,
@@ -50,7 +52,7 @@ pub fn answer_all<W: BufferedOutput>(
     Ok(holds)
 }
 
-/// Does a task with a file; `-` is standard input.
+/// Does the task with a file; `-` is standard input.
 fn answer_file<W: BufferedOutput>(
     rt: &HostRuntime,
     task: Task,
@@ -70,7 +72,7 @@ fn answer_file<W: BufferedOutput>(
     }
 }
 
-/// Passes on what is written to an output.
+/// Flushes the output.
 fn pass_on<W: BufferedOutput>(output: &mut W) -> Result<(), Unanswered> {
     match output.pass_on() {
         Ok(()) => Ok(()),
@@ -78,7 +80,7 @@ fn pass_on<W: BufferedOutput>(output: &mut W) -> Result<(), Unanswered> {
     }
 }
 
-/// Does a task with what a reader gives, which has this name.
+/// Does the task with the bytes of `reader`, whose name is `name`.
 fn answer<R: Read + Drop, W: BufferedOutput>(
     rt: &HostRuntime,
     task: Task,
@@ -87,7 +89,7 @@ fn answer<R: Read + Drop, W: BufferedOutput>(
     output: &mut W,
 ) -> Result<bool, Unanswered> {
     if task.from_flat {
-        // bare words are waited for to their end
+        // Bare words are read to the end of the input first, which may take a while.
         pass_on(output)?;
     }
     if output.failed() {
@@ -113,7 +115,7 @@ fn answer<R: Read + Drop, W: BufferedOutput>(
     }
 }
 
-/// Does a task from an input to an output, neither of which has failed.
+/// Does the task from `input` to `output`. Precondition: neither has failed.
 fn run<R: BufferedInput + Drop, W: BufferedOutput>(
     rt: &HostRuntime,
     task: Task,
@@ -132,7 +134,8 @@ fn run<R: BufferedInput + Drop, W: BufferedOutput>(
     }
 }
 
-/// Does a task with the one message that an input is, as one message of a stream.
+/// Does the task with the one message that `input` holds as bare words, and returns what `run` does
+/// of a stream of one message.
 fn run_flat<R: BufferedInput, W: BufferedOutput>(
     rt: &HostRuntime,
     task: Task,
@@ -156,8 +159,9 @@ fn run_flat<R: BufferedInput, W: BufferedOutput>(
     }
 }
 
-/// Says which message is refused, counted from 1, at which byte it begins, and why; and what the input looks like, where it is
-/// the first message of something else.
+/// Reports which message is refused, counted from 1, at which byte it begins, and why. If it is the
+/// first message, also reports what the input looks like, if that is something else than the task
+/// reads.
 fn refuse(rt: &HostRuntime, task: Task, name: Option<&str>, stop: Stop, seen: &Seen) {
     let (name, colon) = match name {
         Some(name) => (name, ": "),

@@ -1,6 +1,6 @@
-//! The program `capnp_canon`: reads framed messages from standard input or from files, one behind
-//! the other, and writes what each is in canonical form, whether it is in that form, or how large it
-//! is. `capnp_canon --help` says what its arguments are.
+//! The program `capnp_canon`: reads a stream of framed messages from standard input or from files,
+//! and writes each message in canonical form, says whether it is in that form, or how large it is.
+//! `capnp_canon --help` explains the arguments.
 #![tactic(auto)]
 
 ghost use Rattle.std.specs.Prelude.{◌≤◌, length};
@@ -20,7 +20,7 @@ use std::io::{self, BufWriter};
 use std::process::ExitCode;
 use texts::{HELP, NO_MEMORY, USAGE, VERSION};
 
-/// How many bytes of the input, and of the output, are kept at a time.
+/// The size in bytes of the input buffer, and of the output buffer.
 const BUFFER: usize = 1 << 16;
 
 fn main(rt: HostRuntime) -> ExitCode {
@@ -30,7 +30,8 @@ fn main(rt: HostRuntime) -> ExitCode {
     }
 }
 
-/// Does what the arguments ask for. An error is want of memory for the arguments; nothing is read or written then.
+/// Runs the command. Fails only if there is no memory for the arguments, and then reads and writes
+/// nothing.
 fn answer(rt: &HostRuntime) -> Result<ExitCode, AllocError> {
     let Some(words) = words(rt)? else {
         return Ok(complain(rt, USAGE));
@@ -47,7 +48,7 @@ fn answer(rt: &HostRuntime) -> Result<ExitCode, AllocError> {
     }
 }
 
-/// The words behind the program's name; `None` where one isn't text.
+/// The arguments without the program's name; `None` if one isn't text.
 fn words(rt: &HostRuntime) -> Result<Option<Vec<String>>, AllocError> {
     let given = match env::args(rt) {
         Ok(given) => given,
@@ -61,7 +62,8 @@ fn words(rt: &HostRuntime) -> Result<Option<Vec<String>>, AllocError> {
     Ok(Some(words))
 }
 
-/// Says which word is wrong, by how many there are from it on, or that one is missing; and how the program is called.
+/// Reports the wrong argument, which is the first of the last `left`, or that one is missing if
+/// `left` is 0; and the usage.
 fn misunderstood(rt: &HostRuntime, words: &[String], left: usize) -> ExitCode
     requires { left ≤ length words.now }
 {
@@ -74,7 +76,7 @@ fn misunderstood(rt: &HostRuntime, words: &[String], left: usize) -> ExitCode
     complain(rt, USAGE)
 }
 
-/// Does a task from these files, or from standard input where there is none, to standard output.
+/// Does the task from these files, or from standard input if there are none, to standard output.
 fn run(rt: &HostRuntime, task: Task, files: &[String]) -> ExitCode {
     let seen = Seen::new();
     let writer = Watched::new(io::writer(rt), &seen);
@@ -92,8 +94,8 @@ fn run(rt: &HostRuntime, task: Task, files: &[String]) -> ExitCode {
     run_to(rt, task, files, &mut packing, &seen)
 }
 
-/// Does a task to an output, which then passes on all that was written; the status of the run. Where the output failed that
-/// is said.
+/// Does the task, flushes the output, and returns the status of the run. If the output fails,
+/// reports it.
 fn run_to<W: BufferedOutput>(
     rt: &HostRuntime,
     task: Task,
@@ -113,7 +115,7 @@ fn run_to<W: BufferedOutput>(
     }
 }
 
-/// Says that the output failed, and why. Where nobody reads it nothing is said.
+/// Reports that the output failed, and why; reports nothing if nobody reads the output.
 fn write_failed(rt: &HostRuntime, fault: Option<io::Error>) -> ExitCode {
     match fault {
         None => complain(rt, "refused WriteFailed"),
@@ -126,7 +128,7 @@ fn write_failed(rt: &HostRuntime, fault: Option<io::Error>) -> ExitCode {
     }
 }
 
-/// Writes a text to standard output.
+/// Writes `text` to standard output.
 fn say(rt: &HostRuntime, text: &str) -> ExitCode {
     match rt.println(text) {
         Ok(()) => ExitCode::SUCCESS,
@@ -134,7 +136,7 @@ fn say(rt: &HostRuntime, text: &str) -> ExitCode {
     }
 }
 
-/// Says what is wrong, where it can be said.
+/// Writes `text` to standard error, if possible, and returns status 2.
 fn complain(rt: &HostRuntime, text: &str) -> ExitCode {
     let _ = rt.eprintln(text);
     ExitCode::from(2)

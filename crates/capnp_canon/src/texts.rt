@@ -1,17 +1,17 @@
-//! What the program says of itself.
+//! The texts that the program prints about itself.
 
-/// The name and version of the program.
+/// The program's name and version.
 pub const VERSION: &str = "capnp_canon 1.0.0";
 
-/// How the program is called.
+/// The usage.
 pub const USAGE: &str =
     "usage: capnp_canon canon [--flat] [--pack] [--hex] | check [--quiet] | size  [OPTION..] [--] [FILE..]
        capnp_canon --help | --version";
 
-/// What the program says where there is no memory for the arguments or a buffer.
+/// Printed if there is no memory for the arguments or a buffer.
 pub const NO_MEMORY: &str = "refused AllocationFailed";
 
-/// What the program's arguments mean.
+/// The help text.
 pub const HELP: &str =
     "Reads framed messages of Cap'n Proto from files or standard input, one behind the other, and answers to each.
 

@@ -1,4 +1,4 @@
--- What a call gives, and why it is refused.
+-- What a call returns, and why it is refused.
 use Rattle.std.specs.Prelude.{◌≡◌, ◌≢◌, ◌⊎◌, ℕ, ℤ, ◌-◌, ◌/◌, ◌%◌, ◌^◌, ◌<◌, ◌≤◌, List, [], ◌∷◌, All, Bool, true, false}
 use Rattle.std.specs.Prelude.{length, map, take, drop, Option, Some, None, Result, IfOk, OnErr}
 use Rattle.std.specs.Borrow.{Bor}
@@ -35,50 +35,52 @@ use Rattle.capnp_canonical.specs.declared.refusal.Refusal.TheVariants.{Frame, La
 abbrev pub limits_of : ℤ → ℕ → ReaderOptions
 limits_of nesting words = record { nesting_limit = nesting; traversal_limit_in_words = Some words }
 
--- Bytes begin with the frame of a message that P holds of.
+-- The bytes begin with the frame of a message that satisfies P.
 abbrev pub InFrame : List ℕ → ℕ → (Segments → Type 0) → Type 0
 InFrame bytes words P = (S : Segments) × BeginsWithFrame bytes words S × P S
 
--- The bytes of segments that were given.
+-- The bytes of the segments that were passed.
 abbrev pub lent_bytes : List (Bor (List ℕ)) → List (List ℕ)
 lent_bytes segments = map (λ s. s.now) segments
 
--- Each segment is of whole words.
+-- Each segment is whole words.
 abbrev pub AreWholeWords : List (Bor (List ℕ)) → Type 0
 AreWholeWords segments = All (λ s. length s.now % 8 ≡ 0) segments
 
--- Segments that were given are those of a message that P holds of.
+-- The segments that were passed are those of a message that satisfies P.
 abbrev pub InSegments : List (Bor (List ℕ)) → (Segments → Type 0) → Type 0
 InSegments segments P = AreWholeWords segments × AreSmall segments × P (message (lent_bytes segments))
 
--- Bytes begin with no frame: there are none, or for the first reason that applies.
+-- The bytes don't begin with a frame: there are none, or for the first reason that applies.
 abbrev pub RefusesBytes : List ℕ → ℕ → Refusal → Type 0
 RefusesBytes bytes words r =
     ((r ≡ NoMessage) × (bytes ≡ [])) ⊎ ((e : FrameError) × (r ≡ Frame e) × NoFrame bytes words e)
 
--- Segments aren't those of a message: one isn't of whole words, or they are beyond the limits of a
+-- The segments aren't those of a message: one isn't whole words, or they are beyond the limits of a
 -- reader.
 abbrev pub RefusesSegments : List (Bor (List ℕ)) → Refusal → Type 0
 RefusesSegments segments r =
     ((r ≡ SegmentIsNotWholeWords) × (AreWholeWords segments → ⊥))
     ⊎ ((r ≡ Layout (MessageTooLarge (2 ^ 64 - 1))) × (AreSmall segments → ⊥))
 
--- Bytes are the whole words of a segment, and no more than a reader takes.
+-- The bytes are the whole words of one segment, and at most as many as a reader takes.
 abbrev pub IsOneSegment : List ℕ → Type 0
 IsOneSegment bytes = (length bytes % 8 ≡ 0) × (length bytes / 8 < 2 ^ 32)
 
--- Bytes are the words of a message of one segment that P holds of.
+-- The bytes are the words of a message of one segment that satisfies P.
 abbrev pub InWords : List ℕ → (Segments → Type 0) → Type 0
 InWords bytes P = IsOneSegment bytes × P (message (bytes ∷ []))
 
--- Bytes aren't the words of a segment: they aren't whole words, or are beyond the limits of a reader.
+-- The bytes aren't the words of a segment: they aren't whole words, or are beyond the limits of a
+-- reader.
 abbrev pub RefusesSegment : List ℕ → Refusal → Type 0
 RefusesSegment bytes r =
     ((r ≡ SegmentIsNotWholeWords) × (length bytes % 8 ≡ 0 → ⊥))
     ⊎ ((r ≡ Layout (MessageTooLarge (2 ^ 64 - 1))) × (length bytes / 8 < 2 ^ 32 → ⊥))
 
--- Packed bytes aren't unpacked: they end within a word or before a number; they are whole, and
--- stand for more bytes than there is room for; or for so many that no buffer has room for them.
+-- The packed bytes aren't unpacked: they end within a word or before a number; or they are whole,
+-- and stand for more bytes than there is room for; or they stand for so many that no buffer has
+-- room for them.
 abbrev pub RefusesPacked : List ℕ → ℕ → Refusal → Type 0
 RefusesPacked packed room r =
     let size = length (unpacked_bytes Tag packed) in
@@ -86,38 +88,40 @@ RefusesPacked packed room r =
     ⊎ ((r ≡ NoRoom size) × IsWhole Tag packed × (room < size))
     ⊎ ((r ≡ NoRoom (2 ^ 64 - 1)) × (2 ^ 64 ≤ size))
 
--- The canonical bytes of a message, in a form.
+-- The canonical bytes of a message, in this form.
 abbrev pub IsCopyOf : Form → ReaderOptions → Segments → List ℕ → Type 0
 IsCopyOf form limits S bytes =
     (t : Tree) × IsValueOf S limits t × (bytes ≡ form_bytes form (encoding (trim t)))
 
--- A command is refused, by what the message means.
+-- A command is refused for what the message means.
 abbrev pub RefusesMeaning : Command → ReaderOptions → Segments → Refusal → Type 0
 RefusesMeaning command limits S r = (k : ErrorKind) × (r ≡ Layout k) × RefusesAnswer command limits S k
 
--- A copy is refused by what the message means; or there is a copy, of more bytes than there is room for.
+-- A copy is refused for what the message means; or there is a copy, of more bytes than there is
+-- room for.
 abbrev pub RefusesRoom : Form → ReaderOptions → ℕ → Segments → Refusal → Type 0
 RefusesRoom form limits room S r =
     RefusesMeaning (Canon form) limits S r ⊎
     ((bytes : List ℕ) × IsCopyOf form limits S bytes
     × (r ≡ NoRoom (length bytes)) × (room < length bytes))
 
--- A call puts bytes that P holds of to the front of a buffer, and gives how many they are. What is
--- behind them stays; where the call is refused, the whole buffer does.
+-- A call writes bytes that satisfy P to the front of a buffer, and returns their number. What comes
+-- after them stays; if the call is refused, the whole buffer does.
 pub record Fills (result : Result ℕ Refusal) (old new : List ℕ) (P : List ℕ → Type 0) : Type 0 where
   pub front : IfOk result (λ n. P (take n new))
   pub within : IfOk result (λ n. n ≤ length new)
   pub behind : IfOk result (λ n. drop n new ≡ drop n old)
   pub kept : OnErr result (new ≡ old)
 
--- A call from C puts such bytes, where its answer is 0; else that is the number of a refusal.
+-- A call from C writes such bytes if its answer is 0; otherwise the answer is the number of a
+-- refusal, and the buffer stays.
 pub record FillsByNumber (answer written : ℕ) (old new : List ℕ) (P : List ℕ → Type 0) : Type 0 where
   pub front : answer ≡ 0 → P (take written new)
   pub within : answer ≡ 0 → written ≤ length new
   pub behind : answer ≡ 0 → drop written new ≡ drop written old
   pub kept : answer ≢ 0 → new ≡ old
 
--- A number is the number of a refusal that P holds of.
+-- The number is that of a refusal that satisfies P.
 abbrev pub IsNumberWhere : ℕ → (Refusal → Type 0) → Type 0
 IsNumberWhere number P = (r : Refusal) × (number ≡ answer_number r) × P r
 
@@ -125,24 +129,24 @@ IsNumberWhere number P = (r : Refusal) × (number ≡ answer_number r) × P r
 abbrev pub IsGranted : ℕ → Type 0
 IsGranted number = (number ≡ 0) ⊎ (number ≡ 1) ⊎ (number ≡ 32)
 
--- How many bytes the table of a frame of one segment has, in a form.
+-- The number of bytes of the table of a frame of one segment, in this form.
 abbrev pub table_bytes : Form → ℕ
 table_bytes Framed = 8
 table_bytes Flat = 0
 
--- A fault as C sees it, and none.
+-- No fault, and a fault as C sees it.
 abbrev pub no_fault : Fault
 no_fault = record { reason = 0; word = 0; segment = 0 }
 
 abbrev pub told_fault : CanonicalFault → Fault
 told_fault f = record { reason = reason_number f.reason; word = f.word; segment = f.segment }
 
--- The test of a message finds a fault, or none where the message is canonical.
+-- The test of a message finds a fault, or none if the message is canonical.
 abbrev pub TestFinds : ReaderOptions → Option CanonicalFault → Segments → Type 0
 TestFinds limits None S = IsCanonicalMessage S
 TestFinds limits (Some f) S = (IsCanonicalMessage S → ⊥) × IsFaultOf S limits f
 
--- Whether a message is canonical, and if not why and where.
+-- Whether a message is canonical, and if not, why and where.
 abbrev pub TestIs : ReaderOptions → Bool → Fault → Segments → Type 0
 TestIs limits true fault S = IsCanonicalMessage S × (fault ≡ no_fault)
 TestIs limits false fault S =

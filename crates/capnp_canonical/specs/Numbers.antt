@@ -1,4 +1,5 @@
--- What C sees of a refusal and of a fault: numbers and texts. A number is never given another meaning.
+-- What C sees of a refusal and of a fault: numbers and texts. The meaning of a number never
+-- changes.
 use Rattle.std.specs.Prelude.{ℕ, List, codes}
 use Rattle.capnp_words.specs.Names.{name_of}
 use Rattle.capnp_words.specs.declared.error.ErrorKind.{ErrorKind}
@@ -65,7 +66,7 @@ use Rattle.capnp_canonical.specs.declared.refusal.Refusal.TheVariants.{NoRoom, N
 use Rattle.capnp_canonical.specs.declared.refusal.Refusal.TheVariants.{SegmentIsNotWholeWords}
 use Rattle.capnp_canonical.specs.declared.refusal.Refusal.TheVariants.{Frame, Layout}
 
--- the number of a frame's refusal
+-- The number of a frame's refusal.
 abbrev pub frame_error_number : FrameError → ℕ
 frame_error_number NoSegments = 16
 frame_error_number (TooManySegments _) = 17
@@ -75,7 +76,7 @@ frame_error_number ReadFailed = 20
 frame_error_number WriteFailed = 21
 frame_error_number NoMemory = 22
 
--- the number of a refusal of what a message means
+-- The number of a refusal of what a message means.
 abbrev pub error_number : ErrorKind → ℕ
 error_number AllocationFailed = 32
 error_number CannotCreateACanonicalMessageWithACapability = 33
@@ -113,7 +114,7 @@ error_number TriedToReadFromNullArena = 64
 error_number UnexpectedFarPointer = 65
 error_number UnknownPointerType = 66
 
--- the number of a refusal; 0 is none
+-- The number of a refusal; 0 is none.
 abbrev pub answer_number : Refusal → ℕ
 answer_number (NoRoom _) = 1
 answer_number NoMessage = 2
@@ -121,7 +122,7 @@ answer_number SegmentIsNotWholeWords = 3
 answer_number (Frame e) = frame_error_number e
 answer_number (Layout k) = error_number k
 
--- the name of a refusal
+-- The name of a refusal.
 abbrev pub answer_name : Refusal → List ℕ
 answer_name (NoRoom _) = codes "NoRoom"
 answer_name NoMessage = codes "NoMessage"
@@ -129,12 +130,12 @@ answer_name SegmentIsNotWholeWords = codes "SegmentIsNotWholeWords"
 answer_name (Frame e) = frame_error_name e
 answer_name (Layout k) = name_of k
 
--- how many bytes are wanted, where there is too little room
+-- The number of bytes that are needed, if there is too little room.
 abbrev pub wanted_room : Refusal → ℕ
 wanted_room (NoRoom size) = size
 wanted_room _ = 0
 
--- the number of a reason; 0 is none
+-- The number of a reason; 0 is none.
 abbrev pub reason_number : CanonicalFaultReason → ℕ
 reason_number SegmentCount = 1
 reason_number NoPointer = 2

@@ -1,17 +1,17 @@
--- The texts that C gets of numbers.
+-- The texts that C gets for numbers.
 use Rattle.std.specs.Prelude.{◌≡◌, ℕ, ◌+◌, ◌-◌, ◌<◌, List, [], ◌∷◌, ◌++◌, length, min, take, drop}
 
--- A text is that of each item with a number; and empty where there is none.
+-- The text is that of each item with this number; it is empty if there is none.
 abbrev pub IsTextOf : {X : Type 0} → (X → ℕ) → (X → List ℕ) → ℕ → List ℕ → Type 0
 IsTextOf {X} number_of text_of number text =
     ((x : X) → number_of x ≡ number → text ≡ text_of x)
     × (((x : X) → number_of x ≡ number → ⊥) → text ≡ [])
 
--- How much of a text, and a zero behind it, there is room for.
+-- How much of a text there is room for, with a zero after it.
 abbrev pub fitting : List ℕ → ℕ → ℕ
 fitting text room = min (length text) (room - 1)
 
--- A text is put over the front of bytes, as far as there is room, with a zero behind it.
+-- The text is written over the front of the bytes, as far as there is room, with a zero after it.
 abbrev pub PutsText : List ℕ → List ℕ → List ℕ → Type 0
 PutsText text old new =
     let n = fitting text (length old) in

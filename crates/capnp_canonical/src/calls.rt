@@ -1,4 +1,4 @@
-//! What is done with a message, whatever holds its segments.
+//! Copies a message, however its segments are held.
 ghost use Rattle.std.specs.Prelude.{◌≡◌, ◌≢◌, ◌⊎◌, ◌≤◌, ◌<◌, ◌+◌, ◌*◌, ◌/◌, ◌^◌, ◌∷◌, [], ℕ, List, length, take, drop, Some, IfOk, IfErr, OnErr};
 ghost use Rattle.std.specs.Int.{to_le_bytes, w32};
 ghost use Rattle.capnp_format.specs.Bytes.{message};
@@ -21,17 +21,17 @@ use capnp_messages::messages::{
 };
 use std::alloc::Global;
 
-/// The limits within which a message is read.
+/// The limits for reading a message.
 #[derive(Clone, Copy)]
 pub struct Limits {
-    /// How many levels of structs and lists may be entered.
+    /// The nesting limit: how many structs and lists may be inside one another.
     pub nesting: i32,
-    /// How many words may be read.
+    /// The traversal limit, in words.
     pub words: u64,
 }
 
 impl Limits {
-    /// These limits as the options of a reader.
+    /// These limits as options of a reader.
     pub fn options(self) -> ReaderOptions
         ensures { result ≡ limits_of self.nesting self.words }
     {
@@ -42,7 +42,7 @@ impl Limits {
     }
 }
 
-/// The table of a frame of one segment of so many words.
+/// The table of a frame with one segment of `words` words.
 fn table(words: u32) -> [u8; 8]
     ensures table { result ≡ 0 ∷ 0 ∷ 0 ∷ 0 ∷ to_le_bytes w32 words }
 {
@@ -50,7 +50,8 @@ fn table(words: u32) -> [u8; 8]
     [0, 0, 0, 0, a, b, c, d]
 }
 
-/// Puts a frame of one segment of these bytes to the front of a buffer, and gives its size.
+/// Writes a frame whose one segment is `segment` to the front of `to`, and returns its size in
+/// bytes.
 fn put_frame(segment: &[u8], to: &mut [u8]) -> Result<usize, Refusal>
     requires short { length segment.now < 2 ^ 35 }
     ensures put { Fills result to.old to.new (λ bytes. (words : List ℕ)
@@ -67,7 +68,7 @@ fn put_frame(segment: &[u8], to: &mut [u8]) -> Result<usize, Refusal>
     Ok(size)
 }
 
-/// Puts bytes to the front of a buffer, and gives how many they are.
+/// Writes `segment` to the front of `to`, and returns its size in bytes.
 fn put_flat(segment: &[u8], to: &mut [u8]) -> Result<usize, Refusal>
     ensures put { Fills result to.old to.new (λ bytes. bytes ≡ segment.now) }
     ensures refused { IfErr result (λ r. (r ≡ Refusal.NoRoom (length segment.now))
@@ -81,7 +82,7 @@ fn put_flat(segment: &[u8], to: &mut [u8]) -> Result<usize, Refusal>
     Ok(size)
 }
 
-/// Puts the bytes of a segment to the front of a buffer in a form, and gives how many they are.
+/// Writes `segment` to the front of `to`, framed or bare, and returns the size in bytes.
 fn put(form: Form, segment: &[u8], to: &mut [u8]) -> Result<usize, Refusal>
     requires short { length segment.now < 2 ^ 35 }
     ensures put { Fills result to.old to.new (λ bytes. (words : List ℕ)
@@ -96,11 +97,11 @@ fn put(form: Form, segment: &[u8], to: &mut [u8]) -> Result<usize, Refusal>
     }
 }
 
-/// The bytes of memory on the stack, in which a small message is copied: that costs less than a test first.
+/// The bytes of stack memory for copying a small message, which is cheaper than testing it first.
 const SMALL: usize = 512;
 
-/// Puts the canonical message of what a message means to the front of a buffer in a form, and gives its
-/// size in bytes, by a copy on the heap.
+/// Copies the message in canonical form on the heap, writes the copy to the front of `to`, framed
+/// or bare, and returns the size in bytes.
 #[inline(never)]
 fn copy_on_heap<S: ReaderSegments>(
     alloc: Global,
@@ -121,7 +122,7 @@ fn copy_on_heap<S: ReaderSegments>(
     }
 }
 
-/// Does `copy_on_heap` by a copy on the stack where it has room there, and else on the heap.
+/// Like `copy_on_heap`, but copies on the stack if the copy fits there.
 fn copy_small<S: ReaderSegments>(
     alloc: Global,
     form: Form,
@@ -149,7 +150,8 @@ fn copy_small<S: ReaderSegments>(
     }
 }
 
-/// Does `copy_on_heap` from the message's own segment where it is canonical, and else by a copy on the heap.
+/// Like `copy_on_heap`, but if the message is canonical already, writes its own segment, without a
+/// copy.
 fn copy_large<S: ReaderSegments>(
     alloc: Global,
     form: Form,
@@ -169,12 +171,12 @@ fn copy_large<S: ReaderSegments>(
     }
 }
 
-/// Puts the canonical message of what the segments mean to the front of a buffer in a form, and gives
-/// its size in bytes.
+/// Writes the message in canonical form to the front of `to`, framed or bare, and returns the size
+/// in bytes.
 ///
-/// A message of 64 words or more that is canonical is put there from its own segment, without memory.
-/// The copy of another one of that size takes memory of the heap; that of a smaller one only where it
-/// needs 64 words or more.
+/// A canonical message of 64 words or more is written from its own segment and takes no memory.
+/// Copying another one of that size takes heap memory; copying a smaller one does so only if the
+/// copy needs 64 words or more.
 pub fn copy<S: ReaderSegments + Drop>(
     alloc: Global,
     form: Form,

@@ -9,9 +9,9 @@ use capnp_pointers::pointers::{CanonicalFault, CanonicalFaultReason};
 #[repr(C)]
 #[derive(Clone, Copy)]
 pub struct Fault {
-    /// The number of a reason; 0 is none.
+    /// The number of the reason; 0 for none.
     pub reason: u32,
-    /// The position in the segment, in words.
+    /// The word in the segment, counted from 0.
     pub word: u32,
     /// The number of the segment.
     pub segment: u64,
@@ -47,7 +47,7 @@ fn number_of(reason: CanonicalFaultReason) -> u32
 }
 
 impl Fault {
-    /// A fault, by numbers.
+    /// The fault with its reason as a number; `NO_FAULT` for `None`.
     pub fn of(found: Option<CanonicalFault>) -> Self
         ensures fault { IfSome found (λ f. result ≡ told_fault f) }
         ensures none { IsNone found → result ≡ no_fault }

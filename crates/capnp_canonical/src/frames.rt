@@ -1,5 +1,5 @@
-//! What is done with the message whose frame stands at the front of a buffer ("Serialization Over a
-//! Stream").
+//! Copies, tests and measures the message whose frame is at the front of a buffer ("Serialization
+//! Over a Stream").
 ghost use Rattle.std.specs.Prelude.{◌≡◌, ◌⊎◌, ◌≤◌, length, take, drop, IfOk, IfErr, OnErr};
 ghost use Rattle.capnp_format.specs.Bytes.{message};
 ghost use Rattle.capnp_arena_traits.specs.Limits.{IsSmall};
@@ -18,7 +18,7 @@ use capnp_messages::messages::{Form, canonical_fault_of, size_of};
 use capnp_pointers::pointers::{CanonicalFault, MessageSize};
 use std::alloc::Global;
 
-/// The message whose frame, of at most so many words, the bytes begin with.
+/// The message whose frame is at the front of `bytes`. Fails if it has more than `words` words.
 fn message_in(bytes: &[u8], words: u64) -> Result<FrameSegments<'_>, Refusal>
     ensures begins { IfOk result (λ f. BeginsWithFrame bytes.now words
         (message (⟦<FrameSegments<'static> as ReaderSegments>⟧.segments f))) }
@@ -33,8 +33,8 @@ fn message_in(bytes: &[u8], words: u64) -> Result<FrameSegments<'_>, Refusal>
     }
 }
 
-/// Puts the canonical message of what the frame means to the front of a buffer, and gives its size in
-/// bytes.
+/// Writes the frame's message in canonical form to the front of `to`, framed or bare, and returns
+/// the size in bytes.
 pub fn copy_frame(
     alloc: Global,
     form: Form,
@@ -52,7 +52,7 @@ pub fn copy_frame(
     copy(alloc, form, segments, limits.options(), to)
 }
 
-/// Where and why the message of the frame isn't canonical, if it isn't.
+/// Returns why and where the frame's message isn't canonical; `None` if it is.
 pub fn check_frame(frame: &[u8], limits: Limits) -> Result<Option<CanonicalFault>, Refusal>
     ensures found { IfOk result (λ o. InFrame frame.now limits.words
         (TestFinds (limits_of limits.nesting limits.words) o)) }
@@ -64,7 +64,7 @@ pub fn check_frame(frame: &[u8], limits: Limits) -> Result<Option<CanonicalFault
     Ok(canonical_fault_of(segments, limits.options())?)
 }
 
-/// How large the message of the frame is.
+/// Measures the frame's message.
 pub fn size_frame(frame: &[u8], limits: Limits) -> Result<MessageSize, Refusal>
     ensures size { IfOk result (λ z. InFrame frame.now limits.words
         (λ S. HasSizeOf S (limits_of limits.nesting limits.words) z.word_count z.cap_count)) }
@@ -76,7 +76,7 @@ pub fn size_frame(frame: &[u8], limits: Limits) -> Result<MessageSize, Refusal>
     Ok(size_of(segments, limits.options())?)
 }
 
-/// How many bytes the frame takes.
+/// Returns the size of the frame in bytes.
 pub fn frame_size(bytes: &[u8], words: u64) -> Result<usize, Refusal>
     ensures size { IfOk result (λ n. InFrame bytes.now words (λ S. n ≡ length (frame S))) }
     ensures refused { IfErr result (RefusesBytes bytes.now words) }

@@ -1,9 +1,9 @@
-//! Canonical form for programs in C, and for what calls C ("Canonicalization"): a message, given as a
-//! frame in a buffer, by its segments or as its bare words, is copied, tested or measured, and packed bytes
-//! are unpacked. Nothing is kept between calls.
+//! Canonical form for C, and for languages that call C ("Canonicalization"): copies, tests and
+//! measures a message, given as a frame in a buffer, as segments or as its bare words; and unpacks
+//! packed bytes. Keeps no state between calls.
 //!
-//! `bindings/c/capnp_canonical.h` says how each is called. The answer is 0, or the number of a refusal,
-//! but for names, texts and versions, which are never refused.
+//! `bindings/c/capnp_canonical.h` says how to call each function. A function returns 0 or the
+//! number of a refusal. Names, texts and versions are never refused.
 #![tactic(auto)]
 
 ghost use Rattle.std.specs.Prelude.{◌≡◌, ◌≢◌, ◌⊎◌, ◌≤◌, ⊤, ◌+◌, ◌*◌, ◌++◌, ℕ, List, codes, false, length, take, drop};
@@ -40,9 +40,11 @@ use segments::{check_segments, copy_segments, size_segments};
 use std::alloc::Global;
 use words::{check_words, copy_words, size_words};
 
-/// Writes the canonical message of what a frame means, as a frame of one segment, to the front of a
-/// buffer, and gives its size in bytes. Where there is too little room the size that is wanted is given.
-/// What is behind it in the buffer stays; where the call is refused, all of the buffer does.
+/// Writes the frame's message in canonical form to the front of `to`, as a frame of one segment,
+/// and stores its size in bytes in `written`.
+///
+/// If `to` is too small, stores the size that it needs. What follows the copy in `to` is unchanged;
+/// after a refusal, all of `to` is.
 #[unsafe(no_mangle)]
 pub extern "C" fn capnp_canonical_copy(
     alloc: Global,
@@ -76,7 +78,7 @@ pub extern "C" fn capnp_canonical_copy(
     }
 }
 
-/// Does what `capnp_canonical_copy` does, with the bare words of the canonical message.
+/// Like `capnp_canonical_copy`, but writes the bare canonical words, without a frame.
 #[unsafe(no_mangle)]
 pub extern "C" fn capnp_canonical_copy_flat(
     alloc: Global,
@@ -110,10 +112,12 @@ pub extern "C" fn capnp_canonical_copy_flat(
     }
 }
 
-/// Says whether the message of a frame is canonical: one segment, which holds the canonical words of a
-/// value and nothing else; and if not why and where. `nesting` is how many structs and lists may stand one inside
-/// of the other; `words` bounds the words of the frame, and those that may be read. Where it is refused
-/// `is_canonical` is false and `fault` all 0; it says that the message isn't canonical only where the answer is 0.
+/// Tests whether the frame's message is canonical, that is, one segment with the canonical words of
+/// a value and nothing else; if it isn't, stores why and where.
+///
+/// `nesting` is how many structs and lists may be inside one another. `words` limits both the words
+/// of the frame and the words that may be read. After a refusal `is_canonical` is false and `fault`
+/// all 0: the message is known not to be canonical only if 0 is returned.
 #[unsafe(no_mangle)]
 pub extern "C" fn capnp_canonical_check(
     frame: &[u8],
@@ -145,7 +149,8 @@ pub extern "C" fn capnp_canonical_check(
     }
 }
 
-/// Gives how many words and capabilities the message of a frame has, without its root and landing pads.
+/// Stores the number of words and of capabilities in the frame's message, without its root pointer
+/// and landing pads.
 #[unsafe(no_mangle)]
 pub extern "C" fn capnp_canonical_size(
     frame: &[u8],
@@ -177,7 +182,7 @@ pub extern "C" fn capnp_canonical_size(
     }
 }
 
-/// Gives how many bytes the frame at the front of a buffer takes.
+/// Stores the size in bytes of the frame at the front of `bytes`.
 #[unsafe(no_mangle)]
 pub extern "C" fn capnp_canonical_frame_size(frame: &[u8], words: u64, bytes: &mut usize) -> u32
     ensures done { result ≡ 0 → (S : Segments) × (front behind : List ℕ)
@@ -199,7 +204,7 @@ pub extern "C" fn capnp_canonical_frame_size(frame: &[u8], words: u64, bytes: &m
     }
 }
 
-/// As `capnp_canonical_copy`, of a message whose segments the caller has.
+/// Like `capnp_canonical_copy`, for a message in the caller's segments.
 #[unsafe(no_mangle)]
 pub extern "C" fn capnp_canonical_segments_copy(
     alloc: Global,
@@ -230,7 +235,7 @@ pub extern "C" fn capnp_canonical_segments_copy(
     }
 }
 
-/// As `capnp_canonical_copy_flat`, of a message whose segments the caller has.
+/// Like `capnp_canonical_copy_flat`, for a message in the caller's segments.
 #[unsafe(no_mangle)]
 pub extern "C" fn capnp_canonical_segments_copy_flat(
     alloc: Global,
@@ -261,7 +266,7 @@ pub extern "C" fn capnp_canonical_segments_copy_flat(
     }
 }
 
-/// As `capnp_canonical_check`, of a message whose segments the caller has.
+/// Like `capnp_canonical_check`, for a message in the caller's segments.
 #[unsafe(no_mangle)]
 pub extern "C" fn capnp_canonical_segments_check(
     segments: &[&[u8]],
@@ -293,7 +298,7 @@ pub extern "C" fn capnp_canonical_segments_check(
     }
 }
 
-/// As `capnp_canonical_size`, of a message whose segments the caller has.
+/// Like `capnp_canonical_size`, for a message in the caller's segments.
 #[unsafe(no_mangle)]
 pub extern "C" fn capnp_canonical_segments_size(
     segments: &[&[u8]],
@@ -325,7 +330,7 @@ pub extern "C" fn capnp_canonical_segments_size(
     }
 }
 
-/// As `capnp_canonical_copy_flat`, of a message of one segment that is given as its bare words.
+/// Like `capnp_canonical_copy_flat`, for a message of one segment given as its bare words.
 #[unsafe(no_mangle)]
 pub extern "C" fn capnp_canonical_words_copy(
     alloc: Global,
@@ -356,7 +361,7 @@ pub extern "C" fn capnp_canonical_words_copy(
     }
 }
 
-/// As `capnp_canonical_check`, of a message of one segment that is given as its bare words.
+/// Like `capnp_canonical_check`, for a message of one segment given as its bare words.
 #[unsafe(no_mangle)]
 pub extern "C" fn capnp_canonical_words_check(
     bytes: &[u8],
@@ -387,7 +392,7 @@ pub extern "C" fn capnp_canonical_words_check(
     }
 }
 
-/// As `capnp_canonical_size`, of a message of one segment that is given as its bare words.
+/// Like `capnp_canonical_size`, for a message of one segment given as its bare words.
 #[unsafe(no_mangle)]
 pub extern "C" fn capnp_canonical_words_size(
     bytes: &[u8],
@@ -418,9 +423,11 @@ pub extern "C" fn capnp_canonical_words_size(
     }
 }
 
-/// Unpacks packed bytes ("Packing") to the front of a buffer, and gives how many bytes they stand for.
-/// Where there is too little room the size that is wanted is given. What stands behind them in the
-/// buffer stays, and where it is refused all of the buffer. No memory is taken.
+/// Unpacks `packed` ("Packing") to the front of `to`, and stores the number of unpacked bytes in
+/// `written`. Takes no memory.
+///
+/// If `to` is too small, stores the size that it needs. What follows the unpacked bytes in `to` is
+/// unchanged; after a refusal, all of `to` is.
 #[unsafe(no_mangle)]
 pub extern "C" fn capnp_canonical_unpack(packed: &[u8], to: &mut [u8], written: &mut usize) -> u32
     ensures done { FillsByNumber result written.new to.old to.new (Packs packed.now) }
@@ -441,8 +448,8 @@ pub extern "C" fn capnp_canonical_unpack(packed: &[u8], to: &mut [u8], written: 
     }
 }
 
-/// Writes the name of a refusal, and a byte of zero behind it, as far as there is room, and gives its
-/// length in bytes: 0 where the number has none.
+/// Writes the name of a refusal and a terminating zero byte, as far as they fit, and returns the
+/// name's length in bytes; 0 if no refusal has this number.
 #[unsafe(no_mangle)]
 pub extern "C" fn capnp_canonical_name(answer: u32, to: &mut [u8]) -> usize
     ensures { (text : List ℕ) × IsTextOf answer_number answer_name answer text
@@ -452,7 +459,7 @@ pub extern "C" fn capnp_canonical_name(answer: u32, to: &mut [u8]) -> usize
     put_text(name_of_number(answer), to)
 }
 
-/// Writes what a reason says, in words, as `capnp_canonical_name` writes.
+/// Writes the text of a reason, like `capnp_canonical_name`.
 #[unsafe(no_mangle)]
 pub extern "C" fn capnp_canonical_reason_text(reason: u32, to: &mut [u8]) -> usize
     ensures { (text : List ℕ) × IsTextOf reason_number fault_reason_text reason text
@@ -470,7 +477,7 @@ pub extern "C" fn capnp_canonical_version() -> u32
     10000
 }
 
-/// Writes the version as text, as `capnp_canonical_name` writes.
+/// Writes the version as text, like `capnp_canonical_name`.
 #[unsafe(no_mangle)]
 pub extern "C" fn capnp_canonical_version_text(to: &mut [u8]) -> usize
     ensures length { result ≡ length (codes "1.0.0") }

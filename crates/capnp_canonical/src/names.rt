@@ -1,4 +1,4 @@
-//! The names of refusals and the texts of reasons, by the numbers that C has for them.
+//! The names of refusals and the texts of reasons, by their numbers in C.
 ghost use Rattle.std.specs.Prelude.{◌≡◌, IfSome, IsNone, length};
 ghost use Rattle.capnp_pointers.specs.Faults.{fault_reason_text};
 ghost use Rattle.capnp_canonical.specs.Numbers.{answer_name, answer_number, reason_number};
@@ -10,7 +10,7 @@ use capnp_framing::framing::FrameError;
 use capnp_pointers::pointers::CanonicalFaultReason;
 use capnp_words::error::ErrorKind;
 
-/// The refusals of a frame, from the number 16 on.
+/// The refusals of a frame, from number 16 on.
 const FRAME_ERRORS: [FrameError; 7] = [
     FrameError::NoSegments,
     FrameError::TooManySegments(0),
@@ -21,7 +21,7 @@ const FRAME_ERRORS: [FrameError; 7] = [
     FrameError::AllocationFailed,
 ];
 
-/// The refusals of what a message means, and of its copy, from the number 32 on.
+/// The refusals of reading and copying a message, from number 32 on.
 const KINDS: [ErrorKind; 35] = [
     ErrorKind::AllocationFailed,
     ErrorKind::CannotCreateACanonicalMessageWithACapability,
@@ -60,7 +60,7 @@ const KINDS: [ErrorKind; 35] = [
     ErrorKind::UnknownPointerType,
 ];
 
-/// The reasons of faults, from the number 1 on.
+/// The reasons of faults, from number 1 on.
 const REASONS: [CanonicalFaultReason; 14] = [
     CanonicalFaultReason::SegmentCount,
     CanonicalFaultReason::NoPointer,
@@ -94,7 +94,7 @@ fn refusal_of(number: u32) -> Option<Refusal>
     }
 }
 
-/// The name of the refusals with this number, empty where there is none.
+/// The name of the refusals with this number; empty if there are none.
 pub fn name_of_number(number: u32) -> &'static str
     ensures { IsTextOf answer_number answer_name number result.now }
 {
@@ -104,7 +104,7 @@ pub fn name_of_number(number: u32) -> &'static str
     }
 }
 
-/// What the reason with this number says, empty where there is none.
+/// The text of the reason with this number; empty if there is none.
 pub fn text_of_reason(number: u32) -> &'static str
     ensures { IsTextOf reason_number fault_reason_text number result.now }
 {
@@ -114,8 +114,8 @@ pub fn text_of_reason(number: u32) -> &'static str
     }
 }
 
-/// Puts a text to the front of a buffer, and a byte of zero behind it, as far as there is room. The
-/// bytes behind that stay. Gives the length of the text in bytes.
+/// Writes `text` and a terminating zero byte to the front of `to`, as far as they fit, and returns
+/// the length of `text` in bytes. The rest of `to` is unchanged.
 pub fn put_text(text: &str, to: &mut [u8]) -> usize
     ensures length { result ≡ length text.now }
     ensures text { PutsText text.now to.old to.new }

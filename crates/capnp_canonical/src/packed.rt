@@ -1,4 +1,4 @@
-//! Packed bytes, put to a buffer as what they stand for ("Packing").
+//! Unpacks packed bytes to a buffer ("Packing").
 ghost use Rattle.std.specs.Prelude.{◌≡◌, ◌≤◌, length, take, drop, IfOk, IfErr, IsOk, OnErr};
 ghost use Rattle.capnp_packing.specs.Packing.{IsWhole, Packs, unpacked_bytes};
 ghost use Rattle.capnp_canonical.specs.Calls.{Fills, RefusesPacked};
@@ -7,8 +7,8 @@ use crate::refusal::Refusal;
 use capnp_framing::framing::FrameError;
 use capnp_packing::packing::{Place, unpack_to_slice, unpacked_size};
 
-/// Unpacks packed bytes to the front of a buffer, and gives how many bytes they stand for. What these
-/// are is counted first, so that nothing is written where they are cut or there is too little room.
+/// Unpacks `packed` to the front of `to`, and returns the number of unpacked bytes. Counts them
+/// first, so it writes nothing if `packed` is cut short or `to` is too small.
 pub fn unpack(packed: &[u8], to: &mut [u8]) -> Result<usize, Refusal>
     ensures unpacked { Fills result to.old to.new (Packs packed.now) }
     ensures refused { IfErr result (RefusesPacked packed.now (length to.old)) }

@@ -8,20 +8,20 @@ use capnp_words::error::ErrorKind;
 /// Why a call is refused.
 #[derive(Clone, Copy, Debug, PartialEq, Eq)]
 pub enum Refusal {
-    /// There is too little room; with how many bytes are wanted.
+    /// The buffer is too small; with the number of bytes that it needs.
     NoRoom(usize),
-    /// There are no bytes where a frame was to be.
+    /// There are no bytes where a frame was expected.
     NoMessage,
-    /// A segment that was given isn't of whole words.
+    /// The size of a segment isn't a multiple of 8 bytes.
     SegmentIsNotWholeWords,
-    /// The bytes begin with no frame.
+    /// No frame could be read at the front of the bytes.
     Frame(FrameError),
-    /// What the message means isn't copied, tested or measured.
+    /// The message can't be copied, tested or measured.
     Layout(ErrorKind),
 }
 
 impl Refusal {
-    /// The number of the refusal, which isn't 0.
+    /// The number of the refusal, never 0.
     pub fn number(self) -> u32
         ensures number { result ≡ answer_number self }
         ensures some { 0 < result }
@@ -35,7 +35,7 @@ impl Refusal {
         }
     }
 
-    /// The name of the refusal, without a number behind it.
+    /// The name of the refusal, without its number.
     pub fn name(&self) -> &'static str
         ensures { result.now ≡ answer_name self.now }
     {
@@ -48,7 +48,7 @@ impl Refusal {
         }
     }
 
-    /// How many bytes are wanted, where there is too little room; else 0.
+    /// For `NoRoom`, the number of bytes needed; 0 for other refusals.
     pub fn wanted_room(self) -> usize
         ensures { result ≡ wanted_room self }
     {
@@ -85,7 +85,7 @@ fn frame_number(error: FrameError) -> u32
     }
 }
 
-/// The number of a refusal of what a message means.
+/// The number of a refusal to read or copy a message.
 fn layout_number(kind: ErrorKind) -> u32
     ensures number { result ≡ error_number kind }
     ensures some { 0 < result }

@@ -1,4 +1,4 @@
-//! A message whose segments the caller has.
+//! Copies, tests and measures a message in the caller's segments.
 ghost use Rattle.std.specs.Prelude.{◌≡◌, ◌⊎◌, ◌≤◌, map, length, take, drop, IfOk, IfErr, OnErr};
 ghost use Rattle.capnp_arena_traits.specs.Limits.{AreSmall, IsSmall};
 ghost use Rattle.capnp_messages.specs.CanonicalMessages.{IsCanonicalMessage};
@@ -14,7 +14,7 @@ use capnp_pointers::pointers::{CanonicalFault, MessageSize};
 use capnp_words::error::ErrorKind;
 use std::alloc::Global;
 
-/// Segments of whole words, within the limits of a reader, where the caller has them.
+/// The caller's segments: whole words, within a reader's limits.
 #[derive(Clone, Copy)]
 struct LentSegments<'a> {
     segments: &'a [&'a [u8]],
@@ -22,7 +22,7 @@ struct LentSegments<'a> {
 }
 
 impl<'a> LentSegments<'a> {
-    /// The segments in this order.
+    /// Takes the segments in this order.
     fn new(segments: &'a [&'a [u8]]) -> Result<Self, Refusal>
         ensures segments { IfOk result (λ lent.
             ⟦<LentSegments<'static> as ReaderSegments>⟧.segments lent ≡ lent_bytes segments.now) }
@@ -39,7 +39,8 @@ impl<'a> LentSegments<'a> {
     }
 }
 
-/// These bytes, at a pointer that isn't null: where there are none, C may have given null.
+/// Returns `bytes`; if it is empty, an empty slice at a pointer that isn't null, which C may have
+/// passed.
 pub fn without_null(bytes: &[u8]) -> &[u8]
     ensures { result.now ≡ bytes.now }
 {
@@ -65,8 +66,8 @@ impl ReaderSegments for LentSegments<'_> {
     }
 }
 
-/// Puts the canonical message of what the segments mean to the front of a buffer, and gives its size
-/// in bytes.
+/// Writes the segments' message in canonical form to the front of `to`, framed or bare, and returns
+/// the size in bytes.
 pub fn copy_segments(
     alloc: Global,
     form: Form,
@@ -84,7 +85,7 @@ pub fn copy_segments(
     copy(alloc, form, lent, limits.options(), to)
 }
 
-/// Where and why the message of the segments isn't canonical, if it isn't.
+/// Returns why and where the segments' message isn't canonical; `None` if it is.
 pub fn check_segments(segments: &[&[u8]], limits: Limits) -> Result<Option<CanonicalFault>, Refusal>
     ensures found { IfOk result (λ o. InSegments segments.now
         (TestFinds (limits_of limits.nesting limits.words) o)) }
@@ -96,7 +97,7 @@ pub fn check_segments(segments: &[&[u8]], limits: Limits) -> Result<Option<Canon
     Ok(canonical_fault_of(lent, limits.options())?)
 }
 
-/// How large the message of the segments is.
+/// Measures the segments' message.
 pub fn size_segments(segments: &[&[u8]], limits: Limits) -> Result<MessageSize, Refusal>
     ensures size { IfOk result (λ z. InSegments segments.now
         (λ S. HasSizeOf S (limits_of limits.nesting limits.words) z.word_count z.cap_count)) }

@@ -1,4 +1,4 @@
-//! A message of one segment that is given as its bare words, without a table.
+//! Copies, tests and measures a message of one segment given as its bare words, without a table.
 ghost use Rattle.std.specs.Prelude.{◌≡◌, ◌⊎◌, ◌∷◌, [], ◌≤◌, length, take, drop, IfOk, IfErr, OnErr};
 ghost use Rattle.capnp_arena_traits.specs.Limits.{IsSmall};
 ghost use Rattle.capnp_arena.specs.Output.{output_bytes};
@@ -16,7 +16,7 @@ use capnp_pointers::pointers::{CanonicalFault, MessageSize};
 use capnp_words::error::ErrorKind;
 use std::alloc::Global;
 
-/// The message of one segment with these words.
+/// The message whose one segment is `words`.
 fn message_of(words: &[u8]) -> Result<OutputSegments<'_>, Refusal>
     ensures segments { IfOk result (λ s. output_bytes s ≡ words.now ∷ []) }
     ensures small { IfOk result (λ s. IsSmall (output_bytes s)) }
@@ -32,8 +32,7 @@ fn message_of(words: &[u8]) -> Result<OutputSegments<'_>, Refusal>
     Ok(OutputSegments::SingleSegment(without_null(words)))
 }
 
-/// Puts the bare words of the canonical message to the front of a buffer, and gives how many bytes
-/// they are.
+/// Writes the message's bare canonical words to the front of `to`, and returns the number of bytes.
 pub fn copy_words(
     alloc: Global,
     words: &[u8],
@@ -50,7 +49,7 @@ pub fn copy_words(
     copy(alloc, Form::Flat, message, limits.options(), to)
 }
 
-/// Where and why the message isn't canonical, if it isn't.
+/// Returns why and where the message isn't canonical; `None` if it is.
 pub fn check_words(words: &[u8], limits: Limits) -> Result<Option<CanonicalFault>, Refusal>
     ensures found { IfOk result (λ o. InWords words.now
         (TestFinds (limits_of limits.nesting limits.words) o)) }
@@ -62,7 +61,7 @@ pub fn check_words(words: &[u8], limits: Limits) -> Result<Option<CanonicalFault
     Ok(canonical_fault_of(message, limits.options())?)
 }
 
-/// How large the message is.
+/// Measures the message.
 pub fn size_words(words: &[u8], limits: Limits) -> Result<MessageSize, Refusal>
     ensures size { IfOk result (λ z. InWords words.now
         (λ S. HasSizeOf S (limits_of limits.nesting limits.words) z.word_count z.cap_count)) }

@@ -1,5 +1,5 @@
--- What a pointer that means a value gives to a call that looks for a list, data, a text or a
--- capability ("Lists", "Capabilities (Interfaces)").
+-- What a pointer gives to a call that looks for a list, data, a text or a capability, by the value
+-- that it means ("Lists", "Capabilities (Interfaces)").
 use Rattle.std.specs.Prelude.{ℕ, ◌+◌, ◌-◌, ◌<◌, ◌≤◌, Bool, true, false, if◌then◌else◌, ◌&&◌, nat_eq}
 use Rattle.std.specs.Prelude.{nat_le, List, [], ◌∷◌, length, get_or, take, drop, Option, Some, None}
 use Rattle.std.specs.Prelude.{◌≡◌, ◌^◌, Result, Ok, Err, IfErr, IfOk, IfSome}
@@ -33,15 +33,15 @@ use Rattle.capnp_contents.specs.declared.existing.ExistingList.{ExistingList}
 use Rattle.capnp_contents.specs.declared.existing.ExistingBytes.{ExistingBytes}
 use Rattle.capnp_contents.specs.declared.existing.ExistingStruct.{ExistingStruct}
 
--- The index of the capability that a pointer word is.
+-- The index of the capability in a pointer word.
 abbrev pub capability_of : ℕ → Result ℕ ErrorKind
 capability_of x =
     if nat_eq x 0 then Err MessageContainsNullCapabilityPointer
     else if nat_eq (lower_half x) 3 then Ok (upper_half x)
     else Err MessageContainsNonCapabilityPointerWhereCapabilityPointerWasExpected
 
--- The index of the capability that a value is which the pointer leads to at a, and to which no
--- landing pads lead.
+-- The index of the capability that the pointer to the target a means, if no landing pads lead to
+-- it.
 abbrev pub capability_in : Target → Tree → Result ℕ ErrorKind
 capability_in a Null = Err MessageContainsNullCapabilityPointer
 capability_in a (Capability i) =
@@ -49,7 +49,7 @@ capability_in a (Capability i) =
     MessageContainsNonCapabilityPointerWhereCapabilityPointerWasExpected
 capability_in a t = Err MessageContainsNonCapabilityPointerWhereCapabilityPointerWasExpected
 
--- The names by which a list, data or a text isn't found.
+-- Whether an error says that a list, data or a text isn't found.
 abbrev pub is_unfound : ErrorKind → Bool
 is_unfound ExistingListPointerIsNotByteSized = true
 is_unfound ExistingListValueIsIncompatibleWithExpectedType = true
@@ -59,13 +59,13 @@ is_unfound MessageContainsOutOfBoundsPointer = true
 is_unfound TextBlobMissingNULTerminator = true
 is_unfound k = false
 
--- Where a landing is, if a call comes that far.
+-- The target of a landing, if the call found one.
 abbrev pub listed : Result (Option Landing) ErrorKind → Result (Option Target) ErrorKind
 listed (Ok (Some l)) = Ok (Some (target_of l))
 listed (Ok None) = Ok None
 listed (Err e) = Err e
 
--- Where a pointer that means a value leads, if to a list.
+-- Where a pointer that means a value leads, if it leads to a list.
 abbrev pub landing_in : Target → Tree → Result (Option Target) ErrorKind
 landing_in a Null = Ok None
 landing_in a (Capability i) = Err ExistingPointerIsNotAList
@@ -74,20 +74,20 @@ landing_in a (Flat size ns) = Ok (Some a)
 landing_in a (Pointers ts) = Ok (Some a)
 landing_in a (Structs d q es) = Ok (Some a)
 
--- The element size of a number.
+-- The element size with number n.
 abbrev pub size_of : ℕ → ElementSize
 size_of n =
     get_or (Void ∷ Bit ∷ Byte ∷ TwoBytes ∷ FourBytes ∷ EightBytes ∷ Pointer ∷ []) n InlineComposite
 
--- What is wrong with found elements that are no structs, where others are expected: they have fewer
--- bits of data, or fewer pointers.
+-- Why elements of the size `found`, which aren't structs, don't fit `expected`, if they don't: they
+-- have fewer bits of data, or fewer pointers.
 abbrev pub plain_misfit : ElementSize → ElementSize → Option ErrorKind
 plain_misfit expected found =
     if nat_le (element_bits (size_number expected)) (element_bits (size_number found))
     && nat_le (pointers_per_element expected) (pointers_per_element found) then
     None else Some ExistingListValueIsIncompatibleWithExpectedType
 
--- What is wrong with structs of d data words and q pointers, where other elements are expected.
+-- Why structs of d data words and q pointers don't fit the expected element size, if they don't.
 abbrev pub structs_misfit : ElementSize → ℕ → ℕ → Option ErrorKind
 structs_misfit Void d q = None
 structs_misfit Bit d q = Some FoundStructListWhereBitListWasExpected
@@ -103,7 +103,7 @@ structs_misfit Pointer d q =
     if nat_eq q 0 then Some ExistingListValueIsIncompatibleWithExpectedType else None
 structs_misfit InlineComposite d q = None
 
--- A list of n elements that are no structs, and one of n structs, whose elements stand behind the tag.
+-- A list of n elements that aren't structs, at the target a.
 abbrev pub plain_list : Target → ElementSize → ℕ → ExistingList
 plain_list a size n =
     record {
@@ -114,7 +114,7 @@ plain_list a size n =
       count = n;
     }
 
--- A list of n structs, whose elements stand behind the tag ("Lists").
+-- A list of n structs at the target a, whose elements come after the tag ("Lists").
 abbrev pub struct_list : Target → ℕ → ℕ → ℕ → ExistingList
 struct_list a d q n =
     record {
@@ -125,13 +125,12 @@ struct_list a d q n =
       count = n;
     }
 
--- What is found, unless something is wrong with it.
+-- The list that is found, or the refusal if there is one.
 abbrev pub unless : Option ErrorKind → ExistingList → Result (Option ExistingList) ErrorKind
 unless None l = Ok (Some l)
 unless (Some e) l = Err e
 
--- The list that a value is which the pointer leads to at a, where its elements are to be as wide as
--- expected ones ("Lists").
+-- The list that the pointer to the target a means, if its elements fit the expected size ("Lists").
 abbrev pub list_in : Target → ElementSize → Tree → Result (Option ExistingList) ErrorKind
 list_in a expected Null = Ok None
 list_in a expected (Capability i) = Err ExistingPointerIsNotAList
@@ -143,7 +142,7 @@ list_in a expected (Pointers ts) =
 list_in a expected (Structs d q es) =
     unless (structs_misfit expected d q) (struct_list a d q (element_count es))
 
--- The struct that a value is which the pointer leads to at a.
+-- The struct that the pointer to the target a means.
 abbrev pub struct_in : Target → Tree → Option ExistingStruct
 struct_in a (Struct ws ts) =
     Some (record {
@@ -153,14 +152,14 @@ struct_in a (Struct ws ts) =
     })
 struct_in a t = None
 
--- What is found at a place: where it stores a value, what find says of it. A refusal is by one of
--- these names.
+-- The result of a search at (s, p): if that stores a value, what `find` returns for it. It is
+-- refused only with an error of `is_unfound`.
 pub record FindsAt {B : Type 0} (S : Segments) (s p : ℕ) (find : Target → Tree → Result B ErrorKind)
     (result : Result B ErrorKind) : Type 0 where
   pub found : (t : Tree) → IsStored S s p t → result ≡ find (target S s p) t
   pub named : IfErr result (λ k. is_unfound k ≡ true)
 
--- The list that is found at a place, of elements as wide as expected ones. It has fewer elements
+-- The list that is found at (s, p), of elements that fit the expected size. It has fewer elements
 -- than its count has bits for.
 pub record FindsListAt (S : Segments) (s p : ℕ) (expected : ElementSize)
     (result : Result (Option ExistingList) ErrorKind) : Type 0 where
@@ -168,20 +167,20 @@ pub record FindsListAt (S : Segments) (s p : ℕ) (expected : ElementSize)
   pub named : IfErr result (λ k. is_unfound k ≡ true)
   pub few : IfOk result (λ found. IfSome found (λ list. list.count < 2 ^ 30))
 
--- The sections of a struct lie in their segment.
+-- The sections of the struct e are inside their segment.
 abbrev pub StructLiesIn : Segments → ExistingStruct → Type 0
 StructLiesIn S e = e.start + e.size.data_words + e.size.pointers ≤ length (segment S e.segment)
 
--- The struct that is found at a place, as wide as it is; its sections lie in their segment.
+-- The struct that is found at (s, p), with its own size. Its sections are inside their segment.
 pub record FindsStructAt (S : Segments) (s p : ℕ) (result : Option ExistingStruct) : Type 0 where
   pub found : (t : Tree) → IsStored S s p t → result ≡ struct_in (target S s p) t
   pub inside : IfSome result (StructLiesIn S)
 
--- The n bytes from where a pointer leads.
+-- The n bytes at the target a.
 abbrev pub bytes_at : Target → ℕ → ExistingBytes
 bytes_at a n = record { segment = a.segment; start = a.start; length = n }
 
--- The data that a value is ("Lists").
+-- The data that the pointer to the target a means ("Lists").
 abbrev pub data_in : Target → Tree → Result (Option ExistingBytes) ErrorKind
 data_in a Null = Ok None
 data_in a (Capability i) = Err ExistingPointerIsNotAList
@@ -191,15 +190,15 @@ data_in a (Flat size ns) = if nat_eq size 2 then Ok (Some (bytes_at a (length ns
 data_in a (Pointers ts) = Err ExistingListPointerIsNotByteSized
 data_in a (Structs d q es) = Err ExistingListPointerIsNotByteSized
 
--- The words that hold bytes lie in their segment.
+-- The words that hold the bytes b are inside their segment.
 abbrev pub AreInside : Segments → ExistingBytes → Type 0
 AreInside S b = b.start + words_for 2 b.length ≤ length (segment S b.segment)
 
--- The words that hold bytes lie in their segment, which is there.
+-- The words that hold the bytes b are inside their segment, which is there.
 abbrev pub BytesLieIn : Segments → ExistingBytes → Type 0
 BytesLieIn S b = (b.segment < length S) × AreInside S b
 
--- n bytes from a word on.
+-- n bytes from word p on.
 abbrev pub bytes_in : List ℕ → ℕ → ℕ → List ℕ
 bytes_in ws p n = unpacked 2 n (take (words_for 2 n) (drop p ws))
 
@@ -208,7 +207,8 @@ abbrev pub ends_in_zero : List ℕ → Bool
 ends_in_zero [] = false
 ends_in_zero (n ∷ ns) = nat_eq (get_or (n ∷ ns) (length ns) 0) 0
 
--- The text that a value is, without its last byte, which has to be 0 ("Lists").
+-- The text that the pointer to the target a means, without its last byte, which must be 0
+-- ("Lists").
 abbrev pub text_in : Target → Tree → Result (Option ExistingBytes) ErrorKind
 text_in a Null = Ok None
 text_in a (Capability i) = Err ExistingPointerIsNotAList

@@ -1,4 +1,4 @@
--- Objects made over what a pointer led to before, and where they start.
+-- Objects that replace what a pointer led to before, and where they start.
 use Rattle.std.specs.Prelude.{ℕ, Result, IfOk, OnOk}
 use Rattle.capnp_format.specs.Tree.{Tree}
 use Rattle.capnp_words.specs.declared.error.ErrorKind.{ErrorKind}
@@ -6,8 +6,8 @@ use Rattle.capnp_making.specs.Makes.{CallAt, MakesObject, ObjectStartsAt}
 use Rattle.capnp_making.specs.Stored.{PutsOnceZeroed}
 use Rattle.capnp_making.specs.declared.making.Start.{Start}
 
--- A call makes an object of n words, whose value is t, in place of what becomes zero first, and
--- gives where it starts; or that is refused.
+-- The call makes an object of n words, whose value is t, in place of what it zeroes first, and
+-- returns where it starts; or it is refused.
 pub record GivesObject (result : Result Start ErrorKind) (c : CallAt) (t : Tree) (n : ℕ) : Type 0 where
   pub object : MakesObject result c t n
   pub once_zeroed : OnOk result (PutsOnceZeroed c.old.words c.new.words c.segment c.at t)

@@ -1,6 +1,6 @@
-//! Texts and data set where a pointer leads ("Lists").
+//! Sets texts and data where a pointer leads ("Lists").
 //!
-//! Data is a list of bytes. A text is one with a zero byte behind its own.
+//! Data is a list of bytes; a text is one followed by a zero byte.
 ghost use Rattle.std.specs.Prelude.{◌≡◌, ℕ, ◌<◌, ◌≤◌, ◌+◌, ◌-◌, ◌*◌, ◌^◌, ◌++◌, ◌∷◌, [], length, OnOk};
 ghost use Rattle.capnp_format.specs.Numbers.{words_for};
 ghost use Rattle.capnp_format.specs.Segments.{segment, IsPlace};
@@ -19,10 +19,10 @@ use capnp_words::error::ErrorKind;
 use capnp_words::lanes;
 use capnp_words::wire_pointer::ElementSize;
 
-/// Makes a list of the given bytes where the pointer at a place leads ("Lists").
+/// Makes the pointer at a place lead to a new list of these bytes ("Lists").
 ///
-/// What the pointer held before becomes zero first. A refusal is that of memory, or
-/// `MessageTooLarge`; the pointer is null then.
+/// First zeroes what the pointer held. Refuses if memory runs out, or with `MessageTooLarge`; the
+/// pointer is null then.
 #[inline(always)]
 pub fn set_data<A: BuilderArena>(
     arena: &mut A,
@@ -42,11 +42,11 @@ pub fn set_data<A: BuilderArena>(
     set_bytes(arena, id, at, from, from.len() as u32)
 }
 
-/// Makes a text of the given bytes where the pointer at a place leads: a list of these and a zero
-/// byte behind them ("Lists").
+/// Makes the pointer at a place lead to a new text: a list of these bytes followed by a zero byte
+/// ("Lists").
 ///
-/// What the pointer held before becomes zero first. A refusal is that of memory, or
-/// `MessageTooLarge`; the pointer is null then.
+/// First zeroes what the pointer held. Refuses if memory runs out, or with `MessageTooLarge`; the
+/// pointer is null then.
 #[inline(always)]
 pub fn set_text<A: BuilderArena>(
     arena: &mut A,
@@ -64,8 +64,8 @@ pub fn set_text<A: BuilderArena>(
     set_bytes(arena, id, at, from, from.len() as u32 + 1)
 }
 
-/// Makes a list of so many bytes where the pointer at a place leads: the given ones, and zeros
-/// behind them.
+/// Makes the pointer at a place lead to a new list of bytes: those of `from`, followed by zeros,
+/// `count` together.
 #[inline(always)]
 fn set_bytes<A: BuilderArena>(
     arena: &mut A,
@@ -89,7 +89,7 @@ fn set_bytes<A: BuilderArena>(
     Ok(())
 }
 
-/// Writes bytes from a word on, which lie in its segment.
+/// Writes bytes from the start of a word on. Precondition: they are inside its segment.
 fn write_bytes<A: BuilderArena>(arena: &mut A, start: Start, from: &[u8])
     requires there { start.segment < length (A.view arena.old).words }
     requires inside { 8 * start.at + length from.now

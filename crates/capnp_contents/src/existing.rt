@@ -1,5 +1,5 @@
-//! What a pointer leads to already ("Lists", "Capabilities (Interfaces)"): nothing is written, and
-//! nothing made.
+//! Finds what a pointer leads to ("Lists", "Capabilities (Interfaces)"): writes nothing, and makes
+//! nothing.
 ghost use Rattle.std.specs.Prelude.{◌≡◌, ◌≢◌, ◌↔◌, ◌<◌, ◌≤◌, ◌+◌, ◌^◌, IsTrue, IsSome, IfSome, IfOk, IfErr, true, length};
 ghost use Rattle.capnp_format.specs.Bytes.{words_of};
 ghost use Rattle.capnp_format.specs.Forest.{target};
@@ -26,14 +26,14 @@ use capnp_words::words;
 pub struct ExistingList {
     /// The segment of its elements.
     pub segment: u32,
-    /// The word where its first element starts, which of a list of structs is the one behind the tag.
-    /// The pointers of a struct stand behind its data words.
+    /// The word where its first element starts; in a list of structs, the one after the tag. A
+    /// struct's pointers come after its data words.
     pub start: u32,
-    /// How wide its elements are.
+    /// Its element size.
     pub size: ElementSize,
-    /// The sections of each element; 0 and 0 where elements are no structs.
+    /// The sections of each element; 0 and 0 if elements aren't structs.
     pub struct_size: StructSize,
-    /// How many elements it has.
+    /// The number of elements.
     pub count: u32,
 }
 
@@ -42,9 +42,9 @@ pub struct ExistingList {
 pub struct ExistingBytes {
     /// The segment of the bytes.
     pub segment: u32,
-    /// The word that begins with the first of the bytes.
+    /// The word that starts with the first byte.
     pub start: u32,
-    /// How many bytes there are.
+    /// The number of bytes.
     pub length: u32,
 }
 
@@ -53,18 +53,18 @@ pub struct ExistingBytes {
 pub struct ExistingStruct {
     /// The segment of its sections.
     pub segment: u32,
-    /// The word where its data section starts. Its pointers stand behind its data words.
+    /// The word where its data section starts. Its pointers come after its data words.
     pub start: u32,
-    /// How many data words and pointers it has.
+    /// The number of its data words and pointers.
     pub size: StructSize,
 }
 
-/// The capability that the pointer at a place is, by its index ("Capabilities (Interfaces)"). The
-/// pointer is not followed.
+/// The capability that the pointer at a place is, by its index ("Capabilities (Interfaces)").
+/// Doesn't follow the pointer.
 ///
-/// A null pointer is `MessageContainsNullCapabilityPointer`, any other
-/// `MessageContainsNonCapabilityPointerWhereCapabilityPointerWasExpected`, a far pointer to a
-/// capability too.
+/// Refusals: `MessageContainsNullCapabilityPointer` if it is null;
+/// `MessageContainsNonCapabilityPointerWhereCapabilityPointerWasExpected` for any other pointer,
+/// also a far pointer to a capability.
 pub fn get_capability<A: BuilderArena>(arena: &A, id: u32, at: u32) -> Result<u32, ErrorKind>
     ensures word { result ≡ capability_of (word_at (A.view arena.now).words id at) }
     ensures found { (t : Tree) → IsStored (A.view arena.now).words id at t
@@ -80,8 +80,8 @@ pub fn get_capability<A: BuilderArena>(arena: &A, id: u32, at: u32) -> Result<u3
     Ok(word.cap_index())
 }
 
-/// The struct that the pointer at a place leads to, as wide as it is ("Structs"). `None` where the
-/// pointer is null, or leads to anything else.
+/// The struct that the pointer at a place leads to, with the sections that it has ("Structs").
+/// `None` if the pointer is null, or leads to anything else.
 #[inline(always)]
 pub fn get_struct<A: BuilderArena>(arena: &A, id: u32, at: u32) -> Option<ExistingStruct>
     ensures { FindsStructAt (A.view arena.now).words id at result }
@@ -91,7 +91,7 @@ pub fn get_struct<A: BuilderArena>(arena: &A, id: u32, at: u32) -> Option<Existi
         return None;
     }
     if word.kind() == WirePointerKind::Far {
-        // The call's result is taken apart, so that a struct that is near does not go through memory.
+        // Takes the call's result apart, so that a near struct doesn't go through memory.
         return match struct_behind_pad(arena, id, at, word) {
             Some(found) => Some(found),
             None => None,
@@ -100,7 +100,8 @@ pub fn get_struct<A: BuilderArena>(arena: &A, id: u32, at: u32) -> Option<Existi
     struct_of(arena, id, at, word)
 }
 
-/// The struct that a word leads to which stands at a place and isn't zero, as wide as it is.
+/// The struct that a word at a place leads to, with the sections that it has. Precondition: the
+/// word isn't zero.
 #[inline(always)]
 fn struct_of<A: BuilderArena>(
     arena: &A,
@@ -132,7 +133,7 @@ fn struct_of<A: BuilderArena>(
     }
 }
 
-/// The struct that a far pointer leads to, as `struct_of` has it, out of line.
+/// The struct that a far pointer leads to, like `struct_of`, not inlined.
 #[cold]
 #[inline(never)]
 fn struct_behind_pad<A: BuilderArena>(
@@ -148,13 +149,14 @@ fn struct_behind_pad<A: BuilderArena>(
     struct_of(arena, id, at, word)
 }
 
-/// The list that the pointer at a place leads to, of elements as wide as the expected ones, which are
-/// no structs, or wider ("Lists"). `None` where the pointer is null.
+/// The list that the pointer at a place leads to, with elements that are at least as wide as the
+/// expected ones, which aren't structs ("Lists"). `None` if the pointer is null.
 ///
-/// Anything but a list is `ExistingPointerIsNotAList`. A list of structs where bits are expected is
-/// `FoundStructListWhereBitListWasExpected`. Elements with fewer bits of data or fewer pointers than
-/// the expected ones are `ExistingListValueIsIncompatibleWithExpectedType`, and so are structs
-/// without data words where data is expected, or without pointers where pointers are.
+/// Refusals: `ExistingPointerIsNotAList` for anything but a list;
+/// `FoundStructListWhereBitListWasExpected` for a list of structs if bits are expected;
+/// `ExistingListValueIsIncompatibleWithExpectedType` for elements with fewer bits of data or fewer
+/// pointers than the expected ones, for structs without data words if data is expected, and for
+/// structs without pointers if pointers are.
 pub fn get_list<A: BuilderArena>(
     arena: &A,
     id: u32,
@@ -177,10 +179,10 @@ pub fn get_list<A: BuilderArena>(
     }
 }
 
-/// Where the pointer at a place leads, if to a list; `None` where it is null.
+/// Where the pointer at a place leads, if to a list; `None` if it is null.
 ///
-/// Anything else is `ExistingPointerIsNotAList`, and a pointer that leads out of the message, which no
-/// stored value has, `MessageContainsOutOfBoundsPointer`.
+/// Refusals: `ExistingPointerIsNotAList` for anything else; `MessageContainsOutOfBoundsPointer` for
+/// a pointer that leads out of the message, which no stored value has.
 fn follow_list<A: BuilderArena>(arena: &A, id: u32, at: u32) -> Result<Option<Landing>, ErrorKind>
     ensures { FindsAt (A.view arena.now).words id at landing_in (listed result) }
 {
@@ -200,7 +202,7 @@ fn follow_list<A: BuilderArena>(arena: &A, id: u32, at: u32) -> Result<Option<La
     }
 }
 
-/// The list at a landing, of elements of a size that are no structs.
+/// The list at a landing, with elements of a size that aren't structs.
 fn plain_list_at(
     landing: Landing,
     size: ElementSize,
@@ -259,7 +261,7 @@ fn struct_list_at<A: BuilderArena>(
     }
 }
 
-/// The tag of the list of structs at a landing, if its word lies in the segment.
+/// The tag of the list of structs at a landing, if its word is inside the segment.
 fn tag_at<A: BuilderArena>(arena: &A, landing: Landing) -> Option<WirePointer>
     ensures there { landing.start < length (segment (A.view arena.now).words landing.segment)
         → IsSome result }
@@ -280,7 +282,7 @@ fn tag_at<A: BuilderArena>(arena: &A, landing: Landing) -> Option<WirePointer>
     }
 }
 
-/// Why structs of a size don't serve as elements of an expected size, if they don't.
+/// Why structs of a size can't be elements of an expected size, if they can't.
 fn misfit_of_structs(expected: ElementSize, size: StructSize) -> Option<ErrorKind>
     ensures found { result ≡ structs_misfit expected size.data_words size.pointers }
     ensures named { IfSome result (λ k. is_unfound k ≡ true) }
@@ -298,10 +300,10 @@ fn misfit_of_structs(expected: ElementSize, size: StructSize) -> Option<ErrorKin
     }
 }
 
-/// The data that the pointer at a place leads to ("Lists"). `None` where the pointer is null.
+/// The data that the pointer at a place leads to ("Lists"). `None` if the pointer is null.
 ///
-/// Anything but a list is `ExistingPointerIsNotAList`, and a list of other elements than bytes
-/// `ExistingListPointerIsNotByteSized`.
+/// Refusals: `ExistingPointerIsNotAList` for anything but a list;
+/// `ExistingListPointerIsNotByteSized` if the elements aren't bytes.
 pub fn get_data<A: BuilderArena>(
     arena: &A,
     id: u32,
@@ -324,10 +326,10 @@ pub fn get_data<A: BuilderArena>(
     }
 }
 
-/// The text that the pointer at a place leads to, without the zero byte behind it ("Lists"). `None`
-/// where the pointer is null.
+/// The text that the pointer at a place leads to, without the zero byte after it ("Lists"). `None`
+/// if the pointer is null.
 ///
-/// What isn't data is refused as by `get_data`. Bytes that don't end in a zero byte are
+/// Refuses what isn't data like `get_data`, and bytes that don't end in a zero byte with
 /// `TextBlobMissingNULTerminator`.
 pub fn get_text<A: BuilderArena>(
     arena: &A,
@@ -351,7 +353,7 @@ pub fn get_text<A: BuilderArena>(
     }
 }
 
-/// Whether bytes lie in a segment that is there.
+/// Whether the bytes are inside a segment that exists.
 pub fn are_inside<A: BuilderArena>(arena: &A, bytes: ExistingBytes) -> bool
     ensures { IsTrue result ↔ BytesLieIn (A.view arena.now).words bytes }
 {
@@ -377,7 +379,7 @@ fn is_terminated<A: BuilderArena>(arena: &A, bytes: ExistingBytes) -> bool
     }
 }
 
-/// Whether the last of so many bytes from a word on is there, and 0.
+/// Whether the last of `count` bytes from word `start` on exists, and is 0.
 fn last_is_zero(segment: &[u8], start: u32, count: u32) -> bool
     ensures some { IsTrue result → 0 < count }
     ensures ends { start + words_for 2 count ≤ length (words_of segment.now)

@@ -1,5 +1,5 @@
-//! Objects made where a pointer leads, over what it held before ("Structs", "Lists", "Capabilities
-//! (Interfaces)"). That becomes zero first, with all below it and its landing pads; these words stay
+//! Makes a pointer lead to a new object, over what it held ("Structs", "Lists", "Capabilities
+//! (Interfaces)"). That is zeroed first, with all below it and its landing pads; these words stay
 //! allocated.
 ghost use Rattle.std.specs.Prelude.{◌≡◌, ℕ, length, ◌<◌, ◌≤◌, ◌+◌, ◌-◌, ◌*◌, ◌^◌, IfOk, OnOk};
 ghost use Rattle.capnp_format.specs.Segments.{segment, word_at, IsPlace};
@@ -34,9 +34,10 @@ pub fn set_capability<A: BuilderArena>(arena: &mut A, id: u32, at: u32, index: u
     arena.set_word(id, at, WirePointer::new_capability(index).0);
 }
 
-/// Makes a struct, all zero, where the pointer at a place leads. One without sections takes no words.
+/// Makes the pointer at a place lead to a new struct, all zero. One without sections takes no
+/// words.
 ///
-/// A refusal is that of memory, or `MessageTooLarge`; the pointer is null then.
+/// Refuses if memory runs out, or with `MessageTooLarge`; the pointer is null then.
 #[inline(always)]
 pub fn init_struct<A: BuilderArena>(
     arena: &mut A,
@@ -54,9 +55,10 @@ pub fn init_struct<A: BuilderArena>(
     make_struct(arena, id, at, size)
 }
 
-/// Makes a list of elements that are no structs, all zero or null, where the pointer at a place leads.
+/// Makes the pointer at a place lead to a new list of elements that aren't structs, all zero or
+/// null.
 ///
-/// A refusal is that of memory, or `MessageTooLarge`; the pointer is null then.
+/// Refuses if memory runs out, or with `MessageTooLarge`; the pointer is null then.
 #[inline(always)]
 pub fn init_list<A: BuilderArena>(
     arena: &mut A,
@@ -77,9 +79,9 @@ pub fn init_list<A: BuilderArena>(
     make_list(arena, id, at, size, count)
 }
 
-/// Makes a list of structs, all zero, where the pointer at a place leads; its first word is the tag.
+/// Makes the pointer at a place lead to a new list of structs, all zero; its first word is the tag.
 ///
-/// A refusal is that of memory, or `MessageTooLarge`; the pointer is null then.
+/// Refuses if memory runs out, or with `MessageTooLarge`; the pointer is null then.
 pub fn init_struct_list<A: BuilderArena>(
     arena: &mut A,
     id: u32,

@@ -1,6 +1,5 @@
-//! What follows of the calls that put a value at a place of a message, and of those that write or
-//! read a number or a bit. Each function does nothing: its contract is the law, proved for all
-//! messages.
+//! Laws of the calls that put a value at a place of a message, and of those that write or read a
+//! number or a bit. Each function does nothing: its contract is the law, proved for all messages.
 
 ghost use Rattle.std.specs.Prelude.{◌≡◌, ◌⊎◌, ℕ, ◌+◌, ◌*◌, ◌/◌, ◌%◌, ◌^◌, ◌<◌, ◌≤◌, List, length, slice_set};
 ghost use Rattle.capnp_format.specs.Forest.{IsForest, times, target};
@@ -11,17 +10,17 @@ ghost use Rattle.capnp_making.specs.Fields.{put_field, with_field, field_in};
 ghost use Rattle.capnp_making.specs.Path.{Step, node, PathLeads, update, extent, struct_at, put_struct};
 ghost use Rattle.capnp_making.specs.Stored.{IsStored, IsReplaced, Puts};
 
-/// Where a message is a forest (its value holds no word twice, and all other words are zero), it is
-/// one again when a call has put a value at the end of a path from the root; the message's value is
-/// as before but for that value.
+/// If a message is a forest (its value holds no word twice, and all other words are zero), it is
+/// one again after a call has put a value at the end of a path from the root; only that value
+/// differs in the message's value.
 pub fn forest_after()
     ensures { (S R : Segments) (t : Tree) (path : List Step) (u q : ℕ) (x y : Tree)
         → IsForest S t → PathLeads S (node 0 0 t) path (node u q x) → Puts S R u q y
         → IsForest R (update t path y) }
 {}
 
-/// A call that puts a value at a place leaves all words as they were but for that place and what was
-/// reached from it.
+/// A call that puts a value at a place leaves all words unchanged except for that place and what
+/// was reached from it.
 pub fn others_stay()
     ensures { (S R : Segments) (t : Tree) (path : List Step) (u q : ℕ) (x y : Tree)
         → IsForest S t → PathLeads S (node 0 0 t) path (node u q x) → Puts S R u q y
@@ -35,9 +34,9 @@ pub fn last_stands()
         → Puts S R u q y → Puts R Q u q z → Puts S Q u q z }
 {}
 
-/// Where a number or a bit is written in the data section of a struct, the place holds the struct
-/// with that in it; nothing else of the message is changed ("Structs"). Its place is in bits from the
-/// first data word on.
+/// If a number or a bit is written in the data section of a struct, the place holds the struct with
+/// that in it, and nothing else of the message is changed ("Structs"). Its position is in bits from
+/// the first data word on.
 pub fn struct_field_written()
     ensures { (S R : Segments) (s p : ℕ) (ws : List ℕ) (ts : Trees) (b w v : ℕ)
         → IsStored S s p (Struct ws ts) → b < 64 * length ws
@@ -45,8 +44,8 @@ pub fn struct_field_written()
         → IsReplaced S R s p (Struct ws ts) (Struct (put_field ws b w v) ts) }
 {}
 
-/// Where an element is written in a list of numbers or bits, the place holds the list with that
-/// element; nothing else of the message is changed ("Lists").
+/// If an element is written in a list of numbers or bits, the place holds the list with that
+/// element, and nothing else of the message is changed ("Lists").
 pub fn list_element_written()
     ensures { (S R : Segments) (s p size : ℕ) (ns : List ℕ) (i v : ℕ)
         → IsStored S s p (Flat size ns) → 0 < size → i < length ns → v < 2 ^ element_bits size
@@ -55,9 +54,9 @@ pub fn list_element_written()
         → IsReplaced S R s p (Flat size ns) (Flat size (slice_set ns i v)) }
 {}
 
-/// Where a number or a bit is written in the data section of an element, the place holds the list of
-/// structs with that in the element; nothing else of the message is changed ("Lists"). Its place is in
-/// bits from the element's first word on.
+/// If a number or a bit is written in the data section of an element, the place holds the list of
+/// structs with that in the element, and nothing else of the message is changed ("Lists"). Its
+/// position is in bits from the element's first word on.
 pub fn element_field_written()
     ensures { (S R : Segments) (s p d q : ℕ) (es : Elements) (i : ℕ)
         (ws : List ℕ) (ts : Trees) (b w v : ℕ)
@@ -69,14 +68,14 @@ pub fn element_field_written()
         (Structs d q (put_struct es i (Struct (put_field ws b w v) ts))) }
 {}
 
-/// A number or a bit that is written is read back.
+/// A number or a bit that was written is read back.
 pub fn field_read_back()
     ensures { (ws : List ℕ) (b w v : ℕ)
         → b / 64 < length ws → b % 64 + w ≤ 64 → v < 2 ^ w
         → field_in (put_field ws b w v) b w ≡ v }
 {}
 
-/// A number or a bit stays as it was where one is written before or behind it.
+/// Writing a number or a bit leaves those before and after it unchanged.
 pub fn other_fields_stay()
     ensures { (ws : List ℕ) (b w v c x : ℕ)
         → b / 64 < length ws → b % 64 + w ≤ 64 → v < 2 ^ w

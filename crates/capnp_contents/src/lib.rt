@@ -1,5 +1,5 @@
-//! What is in a message that is built: found, read, written and lent in place, and made anew once what
-//! was there is zero.
+//! The contents of a message being built: found, read, written and lent in place, and replaced
+//! after zeroing what was there.
 #![tactic(auto)]
 
 pub mod bytes;

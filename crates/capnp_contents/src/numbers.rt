@@ -1,5 +1,5 @@
-//! Numbers and bits written and read in place: in the data section of a struct, or in a list of numbers
-//! ("Structs", "Lists").
+//! Writes and reads numbers and bits in place: in the data section of a struct, or in a list of
+//! numbers ("Structs", "Lists").
 ghost use Rattle.std.specs.Prelude.{◌≡◌, ◌<◌, ◌≤◌, ◌+◌, ◌*◌, ◌%◌, ◌^◌, ◌↔◌, IsTrue, cond, length};
 ghost use Rattle.capnp_format.specs.Bytes.{words_of};
 ghost use Rattle.capnp_format.specs.Segments.{segment};
@@ -8,8 +8,7 @@ ghost use Rattle.capnp_making.specs.Fields.{with_field, field_in};
 use capnp_arena_traits::arena::BuilderArena;
 use capnp_words::primitive::Primitive;
 
-/// Writes a number over the bytes of a segment from a position on, which is in bytes and a multiple
-/// of the number's width.
+/// Writes `value` into segment `id` at byte `byte`, a multiple of the number's width.
 pub fn set_number<A: BuilderArena, T: Primitive>(arena: &mut A, id: u32, byte: u64, value: T)
     requires inside { byte + T.BYTES ≤ 8 * length (segment (A.view arena.old).words id) }
     requires aligned { byte % T.BYTES ≡ 0 }
@@ -25,7 +24,7 @@ pub fn set_number<A: BuilderArena, T: Primitive>(arena: &mut A, id: u32, byte: u
     value.store(&mut bytes[start..start + T::BYTES]);
 }
 
-/// Writes a bit of a segment. Its position is in bits, the lowest bit of each byte first.
+/// Writes bit `bit` of segment `id`, the lowest bit of each byte first.
 pub fn set_bit<A: BuilderArena>(arena: &mut A, id: u32, bit: u64, value: bool)
     requires inside { bit < 64 * length (segment (A.view arena.old).words id) }
     ensures { A.view arena.new
@@ -42,8 +41,7 @@ pub fn set_bit<A: BuilderArena>(arena: &mut A, id: u32, bit: u64, value: bool)
     }
 }
 
-/// The number that stands in the bytes of a segment from a position on, which is in bytes and a
-/// multiple of the number's width.
+/// The number in segment `id` at byte `byte`, a multiple of the number's width.
 pub fn get_number<A: BuilderArena, T: Primitive>(arena: &A, id: u32, byte: u64) -> T
     requires inside { byte + T.BYTES ≤ 8 * length (segment (A.view arena.now).words id) }
     requires aligned { byte % T.BYTES ≡ 0 }
@@ -56,7 +54,7 @@ pub fn get_number<A: BuilderArena, T: Primitive>(arena: &A, id: u32, byte: u64) 
     number_in(bytes, byte)
 }
 
-/// The number that stands in bytes from a position on, which is a multiple of the number's width.
+/// The number in `bytes` at byte `byte`, a multiple of the number's width.
 fn number_in<T: Primitive>(bytes: &[u8], byte: u64) -> T
     requires small { length bytes.now < 8 * 2 ^ 32 }
     requires inside { byte + T.BYTES ≤ 8 * length (words_of bytes.now) }
@@ -67,7 +65,7 @@ fn number_in<T: Primitive>(bytes: &[u8], byte: u64) -> T
     T::load(&bytes[start..start + T::BYTES])
 }
 
-/// A bit of a segment. Its position is in bits, the lowest bit of each byte first.
+/// Bit `bit` of segment `id`, the lowest bit of each byte first.
 pub fn get_bit<A: BuilderArena>(arena: &A, id: u32, bit: u64) -> bool
     requires inside { bit < 64 * length (segment (A.view arena.now).words id) }
     ensures { IsTrue result ↔ (field_in (segment (A.view arena.now).words id) bit 1 ≡ 1) }
@@ -78,7 +76,7 @@ pub fn get_bit<A: BuilderArena>(arena: &A, id: u32, bit: u64) -> bool
     bit_in(bytes, bit)
 }
 
-/// A bit of bytes, the lowest bit of each byte first.
+/// Bit `bit` of `bytes`, the lowest bit of each byte first.
 fn bit_in(bytes: &[u8], bit: u64) -> bool
     requires inside { bit < 64 * length (words_of bytes.now) }
     ensures { IsTrue result ↔ (field_in (words_of bytes.now) bit 1 ≡ 1) }

@@ -32,7 +32,7 @@ use Rattle.capnp_copies.specs.declared.widths.ElementSizes.{ElementSizes}
 use Rattle.capnp_making.specs.Makes.{CallAt, call_at}
 
 -- A call that copies to a place, or from a place of a segment on: the arena and the read limiter,
--- before it and after it.
+-- before and after it.
 pub record Change : Type 0 where
   pub form : Form
   pub segment : ℕ
@@ -42,7 +42,7 @@ pub record Change : Type 0 where
   pub before : Meter
   pub after : Meter
 
--- A call at a place that copies in a form, with the read limiter before it and after it.
+-- A call at a place that copies in this form, with the read limiter before and after it.
 abbrev pub change : Form → CallAt → Meter → Meter → Change
 change form c before after =
     record {
@@ -60,35 +60,35 @@ abbrev pub change_to : Destination → View → View → Meter → Meter → Cha
 change_to to old new before after =
     change (form_in to.form) (call_at to.place.segment to.place.at old new) before after
 
--- n null pointers stand from position p of segment id on.
+-- S has n null pointers from position p of segment id on.
 pub record HasNulls (S : Segments) (id p n : ℕ) : Type 0 where
   pub room : p + n ≤ length (segment S id)
   pub null : (i : ℕ) → i < n → word_at S id (p + i) ≡ 0
 
--- A pointer stands at position p of segment s, and is null.
+-- S has a pointer at (s, p), and it is null.
 pub record IsNullPlace (S : Segments) (s p : ℕ) : Type 0 where
   pub place : IsPlace S s p
   pub null : word_at S s p ≡ 0
 
--- n pointers are there to be read from the place of r on, and as many nulls for their copies from
--- position p of segment s on.
+-- There are n pointers to read from the place of r on, and as many null pointers for their copies
+-- from (s, p) on.
 pub record HasNullsFor (r : Reading) (n : ℕ) (S : Segments) (s p : ℕ) : Type 0 where
   pub nulls : HasNulls S s p n
   pub inside : r.at + n ≤ length (segment_read r)
 
--- A word is that of the pointer which is read, and isn't zero.
+-- The word is that of the pointer which r reads, and isn't zero.
 pub record IsPointerRead (r : Reading) (word : ℕ) : Type 0 where
   pub there : word ≡ word_of r
   pub small : word < 2 ^ 64
   pub some : word ≢ 0
 
--- n words fit behind those of segment id, or the message has but one segment once they are written:
--- they stay in the segment.
+-- n words fit after those of segment id, or the message has only one segment once they are written:
+-- so they stay in the segment.
 abbrev pub StayInSegment : View → View → ℕ → ℕ → Type 0
 StayInSegment old new id n = HasOwnRoom old id n ⊎ (length new.words ≡ 1)
 
--- The words of t, where they stay in segment id, stand behind those that were there, and their
--- pointer at position at of it.
+-- If the words of t stay in segment id, they are after those that were there, and their pointer is
+-- at position `at` of it.
 abbrev pub IsCopiedInRoom : View → View → ℕ → ℕ → Tree → Type 0
 IsCopiedInRoom old new id at t =
     StayInSegment old new id (word_count t) →
@@ -96,8 +96,8 @@ IsCopiedInRoom old new id at t =
     (set (segment old.words id ++ body t) at
     (pointer t (offset_to at (length (segment old.words id)))))
 
--- Of the object a, to which the pointer at a place leads, n words are made: of a struct its sections
--- that are kept, of a list its elements, and of a list of structs its tag and its elements, cut to the
+-- A copy makes n words of the object a, to which the pointer of r leads: of a struct the sections
+-- that are kept; of a list its elements; of a list of structs its tag, and its elements cut to the
 -- sections that are kept.
 pub data IsMadeOf (form : Form) (r : Reading) (a : Target) (n : ℕ) : Type 0 where
   as_struct :
@@ -116,47 +116,48 @@ pub data IsMadeOf (form : Form) (r : Reading) (a : Target) (n : ℕ) : Type 0 wh
       (offset_bits (tag r.segments a))) →
       IsMadeOf form r a n
 
--- Reading comes to an object of which words are to be made, once it was read: P says of how many, and
--- of how many they are with all those that were spent before.
+-- Reading comes to an object that was read and of which n words have to be made. P holds for n, and
+-- for the sum of n and all words spent before.
 abbrev pub ComesToObject : {V : Type 0} → Original V → Form → Meter → Meter → (ℕ → ℕ → Type 0) → Type 0
 ComesToObject o form m m' P =
     (n : ℕ) × (x : o.stops form
     (λ r i j. (a : Target) × Entered Value r i j a × IsMadeOf form r a n) m m') ×
     P n ((o.spent x).words + n)
 
--- The arena refuses n words by the name k, and the segment of the place has no room for so many in all.
+-- The arena refuses n words with k, and the segment of the place has no room for `all` words.
 abbrev pub FindsNoRoom : Change → ErrorKind → ℕ → ℕ → Type 0
 FindsNoRoom c k n all = RefusesWords c.old c.new n k ×
     (c.old.room c.segment < length (segment c.old.words c.segment) + all)
 
--- The arena has no room, by the name k, for an object of words that are at hand, before anything is
--- read, or for one that reading leads to: with what was spent until then it is more than the segment
--- of the place has room for.
+-- The arena has no room, which it refuses with k, for an object: of words that are at hand, before
+-- anything is read; or one that reading leads to, which together with the words spent before is
+-- more than the segment of the place has room for.
 abbrev pub LacksRoom : {V : Type 0} → Original V → Change → ErrorKind → Type 0
 LacksRoom o c k =
     ((n : ℕ) × (c.after ≡ c.before) × o.makes c.form n × FindsNoRoom c k n n) ⊎
     ComesToObject o c.form c.before c.after (FindsNoRoom c k)
 
--- Whatever can be read of it, by any meter, has more words to be kept than the segment has room for.
+-- Whatever value can be read of it, in any form and with any limiter, the words that are kept of
+-- that value don't fit after those of the segment.
 abbrev pub IsTooLarge : {V : Type 0} → Original V → Change → Type 0
 IsTooLarge {V} o c =
     (any : Form) (m m' : Meter) (value : V) → o.reads any m m' value →
     c.old.room c.segment < length (segment c.old.words c.segment) + o.words c.form value
 
--- Why a copy is refused by the name k: the arena has no room for an object, and what is copied is
--- too large; reading is refused; or what is copied is larger than an object can be.
+-- A copy is refused with k: the arena has no room for an object, and what is copied is too large;
+-- or reading is refused; or what is copied is larger than an object can be.
 abbrev pub RefusesToCopy : {V : Type 0} → Original V → Change → ErrorKind → Type 0
 RefusesToCopy o c k =
     (LacksRoom o c k × IsTooLarge o c)
     ⊎ o.stops c.form (λ r m m'. Stopped Value c.form r m m' k) c.before c.after ⊎ o.exceeds c.form k
 
--- The last n words of the segment stand from the place on, and are zero.
+-- The last n words of the segment are those from the place on, and are zero.
 pub record EndsInZeros (c : Change) (n : ℕ) : Type 0 where
   pub ends : c.at + n ≡ length (segment c.old.words c.segment)
   pub zero : (j : ℕ) → c.at ≤ j → word_at c.old.words c.segment j ≡ 0
 
--- What is copied is read, and what is kept of its value stands at the place that was null; nothing
--- but words is changed.
+-- What is copied is read, and the place, which was null, gets what is kept of its value. Only words
+-- change, and the room of new segments.
 pub record MakesCopy (o : Original Tree) (c : Change) : Type 0 where
   pub value : Tree
   pub is_read : o.reads c.form c.before c.after value
@@ -164,13 +165,14 @@ pub record MakesCopy (o : Original Tree) (c : Change) : Type 0 where
   pub memory : KeepsMemory c.old c.new
   pub stands : IsCopiedInRoom c.old c.new c.segment c.at (kept c.form value)
 
--- A copy is refused by the name k, and leaves t at the place that was null, and what was allocated.
+-- A copy is refused with k, and leaves t at the place that was null. What was allocated stays.
 pub record StopsCopy (o : Original Tree) (c : Change) (t : Tree) (k : ErrorKind) : Type 0 where
   pub why : RefusesToCopy o c k
   pub left : IsReplaced c.old.words c.new.words c.segment c.at Null t
   pub memory : SpendsMemory c.old c.new k
 
--- A call copies what i pointers from a place on mean.
+-- A call copies what i pointers from a place on mean; or it is refused with k, and leaves copies
+-- `left` of at most i.
 pub record CopiesChildren (r : Reading) (i : ℕ) (c : Change) : Type 0 where
   pub children : Trees
   pub counts : count children ≡ i
@@ -188,8 +190,8 @@ pub record StopsAtChildren (r : Reading) (i : ℕ) (c : Change) (k : ErrorKind) 
   pub made : AreFilled c.old.words c.new.words c.segment c.at left
   pub memory : SpendsMemory c.old c.new k
 
--- Of i pointers from a place on the first are read and copied as they stand; the next one is
--- refused by the name k, and stays null.
+-- Of i pointers from a place on the first ones are read and copied without trimming; the next one
+-- is refused with k, and stays null.
 pub record CopiesFirst (r : Reading) (i : ℕ) (c : Change) (k : ErrorKind) : Type 0 where
   pub first : Trees
   pub fewer : count first < i
@@ -204,9 +206,9 @@ pub record CopiesFirst (r : Reading) (i : ℕ) (c : Change) (k : ErrorKind) : Ty
       ⊎ Refused c.form (behind r (count first)) between c.after k
   pub memory : SpendsMemory c.old c.new k
 
--- A call copies i elements of a list of structs, cut to the sections that are kept, where the rows
--- of so many others are still to come: those stand between the rows that are copied and what their
--- pointers lead to.
+-- A call copies i elements of a list of structs, cut to the sections that are kept, while the rows
+-- of `left` other elements are still to come: those are between the copied rows and what their
+-- pointers lead to. Or it is refused with k, and leaves some elements filled.
 pub record CopiesRows (r : Reading) (sizes : ElementSizes) (i left : ℕ) (c : Change) : Type 0 where
   pub elements : Elements
   pub counts : element_count elements ≡ i

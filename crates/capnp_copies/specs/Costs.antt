@@ -1,6 +1,6 @@
--- What reading costs until it breaks off: the words that were granted, and the pointers that were
--- followed, for the objects that were read before the one where it stops, and for those on the way
--- to it. That one itself isn't counted.
+-- What reading costs until it breaks off: the words granted and the pointers followed, for the
+-- objects that were read before the one where it stops, and for those on the way to it. That one
+-- itself isn't counted.
 use Rattle.std.specs.Prelude.{ℕ, ◌+◌}
 use Rattle.capnp_words.specs.declared.wire_pointer.StructSize.{StructSize}
 use Rattle.capnp_words.specs.Meter.{Meter}
@@ -32,7 +32,8 @@ spent_before (in_element es ts mid is fewer few at rows reads) =
       pointers = pointers_in_elements es + pointers_in_all ts;
     }
 
--- What is spent on each object on the way, and on what its pointers before the next one on the way mean.
+-- What is spent on each object on the way, and on what its pointers mean that come before the next
+-- one on the way.
 abbrev pub spent_until : {form : Form} {P : Reading → Meter → Meter → Type 0} {r : Reading}
     {m m' : Meter} → StopsWithin form P r m m' → Spent
 spent_until (here stops) = record { words = 0; pointers = 0 }
@@ -41,8 +42,8 @@ spent_until {r = r} (below a q entered before rest) = record {
   pointers = 1 + ((spent_before before).pointers + (spent_until rest).pointers);
 }
 
--- What is spent on pointers one behind the other, before the object where their reading stops; and
--- on the pointers of elements.
+-- What is spent on consecutive pointers, or on the pointers of elements, before the object where
+-- their reading stops.
 abbrev pub spent_among : {form : Form} {P : Reading → Meter → Meter → Type 0} {r : Reading} {i : ℕ}
     {m m' : Meter} → StopsAmong form P r i m m' → Spent
 spent_among x =
@@ -59,6 +60,6 @@ spent_among_elements x =
       pointers = pointers_in_elements x.first + (spent_among x.stops).pointers;
     }
 
--- What is spent behind an object of so many words, which is itself for one pointer.
+-- What is spent after an object of n words, and on the object itself, for one pointer.
 abbrev pub spent_behind : ℕ → Spent → Spent
 spent_behind n rest = record { words = n + rest.words; pointers = 1 + rest.pointers }

@@ -6,18 +6,18 @@ use Rattle.capnp_objects.specs.Wanted.{Form, plain, canonical, of_default}
 use Rattle.capnp_copies.specs.declared.form.CopyForm.{CopyForm}
 use Rattle.capnp_copies.specs.declared.form.CopyForm.TheVariants.{Plain, Canonical, OfDefault}
 
--- A copy in canonical form, or of a value as it stands.
+-- The canonical form, or the plain one, which keeps all of a value.
 abbrev pub form_of : Bool → Form
 form_of true = canonical
 form_of false = plain
 
--- The form that a copy is asked for.
+-- The form that is requested of a copy.
 abbrev pub form_in : CopyForm → Form
 form_in Plain = plain
 form_in Canonical = canonical
 form_in OfDefault = of_default
 
--- What a copy in a form keeps of a value; of children, and of elements.
+-- What a copy in a form keeps of a value, of children, and of elements.
 abbrev pub kept : Form → Tree → Tree
 kept canonical t = trim t
 kept _ t = t

@@ -1,4 +1,4 @@
--- How many words a copy takes of a message, whether it ends or is refused: those of its objects,
+-- How many words of a message a copy takes, whether it ends or is refused: those of its objects,
 -- and its landing pads.
 use Rattle.std.specs.Prelude.{◌≡◌, ◌≢◌, ℕ, ◌+◌, ◌<◌, ◌≤◌, length}
 use Rattle.std.specs.Prelude.{Result, IfOk, IfErr, MatchResult}
@@ -13,17 +13,17 @@ use Rattle.capnp_objects.specs.Reading.{Reading}
 use Rattle.capnp_copies.specs.Changes.{Change, MakesCopy, StopsCopy, CopiesChildren, StopsAtChildren}
 use Rattle.capnp_copies.specs.Originals.{Original, children_original}
 
--- No words are taken: each segment has as many as before, and the room that it had.
+-- No words are allocated: each segment has as many words and as much room as before.
 pub record TakesNone (old new : View) : Type 0 where
   pub segments : length new.words ≡ length old.words
   pub words : (v : ℕ) → length (segment new.words v) ≡ length (segment old.words v)
   pub room : SameRoomBelow (length old.words) old.room new.room
 
--- From old to new objects are made for pointers of segment id, of so many words in all, with so
--- many landing pads. An object of n words stands in the segment of its pointer where that has room
--- for it, and has no pad. Else it gets one, and stands in another segment k, the next with room for
--- both. No other words are taken, and each segment keeps its room. The objects below it are made
--- for pointers of its own segment ("Inter-Segment Pointers").
+-- From old to new objects of `words` words in all are made for pointers of segment id, with `pads`
+-- landing pads. If the segment of an object's pointer has room for it, the object is there, and has
+-- no pad. Otherwise it is behind a pad in another segment k, the next one with room for both. The
+-- objects below an object are made for pointers of its own segment. No other words are allocated,
+-- and each segment keeps its room ("Inter-Segment Pointers").
 pub data Makes : ℕ → View → View → ℕ → ℕ → Type 0 where
   no_object : {id : ℕ} {old new : View} → TakesNone old new → Makes id old new 0 0
   near :
@@ -55,8 +55,8 @@ pub record MakesAtMost (id : ℕ) (old new : View) (n p : ℕ) : Type 0 where
   pub less : words ≤ n
   pub few : pads ≤ p
 
--- What a copy takes: where all is read, by what that costs; and where it is refused, by what was
--- read before the object where it breaks off.
+-- What a copy takes: if all is read, by what that costs; if it is refused, by what was read before
+-- the object where it breaks off.
 abbrev pub TakesAtMost : {A E V : Type 0} → Result A E → Original V → Change → Type 0
 TakesAtMost result o c =
     MatchResult result (λ _. o.takes c.form c.before c.after (MakesAtMost c.segment c.old c.new))
@@ -69,7 +69,8 @@ pub record CopiesOrLeaves {A : Type 0} (result : Result A ErrorKind) (o : Origin
   pub refused : IfErr result (λ k. (t : Tree) × StopsCopy o c t k)
   pub taken : TakesAtMost result o c
 
--- A call copies what n pointers from a place on mean, or is refused; and what it takes of the message.
+-- A call copies what n pointers from a place on mean, or is refused; and what it takes of the
+-- message.
 pub record CopiesOrStops {A : Type 0} (result : Result A ErrorKind) (r : Reading) (n : ℕ) (c : Change)
     : Type 0 where
   pub copied : IfOk result (λ _. CopiesChildren r n c)

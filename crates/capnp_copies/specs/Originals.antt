@@ -23,28 +23,30 @@ use Rattle.capnp_copies.specs.Forms.{kept, kept_each, kept_elements}
 use Rattle.capnp_copies.specs.Widths.{widths_kept}
 use Rattle.capnp_copies.specs.declared.widths.ElementSizes.{ElementSizes}
 
--- What is copied, whose value is a tree, or children, or elements. It is told by how it is read, by
--- what a copy makes of it when nothing of it has been read yet, and by how many words a copy has,
--- and takes at most, with its landing pads.
+-- What is copied, with a tree, children, or elements as its value: how it is read, what a copy
+-- makes of it before anything of it is read, how many words a copy has, and how many it takes at
+-- most, with its landing pads.
 pub record Original (V : Type 0) : Type 1 where
-  -- From one meter to another it is read in a form, and this is its value.
+  -- Reading it in a form takes the limiter from one state to another, and returns this value.
   pub reads : Form → Meter → Meter → V → Type 0
-  -- From one meter to another reading it in a form stops, at an object that a predicate holds of.
+  -- Reading it in a form takes the limiter from one state to another, and stops at an object that
+  -- satisfies a predicate.
   pub stops : Form → (Reading → Meter → Meter → Type 0) → Meter → Meter → Type 0
   -- What was spent before that object.
   pub spent : {form : Form} {P : Reading → Meter → Meter → Type 0} {m m' : Meter} →
       stops form P m m' → Spent
-  -- Of words that are at hand a copy in a form makes an object of so many words.
+  -- A copy in a form makes an object of this many words, of words that are at hand.
   pub makes : Form → ℕ → Type 0
-  -- A copy in a form has no pointer for so large an object, and is refused by this name.
+  -- A copy in a form has no pointer for so large an object, and is refused with this error.
   pub exceeds : Form → ErrorKind → Type 0
-  -- How many words of it a copy in a form has, besides those that stand at the place already.
+  -- How many words of it a copy in a form has, in addition to those that are at the place already.
   pub words : Form → V → ℕ
-  -- From one meter to another it is read in a form, and a predicate says of how many words and pads
-  -- its copy takes for that.
+  -- Reading it in a form takes the limiter from one state to another, and a predicate holds for the
+  -- words and pads that its copy takes for that.
   pub takes : Form → Meter → Meter → (ℕ → ℕ → Type 0) → Type 0
-  -- From one meter to another reading it in a form is broken off at one object, or nothing is read
-  -- of what is at hand; and a predicate says of how many words and pads its copy takes until then.
+  -- Reading it in a form takes the limiter from one state to another and is broken off at one
+  -- object, or nothing is read of what is at hand; a predicate holds for the words and pads that
+  -- its copy takes until then.
   pub takes_until : Form → Meter → Meter → (ℕ → ℕ → Type 0) → Type 0
 
 -- What a place means: no words of it are at hand. Its copy takes what reading it costs, and a pad
@@ -62,7 +64,7 @@ value_original r = record {
       P (spent_until x).words (spent_until x).pointers;
 }
 
--- What so many pointers from a place on mean, one behind the other: no words of it are at hand.
+-- What n consecutive pointers from a place on mean: no words of it are at hand.
 abbrev pub children_original : Reading → ℕ → Original Trees
 children_original r n = record {
   reads = λ form m m' ts. (count ts ≡ n) × ReadsAll form r m m' ts;
@@ -77,8 +79,8 @@ children_original r n = record {
       P (spent_among x).words (spent_among x).pointers;
 }
 
--- What the pointers of so many elements mean, which are of a size where they are read, and of
--- another where they are copied.
+-- What the pointers of n elements mean, which have one size where they are read and another where
+-- they are copied.
 abbrev pub elements_original : Reading → ElementSizes → ℕ → Original Elements
 elements_original r sizes n = record {
   reads = λ form m m' es. (element_count es ≡ n) × ReadsElements form r sizes.source m m' es;
@@ -99,9 +101,9 @@ abbrev pub kept_count : Form → List ℕ → ℕ
 kept_count canonical ws = used_words ws
 kept_count _ ws = length ws
 
--- The struct of these data words, whose pointers are so many from a place on. Its own words cost
--- nothing: they come on top, and its pad. Where more data words are kept than a struct can have, the
--- error says how many.
+-- The struct of the data words ws, with q pointers from a place on. Reading costs nothing for its
+-- own words, so these and its pad are added to what its copy takes. If more data words are kept
+-- than a struct can have, the error says how many.
 abbrev pub sections_original : List ℕ → Reading → ℕ → Original Tree
 sections_original ws r q = record {
   reads = λ form m m' t. (ts : Trees) × (t ≡ Struct ws ts) × (count ts ≡ q) × ReadsAll form r m m' ts;
@@ -117,18 +119,18 @@ sections_original ws r q = record {
       P (length ws + q + (spent_among x).words) (1 + (spent_among x).pointers));
 }
 
--- A list pointer and its tag can say the number n of elements of a size, and of the words that each has
--- where they are structs.
+-- A list pointer and its tag can express n elements of this size; for structs, of `width` words
+-- each.
 abbrev pub FitsListPointer : ElementSize → ℕ → ℕ → Type 0
 FitsListPointer InlineComposite n width = (n < 2 ^ 30) × (n * width < 2 ^ 29)
 FitsListPointer size n width = n < 2 ^ 29
 
--- A list pointer and its tag can't say the number of elements and of their words, and the error k
--- says no number.
+-- A list pointer and its tag can't express n elements of this size and width; k is
+-- `MessageTooLarge(2^64 - 1)`, which states no number of words.
 abbrev pub IsTooLong : ElementSize → ℕ → ℕ → ErrorKind → Type 0
 IsTooLong size n width k = (FitsListPointer size n width → ⊥) × (k ≡ MessageTooLarge (2 ^ 64 - 1))
 
--- The list of n elements from a place on: of numbers, which reading costs nothing; of pointers; and
+-- The list of n elements from a place on: of numbers, which cost nothing to read; of pointers; and
 -- of structs of a size.
 abbrev pub numbers_original : ElementSize → ℕ → Reading → Original Tree
 numbers_original size n r = record {
@@ -176,8 +178,7 @@ structs_original size n r = record {
       (1 + (spent_among_elements x).pointers));
 }
 
--- The list of n elements of a size, which are structs of these sections where they are structs,
--- from a place on.
+-- The list of n elements of a size, from a place on; structs have these sections.
 abbrev pub list_original : ElementSize → StructSize → ℕ → Reading → Original Tree
 list_original Pointer sections n r = pointers_original n r
 list_original InlineComposite sections n r = structs_original sections n r

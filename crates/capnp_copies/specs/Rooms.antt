@@ -13,8 +13,8 @@ use Rattle.capnp_copies.specs.Changes.{Change, MakesCopy, StopsCopy}
 use Rattle.capnp_copies.specs.Growth.{TakesAtMost}
 use Rattle.capnp_copies.specs.Originals.{Original}
 
--- What is copied is no larger than an object can be, a limiter lets it be read in the form, and the
--- words to be kept of it fit behind those of segment id.
+-- What is copied is no larger than an object can be, a limiter lets it be read in this form, and
+-- the words kept of it fit after those of segment id.
 pub record CanBeCopied {V : Type 0} (o : Original V) (form : Form) (m : Meter) (v : View) (id : ℕ)
     : Type 0 where
   pub small : (k : ErrorKind) → o.exceeds form k → ⊥
@@ -23,8 +23,9 @@ pub record CanBeCopied {V : Type 0} (o : Original V) (form : Form) (m : Meter) (
   pub is_read : o.reads form m after value
   pub room : HasOwnRoom v id (o.words form value)
 
--- A call copies what is read, as it does wherever that can be copied, or is refused and leaves null;
--- and what it takes of the message. Of what is larger than an object can be nothing is read.
+-- A call copies what is read, and never fails if that can be copied; or it is refused and leaves
+-- null. Also states what it takes of the message. If what is copied is larger than an object can
+-- be, nothing of it is read.
 pub record CopiesOrClears (result : Result ⊤ ErrorKind) (o : Original Tree) (c : Change) : Type 0 where
   pub copied : IfOk result (λ _. MakesCopy o c)
   pub fits : CanBeCopied o c.form c.before c.old c.segment → IsOk result
@@ -32,8 +33,8 @@ pub record CopiesOrClears (result : Result ⊤ ErrorKind) (o : Original Tree) (c
   pub taken : TakesAtMost result o c
   pub large : (k : ErrorKind) → o.exceeds c.form k → (result ≡ Err k) × (c.after ≡ c.before)
 
--- A call ends a copy. Where that was refused, the pointer at the place becomes null, and what it led
--- to becomes zero; else nothing is changed.
+-- A call ends a copy. If that was refused, the pointer at the place becomes null, and what it led
+-- to becomes zero; otherwise nothing changes.
 pub record ClearsRefused (copied : Result ⊤ ErrorKind) (c : CallAt) : Type 0 where
   pub kept : OnOk copied (c.new ≡ c.old)
   pub null : OnErr copied (Puts c.old.words c.new.words c.segment c.at Null)

@@ -1,18 +1,19 @@
--- How many words of each section the elements of a list of structs use, and which sections a copy keeps.
+-- How many words of each section the elements of a list of structs use, and which sections a copy
+-- keeps.
 use Rattle.std.specs.Prelude.{ℕ, zero, suc, ◌+◌, ◌≤◌, List, take, drop, max}
 use Rattle.capnp_words.specs.declared.wire_pointer.StructSize.{StructSize}
 use Rattle.capnp_format.specs.Canonical.{used_words}
 use Rattle.capnp_objects.specs.Reading.{Reading, segment_read, sized}
 use Rattle.capnp_objects.specs.Wanted.{Form, canonical}
 
--- The most words that are used, up to the last that isn't zero, of n sections of so many words: the
--- first stands at position p, and each so many words behind the one before it.
+-- The most words, up to the last that isn't zero, that any of n sections uses. Each section has
+-- `words` words; the first is at position p, and each next one `stride` words after it.
 abbrev pub most_used : List ℕ → ℕ → ℕ → ℕ → ℕ → ℕ
 most_used ws p words stride zero = 0
 most_used ws p words stride (suc n) =
     max (used_words (take words (drop p ws))) (most_used ws (p + stride) words stride n)
 
--- No section of a size is longer than that of the other.
+-- No section of the size `less` is longer than that of `more`.
 pub record IsAtMost (less more : StructSize) : Type 0 where
   pub data_words : less.data_words ≤ more.data_words
   pub pointers : less.pointers ≤ more.pointers

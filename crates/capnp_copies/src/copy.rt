@@ -1,8 +1,8 @@
-//! The copy of what a pointer means into a message of any number of segments, as it stands or in
-//! canonical form ("Structs", "Lists", "Inter-Segment Pointers", "Canonicalization").
+//! Copies a pointer's value into a message of any number of segments, plain or in canonical form
+//! ("Structs", "Lists", "Inter-Segment Pointers", "Canonicalization").
 //!
-//! Each object is made before its children: in the segment of its pointer where it fits, else behind
-//! a landing pad. So the place holds a value at each moment.
+//! Makes each object before its children: in the segment of its pointer if it fits, otherwise after
+//! a landing pad. So the place holds a value at any time.
 ghost use Rattle.std.specs.Prelude.{◌≡◌, ◌⊎◌, IfErr, OnOk, OnErr};
 ghost use Rattle.capnp_words.specs.declared.error.ErrorKind.TheVariants.{CannotCreateACanonicalMessageWithACapability, UnknownPointerType};
 ghost use Rattle.capnp_format.specs.Segments.{IsPlace};
@@ -43,8 +43,8 @@ use places::pointer_inside;
 pub use places::{place_behind, pointer_behind};
 pub use refusals::clear_refused;
 
-/// Copies what a pointer means to the null pointer at a place, as it stands or in canonical form, as
-/// `copy_in_form` does.
+/// Copies a pointer's value to the null pointer at a place, plain or in canonical form, like
+/// `copy_in_form`.
 pub fn copy_value<A: BuilderArena, B: ReaderArena>(
     arena: &mut A,
     to: Start,
@@ -61,24 +61,22 @@ pub fn copy_value<A: BuilderArena, B: ReaderArena>(
     copy_in_form(arena, Destination { place: to, form }, from, lim)
 }
 
-/// Copies what a pointer means to the null pointer at a place, in a form: as it stands or in canonical
-/// form.
+/// Copies a pointer's value to the null pointer at a place, in a form: plain or canonical.
 ///
-/// The words of the copy stand behind those of the pointer's segment, in the canonical order of objects,
-/// where they all fit its room, or where the message has but one segment afterwards; then no other word
-/// changes but the pointer. As it stands, these are all words of the sections and elements; in canonical
-/// form, the trimmed ones.
+/// If all words of the copy fit the segment of the place, or the message has one segment
+/// afterwards, they come after that segment's words, in the canonical order of objects, and no
+/// other word changes except the pointer. In plain form, these are all words of the sections and
+/// elements; in canonical form, the trimmed ones.
 ///
-/// A copy takes at most as many words as reading the value costs; a refused one, as what was read before
-/// the object where it breaks off. Only landing pads come on top: one of each object for which the
-/// segment of its pointer has no room. So it is without a budget too, and where nothing is charged.
+/// Takes at most as many words as reading the value costs (if refused, as reading it up to the
+/// object where the copy stops), plus one landing pad for each object for which the segment of its
+/// pointer had no room. This also holds without a budget, and if nothing is charged.
 ///
-/// A refusal of the arena is `AllocationFailed` or `MessageTooLarge`, and comes only where the words
-/// don't fit behind those of the pointer's segment, and at an object whose words, with all that was read
-/// before it, don't; a capability that the form doesn't take is refused by the name that `CopyForm` says;
-/// a refusal to read keeps its name.
-/// Then the pointer is null and the words that were allocated are zero; the limiter keeps what was
-/// charged.
+/// Refusals: the arena's `AllocationFailed` or `MessageTooLarge`, only if the words don't fit after
+/// those of the pointer's segment, and at an object whose words, together with all that was read
+/// before it, don't; for a capability that the form doesn't allow, the one that `CopyForm` states;
+/// a refusal to read, under its own name. After a refusal the pointer is null, the words that were
+/// allocated are zero, and the limiter keeps what was charged.
 pub fn copy_in_form<A: BuilderArena, B: ReaderArena>(
     arena: &mut A,
     to: Destination,
@@ -93,7 +91,7 @@ pub fn copy_in_form<A: BuilderArena, B: ReaderArena>(
     clear_refused(arena, to.place, copied)
 }
 
-/// Does what `copy_in_form` does, but leaves what it made where it is refused.
+/// Like `copy_in_form`, but leaves what it made if it is refused.
 #[cycle(copies)]
 #[inline(never)]
 fn copy_object<A: BuilderArena, B: ReaderArena>(
@@ -134,7 +132,7 @@ fn copy_object<A: BuilderArena, B: ReaderArena>(
     }
 }
 
-/// Copies a capability to a place, where the form takes one. Where it doesn't, nothing is changed.
+/// Copies a capability to a place, if the form allows one; otherwise changes nothing.
 #[inline(always)]
 fn copy_capability<A: BuilderArena>(
     arena: &mut A,

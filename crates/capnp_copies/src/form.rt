@@ -4,28 +4,29 @@ ghost use Rattle.capnp_copies.specs.Forms.{form_of, form_in};
 
 use capnp_making::making::Start;
 
-/// What a copy keeps of a value, and whether it takes capabilities.
+/// What a copy keeps of a value, and whether it may have capabilities.
 #[derive(Clone, Copy)]
 pub enum CopyForm {
-    /// The value as it stands, with its capabilities.
+    /// The plain value, with its capabilities.
     Plain,
-    /// The canonical form of the value; a capability is `CannotCreateACanonicalMessageWithACapability`.
+    /// The canonical form of the value. Refuses a capability with
+    /// `CannotCreateACanonicalMessageWithACapability`.
     Canonical,
-    /// The value of a default, as it stands; a capability is `UnknownPointerType`.
+    /// The plain value of a default. Refuses a capability with `UnknownPointerType`.
     OfDefault,
 }
 
-/// Where a copy goes, and in which form.
+/// Where a copy goes, and its form.
 #[derive(Clone, Copy)]
 pub struct Destination {
-    /// The place of the copy's pointer; of several, of the first.
+    /// The place of the copy's pointer; for several, of the first.
     pub place: Start,
     /// The form of the copy.
     pub form: CopyForm,
 }
 
 impl CopyForm {
-    /// The canonical form, or the value as it stands.
+    /// The canonical form, or the plain one.
     pub fn of(canonicalize: bool) -> Self
         ensures { form_in result ≡ form_of canonicalize }
     {

@@ -1,4 +1,4 @@
-//! Copies of what a pointer of one message means into another message that is built.
+//! Copies the value of a pointer of one message into another message being built.
 #![tactic(auto)]
 
 pub mod copy;

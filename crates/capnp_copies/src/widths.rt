@@ -1,4 +1,4 @@
-//! How wide the elements of a list of structs have to be in the canonical form ("Canonicalization").
+//! How wide the elements of a list of structs have to be in canonical form ("Canonicalization").
 ghost use Rattle.std.specs.Prelude.{◌≡◌, ◌+◌, ◌*◌, ◌≤◌, length, max, take, drop};
 ghost use Rattle.capnp_format.specs.Bytes.{words_of};
 ghost use Rattle.capnp_format.specs.Canonical.{used_words};
@@ -7,20 +7,20 @@ ghost use Rattle.capnp_copies.specs.Widths.{most_used, IsAtMost};
 use capnp_words::wire_pointer::StructSize;
 use capnp_words::words;
 
-/// A list of structs: how many there are, and the sections of each.
+/// A list of structs: their number, and the sections of each.
 #[derive(Clone, Copy)]
 pub struct StructList {
-    /// How many structs there are.
+    /// The number of structs.
     pub count: u32,
     /// The sections of each.
     pub size: StructSize,
 }
 
-/// How many elements a list of structs has, and their sizes: in the source, and in the copy, where no
-/// section is longer.
+/// The number of elements of a list of structs, and their sections: in the source, and in the copy,
+/// where no section is longer.
 #[derive(Clone, Copy)]
 pub(crate) struct ElementSizes {
-    /// How many elements there are.
+    /// The number of elements.
     pub count: u32,
     /// The sections of an element in the source.
     pub source: StructSize,
@@ -28,8 +28,8 @@ pub(crate) struct ElementSizes {
     pub kept: StructSize,
 }
 
-/// The least sections that lose no data word but zeros and no pointer but nulls of so many elements
-/// from a word of a segment on.
+/// The smallest sections with which `count` elements, from word `start` of a segment on, lose only
+/// data words that are zero and pointers that are null.
 pub(crate) fn least_widths(bytes: &[u8], start: u32, count: u32, size: StructSize) -> StructSize
     requires whole { length bytes.now ≡ 8 * length (words_of bytes.now) }
     requires inside { start + count * (size.data_words + size.pointers)
@@ -61,8 +61,8 @@ pub(crate) fn least_widths(bytes: &[u8], start: u32, count: u32, size: StructSiz
     }
 }
 
-/// How many of `n` words from a position on there are up to the last that is not zero, and at
-/// least `least`: only the words beyond these are looked at.
+/// The number of words, of the `n` from position `at` on, up to the last one that isn't zero, and
+/// at least `least`; only tests the words after the first `least`.
 #[tactic(auto, using(crate::proofs::Scanning::used_section))]
 fn widened(bytes: &[u8], at: usize, n: u16, least: u16) -> u16
     requires inside { 8 * (at + n) ≤ length bytes.now }

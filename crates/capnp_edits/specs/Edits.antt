@@ -79,12 +79,12 @@ use Rattle.capnp_edits.specs.Sources.{HasNothingToCopy, IsUnreadable}
 use Rattle.capnp_edits.specs.Paths.{EndValue, PointerTo, ElementOf, step_of, found}
 use Rattle.capnp_arena_traits.specs.View.{View, KeepsLimits}
 
--- The name by which a call is refused, if it is.
+-- The error with which a call is refused, if it is.
 abbrev pub refusal_of : {A : Type 0} → Result A ErrorKind → Option ErrorKind
 refusal_of (Ok x) = None
 refusal_of (Err k) = Some k
 
--- The bits of a data section that a number has, and what they become.
+-- The bits of a data section that the number n has, and their new value.
 abbrev pub bits_of : Number → Field
 bits_of n = record {
   start = n.index * element_bits (size_number n.size);
@@ -92,11 +92,15 @@ bits_of n = record {
   value = n.value;
 }
 
--- What an operation makes where a path leads: a value; or it is refused by a name, and nothing is
--- changed; or a value whose words are taken first, and another one where memory for them is
--- refused; or what is made of a default's value, which is put in place of null first; or what is
--- copied from another message; or a struct of so many data words and pointers gets the content of
--- that message's.
+-- What an operation makes of the value at the end of a path:
+-- - `becomes`: a value.
+-- - `denied`: nothing; it is refused with this error, and changes nothing.
+-- - `allocates`: a value whose words are allocated first, and another value if memory for them is
+--   refused.
+-- - `defaults`: what it makes of a default value, which first replaces null.
+-- - `copies`: what is copied from another message.
+-- - `fills`: a struct of this many data words and pointers gets the content of a struct of another
+--   message.
 pub data Making : Type 0 where
   becomes : Tree → Making
   denied : ErrorKind → Making
@@ -105,12 +109,12 @@ pub data Making : Type 0 where
   copies : Copying → Making
   fills : Source → ℕ → ℕ → Making
 
--- A struct with bits of its data section written.
+-- The struct t with bits of its data section written.
 abbrev pub struct_with : Field → Tree → Tree
 struct_with f (Struct ws ts) = Struct (put_field ws f.start f.bits f.value) ts
 struct_with f t = t
 
--- A list with the lowest w bits of an element written.
+-- The list t with the lowest w bits of element i written.
 abbrev pub with_lowest : ℕ → ℕ → ℕ → Tree → Tree
 with_lowest i w v (Flat size ns) = Flat size (slice_set ns i (with_bits (get_or ns i 0) 0 w v))
 with_lowest i w v (Structs d q es) =
@@ -118,24 +122,25 @@ with_lowest i w v (Structs d q es) =
     (put_struct es i (struct_with (record { start = 0; bits = w; value = v }) (struct_at es i)))
 with_lowest i w v t = t
 
--- Where the list of a value is doesn't count here.
+-- A placeholder, where it doesn't matter where the list of a value is.
 abbrev pub nowhere : Target
 nowhere = record { word = 0; segment = 0; start = 0; pads = 0 }
 
--- What is made of what is found; or that is refused.
+-- What an operation makes of what it found, or its refusal.
 abbrev pub made_of_found : {A : Type 0} → (A → Making) → Result A ErrorKind → Making
 made_of_found made_of (Ok x) = made_of x
 made_of_found made_of (Err k) = denied k
 
--- What is made where element or byte number i of what is found is written: u, if there are so many.
--- Null has none.
+-- The result of writing element or byte i of what a search found. It is u, if there are that many,
+-- and otherwise refused with NoSuchPlace, as it is if the search found null. If the search was
+-- refused, it is refused with the same error.
 abbrev pub if_reached : {A : Type 0} → (A → ℕ) → ℕ → Tree → Result (Option A) ErrorKind → Making
 if_reached number i u (Ok (Some x)) = if nat_lt i (number x) then becomes u else denied NoSuchPlace
 if_reached number i u (Ok None) = denied NoSuchPlace
 if_reached number i u (Err k) = denied k
 
--- What is looked for: a struct, or a list of structs, at least as large as asked for, and no list
--- in null; or a list, a text or data, which leaves t.
+-- The result of a search where t is. A struct or a list of structs becomes at least as large as
+-- requested, but null isn't a list of structs; a list, a text or data is only found, and t stays.
 abbrev pub looked_for : Sought → Tree → Making
 looked_for (ForStruct size) t = made_of_found (allocates t) (struct_opened size t)
 looked_for (ForStructs size) Null = becomes Null
@@ -145,13 +150,13 @@ looked_for (ForList size) t = made_of_found (λ l. becomes t) (list_in nowhere s
 looked_for ForText t = made_of_found (λ b. becomes t) (text_in nowhere t)
 looked_for ForData t = made_of_found (λ b. becomes t) (data_in nowhere t)
 
--- What is made where a default is used in this way.
+-- What an operation makes of t if it uses its default in this way.
 abbrev pub with_default : DefaultUse → (Tree → Making) → Tree → Making
 with_default ignored made_of t = made_of t
 with_default (is_denied_by k) made_of t = denied k
 with_default (is_copied_from bytes) made_of t = defaults bytes made_of
 
--- The value of an object that is made.
+-- The value of a new object.
 abbrev pub value_of : NewObject → Tree
 value_of (ZeroStruct size) = zero_struct size
 value_of (ZeroList size n) = zero_list (size_number size) n
@@ -160,14 +165,14 @@ value_of (ZeroText n) = zero_list 2 (n + 1)
 value_of (Text bytes) = Flat 2 (bytes.now ++ 0 ∷ [])
 value_of (Data bytes) = Flat 2 bytes.now
 
--- What a search does with its default where t stands: one whose first word is null is as none to a
--- struct and a list, and no list to a text and data.
+-- What a search does with its default where t is. In a search for a struct or a list, a default
+-- whose first word is null counts as none; in one for a text or data, it isn't a list.
 abbrev pub default_for : Sought → Option (Bor (List ℕ)) → Tree → DefaultUse
 default_for ForText default t = default_use (is_denied_by ExistingPointerIsNotAList) default t
 default_for ForData default t = default_use (is_denied_by ExistingPointerIsNotAList) default t
 default_for sought default t = default_use ignored default t
 
--- The names by which an operation is refused for what a path leads to, or doesn't.
+-- Whether k is an error for what a path leads to, or that it leads nowhere.
 abbrev pub is_of_path : ErrorKind → Bool
 is_of_path FoundBitListWhereStructListWasExpected = true
 is_of_path MessageContainsNonStructPointerWhereStructPointerWasExpected = true
@@ -175,16 +180,17 @@ is_of_path NoSuchPlace = true
 is_of_path UnknownPointerType = true
 is_of_path k = is_unfound k
 
--- How often memory was refused after an outcome: once more for each AllocationFailed.
+-- The count of refused memory requests after an outcome: one more if that is AllocationFailed.
 abbrev pub refusals_after : Option ErrorKind → ℕ → ℕ
 refusals_after (Some k) n = refusals_for k n
 refusals_after None n = n
 
--- Where the pointer of a builder is.
+-- The place of a builder's pointer.
 abbrev pub place_of : {A : Type 0} → PointerBuilder A → PointerPlace
 place_of b = record { segment = b.segment; word = b.at }
 
--- What is made where what is asked is in range; else it is NoSuchPlace, and nothing is changed.
+-- What an operation makes if its numbers are in range; otherwise it is refused with NoSuchPlace,
+-- and changes nothing.
 abbrev pub where_in_range : Bool → Making → Making
 where_in_range b making = if b then making else denied NoSuchPlace
 
@@ -193,28 +199,29 @@ abbrev pub end_tree : EndValue → Tree
 end_tree (PointerTo t) = t
 end_tree (ElementOf t) = t
 
--- What is made where a number of the data section of a struct is written, by its index among numbers
--- as wide, if the section has it.
+-- The result of writing a number to the data section of a struct, by its index among numbers of the
+-- same width, if the section has it.
 abbrev pub field_written : ElementSize → ℕ → ℕ → Tree → Making
 field_written size i v (Struct ws ts) =
     let w = element_bits (size_number size) in
     where_in_range (nat_le (i * w + w) (64 * length ws)) (becomes (Struct (put_field ws (i * w) w v) ts))
 field_written size i v t = denied NoSuchPlace
 
--- What is made where content is copied over a struct.
+-- The result of copying content over a struct.
 abbrev pub content_filled : Source → Tree → Making
 content_filled source (Struct ws ts) = fills source (length ws) (count ts)
 content_filled source t = denied NoSuchPlace
 
--- What is made where something is looked for, with a default of fewer than 2^32 words.
+-- The result of a search with a default of fewer than 2^32 words.
 abbrev pub searched : Sought → Option (Bor (List ℕ)) → Tree → Making
 searched sought default t =
     where_in_range (is_small_default default)
     (with_default (default_for sought default t) (looked_for sought) t)
 
--- What an operation makes where a path leads; or by what name it is refused, and nothing is changed.
--- A struct may be an element of a list; for all else there is a pointer. A bit of a data section has
--- an operation of its own.
+-- What an operation makes at the end of a path, or with which error it is refused, which changes
+-- nothing. `SetField`, `SetBool` and `CopyContent` apply to a struct, which may be an element of a
+-- list; all other operations require a pointer. A bit of a data section has an operation of its
+-- own.
 abbrev pub making_of : Op → EndValue → Making
 making_of (SetField size i v) there =
     where_in_range (nat_le 2 (size_number size) && is_number size v)
@@ -261,7 +268,7 @@ making_of (SetStruct source canonicalize) (PointerTo t) =
 making_of (SetList source canonicalize) (PointerTo t) =
     copies (record { source = source; wanted = AList; canonicalize = canonicalize })
 
--- What a task makes of what a path leads to. A task is an operation whose numbers are in range.
+-- What a task makes at the end of a path. A task is an operation whose numbers are in range.
 abbrev pub made_at : Task → EndValue → Making
 made_at (InStruct (Bits n)) there = field_written n.size n.index n.value (end_tree there)
 made_at (InStruct (Content source)) there = content_filled source (end_tree there)
@@ -280,15 +287,18 @@ made_at (Search sought default) (PointerTo t) =
     with_default (default_for sought default t) (looked_for sought) t
 made_at (CopyRoot c) (PointerTo t) = copies c
 
--- A call is refused by a name that P holds of, and `left` is left; None is all as it was.
+-- A call is refused with an error that satisfies P, and leaves `left`; None means that nothing is
+-- changed.
 abbrev pub Fails : (ErrorKind → Type 0) → Option Tree → Option ErrorKind → Option Tree → Type 0
 Fails P left r o = (k : ErrorKind) × P k × (r ≡ Some k) × (o ≡ left)
 
--- What an operation leaves where it makes this, with its outcome: o in the value's stead, if
--- anything is changed. Of a copy it is what is copied; or null, where that is refused, for memory or
--- for what it reads; or all as it was, where there is nothing to be copied. Of content it is a struct u:
--- the data that both have is copied, with zeros behind it, and the pointers that are read are, with
--- nulls behind them; these are as many as both have, or those before one that is refused.
+-- The outcome r of an operation that makes this, and what it leaves: o is the value that replaces
+-- the old one, if anything is changed.
+-- - `copies`: what is copied; null, if the copy is refused for memory or for what it reads; or
+--   nothing is changed, if there is nothing to copy.
+-- - `fills`: a struct u. It has the data that both structs have, followed by zeros, and the
+--   pointers that were read, followed by nulls. These are as many as both have, or the ones before
+--   a pointer that is refused. Nothing is changed if there is no struct to copy.
 unfoldable pub Yields : Making → Option ErrorKind → Option Tree → Type 0
 Yields (becomes u) r o = (r ≡ None) × (o ≡ Some u)
 Yields (denied k) r o = Fails (λ j. j ≡ k) None r o
@@ -308,8 +318,9 @@ Yields (fills source d q) r o =
     ⊎ Fails (HasNothingToCopy source AStruct) None r o
 Yields (defaults bytes made_of) r o = ⊥
 
--- What is left where a default's value may come first: that value, and what is left of it; or null,
--- where its copy is refused, for memory or for what it reads. Else it is as of what is there.
+-- The outcome r of an operation, and what it leaves, if a default may be copied first: the default,
+-- as the operation leaves it; or null, if the copy of the default is refused for memory or for what
+-- it reads. Without a default, the same as `Yields`.
 unfoldable pub Leaves : Making → Option ErrorKind → Option Tree → Type 0
 Leaves (defaults bytes made_of) r o =
     ((d : Tree) × (n : ℕ) × (left : Option Tree) × MeansThere (default_root bytes) d n × IsFree d
@@ -318,21 +329,21 @@ Leaves (defaults bytes made_of) r o =
     (Some Null) r o
 Leaves making r o = Yields making r o
 
--- What is done at a pointer that means t, where this is made of it: what is left comes in t's
--- stead, if anything is changed.
+-- From S to R an operation that makes this is done at a pointer that means t, with outcome r: what
+-- it leaves replaces t, if anything is changed.
 pub record DoesAt (S R : Segments) (place : PointerPlace) (making : Making) (t : Tree)
     (r : Option ErrorKind) : Type 0 where
   pub left : Option Tree
   pub leaves : Leaves making r left
   pub stands : MatchOption left (R ≡ S) (IsReplaced S R place.segment place.word t)
 
--- A call writes words alone, and none where it is refused.
+-- A call changes only words, and nothing if it is refused.
 pub record WritesWords (result : Result ⊤ ErrorKind) (old new : View) : Type 0 where
   pub limits : KeepsLimits old new
   pub kept : OnErr result (new ≡ old)
 
--- What writing bits leaves of the data section of a struct, with its outcome: they are written, or
--- they aren't there.
+-- From S to R bits of the data section of the struct e are written, with outcome r; or e doesn't
+-- have them, and nothing changes.
 pub data PutsBits (S R : Segments) (e : ExistingStruct) (f : Field) (r : Option ErrorKind) : Type 0 where
   are_written : f.start < 64 * e.size.data_words → f.start + f.bits ≤ 64 * e.size.data_words →
       r ≡ None → R ≡ with_field S e.segment (64 * e.start + f.start) f.bits f.value →
@@ -340,8 +351,8 @@ pub data PutsBits (S R : Segments) (e : ExistingStruct) (f : Field) (r : Option 
   are_outside : 64 * e.size.data_words < f.start + f.bits → r ≡ Some NoSuchPlace → R ≡ S →
       PutsBits S R e f r
 
--- From S on a struct takes the data of a source's struct, and then the pointers that are read of it
--- are copied to its first ones.
+-- A struct takes the data of a source's struct (from S to `taken`), and then its first pointers
+-- become copies of those that were read (from `taken` to `filled`).
 pub record Filling (S : Segments) (place : StructPlace) (source : Source) : Type 0 where
   pub content : ContentRead source
   pub taken : Segments
@@ -349,8 +360,9 @@ pub record Filling (S : Segments) (place : StructPlace) (source : Source) : Type
   pub filled : Segments
   pub fills_first : AreFilled taken filled place.segment place.pointers_at content.children
 
--- What copying content leaves, with its outcome: as many pointers are copied as both have; or those
--- before one, which is refused and null; or there is no struct to be copied.
+-- From S to R content is copied over a struct, with outcome r. As many pointers are copied as both
+-- structs have; or only those before one that is refused, which becomes null; or there is no struct
+-- to copy.
 pub data FillsAt (S R : Segments) (place : StructPlace) (source : Source) (r : Option ErrorKind)
     : Type 0 where
   all_filled : (f : Filling S place source) →
@@ -366,9 +378,10 @@ pub data FillsAt (S R : Segments) (place : StructPlace) (source : Source) (r : O
   none_filled : (k : ErrorKind) → HasNothingToCopy source AStruct k → R ≡ S →
       r ≡ Some k → FillsAt S R place source r
 
--- What writing an element leaves, with its outcome, where a list was looked for: its lowest bits
--- are written; or it isn't there, in no list that lies in the message and is as wide; or there is
--- no list, or the search was refused.
+-- From S to R an element is written, with outcome r, after a search for a list. Either the list has
+-- the element, and its lowest bits are written; or the list doesn't have it, provided that the list
+-- is inside the message and its elements are wide enough; or there is no list; or the search was
+-- refused.
 pub data PutsElement (S R : Segments) (looked : Result (Option ExistingList) ErrorKind) (n : Number)
     (r : Option ErrorKind) : Type 0 where
   element_put : (l : ExistingList) → looked ≡ Ok (Some l) → n.index < l.count → r ≡ None →
@@ -381,9 +394,9 @@ pub data PutsElement (S R : Segments) (looked : Result (Option ExistingList) Err
   no_list : looked ≡ Ok None → r ≡ Some NoSuchPlace → R ≡ S → PutsElement S R looked n r
   list_denied : (k : ErrorKind) → looked ≡ Err k → r ≡ Some k → R ≡ S → PutsElement S R looked n r
 
--- What writing a byte of a text or data leaves, with its outcome, where the bytes were looked for: the
--- byte is written; or it isn't there, in no bytes that lie in the message; or there are no bytes, or
--- the search was refused.
+-- From S to R a byte of a text or data is written, with outcome r, after a search for the bytes.
+-- Either the byte is there, and is written; or it isn't there, provided that the bytes are inside
+-- the message; or there are no bytes; or the search was refused.
 pub data PutsByte (S R : Segments) (looked : Result (Option ExistingBytes) ErrorKind) (n : Number)
     (r : Option ErrorKind) : Type 0 where
   byte_put : (b : ExistingBytes) → looked ≡ Ok (Some b) → n.index < b.length → r ≡ None →
@@ -393,21 +406,21 @@ pub data PutsByte (S R : Segments) (looked : Result (Option ExistingBytes) Error
   no_bytes_there : looked ≡ Ok None → r ≡ Some NoSuchPlace → R ≡ S → PutsByte S R looked n r
   bytes_denied : (k : ErrorKind) → looked ≡ Err k → r ≡ Some k → R ≡ S → PutsByte S R looked n r
 
--- An edit with its outcome takes the value t of a message to u. Its path leads nowhere, and it is
--- NoSuchPlace; or the path leads to a value, and what is left comes in its stead, if anything is
--- changed.
+-- The edit e, with outcome r, takes the value t of a message to u. Either its path leads nowhere,
+-- and it is refused with NoSuchPlace; or its path leads to a value, and what the operation leaves
+-- replaces that, if anything is changed.
 unfoldable pub Takes : Edit → Option ErrorKind → Tree → Tree → Type 0
 Takes e r t u =
     MatchOption (found t (map step_of e.path.now)) ((r ≡ Some NoSuchPlace) × (u ≡ t))
     (λ there. (o : Option Tree) × Leaves (making_of e.op there) r o
     × (u ≡ option_map_or (update t (map step_of e.path.now)) o t))
 
--- From S to R a forest becomes a forest, and P holds of their values: as an edit takes one to the
--- other, or several do.
+-- If S is a forest of a value t, R is a forest of a value u with P t u: P says what an edit makes
+-- of a value, or what several make.
 abbrev pub IsApplied : (Tree → Tree → Type 0) → Segments → Segments → Type 0
 IsApplied P S R = (t : Tree) → IsForest S t → (u : Tree) × IsForest R u × P t u
 
--- Edits in order, each with its outcome, take the value t of a message to u.
+-- The edits, in order and each with its outcome, take the value t of a message to u.
 abbrev pub TakesAll : List Edit → List (Option ErrorKind) → Tree → Tree → Type 0
 TakesAll [] [] t u = u ≡ t
 TakesAll (e ∷ es) (r ∷ rs) t u = (v : Tree) × Takes e r t v × TakesAll es rs v u

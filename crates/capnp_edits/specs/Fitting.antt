@@ -8,13 +8,13 @@ use Rattle.capnp_edits.specs.declared.edit.tasks.Task.TheVariants.{Make, Point, 
 use Rattle.capnp_edits.specs.declared.edit.tasks.StructChange.TheVariants.{Bits}
 use Rattle.capnp_edits.specs.Edits.{is_of_path, value_of}
 
--- How many words an edit's task asks for: those of the value of the object that it makes.
+-- The number of words that an edit's task requests: those of the object that it makes.
 abbrev pub words_asked : Option Task → ℕ
 words_asked (Some (Make object)) = word_count (value_of object)
 words_asked task = 0
 
--- An edit asks for these words and no others: it makes an object, or writes a pointer, a field, an
--- element or a byte.
+-- The task requests only these words: it makes an object, or writes a pointer, a field, an element
+-- or a byte.
 abbrev pub AsksNoMore : Option Task → Type 0
 AsksNoMore None = ⊤
 AsksNoMore (Some (Make object)) = ⊤
@@ -23,10 +23,10 @@ AsksNoMore (Some (Write part)) = ⊤
 AsksNoMore (Some (InStruct (Bits n))) = ⊤
 AsksNoMore task = ⊥
 
--- All words stand in the first segment.
+-- All words are in the first segment.
 abbrev pub AreInFirst : Segments → Type 0
 AreInFirst S = (k : ℕ) → k ≢ 0 → length (segment S k) ≡ 0
 
--- An outcome is no refusal of memory: an edit is done, or refused for what its path leads to.
+-- The outcome isn't a refusal of memory: the edit is done, or refused for what its path leads to.
 abbrev pub IsNoneOfMemory : Option ErrorKind → Type 0
 IsNoneOfMemory r = (k : ErrorKind) → r ≡ Some k → is_of_path k ≡ true

@@ -22,7 +22,8 @@ abbrev pub step_of : EditStep → Step
 step_of (ToChild i) = Child i
 step_of (ToElement i) = Element i
 
--- The value that a path leads to: that of a pointer, or an element of a list of structs, which is a struct.
+-- The value at the end of a path: that of a pointer, or an element of a list of structs, which is a
+-- struct.
 pub data EndValue : Type 0 where
   PointerTo : Tree → EndValue
   ElementOf : Tree → EndValue
@@ -38,8 +39,8 @@ found (Structs d q es) (Element i ∷ Child j ∷ path) =
     if nat_lt i (element_count es) && nat_lt j q then found (next (struct_at es i) (Child j)) path else None
 found t path = None
 
--- From a place that means t a path leads to an element e of the list of structs that the pointer at
--- the end of a path one step shorter means.
+-- From (s, p), which means t, a path leads to the struct e, an element of a list of structs. A path
+-- one step shorter leads to the pointer that means the list.
 pub record IsElementFound (S : Segments) (s p : ℕ) (t : Tree) (path : List Step)
     (e : ExistingStruct) : Type 0 where
   pub front : List Step
@@ -56,8 +57,8 @@ pub record IsElementFound (S : Segments) (s p : ℕ) (t : Tree) (path : List Ste
   pub start_is : e.start ≡ (target S list_segment list_at).start + 1 + index
       * (e.size.data_words + e.size.pointers)
 
--- Where a path leads: to a pointer, which means a value, or to an element; if nowhere, then no longer
--- path leads anywhere.
+-- From a pointer that means t, a path leads to this end: a pointer, and what it means; an element;
+-- or nowhere, and then no longer path leads anywhere either.
 abbrev pub IsPathFound : Segments → PointerPlace → Tree → List Step → Option PathEnd → Type 0
 IsPathFound S from t path (Some (AtPointer place)) =
     (x : Tree)
@@ -66,23 +67,23 @@ IsPathFound S from t path (Some (AtPointer place)) =
 IsPathFound S from t path (Some (AtElement e)) = IsElementFound S from.segment from.word t path e
 IsPathFound S from t path None = (more : List Step) → found t (path ++ more) ≡ None
 
--- The end of a path lies in the message.
+-- The end of a path is inside the message.
 abbrev pub EndLiesIn : Segments → PathEnd → Type 0
 EndLiesIn S (AtPointer place) = IsPlace S place.segment place.word
 EndLiesIn S (AtElement e) = StructLiesIn S e
 
--- What is found, r, lies in the message, and is what is there where that does.
+-- The end r that was found is inside the message. It is `there`, if that is inside the message.
 pub record IsEndFound (S : Segments) (there r : Option PathEnd) : Type 0 where
   pub exactly : IfSome there (EndLiesIn S) → r ≡ there
   pub inside : IfSome r (EndLiesIn S)
 
--- The pointer of a struct by its index, if there is one.
+-- Pointer i of the struct e, if there is one.
 abbrev pub child_in : ExistingStruct → ℕ → Option PathEnd
 child_in e i = if nat_lt i e.size.pointers then
     Some (AtPointer (record { segment = e.segment; word = e.start + e.size.data_words + i }))
     else None
 
--- The element of a list by its index, if it is a pointer or a struct.
+-- Element i of the list l, if it is a pointer or a struct.
 abbrev pub element_in : ExistingList → ℕ → Option PathEnd
 element_in l i =
     if nat_eq (size_number l.size) 6 then
@@ -95,7 +96,7 @@ element_in l i =
     }))
     else None
 
--- What a step from the end of a path gives: r.
+-- A step from the end of a path leads to r.
 abbrev pub Steps : Segments → PathEnd → Step → Option PathEnd → Type 0
 Steps S (AtPointer place) step r =
     (t : Tree) → IsStored S place.segment place.word t →

@@ -49,12 +49,14 @@ root_of source =
 abbrev pub once_at_root : Source → Meter
 once_at_root source = unused (less source.budget 1)
 
--- The root is there, and the limiter covers its word.
+-- The source has a root, and the limiter has enough left for its word.
 abbrev pub HasRoot : Source → Type 0
 HasRoot source = Holds (root_of source).segments 0 0 1 × Affords true (unused source.budget) 1
 
--- The value that is copied where a root means t: t itself; but where a struct or a list is wanted,
--- of null one of nothing, and none where t is of another kind, or a list of bits.
+-- The value that is copied if a root means t, if there is one.
+-- - `Value`: t.
+-- - `AStruct`: t, if it is a struct; an empty struct, if it is null.
+-- - `AList`: t, if it is a list but not of bits; an empty list of void, if it is null.
 abbrev pub as_wanted : Wanted → Tree → Option Tree
 as_wanted Value t = Some t
 as_wanted AStruct Null = Some (Struct [] no_trees)
@@ -65,26 +67,26 @@ as_wanted AList (Pointers ts) = Some (Pointers ts)
 as_wanted AList (Structs d q es) = Some (Structs d q es)
 as_wanted wanted t = None
 
--- The root isn't reached, by the name k.
+-- The root isn't reached, which is refused with k.
 abbrev pub IsRootless : Source → ErrorKind → Type 0
 IsRootless source k =
     (HasRoot source → ⊥) × ((Holds (root_of source).segments 0 0 1 → ⊥) →
     k ≡ misplaced (root_of source).segments 0 (InvalidSegmentId 0))
     × (Holds (root_of source).segments 0 0 1 → k ≡ ReadLimitExceeded)
 
--- What is wanted isn't found at a place, by the name k, as get_struct, or get_list of Void, refuses it.
+-- What is wanted isn't found at r, which `get_struct`, or `get_list` of Void, refuses with k.
 abbrev pub IsWithheld : Wanted → Reading → Meter → Meter → ErrorKind → Type 0
 IsWithheld Value r m m' k = ⊥
 IsWithheld AStruct r m m' k = Withheld struct_expected r m m' k
 IsWithheld AList r m m' k = Withheld (list_expected Void) r m m' k
 
--- There is nothing to be copied, by the name k: the root isn't reached, or what is wanted isn't
--- found there.
+-- There is nothing to copy, which is refused with k: the root isn't reached, or what is wanted
+-- isn't found there.
 abbrev pub HasNothingToCopy : Source → Wanted → ErrorKind → Type 0
 HasNothingToCopy source wanted k = IsRootless source k ⊎
     (HasRoot source × ((m : Meter) × IsWithheld wanted (root_of source) (once_at_root source) m k))
 
--- The root means a value within the limits that is as wanted, and a copy keeps u of it.
+-- The root means a value within the limits, which is as wanted, and u is what a copy keeps of it.
 pub record Copies (c : Copying) (u : Tree) : Type 0 where
   pub root : HasRoot c.source
   pub value : Tree
@@ -94,20 +96,21 @@ pub record Copies (c : Copying) (u : Tree) : Type 0 where
   pub is_wanted : as_wanted c.wanted value ≡ Some copied
   pub is_kept : u ≡ kept (form_of c.canonicalize) copied
 
--- The root is reached, and reading what it means is refused by the name k.
+-- The root is reached, and reading what it means is refused with k.
 abbrev pub IsUnreadable : Copying → ErrorKind → Type 0
 IsUnreadable c k = HasRoot c.source ×
     ((m : Meter) × Refused (form_of c.canonicalize) (root_of c.source) (once_at_root c.source) m k)
 
--- The struct that a place leads to: its data words, so many pointers from the first on, and the
--- limiter once its own words are charged.
+-- The struct that a place leads to: its data words, its first pointer and the number of its
+-- pointers, and the limiter once the struct's own words are charged.
 pub record Sections : Type 0 where
   pub words : List ℕ
   pub first : Reading
   pub pointers : ℕ
   pub limiter : Meter
 
--- A place leads to a struct with these sections.
+-- r leads to a struct with the sections s, whose limiter is what is left of m. Null has empty
+-- sections.
 pub data LeadsToStruct (r : Reading) (m : Meter) (s : Sections) : Type 0 where
   no_struct : word_of r ≡ 0 → s.words ≡ [] → s.pointers ≡ 0 → s.limiter ≡ m → LeadsToStruct r m s
   a_struct :
@@ -119,7 +122,7 @@ pub data LeadsToStruct (r : Reading) (m : Meter) (s : Sections) : Type 0 where
       s.pointers ≡ pointer_count a.word →
       LeadsToStruct r m s
 
--- The elements of a list: how many there are, their size, their sections where they are structs, and
+-- The elements of a list: their size, the sections of each if they are structs, their number, and
 -- where the first is read.
 pub record ListElements : Type 0 where
   pub size : ElementSize
@@ -127,7 +130,7 @@ pub record ListElements : Type 0 where
   pub count : ℕ
   pub first : Reading
 
--- The list that a place leads to, its own words charged from m to m'.
+-- r leads to the list l, whose own words are charged from m to m'. Null is an empty list of void.
 pub data LeadsToList (r : Reading) (m m' : Meter) (l : ListElements) : Type 0 where
   no_list : word_of r ≡ 0 → l.size ≡ Void → l.count ≡ 0 → m' ≡ m → LeadsToList r m m' l
   a_plain_list :
@@ -162,13 +165,13 @@ pub record ContentRead (source : Source) : Type 0 where
   pub bytes : List ℕ
   pub are_words : words_of bytes ≡ from.words
 
--- The pointer behind those that are read can't be read, by the name k.
+-- The pointer after those that were read can't be read, which is refused with k.
 abbrev pub IsNextUnreadable : (source : Source) → ContentRead source → ErrorKind → Type 0
 IsNextUnreadable source c k =
     (m : Meter) × Refused plain (behind c.from.first (count c.children)) c.after m k
 
--- The original that is wanted at a place, and the call that copies it, are as Says has it: the
--- original of a whole value; or of a struct or a list, once what leads to it is charged.
+-- `Says` holds for the original that is wanted at r and the call that copies it: for the original
+-- of a whole value; or for that of a struct or a list, once what leads to it is charged.
 abbrev pub OfWanted : Wanted → Reading → Change → (Original Tree → Change → Type 0) → Type 0
 OfWanted Value r c Says = Says (value_original r) c
 OfWanted AStruct r c Says = (s : Sections) × LeadsToStruct r c.before s ×

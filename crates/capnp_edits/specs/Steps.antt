@@ -65,14 +65,14 @@ use Rattle.capnp_edits.specs.Edits.{is_of_path, refusals_after, value_of, looked
 use Rattle.capnp_edits.specs.Edits.{DoesAt, FillsAt, PutsBits, bits_of, default_for, made_at, IsApplied, Takes}
 use Rattle.capnp_builders.specs.declared.builders.PointerBuilder.{PointerBuilder}
 
--- Where an object is made that has no words: the pointer of a struct has the offset -1, and that of
--- a list leads behind the words of its segment.
+-- If the new object has no words: a pointer to a struct has offset -1, and one to a list leads to
+-- the end of its segment's words.
 abbrev pub LeadsThere : CallAt → NewObject → Type 0
 LeadsThere c (ZeroStruct size) = size.data_words + size.pointers ≡ 0 →
     word_at c.new.words c.segment c.at ≡ struct_word (2 ^ 30 - 1) 0 0
 LeadsThere c object = LeadsToEnd c (word_count (value_of object))
 
--- Where a struct without words is opened in place of null: its pointer has the offset -1.
+-- If a struct without words replaces null, its pointer has offset -1.
 abbrev pub OpensThere : CallAt → Sought → Option (Bor (List ℕ)) → Option ErrorKind → Type 0
 OpensThere c (ForStruct size) default r =
     word_at c.old.words c.segment c.at ≡ 0 → IsIgnoredDefault default →
@@ -80,8 +80,8 @@ OpensThere c (ForStruct size) default r =
     word_at c.new.words c.segment c.at ≡ struct_word (2 ^ 30 - 1) 0 0
 OpensThere c sought default r = ⊤
 
--- An object is made at a pointer, behind all words that were there: exactly its words are taken, and
--- every segment has as much room as before.
+-- From old to new an object is made at a pointer, after all words that were there. It takes exactly
+-- its own words, and every segment has as much room as before.
 pub record TakesForObject (old new : View) (place : PointerPlace) (object : NewObject) : Type 0 where
   pub taken : TakesWords old new place.segment (word_count (value_of object))
   pub behind : StandsBehind old place.segment (word_count (value_of object))
@@ -89,23 +89,23 @@ pub record TakesForObject (old new : View) (place : PointerPlace) (object : NewO
   pub leads : LeadsThere (call_at place.segment place.word old new) object
   pub memory : KeepsMemory old new
 
--- The struct at the end of a path, if one is there: an element of a list; or what a pointer leads to,
--- if it holds a value.
+-- e is the struct at the end of a path, if there is one: an element of a list, or what a pointer
+-- leads to, if it holds a value.
 abbrev pub IsStructAt : Segments → PathEnd → ExistingStruct → Type 0
 IsStructAt S (AtPointer place) e = (t : Tree) → IsStored S place.segment place.word t →
     Some e ≡ struct_in (target S place.segment place.word) t
 IsStructAt S (AtElement x) e = e ≡ x
 
--- An outcome as a call has it.
+-- An outcome as the result of a call.
 abbrev pub result_of : Option ErrorKind → Result ⊤ ErrorKind
 result_of None = Ok tt
 result_of (Some k) = Err k
 
--- The root of a source is copied as is wanted, with this outcome: there is nothing to be copied, and
--- all is as it was; or the copy takes at most as many words as reading it costs, its own that cost
--- nothing, and the landing pads, in all or as far as it was read; and it stands where the builder's
--- call puts it, or is refused as the copy of what was read is, an object finding no room or reading
--- being refused.
+-- The root of a source is copied as c wants it, with outcome r. Either there is nothing to copy,
+-- and nothing is changed. Or the copy takes at most as many words as reading costs (all of it, or
+-- up to the refusal), plus its own words that cost nothing and the landing pads; and either it is
+-- where the builder's call puts it, or it is refused as the copy of what was read is: an object
+-- finds no room, or reading is refused.
 abbrev pub CopiesWhole : CallAt → Copying → Option ErrorKind → Type 0
 CopiesWhole call c r =
     (IsSomeAnd r (HasNothingToCopy c.source c.wanted) × (call.new ≡ call.old)) ⊎
@@ -115,8 +115,8 @@ CopiesWhole call c r =
 
 -- Room.
 
--- A place stores some value, and there is room for what becomes of the value that stands once the
--- default is put, as opened has it.
+-- The place stores some value. There is room for its default, if it takes that, and then for what
+-- `opened` makes of the value that is there.
 abbrev pub OpeningHasRoom : (Tree → Result Tree ErrorKind) → Option (Bor (List ℕ)) → View →
     PointerPlace → Type 0
 OpeningHasRoom opened default old place =
@@ -125,11 +125,14 @@ OpeningHasRoom opened default old place =
     (λ v. (x : Tree) × (u : Tree) × IsStored v.words place.segment place.word x × (opened x ≡ Ok u) ×
     HasRoomFor v place.segment place.word x u)
 
--- What a task makes has room where it is done, as the builder's call asks for it: at a pointer the
--- words of one object; what is kept of a copy, where of a list the words of its source are below
--- 2^64, as the words of bytes are; the value of a default, and what becomes of a struct or a list of
--- structs that is opened; in a struct what the pointers mean that are copied over it. A task that
--- takes no words asks for none.
+-- There is room for what a task makes at its place, as the builder's call requires it:
+-- - `Make`: for the words of the object.
+-- - `Content`: for what the pointers mean that are copied over the struct.
+-- - `Search`: for the default's value, and for what becomes of a struct or a list of structs that
+--   is opened.
+-- - `CopyRoot`: for what the copy keeps. For a list, the words of the source are also below 2^64,
+--   as the words of bytes are.
+-- - A task that takes no words requires no room.
 abbrev pub FitsAt : View → Task → PathEnd → Type 0
 FitsAt old (Make object) (AtPointer place) = HasRoom old place.segment (word_count (value_of object))
 FitsAt old (InStruct (Content source)) there = (e : ExistingStruct) → IsStructAt old.words there e →
@@ -147,9 +150,9 @@ FitsAt old task there = ⊤
 
 -- Refusals.
 
--- A struct takes the data of a source's struct, and then the copy of one of the pointers that both
--- have is refused by the name k: the arena has no room for an object of what it means; or it can't
--- be read.
+-- A struct takes the data of a source's struct. Then the copy of one of the pointers that both
+-- structs have is refused with k: the arena has no room for an object of its value, or it can't be
+-- read.
 pub record StopsFilling (old new : View) (place : StructPlace) (source : Source) (k : ErrorKind)
     : Type 0 where
   pub content : ContentRead source
@@ -167,8 +170,8 @@ pub record StopsFilling (old new : View) (place : StructPlace) (source : Source)
       (pointers_copied place taken new content.from.limiter after))
       ⊎ Refused plain (behind content.from.first (count content.children)) content.after after k
 
--- What is looked for isn't opened: all is as it was; or, of a struct or a list of structs, memory is
--- refused for what becomes of it.
+-- What is looked for isn't opened, which is refused with k: nothing is changed; or memory is
+-- refused for what becomes of a struct or a list of structs.
 abbrev pub IsOpeningRefused : Sought → CallAt → ErrorKind → Type 0
 IsOpeningRefused (ForStruct size) c k = (c.new ≡ c.old) ⊎
     RefusesToBecome (IsStored c.old.words c.segment c.at) (struct_opened size) c.old c.new k
@@ -177,9 +180,10 @@ IsOpeningRefused (ForStructs size) c k =
     (list_widened size.data_words size.pointers) c.old c.new k
 IsOpeningRefused sought c k = c.new ≡ c.old
 
--- The builder's call is refused by a name where a task is done. One that makes an object is refused for
--- want of memory or room for its words, and truly; a search with a default from there on where the
--- default's value is put in place of null first, or because its copy is refused.
+-- From old to new the builder's call is refused with k where the task is done. One that makes an
+-- object is refused only because there is no memory or no room for its words. A search with a
+-- default is refused as one without is, perhaps after the default has replaced null; or because the
+-- copy of the default is refused.
 abbrev pub IsRefusedAt : View → View → Task → ErrorKind → PathEnd → Type 0
 IsRefusedAt old new (Make object) k (AtPointer place) =
     IsRefusedFor old new (word_count (value_of object)) k
@@ -198,10 +202,10 @@ IsRefusedAt old new (CopyRoot c) k (AtPointer place) =
     CopiesWhole (call_at place.segment place.word old new) c (Some k)
 IsRefusedAt old new task k there = ⊥
 
--- Words that are taken.
+-- Words that are allocated.
 
--- A struct takes the data of a source's struct, and then the pointers that both have are copied,
--- where the builder's call puts what they mean.
+-- From old to new a struct takes the data of a source's struct, and then the pointers that both
+-- structs have are copied; their values are where the builder's call puts them.
 pub record FillsThere (old new : View) (place : StructPlace) (s : Sections) (m : Meter) : Type 0 where
   pub bytes : List ℕ
   pub are_words : words_of bytes ≡ s.words
@@ -211,8 +215,8 @@ pub record FillsThere (old new : View) (place : StructPlace) (s : Sections) (m :
   pub copies : CopiesChildren s.first (min place.pointers s.pointers)
       (pointers_copied place taken new s.limiter m)
 
--- What is looked for is found where t stands, or refused: a struct or a list of structs is opened,
--- where null is no list; a list, a text or data stays as it is, and nothing is changed.
+-- What is looked for is found where t is, with outcome r. A struct or a list of structs is opened,
+-- but null isn't a list of structs; a list, a text or data is only found, and nothing is changed.
 abbrev pub FindsSought : Sought → Option ErrorKind → CallAt → Tree → Type 0
 FindsSought (ForStruct size) r c t = Opens size (λ S s p u b. ⊤) c t (struct_opened size t) (result_of r)
 FindsSought (ForStructs size) r c Null = (r ≡ None) × (c.new ≡ c.old)
@@ -220,9 +224,9 @@ FindsSought (ForStructs size) r c t =
     Opens size (λ S s p u b. ⊤) c t (list_widened size.data_words size.pointers t) (result_of r)
 FindsSought sought r c t = (o : Option Tree) × Yields (looked_for sought t) r o × (c.new ≡ c.old)
 
--- A task takes words as the builder's call says where it is done. An object that is refused takes
--- none; nor does a change of bits. Content takes those of the copies of the pointers that both have
--- alone.
+-- From old to new a task takes words as the builder's call states where it is done, with outcome r.
+-- A refused object takes none, nor does a change of bits. Content takes only those of the copies of
+-- the pointers that both structs have.
 abbrev pub TakesAt : View → View → Task → Option ErrorKind → PathEnd → Type 0
 TakesAt old new (Make object) None (AtPointer place) = TakesForObject old new place object
 TakesAt old new (Make object) (Some k) (AtPointer place) = IsPruned old.words new.words
@@ -247,7 +251,8 @@ TakesAt old new task r there = OnlyWrites old new
 
 -- Calls at a place.
 
--- What a task leaves where a path leads: words that the value there doesn't hold stay as they are.
+-- From S to R a task is done at the end of a path, with outcome r. Words that the value there
+-- doesn't hold stay unchanged.
 abbrev pub DoesThere : Segments → Segments → PathEnd → Task → Option ErrorKind → Type 0
 DoesThere S R (AtPointer place) task r = (t : Tree) → IsStored S place.segment place.word t →
     DoesAt S R place (made_at task (PointerTo t)) t r
@@ -255,9 +260,9 @@ DoesThere S R (AtElement e) (InStruct (Bits n)) r = PutsBits S R e (bits_of n) r
 DoesThere S R (AtElement e) (InStruct (Content source)) r = FillsAt S R (struct_place e) source r
 DoesThere S R (AtElement e) task r = R ≡ S
 
--- What a call leaves that does a task in range where a path leads, with its outcome: what the task
--- gives; the refused requests that are counted; why it is refused, which it isn't but for what
--- stands there where it has room; and the words that are taken.
+-- From old to new a call does a task that is in range, at the end of a path, with outcome r. It
+-- states what the task leaves; the count of refused memory requests; why it is refused, which if
+-- there is room is only for what is at the end of the path; and which words it takes.
 pub record IsDoneAt (old new : View) (there : PathEnd) (task : Task) (r : Option ErrorKind)
     : Type 0 where
   pub done : DoesThere old.words new.words there task r
@@ -268,7 +273,7 @@ pub record IsDoneAt (old new : View) (there : PathEnd) (task : Task) (r : Option
   pub nowhere : r ≡ Some NoSuchPlace → new ≡ old
   pub taken : (r ≡ Some NoSuchPlace → ⊥) → TakesAt old new task r there
 
--- A call on a builder does a task at its pointer, and leaves it over the same arena.
+-- A call on a builder does a task at its pointer, and leaves the builder over the same arena.
 pub record IsDoneBy {A : Type 0} (view : A → View) (old new : PointerBuilder A) (task : Task)
     (r : Option ErrorKind) : Type 0 where
   pub done : IsDoneAt (view old.arena.now) (view new.arena.now) (AtPointer (place_of old)) task r
@@ -276,11 +281,11 @@ pub record IsDoneBy {A : Type 0} (view : A → View) (old new : PointerBuilder A
 
 -- Steps.
 
--- From old to new an edit is done, with its outcome: whatever forest the message is, it is one
--- then, of the value that the edit makes of the one before; and each AllocationFailed is counted.
--- The edit is done where its path leads: NoSuchPlace where that is nowhere, where its numbers are out of
--- range, or where the message has no root word, and nothing is changed then. There it is refused
--- only as the builder's call is, and never where that has room, and takes words as that does.
+-- From old to new an edit is done, with outcome r. If old is a forest of a value, new is a forest
+-- of what the edit makes of that value. Each AllocationFailed is counted. The edit is refused with
+-- NoSuchPlace, and changes nothing, if its path leads nowhere, its numbers are out of range, or the
+-- message has no root word. Otherwise it is refused only as the builder's call at the end of its
+-- path is, never for memory if that has room, and takes words as that call does.
 pub record IsStep (old new : View) (edit : Edit) (r : Option ErrorKind) : Type 0 where
   pub applied : IsApplied (Takes edit r) old.words new.words
   pub counted : new.refusals ≡ refusals_after r old.refusals
@@ -301,7 +306,7 @@ pub record IsStep (old new : View) (edit : Edit) (r : Option ErrorKind) : Type 0
   pub taken : (r ≡ Some NoSuchPlace → ⊥) →
       IfSome path_end (λ there. IfSome (task_of edit.op) (λ task. TakesAt old new task r there))
 
--- From old to new edits are such steps in order, each with its outcome.
+-- From old to new the edits are such steps in order, each with its outcome.
 abbrev pub AreSteps : View → View → List Edit → List (Option ErrorKind) → Type 0
 AreSteps old new [] [] = new ≡ old
 AreSteps old new (e ∷ es) (r ∷ rs) = (mid : View) × IsStep old mid e r × AreSteps mid new es rs

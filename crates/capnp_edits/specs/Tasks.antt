@@ -1,4 +1,4 @@
--- Operations, sorted once by what they do.
+-- Operations, sorted by what they do.
 use Rattle.std.specs.Prelude.{ℕ, ◌+◌, ◌*◌, ◌/◌, ◌^◌, Bool, true, if◌then◌else◌, ◌&&◌, nat_le}
 use Rattle.std.specs.Prelude.{nat_lt, List, length, Option, Some, None}
 use Rattle.std.specs.Borrow.{Bor}
@@ -30,7 +30,8 @@ use Rattle.capnp_edits.specs.declared.edit.tasks.Sought.TheVariants.{StructList 
 use Rattle.capnp_edits.specs.declared.edit.tasks.Sought.TheVariants.{Text as ForText}
 use Rattle.capnp_edits.specs.declared.edit.tasks.Sought.TheVariants.{Data as ForData}
 
--- A bit, or a number of 1, 2, 4 or 8 bytes, has no more bits than its element size.
+-- The number v of this size is a bit, or a number of 1, 2, 4 or 8 bytes, and has no more bits than
+-- the size.
 abbrev pub is_number : ElementSize → ℕ → Bool
 is_number size v =
     nat_le 1 (size_number size) && nat_le (size_number size) 5
@@ -41,8 +42,8 @@ abbrev pub is_small_default : Option (Bor (List ℕ)) → Bool
 is_small_default (Some default) = nat_lt (length default.now / 8) (2 ^ 32)
 is_small_default None = true
 
--- The numbers of a task are those of something that a pointer can lead to, or that a field or an
--- element holds; and its default is small.
+-- The numbers of a task are in range: a pointer can lead to such an object, or a field or element
+-- can hold such a number; and its default is small.
 abbrev pub is_in_range : Task → Bool
 is_in_range (Make (ZeroList size n)) = nat_le (size_number size) 6 && nat_lt n (2 ^ 29)
 is_in_range (Make (ZeroStructs n size)) =
@@ -85,7 +86,7 @@ as_task (SetList source canonicalize) =
     CopyRoot (record { source = source; wanted = AList; canonicalize = canonicalize })
 as_task (CopyContent source) = InStruct (Content source)
 
--- What an operation does, if its numbers are in range. A number of a data section that is a bit has
+-- What an operation does, if its numbers are in range. `SetField` has no task for a bit, which has
 -- an operation of its own.
 abbrev pub task_of : Op → Option Task
 task_of (SetField Bit i v) = None

@@ -1,5 +1,5 @@
-//! Edits: changes of a message that is built, as data. Each has a path from the root pointer, and an
-//! operation that is done where the path leads.
+//! Edits: changes of a message being built, as data. Each has a path from the root pointer, and an
+//! operation at the end of the path.
 ghost use Rattle.std.specs.Prelude.{◌≡◌, length};
 ghost use Rattle.capnp_edits.specs.Edits.{refusal_of, IsApplied, TakesAll};
 ghost use Rattle.capnp_edits.specs.Steps.{IsStep, AreSteps};
@@ -30,99 +30,101 @@ pub enum Step {
     Element(u32),
 }
 
-/// Another message, which is read with a limiter of its own.
+/// Another message, read with a limiter of its own.
 #[derive(Clone, Copy)]
 pub struct Source<'a> {
     /// The message.
     pub arena: &'a ReaderArenaImpl<SegmentArray<'a>>,
-    /// How many words may be read of it, `None` for no limit.
+    /// How many of its words may be read; `None` for no limit.
     pub budget: Option<usize>,
 }
 
-/// What is done at the end of a path.
+/// What to do at the end of a path.
 #[derive(Clone, Copy)]
 pub enum Op<'a> {
-    /// A struct is made, all zero.
+    /// Make a struct, all zero.
     InitStruct(StructSize),
-    /// A list of so many elements is made that are no structs, all zero or null. There are fewer than 2^29.
+    /// Make a list of so many elements that aren't structs, all zero or null; fewer than 2^29.
     InitList(ElementSize, u32),
-    /// A list of so many structs is made, all zero. There are fewer than 2^30, of fewer than 2^29 words.
+    /// Make a list of so many structs, all zero; fewer than 2^30, of fewer than 2^29 words.
     InitStructList(u32, StructSize),
-    /// A text of so many bytes is made, all zero, fewer than 2^29 with the zero byte behind them.
+    /// Make a text of so many bytes, all zero; fewer than 2^29 with the zero byte after them.
     InitText(u32),
-    /// Data of so many bytes is made, all zero, fewer than 2^29.
+    /// Make data of so many bytes, all zero; fewer than 2^29.
     InitData(u32),
-    /// A text of these bytes is made, fewer than 2^29 with the zero byte behind them.
+    /// Make a text of these bytes; fewer than 2^29 with the zero byte after them.
     SetText(&'a [u8]),
-    /// Data of these bytes is made, fewer than 2^29.
+    /// Make data of these bytes; fewer than 2^29.
     SetData(&'a [u8]),
-    /// The pointer becomes a capability, by its index.
+    /// Make the pointer a capability, by its index.
     SetCapability(u32),
-    /// The pointer becomes null.
+    /// Make the pointer null.
     Clear,
-    /// A number of the data section of a struct is written: of 1, 2, 4 or 8 bytes, by its index among
-    /// numbers as wide.
+    /// Write a number of a struct's data section: of 1, 2, 4 or 8 bytes, at this index, counted in
+    /// numbers of that width.
     SetField(ElementSize, u32, u64),
-    /// A bit of the data section of a struct is written, by its index.
+    /// Write a bit of a struct's data section, by its index.
     SetBool(u32, bool),
-    /// The lowest bits of an element of a list are written, as many as the size has: a bit, or a number of 1,
-    /// 2, 4 or 8 bytes. The list is looked for as `PointerBuilder::get_list` does with that size.
+    /// Write the lowest bits of an element of a list, as many as the size has: a bit, or a number
+    /// of 1, 2, 4 or 8 bytes. Looks for the list like `PointerBuilder::get_list` with that size.
     SetElement(ElementSize, u32, u64),
-    /// A byte of a text is written, but for the zero behind it.
+    /// Write a byte of a text, but not the zero after it.
     WriteText(u32, u8),
-    /// A byte of data is written.
+    /// Write a byte of data.
     WriteData(u32, u8),
-    /// A struct is looked for, and made at least as large as asked for, as `PointerBuilder::get_struct` does
-    /// with this size and default. The default of a search has fewer than 2^32 words.
+    /// Look for a struct, and make it at least this large, like `PointerBuilder::get_struct` with
+    /// this size and default. The default of a search has fewer than 2^32 words.
     GetStruct(StructSize, Option<&'a [u8]>),
-    /// A list is looked for, as `PointerBuilder::get_list` does with this size and default.
+    /// Look for a list, like `PointerBuilder::get_list` with this size and default.
     GetList(ElementSize, Option<&'a [u8]>),
-    /// A list is looked for, and made one of structs at least as large as asked for, as
-    /// `PointerBuilder::get_struct_list` does with this size and default.
+    /// Look for a list, and make it one of structs at least this large, like
+    /// `PointerBuilder::get_struct_list` with this size and default.
     GetStructList(StructSize, Option<&'a [u8]>),
-    /// A text is looked for, as `PointerBuilder::get_text` does with this default.
+    /// Look for a text, like `PointerBuilder::get_text` with this default.
     GetText(Option<&'a [u8]>),
-    /// Data is looked for, as `PointerBuilder::get_data` does with this default.
+    /// Look for data, like `PointerBuilder::get_data` with this default.
     GetData(Option<&'a [u8]>),
-    /// The pointer becomes a copy of what the root of another message means, in canonical form where that
-    /// is asked for, as `PointerBuilder::copy_from` makes it.
+    /// Copy the value of another message's root to the pointer, in canonical form if so requested,
+    /// like `PointerBuilder::copy_from`.
     CopyFrom(Source<'a>, bool),
-    /// The pointer becomes a copy of the struct that the root of another message leads to, as
-    /// `PointerBuilder::set_struct` makes it; of a null root one of no words. The struct is looked for as
-    /// `PointerReader::get_struct` does.
+    /// Copy the struct that the root of another message leads to, like
+    /// `PointerBuilder::set_struct`; a struct of no words if the root is null. Looks for the struct
+    /// like `PointerReader::get_struct`.
     SetStruct(Source<'a>, bool),
-    /// The pointer becomes a copy of the list that the root of another message leads to, as
-    /// `PointerBuilder::set_list` makes it; of a null root a list of no `Void`. The list is looked for as
-    /// `PointerReader::get_list` does with the size `Void`, so it is none of bits.
+    /// Copy the list that the root of another message leads to, like `PointerBuilder::set_list`; an
+    /// empty list of `Void` if the root is null. Looks for the list like `PointerReader::get_list`
+    /// with the size `Void`, so it can't be a list of bits.
     SetList(Source<'a>, bool),
-    /// The content of a struct becomes that of the struct that the root of another message leads to, as
-    /// `StructBuilder::copy_content_from` makes it; of a null root it is all zero and null. The struct is
-    /// looked for as `PointerReader::get_struct` does.
+    /// Replace the content of a struct by that of the struct that the root of another message leads
+    /// to, like `StructBuilder::copy_content_from`; by zeros and nulls if the root is null. Looks
+    /// for that struct like `PointerReader::get_struct`.
     CopyContent(Source<'a>),
 }
 
-/// A change of a message: what is done, and where.
+/// A change of a message: what to do, and where.
 #[derive(Clone, Copy)]
 pub struct Edit<'a> {
     /// The steps from the root pointer on.
     pub path: &'a [Step],
-    /// What is done at their end.
+    /// What to do at their end.
     pub op: Op<'a>,
 }
 
-/// Does what an edit says.
+/// Applies an edit.
 ///
-/// `NoSuchPlace` is said of a path that leads nowhere, of an operation for a place of another kind and of
-/// numbers that are out of range. Where a struct, a list, a text or data is looked for, a refusal is that of
-/// `get_struct`, `get_struct_list`, `get_list`, `get_text` or `get_data` of a `PointerBuilder`; where there is
-/// nothing to be copied, it is that of `PointerReader::get_root_from_arena`, or of the root's `get_struct` or
-/// `get_list`. Nothing is changed then. `AllocationFailed` and `MessageTooLarge` are those of the arena, and the
-/// pointer is null then, as it is where the copy is refused for what it reads. Of content the data and the
-/// pointers before the refused one are copied then, and the others are null.
+/// Refusals: `NoSuchPlace` if the path leads nowhere, the operation is for a place of another kind,
+/// or numbers are out of range. If a struct, a list, a text or data is looked for, the refusal of a
+/// `PointerBuilder`'s `get_struct`, `get_struct_list`, `get_list`, `get_text` or `get_data`. If
+/// there is nothing to copy, that of `PointerReader::get_root_from_arena`, or of the root's
+/// `get_struct` or `get_list`. Nothing is changed after these.
 ///
-/// A search puts the value of its default in place of null first. Where that copy is refused, the pointer is
-/// null; where its kind is refused then, or memory for making it larger, the value stays. So does every value
-/// that was to be made larger.
+/// `AllocationFailed` and `MessageTooLarge` are the arena's. The pointer is null then, as it is if
+/// a copy is refused for what it reads. If copying a struct's content is refused so, the data and
+/// the pointers before the refused one are copied, and the others are null.
+///
+/// A search first replaces null by the value of its default. If that copy is refused, the pointer
+/// is null. If the value's kind is refused afterwards, or memory to make it larger, the value
+/// stays; so does any other value that had to be made larger.
 pub fn apply<A: BuilderArena>(arena: &mut A, edit: &Edit<'_>) -> Result<(), ErrorKind>
     ensures { IsStep (A.view arena.old) (A.view arena.new) edit.now (refusal_of result) }
 {
@@ -144,8 +146,8 @@ pub fn apply<A: BuilderArena>(arena: &mut A, edit: &Edit<'_>) -> Result<(), Erro
     }
 }
 
-/// Does what edits say, in order, and goes on after a refusal. `outcomes` gets what became of each: `None`
-/// where it is done, and else the name of its refusal, as `apply` has it.
+/// Applies edits in order, and goes on after a refusal. Stores in `outcomes` what became of each:
+/// `None` if it was applied, otherwise its refusal by `apply`.
 pub fn apply_all<A: BuilderArena>(
     arena: &mut A,
     edits: &[Edit<'_>],

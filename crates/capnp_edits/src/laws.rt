@@ -1,5 +1,5 @@
-//! What follows of the contracts of this crate. Each function does nothing: its contract is a law, proved
-//! for all messages.
+//! Laws that follow from the contracts of this crate. Each function does nothing: its contract is
+//! the law, proved for all messages.
 ghost use Rattle.std.specs.Prelude.{◌≡◌, ◌⊎◌, ℕ, ◌+◌, ◌<◌, ◌≤◌, min, map, All, List, length, Option, Some};
 ghost use Rattle.std.specs.List.{sum_by};
 ghost use Rattle.capnp_words.specs.declared.error.ErrorKind.{ErrorKind};
@@ -19,14 +19,15 @@ ghost use Rattle.capnp_edits.specs.Sources.{ContentRead, Copies, HasNothingToCop
 ghost use Rattle.capnp_edits.specs.Steps.{AreSteps, IsStep};
 ghost use Rattle.capnp_edits.specs.Tasks.{task_of};
 
-/// What is copied of another message can be copied or is refused for what is read of it, and never both.
+/// A value of another message can be copied, or is refused for what is read of it, and never both.
 pub fn copied_or_refused()
     ensures { (c : Copying) (u : Tree) (k : ErrorKind) → Copies c u
         → HasNothingToCopy c.source c.wanted k ⊎ IsUnreadable c k → ⊥ }
 {}
 
-/// The content of another message's struct can be copied or is refused for what is read, and never both: where
-/// its root leads to a struct, and the pointers that are copied mean values within both limits, it is not.
+/// The content of another message's struct can be copied, or is refused for what is read of it, and
+/// never both. If its root leads to a struct, and the pointers to copy mean values within both
+/// limits, it isn't refused.
 pub fn filled_or_refused()
     ensures { (source : Source) (q : ℕ) (k : ErrorKind) (all : ContentRead source)
         → count all.children ≡ min q all.from.pointers
@@ -35,7 +36,8 @@ pub fn filled_or_refused()
         × IsNextUnreadable source some k) → ⊥ }
 {}
 
-/// An edit whose path leads to a pointer is done at that one: what `apply` says of its place is said of it.
+/// An edit whose path leads to a pointer is applied at that one: what `apply` states of its place
+/// holds for it.
 pub fn step_is_there()
     ensures { (old new : View) (edit : Edit) (r : Option ErrorKind) (t x : Tree) (u q : ℕ)
         (s : IsStep old new edit r) → IsForest old.words t
@@ -43,10 +45,11 @@ pub fn step_is_there()
         → s.path_end ≡ Some (AtPointer (record { segment = u; word = q })) }
 {}
 
-/// Edits that make objects, or write pointers, fields, elements and bytes, aren't refused for memory where their
-/// words together fit the first segment of a message that stands in it: each is done, or refused for what its
-/// path leads to. All that they make stands in that segment, which takes no more words than that and has as
-/// much room as before, and the allocator has refused nothing.
+/// Edits that make objects, or write pointers, fields, elements and bytes, are never refused for
+/// memory if their words together fit the first segment of a message that is all in it. Each is
+/// applied, or refused for what its path leads to. All that they make is in that segment, which
+/// takes no more words than that and has as much room as before, and the allocator has refused
+/// nothing.
 pub fn fitting_edits()
     ensures { (old new : View) (edits : List Edit) (rs : List (Option ErrorKind)) (t : Tree)
         → IsForest old.words t → AreInFirst old.words

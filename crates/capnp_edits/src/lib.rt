@@ -1,4 +1,4 @@
-//! Lists of changes of a message that is built, each at a path from the root.
+//! Lists of changes of a message being built, each at a path from the root.
 #![tactic(auto)]
 
 pub mod edit;

@@ -1,6 +1,7 @@
--- The canonical words of a value ("Canonicalization"): one segment, the root pointer, then each
--- object behind its predecessors in preorder, all pointers near; zeros cut off the ends of structs;
--- all elements of a list of structs cut to the least width that loses nothing.
+-- The canonical words of a value ("Canonicalization"). They are one segment: the root pointer, then
+-- each object directly after the one before it in preorder. All pointers are near. Structs have no
+-- zeros at the ends of their sections, and a list of structs has the least widths that lose
+-- nothing.
 use Rattle.std.specs.Prelude.{◌≡◌, ℕ, zero, suc, ◌+◌, ◌-◌, ◌*◌, ◌<◌, ◌≤◌, ◌^◌, ◌%◌, max, Bool, true}
 use Rattle.std.specs.Prelude.{false, nat_eq, List, [], ◌∷◌, ◌++◌, length, take, ⊤}
 use Rattle.capnp_format.specs.Word.{struct_word, list_word, capability_word}
@@ -12,13 +13,13 @@ use Rattle.capnp_format.specs.Tree.{Tree, Null, Capability, Struct, Flat, Pointe
 use Rattle.capnp_format.specs.Tree.{no_trees, tree, Elements, no_elements, element, count}
 use Rattle.capnp_format.specs.Tree.{element_count, capabilities}
 
--- How much of a list is used, by whether its first cell is empty, and how much of the rest is
+-- The used length of a list, from whether its first cell is empty and the used length of the rest
 -- ("Canonicalization").
 abbrev pub used_from : Bool → ℕ → ℕ
 used_from true zero = 0
 used_from empty n = suc n
 
--- How many words are left without the zeros at the end ("Canonicalization").
+-- The number of words that are left without the zeros at the end ("Canonicalization").
 abbrev pub used_words : List ℕ → ℕ
 used_words [] = 0
 used_words (x ∷ xs) = used_from (nat_eq x 0) (used_words xs)
@@ -28,7 +29,7 @@ abbrev pub is_null : Tree → Bool
 is_null Null = true
 is_null _ = false
 
--- How many children are left without the Nulls at the end ("Canonicalization").
+-- The number of children that are left without the Nulls at the end ("Canonicalization").
 abbrev pub used_trees : Trees → ℕ
 used_trees no_trees = 0
 used_trees (tree t ts) = used_from (is_null t) (used_trees ts)
@@ -39,14 +40,14 @@ take_trees zero ts = no_trees
 take_trees (suc n) no_trees = no_trees
 take_trees (suc n) (tree t ts) = tree t (take_trees n ts)
 
--- The least number of data words that loses no word but zero, in any element; 0 without elements
--- ("Canonicalization").
+-- The least number of data words such that cutting every element to it loses only zeros; 0 without
+-- elements ("Canonicalization").
 abbrev pub data_width : Elements → ℕ
 data_width no_elements = 0
 data_width (element ws ts es) = max (used_words ws) (data_width es)
 
--- The least number of pointers that loses no child but Null, in any element; 0 without elements
--- ("Canonicalization").
+-- The least number of pointers such that cutting every element to it loses only Nulls; 0 without
+-- elements ("Canonicalization").
 abbrev pub pointer_width : Elements → ℕ
 pointer_width no_elements = 0
 pointer_width (element ws ts es) = max (used_trees ts) (pointer_width es)
@@ -65,9 +66,9 @@ abbrev pub cut_structs : Elements → Tree
 cut_structs es =
     Structs (data_width es) (pointer_width es) (cut_to (data_width es) (pointer_width es) es)
 
--- A value as canonical form has it: children first, then structs lose zeros and Nulls at their ends
--- and lists of structs get the least widths. All else stays; a list of pointers keeps its Nulls
--- ("Canonicalization").
+-- A value in canonical form: after its children are trimmed, a struct loses the zeros and Nulls at
+-- the ends of its sections, and a list of structs gets the least widths. All else stays; a list of
+-- pointers keeps its Nulls ("Canonicalization").
 abbrev mutual
   pub trim : Tree → Tree
   trim Null = Null
@@ -87,8 +88,8 @@ abbrev mutual
   trim_elements no_elements = no_elements
   trim_elements (element ws ts es) = element ws (trim_each ts) (trim_elements es)
 
--- How many words the objects of a value take, itself and all below, without its pointer and without pads
--- ("Structs", "Lists").
+-- The number of words of a value's objects, itself and all below, without its pointer and without
+-- landing pads ("Structs", "Lists").
 abbrev mutual
   pub word_count : Tree → ℕ
   word_count Null = 0
@@ -98,19 +99,19 @@ abbrev mutual
   word_count (Pointers ts) = count ts + word_count_all ts
   word_count (Structs d q es) = 1 + element_count es * (d + q) + word_count_elements es
 
-  -- Of children together.
+  -- The total over all children.
   pub word_count_all : Trees → ℕ
   word_count_all no_trees = 0
   word_count_all (tree t ts) = word_count t + word_count_all ts
 
-  -- Of the children of all elements together.
+  -- The total over the children of all elements.
   pub word_count_elements : Elements → ℕ
   word_count_elements no_elements = 0
   word_count_elements (element ws ts es) = word_count_all ts + word_count_elements es
 
--- The pointer word of a value, k being the 30 bits of the offset: of how many words lie between it
--- and the object. A struct of no words has offset -1 always, so that it is not the null pointer
--- ("Structs", "Canonicalization").
+-- The pointer word of a value. k is the 30 bits of the offset: the number of words between the
+-- pointer and the object. A struct of no words always has offset -1, so that it isn't the null
+-- pointer ("Structs", "Canonicalization").
 abbrev pub pointer : Tree → ℕ → ℕ
 pointer Null k = 0
 pointer (Capability i) k = capability_word i
@@ -120,21 +121,21 @@ pointer (Flat size ns) k = list_word k size (length ns)
 pointer (Pointers ts) k = list_word k 6 (count ts)
 pointer (Structs d q es) k = list_word k 7 (element_count es * (d + q))
 
--- The pointers of children one behind the other, where k words lie between the last pointer and the
--- first body ("Canonicalization").
+-- The consecutive pointers of children, with k words between the last pointer and the first body
+-- ("Canonicalization").
 abbrev pub pointers : ℕ → Trees → List ℕ
 pointers k no_trees = []
 pointers k (tree t ts) = pointer t (count ts + k) ∷ pointers (k + word_count t) ts
 
--- Elements one behind the other, where k words of bodies lie between the last element and the first
--- body of these ("Lists", "Canonicalization").
+-- Consecutive elements of d data words and q pointers, with k words of bodies between the last
+-- element and the first body of these ("Lists", "Canonicalization").
 abbrev pub rows : ℕ → ℕ → ℕ → Elements → List ℕ
 rows d q k no_elements = []
 rows d q k (element ws ts es) =
     ws ++ pointers (element_count es * (d + q) + k) ts ++ rows d q (k + word_count_all ts) es
 
--- The words behind a value's pointer: its object, then the bodies of its children in order, which
--- is preorder ("Canonicalization").
+-- The words after a value's pointer: its object, then the bodies of its children in order, which is
+-- preorder ("Canonicalization").
 abbrev mutual
   pub body : Tree → List ℕ
   body Null = []
@@ -154,32 +155,32 @@ abbrev mutual
   element_bodies no_elements = []
   element_bodies (element ws ts es) = bodies ts ++ element_bodies es
 
--- The canonical words of a value that is trimmed: its pointer, then its body ("Canonicalization").
+-- The canonical words of a trimmed value: its pointer, then its body ("Canonicalization").
 abbrev pub encoding : Tree → List ℕ
 encoding t = pointer t 0 ∷ body t
 
--- P, where the pointer of the value has an offset that counts words: not of Null, a capability or
--- an empty struct ("Structs").
+-- P, if the pointer of the value has an offset that counts words; always true of Null, a capability
+-- and an empty struct, which have none ("Structs").
 abbrev pub ForOffset : Tree → Type 0 → Type 0
 ForOffset Null P = ⊤
 ForOffset (Capability i) P = ⊤
 ForOffset (Struct [] no_trees) P = ⊤
 ForOffset t P = P
 
--- The offsets of children, as `pointers` makes them, fit the 29 bits of a number that is not negative
--- ("Structs", "Lists").
+-- The offsets of children, as `pointers` makes them, fit the 29 bits of a number that isn't
+-- negative ("Structs", "Lists").
 abbrev pub OffsetsFit : ℕ → Trees → Type 0
 OffsetsFit k no_trees = ⊤
 OffsetsFit k (tree t ts) = ForOffset t (count ts + k < 2 ^ 29) × OffsetsFit (k + word_count t) ts
 
--- The offsets of the children of elements, as `rows` makes them, fit ("Lists").
+-- The offsets of the elements' children, as `rows` makes them, fit ("Lists").
 abbrev pub RowsFit : ℕ → ℕ → ℕ → Elements → Type 0
 RowsFit d q k no_elements = ⊤
 RowsFit d q k (element ws ts es) =
     OffsetsFit (element_count es * (d + q) + k) ts × RowsFit d q (k + word_count_all ts) es
 
--- Each offset inside a value's body fits. A value of fewer than 2^29 words always has this
--- ("Structs", "Lists").
+-- Each offset inside the body of a value fits. This always holds for a value of fewer than 2^29
+-- words ("Structs", "Lists").
 abbrev mutual
   pub IsEncodable : Tree → Type 0
   IsEncodable Null = ⊤
@@ -189,12 +190,12 @@ abbrev mutual
   IsEncodable (Pointers ts) = OffsetsFit 0 ts × AreEncodable ts
   IsEncodable (Structs d q es) = RowsFit d q 0 es × AreEncodableElements es
 
-  -- Of children.
+  -- The same for each child.
   pub AreEncodable : Trees → Type 0
   AreEncodable no_trees = ⊤
   AreEncodable (tree t ts) = IsEncodable t × AreEncodable ts
 
-  -- Of the children of elements.
+  -- The same for the children of each element.
   pub AreEncodableElements : Elements → Type 0
   AreEncodableElements no_elements = ⊤
   AreEncodableElements (element ws ts es) = AreEncodable ts × AreEncodableElements es
@@ -203,7 +204,7 @@ abbrev mutual
 abbrev pub IsTrimmed : Tree → Type 0
 IsTrimmed t = trim t ≡ t
 
--- No capability is inside ("Canonicalization").
+-- The value has no capability inside ("Canonicalization").
 abbrev pub IsFree : Tree → Type 0
 IsFree t = capabilities t ≡ 0
 
@@ -215,18 +216,19 @@ offset_to p h = (h + 2 ^ 30 - (p + 1)) % 2 ^ 30
 abbrev pub Reaches : ℕ → ℕ → Type 0
 Reaches p h = (h < p + 1 + 2 ^ 29) × (p + 1 ≤ h + 2 ^ 29)
 
--- The pointer of a value stands at a place, and its body at the head h of the same segment.
+-- S has the pointer of t at (s, p), with an offset that fits, and the body of t where that leads,
+-- at position h of segment s.
 abbrev pub Lies : Segments → ℕ → ℕ → ℕ → Tree → Type 0
 Lies S s p h t = ForOffset t (Reaches p h) × (word_at S s p ≡ pointer t (offset_to p h)) ×
     HasWords S s h (body t)
 
--- Canonical words stand at a place with the body at the head h: of a value that is trimmed, without
--- capabilities and encodable. A canonical message is one where some value stands at its root with
--- the head right behind it.
+-- S has canonical words of t at (s, p), with the body at position h of segment s; t is a value that
+-- is trimmed and encodable and has no capabilities. In a canonical message such a t is at the root,
+-- with its body directly after the root.
 abbrev pub Stands : Segments → ℕ → ℕ → ℕ → Tree → Type 0
 Stands S s p h t = IsPlace S s p × IsValue t × IsTrimmed t × IsFree t × IsEncodable t × Lies S s p h t
 
--- What reading a value costs where it lies so, with near pointers and claims that are exact.
+-- The cost of reading a value in this form, with near pointers and exact claims.
 abbrev mutual
   pub charge : Tree → ℕ
   charge Null = 0
@@ -237,12 +239,12 @@ abbrev mutual
   charge (Structs d q es) =
       (element_count es * (d + q) + 1) + count_cost (d + q) (element_count es) + charge_elements es
 
-  -- Of children together.
+  -- The total over all children.
   pub charge_all : Trees → ℕ
   charge_all no_trees = 0
   charge_all (tree t ts) = charge t + charge_all ts
 
-  -- Of the children of all elements together.
+  -- The total over the children of all elements.
   pub charge_elements : Elements → ℕ
   charge_elements no_elements = 0
   charge_elements (element ws ts es) = charge_all ts + charge_elements es

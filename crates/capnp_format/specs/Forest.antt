@@ -1,5 +1,5 @@
--- Which words of a message its value covers, and the messages that a builder makes: no word is
--- covered twice, and what is not covered is zero ("Messages", "Inter-Segment Pointers").
+-- Which words of a message its value covers, and what messages builders make: no word is covered
+-- twice, and words that aren't covered are zero ("Messages", "Inter-Segment Pointers").
 use Rattle.std.specs.Prelude.{◌≡◌, ◌⊎◌, ℕ, ◌+◌, ◌*◌, ◌<◌, ◌≤◌, Bool, if◌then◌else◌, ◌&&◌, nat_eq}
 use Rattle.std.specs.Prelude.{nat_le, nat_lt, List, [], ◌∷◌, ◌++◌, length, Option, Some, None, ⊤}
 use Rattle.capnp_format.specs.Word.{kind, is_double, far_position, upper_half, list_count}
@@ -10,49 +10,50 @@ use Rattle.capnp_format.specs.Tree.{no_trees, tree, Elements, no_elements, eleme
 use Rattle.capnp_format.specs.Tree.{element_count}
 use Rattle.capnp_format.specs.Means.{Means}
 
--- Words of a segment that stand one behind the other.
+-- Consecutive words of a segment.
 pub record Interval : Type 0 where
   pub segment : ℕ
   pub start : ℕ
   pub words : ℕ
 
--- The n words from a place on.
+-- The n words from (s, p) on.
 abbrev pub row : ℕ → ℕ → ℕ → Interval
 row s p n = record { segment = s; start = p; words = n }
 
--- Whether an interval holds the word at a place.
+-- Whether the interval i holds the word at (u, q).
 abbrev pub holds : Interval → ℕ → ℕ → Bool
 holds i u q = nat_eq u i.segment && nat_le i.start q && nat_lt q (i.start + i.words)
 
--- How many of the intervals hold the word at a place.
+-- The number of intervals that hold the word at (u, q).
 abbrev pub times : List Interval → ℕ → ℕ → ℕ
 times [] u q = 0
 times (i ∷ is) u q = (if holds i u q then 1 else 0) + times is u q
 
--- The landing pad of a word, if it is a far pointer ("Inter-Segment Pointers").
+-- The landing pad of the word x, if x is a far pointer ("Inter-Segment Pointers").
 abbrev pub pads_of : ℕ → List Interval
 pads_of x = if nat_eq (kind x) 2 then
     record { segment = upper_half x; start = far_position x; words = 1 + is_double x } ∷ [] else []
 
--- The landing pads of a word, if it is a far pointer, lie in the message.
+-- The landing pad of the word x, if x is a far pointer, is inside the message.
 abbrev pub PadsInside : Segments → ℕ → Type 0
 PadsInside S x = kind x ≡ 2 → far_position x + (1 + is_double x) ≤ length (segment S (upper_half x))
 
--- n words from where a pointer leads.
+-- The n words from the target a on.
 abbrev pub object_of : Target → ℕ → Interval
 object_of a n = record { segment = a.segment; start = a.start; words = n }
 
--- Where a pointer leads, and a target of nothing where it leads nowhere.
+-- The target, or one without words if there is none.
 abbrev pub target_in : Option Target → Target
 target_in (Some a) = a
 target_in None = record { word = 0; segment = 0; start = 0; pads = 0 }
 
--- Where the word at a place leads, if anywhere.
+-- Where the word at (s, p) leads, if anywhere.
 abbrev pub target : Segments → ℕ → ℕ → Target
 target S s p = target_in (leads S s p)
 
--- What is reached from a place that means a value: landing pads and object once for each pointer,
--- the place itself apart. Of a list of structs it is the tag and the elements.
+-- The intervals that a value at (s, p) reaches, without the place itself: landing pads and object,
+-- once for each pointer that leads there. For a list of structs the object is the tag and the
+-- elements.
 abbrev mutual
   pub cover : Segments → ℕ → ℕ → Tree → List Interval
   cover S s p Null = []
@@ -69,18 +70,18 @@ abbrev mutual
       pads_of (word_at S s p) ++ object_of (target S s p) (1 + element_count es * (d + q))
       ∷ cover_elements S (target S s p).segment ((target S s p).start + 1) d q es
 
-  -- Of children one behind the other.
+  -- The same for consecutive children, from (s, p) on.
   pub cover_all : Segments → ℕ → ℕ → Trees → List Interval
   cover_all S s p no_trees = []
   cover_all S s p (tree t ts) = cover S s p t ++ cover_all S s (p + 1) ts
 
-  -- Of the children of elements one behind the other.
+  -- The same for the children of consecutive elements, from (s, p) on.
   pub cover_elements : Segments → ℕ → ℕ → ℕ → ℕ → Elements → List Interval
   cover_elements S s p d q no_elements = []
   cover_elements S s p d q (element ws ts es) =
       cover_all S s (p + d) ts ++ cover_elements S s (p + d + q) d q es
 
--- What is reached from a target, its pads apart.
+-- The intervals that a value at the target a reaches, without its landing pads.
 abbrev pub object_cover : Segments → Target → Tree → List Interval
 object_cover S a Null = []
 object_cover S a (Capability i) = []
@@ -91,8 +92,8 @@ object_cover S a (Pointers ts) = object_of a (count ts) ∷ cover_all S a.segmen
 object_cover S a (Structs d q es) =
     object_of a (1 + element_count es * (d + q)) ∷ cover_elements S a.segment (a.start + 1) d q es
 
--- Below a place all padding of lists is zero, and lists of structs claim exactly their elements
--- ("Lists").
+-- In the value at (s, p), all padding of lists is zero, and each list of structs claims exactly its
+-- elements ("Lists").
 abbrev mutual
   pub IsTidy : Segments → ℕ → ℕ → Tree → Type 0
   IsTidy S s p Null = ⊤
@@ -106,12 +107,12 @@ abbrev mutual
       (list_count (target S s p).word ≡ element_count es * (d + q)) ×
       AreTidyElements S (target S s p).segment ((target S s p).start + 1) d q es
 
-  -- Of children one behind the other.
+  -- The same for consecutive children, from (s, p) on.
   pub AreTidy : Segments → ℕ → ℕ → Trees → Type 0
   AreTidy S s p no_trees = ⊤
   AreTidy S s p (tree t ts) = IsTidy S s p t × AreTidy S s (p + 1) ts
 
-  -- Of the children of elements one behind the other.
+  -- The same for the children of consecutive elements, from (s, p) on.
   pub AreTidyElements : Segments → ℕ → ℕ → ℕ → ℕ → Elements → Type 0
   AreTidyElements S s p d q no_elements = ⊤
   AreTidyElements S s p d q (element ws ts es) =
@@ -121,8 +122,8 @@ abbrev mutual
 abbrev pub root : Interval
 root = record { segment = 0; start = 0; words = 1 }
 
--- The root means t; no word is covered twice; what is covered lies in the message; every other word
--- is zero; lists are tidy ("Messages").
+-- The root of S means t; no word is covered twice; the covered words are inside the message; all
+-- other words are zero; lists are tidy ("Messages").
 pub record IsForest (S : Segments) (t : Tree) : Type 0 where
   pub means : (n : ℕ) × (c : ℕ) × Means S n 0 0 t c
   pub apart : (u q : ℕ) → times (root ∷ cover S 0 0 t) u q ≤ 1
@@ -130,8 +131,8 @@ pub record IsForest (S : Segments) (t : Tree) : Type 0 where
   pub zero_elsewhere : (u q : ℕ) → times (root ∷ cover S 0 0 t) u q ≡ 0 → word_at S u q ≡ 0
   pub tidy : IsTidy S 0 0 t
 
--- The allocated words of a builder's segments hold the value t: they are a forest; or segment 0 has
--- no word yet, there is nothing but zeros, and the value is Null.
+-- The allocated words S of a builder hold the value t. Either S is a forest of t; or segment 0 has
+-- no word yet, all words are zero, and t is Null.
 abbrev pub ArenaHolds : Segments → Tree → Type 0
 ArenaHolds S t =
     IsForest S t

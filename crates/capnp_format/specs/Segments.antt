@@ -1,7 +1,7 @@
 -- Messages, and where a pointer word leads ("Messages", "Inter-Segment Pointers"). A message is a
--- list of segments, and a segment a list of words. A place is a segment's number and a word
--- position in it. All functions here are total: what is not there has no words, and a pointer that
--- leads nowhere gives None.
+-- list of segments, and a segment a list of words. A place (s, p) is a segment's number s and a
+-- word position p in it. All functions here are total: a missing segment has no words, a missing
+-- word is 0, and a pointer that leads nowhere gives None.
 use Rattle.std.specs.Prelude.{◌≡◌, ℕ, ◌+◌, ◌-◌, ◌<◌, ◌≤◌, ◌^◌, zero, suc, Bool, if◌then◌else◌, ◌&&◌}
 use Rattle.std.specs.Prelude.{List, [], length, get_or, take, drop, nat_lt, nat_le, nat_eq, Option}
 use Rattle.std.specs.Prelude.{Some, None}
@@ -11,85 +11,85 @@ use Rattle.capnp_format.specs.Word.{kind, offset_bits, is_double, far_position, 
 abbrev pub Segments : Type 0
 Segments = List (List ℕ)
 
--- The words of a segment, none where there is no such segment ("Messages").
+-- The words of segment s; none if there is no such segment ("Messages").
 abbrev pub segment : Segments → ℕ → List ℕ
 segment S s = get_or S s []
 
--- The word at a place, 0 where there is none ("Messages").
+-- The word at (s, p); 0 if there is none ("Messages").
 abbrev pub word_at : Segments → ℕ → ℕ → ℕ
 word_at S s p = get_or (segment S s) p 0
 
--- The n words from a place on, fewer where the segment ends before ("Messages").
+-- The n words from (s, p) on; fewer if the segment ends before ("Messages").
 abbrev pub words_at : Segments → ℕ → ℕ → ℕ → List ℕ
 words_at S s p n = take n (drop p (segment S s))
 
--- The words ws stand one behind the other from a place on ("Messages").
+-- The words from (s, p) on are ws ("Messages").
 abbrev pub HasWords : Segments → ℕ → ℕ → List ℕ → Type 0
 HasWords S s p ws = words_at S s p (length ws) ≡ ws
 
--- There is a word at this segment and position ("Messages").
+-- There is a word at (s, p) ("Messages").
 abbrev pub IsPlace : Segments → ℕ → ℕ → Type 0
 IsPlace S s p = p < length (segment S s)
 
--- Each word of the message is one of 64 bits ("Messages").
+-- Each word of the message has 64 bits ("Messages").
 abbrev pub AreWords : Segments → Type 0
 AreWords S = (s p : ℕ) → word_at S s p < 2 ^ 64
 
--- Each word of a segment is one of 64 bits.
+-- Each word of segment s has 64 bits.
 abbrev pub HasSmallWords : Segments → ℕ → Type 0
 HasSmallWords S s = (p : ℕ) → word_at S s p < 2 ^ 64
 
--- A message R has at least the segments of S, each at least as long.
+-- R has at least the segments of S, each at least as long.
 pub record Grows (S R : Segments) : Type 0 where
   pub segments : length S ≤ length R
   pub words : (u : ℕ) → length (segment S u) ≤ length (segment R u)
 
 -- What a pointer leads to: the word that describes the object (the pointer itself, or the pad or
--- tag of a far pointer), the segment and position where the object starts, and how many words of
--- landing pads were read ("Structs", "Lists", "Inter-Segment Pointers").
+-- tag of a far pointer), the segment and position where the object starts, and the number of words
+-- of landing pads that were read ("Structs", "Lists", "Inter-Segment Pointers").
 pub record Target : Type 0 where
   pub word : ℕ
   pub segment : ℕ
   pub start : ℕ
   pub pads : ℕ
 
--- What f makes of x, and None where there is no x.
+-- The result of f on x; None if there is no x.
 infixl 10 ◌>>=◌
 abbrev pub ◌>>=◌ : {A B : Type 0} → Option A → (A → Option B) → Option B
 (Some x) >>= f = f x
 None >>= f = None
 
--- x where the test passes, else None.
+-- x if the test b passes; otherwise None.
 abbrev pub given : {A : Type 0} → Bool → A → Option A
 given b x = if b then Some x else None
 
--- Where an offset, by its 30 bits, leads from position p of a segment of n words: it is signed and
--- counts from the word after the pointer, and the object may start anywhere from word 0 to the
--- segment's end, inclusive ("Structs").
+-- Where an offset with these 30 bits leads, from position p of a segment of n words. It is signed
+-- and counts from the word after the pointer. The object may start anywhere from word 0 to the end
+-- of the segment, inclusive ("Structs").
 abbrev pub offset_leads : ℕ → ℕ → ℕ → Option ℕ
 offset_leads n p bits =
     let there = p + 1 + bits in
     if nat_lt bits (2 ^ 29) then given (nat_le there n) there
     else given (nat_le (2 ^ 30) there && nat_le there (n + 2 ^ 30)) (there - 2 ^ 30)
 
--- Where a word x leads that is not a far pointer, and is read at a place after so many words of pads
--- ("Structs", "Lists").
+-- Where the word x at (s, p) leads, if x isn't a far pointer and `pads` words of landing pads were
+-- read before it ("Structs", "Lists").
 abbrev pub near : Segments → ℕ → ℕ → ℕ → ℕ → Option Target
 near S s p x pads = offset_leads (length (segment S s)) p (offset_bits x) >>= λ b.
     Some (record { word = x; segment = s; start = b; pads = pads })
 
--- The first word of the landing pad of the far pointer x, where it and n words behind it lie in
+-- The first word of the landing pad of the far pointer x, if it and the n words after it are inside
 -- their segment ("Inter-Segment Pointers").
 abbrev pub pad : Segments → ℕ → ℕ → Option ℕ
 pad S x n =
     given (nat_lt (far_position x + n) (length (segment S (upper_half x))))
     (word_at S (upper_half x) (far_position x))
 
--- Where the far pointer x leads ("Inter-Segment Pointers"). By one pad word: it is an ordinary
--- pointer, read at the pad's own place. By two: the first names segment and position of the object
--- in a far pointer's form, its kind and flag not being looked at; the second is a tag that
--- describes the object, its offset not being used. The segment that the first names has to exist.
--- Neither the pad of one word nor the tag may itself be a far pointer.
+-- Where the far pointer x leads ("Inter-Segment Pointers"). If its landing pad is one word, that is
+-- an ordinary pointer, read at the pad's own place. If it is two, the first names the segment and
+-- position of the object in the form of a far pointer, whose kind and flag are ignored; the second
+-- is a tag that describes the object, and its offset is ignored. The segment that the first names
+-- must exist. Neither the pad of one word nor the tag may itself be a far pointer.
 abbrev pub far : Segments → ℕ → ℕ → Option Target
 far S x zero =
     pad S x 0 >>= λ w.
@@ -100,7 +100,7 @@ far S x (suc _) =
     if nat_eq (kind w) 2 then None else given (nat_lt (upper_half f) (length S))
     (record { word = w; segment = upper_half f; start = far_position f; pads = 2 })
 
--- Where the word at a place leads, which is not zero ("Structs", "Lists", "Inter-Segment Pointers").
+-- Where the word at (s, p) leads, if it isn't zero ("Structs", "Lists", "Inter-Segment Pointers").
 abbrev pub leads : Segments → ℕ → ℕ → Option Target
 leads S s p =
     let x = word_at S s p in

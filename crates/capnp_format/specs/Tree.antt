@@ -1,6 +1,6 @@
--- The values that a message can hold, as trees. Where objects lie, in how many segments and by
--- which kind of pointer they are reached is no part of a value; the lengths of its data and pointer
--- sections are, until it is trimmed ("Canonicalization").
+-- The values that a message can hold, as trees. A value doesn't say where its objects are, in how
+-- many segments, or by which kind of pointer they are reached. It does say how long its data and
+-- pointer sections are, until it is trimmed ("Canonicalization").
 use Rattle.std.specs.Prelude.{◌≡◌, ◌⊎◌, ℕ, zero, suc, ◌+◌, max, List, [], ⊤}
 
 -- A value: the null pointer; a capability by its index; a struct by the words of its data section
@@ -26,18 +26,18 @@ mutual
     no_elements : Elements
     element : List ℕ → Trees → Elements → Elements
 
--- How many children ("Structs", "Lists").
+-- The number of children ("Structs", "Lists").
 abbrev pub count : Trees → ℕ
 count no_trees = 0
 count (tree t ts) = suc (count ts)
 
--- How many elements ("Lists").
+-- The number of elements ("Lists").
 abbrev pub element_count : Elements → ℕ
 element_count no_elements = 0
 element_count (element ws ts es) = suc (element_count es)
 
--- How many objects lie one inside the other, at most: what the nesting limit of a reader is
--- measured against. Null and a capability take none.
+-- The number of objects that are nested in each other, at most: the nesting limit of a reader
+-- applies to this. Null and a capability count 0.
 abbrev mutual
   pub depth : Tree → ℕ
   depth Null = 0
@@ -57,7 +57,7 @@ abbrev mutual
   depth_elements no_elements = 0
   depth_elements (element ws ts es) = max (depth_all ts) (depth_elements es)
 
--- How many capabilities a value has inside. Canonical form is for values without any
+-- The number of capabilities inside a value. Canonical form is for values without any
 -- ("Canonicalization").
 abbrev mutual
   pub capabilities : Tree → ℕ
@@ -68,12 +68,12 @@ abbrev mutual
   capabilities (Pointers ts) = capabilities_all ts
   capabilities (Structs d q es) = capabilities_elements es
 
-  -- Inside all children.
+  -- The number inside all children.
   pub capabilities_all : Trees → ℕ
   capabilities_all no_trees = 0
   capabilities_all (tree t ts) = capabilities t + capabilities_all ts
 
-  -- Inside the children of all elements.
+  -- The number inside the children of all elements.
   pub capabilities_elements : Elements → ℕ
   capabilities_elements no_elements = 0
   capabilities_elements (element ws ts es) = capabilities_all ts + capabilities_elements es
@@ -83,12 +83,12 @@ abbrev pub blank : ℕ → Elements
 blank zero = no_elements
 blank (suc n) = element [] no_trees (blank n)
 
--- One of the elements has these data words and these children.
+-- One of the elements has the data words vs and the children us.
 abbrev pub HasElement : Elements → List ℕ → Trees → Type 0
 HasElement no_elements vs us = ⊥
 HasElement (element ws ts es) vs us = ((vs ≡ ws) × (us ≡ ts)) ⊎ HasElement es vs us
 
--- From the n-th on all children are Null.
+-- All children from index n on are Null.
 abbrev pub AreNullFrom : ℕ → Trees → Type 0
 AreNullFrom n no_trees = ⊤
 AreNullFrom zero (tree t ts) = (t ≡ Null) × AreNullFrom zero ts

@@ -7,13 +7,16 @@ use Rattle.capnp_format.specs.Tree.{Tree, Null, Capability, Struct, Flat, Pointe
 use Rattle.capnp_format.specs.Tree.{no_trees, tree, Elements, no_elements, element, count}
 use Rattle.capnp_format.specs.Tree.{element_count}
 
--- Each number is below a limit ("Lists").
+-- Each number is below the limit ("Lists").
 abbrev pub AreBelow : ℕ → List ℕ → Type 0
 AreBelow limit xs = AllByRecursion (λ x. x < limit) xs
 
--- A capability index of 32 bits; data words and pointers of 16 bits each; a list of fewer than 2^29
--- elements that each fit their bits; a list of structs of fewer than 2^30 elements that take fewer
--- than 2^29 words together ("Structs", "Lists", "Capabilities (Interfaces)").
+-- A tree is a value if each of its parts fits. A capability has an index of 32 bits. A struct has
+-- fewer than 2^16 data words, of 64 bits, and fewer than 2^16 children. A list of numbers has an
+-- element size from 0 to 5, and fewer than 2^29 elements, which fit the bits of that size. A list
+-- of pointers has fewer than 2^29 children. A list of structs has fewer than 2^16 data words and
+-- pointers for each element, and fewer than 2^30 elements, which take fewer than 2^29 words
+-- together. All children are values ("Structs", "Lists", "Capabilities (Interfaces)").
 abbrev mutual
   pub IsValue : Tree → Type 0
   IsValue Null = ⊤
@@ -30,7 +33,7 @@ abbrev mutual
   AreValues no_trees = ⊤
   AreValues (tree t ts) = IsValue t × AreValues ts
 
-  -- Each element is of d data words and q children, which are values.
+  -- Each element has d data words of 64 bits and q children, which are values.
   pub AreElements : ℕ → ℕ → Elements → Type 0
   AreElements d q no_elements = ⊤
   AreElements d q (element ws ts es) =

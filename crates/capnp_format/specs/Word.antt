@@ -1,31 +1,31 @@
 -- The fields of a pointer word, and the words of pointers. A word is 64 bits, here a number below
 -- 2^64; its bits are those of the eight bytes in little-endian order. The forms are those of the
 -- encoding specification's sections "Structs", "Lists", "Inter-Segment Pointers" and "Capabilities
--- (Interfaces)": A is bits 0 and 1, the kind; B, C and D are the fields behind it. Each field is a
--- division and a remainder, so `x / 2 ^ 32 % 2 ^ 16` are bits 32 to 47.
+-- (Interfaces)": A is bits 0 and 1, the kind; B, C and D are the fields after it. Each field is a
+-- division and a remainder: `x / 2 ^ 32 % 2 ^ 16` is bits 32 to 47.
 use Rattle.std.specs.Prelude.{ℕ, ℤ, pos, negsuc, suc, if◌then◌else◌, nat_lt, ◌+◌, ◌-◌, ◌*◌, ◌/◌}
 use Rattle.std.specs.Prelude.{◌%◌, ◌^◌, ◌<◌}
 
--- Bits 0 and 1: 0 a struct, 1 a list, 2 a far pointer, 3 a capability or an unknown pointer
+-- Bits 0 and 1: 0 is a struct, 1 a list, 2 a far pointer, 3 a capability or an unknown pointer
 -- ("Structs", "Lists", "Inter-Segment Pointers", "Capabilities (Interfaces)").
 abbrev pub kind : ℕ → ℕ
 kind x = x % 4
 
--- Bits 2 to 31, unsigned as they stand: of a struct or list pointer the signed offset B in two's
--- complement, of a list's tag the element count ("Structs", "Lists").
+-- Bits 2 to 31, as an unsigned number. In a struct or list pointer they are the signed offset B in
+-- two's complement; in a list's tag, the element count ("Structs", "Lists").
 abbrev pub offset_bits : ℕ → ℕ
 offset_bits x = x / 4 % 2 ^ 30
 
--- The number with a sign that 30 bits stand for, in two's complement ("Structs", "Lists").
+-- The signed number that 30 bits encode in two's complement ("Structs", "Lists").
 abbrev pub signed : ℕ → ℤ
 signed bits = if nat_lt bits (2 ^ 29) then pos bits else negsuc (2 ^ 30 - suc bits)
 
--- The 30 bits that stand for a number with a sign.
+-- The 30 bits that encode a signed number.
 abbrev pub offset_field : ℤ → ℕ
 offset_field (pos n) = n
 offset_field (negsuc n) = 2 ^ 30 - suc n
 
--- 30 bits have room for an offset: it is from -2^29 to 2^29 - 1.
+-- 30 bits have room for this offset: it is from -2^29 to 2^29 - 1.
 abbrev pub IsOffset : ℤ → Type 0
 IsOffset (pos n) = n < 2 ^ 29
 IsOffset (negsuc n) = n < 2 ^ 29
@@ -34,39 +34,39 @@ IsOffset (negsuc n) = n < 2 ^ 29
 abbrev pub lower_half : ℕ → ℕ
 lower_half x = x % 2 ^ 32
 
--- Bits 32 to 63: of a far pointer the segment number ("Inter-Segment Pointers"), of a capability
+-- Bits 32 to 63: in a far pointer the segment number ("Inter-Segment Pointers"), in a capability
 -- its index ("Capabilities (Interfaces)").
 abbrev pub upper_half : ℕ → ℕ
 upper_half x = x / 2 ^ 32
 
--- Of a struct pointer or a tag: the words of the data section ("Structs").
+-- In a struct pointer or a tag: the words of the data section ("Structs").
 abbrev pub data_words : ℕ → ℕ
 data_words x = x / 2 ^ 32 % 2 ^ 16
 
--- Of a struct pointer or a tag: the words of the pointer section ("Structs").
+-- In a struct pointer or a tag: the words of the pointer section ("Structs").
 abbrev pub pointer_count : ℕ → ℕ
 pointer_count x = x / 2 ^ 48
 
--- Of a list pointer: the number of the element size ("Lists"). 0 void, 1 one bit, 2 one byte, 3 two
--- bytes, 4 four bytes, 5 eight bytes, 6 pointer, 7 structs behind a tag ("composite").
+-- In a list pointer: the number of the element size ("Lists"). 0 is void, 1 one bit, 2 one byte, 3
+-- two bytes, 4 four bytes, 5 eight bytes, 6 pointer, 7 structs after a tag ("composite").
 abbrev pub element_size : ℕ → ℕ
 element_size x = x / 2 ^ 32 % 8
 
--- Of a list pointer: how many elements, or for structs how many words they take without the tag
--- ("Lists").
+-- In a list pointer: the number of elements; for structs, the number of words that they take
+-- without the tag ("Lists").
 abbrev pub list_count : ℕ → ℕ
 list_count x = x / 2 ^ 35
 
--- Of a far pointer: 1 where its landing pad is two words, else 0 ("Inter-Segment Pointers").
+-- In a far pointer: 1 if its landing pad is two words, otherwise 0 ("Inter-Segment Pointers").
 abbrev pub is_double : ℕ → ℕ
 is_double x = x / 4 % 2
 
--- Of a far pointer: the word position of its landing pad ("Inter-Segment Pointers").
+-- In a far pointer: the word position of its landing pad ("Inter-Segment Pointers").
 abbrev pub far_position : ℕ → ℕ
 far_position x = x / 8 % 2 ^ 29
 
--- A struct pointer, by the 30 bits of its offset, its data words and its pointers ("Structs"). With
--- a count in place of the offset it is the tag of a list of structs ("Lists").
+-- A struct pointer, by the 30 bits of its offset, its data words d and its pointers q ("Structs").
+-- With a count in place of the offset it is the tag of a list of structs ("Lists").
 abbrev pub struct_word : ℕ → ℕ → ℕ → ℕ
 struct_word offset d q = 4 * offset + 2 ^ 32 * d + 2 ^ 48 * q
 

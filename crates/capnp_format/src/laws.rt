@@ -1,6 +1,7 @@
-//! Laws of the format's definitions. Each function does nothing: its contract is the law, proved for all messages and
-//! values. The definitions stand in `specs/`, and docs/FORMAT.md reads them in order. Where a law speaks of values it
-//! takes them as the format has them (`IsValue`), and where it speaks of words as numbers of 64 bits (`AreWords`).
+//! Laws of the format's definitions. Each function does nothing: its contract is the law, proved
+//! for all messages and values. The definitions are in `specs/`, and docs/FORMAT.md goes through
+//! them in order. Laws about values assume values of the format (`IsValue`), and laws about words
+//! assume numbers of 64 bits (`AreWords`).
 
 mod examples;
 
@@ -17,21 +18,23 @@ ghost use Rattle.capnp_format.specs.Forest.{times, cover, ArenaHolds};
 
 pub use examples::worked_examples;
 
-/// At a place of a message there is at most one value and one cost, whatever the nesting limit.
+/// A place of a message has at most one value and one cost, whatever the nesting limit.
 #[tactic(auto, using(crate::proofs::Levels::one_value))]
 pub fn one_meaning()
     ensures { (S : Segments) (n m s p : ℕ) (t u : Tree) (c e : ℕ) → Means S n s p t c
         → Means S m s p u e → (t ≡ u) × (c ≡ e) }
 {}
 
-/// What a place means within some levels it means within exactly the levels from the value's depth on.
+/// What a place means within some levels, it means within as many levels as the value's depth or
+/// more, and within no fewer.
 #[tactic(auto, using(crate::proofs::LawLemmas::levels_from_depth))]
 pub fn levels_from_depth()
     ensures { (S : Segments) (n m s p : ℕ) (t : Tree) (c : ℕ) → Means S n s p t c
         → Means S m s p t c ↔ (depth t ≤ m) }
 {}
 
-/// Reading by the function `decode` and the relation `Means` agree, both where a value is found and where none is.
+/// Reading by the function `decode` and the relation `Means` agree, both if a value is found and if
+/// none is.
 #[tactic(auto, using(crate::proofs::LawLemmas::decode_agrees, crate::proofs::LawLemmas::decode_refuses))]
 pub fn decode_agrees()
     ensures found { (S : Segments) (n s p : ℕ) (t : Tree) (c : ℕ)
@@ -40,7 +43,8 @@ pub fn decode_agrees()
         → (decode S n s p ≡ None) ↔ ((t : Tree) (c : ℕ) → Means S n s p t c → ⊥) }
 {}
 
-/// What words of 64 bits mean is a value of the format: each size in it fits the bits of its pointer word.
+/// What words of 64 bits mean is a value of the format: each size in it fits the bits of its
+/// pointer word.
 #[tactic(auto, using(crate::proofs::Bounds::means_value))]
 pub fn meaning_is_value()
     ensures { (S : Segments) (n s p : ℕ) (t : Tree) (c : ℕ) → AreWords S → Means S n s p t c
@@ -53,8 +57,8 @@ pub fn body_length()
     ensures { (t : Tree) → IsValue t → length (body t) ≡ word_count t }
 {}
 
-/// Canonical words mean the value that they are the words of, whatever follows them, at the cost that is the value's
-/// least; and so wherever they stand, in any segment in which the head is a position or the end.
+/// The canonical words of a value mean that value, whatever follows them, at the value's least
+/// cost; and do so at any place, in any segment in which the head is a position or the end.
 #[tactic(auto, using(crate::proofs::LawLemmas::canonical_words_mean, crate::proofs::Unique::stands_means))]
 pub fn canonical_words_mean()
     ensures alone { (t : Tree) (more : List ℕ) (n : ℕ) → IsValue t → IsEncodable t → depth t ≤ n
@@ -77,7 +81,7 @@ pub fn encodings_differ()
         → encoding t ≡ encoding u → t ≡ u }
 {}
 
-/// No value's canonical words are a proper beginning of those of another one, or of its own.
+/// No value's canonical words are a proper prefix of those of another one, or of its own.
 #[tactic(auto, using(crate::proofs::LawLemmas::no_encoding_begins))]
 pub fn no_encoding_begins_another()
     ensures { (t u : Tree) (more : List ℕ) → IsValue t → IsEncodable t → IsValue u → IsEncodable u
@@ -92,14 +96,14 @@ pub fn same_canonical_words()
         → (encoding (trim t) ≡ encoding (trim v)) ↔ (trim t ≡ trim v) }
 {}
 
-/// Where a value has fewer than 2^29 words all offsets inside it fit their bits.
+/// If a value has fewer than 2^29 words, all offsets inside it fit their bits.
 #[tactic(auto, using(crate::proofs::Trimmed::small_fits))]
 pub fn small_is_encodable()
     ensures { (t : Tree) → IsValue t → word_count t < 2 ^ 29 → IsEncodable t }
 {}
 
-/// A change outside of the words that a value covers, also behind the ends of segments, changes neither what its place
-/// means nor what it covers.
+/// A change outside of the words that a value covers, also one after the ends of segments, changes
+/// neither what its place means nor what it covers.
 #[tactic(auto, using(crate::proofs::Frame::frame))]
 pub fn others_may_change()
     ensures { (S R : Segments) (n s p : ℕ) (t : Tree) (c : ℕ) → Grows S R
@@ -108,8 +112,8 @@ pub fn others_may_change()
         → Means S n s p t c → Means R n s p t c × (cover R s p t ≡ cover S s p t) }
 {}
 
-/// Canonical words cost no more than their source, and are no more than the words that the source cost, the root
-/// pointer apart.
+/// Canonical words cost no more than their source; and without the root pointer, they are no more
+/// than the words that the source cost.
 #[tactic(auto, using(crate::proofs::LawLemmas::canonical_cost, crate::proofs::LawLemmas::canonical_length))]
 pub fn canonical_words_are_cheap()
     ensures cost { (S : Segments) (n s p : ℕ) (t : Tree) (c : ℕ) → AreWords S → Means S n s p t c
@@ -118,8 +122,8 @@ pub fn canonical_words_are_cheap()
         → length (body (trim t)) ≤ c }
 {}
 
-/// Trimming a value twice is trimming it once, and gives a value of no more words, with the same levels and
-/// capabilities.
+/// Trimming a value twice is trimming it once, and results in a value of no more words, with the
+/// same levels and capabilities.
 #[tactic(auto, using(crate::proofs::LawLemmas::trim_twice, crate::proofs::LawLemmas::trim_keeps))]
 pub fn trimming()
     ensures twice { (t : Tree) → IsTrimmed (trim t) }
@@ -129,7 +133,8 @@ pub fn trimming()
         × (capabilities (trim t) ≡ capabilities t) }
 {}
 
-/// Reading canonical words, whatever follows them, and making them canonical again gives the same words.
+/// Reading canonical words, whatever follows them, and making them canonical again results in the
+/// same words.
 #[tactic(auto, using(crate::proofs::LawLemmas::canonical_again))]
 pub fn canonical_again()
     ensures { (t u : Tree) (more : List ℕ) (n c : ℕ) → IsValue t → IsEncodable (trim t)
@@ -137,8 +142,8 @@ pub fn canonical_again()
         → encoding (trim u) ≡ encoding (trim t) }
 {}
 
-/// What trimming keeps of each section is the least that loses only zero words and null pointers; in a list of structs
-/// it is the least for all elements together.
+/// What trimming keeps of each section is the least that loses only zero words and null pointers;
+/// in a list of structs it is the least for all elements together.
 #[tactic(auto, using(crate::proofs::LawLemmas::least_children))]
 pub fn least_widths()
     ensures words { (n : ℕ) (ws : List ℕ)
@@ -150,7 +155,8 @@ pub fn least_widths()
         ↔ ((ws : List ℕ) (ts : Trees) → HasElement es ws ts → AreNullFrom q ts) }
 {}
 
-/// The words of a list are its bytes in order, the lowest first, and its elements are the bits of these in order.
+/// The words of a list are its bytes in order, the lowest first, and its elements are the bits of
+/// these in order.
 #[tactic(auto, using(crate::proofs::LawLemmas::element_is_bits))]
 pub fn elements_are_bits()
     ensures bytes { (n : ℕ) (bytes : List ℕ) → length bytes ≡ 8 * n
@@ -165,18 +171,18 @@ pub fn one_arena_value()
     ensures { (S : Segments) (t u : Tree) → ArenaHolds S t → ArenaHolds S u → t ≡ u }
 {}
 
-/// What is found canonical at a message's root is what a canonical copy makes of it: where canonical words stand at the
-/// root with the head right behind it, whatever the root means within some levels has no capability, and its canonical
-/// words are a beginning of the first segment.
+/// What is found canonical at a message's root is what a canonical copy makes of it: if canonical
+/// words are at the root with the head right after it, then whatever the root means within some
+/// levels has no capability, and its canonical words are a prefix of the first segment.
 #[tactic(auto, using(crate::proofs::Agreements::tested_is_copied))]
 pub fn tested_is_copied()
     ensures { (S : Segments) (n c : ℕ) (t u : Tree) → Stands S 0 0 1 t → Means S n 0 0 u c
         → (capabilities u ≡ 0) × (more : List ℕ) × (segment S 0 ≡ encoding (trim u) ++ more) }
 {}
 
-/// What a canonical copy writes of a value that is read within n levels at a cost of c is found canonical, whatever
-/// follows it, at no more cost and within no more levels (`found`); and a canonical copy of it is the same words, of a
-/// value without capabilities (`again`).
+/// If a value is read within n levels at a cost of c, what a canonical copy writes of it is found
+/// canonical, whatever follows it, at no more cost and within no more levels (`found`); and a
+/// canonical copy of that is the same words, of a value without capabilities (`again`).
 #[tactic(auto, using(crate::proofs::Agreements::copied_again))]
 pub fn copied_is_tested()
     ensures found { (S : Segments) (n s p c : ℕ) (t : Tree) (more : List ℕ) → AreWords S

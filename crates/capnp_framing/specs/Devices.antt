@@ -1,4 +1,4 @@
--- What one read of an input and one write to an output do, as the traits say it.
+-- What one read of an input and one write to an output do, as the traits state it.
 use Rattle.std.specs.Prelude.{◌≡◌, ◌<◌, ◌≤◌, ℕ, List, length, Result, IfOk, OnOk, OnErr, true}
 use Rattle.std.specs.Io.KnownBytes.{ReadConsumes, WriteAppends}
 use Rattle.capnp_framing.specs.Wholeness.{KeepsWhole}
@@ -6,7 +6,7 @@ use Rattle.capnp_framing.specs.declared.devices.Input as input
 use Rattle.capnp_framing.specs.declared.devices.Output as output
 
 module _ {R : Type 0} (g : input.Ghosts R) where
-  -- A read has put bytes of an input to the front of room for them.
+  -- A read has moved bytes from the front of an input to the front of `room`.
   pub record ReadGives {E : Type 0} (result : Result ℕ E) (from to : R) (room : List ℕ) : Type 0 where
     pub bound : IfOk result (λ n. n ≤ length room)
     pub bytes : ReadConsumes (g.remaining from) (g.remaining to) result room
@@ -15,7 +15,7 @@ module _ {R : Type 0} (g : input.Ghosts R) where
     pub fails : OnErr result (g.has_failed to ≡ true)
 
 module _ {W : Type 0} (g : output.Ghosts W) where
-  -- A write has had an output take bytes from the front of others.
+  -- An output has taken bytes from the front of `others`.
   pub record WriteTakes {E : Type 0} (result : Result ℕ E) (from to : W) (others : List ℕ) : Type 0 where
     pub bound : IfOk result (λ n. n ≤ length others)
     pub some : 0 < length others → IfOk result (λ n. 0 < n)

@@ -1,13 +1,13 @@
--- A message as a stream of bytes ("Serialization Over a Stream"): the number of segments less one,
--- the length of each segment in words, four bytes each, the lowest first; four bytes of padding
--- behind an even number of lengths, so that the words start at a multiple of eight bytes; and then
--- the words of the segments in order, eight bytes each.
+-- A message as a stream of bytes ("Serialization Over a Stream"). First the number of segments less
+-- one and the length of each segment in words, four bytes each, the lowest first. After an even
+-- number of lengths follow four bytes of padding, so that the words start at a multiple of eight
+-- bytes. Then come the words of the segments in order, eight bytes each.
 use Rattle.std.specs.Prelude.{◌≡◌, ℕ, ◌+◌, ◌-◌, ◌*◌, ◌%◌, ◌^◌, ◌<◌, ◌≤◌, List, [], ◌∷◌, ◌++◌, All}
 use Rattle.std.specs.Prelude.{length, replicate}
 use Rattle.std.specs.Int.{to_le_bytes, w32, w64}
 use Rattle.capnp_format.specs.Segments.{Segments}
 
--- The bytes of words, one behind the other.
+-- The bytes of consecutive words.
 abbrev pub bytes_of_words : List ℕ → List ℕ
 bytes_of_words [] = []
 bytes_of_words (w ∷ ws) = to_le_bytes w64 w ++ bytes_of_words ws
@@ -22,7 +22,7 @@ abbrev pub contents : Segments → List ℕ
 contents [] = []
 contents (ws ∷ S) = bytes_of_words ws ++ contents S
 
--- How many bytes of padding stand behind so many lengths.
+-- The number of bytes of padding after n lengths.
 abbrev pub padding_size : ℕ → ℕ
 padding_size n = 4 * ((n + 1) % 2)
 
@@ -30,7 +30,7 @@ padding_size n = 4 * ((n + 1) % 2)
 abbrev pub max_frame_segments : ℕ
 max_frame_segments = 512
 
--- Each word is one of 64 bits.
+-- Each word has 64 bits.
 abbrev pub AreSegmentWords : List ℕ → Type 0
 AreSegmentWords ws = All (λ w. w < 2 ^ 64) ws
 
@@ -45,7 +45,7 @@ pub record CanBeFramed (S : Segments) : Type 0 where
 abbrev pub frame_with : List ℕ → Segments → List ℕ
 frame_with padding S = to_le_bytes w32 (length S - 1) ++ (lengths S ++ (padding ++ contents S))
 
--- Bytes are those of a message. The padding may hold any bytes.
+-- The bytes are those of S. The padding may hold any bytes.
 pub record IsFrameOf (S : Segments) (bytes : List ℕ) : Type 0 where
   pub message : CanBeFramed S
   pub padding : List ℕ

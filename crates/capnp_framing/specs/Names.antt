@@ -1,4 +1,4 @@
--- The names of what is refused of frames, and their texts.
+-- The names of refusals of frames, and their texts.
 use Rattle.std.specs.Prelude.{ℕ, List, codes, ◌++◌}
 use Rattle.std.specs.Fmt.{decimal}
 use Rattle.capnp_framing.specs.declared.framing.frame_error.FrameError.{FrameError}
@@ -10,7 +10,7 @@ use Rattle.capnp_framing.specs.declared.framing.frame_error.FrameError.TheVarian
 use Rattle.capnp_framing.specs.declared.framing.frame_error.FrameError.TheVariants.{WriteFailed}
 use Rattle.capnp_framing.specs.declared.framing.frame_error.FrameError.TheVariants.{AllocationFailed}
 
--- the name of a refusal
+-- The name of a refusal.
 abbrev pub frame_error_name : FrameError → List ℕ
 frame_error_name NoSegments = codes "NoSegments"
 frame_error_name (TooManySegments _) = codes "TooManySegments"
@@ -20,7 +20,7 @@ frame_error_name ReadFailed = codes "ReadFailed"
 frame_error_name WriteFailed = codes "WriteFailed"
 frame_error_name AllocationFailed = codes "AllocationFailed"
 
--- the text that `{}` writes
+-- The text that `{}` writes.
 abbrev pub frame_error_text : FrameError → List ℕ
 frame_error_text (TooManySegments n) = codes "TooManySegments(" ++ decimal n ++ codes ")"
 frame_error_text (MessageTooLong n) = codes "MessageTooLong(" ++ decimal n ++ codes ")"

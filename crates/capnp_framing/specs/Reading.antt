@@ -1,4 +1,4 @@
--- Why bytes, or segments, make no frame.
+-- Why bytes, or segments, aren't a frame.
 use Rattle.std.specs.Prelude.{◌≡◌, ◌⊎◌, ℕ, ◌+◌, ◌*◌, ◌<◌, ◌≤◌, List, [], ◌∷◌, length, take, drop}
 use Rattle.std.specs.Prelude.{zero, suc, false, true, Result, IfSome, OnOk, ⊤}
 use Rattle.std.specs.Int.{from_le_bytes, w32}
@@ -15,28 +15,28 @@ use Rattle.capnp_framing.specs.declared.framing.frame_error.FrameError.TheVarian
 use Rattle.capnp_framing.specs.declared.framing.frame_error.FrameError.TheVariants.{ReadFailed}
 use Rattle.capnp_framing.specs.declared.framing.frame_error.FrameError.TheVariants.{AllocationFailed}
 
--- The refusal e of n segments, which make no frame: there are none, or too many.
+-- Why n segments don't make a frame: e says that there are none, or too many.
 abbrev pub IsRefusedNumber : ℕ → FrameError → Type 0
 IsRefusedNumber n e = ((e ≡ NoSegments) × (n ≡ 0)) ⊎ ((e ≡ TooManySegments n) × (max_frame_segments < n))
 
--- The number of segments that the first bytes tell.
+-- The number of segments that the first bytes state.
 abbrev pub segments_told : List ℕ → ℕ
 segments_told bytes = from_le_bytes w32 (take 4 bytes) + 1
 
--- How many bytes stand before the words of so many segments.
+-- The number of bytes before the words of n segments.
 abbrev pub table_size : ℕ → ℕ
 table_size n = 4 + 4 * n + padding_size n
 
--- The greatest length in words that four bytes tell.
+-- The greatest length in words that four bytes can state.
 abbrev pub max_length : ℕ
 max_length = 4294967295
 
--- The sum of the n lengths that bytes tell.
+-- The sum of the n lengths that the bytes state.
 abbrev pub words_told : ℕ → List ℕ → ℕ
 words_told zero bytes = 0
 words_told (suc n) bytes = from_le_bytes w32 (take 4 bytes) + words_told n (drop 4 bytes)
 
--- How many words a message has.
+-- The number of words of a message.
 abbrev pub total : Segments → ℕ
 total [] = 0
 total (ws ∷ S) = length ws + total S
@@ -47,12 +47,12 @@ pub record HasTable (bytes : List ℕ) : Type 0 where
   pub few : segments_told bytes ≤ max_frame_segments
   pub table : table_size (segments_told bytes) ≤ length bytes
 
--- How many words the table tells.
+-- The number of words that the table states.
 abbrev pub words_in_table : List ℕ → ℕ
 words_in_table bytes = words_told (segments_told bytes) (drop 4 bytes)
 
--- Some bytes begin with no frame of at most `most` words, for the reason e: the first that applies, in
--- this order.
+-- The bytes, of which there are some, don't begin with a frame of at most `most` words, for the
+-- reason e: the first that applies, in this order.
 pub data NoFrame (bytes : List ℕ) (most : ℕ) (e : FrameError) : Type 0 where
   count_cut : 0 < length bytes → length bytes < 4 → e ≡ Truncated → NoFrame bytes most e
   too_many : 4 ≤ length bytes → max_frame_segments < segments_told bytes →
@@ -66,14 +66,14 @@ pub data NoFrame (bytes : List ℕ) (most : ℕ) (e : FrameError) : Type 0 where
       NoFrame bytes most e
 
 module _ {R : Type 0} (g : Ghosts R) where
-  -- What a read that gives something leaves of an input: it works, and what is known of whether it
-  -- ends whole stays so.
+  -- What a successful read leaves of an input: it works, and if it was known whether the input ends
+  -- whole, that is still known and the same.
   pub record KeepsInput {A E : Type 0} (result : Result A E) (from to : R) : Type 0 where
     pub whole : OnOk result (KeepsWhole (g.ends_whole from) (g.ends_whole to))
     pub works : OnOk result (g.has_failed to ≡ false)
 
-  -- Of n bytes that were to be read not all came, for the reason e: there was no memory for them,
-  -- the input ended before, or it failed, and then there is no other reason.
+  -- Not all of the n bytes were read, for the reason e: there was no memory for them; or the input
+  -- ended before; or it failed, which excludes every other reason.
   pub record WhyUnread (from to : R) (n : ℕ) (e : FrameError) : Type 0 where
     pub why : (e ≡ AllocationFailed) ⊎
         ((e ≡ Truncated) × IfSome (g.remaining from) (λ bytes. length bytes < n)) ⊎
@@ -81,15 +81,14 @@ module _ {R : Type 0} (g : Ghosts R) where
     pub failed : g.has_failed to ≡ true → e ≡ ReadFailed
     pub cut : e ≡ Truncated → IsAtEnd (g.remaining to)
 
-  -- A frame of a message was read from the front of an input, and what stands behind it is left.
+  -- A frame of S was read from the front of an input, and what comes after it is left.
   pub record IsFrameRead (from to : R) (S : Segments) : Type 0 where
     pub bytes : List ℕ
     pub consumed : Consumes (g.remaining from) (g.remaining to) bytes
     pub framed : IsFrameOf S bytes
 
-  -- What a refusal has taken from the front of an input: the number of segments where there are too
-  -- many, the whole table where it tells too many words, and all that was there where it was cut
-  -- short.
+  -- What a refusal has taken from the front of the input: the number of segments if there are too
+  -- many; the whole table if it states too many words; all that was there if it was cut short.
   abbrev pub HasTaken : R → R → FrameError → Type 0
   HasTaken from to (TooManySegments n) =
       (bytes : List ℕ) × (length bytes ≡ 4) × Consumes (g.remaining from) (g.remaining to) bytes
@@ -99,9 +98,9 @@ module _ {R : Type 0} (g : Ghosts R) where
   HasTaken from to Truncated = IsAtEnd (g.remaining to)
   HasTaken from to _ = ⊤
 
-  -- No frame of at most so many words was read, for the reason e: there was no memory for it, the
-  -- input failed, and then there is no other reason, or it begins with no frame; and what was taken
-  -- of it.
+  -- No frame of at most `most` words was read, for the reason e: there was no memory for it; or the
+  -- input failed, which excludes every other reason; or it doesn't begin with a frame. Also states
+  -- what was taken of it.
   pub record NoFrameRead (from to : R) (most : ℕ) (e : FrameError) : Type 0 where
     pub why : (e ≡ AllocationFailed) ⊎ ((e ≡ ReadFailed) × (g.has_failed to ≡ true)) ⊎
         IfSome (g.remaining from) (λ bytes. NoFrame bytes most e)

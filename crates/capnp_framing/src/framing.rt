@@ -14,5 +14,5 @@ pub use reading::{read, read_into, read_into_with};
 pub use segment::{read_segment_into, read_segment_into_with};
 pub use writing::write;
 
-/// The greatest number of segments of a frame, 512. The format itself has room for 2^32.
+/// The most segments that a frame may have, 512. The format itself has room for 2^32.
 pub const MAX_SEGMENTS: usize = 512;

@@ -1,5 +1,5 @@
-//! What frames tell beyond one call. Each function does nothing: its contract is the law, proved for all messages
-//! ("Serialization Over a Stream").
+//! Laws of frames beyond one call ("Serialization Over a Stream"). Each function does nothing: its
+//! contract is the law, proved for all messages.
 
 ghost use Rattle.std.specs.Prelude.{◌≡◌, ℕ, ◌≤◌, List, [], ◌∷◌, ◌++◌, length};
 ghost use Rattle.capnp_format.specs.Bytes.{message};
@@ -9,8 +9,8 @@ ghost use Rattle.capnp_framing.specs.Frames.{AreSegmentWords, CanBeFramed, IsFra
 ghost use Rattle.capnp_framing.specs.Reading.{NoFrame, total};
 ghost use Rattle.capnp_framing.specs.declared.framing.frame_error.FrameError.{FrameError};
 
-/// Where two frames begin the same bytes they are one, of one message: bytes are a frame of one message at most, and no
-/// frame begins another one.
+/// If two frames begin the same bytes, they are equal, and are frames of the same message. So bytes
+/// are a frame of at most one message, and no frame begins another one.
 pub fn one_frame()
     ensures begins { (S R : Segments) (a b rest more : List ℕ) → IsFrameOf S a → IsFrameOf R b
         → a ++ rest ≡ b ++ more → (S ≡ R) × (a ≡ b) × (rest ≡ more) }
@@ -18,8 +18,8 @@ pub fn one_frame()
         → S ≡ R }
 {}
 
-/// What is written for a message is a frame of it, as long as any other frame of it, whatever that one's padding holds,
-/// and a frame of no other message.
+/// What is written for a message is a frame of it, as long as any other frame of it, whatever that
+/// one's padding holds, and a frame of no other message.
 pub fn written_frames()
     ensures framed { (S : Segments) → CanBeFramed S → IsFrameOf S (frame S) }
     ensures long { (S : Segments) (bytes : List ℕ) → IsFrameOf S bytes
@@ -27,14 +27,14 @@ pub fn written_frames()
     ensures same { (S R : Segments) → CanBeFramed S → CanBeFramed R → frame S ≡ frame R → S ≡ R }
 {}
 
-/// A frame of at most so many words is refused for nothing that it holds, whatever stands behind it.
+/// A frame of no more words than allowed is never refused for its contents, whatever follows it.
 pub fn frame_is_read()
     ensures { (S : Segments) (bytes rest : List ℕ) (most : ℕ) (e : FrameError) → IsFrameOf S bytes
         → total S ≤ most → NoFrame (bytes ++ rest) most e → ⊥ }
 {}
 
-/// The bytes of the words of a segment are its bare words, where so many are allowed: they mean the message of that
-/// segment alone. And whole words, where so many are allowed, are refused for nothing that they hold.
+/// The bytes of a segment's words are its bare words, if as many are allowed: they mean the message
+/// of that segment only. Whole words, if as many are allowed, are never refused for their contents.
 pub fn bare_words()
     ensures same { (ws : List ℕ) (most : ℕ) → AreSegmentWords ws → length ws ≤ most_bare most
         → AreBareWords (bytes_of_words ws) most × (message (bytes_of_words ws ∷ []) ≡ ws ∷ []) }

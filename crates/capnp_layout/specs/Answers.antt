@@ -1,4 +1,4 @@
--- What the program says of a message, and why it refuses one.
+-- What the program says about a message, and why it refuses one.
 use Rattle.std.specs.Prelude.{◌≡◌, ◌⊎◌, ℕ, ◌+◌, ◌-◌, ◌^◌, ◌≤◌, List, [], ◌∷◌, ◌++◌, Bool, true}
 use Rattle.std.specs.Prelude.{false}
 use Rattle.std.specs.Int.{to_le_bytes, w64}
@@ -19,18 +19,19 @@ use Rattle.capnp_pointers.specs.Checking.{progress, TestStops}
 use Rattle.capnp_messages.specs.Roots.{CoversRoot}
 use Rattle.capnp_messages.specs.Messages.{RefusesAt, RefusesCanon, RefusesSize, left_of, root_within}
 
--- the bytes of a word, the lowest first, as lower case hex digits
+-- The bytes of a word, the lowest first, as lower case hex digits.
 abbrev pub word_digits : ℕ → List ℕ
 word_digits w = encode_lower (to_le_bytes w64 w)
 
--- the digits of words, one behind the other
+-- The digits of consecutive words.
 unfoldable pub digits_of : List ℕ → List ℕ
 digits_of [] = []
 digits_of (w ∷ ws) = word_digits w ++ digits_of ws
 
--- The test of a message says that canonical words stand at its root, the first object right behind
--- the root pointer: of a value within the limits of a reader's options, which cover one word more for
--- the root pointer. Or it says that none stand there, where the limits cover that word.
+-- The answer of the test of S. `true`: canonical words of a value are at its root, with the first
+-- object directly after the root pointer, and the value is within the limits, which also cover one
+-- word for the root pointer. `false`: there are no such words, and the limits cover the word of the
+-- root pointer.
 abbrev pub CheckOf : Segments → ReaderOptions → Bool → Type 0
 CheckOf S options true =
     (t : Tree) × Stands S 0 0 1 t × (depth t ≤ levels options.nesting_limit)
@@ -38,8 +39,8 @@ CheckOf S options true =
 CheckOf S options false =
     CoversRoot S options.traversal_limit_in_words × ((t : Tree) → Stands S 0 0 1 t → ⊥)
 
--- A command refuses a message by the name k: its canonical copy is refused; the test for canonical
--- form at its root stops; its size is refused.
+-- A command refuses the message S with k: its canonical copy is refused; the test for canonical
+-- form at its root stops; or its size is refused.
 abbrev pub RefusesCommand : Args → Segments → ErrorKind → Type 0
 RefusesCommand (Canon options) S k = RefusesCanon S options k
 RefusesCommand (Check options) S k =
@@ -49,7 +50,7 @@ RefusesCommand (Size options) S k = RefusesSize S options k
 RefusesCommand (FramedCanon options) S k = RefusesCanon S options k
 RefusesCommand _ S k = ⊥
 
--- A command refuses segments by the name k: there are too many, or one is too large, for a reader; or it
+-- A command refuses segments with k: there are too many, or one is too large, for a reader; or it
 -- refuses their message.
 abbrev pub RefusesMessage : List (List ℕ) → Args → ErrorKind → Type 0
 RefusesMessage segments args k =

@@ -8,14 +8,14 @@ use Rattle.capnp_layout.specs.declared.tool.args.Args.TheVariants.{Unframe, Fram
 use Rattle.capnp_layout.specs.declared.tool.args.Args.TheVariants.{FramedCheck}
 use Rattle.capnp_messages.specs.Text.{IsBudget, IsNesting}
 
--- the arguments are a command of this name, and the limits of a reader's options
+-- The arguments are a command of this name, and the limits of a reader's options.
 abbrev pub IsCommand : List ℕ → List (List ℕ) → ReaderOptions → Type 0
 IsCommand name words options =
     (nesting : List ℕ) × (budget : List ℕ) × (words ≡ name ∷ nesting ∷ budget ∷ []) ×
     IsNesting nesting options.nesting_limit
     × IsBudget budget options.traversal_limit_in_words
 
--- the arguments are `frame` or `unframe`, or a command with a nesting limit and a budget
+-- The arguments are `frame` or `unframe`, or a command with a nesting limit and a budget.
 abbrev pub AreArguments : List (List ℕ) → Args → Type 0
 AreArguments words (Canon options) = IsCommand (codes "canon") words options
 AreArguments words (Check options) = IsCommand (codes "check") words options
@@ -25,7 +25,7 @@ AreArguments words Unframe = words ≡ codes "unframe" ∷ []
 AreArguments words (FramedCanon options) = IsCommand (codes "framed-canon") words options
 AreArguments words (FramedCheck options) = IsCommand (codes "framed-check") words options
 
--- what is asked for by a name, within limits
+-- A name, within limits, requests this command.
 abbrev pub IsNamed : List ℕ → ReaderOptions → Args → Type 0
 IsNamed name limits (Canon options) = (name ≡ codes "canon") × (options ≡ limits)
 IsNamed name limits (Check options) = (name ≡ codes "check") × (options ≡ limits)
@@ -34,7 +34,7 @@ IsNamed name limits (FramedCanon options) = (name ≡ codes "framed-canon") × (
 IsNamed name limits (FramedCheck options) = (name ≡ codes "framed-check") × (options ≡ limits)
 IsNamed name limits _ = ⊥
 
--- what is asked for by a name alone
+-- A name without limits requests this command.
 abbrev pub IsNamedAlone : List ℕ → Args → Type 0
 IsNamedAlone name Frame = name ≡ codes "frame"
 IsNamedAlone name Unframe = name ≡ codes "unframe"

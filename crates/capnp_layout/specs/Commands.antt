@@ -32,56 +32,56 @@ use Rattle.capnp_messages.specs.Text.{check_line, size_line}
 use Rattle.capnp_layout.specs.Answers.{digits_of}
 use Rattle.capnp_messages.specs.CanonicalMessages.{IsCanonicalMessage}
 
--- the line of a message's frame
+-- The line of a message's frame.
 abbrev pub frame_line : Segments → List ℕ
 frame_line S = encode_lower (frame S) ++ 10 ∷ []
 
--- a line for each segment of a message
+-- One line for each segment of a message.
 abbrev pub segment_lines : Segments → List ℕ
 segment_lines [] = []
 segment_lines (ws ∷ S) = (digits_of ws ++ 10 ∷ []) ++ segment_lines S
 
--- what is asked for by canonical words that are written in a form
+-- The command that writes canonical words in a form.
 abbrev pub canonical_args : Form → ReaderOptions → Args
 canonical_args Flat options = Canon options
 canonical_args Framed options = FramedCanon options
 
--- the line of canonical words that are written in a form
+-- The line of canonical words, written in a form.
 abbrev pub form_line : Form → List ℕ → List ℕ
 form_line Flat words = digits_of words ++ 10 ∷ []
 form_line Framed words = frame_line (words ∷ [])
 
--- Segments can be written: they are within the limits of a reader, and the output has not failed.
+-- The segments can be written: they are within the limits of a reader, and the output hasn't
+-- failed.
 abbrev pub AreWritable : {W : Type 0} → Ghosts W → W → List (List ℕ) → Type 0
 AreWritable g output segments = (g.has_failed output ≡ false) × IsSmall segments
 
--- the line of an answer to whether a message is canonical as a whole
+-- The line that answers whether a message is canonical as a whole.
 abbrev pub message_line : Bool → List ℕ
 message_line true = codes "canonical message" ++ 10 ∷ []
 message_line false = codes "not a canonical message" ++ 10 ∷ []
 
--- the greatest number of words of a message whose frame is read
+-- The greatest number of words of a message whose frame is read.
 abbrev pub max_frame_words : ℕ
 max_frame_words = 8388608
 
--- The only line begins with the frame of a message, which isn't too long. Bytes behind it are not
--- looked at.
+-- The only line begins with the frame of S, which isn't too long. Bytes after it are ignored.
 pub record HoldsFrame (lines : List (List ℕ)) (S : Segments) : Type 0 where
   pub line : List ℕ
   pub only : lines ≡ line ∷ []
   pub begins : BeginsWithFrame line max_frame_words S
 
--- The only line holds the frame of a message, and the answer tells whether that is canonical as a whole.
+-- The only line holds the frame of a message, and b is whether that is canonical as a whole.
 abbrev pub TellsCanonical : List (List ℕ) → Bool → Type 0
 TellsCanonical lines b = (S : Segments) × HoldsFrame lines S × (IsTrue b ↔ IsCanonicalMessage S)
 
--- A command that takes one line at most is given more.
+-- A command that takes at most one line gets more.
 abbrev pub HasMoreLines : Args → List (List ℕ) → Type 0
 HasMoreLines Unframe lines = 2 ≤ length lines
 HasMoreLines (FramedCheck options) lines = 2 ≤ length lines
 HasMoreLines _ lines = ⊥
 
--- Where a command takes lines as segments, these are within the limits of a reader.
+-- If a command takes lines as segments, these are within the limits of a reader.
 abbrev pub IsWithin : Args → List (List ℕ) → Type 0
 IsWithin Unframe lines = ⊤
 IsWithin (FramedCheck options) lines = ⊤
@@ -105,9 +105,10 @@ IsAnswer lines (FramedCanon options) answer =
 IsAnswer lines (FramedCheck options) answer =
     (yes : Bool) × TellsCanonical lines yes × (answer ≡ message_line yes)
 
--- Wherever this holds there is an answer: there is a value whose canonical words fit a segment;
--- canonical words; a size; as many segments as a frame holds; a frame; and, where that is of one
--- segment, a message in it that means a value within the limits.
+-- A command has an answer to lines if this holds. `Canon`, `FramedCanon`: there is a canonical
+-- copy. `Check`: there are canonical words. `Size`: there is a size. `Frame`: there are as many
+-- segments as a frame can hold. `Unframe`: there is a frame. `FramedCheck`: there is a frame, and
+-- if its message has one segment, it means a value within the limits.
 abbrev pub HasAnswer : List (List ℕ) → Args → Type 0
 HasAnswer lines (Canon options) =
     HasCanonicalCopy (message lines) options
@@ -128,16 +129,17 @@ pub data RefusesToFrame (lines : List (List ℕ)) (r : Refusal) : Type 0 where
   wrong_number : (e : FrameError) → r ≡ NoFrameFor e → IsRefusedNumber (length lines) e →
       RefusesToFrame lines r
 
--- No frame is read: there is no line; it is empty; or it begins with no frame, for the first reason
--- that applies.
+-- No frame is read: there is no line; it is empty; or it doesn't begin with a frame, for the first
+-- reason that applies.
 pub data RefusesFrame (lines : List (List ℕ)) (r : Refusal) : Type 0 where
   no_line : r ≡ NoMessage → lines ≡ [] → RefusesFrame lines r
   empty_line : r ≡ NoMessage → lines ≡ [] ∷ [] → RefusesFrame lines r
   no_frame : (line : List ℕ) (e : FrameError) → r ≡ NoFrameFor e → lines ≡ line ∷ [] →
       NoFrame line max_frame_words e → RefusesFrame lines r
 
--- Why a command refuses lines: as no frame, or none that is read; the frame that is read is that of a
--- message of one segment whose test is refused; else as a message that the command reads.
+-- Why a command refuses lines. `Frame`: they have no frame. `Unframe`: no frame is read.
+-- `FramedCheck`: no frame is read, or its message has one segment and the test of that is refused.
+-- Any other command: it refuses their message.
 abbrev pub WhyRefused : List (List ℕ) → Args → Refusal → Type 0
 WhyRefused lines Frame r = RefusesToFrame lines r
 WhyRefused lines Unframe r = RefusesFrame lines r

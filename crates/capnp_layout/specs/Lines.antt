@@ -1,26 +1,27 @@
--- The segments that the program's input holds: a line for each, as pairs of hex digits in either case.
+-- The segments that the program's input holds: one line for each, as pairs of hex digits in either
+-- case.
 use Rattle.std.specs.Prelude.{ℕ, List, [], ◌∷◌, if◌then◌else◌, ◌==◌, Option, Some, None, Result, Ok, Err}
 use Rattle.hex.specs.Hex.{decode_of}
 use Rattle.hex.specs.declared.error.FromHexError.{FromHexError}
 
--- a byte more at the front of the first line
+-- Adds a byte to the front of the first line.
 abbrev pub onto_line : ℕ → List (List ℕ) → List (List ℕ)
 onto_line c [] = (c ∷ []) ∷ []
 onto_line c (line ∷ lines) = (c ∷ line) ∷ lines
 
--- The lines of a text, which is split at line feeds; bytes behind the last line feed, if any, are
+-- The lines of a text, which is split at line feeds. Bytes after the last line feed, if any, are
 -- one more line.
 unfoldable pub lines_of : List ℕ → List (List ℕ)
 lines_of [] = []
 lines_of (c ∷ text) = if c == 10 then [] ∷ lines_of text else onto_line c (lines_of text)
 
--- a segment, and the segments behind it
+-- A segment, and the segments after it.
 abbrev pub onto_segments : Result (List ℕ) FromHexError → Option (List (List ℕ)) → Option (List (List ℕ))
 onto_segments (Ok segment) (Some segments) = Some (segment ∷ segments)
 onto_segments (Ok segment) None = None
 onto_segments (Err e) segments = None
 
--- The segments of lines, each of pairs of hex digits in either case; None where a line is something
+-- The segments of lines, each of pairs of hex digits in either case; None if a line is something
 -- else.
 unfoldable pub segments_of_lines : List (List ℕ) → Option (List (List ℕ))
 segments_of_lines [] = Some []

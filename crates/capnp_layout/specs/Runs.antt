@@ -14,8 +14,8 @@ use Rattle.capnp_layout.specs.Lines.{segments_of}
 use Rattle.capnp_layout.specs.Commands.{HasAnswer, HasMoreLines, IsAnswer, IsWithin, WhyRefused}
 use Rattle.capnp_layout.specs.Refusals.{refusal_line}
 
--- A refusal says that memory was refused, once more, from a count to another; or that is not so, and
--- P holds.
+-- Either r is `AllocationFailed`, and new counts one more refused request than old; or P holds, and
+-- new is old.
 abbrev pub IsForMemoryOr : ℕ → ℕ → Refusal → Type 0 → Type 0
 IsForMemoryOr old new r P = ((r ≡ Layout AllocationFailed) × (new ≡ one_more old)) ⊎ (P × (new ≡ old))
 
@@ -27,13 +27,13 @@ pub record Run : Type 0 where
   pub before : ℕ
   pub after : ℕ
 
--- A run of a command that asks for no memory.
+-- A run of a command that requests no memory.
 abbrev pub uncounted : List (List ℕ) → Args → Outcome → Run
 uncounted lines args outcome =
     record { lines = lines; args = args; outcome = outcome; before = 0; after = 0 }
 
--- What a command has written, from one state of the output to another, when it ends. Wherever lines
--- have an answer it is given, or the output has failed, or memory was refused.
+-- What a command has written when it ends, from one state of the output to another. If the lines
+-- have an answer, either it is given, or the output has failed, or memory was refused.
 pub record Responds {W : Type 0} (g : Ghosts W) (from to : W) (run : Run) : Type 0 where
   pub done : run.outcome ≡ Done → IsWithin run.args run.lines × (run.after ≡ run.before) ×
       ((answer : List ℕ) × IsAnswer run.lines run.args answer × Prints g from to answer)
@@ -48,17 +48,18 @@ pub record Responds {W : Type 0} (g : Ghosts W) (from to : W) (run : Run) : Type
   pub works : run.outcome ≢ WriteFailed → g.has_failed to ≡ false
   pub failed : run.outcome ≡ WriteFailed → g.has_failed to ≡ true
 
--- Segments are the lines of a text, where it is known.
+-- The segments are the lines of the text, if that is known.
 abbrev pub AreLinesOf : Option (List ℕ) → List (List ℕ) → Type 0
 AreLinesOf text lines = IfSome text (λ text. segments_of text ≡ Some lines)
 
--- A text is known, and has lines within the limits that have an answer.
+-- The text is known, and has lines within the limits that have an answer.
 abbrev pub TextHasAnswer : Option (List ℕ) → Args → Type 0
 TextHasAnswer text args =
     IsSomeAnd text (λ text. (lines : List (List ℕ)) × (segments_of text ≡ Some lines) ×
     IsWithin args lines × HasAnswer lines args)
 
--- A text that is known has a line that isn't pairs of hex digits, or more lines than a command takes.
+-- The text, if it is known, has a line that isn't pairs of hex digits, or more lines than a command
+-- takes.
 abbrev pub IsBadInput : Option (List ℕ) → Args → Type 0
 IsBadInput text args =
     IfSome text (λ text. (segments_of text ≡ None) ⊎

@@ -1,5 +1,5 @@
-//! Laws: those of the format's definitions, and in a module each what follows of the contracts of the crates below, by
-//! what it is about.
+//! Laws: those of the format's definitions, and in a module for each subject those that follow from
+//! the contracts of the crates below.
 
 pub use capnp_builders::laws as builders;
 pub use capnp_contents::laws as contents;

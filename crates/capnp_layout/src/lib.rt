@@ -1,5 +1,5 @@
-//! The wire layout of Cap'n Proto: what the crates below have, under one name, and the engine of the
-//! program `layout_tool`.
+//! The wire layout of Cap'n Proto: the crates below under one name, and the engine of the program
+//! `layout_tool`.
 #![tactic(auto)]
 
 pub mod framing;

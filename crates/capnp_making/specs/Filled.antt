@@ -1,5 +1,5 @@
--- Objects that are filled once they are made: null pointers one behind the other, and elements of a
--- list of structs.
+-- Objects that are filled after they are made: consecutive null pointers, and elements of a list of
+-- structs.
 use Rattle.std.specs.Prelude.{◌≡◌, ℕ, ◌+◌, ◌*◌, ◌<◌, ◌≤◌, List, length}
 use Rattle.capnp_format.specs.Segments.{Segments}
 use Rattle.capnp_format.specs.Tree.{Null, Trees, no_trees, tree, count, Elements, no_elements}
@@ -7,27 +7,28 @@ use Rattle.capnp_format.specs.Tree.{element, element_count}
 use Rattle.capnp_arena_traits.specs.Written.{with_words}
 use Rattle.capnp_making.specs.Stored.{IsReplaced}
 
--- From S to R the null pointers from position p on, one behind the other, get these values, one
--- after the other.
+-- From S to R the consecutive null pointers from (s, p) on get these values, one after the other.
 abbrev pub AreFilled : Segments → Segments → ℕ → ℕ → Trees → Type 0
 AreFilled S R s p no_trees = R ≡ S
 AreFilled S R s p (tree t ts) = (M : Segments) × IsReplaced S M s p Null t × AreFilled M R s (p + 1) ts
 
--- From S to R an element gets these data words, and then the first of its pointers get these values.
+-- From S to R the element at (s, p) gets the data words ws, and then its first pointers get the
+-- values ts.
 pub record IsElementFilled (S R : Segments) (s p : ℕ) (ws : List ℕ) (ts : Trees) : Type 0 where
   pub written : Segments
   pub writes : written ≡ with_words S s p ws
   pub filled : AreFilled written R s (p + length ws) ts
 
--- From S to R elements of d data words and q pointers, one behind the other, get all their values.
+-- From S to R consecutive elements of d data words and q pointers, from (s, p) on, get all their
+-- values.
 abbrev pub AreElementsFilled : Segments → Segments → ℕ → ℕ → ℕ → ℕ → Elements → Type 0
 AreElementsFilled S R s p d q no_elements = R ≡ S
 AreElementsFilled S R s p d q (element ws ts es) =
     (M : Segments) × (length ws ≡ d) × (count ts ≡ q) × IsElementFilled S M s p ws ts ×
     AreElementsFilled M R s (p + d + q) d q es
 
--- From S to R some of n elements get all their values, and then the next one its data words and
--- some of its values.
+-- From S to R some of n elements get all their values, and then the next one gets its data words
+-- and some of its values.
 pub record ArePartlyFilled (S R : Segments) (s p d q n : ℕ) : Type 0 where
   pub elements : Elements
   pub fewer : element_count elements < n

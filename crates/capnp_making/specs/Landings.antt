@@ -1,7 +1,7 @@
--- Where a pointer leads, as a program has it.
+-- Where a pointer leads, as the program represents it.
 use Rattle.capnp_format.specs.Segments.{Target}
 use Rattle.capnp_making.specs.declared.landing.Landing.{Landing}
 
--- The target that a landing is at.
+-- The target of a landing.
 abbrev pub target_of : Landing → Target
 target_of l = record { word = l.word.0; segment = l.segment; start = l.start; pads = l.pads }

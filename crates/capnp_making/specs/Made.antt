@@ -1,4 +1,4 @@
--- Objects made anew, all zero.
+-- New objects, all zero.
 use Rattle.std.specs.Prelude.{◌≡◌, ℕ, zero, suc, ◌+◌, ◌*◌, ◌<◌, ◌≤◌, ◌^◌, List, [], ◌∷◌, ◌++◌}
 use Rattle.std.specs.Prelude.{length, replicate, if◌then◌else◌, nat_eq, ⊤}
 use Rattle.capnp_format.specs.Word.{kind, data_words, pointer_count, element_size, list_count}
@@ -15,7 +15,7 @@ use Rattle.capnp_making.specs.declared.making.Shape.{Shape}
 use Rattle.capnp_making.specs.declared.making.Start.{Start}
 use Rattle.capnp_making.specs.declared.making.Shape.TheVariants.{Struct as StructShape, List as ListShape}
 
--- The word's kind and upper half are those of a shape.
+-- The word's kind and upper half are those of the shape.
 abbrev pub IsShape : Shape → ℕ → Type 0
 IsShape (StructShape size) x =
     (kind x ≡ 0) × (data_words x ≡ size.data_words) × (pointer_count x ≡ size.pointers)
@@ -26,26 +26,26 @@ abbrev pub CountFits : Shape → Type 0
 CountFits (StructShape size) = ⊤
 CountFits (ListShape size n) = n < 2 ^ 29
 
--- A struct has a word.
+-- A struct has at least one word.
 abbrev pub AsksWords : Shape → Type 0
 AsksWords (StructShape size) = 0 < size.data_words + size.pointers
 AsksWords (ListShape size n) = ⊤
 
--- The list of n words of zero.
+-- n zero words.
 abbrev pub words_of_zero : ℕ → List ℕ
 words_of_zero n = replicate n 0
 
--- The row of n null pointers.
+-- n null pointers.
 abbrev pub nulls : ℕ → Trees
 nulls zero = no_trees
 nulls (suc n) = tree Null (nulls n)
 
--- The row of n structs of d data words and q pointers, all zero.
+-- n structs of d data words and q pointers, all zero.
 abbrev pub zero_elements : ℕ → ℕ → ℕ → Elements
 zero_elements d q zero = no_elements
 zero_elements d q (suc n) = element (words_of_zero d) (nulls q) (zero_elements d q n)
 
--- A struct, and a list of n structs, all zero ("Structs").
+-- A struct of this size, all zero ("Structs").
 abbrev pub zero_struct : StructSize → Tree
 zero_struct size = Struct (words_of_zero size.data_words) (nulls size.pointers)
 
@@ -54,21 +54,20 @@ abbrev pub zero_structs : ℕ → StructSize → Tree
 zero_structs n size =
     Structs size.data_words size.pointers (zero_elements size.data_words size.pointers n)
 
--- A list of n elements that are no structs, all zero or null, by the number of its element size
+-- A list of n elements that aren't structs, all zero or null, by the number of its element size
 -- ("Lists").
 abbrev pub zero_list : ℕ → ℕ → Tree
 zero_list size n = if nat_eq size 6 then Pointers (nulls n) else Flat size (words_of_zero n)
 
--- How many words n elements of a size take that are no structs.
+-- The number of words of n elements of a size that aren't structs.
 abbrev pub list_words : ℕ → ℕ → ℕ
 list_words size n = if nat_eq size 6 then n else words_for size n
 
--- The words of a list of n structs of a size, its tag included.
+-- The number of words of a list of n structs of a size, including its tag.
 abbrev pub structs_words : ℕ → StructSize → ℕ
 structs_words n size = 1 + n * (size.data_words + size.pointers)
 
--- From S to R there are n words more from position p of segment s on, behind what was there, and
--- all new words are zero.
+-- From S to R there are n more words at (s, p), after what was there, and all new words are zero.
 pub record IsGrown (S R : Segments) (s p n : ℕ) : Type 0 where
   pub grows : Grows S R
   pub behind : length (segment S s) ≤ p
@@ -77,8 +76,8 @@ pub record IsGrown (S R : Segments) (s p n : ℕ) : Type 0 where
   pub kept : (v r : ℕ) → r < length (segment S v) → word_at R v r ≡ word_at S v r
   pub zero : (v r : ℕ) → length (segment S v) ≤ r → word_at R v r ≡ 0
 
--- From S to R the pointer at a place is written, and leads to n new words, all zero; its pads are
--- new as well, and nothing else is written.
+-- From S to R the pointer at (s, p) is written, and leads to n new words at the target a, all zero.
+-- Its landing pads are new as well, and nothing else is written.
 pub record IsMade (S R : Segments) (s p : ℕ) (a : Target) (n : ℕ) : Type 0 where
   pub grows : Grows S R
   pub leads_there : Leads R s p a
@@ -92,6 +91,6 @@ pub record IsMade (S R : Segments) (s p : ℕ) (a : Target) (n : ℕ) : Type 0 w
   pub zero : (v r : ℕ) → times (pads_of (word_at R s p)) v r ≡ 0 → length (segment S v) ≤ r →
       word_at R v r ≡ 0
 
--- The pointer at a place leads to what starts at h.
+-- The pointer at (s, p) leads to the object that starts at h.
 abbrev pub LeadsToStart : Segments → ℕ → ℕ → Start → Type 0
 LeadsToStart S s p h = (h.segment ≡ (target S s p).segment) × (h.at ≡ (target S s p).start)

@@ -15,7 +15,7 @@ use Rattle.capnp_making.specs.Zeroed.{IsPruned}
 use Rattle.capnp_making.specs.declared.making.Shape.{Shape}
 use Rattle.capnp_making.specs.declared.making.Start.{Start}
 
--- A call at a place of a message: the place, and the message before the call and after it.
+-- A call at a place of a message: the place, and the message before and after the call.
 pub record CallAt : Type 0 where
   pub segment : ℕ
   pub at : ℕ
@@ -25,17 +25,17 @@ pub record CallAt : Type 0 where
 abbrev pub call_at : ℕ → ℕ → View → View → CallAt
 call_at s p old new = record { segment = s; at = p; old = old; new = new }
 
--- A call takes n words for an object, and one more for a landing pad where its pointer's segment
--- has no room for them; or that is refused, which it never is where there is room.
+-- The call allocates n words for an object, and one more for a landing pad if the segment of its
+-- pointer has no room for them; or it is refused, which never happens if there is room.
 pub record Allocates {A : Type 0} (result : Result A ErrorKind) (c : CallAt) (n : ℕ) : Type 0 where
   pub fits : HasRoom c.old c.segment n → IsOk result
   pub granted : OnOk result (KeepsMemory c.old c.new)
   pub taken : OnOk result (TakesWords c.old c.new c.segment n)
   pub named : IfErr result (IsRefusedFor c.old c.new n)
 
--- A call makes the pointer lead to an object of n words, whose value is t, behind all words that
--- were there, and all that it held before is zero; or that is refused: then the pointer is null,
--- and no word is written but to zero.
+-- The call makes the pointer lead to an object of n words, whose value is t, after all words that
+-- were there, and zeroes all that the pointer held before. Or it is refused: then the pointer is
+-- null, and words are only zeroed.
 pub record MakesObject {A : Type 0} (result : Result A ErrorKind) (c : CallAt) (t : Tree) (n : ℕ)
     : Type 0 where
   pub made : OnOk result (Puts c.old.words c.new.words c.segment c.at t)
@@ -49,13 +49,13 @@ pub record MakesObject {A : Type 0} (result : Result A ErrorKind) (c : CallAt) (
   pub refused : OnErr result (Puts c.old.words c.new.words c.segment c.at Null)
   pub only : OnErr result (IsPruned c.old.words c.new.words)
 
--- The pointer is written, and leads to a new object of n words of a shape, which starts at h.
+-- The call writes the pointer, which leads to a new object of n words of this shape, starting at h.
 abbrev pub IsMadeAt : CallAt → Shape → ℕ → Start → Type 0
 IsMadeAt c shape n h = (a : Target) × IsMade c.old.words c.new.words c.segment c.at a n ×
     IsShape shape a.word × (h.segment ≡ a.segment) × (h.at ≡ a.start)
 
--- A call makes an object of n words behind a landing pad, where the arena has room next for both;
--- or that is refused, and no word is written.
+-- The call makes an object of n words behind a landing pad, in the next segment that has room for
+-- both; or it is refused, and no word is written.
 pub record MakesFar (result : Result Start ErrorKind) (c : CallAt) (shape : Shape) (n : ℕ) : Type 0 where
   pub made : IfOk result (IsMadeAt c shape n)
   pub fits : (k : ℕ) → IsFirstFit c.old (n + 1) k → IsOk result
@@ -67,16 +67,17 @@ pub record MakesFar (result : Result Start ErrorKind) (c : CallAt) (shape : Shap
   pub named : IfErr result (IsRefusedFor c.old c.new n)
   pub refused : OnErr result (c.new.words ≡ c.old.words)
 
--- The object of n words that a call made starts at h: its pointer leads there, its words are there,
--- and they stand behind all that were there.
+-- The object of n words that the call made starts at h: its pointer leads there, its words are
+-- there, and they come after all that were there.
 pub record ObjectStartsAt (c : CallAt) (n : ℕ) (h : Start) : Type 0 where
   pub leads : LeadsToStart c.new.words c.segment c.at h
   pub inside : (h.segment < length c.new.words) ×
       (h.at + n ≤ length (segment c.new.words h.segment))
   pub behind : StandsBehind c.old c.segment n h
 
--- A call that keeps no arena is said to do what it does in one that it reached: there it found what
--- Does says, and its result gives exactly that, by what Gives says; or it is refused by the same name.
+-- A call that doesn't keep its arena is described by an arena that it reached (`now`): there it
+-- found what `Does` states, and its result matches that by `Gives`; or it is refused with the same
+-- error.
 pub record ReachesArena {A B C : Type 0} (Gives : A → C → B → Type 0)
     (Does : A → Result C ErrorKind → Type 0) (result : Result B ErrorKind) : Type 0 where
   pub now : A

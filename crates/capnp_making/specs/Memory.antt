@@ -9,30 +9,31 @@ use Rattle.capnp_arena_traits.specs.View.{View}
 use Rattle.capnp_arena_traits.specs.Taking.{IsFirstFit, IsFull, IsAllocationRefusal, SameRoomBelow}
 use Rattle.capnp_making.specs.declared.making.Start.{Start}
 
--- Segment id has room for n words more, or some segment has room for them and a pad.
+-- Segment id has room for n more words, or some segment has room for them and a pad.
 abbrev pub HasRoom : View → ℕ → ℕ → Type 0
 HasRoom v id n = (length (segment v.words id) + n ≤ v.room id) ⊎ ((k : ℕ) × IsFirstFit v (n + 1) k)
 
--- From S to R segment k has n words more, and may be a new one behind the others; these are as long
--- as before.
+-- From S to R segment k, which may be a new one after the others, has n more words; the others are
+-- as long as before.
 pub record Lengthens (S R : Segments) (k n : ℕ) : Type 0 where
   pub segments : length R ≡ max (length S) (k + 1)
   pub gained : length (segment R k) ≡ length (segment S k) + n
   pub others : (v : ℕ) → v ≢ k → length (segment R v) ≡ length (segment S v)
 
--- Segment k is the first with room for n words more or, where none has it, a new one behind the others.
+-- Segment k is the first with room for n more words; or, if none has it, a new one after the
+-- others.
 abbrev pub IsNextRoom : View → ℕ → ℕ → Type 0
 IsNextRoom v n k = IsFirstFit v n k ⊎ (IsFull v n × (k ≡ length v.words))
 
--- n words are taken in segment id where it has room for them, and else n words and one for a
--- landing pad where the arena has room next.
+-- From old to new n words are allocated in segment id if it has room for them; otherwise n words,
+-- and one for a landing pad, in the next segment that has room.
 pub record TakesWords (old new : View) (id n : ℕ) : Type 0 where
   pub near : length (segment old.words id) + n ≤ old.room id → Lengthens old.words new.words id n
   pub far : old.room id < length (segment old.words id) + n → (k : ℕ) × IsNextRoom old (n + 1) k ×
       Lengthens old.words new.words k (n + 1)
 
--- n words from h on stand behind all that were there: in segment id where it has room for them, and
--- else behind a landing pad where the arena has room next.
+-- n words from h on come after all that were there: in segment id if it had room for them;
+-- otherwise behind a landing pad in the next segment that had room.
 pub record StandsBehind (old : View) (id n : ℕ) (h : Start) : Type 0 where
   pub near : 0 < n → length (segment old.words id) + n ≤ old.room id → (h.segment ≡ id) ×
       (h.at ≡ length (segment old.words id))
@@ -43,31 +44,32 @@ pub record StandsBehind (old : View) (id n : ℕ) (h : Start) : Type 0 where
 abbrev pub start_of : Target → Start
 start_of a = record { segment = a.segment; at = a.start }
 
--- Nothing but words is changed, and the room of segments that are new.
+-- Only words change from old to new, and the room of new segments.
 abbrev pub KeepsMemory : View → View → Type 0
 KeepsMemory old new = (new ≡ record old { words = new.words; room = new.room }) ×
     SameRoomBelow (length old.words) old.room new.room
 
--- n words and a pad are refused by this name, and nothing but words is changed, and how often
--- memory was refused.
+-- A request for n words and a pad is refused with k, and only words and the count of refused
+-- requests change.
 abbrev pub IsRefusedFor : View → View → ℕ → ErrorKind → Type 0
 IsRefusedFor old new n k = IsAllocationRefusal old new (length old.words) (n + 1) k ×
     (new ≡ record old { words = new.words; refusals = new.refusals })
 
--- How often memory was refused, after a refusal by the name k.
+-- How often memory was refused after a refusal with k, if it was n times before.
 abbrev pub refusals_for : ErrorKind → ℕ → ℕ
 refusals_for AllocationFailed n = one_more n
 refusals_for k n = n
 
--- A call is refused by the name k: nothing but words is changed, the room of segments that are new,
--- and how often memory was refused, which is once more where that is the name, and else as before.
+-- A call is refused with k. Only words change, the room of new segments, and the count of refused
+-- requests: that is one more if k is `AllocationFailed`, and otherwise the same.
 abbrev pub SpendsMemory : View → View → ErrorKind → Type 0
 SpendsMemory old new k =
     (new ≡ record old { words = new.words; room = new.room; refusals = new.refusals }) ×
     SameRoomBelow (length old.words) old.room new.room
     × (new.refusals ≡ refusals_for k old.refusals)
 
--- n words and a pad are refused by this name, and no segment that is there now has room for them.
+-- A request for n words and a pad is refused with k, and no segment that is there now has room for
+-- them.
 abbrev pub RefusesWords : View → View → ℕ → ErrorKind → Type 0
 RefusesWords old new n k = IsAllocationRefusal old new (length new.words) (n + 1) k ×
     ((j : ℕ) → IsFirstFit new (n + 1) j → ⊥)

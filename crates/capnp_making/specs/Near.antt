@@ -1,4 +1,4 @@
--- What stands where an object is made in the segment of its pointer.
+-- What is written if an object is made in the segment of its pointer.
 use Rattle.std.specs.Prelude.{◌≡◌, ℕ, ◌+◌, ◌≤◌, List, length}
 use Rattle.capnp_format.specs.Canonical.{offset_to}
 use Rattle.capnp_format.specs.Forest.{target}
@@ -13,29 +13,29 @@ use Rattle.capnp_making.specs.declared.making.Shape.{Shape}
 use Rattle.capnp_making.specs.declared.making.Shape.TheVariants.{Struct as StructShape, List as ListShape}
 use Rattle.capnp_making.specs.declared.making.Start.{Start}
 
--- Segment id has room for n words more.
+-- Segment id has room for n more words.
 abbrev pub HasOwnRoom : View → ℕ → ℕ → Type 0
 HasOwnRoom v id n = length (segment v.words id) + n ≤ v.room id
 
--- An object starts behind the words of segment id.
+-- An object starts at the end of segment id in S.
 abbrev pub StartsBehind : Segments → ℕ → Start → Type 0
 StartsBehind S id h = (h.segment ≡ id) × (h.at ≡ length (segment S id))
 
--- A call gives the pointer an object of n words, or of none: where its segment has room for them,
--- it starts behind the words of that segment.
+-- The call gives the pointer an object of n words, perhaps 0. If the pointer's segment has room for
+-- them, the object starts at the end of that segment's old words.
 abbrev pub LeadsToEnd : CallAt → ℕ → Type 0
 LeadsToEnd c n = HasOwnRoom c.old c.segment n →
     StartsBehind c.old.words c.segment (start_of (target c.new.words c.segment c.at))
 
--- the offset of a pointer at position p to what starts behind the words of segment id
+-- The offset from a pointer at position p to the end of segment id.
 abbrev pub offset_behind : Segments → ℕ → ℕ → ℕ
 offset_behind S id p = offset_to p (length (segment S id))
 
--- the word x at position p of segment id, and more words behind its own
+-- S with the word x at position p of segment id, and ws appended to that segment.
 abbrev pub with_object : Segments → ℕ → ℕ → ℕ → List ℕ → Segments
 with_object S id p x ws = extended (with_word S id p x) id ws
 
--- the pointer to an object of a shape, with an offset
+-- The pointer to an object of this shape, with this offset.
 abbrev pub shape_word : Shape → ℕ → ℕ
 shape_word (StructShape size) offset = struct_word offset size.data_words size.pointers
 shape_word (ListShape size n) offset = list_word offset (size_number size) n

@@ -6,50 +6,50 @@ use Rattle.capnp_format.specs.Tree.{Tree, Null, Struct, Pointers, Structs, Trees
 use Rattle.capnp_format.specs.Tree.{Elements, no_elements, element, count, element_count}
 use Rattle.capnp_format.specs.Forest.{Interval, target, cover}
 
--- A step from a struct to a child, or from a list to an element, by its number.
+-- A step from a struct to a child, or from a list to an element, by its index.
 pub data Step : Type 0 where
   Child : ℕ → Step
   Element : ℕ → Step
 
--- the i-th child, and the children with another one in its place
+-- The child at index i; Null if there is none.
 abbrev pub tree_at : Trees → ℕ → Tree
 tree_at no_trees i = Null
 tree_at (tree t ts) zero = t
 tree_at (tree t ts) (suc i) = tree_at ts i
 
--- the children with another one as the i-th
+-- The children, with the one at index i replaced by u.
 abbrev pub put_tree : Trees → ℕ → Tree → Trees
 put_tree no_trees i u = no_trees
 put_tree (tree t ts) zero u = tree u ts
 put_tree (tree t ts) (suc i) u = tree t (put_tree ts i u)
 
--- the i-th element, as a struct, and the elements with another struct in its place
+-- The element at index i, as a struct; Null if there is none.
 abbrev pub struct_at : Elements → ℕ → Tree
 struct_at no_elements i = Null
 struct_at (element ws ts es) zero = Struct ws ts
 struct_at (element ws ts es) (suc i) = struct_at es i
 
--- the elements with another struct as the i-th
+-- The elements, with the one at index i replaced by the struct u.
 abbrev pub put_struct : Elements → ℕ → Tree → Elements
 put_struct (element ws ts es) zero (Struct vs us) = element vs us es
 put_struct (element ws ts es) (suc i) u = element ws ts (put_struct es i u)
 put_struct es i u = es
 
--- where a step leads; null where it leads nowhere
+-- Where a step leads; Null if it leads nowhere.
 abbrev pub next : Tree → Step → Tree
 next (Struct ws ts) (Child i) = tree_at ts i
 next (Pointers ts) (Element i) = tree_at ts i
 next (Structs d q es) (Element i) = struct_at es i
 next t step = Null
 
--- with another value where the step leads
+-- The tree, with what the step leads to replaced by u.
 abbrev pub put : Tree → Step → Tree → Tree
 put (Struct ws ts) (Child i) u = Struct ws (put_tree ts i u)
 put (Pointers ts) (Element i) u = Pointers (put_tree ts i u)
 put (Structs d q es) (Element i) u = Structs d q (put_struct es i u)
 put t step u = t
 
--- the tree with u at a path, the rest as it was
+-- The tree t, with what the path leads to replaced by u, and the rest unchanged.
 abbrev pub update : Tree → List Step → Tree → Tree
 update t [] u = u
 update t (step ∷ path) u = put t step (update (next t step) path u)
@@ -58,7 +58,7 @@ update t (step ∷ path) u = put t step (update (next t step) path u)
 pub data Node : Type 0 where
   node : ℕ → ℕ → Tree → Node
 
--- from one pointer with its value the path leads to another
+-- The path leads from the pointer `from`, with its value, to the pointer `to`.
 abbrev pub PathLeads : Segments → Node → List Step → Node → Type 0
 PathLeads S from [] to = from ≡ to
 PathLeads S (node s p (Struct ws ts)) (Child i ∷ path) to =
@@ -73,10 +73,10 @@ PathLeads S (node s p (Structs d k es)) (Element i ∷ Child j ∷ path) to =
     (i < element_count es) × (j < k) × PathLeads S child path to
 PathLeads S from path to = ⊥
 
--- the word at a place
+-- The word at (s, p), as an interval.
 abbrev pub word_interval : ℕ → ℕ → Interval
 word_interval s p = record { segment = s; start = p; words = 1 }
 
--- the word at a place that means a value, and what is reached from there
+-- The word at (s, p), which means t, and all that is reached from there.
 abbrev pub extent : Segments → ℕ → ℕ → Tree → List Interval
 extent S s p t = word_interval s p ∷ cover S s p t

@@ -1,4 +1,5 @@
--- A value stored at a place, and a message in which another value is stored there, the rest as it was.
+-- A value stored at a place, and a message in which another value is stored there, and the rest is
+-- unchanged.
 use Rattle.std.specs.Prelude.{◌≡◌, ℕ, ◌<◌, ◌≤◌, ◌⊎◌, length}
 use Rattle.capnp_format.specs.Segments.{Segments, segment, word_at}
 use Rattle.capnp_format.specs.Tree.{Tree, Null}
@@ -7,15 +8,15 @@ use Rattle.capnp_format.specs.Forest.{times, IsTidy}
 use Rattle.capnp_making.specs.Path.{extent}
 use Rattle.capnp_making.specs.Zeroed.{IsPruned}
 
--- the place means t, and holds no word twice and none outside its segment
+-- The word at (s, p) means t, and holds no word twice and none outside its segment.
 pub record IsStored (S : Segments) (s p : ℕ) (t : Tree) : Type 0 where
   pub means : (n : ℕ) × (c : ℕ) × Means S n s p t c
   pub apart : (v r : ℕ) → times (extent S s p t) v r ≤ 1
   pub inside : (v r : ℕ) → 0 < times (extent S s p t) v r → r < length (segment S v)
   pub tidy : IsTidy S s p t
 
--- from S to R the place (s, p) gets u in place of t: u uses words of t and new ones, the rest of
--- these is zero, and all other words stay
+-- From S to R the place (s, p) gets u in place of t. u uses words of t and new ones, the rest of
+-- these is zero, and all other words stay.
 pub record IsReplaced (S R : Segments) (s p : ℕ) (t u : Tree) : Type 0 where
   pub segments : length S ≤ length R
   pub words : (v : ℕ) → length (segment S v) ≤ length (segment R v)
@@ -27,10 +28,10 @@ pub record IsReplaced (S R : Segments) (s p : ℕ) (t u : Tree) : Type 0 where
   pub kept : (v r : ℕ) → times (extent S s p t) v r ≡ 0 → r < length (segment S v) →
       word_at R v r ≡ word_at S v r
 
--- Whatever value the place has in S, in R it has u in its stead.
+-- Whatever value (s, p) stores in S, in R it has u in its place.
 abbrev pub Puts : Segments → Segments → ℕ → ℕ → Tree → Type 0
 Puts S R s p u = (t : Tree) → IsStored S s p t → IsReplaced S R s p t u
 
--- Whatever the place holds in S, words become zero first, and then it has u in place of null.
+-- Whatever (s, p) stores in S, words are zeroed first, and then it has u in place of null.
 abbrev pub PutsOnceZeroed : Segments → Segments → ℕ → ℕ → Tree → Type 0
 PutsOnceZeroed S R s p u = (M : Segments) × IsPruned S M × IsReplaced M R s p Null u

@@ -8,7 +8,7 @@ use capnp_arena_traits::arena::BuilderArena;
 use capnp_words::wire_pointer::{WirePointer, WirePointerKind};
 use capnp_words::words;
 
-/// Where a pointer leads, its landing pads read.
+/// Where a pointer leads, with its landing pads read.
 #[derive(Clone, Copy)]
 pub struct Landing {
     /// The word that describes the object: the pointer itself, its landing pad, or the pad's tag.
@@ -17,11 +17,11 @@ pub struct Landing {
     pub segment: u32,
     /// Where the object starts.
     pub start: u32,
-    /// How many words the landing pads have.
+    /// The number of words of the landing pads.
     pub pads: u32,
 }
 
-/// How many words a segment has, none where there is no such segment.
+/// The number of words of segment `id`; 0 if there is no such segment.
 pub fn length_of<A: BuilderArena>(arena: &A, id: u32) -> u32
     ensures { result ≡ length (segment (A.view arena.now).words id) }
 {
@@ -31,7 +31,7 @@ pub fn length_of<A: BuilderArena>(arena: &A, id: u32) -> u32
     }
 }
 
-/// The pointer word at a place, zero where there is none.
+/// The pointer word at a place; zero if there is none.
 pub fn word_of<A: BuilderArena>(arena: &A, id: u32, at: u32) -> WirePointer
     ensures { result.0 ≡ word_at (A.view arena.now).words id at }
 {
@@ -48,8 +48,8 @@ pub fn word_of<A: BuilderArena>(arena: &A, id: u32, at: u32) -> WirePointer
     }
 }
 
-/// Where the pointer at a place leads, which is not zero. It is called where words are cleared, and
-/// most pointers that are set were null.
+/// Where the pointer at a place leads, if it isn't zero. Called where words are cleared, and most
+/// pointers that are set were null.
 #[cold]
 #[inline(never)]
 pub(crate) fn follow<A: BuilderArena>(arena: &A, id: u32, at: u32) -> Option<Landing>
@@ -59,7 +59,7 @@ pub(crate) fn follow<A: BuilderArena>(arena: &A, id: u32, at: u32) -> Option<Lan
     landing_of(arena, id, at, word_of(arena, id, at))
 }
 
-/// Where the word of the pointer at a place leads, which is not zero.
+/// Where the pointer at a place leads, by its word, if that isn't zero.
 #[inline(always)]
 pub fn landing_of<A: BuilderArena>(
     arena: &A,
@@ -78,7 +78,7 @@ pub fn landing_of<A: BuilderArena>(
     }
 }
 
-/// Where a word leads that is not a far pointer and stands at a place.
+/// Where a word at a place leads that isn't a far pointer.
 fn follow_near<A: BuilderArena>(
     arena: &A,
     id: u32,

@@ -1,5 +1,5 @@
-//! Objects of a message that is built: made at the place of a pointer, all zero, in any of the
-//! message's segments, and made zero again.
+//! Objects of a message being built: made at the place of a pointer, all zero, in any of the
+//! message's segments, and zeroed again.
 #![tactic(auto)]
 
 pub mod landing;

@@ -1,8 +1,8 @@
-//! Objects made where a pointer leads, all zero ("Structs", "Lists", "Inter-Segment Pointers").
+//! Makes a pointer lead to a new object, all zero ("Structs", "Lists", "Inter-Segment Pointers").
 //!
-//! An object goes behind the words of its pointer's segment where it fits, with a near pointer. Else
-//! it goes behind a landing pad of one word, where the arena finds room. What a pointer held before
-//! becomes zero first, with all below it and its landing pads; these words stay allocated.
+//! An object comes after the words of its pointer's segment if it fits there, with a near pointer.
+//! Otherwise it comes after a landing pad of one word, where the arena finds room. What a pointer
+//! held before is zeroed first, with all below it and its landing pads; these words stay allocated.
 ghost use Rattle.std.specs.Prelude.{◌≡◌, ℕ, length, ◌∷◌, ◌<◌, ◌≤◌, ◌+◌, ◌-◌, ◌*◌, ◌^◌, IfOk, IsOk, OnOk, OnErr, IfErr};
 ghost use Rattle.capnp_format.specs.Canonical.{offset_to, Reaches};
 ghost use Rattle.capnp_format.specs.Segments.{segment, word_at, IsPlace};
@@ -28,12 +28,12 @@ use capnp_words::wire_pointer::{
     pointers_per_element,
 };
 
-/// What an object is, as its pointer says.
+/// What an object is, as its pointer states.
 #[derive(Clone, Copy)]
 pub enum Shape {
     /// A struct.
     Struct(StructSize),
-    /// A list of so many elements; of structs, of so many words.
+    /// A list, with its number of elements; for a list of structs, its number of words.
     List(ElementSize, u32),
 }
 
@@ -46,7 +46,7 @@ pub struct Start {
     pub at: u32,
 }
 
-/// The pointer to an object of a segment, from a position of that segment.
+/// The pointer, at `position` of a segment, to an object of that segment at `target`.
 pub fn pointer_to(shape: Shape, position: u32, target: u32) -> WirePointer
     requires reaches { Reaches position target }
     requires few { CountFits shape }
@@ -61,11 +61,11 @@ pub fn pointer_to(shape: Shape, position: u32, target: u32) -> WirePointer
     }
 }
 
-/// Makes an object of so many words, all zero, and sets the pointer at a place, which isn't looked
-/// at.
+/// Makes an object of `amount` words, all zero, and sets the pointer at a place to it, whatever
+/// that held.
 ///
-/// A refusal is that of `allocate_anywhere` for one word more than the object has, and changes
-/// nothing but `refused`.
+/// Refuses like `allocate_anywhere` for one word more than the object has, and changes nothing but
+/// `refused` then.
 #[inline(always)]
 fn put_object<A: BuilderArena>(
     arena: &mut A,
@@ -105,11 +105,11 @@ fn put_object<A: BuilderArena>(
     }
 }
 
-/// Makes an object of so many words, all zero, behind a landing pad where the arena finds room for
-/// both, and sets the pointer at a place, which isn't looked at.
+/// Makes an object of `amount` words, all zero, after a landing pad, where the arena finds room for
+/// both, and sets the pointer at a place to it, whatever that held.
 ///
-/// A refusal is that of `allocate_anywhere` for one word more than the object has, and changes
-/// nothing but `refused`.
+/// Refuses like `allocate_anywhere` for one word more than the object has, and changes nothing but
+/// `refused` then.
 #[inline(always)]
 fn put_far<A: BuilderArena>(
     arena: &mut A,
@@ -123,7 +123,7 @@ fn put_far<A: BuilderArena>(
     requires small { amount < 2 ^ 31 }
     ensures { MakesFar result (call_at id at (A.view arena.old) (A.view arena.new)) shape amount }
 {
-    // No `?`: with it lists and trees of structs are built slower (docs/SPEED.md).
+    // No `?`: it would make building lists and trees of structs slower (docs/SPEED.md).
     match arena.allocate_anywhere(amount + 1) {
         Ok((segment, pad)) => {
             let word = pointer_to(shape, pad, pad + 1);
@@ -138,7 +138,7 @@ fn put_far<A: BuilderArena>(
     }
 }
 
-/// Makes the pointer at a place null, and zero what it held: its object, all below it, and its
+/// Makes the pointer at a place null, and zeroes what it held: its object, all below it, and its
 /// landing pads.
 pub fn clear<A: BuilderArena>(arena: &mut A, id: u32, at: u32)
     requires place { IsPlace (A.view arena.old).words id at }
@@ -150,10 +150,10 @@ pub fn clear<A: BuilderArena>(arena: &mut A, id: u32, at: u32)
     zero_object(arena, id, at);
 }
 
-/// Makes a struct, all zero, and sets the pointer at a place to it, which isn't looked at. One
-/// without sections takes no words.
+/// Makes a struct, all zero, and sets the pointer at a place to it, whatever that held. One without
+/// sections takes no words.
 ///
-/// A refusal is that of memory, or `MessageTooLarge`, and changes nothing but `refused`.
+/// Refuses if memory runs out, or with `MessageTooLarge`, and changes nothing but `refused` then.
 #[inline(always)]
 pub fn make_struct<A: BuilderArena>(
     arena: &mut A,
@@ -189,10 +189,10 @@ pub fn make_struct<A: BuilderArena>(
     put_object(arena, id, at, Shape::Struct(size), words)
 }
 
-/// Makes a list of elements that are no structs, all zero or null, and sets the pointer at a place to
-/// it, which isn't looked at.
+/// Makes a list of elements that aren't structs, all zero or null, and sets the pointer at a place
+/// to it, whatever that held.
 ///
-/// A refusal is that of memory, or `MessageTooLarge`, and changes nothing but `refused`.
+/// Refuses if memory runs out, or with `MessageTooLarge`, and changes nothing but `refused` then.
 #[inline(always)]
 pub fn make_list<A: BuilderArena>(
     arena: &mut A,
@@ -224,7 +224,7 @@ pub fn make_list<A: BuilderArena>(
     put_object(arena, id, at, Shape::List(size, count), words)
 }
 
-/// How many words a list takes of so many elements that are no structs.
+/// The number of words of a list of `count` elements that aren't structs.
 fn words_of_list(size: ElementSize, count: u32) -> u32
     requires few { count < 2 ^ 29 }
     requires plain { size_number size ≤ 6 }
@@ -237,10 +237,10 @@ fn words_of_list(size: ElementSize, count: u32) -> u32
     (u64::from(data_bits_per_element(size)) * u64::from(count)).div_ceil(64) as u32
 }
 
-/// Makes a list of structs, all zero, and sets the pointer at a place to it, which isn't looked at. Its
-/// first word is the tag.
+/// Makes a list of structs, all zero, and sets the pointer at a place to it, whatever that held.
+/// Its first word is the tag.
 ///
-/// A refusal is that of memory, or `MessageTooLarge`, and changes nothing but `refused`.
+/// Refuses if memory runs out, or with `MessageTooLarge`, and changes nothing but `refused` then.
 pub fn make_struct_list<A: BuilderArena>(
     arena: &mut A,
     id: u32,

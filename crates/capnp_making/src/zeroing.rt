@@ -1,4 +1,4 @@
-//! What a pointer holds made zero: the object, all below it, and the landing pads.
+//! Zeroes what a pointer holds: the object, all below it, and the landing pads.
 ghost use Rattle.std.specs.Prelude.{◌≡◌, ℕ, ◌<◌, ◌≤◌, ◌+◌, ◌*◌, ◌^◌, ◌∷◌, [], length, IsTrue, ◌↔◌};
 ghost use Rattle.capnp_arena_traits.specs.View.{KeepsLimits};
 ghost use Rattle.capnp_format.specs.Segments.{segment, word_at, IsPlace};
@@ -17,7 +17,7 @@ use capnp_words::wire_pointer::{
     ElementSize, StructSize, WirePointer, WirePointerKind, data_bits_per_element,
 };
 
-/// Writes zeros over words that lie in a segment. Where they don't, nothing is changed.
+/// Zeroes `n` words of a segment; changes nothing if they aren't inside it.
 pub fn zero_part<A: BuilderArena>(arena: &mut A, id: u32, start: u32, n: u64)
     requires { n < 2 ^ 63 }
     ensures zeroed { start + n ≤ length (segment (A.view arena.old).words id)
@@ -32,7 +32,7 @@ pub fn zero_part<A: BuilderArena>(arena: &mut A, id: u32, start: u32, n: u64)
     }
 }
 
-/// Whether so many words lie in a segment, and are at least one.
+/// Whether the `n` words are inside a segment, and `n` isn't 0.
 fn holds_some<A: BuilderArena>(arena: &A, id: u32, start: u32, n: u64) -> bool
     requires { n < 2 ^ 63 }
     ensures { IsTrue result
@@ -41,8 +41,8 @@ fn holds_some<A: BuilderArena>(arena: &A, id: u32, start: u32, n: u64) -> bool
     n > 0 && u64::from(start) + n <= u64::from(length_of(arena, id))
 }
 
-/// Makes the landing pads of a word zero, if it is a far pointer. Where they don't lie in their segment,
-/// nothing is changed.
+/// Zeroes the landing pads of `word`, if it is a far pointer; changes nothing if they aren't inside
+/// their segment.
 pub fn zero_pads<A: BuilderArena>(arena: &mut A, word: WirePointer)
     ensures { ZeroesPads (A.view arena.old) (A.view arena.new) word.0 }
 {
@@ -51,7 +51,7 @@ pub fn zero_pads<A: BuilderArena>(arena: &mut A, word: WirePointer)
     }
 }
 
-/// Makes the landing pads of a far pointer zero. It isn't inlined: most pointers are near.
+/// Zeroes the landing pads of a far pointer. Not inlined: most pointers are near.
 #[cold]
 #[inline(never)]
 fn zero_far_pads<A: BuilderArena>(arena: &mut A, word: WirePointer)
@@ -67,9 +67,9 @@ fn zero_far_pads<A: BuilderArena>(arena: &mut A, word: WirePointer)
     );
 }
 
-/// Makes zero what the pointer at a place holds: its object, all below it, its landing pads and the
-/// pointer itself. Of words that are no message any may become zero, and none is written
-/// otherwise.
+/// Zeroes what the pointer at a place holds: its object, all below it, its landing pads and the
+/// pointer itself. In words that aren't a message, it may zero any, and never writes anything but
+/// zeros.
 #[cycle(zeroing)]
 #[inline(always)]
 pub fn zero_object<A: BuilderArena>(arena: &mut A, id: u32, at: u32)
@@ -93,7 +93,7 @@ pub fn zero_object<A: BuilderArena>(arena: &mut A, id: u32, at: u32)
     }
 }
 
-/// Makes zero the object that a pointer leads to, and all below it, if it is a value that holds no word
+/// Zeroes the object that a pointer leads to, and all below it, if it is a value that holds no word
 /// twice.
 #[cycle(zeroing)]
 #[cold]
@@ -126,7 +126,7 @@ fn zero_landed<A: BuilderArena>(arena: &mut A, landing: Landing)
     }
 }
 
-/// Makes a struct zero, and all below it, if its pointers mean values.
+/// Zeroes a struct, and all below it, if its pointers mean values.
 #[cycle(zeroing)]
 fn zero_struct<A: BuilderArena>(arena: &mut A, id: u32, start: u32, size: StructSize)
     ensures { Zeroes (A.view arena.old) (A.view arena.new)
@@ -143,7 +143,7 @@ fn zero_struct<A: BuilderArena>(arena: &mut A, id: u32, start: u32, size: Struct
     }
 }
 
-/// Makes so many pointers one behind the other zero, and all below them, if they mean values.
+/// Zeroes `count` consecutive pointers, and all below them, if they mean values.
 #[cycle(zeroing)]
 #[tactic(auto, using(crate::proofs::Zeros::fewer))]
 fn zero_pointers<A: BuilderArena>(arena: &mut A, id: u32, start: u32, count: u32)
@@ -160,7 +160,7 @@ fn zero_pointers<A: BuilderArena>(arena: &mut A, id: u32, start: u32, count: u32
     }
 }
 
-/// Makes a list of structs zero, its tag, and all below it, if its pointers mean values.
+/// Zeroes a list of structs, its tag, and all below it, if its pointers mean values.
 #[cycle(zeroing)]
 fn zero_structs<A: BuilderArena>(arena: &mut A, id: u32, start: u32)
     ensures { Zeroes (A.view arena.old) (A.view arena.new)
@@ -177,7 +177,7 @@ fn zero_structs<A: BuilderArena>(arena: &mut A, id: u32, start: u32)
     }
 }
 
-/// Makes the pointers of elements one behind the other zero, and all below them, if they mean values.
+/// Zeroes the pointers of consecutive elements, and all below them, if they mean values.
 #[cycle(zeroing)]
 #[tactic(auto, using(crate::proofs::Zeros::fewer))]
 fn zero_elements<A: BuilderArena>(arena: &mut A, id: u32, start: u32, size: StructSize, count: u32)

@@ -1,7 +1,7 @@
--- What the limiter of a copy has left.
+-- What a limiter has left after a copy.
 use Rattle.std.specs.Prelude.{ℕ, ◌≤◌, Option, Some, None, ⊤}
 
--- What is left of a limit is no more than there was before.
+-- A limit with `after` left has no more left than it had before.
 abbrev pub IsLeftOf : Option ℕ → Option ℕ → Type 0
 IsLeftOf None None = ⊤
 IsLeftOf (Some after) (Some before) = after ≤ before

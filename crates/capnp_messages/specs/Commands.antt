@@ -1,4 +1,4 @@
--- What is asked of a whole message, when there is an answer, and why there is none.
+-- What a command asks of a whole message, when it has an answer, and why it is refused.
 use Rattle.std.specs.Prelude.{◌≡◌, ◌⊎◌, ℕ, List, [], ◌∷◌, length}
 use Rattle.capnp_words.specs.declared.error.ErrorKind.{ErrorKind}
 use Rattle.capnp_words.specs.declared.error.ErrorKind.TheVariants.{AllocationFailed}
@@ -11,19 +11,19 @@ use Rattle.capnp_messages.specs.declared.messages.command.Command.TheVariants.{C
 use Rattle.capnp_messages.specs.declared.messages.command.Form.{Form}
 use Rattle.capnp_messages.specs.declared.messages.command.Form.TheVariants.{Framed, Flat}
 
--- The bytes of a canonical message in a form.
+-- The bytes of a canonical message with these words, framed or flat.
 abbrev pub form_bytes : Form → List ℕ → List ℕ
 form_bytes Framed words = frame (words ∷ [])
 form_bytes Flat words = bytes_of_words words
 
--- Why a command gives no answer.
+-- A command on S, within these limits, is refused with k.
 abbrev pub RefusesAnswer : Command → ReaderOptions → Segments → ErrorKind → Type 0
 RefusesAnswer (Canon form) limits S k = (k ≡ AllocationFailed) ⊎ RefusesCanon S limits k
 RefusesAnswer Check limits S k = RefusesCheck S limits k
 RefusesAnswer Size limits S k = RefusesSize S limits k
 
--- Wherever this holds there is an answer: there is a canonical copy; a value, or not one segment; a
--- size.
+-- A command on S, within these limits, has an answer if this holds. `Canon`: S has a canonical
+-- copy. `Check`: S doesn't have exactly one segment, or it means a value. `Size`: S has a size.
 abbrev pub HasAnswerWithin : Command → ReaderOptions → Segments → Type 0
 HasAnswerWithin (Canon form) limits S = HasCanonicalCopy S limits
 HasAnswerWithin Check limits S = length S ≡ 1 → IsReadable S limits

@@ -1,12 +1,13 @@
--- A segment of memory for copies, whose front is ready, and with other bytes there.
+-- Segments of memory for copies, of which only the front is initialized, and the same ones with
+-- other bytes.
 use Rattle.std.specs.Prelude.{ℕ, List, ◌++◌, replicate}
 use Rattle.std.specs.Vec.{with_items}
 use Rattle.capnp_messages.specs.declared.messages.copy_memory.CopySegment.{CopySegment}
 
--- all bytes: those that are ready, and zeros
+-- All bytes: the ready ones, then zeros.
 abbrev pub copy_content : CopySegment → List ℕ
 copy_content s = s.bytes.items ++ replicate s.unready 0
 
--- the segment with w in place of the bytes that are ready
+-- The segment with w in place of the ready bytes.
 abbrev pub with_copy_bytes : CopySegment → List ℕ → CopySegment
 with_copy_bytes s w = record s { bytes = with_items s.bytes w; room = s.room }

@@ -1,5 +1,5 @@
--- What a segment of memory for copies holds, with other bytes ready. These lemmas stand among the
--- definitions, since a law of a trait may cite nothing else.
+-- The content of a segment of memory for copies once its ready bytes are replaced. These lemmas are
+-- among the definitions because a trait's law may cite nothing else.
 use Rattle.std.specs.Prelude.{ℕ, List, ◌+◌, ◌-◌, ◌++◌, ◌≡◌, length, take, drop, replicate}
 use Rattle.std.proofs.Common.{arith, ap, sym, ◌∙◌}
 use Rattle.std.proofs.lemmas.List.{length-append, length-replicate}

@@ -1,4 +1,4 @@
--- What is said of a whole message, within the limits of a reader's options, and why it isn't.
+-- What a whole message has within the limits of a reader's options, and why it is refused.
 use Rattle.std.specs.Prelude.{◌≡◌, ◌⊎◌, ℕ, ◌+◌, ◌≤◌, Option, length}
 use Rattle.capnp_words.specs.declared.error.ErrorKind.{ErrorKind}
 use Rattle.capnp_words.specs.Meter.{Meter, FitsIn, less, unused}
@@ -16,8 +16,8 @@ use Rattle.capnp_messages.specs.Roots.{CoversRoot, RefusesRoot, message_root}
 use Rattle.capnp_messages.specs.Copies.{RefusesCopy}
 use Rattle.capnp_messages.specs.CanonicalMessages.{IsMessageFault, RefusesTest}
 
--- The root of a message means a value, with capabilities or without, within the nesting limit, and
--- the traversal limit covers what reading it costs, and one word for the root pointer ("Messages",
+-- The root of S means a value, with or without capabilities, within the nesting limit. The
+-- traversal limit covers what reading it costs, and one word for the root pointer ("Messages",
 -- "Security Considerations").
 pub record IsReadable (S : Segments) (limits : ReaderOptions) : Type 0 where
   pub root : CoversRoot S limits.traversal_limit_in_words
@@ -26,7 +26,7 @@ pub record IsReadable (S : Segments) (limits : ReaderOptions) : Type 0 where
   pub means : Means S (levels limits.nesting_limit) 0 0 value cost
   pub covered : FitsIn limits.traversal_limit_in_words (1 + cost)
 
--- The root of a message means t within the limits, and t has no capabilities ("Messages", "Security
+-- The root of S means t within the limits, and t has no capabilities ("Messages", "Security
 -- Considerations").
 pub record IsValueOf (S : Segments) (limits : ReaderOptions) (t : Tree) : Type 0 where
   pub root : CoversRoot S limits.traversal_limit_in_words
@@ -35,27 +35,28 @@ pub record IsValueOf (S : Segments) (limits : ReaderOptions) (t : Tree) : Type 0
   pub free : IsFree t
   pub covered : FitsIn limits.traversal_limit_in_words (1 + cost)
 
--- A message has a canonical copy: it means a value without capabilities within the limits, whose
+-- S has a canonical copy: it means a value without capabilities within the limits, and its
 -- canonical words, a pointer and a body, fit a segment ("Canonicalization").
 abbrev pub HasCanonicalCopy : Segments → ReaderOptions → Type 0
 HasCanonicalCopy S limits =
     (t : Tree) × IsValueOf S limits t × (1 + word_count (trim t) ≤ max_segment_words)
 
--- The test for canonical form finds this fault: its reason is true of the word that it names.
+-- The test of S for canonical form finds the fault f: the reason of f is true of the word that f
+-- names.
 abbrev pub IsFaultOf : Segments → ReaderOptions → CanonicalFault → Type 0
 IsFaultOf S limits f =
     (m : Meter)
     × IsMessageFault f S (levels limits.nesting_limit) (unused limits.traversal_limit_in_words) m
 
--- The root of a message, and the limit behind its word.
+-- The root of S, and what is left of the traversal limit after its word.
 abbrev pub root_within : Segments → ReaderOptions → Reading
 root_within S limits = message_root S (levels limits.nesting_limit)
 
 abbrev pub left_of : ReaderOptions → Option ℕ
 left_of limits = less limits.traversal_limit_in_words 1
 
--- The walk that takes a size gives so many words and capabilities at the root of a message, within
--- the limits. Where the root means a value, they are the value's.
+-- The walk that sizes S counts this many words and capabilities from the root, within the limits.
+-- If the root means a value, they are the value's.
 pub record HasSizeOf (S : Segments) (limits : ReaderOptions) (words caps : ℕ) : Type 0 where
   pub at_root : CoversRoot S limits.traversal_limit_in_words
   pub after : Meter
@@ -64,30 +65,30 @@ pub record HasSizeOf (S : Segments) (limits : ReaderOptions) (words caps : ℕ) 
   pub of_value : (t : Tree) (m cost : ℕ) → Means S m 0 0 t cost → (words ≡ word_count t) ×
       (caps ≡ capabilities t)
 
--- The walk that takes a size goes to its end within the limits, and what it counts fits.
+-- The walk that sizes S reaches its end within the limits, and its counts fit.
 abbrev pub HasSizeWithin : Segments → ReaderOptions → Type 0
 HasSizeWithin S limits =
     CoversRoot S limits.traversal_limit_in_words × ((to : Tally) ×
     WalksPlace (root_within S limits) (tally 0 0 (unused (left_of limits))) to ×
     FitSize to.words to.caps)
 
--- The root pointer is refused by the name k, or the limit covers it and P holds.
+-- The root pointer of S is refused with k, or the limit covers it and P holds.
 abbrev pub RefusesAt : Segments → ReaderOptions → ErrorKind → Type 0 → Type 0
 RefusesAt S limits k P =
     RefusesRoot S limits.traversal_limit_in_words k ⊎ (CoversRoot S limits.traversal_limit_in_words × P)
 
--- The canonical copy of a message is refused by the name k.
+-- The canonical copy of S is refused with k.
 abbrev pub RefusesCanon : Segments → ReaderOptions → ErrorKind → Type 0
 RefusesCanon S limits k =
     RefusesAt S limits k (RefusesCopy (root_within S limits) (left_of limits) max_segment_words k)
 
--- The size of a message is refused by the name k.
+-- The size of S is refused with k.
 abbrev pub RefusesSize : Segments → ReaderOptions → ErrorKind → Type 0
 RefusesSize S limits k =
     RefusesAt S limits k ((m : Meter) ×
     SizeStops k (root_within S limits) (tally 0 0 (unused (left_of limits))) m)
 
--- The test of a message of one segment is refused by the name k.
+-- S has one segment, and the test of S is refused with k.
 abbrev pub RefusesCheck : Segments → ReaderOptions → ErrorKind → Type 0
 RefusesCheck S limits k =
     (length S ≡ 1)

@@ -8,19 +8,19 @@ use Rattle.capnp_format.specs.Segments.{Segments, IsPlace}
 use Rattle.capnp_arena_traits.specs.Checks.{misplaced}
 use Rattle.capnp_objects.specs.Reading.{Reading}
 
--- The root of a message, where reading is charged and n levels may be entered.
+-- The root of S, for a reading that is charged and may enter n levels.
 abbrev pub message_root : Segments → ℕ → Reading
 message_root S n =
     record { segments = S; charging = true; of_default = false; levels = n; segment = 0; at = 0 }
 
--- A message has a root pointer, and the budget covers its word ("Messages").
+-- S has a root pointer, and the budget covers its word ("Messages").
 pub record CoversRoot (S : Segments) (budget : Option ℕ) : Type 0 where
   pub root : IsPlace S 0 0
   pub covered : FitsIn budget 1
 
--- The root pointer of a message is refused by the name k.
+-- The root pointer of S is refused with k.
 pub data RefusesRoot (S : Segments) (budget : Option ℕ) (k : ErrorKind) : Type 0 where
-  -- there is no word for a root pointer
+  -- S has no word for a root pointer
   no_root : k ≡ misplaced S 0 (InvalidSegmentId 0) → (IsPlace S 0 0 → ⊥) → RefusesRoot S budget k
-  -- there is a root pointer, and the budget doesn't cover its word
+  -- S has a root pointer, and the budget doesn't cover its word
   no_budget : k ≡ ReadLimitExceeded → IsPlace S 0 0 → budget ≡ Some 0 → RefusesRoot S budget k

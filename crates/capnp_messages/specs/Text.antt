@@ -1,4 +1,4 @@
--- The limits of a reader in words of a command, and what is printed of a message.
+-- How the arguments of a command write the limits of a reader, and what is printed about a message.
 use Rattle.std.specs.Prelude.{◌≡◌, ℕ, ℤ, pos, neg_ℤ, ◌<◌, ◌^◌, if◌then◌else◌, List, [], ◌∷◌, ◌++◌, drop}
 use Rattle.std.specs.Prelude.{Bool, true, false, codes, Option, Some, None}
 use mir.Val.{SFits as FitsSigned}
@@ -6,7 +6,8 @@ use mir.Syntax.{w32}
 use Rattle.std.specs.Fmt.{decimal}
 use Rattle.std.specs.Str.Parse.{IsNumeral, digits_value, starts_with_minus}
 
--- a nesting limit: an optional '-' and one or more decimal digits, with a value of i32
+-- The text of the nesting limit n: an optional '-' and one or more decimal digits, with a value of
+-- i32.
 abbrev pub IsNesting : List ℕ → ℤ → Type 0
 IsNesting text n =
     let digits = if starts_with_minus text then drop 1 text else text in
@@ -14,16 +15,17 @@ IsNesting text n =
     IsNumeral 10 digits ×
     (n ≡ (if starts_with_minus text then neg_ℤ value else value)) × FitsSigned w32 n
 
--- a budget of words: one or more decimal digits with a value below 2^64, or the word `none`
+-- The text of a traversal limit in words: one or more decimal digits with a value below 2^64, or
+-- the word `none`.
 abbrev pub IsBudget : List ℕ → Option ℕ → Type 0
 IsBudget text None = text ≡ codes "none"
 IsBudget text (Some n) = IsNumeral 10 text × (n ≡ digits_value 10 text) × (n < 2 ^ 64)
 
--- the line of an answer to whether a message is canonical
+-- The line that answers whether a message is canonical.
 abbrev pub check_line : Bool → List ℕ
 check_line true = codes "canonical" ++ 10 ∷ []
 check_line false = codes "not canonical" ++ 10 ∷ []
 
--- the line of a size, in decimal digits
+-- The line that answers with a size, in decimal digits.
 abbrev pub size_line : ℕ → ℕ → List ℕ
 size_line words caps = codes "words " ++ decimal words ++ codes " caps " ++ decimal caps ++ 10 ∷ []

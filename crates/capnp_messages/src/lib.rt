@@ -1,5 +1,5 @@
-//! What is said of a whole message: its canonical copy and the frame of that, the test for canonical form,
-//! its size, each with its refusals; and the words in which a program is told limits and tells numbers.
+//! Whole messages: the canonical copy and its frame, the test for canonical form, and the size,
+//! each with its refusals; and the text form of limits and numbers for programs.
 #![tactic(auto)]
 
 pub mod messages;

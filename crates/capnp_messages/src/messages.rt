@@ -1,4 +1,4 @@
-//! Whole messages: made canonical, tested for canonical form, and measured ("Canonicalization").
+//! Whole messages: copied in canonical form, tested for it, and measured ("Canonicalization").
 
 mod as_it_stands;
 mod canonical_copy;

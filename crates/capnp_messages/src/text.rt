@@ -1,4 +1,4 @@
-//! The limits of a reader as words of a command, and numbers and sizes as lines.
+//! Parses limits from arguments, and writes numbers and sizes as text.
 ghost use Rattle.std.specs.Prelude.{◌≡◌, false, Option, IfSome, IsNone, ℤ, ℕ};
 ghost use Rattle.std.specs.Fmt.{decimal};
 ghost use Rattle.capnp_framing.specs.Writing.{Writes};
@@ -7,7 +7,7 @@ ghost use Rattle.capnp_messages.specs.Text.{IsBudget, IsNesting, size_line};
 use capnp_framing::devices::{DeviceFault, Output, write_all};
 use capnp_pointers::pointers::MessageSize;
 
-/// Reads a nesting limit: an optional `-` and decimal digits; a `+` is refused.
+/// Parses a nesting limit: decimal digits with an optional `-`; refuses `+`.
 pub fn parse_nesting(text: &str) -> Option<i32>
     ensures read { IfSome result (λ n. IsNesting text.now n) }
     ensures none { IsNone result → (n : ℤ) → IsNesting text.now n → ⊥ }
@@ -19,7 +19,7 @@ pub fn parse_nesting(text: &str) -> Option<i32>
     }
 }
 
-/// Reads a traversal limit: decimal digits, or `none`; a `+` is refused.
+/// Parses a traversal limit: decimal digits, or `none`; refuses `+`.
 pub fn parse_budget(text: &str) -> Option<Option<usize>>
     ensures read { IfSome result (λ n. IsBudget text.now n) }
     ensures none { IsNone result → (n : Option ℕ) → IsBudget text.now n → ⊥ }

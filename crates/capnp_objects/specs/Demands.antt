@@ -1,5 +1,5 @@
--- What an object claims and charges, and the demands that every object meets, by the word that
--- describes it and by what the object is read for: its value, or its size alone.
+-- What an object claims and charges, and the demands that every object must meet, by the word that
+-- describes it and by what the object is read for: its value, or only its size.
 use Rattle.std.specs.Prelude.{◌≡◌, ℕ, ◌+◌, ◌*◌, ◌<◌, ◌≤◌, if◌then◌else◌, nat_eq}
 use Rattle.capnp_format.specs.Word.{kind, offset_bits, data_words, pointer_count, element_size, list_count}
 use Rattle.capnp_format.specs.Numbers.{words_for}
@@ -8,8 +8,8 @@ use Rattle.capnp_format.specs.Means.{Claims, count_cost}
 use Rattle.capnp_objects.specs.declared.object.Purpose.{Purpose}
 use Rattle.capnp_objects.specs.declared.object.Purpose.TheVariants.{Value, Size}
 
--- The words that an object claims, by the word that describes it: those of a struct's two sections;
--- of a list of structs with its tag, of pointers, of numbers.
+-- The number of words that an object claims, by the word that describes it: a struct's two
+-- sections; a list of structs, with its tag; a list of pointers; a list of numbers.
 abbrev pub claim : ℕ → ℕ
 claim w =
     if nat_eq (kind w) 0 then data_words w + pointer_count w
@@ -24,16 +24,16 @@ IsStructList w = (kind w ≡ 1) × (element_size w ≡ 7)
 abbrev pub tag : Segments → Target → ℕ
 tag S a = word_at S a.segment a.start
 
--- How many words the elements take of a list of structs with the tag g.
+-- The number of words that the elements of a list of structs with the tag g take.
 abbrev pub element_words : ℕ → ℕ
 element_words g = offset_bits g * (data_words g + pointer_count g)
 
--- What n elements of a width charge, where that is none; for the size they are free.
+-- What n elements charge in addition if their width is 0; nothing when only the size is wanted.
 abbrev pub count_charge : Purpose → ℕ → ℕ → ℕ
 count_charge Value width n = count_cost width n
 count_charge Size width n = 0
 
--- What is charged for elements of no bits; for the size nothing is.
+-- What is charged for elements without bits; nothing when only the size is wanted.
 abbrev pub amplified : Purpose → Segments → Target → ℕ
 amplified Size S a = 0
 amplified Value S a =
@@ -43,7 +43,7 @@ amplified Value S a =
     else count_cost (element_size a.word) (list_count a.word)
 
 -- What reading an object charges, without its children: its landing pads, what it claims, and its
--- elements of no bits.
+-- elements without bits.
 abbrev pub own : Purpose → Segments → Target → ℕ
 own purpose S a = a.pads + claim a.word + amplified purpose S a
 
@@ -51,12 +51,13 @@ own purpose S a = a.pads + claim a.word + amplified purpose S a
 abbrev pub IsVoidList : ℕ → Type 0
 IsVoidList w = (kind w ≡ 1) × (element_size w ≡ 0)
 
--- The words that an object claims lie in its segment; for the size a list of void may lie anywhere.
+-- The words that an object claims are inside its segment. When only the size is wanted, a list of
+-- void may be anywhere.
 abbrev pub LiesThere : Purpose → Segments → Target → Type 0
 LiesThere Value S a = Claims S a (claim a.word)
 LiesThere Size S a = (IsVoidList a.word → ⊥) → Claims S a (claim a.word)
 
--- An object that meets all demands but those on children, where n levels are left.
+-- The object at the target a meets all demands except those on children, with n levels left.
 pub record Meets (purpose : Purpose) (S : Segments) (n : ℕ) (a : Target) : Type 0 where
   pub levels : 0 < n
   pub is_object : kind a.word < 2

@@ -1,4 +1,5 @@
--- An object that a call expects to be of a kind, once its landing is known: the steps of entering it.
+-- An object that a call expects to be of some kind, once its landing is known: the steps of
+-- entering it.
 use Rattle.std.specs.Prelude.{◌≡◌, ℕ, ◌+◌, ◌-◌, ◌*◌, ◌/◌, ◌%◌, ◌^◌, ◌≤◌, if◌then◌else◌, not, ◌||◌}
 use Rattle.std.specs.Prelude.{nat_eq, Option, Some, None, get_or, length, ⊤}
 use Rattle.capnp_words.specs.declared.error.ErrorKind.{ErrorKind}
@@ -19,11 +20,11 @@ use Rattle.capnp_objects.specs.declared.object.Purpose.TheVariants.{Value}
 use Rattle.capnp_objects.specs.Expected.{Expectation, narrow_elements, narrow_structs}
 use Rattle.capnp_objects.specs.Landings.{Arrival, IsEntered, NotEntered}
 
--- The byte at index i from a place.
+-- Byte i after the place.
 abbrev pub place_byte : Place → ℕ → ℕ
 place_byte here i = get_or (words_of here.bytes.now) (here.at + i / 8) 0 / 2 ^ (8 * (i % 8)) % 256
 
--- What makes an object that was read none that was expected.
+-- Why an object that was read isn't what was expected, if it isn't.
 abbrev pub object_misfit : Expected → Object → Option ErrorKind
 object_misfit (List size) (ObjectFlat start found count) = narrow_elements size (size_number found)
 object_misfit (List size) (ObjectPointers start count) = narrow_elements size 6
@@ -40,7 +41,7 @@ IsAtHand (ObjectFlat start size count) =
     ≤ length start.bytes.now)
 IsAtHand object = ⊤
 
--- An object is refused by the name k, from m to m'.
+-- An object is refused with k, and takes the limiter from m to m'.
 pub data IsUnsuited (expected : Expectation) (o : Arrival) (m m' : Meter) (k : ErrorKind) : Type 0 where
   another : expected.another_kind o.target.word ≡ Some k → m' ≡ m → IsUnsuited expected o m m' k
   not_entered : expected.another_kind o.target.word ≡ None → NotEntered Value o m m' k →

@@ -1,6 +1,6 @@
--- What a reading call expects of the object at a place: which demands that makes besides those of
--- every object, in which order they are looked at, by what names they are refused, and what was
--- granted before ("Structs", "Lists"; docs/FORMAT.md, "Charges and refusals").
+-- What a reading call expects of the object at a place: which demands that makes in addition to
+-- those of every object, in which order they are checked, with which errors they are refused, and
+-- what was granted before ("Structs", "Lists"; docs/FORMAT.md, "Charges and refusals").
 use Rattle.std.specs.Prelude.{◌≡◌, ◌≢◌, ℕ, ◌+◌, ◌-◌, ◌*◌, ◌/◌, ◌%◌, ◌^◌, ◌<◌, if◌then◌else◌, not}
 use Rattle.std.specs.Prelude.{◌&&◌, ◌||◌, nat_eq, nat_lt, Option, Some, None, Ok, ⊤}
 use Rattle.capnp_words.specs.declared.error.ErrorKind.{ErrorKind}
@@ -43,19 +43,20 @@ use Rattle.capnp_objects.specs.Refusals.{Unfollowed, Stopped}
 use Rattle.capnp_objects.specs.Spending.{Paid}
 use Rattle.capnp_objects.specs.Wanted.{plain, follow_at, FollowsTo}
 
--- What a call expects besides what every object meets, and by which name each is refused: that
--- there is a level, which is asked for before the pointer is followed; that the pointer of a
--- default is not null; of which kind the object is, by the word that describes it, before its own
--- words are read; and what these words are.
+-- What a call expects in addition to what every object must meet, and the error with which each is
+-- refused. `too_deep`: there is a level, which is checked before the pointer is followed.
+-- `null_default`: the pointer of a default isn't null. `another_kind`: the kind of the object, by
+-- the word that describes it, is checked before its own words are read. `misfit`: what these words
+-- are.
 pub record Expectation : Type 0 where
   pub too_deep : ℕ → Option ErrorKind
   pub null_default : Option ErrorKind
   pub another_kind : ℕ → Option ErrorKind
   pub misfit : Segments → Target → Option ErrorKind
 
--- Elements of this size number where those of another are expected, 6 being pointers and 7 structs:
--- bits are no elements of any other size, and an element has at least the expected bits and
--- pointers.
+-- Why elements with the size number `found` don't fit the expected size, if they don't; 6 is
+-- pointers and 7 structs. Bits fit no other size, and an element must have at least the expected
+-- bits and pointers.
 abbrev pub narrow_elements : ElementSize → ℕ → Option ErrorKind
 narrow_elements expected found =
     if nat_eq found 1 && not (nat_eq (size_number expected) 1) then
@@ -64,8 +65,8 @@ narrow_elements expected found =
     || nat_eq (size_number expected) 6 && not (nat_eq found 6) then
     Some MessageContainsListWithIncompatibleElementType else None
 
--- Structs of these sections, where elements of a size are expected: bits are never structs, numbers
--- are their first data, and pointers their first pointer.
+-- Why structs of these sections don't fit elements of the expected size, if they don't: bits are
+-- never structs, a number is their first data, and a pointer their first pointer.
 abbrev pub narrow_structs : ElementSize → StructSize → Option ErrorKind
 narrow_structs Void sections = None
 narrow_structs InlineComposite sections = None
@@ -98,7 +99,7 @@ list_expected size = record {
       else narrow_elements size (element_size a.word);
 }
 
--- A list of bytes that takes no level, the last of which is 0.
+-- A list of bytes that takes no level, and whose last byte is 0.
 abbrev pub text_expected : Expectation
 text_expected = record {
   too_deep = λ n. None;
@@ -126,16 +127,16 @@ data_expected = record {
   misfit = λ S a. None;
 }
 
--- What a call is said to expect.
+-- What a call expects.
 abbrev pub expectation : Expected → Expectation
 expectation Struct = struct_expected
 expectation (List size) = list_expected size
 expectation Text = text_expected
 expectation Data = data_expected
 
--- The call is answered: the pointer is null; or it leads to an object of the kind that is entered,
--- with one level, which is asked for apart, and is as expected. What the object charges is covered
--- by m.
+-- The call has an answer: the pointer is null; or it leads to an object of the expected kind, which
+-- can be entered and is as expected. The entering has one level, because the level is checked
+-- separately. m covers what the object charges.
 pub data CanBeGiven (expected : Expectation) (r : Reading) (m : Meter) : Type 0 where
   null_pointer : word_of r ≡ 0 → CanBeGiven expected r m
   fitting :
@@ -146,10 +147,13 @@ pub data CanBeGiven (expected : Expectation) (r : Reading) (m : Meter) : Type 0 
       expected.misfit r.segments a ≡ None →
       CanBeGiven expected r m
 
--- The call is refused, from m to m', by the name k: no level is left, and nothing is counted or
--- charged; the pointer is not followed; the object is of another kind, and the landing pads are
--- granted; what it leads to, if it can be followed, is of the kind, and reading it stops, with one
--- level, which is asked for apart; or the object is read, and is none that was expected.
+-- The call is refused with k, and takes the limiter from m to m'.
+-- - `no_level`: no level is left, and nothing is counted or charged.
+-- - `unfollowed`: the pointer isn't followed.
+-- - `of_another_kind`: the object is of another kind, and its landing pads are granted.
+-- - `stopped`: if the pointer can be followed, the object is of the expected kind; its reading
+--   stops. It has one level, because the level is checked separately.
+-- - `misfits`: the object is read, and isn't what was expected.
 pub data Withheld (expected : Expectation) (r : Reading) (m m' : Meter) (k : ErrorKind) : Type 0 where
   no_level : word_of r ≢ 0 → expected.too_deep r.levels ≡ Some k → m' ≡ m → Withheld expected r m m' k
   unfollowed : expected.too_deep r.levels ≡ None → Unfollowed r m m' k → Withheld expected r m m' k
@@ -165,7 +169,7 @@ pub data Withheld (expected : Expectation) (r : Reading) (m m' : Meter) (k : Err
       Entered Value (record r { levels = 1 }) m m' a → expected.misfit r.segments a ≡ Some k →
       Withheld expected r m m' k
 
--- An object is as expected, where n levels are left; or the pointer is null.
+-- An object is as expected, with n levels left; or the pointer is null.
 abbrev pub IsGiven : Expected → ℕ → Object → Type 0
 IsGiven expected n ObjectNull = ⊤
 IsGiven Struct n (ObjectStruct start size) = 0 < n

@@ -1,4 +1,4 @@
--- Which demands the places break that are reached from one place, and what they charge.
+-- Which demands are broken by the places that are reached from one place, and what they charge.
 use Rattle.std.specs.Prelude.{◌≡◌, ℕ, pred, ◌+◌, ◌*◌, ◌<◌, ◌≤◌, Some}
 use Rattle.capnp_words.specs.declared.error.ErrorKind.{ErrorKind}
 use Rattle.capnp_words.specs.Meter.{Meter, Affords}
@@ -26,22 +26,23 @@ pub data IsPointer (S : Segments) (a : Target) (q : ℕ) : Type 0 where
       + pointer_count (tag S a) →
       IsPointer S a q
 
--- The pointer at a place leads to a, as its meaning has it.
+-- The pointer at the place r leads to the target a, as `Means` has it.
 abbrev pub LeadsTo : Reading → Target → Type 0
 LeadsTo r a = Leads r.segments r.segment r.at a
 
--- The place at position q of the segment of an object a, as one of its children, with so many levels.
+-- The place at position q of the segment of the object a, as one of its children, with this many
+-- levels.
 abbrev pub child_at : Reading → Target → ℕ → ℕ → Reading
 child_at r a levels q = record r { levels = levels; segment = a.segment; at = q }
 
--- P holds of some place that is reached: the place itself, or one reached from a child of an object
--- that meets its demands, with one level less.
+-- P holds for some place that is reached: the place itself, or one reached from a child of an
+-- object that meets its demands, with one level less.
 pub data Somewhere (P : Reading → Type 0) : Reading → Type 0 where
   here : {r : Reading} → P r → Somewhere P r
   below : {r : Reading} (a : Target) (q : ℕ) → LeadsTo r a → Meets Value r.segments r.levels a →
       IsPointer r.segments a q → Somewhere P (child_at r a (pred r.levels) q) → Somewhere P r
 
--- A place charges x words at once.
+-- The place r charges x words at once.
 pub data Charges (r : Reading) (x : ℕ) : Type 0 where
   of_pads : (f : ℕ) → kind (word_of r) ≡ 2 →
       pad r.segments (word_of r) (is_double (word_of r)) ≡ Some f → x ≡ 1 + is_double (word_of r) →
@@ -51,10 +52,10 @@ pub data Charges (r : Reading) (x : ℕ) : Type 0 where
   of_elements : (a : Target) → LeadsTo r a → Meets Value r.segments r.levels a →
       x ≡ amplified Value r.segments a → Charges r x
 
--- A place charges more than the limiter has left.
+-- The place r charges more than the limiter m has left.
 abbrev pub Exceeds : Meter → Reading → Type 0
 Exceeds m r = (x : ℕ) × Charges r x × (Affords r.charging m x → ⊥)
 
--- Some reached place breaks a demand of the name k.
+-- Some place that is reached from r breaks a demand that is refused with k.
 abbrev pub HasFault : Form → Reading → ErrorKind → Type 0
 HasFault form r k = Somewhere (BreaksAt form k) r

@@ -1,4 +1,4 @@
--- Following a pointer word, with the names of what may be wrong with it.
+-- Following a pointer word, with the errors for what may be wrong with it.
 use Rattle.std.specs.Prelude.{ℕ, zero, suc, ◌+◌, if◌then◌else◌, nat_lt, ok_or, Result, Ok, Err, length}
 use Rattle.capnp_words.specs.declared.error.ErrorKind.{ErrorKind}
 use Rattle.capnp_words.specs.declared.error.ErrorKind.TheVariants.{InvalidSegmentId}
@@ -6,13 +6,13 @@ use Rattle.capnp_words.specs.declared.error.ErrorKind.TheVariants.{MessageContai
 use Rattle.capnp_format.specs.Word.{upper_half, far_position}
 use Rattle.capnp_format.specs.Segments.{Segments, word_at, Target, near, pad}
 
--- What f makes of an answer; a refusal stays.
+-- The result of f on an answer; a refusal stays.
 infixl 10 ◌>=>◌
 abbrev pub ◌>=>◌ : {A B : Type 0} → Result A ErrorKind → (A → Result B ErrorKind) → Result B ErrorKind
 (Ok x) >=> f = f x
 (Err k) >=> f = Err k
 
--- Where the far pointer x leads, by one pad or by two, or the name of the first thing that is
+-- Where the far pointer x leads, by one pad or by two, or the error for the first thing that is
 -- wrong: a segment that isn't there, or a place outside of its segment.
 abbrev pub follow_far : Segments → ℕ → ℕ → Result Target ErrorKind
 follow_far S x zero =

@@ -37,7 +37,7 @@ abbrev pub found_target : Found → Target
 found_target l = record { word = l.word.0; segment = l.start.segment; start = l.start.at; pads = l.pads }
 
 -- A pointer word that is followed: its message, whether reading there is charged, and what
--- following it gives.
+-- following it returns.
 pub record Following : Type 0 where
   pub segments : Segments
   pub charging : Bool
@@ -49,7 +49,7 @@ abbrev pub following : Reading → Following
 following r =
     record { segments = r.segments; charging = r.charging; word = word_of r; gives = follow_at r }
 
--- The far pointer x of a message, and of that which an arena holds.
+-- The far pointer x of a message, or of the message in an arena.
 abbrev pub following_far : Segments → Bool → ℕ → Following
 following_far S charging x =
     record { segments = S; charging = charging; word = x; gives = follow_far S x (is_double x) }
@@ -57,7 +57,7 @@ following_far S charging x =
 abbrev pub far_in : {A : Type 0} (g : Ghosts A) → A → WirePointer → Following
 far_in g arena far = following_far (message (g.segments arena)) (g.charging arena) far.0
 
--- The landing pad of a far pointer, whose words are checked and charged, from m to m'.
+-- The landing pad of a far pointer, whose words are checked, and charged from m to m'.
 pub record IsPad (f : Following) (m m' : Meter) (here : Place) : Type 0 where
   pub held : IsHeld f.segments here
   pub number : upper_half f.word < 2 ^ 32
@@ -68,15 +68,15 @@ pub record IsPad (f : Following) (m m' : Meter) (here : Place) : Type 0 where
   pub covers : Affords f.charging m (1 + is_double f.word)
   pub paid : m' ≡ charged f.charging m (1 + is_double f.word)
 
--- A pointer is followed to where the landing pads, which are charged, from m to m', lead.
+-- A pointer is followed to where its landing pads lead, which are charged from m to m'.
 pub record IsFollowed (f : Following) (m m' : Meter) (l : Found) : Type 0 where
   pub held : IsHeld f.segments l.start
   pub leads_to : f.gives ≡ Ok (found_target l)
   pub covers : Affords f.charging m l.pads
   pub paid : m' ≡ charged f.charging m l.pads
 
--- A pointer is not followed, for the reason k: it leads nowhere, its pads granted if they are
--- there; or these are not covered.
+-- A pointer isn't followed, for the reason k: it leads nowhere, with its pads granted if they are
+-- there; or the limiter doesn't cover these.
 pub data NotFollowed (f : Following) (m m' : Meter) (k : ErrorKind) : Type 0 where
   nowhere : f.gives ≡ Err k → Affords f.charging m (landing_words f.segments f.word) →
       m' ≡ charged f.charging m (landing_words f.segments f.word) → NotFollowed f m m' k
@@ -101,21 +101,21 @@ arrival g l =
       target = found_target l.found;
     }
 
--- The words that an object claims lie in their segment and are charged, from m to m'.
+-- The words that an object claims are inside its segment, and are charged from m to m'.
 pub record IsClaimed (o : Arrival) (m m' : Meter) : Type 0 where
   pub levels : 0 < o.levels
   pub claims : Claims o.segments o.target (claim o.target.word)
   pub covers : Affords o.charging m (claim o.target.word)
   pub paid : m' ≡ charged o.charging m (claim o.target.word)
 
--- An object meets its demands, and what it charges by itself is charged, from m to m'.
+-- An object meets its demands, and its own charge is taken from m to m'.
 pub record IsEntered (purpose : Purpose) (o : Arrival) (m m' : Meter) : Type 0 where
   pub meets : Meets purpose o.segments o.levels o.target
   pub covers : Affords o.charging m (claim o.target.word + amplified purpose o.segments o.target)
   pub paid : m' ≡ charged o.charging m (claim o.target.word + amplified purpose o.segments o.target)
 
--- An object is not entered, for the reason k: it breaks a demand, or what it claims or what its
--- elements charge is not covered.
+-- An object isn't entered, for the reason k: it breaks a demand, or the limiter doesn't cover what
+-- it claims or what its elements charge.
 pub data NotEntered (purpose : Purpose) (o : Arrival) (m m' : Meter) (k : ErrorKind) : Type 0 where
   broken :
       BreaksObject purpose plain o.segments o.levels o.target k →
@@ -138,7 +138,7 @@ pub data NotEntered (purpose : Purpose) (o : Arrival) (m m' : Meter) (k : ErrorK
       k ≡ ReadLimitExceeded →
       NotEntered purpose o m m' k
 
--- The object that is described where a pointer leads, which is entered, from m to m'.
+-- The object that a pointer leads to, which is entered, from m to m'.
 abbrev pub IsOpened : Purpose → Arrival → Meter → Meter → Object → Type 0
 IsOpened purpose o m m' ObjectNull = ⊥
 IsOpened purpose o m m' (ObjectCapability i) =
@@ -163,7 +163,7 @@ IsOpened purpose o m m' (ObjectStructs start size count) =
     StartsAt o.segments a 1 start × (count ≡ offset_bits t)
     × (size.data_words ≡ data_words t) × (size.pointers ≡ pointer_count t)
 
--- An object is entered, from m to m': what it is and how few elements it has, or why it isn't.
+-- An object is entered, from m to m', with what it is and how few elements it has; or why it isn't.
 pub record Enters (purpose : Purpose) (o : Arrival) (m m' : Meter)
     (result : Result Object ErrorKind) : Type 0 where
   pub object : IfOk result (IsOpened purpose o m m')

@@ -1,4 +1,4 @@
--- What a reading of one object gives.
+-- What reading one object returns.
 use Rattle.std.specs.Prelude.{◌≡◌, ◌≢◌, ℕ, ◌+◌, ◌*◌, ◌%◌, ◌^◌, ◌<◌, ◌≤◌, length, ⊤}
 use Rattle.capnp_format.specs.Word.{kind, offset_bits, data_words, pointer_count, element_size}
 use Rattle.capnp_format.specs.Word.{list_count, upper_half}
@@ -36,11 +36,11 @@ pub record IsWordRead (r : Reading) (pointer : PointerWord) : Type 0 where
   pub some : pointer.word.0 ≢ 0
   pub small : pointer.word.0 < 2 ^ 64
 
--- An object of the target a starts so many words behind it.
+-- An object of the target a starts n words after the start of a.
 abbrev pub StartsAt : Segments → Target → ℕ → Place → Type 0
 StartsAt S a n here = IsHeld S here × (here.segment ≡ a.segment) × (here.at ≡ a.start + n)
 
--- What the pointer at a place leads to: its words are checked and charged, from m to m'.
+-- What the pointer at a place leads to, whose words are checked, and charged from m to m'.
 abbrev pub IsObject : Purpose → Reading → Meter → Meter → Object → Type 0
 IsObject purpose r m m' ObjectNull = (word_of r ≡ 0) × (m' ≡ m)
 IsObject purpose r m m' (ObjectCapability i) =
@@ -62,17 +62,16 @@ IsObject purpose r m m' (ObjectStructs start size count) =
     × (count ≡ offset_bits (tag r.segments a)) × (size.data_words ≡ data_words (tag r.segments a)) ×
     (size.pointers ≡ pointer_count (tag r.segments a))
 
--- What the pointer at a place leads to where it is near: an object at a position of the place's own
+-- What a near pointer at the place of r leads to: an object at position `at` of the place's own
 -- segment.
 abbrev pub near_at : Reading → ℕ → Target
 near_at r at = record { word = word_of r; segment = r.segment; start = at; pads = 0 }
 
--- What the near pointer at a place leads to is entered, from m to m', at this position.
+-- What the near pointer at the place of r leads to is entered, from m to m', at position `at`.
 abbrev pub EntersNear : Purpose → Reading → Meter → Meter → ℕ → Type 0
 EntersNear purpose r m m' at = Entered purpose r m m' (near_at r at)
 
--- A list has so few elements that their number fits its bits of a pointer word, and so do the words
--- of structs.
+-- The number of a list's elements fits its bits of a pointer word, and so do the words of structs.
 abbrev pub IsFew : Object → Type 0
 IsFew (ObjectFlat start size count) = count < 2 ^ 29
 IsFew (ObjectPointers start count) = count < 2 ^ 29

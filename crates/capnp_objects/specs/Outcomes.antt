@@ -1,4 +1,4 @@
--- What a reading of whole values gives and spends, and what is true where it is refused.
+-- What reading whole values returns and spends, and what holds if it is refused.
 use Rattle.std.specs.Prelude.{◌≡◌, ℕ}
 use Rattle.capnp_words.specs.declared.wire_pointer.StructSize.{StructSize}
 use Rattle.capnp_words.specs.Meter.{Meter, Affords}
@@ -12,11 +12,12 @@ use Rattle.capnp_objects.specs.Reading.{Reading}
 use Rattle.capnp_objects.specs.Spending.{after, pointers_in, pointers_in_all, pointers_in_elements}
 use Rattle.capnp_objects.specs.Wanted.{Form, FollowsTo, AllowsCapabilities}
 
--- The place means t within the levels, at a cost.
+-- The place r means t within its levels, at cost c.
 abbrev pub MeansThere : Reading → Tree → ℕ → Type 0
 MeansThere r t c = Means r.segments r.levels r.segment r.at t c
 
--- The place means t, at a cost that m covers and m' is less by.
+-- The place r means t, which this form allows, at a cost that m covers; m' is m after that cost,
+-- with the pointers of t counted.
 pub record Reads (form : Form) (r : Reading) (m m' : Meter) (t : Tree) : Type 0 where
   pub cost : ℕ
   pub means : Means r.segments r.levels r.segment r.at t cost
@@ -24,7 +25,7 @@ pub record Reads (form : Form) (r : Reading) (m m' : Meter) (t : Tree) : Type 0 
   pub covers : Affords r.charging m cost
   pub spent : m' ≡ after r.charging m cost (pointers_in t)
 
--- Pointers one behind the other, from the place on, mean ts, at a cost that m covers and m' is less by.
+-- Consecutive pointers, from the place r on, mean ts: as for one pointer.
 pub record ReadsAll (form : Form) (r : Reading) (m m' : Meter) (ts : Trees) : Type 0 where
   pub cost : ℕ
   pub means : MeansAll r.segments r.levels r.segment r.at ts cost
@@ -32,7 +33,7 @@ pub record ReadsAll (form : Form) (r : Reading) (m m' : Meter) (ts : Trees) : Ty
   pub covers : Affords r.charging m cost
   pub spent : m' ≡ after r.charging m cost (pointers_in_all ts)
 
--- Elements of a size, from the place on, mean es, at a cost that m covers and m' is less by.
+-- Elements of this size, from the place r on, mean es: as for one pointer.
 pub record ReadsElements (form : Form) (r : Reading) (size : StructSize) (m m' : Meter)
     (es : Elements) : Type 0 where
   pub cost : ℕ
@@ -41,7 +42,8 @@ pub record ReadsElements (form : Form) (r : Reading) (size : StructSize) (m m' :
   pub covers : Affords r.charging m cost
   pub spent : m' ≡ after r.charging m cost (pointers_in_elements es)
 
--- The object at a place is entered: its demands are met, and its own words are paid.
+-- The object at the place r is entered: it meets its demands, and its own words are paid, from m to
+-- m'.
 pub record Entered (purpose : Purpose) (r : Reading) (m m' : Meter) (a : Target) : Type 0 where
   pub follows : FollowsTo r a
   pub meets : Meets purpose r.segments r.levels a

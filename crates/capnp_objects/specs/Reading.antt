@@ -1,4 +1,4 @@
--- A place that is read, and the place that a source is read at.
+-- A place that is read, and the place at which a source is read.
 use Rattle.std.specs.Prelude.{ℕ, ℤ, Bool, true, false, List, [], ◌+◌, ◌*◌}
 use Rattle.capnp_format.specs.Bytes.{message}
 use Rattle.capnp_format.specs.Segments.{Segments, Target, segment, word_at, words_at}
@@ -21,8 +21,8 @@ pub record Reading : Type 0 where
   pub segment : ℕ
   pub at : ℕ
 
--- The first word of a source, and no level: of a message, of a default, which is free of charge, or
--- of nothing.
+-- The first word of a source, with no level: of a message, of a default, which is free of charge,
+-- or of nothing.
 abbrev pub source_start : {A : Type 0} (g : Ghosts A) → Source A → Reading
 source_start g (Arena a) =
     record {
@@ -58,22 +58,22 @@ reading_at g source place nesting =
 abbrev pub pointer_at : {A : Type 0} (g : Ghosts A) → Source A → PointerWord → Reading
 pointer_at g source pointer = reading_at g source pointer.place pointer.nesting_limit
 
--- The word there.
+-- The word at the place r.
 abbrev pub word_of : Reading → ℕ
 word_of r = word_at r.segments r.segment r.at
 
--- The place so many words behind.
+-- The place n words after r.
 abbrev pub behind : Reading → ℕ → Reading
 behind r n = record r { at = r.at + n }
 
--- The words of its segment, and the n words from the place on.
+-- The words of the segment of r, and the n words from r on.
 abbrev pub segment_read : Reading → List ℕ
 segment_read r = segment r.segments r.segment
 
 abbrev pub words_from : Reading → ℕ → List ℕ
 words_from r n = words_at r.segments r.segment r.at n
 
--- The pointers of element number j of a list of structs of this size, whose elements start at the place.
+-- The pointers of element j of a list of structs of this size, whose elements start at the place r.
 abbrev pub pointers_of : Reading → StructSize → ℕ → Reading
 pointers_of r size j = record r { at = r.at + j * (size.data_words + size.pointers) + size.data_words }
 
@@ -81,7 +81,7 @@ pointers_of r size j = record r { at = r.at + j * (size.data_words + size.pointe
 abbrev pub sized : ℕ → ℕ → StructSize
 sized d q = record { data_words = d; pointers = q }
 
--- The size of the elements of the list of structs that a describes, by its tag.
+-- The size of the elements of the list of structs at the target a, by its tag.
 abbrev pub tag_size : Segments → Target → StructSize
 tag_size S a =
     record {

@@ -1,4 +1,4 @@
--- Where a reading stops, by what name, and what it was granted before: the order of checks and
+-- Where a reading stops, with which error, and what it was granted before: the order of checks and
 -- charges of one object, and of a whole value in the order of its pointers (docs/FORMAT.md,
 -- "Charges and refusals").
 use Rattle.std.specs.Prelude.{◌≡◌, ◌≢◌, ◌⊎◌, ℕ, pred, ◌+◌, ◌%◌, ◌^◌, ◌<◌, if◌then◌else◌, ◌&&◌}
@@ -24,32 +24,32 @@ use Rattle.capnp_objects.specs.Reading.{Reading, word_of, behind, pointers_of, t
 use Rattle.capnp_objects.specs.Spending.{Paid}
 use Rattle.capnp_objects.specs.Wanted.{Form, plain, BreaksObject, follow_at, FollowsTo, FollowsFor}
 
--- The words of the landing pads of a pointer word, where they lie in their segment; else, and of a
--- near pointer, none.
+-- The number of words of the landing pads of a pointer word, if they are inside their segment;
+-- otherwise, and for a near pointer, 0.
 abbrev pub landing_words : Segments → ℕ → ℕ
 landing_words S x = if nat_eq (kind x) 2 && is_some (pad S x (is_double x)) then 1 + is_double x else 0
 
--- The words that an object was granted before the demand of this name is looked at: what it claims,
--- for a demand on the tag of a list of structs; else none.
+-- The number of words that an object was granted before the demand with this error is checked: what
+-- it claims, for a demand on the tag of a list of structs; otherwise 0.
 abbrev pub granted_before : Target → ErrorKind → ℕ
 granted_before a InlineCompositeListsOfNonStructTypeAreNotSupported = claim a.word
 granted_before a CantHandleNonStructInlineComposite = claim a.word
 granted_before a InlineCompositeListsElementsOverrunItsWordCount = claim a.word
 granted_before a k = 0
 
--- The pointer at a place is not followed, from m to m', for the reason k: it is counted, and
--- nothing is granted where its landing pads are not covered; else it leads nowhere, and these are
--- granted, if they are there.
+-- The pointer at a place isn't followed, which is refused with k and takes the limiter from m to
+-- m'. The pointer is counted. If the limiter doesn't cover its landing pads, nothing is granted;
+-- otherwise it leads nowhere, and these are granted, if they are there.
 pub data Unfollowed (r : Reading) (m m' : Meter) (k : ErrorKind) : Type 0 where
   exceeding : word_of r ≢ 0 → (Affords r.charging m (landing_words r.segments (word_of r)) → ⊥) →
       Paid r.charging m m' 0 1 → k ≡ ReadLimitExceeded → Unfollowed r m m' k
   leading_nowhere : word_of r ≢ 0 → follow_at r ≡ Err k →
       Paid r.charging m m' (landing_words r.segments (word_of r)) 1 → Unfollowed r m m' k
 
--- The reading of one object stops, from m to m', by the name k: its pointer is not followed; or
--- that is counted, and what was granted is its landing pads and what the object claims, where its
--- tag is wrong, and else these alone, where it breaks a demand; these, where its claim is not
--- covered; both, where the number of elements of no width is not.
+-- The reading of one object stops with k, and takes the limiter from m to m'. Either its pointer
+-- isn't followed. Or the pointer is counted, and this is granted: if the object breaks a demand,
+-- its landing pads, and what it claims if its tag is wrong; if its claim isn't covered, only its
+-- landing pads; if the number of elements without width isn't covered, the pads and the claim.
 pub data Stopped (purpose : Purpose) (form : Form) (r : Reading) (m m' : Meter) (k : ErrorKind)
     : Type 0 where
   no_target : Unfollowed r m m' k → Stopped purpose form r m m' k
@@ -74,7 +74,8 @@ pub data Stopped (purpose : Purpose) (form : Form) (r : Reading) (m m' : Meter) 
       k ≡ ReadLimitExceeded →
       Stopped purpose form r m m' k
 
--- The reading of whatever object stands at a place, as it stands, stops, from m to m', by the name k.
+-- The reading of whatever object is at the place, as a plain value, stops with k, and takes the
+-- limiter from m to m'.
 abbrev pub NotRead : Purpose → Reading → Meter → Meter → ErrorKind → Type 0
 NotRead purpose r m m' k = Stopped purpose plain r m m' k
 
@@ -86,9 +87,9 @@ CanBeRead purpose r m =
     ⊎ ((a : Target) × FollowsTo r a × Meets purpose r.segments r.levels a ×
     Affords r.charging m (own purpose r.segments a))
 
--- The pointers of an object a before its pointer at position q are gone over, from one state to
--- another. Run says that of pointers one behind the other, from a place on, and Rows of the
--- pointers of elements of a size.
+-- The pointers of the object a before its pointer at position q are visited, from one state to
+-- another. `Run` states that for consecutive pointers, from a place on, and `Rows` for the pointers
+-- of elements of a size.
 pub data GoesBefore {X : Type 0} (Run : Reading → X → X → Trees → Type 0)
     (Rows : Reading → StructSize → X → X → Elements → Type 0) (r : Reading) (a : Target) (q : ℕ)
     (from to : X) : Type 0 where
@@ -119,8 +120,8 @@ pub data GoesBefore {X : Type 0} (Run : Reading → X → X → Trees → Type 0
       (element_count es)) mid to ts →
       GoesBefore Run Rows r a q from to
 
--- The reading of a whole value stops, from m to m', where P says so of one object: at its own
--- object, or at that of one of its pointers, when the object and the pointers before that one were
+-- The reading of a whole value stops, from m to m', where P holds for one object: at its own
+-- object, or at that of one of its pointers, after the object and the pointers before that one were
 -- read.
 pub data StopsWithin (form : Form) (P : Reading → Meter → Meter → Type 0) : Reading → Meter →
     Meter → Type 0 where
@@ -132,7 +133,8 @@ pub data StopsWithin (form : Form) (P : Reading → Meter → Meter → Type 0) 
       StopsWithin form P (child_at r a (pred r.levels) q) mid m' →
       StopsWithin form P r m m'
 
--- The reading of i pointers from a place on stops at one of them, when those before it were read.
+-- The reading of i pointers from the place on stops at one of them, after those before it were
+-- read.
 pub record StopsAmong (form : Form) (P : Reading → Meter → Meter → Type 0) (r : Reading) (i : ℕ)
     (m m' : Meter) : Type 0 where
   pub first : Trees
@@ -141,7 +143,8 @@ pub record StopsAmong (form : Form) (P : Reading → Meter → Meter → Type 0)
   pub are_read : ReadsAll form r m mid first
   pub stops : StopsWithin form P (behind r (count first)) mid m'
 
--- The reading of i elements stops at a pointer of one of them, when the elements before it were read.
+-- The reading of i elements stops at a pointer of one of them, after the elements before it were
+-- read.
 pub record StopsAmongElements (form : Form) (P : Reading → Meter → Meter → Type 0) (r : Reading)
     (size : StructSize) (i : ℕ) (m m' : Meter) : Type 0 where
   pub first : Elements
@@ -150,13 +153,13 @@ pub record StopsAmongElements (form : Form) (P : Reading → Meter → Meter →
   pub are_read : ReadsElements form r size m mid first
   pub stops : StopsAmong form P (pointers_of r size (element_count first)) size.pointers mid m'
 
--- The reading of a whole value is refused by the name k: that of one object is.
+-- The reading of a whole value is refused with k: that of one object is.
 abbrev pub Refused : Form → Reading → Meter → Meter → ErrorKind → Type 0
 Refused form r m m' k = StopsWithin form (λ s i j. Stopped Value form s i j k) r m m'
 
--- The reading of one object stops; or the object was read, and what is made of it finds no room.
--- A reading that stops here is broken off: all before the object was read, and it was granted no
--- more than its own charges.
+-- The reading of one object stops; or the object was read, and what is made of it finds no room. A
+-- reading that stops here is broken off: all before the object was read, and it was granted at most
+-- its own charges.
 abbrev pub IsTried : Form → Reading → Meter → Meter → Type 0
 IsTried form r m m' =
     ((k : ErrorKind) × Stopped Value form r m m' k) ⊎ ((a : Target) × Entered Value r m m' a)

@@ -2,7 +2,7 @@
 use Rattle.std.specs.Prelude.{ℕ}
 use Rattle.capnp_words.specs.declared.wire_pointer.StructSize.{StructSize}
 
--- The sections of each element, and how many elements there are.
+-- The sections of each element, and the number of elements.
 pub record Rows : Type 0 where
   pub size : StructSize
   pub count : ℕ

@@ -1,6 +1,6 @@
--- What the size of a value is taken of: the walk that counts words and capabilities, which reads
--- less than a copy does. It neither looks where a list of void lies nor charges for elements
--- without width; and a capability takes a level.
+-- What the size of a value counts: the walk that counts words and capabilities, which reads less
+-- than a copy does. It doesn't check where a list of void is, nor charge for elements without
+-- width; and a capability takes a level.
 use Rattle.std.specs.Prelude.{◌≡◌, ℕ, pred, ◌+◌, ◌*◌, ◌-◌, ◌%◌, ◌^◌, ◌<◌, ◌≤◌, length}
 use Rattle.capnp_words.specs.declared.error.ErrorKind.{ErrorKind}
 use Rattle.capnp_words.specs.declared.error.ErrorKind.TheVariants.{MessageTooLarge}
@@ -24,8 +24,8 @@ use Rattle.capnp_objects.specs.Refusals.{GoesBefore}
 use Rattle.capnp_objects.specs.Rows.{Rows}
 use Rattle.capnp_objects.specs.Spending.{Paid, pointers_in, pointers_in_all, pointers_in_elements}
 
--- The walk from a place goes over the value t within n levels, and charges c words. It is `Means`
--- but for three things: a capability takes a level; a list of void may lie anywhere; elements
+-- The walk from (s, p) visits the value t within n levels, and charges c words. It is `Means`
+-- except for three things: a capability takes a level; a list of void may be anywhere; elements
 -- without width are free.
 abbrev mutual
   pub Sized : Segments → ℕ → ℕ → ℕ → Tree → ℕ → Type 0
@@ -54,24 +54,24 @@ abbrev mutual
       × SizedElements S (pred n) a.segment (a.start + 1) d q elements k
       × (c ≡ a.pads + (m + 1) + k)
 
-  -- Over pointers one behind the other from a place on.
+  -- The same for consecutive pointers, from (s, p) on.
   pub SizedAll : Segments → ℕ → ℕ → ℕ → Trees → ℕ → Type 0
   SizedAll S n s p no_trees c = c ≡ 0
   SizedAll S n s p (tree t ts) c =
       (k : ℕ) × (l : ℕ) × Sized S n s p t k × SizedAll S n s (p + 1) ts l × (c ≡ k + l)
 
-  -- Over elements one behind the other from a place on.
+  -- The same for consecutive elements, from (s, p) on.
   pub SizedElements : Segments → ℕ → ℕ → ℕ → ℕ → ℕ → Elements → ℕ → Type 0
   SizedElements S n s p d q no_elements c = c ≡ 0
   SizedElements S n s p d q (element words children es) c =
       (k : ℕ) × (l : ℕ) × (length words ≡ d) × (count children ≡ q) × HasWords S s p words
       × SizedAll S n s (p + d) children k × SizedElements S n s (p + d + q) d q es l × (c ≡ k + l)
 
--- The walk from the place goes over t, and charges c words.
+-- The walk from the place r visits t, and charges c words.
 abbrev pub SizedThere : Reading → Tree → ℕ → Type 0
 SizedThere r t c = Sized r.segments r.levels r.segment r.at t c
 
--- So many words and capabilities fit the numbers that a size has.
+-- These counts of words and capabilities fit the numbers of a size.
 abbrev pub FitSize : ℕ → ℕ → Type 0
 FitSize words caps = (words < 2 ^ 64) × (caps < 2 ^ 32)
 
@@ -84,7 +84,7 @@ pub record Tally : Type 0 where
 abbrev pub tally : ℕ → ℕ → Meter → Tally
 tally words caps m = record { words = words; caps = caps; meter = m }
 
--- From one tally to another the walk goes over the value at a place.
+-- From one tally to another the walk visits the value at the place r.
 pub record WalksPlace (r : Reading) (from to : Tally) : Type 0 where
   pub tree : Tree
   pub cost : ℕ
@@ -93,7 +93,7 @@ pub record WalksPlace (r : Reading) (from to : Tally) : Type 0 where
   pub words_are : to.words ≡ from.words + word_count tree
   pub caps_are : to.caps ≡ from.caps + capabilities tree
 
--- Over the values of pointers one behind the other, from the place on.
+-- The same for the values of consecutive pointers, from the place on.
 pub record WalksAll (r : Reading) (from to : Tally) (ts : Trees) : Type 0 where
   pub cost : ℕ
   pub is_sized : SizedAll r.segments r.levels r.segment r.at ts cost
@@ -101,7 +101,8 @@ pub record WalksAll (r : Reading) (from to : Tally) (ts : Trees) : Type 0 where
   pub words_are : to.words ≡ from.words + word_count_all ts
   pub caps_are : to.caps ≡ from.caps + capabilities_all ts
 
--- Over the values of the pointers of elements of a size, the first of which starts at the place.
+-- The same for the values of the pointers of elements of this size, the first of which starts at
+-- the place.
 pub record WalksElements (r : Reading) (size : StructSize) (from to : Tally) (es : Elements) : Type 0 where
   pub cost : ℕ
   pub is_sized : SizedElements r.segments r.levels r.segment r.at size.data_words size.pointers es cost
@@ -109,13 +110,13 @@ pub record WalksElements (r : Reading) (size : StructSize) (from to : Tally) (es
   pub words_are : to.words ≡ from.words + word_count_elements es
   pub caps_are : to.caps ≡ from.caps + capabilities_elements es
 
--- From one tally to another the walk goes over i pointers, from the place on.
+-- From one tally to another the walk visits i pointers, from the place on.
 abbrev pub WalksPointers : Reading → ℕ → Tally → Tally → Type 0
 WalksPointers r i from to = (ts : Trees) × (count ts ≡ i) × WalksAll r from to ts
 
--- The walk stops at one object, with the limiter m', by the name k. The sums before it fit. The
--- object can't be measured; or it is measured, and with its own words, or with it as a capability,
--- the sums are too much.
+-- The walk stops at one object with k, and leaves the limiter as m'. The sums before it fit. The
+-- object can't be measured; or it is measured, and the sums with its own words, or with it as a
+-- capability, are too large.
 pub data SizeStopped (r : Reading) (from : Tally) (m' : Meter) (k : ErrorKind) : Type 0 where
   unmeasured : NotMeasured r from.meter m' k → SizeStopped r from m' k
   too_large : (a : Target) → Entered Size r from.meter m' a →
@@ -131,8 +132,8 @@ pub data SizeStopped (r : Reading) (from : Tally) (m' : Meter) (k : ErrorKind) :
       k ≡ MessageTooLarge (2 ^ 64 - 1) →
       SizeStopped r from m' k
 
--- The walk from a place stops by the name k: at its own object, or at that of one of its pointers, when the
--- object and the pointers before that one were walked over. The sums before the object that stops
+-- The walk from a place stops with k: at its own object, or at that of one of its pointers, after
+-- it has visited the object and the pointers before that one. The sums before the object that stops
 -- it fit.
 pub data SizeStops (k : ErrorKind) : Reading → Tally → Meter → Type 0 where
   here : {r : Reading} {from : Tally} {m' : Meter} → FitSize from.words from.caps →
@@ -145,8 +146,8 @@ pub data SizeStops (k : ErrorKind) : Reading → Tally → Meter → Type 0 wher
       SizeStops k (child_at r a (pred r.levels) q) mid m' →
       SizeStops k r from m'
 
--- The walk from i pointers from a place on stops at one of them, when those before it were walked
--- over.
+-- The walk over i pointers from the place on stops at one of them, after it has visited those
+-- before.
 pub record SizesStop (r : Reading) (i : ℕ) (from : Tally) (m' : Meter) (k : ErrorKind)
     : Type 0 where
   pub first : Trees
@@ -155,8 +156,8 @@ pub record SizesStop (r : Reading) (i : ℕ) (from : Tally) (m' : Meter) (k : Er
   pub are_walked : WalksAll r from mid first
   pub stops : SizeStops k (record r { at = r.at + count first }) mid m'
 
--- The walk from elements stops at a pointer of one of them, when the elements before it were walked
--- over.
+-- The walk over elements stops at a pointer of one of them, after it has visited the elements
+-- before.
 pub record RowsStop (r : Reading) (n : Rows) (from : Tally) (m' : Meter) (k : ErrorKind)
     : Type 0 where
   pub first : Elements

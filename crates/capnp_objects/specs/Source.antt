@@ -1,9 +1,10 @@
--- The levels that a nesting limit leaves, and the segments of a default.
+-- The levels that a nesting limit allows, and the segments of a default.
 use Rattle.std.specs.Prelude.{ℕ, ℤ, pos, negsuc, List, [], ◌∷◌, ◌++◌, ◌^◌, replicate}
 use Rattle.capnp_format.specs.Segments.{Segments}
 use Rattle.capnp_format.specs.Bytes.{words_of}
 
--- How many levels a nesting limit leaves: none where it is below zero ("Security Considerations").
+-- The number of levels that a nesting limit allows: 0 if it is below zero ("Security
+-- Considerations").
 abbrev pub levels : ℤ → ℕ
 levels (pos n) = n
 levels (negsuc n) = 0
@@ -12,6 +13,6 @@ levels (negsuc n) = 0
 abbrev pub default_segment : ℕ
 default_segment = 2 ^ 32
 
--- A default, behind so many empty segments that no far pointer leads anywhere in it.
+-- A default, after so many empty segments that no far pointer leads anywhere in it.
 unfoldable pub default_segments : List ℕ → Segments
 default_segments bytes = replicate default_segment [] ++ words_of bytes ∷ []

@@ -6,19 +6,19 @@ use Rattle.capnp_words.specs.Meter.{Meter, less, raised, Affords, charged}
 use Rattle.capnp_format.specs.Tree.{Tree, Null, Capability, Struct, Flat, Pointers, Structs, Trees}
 use Rattle.capnp_format.specs.Tree.{no_trees, tree, Elements, no_elements, element}
 
--- A limiter after g words were granted and r pointers followed; where nothing is charged, nothing
+-- The limiter m after g words were granted and r pointers followed; if nothing is charged, nothing
 -- is counted either.
 abbrev pub after : Bool → Meter → ℕ → ℕ → Meter
 after true m g r = record { left = less m.left g; followed = raised m.followed r }
 after false m g r = m
 
--- From m to m', g words were granted and r pointers followed.
+-- From m to m' g words were granted and r pointers followed.
 pub record Paid (charging : Bool) (m m' : Meter) (g r : ℕ) : Type 0 where
   pub covers : Affords charging m g
   pub spent : m' ≡ after charging m g r
 
--- Words are asked for, from m to m': exactly those that m covers are granted; a refusal
--- takes nothing, and names the limit.
+-- Words are requested, from m to m'. They are granted exactly if m covers them; a refusal takes
+-- nothing, and is `ReadLimitExceeded`.
 pub record ChargesFor {A : Type 0} (words : ℕ) (charging : Bool) (m m' : Meter)
     (result : Result A ErrorKind) : Type 0 where
   pub exactly : IsOk result ↔ Affords charging m words
@@ -26,7 +26,7 @@ pub record ChargesFor {A : Type 0} (words : ℕ) (charging : Bool) (m m' : Meter
   pub refused : OnErr result (m' ≡ m)
   pub named : IfErr result (λ k. k ≡ ReadLimitExceeded)
 
--- The subtrees that are not Null, the value counted, each as often as it occurs.
+-- The number of subtrees that aren't Null, the value itself included, each as often as it occurs.
 abbrev mutual
   pub pointers_in : Tree → ℕ
   pointers_in Null = 0
@@ -36,12 +36,12 @@ abbrev mutual
   pointers_in (Pointers ts) = 1 + pointers_in_all ts
   pointers_in (Structs d q es) = 1 + pointers_in_elements es
 
-  -- Of all children.
+  -- The number in all children.
   pub pointers_in_all : Trees → ℕ
   pointers_in_all no_trees = 0
   pointers_in_all (tree t ts) = pointers_in t + pointers_in_all ts
 
-  -- Of the children of all elements.
+  -- The number in the children of all elements.
   pub pointers_in_elements : Elements → ℕ
   pointers_in_elements no_elements = 0
   pointers_in_elements (element ws ts es) = pointers_in_all ts + pointers_in_elements es

@@ -1,4 +1,4 @@
--- Of which kind the object is that a pointer leads to, by the word that describes it alone.
+-- The kind of object that a pointer leads to, only by the word that describes it.
 use Rattle.std.specs.Prelude.{◌≡◌, ◌⊎◌, ℕ, if◌then◌else◌, nat_eq, Result, Ok, Err}
 use Rattle.capnp_words.specs.declared.error.ErrorKind.{ErrorKind}
 use Rattle.capnp_words.specs.declared.error.ErrorKind.TheVariants.{UnexpectedFarPointer}
@@ -13,7 +13,7 @@ use Rattle.capnp_objects.specs.Refusals.{Unfollowed}
 use Rattle.capnp_objects.specs.Spending.{Paid}
 use Rattle.capnp_objects.specs.Wanted.{FollowsTo}
 
--- What a word describes, or how it is refused that it describes nothing.
+-- What a word describes, or the error if it describes nothing.
 abbrev pub type_of : ℕ → Result PointerType ErrorKind
 type_of w =
     if nat_eq (kind w) 0 then Ok Struct
@@ -26,8 +26,8 @@ abbrev pub IsOfType : Reading → Meter → Meter → PointerType → Type 0
 IsOfType r m m' t = ((word_of r ≡ 0) × (t ≡ Null) × (m' ≡ m)) ⊎
     ((a : Target) × FollowsTo r a × (type_of a.word ≡ Ok t) × Paid r.charging m m' a.pads 1)
 
--- The call is refused, from m to m', by the name k: the pointer is not followed, or leads to a word
--- that describes nothing.
+-- The call is refused with k, and takes the limiter from m to m': the pointer isn't followed, or
+-- leads to a word that describes nothing.
 pub data HasNoType (r : Reading) (m m' : Meter) (k : ErrorKind) : Type 0 where
   not_followed : Unfollowed r m m' k → HasNoType r m m' k
   of_no_type : (a : Target) → FollowsTo r a → type_of a.word ≡ Err k →

@@ -1,6 +1,6 @@
--- What a reading of whatever object stands at a place wants of it: which demands it makes there,
--- and by what name each is refused where it is broken ("Structs", "Lists", "Capabilities
--- (Interfaces)"). `Expected.antt` has the calls that want an object of a kind.
+-- What a reading requires of whatever object is at a place: which demands it makes there, and the
+-- error with which each is refused if it is broken ("Structs", "Lists", "Capabilities
+-- (Interfaces)"). `Expected.antt` has the calls that require an object of some kind.
 use Rattle.std.specs.Prelude.{◌≡◌, ◌≢◌, ◌⊎◌, ℕ, ◌%◌, ◌^◌, ◌<◌, if◌then◌else◌, nat_eq, ok_or, Result}
 use Rattle.std.specs.Prelude.{Ok, Err}
 use Rattle.std.specs.Result.{result_ok}
@@ -23,15 +23,16 @@ use Rattle.capnp_objects.specs.declared.object.Purpose.TheVariants.{Value, Size}
 use Rattle.capnp_objects.specs.Demands.{claim, tag, element_words, IsStructList, LiesThere}
 use Rattle.capnp_objects.specs.Reading.{Reading, word_of}
 
--- A value as it stands; one for canonical form; or one of a default, as it stands. The last two
+-- A plain value; one for canonical form; or one of a default, which is also plain. The last two
 -- have no capability.
 pub data Form : Type 0 where
   plain : Form
   canonical : Form
   of_default : Form
 
--- Any object: a demand that is refused by the name k is broken, with n levels, by what a pointer
--- leads to. A demand is looked at where those before it hold, so that an object breaks one at most.
+-- The target a of a pointer, with n levels, breaks the demand that is refused with the given error.
+-- This is for any object. A demand is checked only if those before it hold, so that an object
+-- breaks at most one.
 abbrev pub BreaksObject : Purpose → Form → Segments → ℕ → Target → ErrorKind → Type 0
 BreaksObject purpose form S n a MalformedDoubleFarPointer = kind a.word ≡ 2
 BreaksObject purpose form S n a UnknownPointerType =
@@ -50,9 +51,9 @@ BreaksObject purpose form S n a InlineCompositeListsElementsOverrunItsWordCount 
     (list_count a.word < element_words (tag S a))
 BreaksObject purpose form S n a _ = ⊥
 
--- What following the pointer at a place gives: the object that it leads to, whose describing word
--- may be of any kind; or the name of the first thing that is wrong. A far pointer of a default,
--- which leads nowhere, is refused by a name of its own.
+-- What following the pointer at a place returns: the target, whose describing word may be of any
+-- kind; or the error for the first thing that is wrong. A far pointer of a default, which leads
+-- nowhere, is refused with an error of its own.
 abbrev pub follow_at : Reading → Result Target ErrorKind
 follow_at r =
     let x = word_of r in
@@ -61,23 +62,24 @@ follow_at r =
     if r.of_default then ok_or (result_ok far) TriedToReadFromNullArena else far
     else ok_or (near r.segments r.segment r.at x 0) MessageContainsOutOfBoundsPointer
 
--- The pointer at a place, which is not null, is followed to a.
+-- The pointer at the place r isn't null, and is followed to the target a.
 abbrev pub FollowsTo : Reading → Target → Type 0
 FollowsTo r a = (word_of r ≢ 0) × (follow_at r ≡ Ok a)
 
--- The pointer at a place is followed to a by a reading of this purpose; one for the size takes a
--- level for whatever the pointer leads to, also for a capability.
+-- The pointer at the place r is followed to the target a by a reading for this purpose. One for the
+-- size takes a level for whatever the pointer leads to, even for a capability.
 abbrev pub FollowsFor : Purpose → Reading → Target → Type 0
 FollowsFor Value r a = FollowsTo r a
 FollowsFor Size r a = FollowsTo r a × (0 < r.levels)
 
--- A place breaks a demand that is refused by the name k: its pointer can't be followed, or what
--- that leads to breaks the demand. A null pointer breaks none.
+-- The place r breaks a demand that is refused with k: its pointer can't be followed, or what that
+-- leads to breaks the demand. A null pointer breaks none.
 abbrev pub BreaksAt : Form → ErrorKind → Reading → Type 0
 BreaksAt form k r = (word_of r ≢ 0) ×
     ((follow_at r ≡ Err k) ⊎ ((a : Target) × (follow_at r ≡ Ok a) ×
     BreaksObject Value form r.segments r.levels a k))
 
--- What a reading of a whole value takes: every value, or in the other forms one without capabilities.
+-- Which values a reading of a whole value accepts: every value, or in the other forms those without
+-- capabilities.
 abbrev pub AllowsCapabilities : Form → ℕ → Type 0
 AllowsCapabilities form capabilities = form ≢ plain → capabilities ≡ 0

@@ -1,5 +1,5 @@
-//! One object of a message, read in place: the pointer that leads to it is followed, and what it
-//! claims is checked and charged before it is believed.
+//! One object of a message, read in place: follows the pointer to it, and checks and charges what
+//! it claims before trusting it.
 #![tactic(auto)]
 
 pub mod laws;

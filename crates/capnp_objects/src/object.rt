@@ -1,5 +1,5 @@
-//! What stands at a place of a message: the objects of the encoding specification's sections
-//! "Structs", "Lists" and "Capabilities (Interfaces)", one level at a time.
+//! What is at a place of a message: the objects of the encoding specification's sections "Structs",
+//! "Lists" and "Capabilities (Interfaces)", one level at a time.
 
 ghost use Rattle.std.specs.Prelude.{◌≡◌, ◌<◌, ◌*◌, ◌^◌, length, slice_index};
 ghost use Rattle.capnp_format.specs.Bytes.{words_of};
@@ -10,8 +10,8 @@ use capnp_words::words::word_at;
 /// A word of a segment, with the segment's bytes at hand.
 #[derive(Clone, Copy)]
 pub struct Place<'a> {
-    /// The number of the segment, below 2^32 in an arena; a default is the segment of number
-    /// 2^32, so that no far pointer leads into it.
+    /// The number of the segment: in an arena below 2^32; 2^32 for a default, so that no far
+    /// pointer leads into it.
     pub segment: u64,
     /// All whole words of the segment.
     pub bytes: &'a [u8],
@@ -20,7 +20,7 @@ pub struct Place<'a> {
 }
 
 impl<'a> Place<'a> {
-    /// How many whole words the segment has.
+    /// The number of whole words in the segment.
     pub fn length(self) -> u32
         requires { length self.bytes.now < 8 * 2 ^ 32 }
         ensures { result ≡ length (words_of self.entry.bytes.now) }
@@ -28,7 +28,7 @@ impl<'a> Place<'a> {
         (self.bytes.len() / 8) as u32
     }
 
-    /// The pointer word at the place, zero beyond the segment.
+    /// The pointer word at the place; zero if the place is outside of the segment.
     pub fn word(self) -> WirePointer
         ensures value { result.0 ≡ slice_index (words_of self.entry.bytes.now) self.entry.at }
         ensures small { result.0 < 2 ^ 64 }
@@ -42,18 +42,18 @@ impl<'a> Place<'a> {
     }
 }
 
-/// A pointer word that was read, and where it stands.
+/// A pointer word that was read, and where it is.
 #[derive(Clone, Copy)]
 pub struct PointerWord<'a> {
-    /// Where the word stands.
+    /// Where the word is.
     pub place: Place<'a>,
     /// The word.
     pub word: WirePointer,
-    /// How many levels of structs and lists may be entered from there.
+    /// The nesting limit there: how many levels of structs and lists may be entered.
     pub nesting_limit: i32,
 }
 
-/// One object, whose own words are checked and charged; of its children nothing is known.
+/// One object, whose own words are checked and charged; nothing is known of its children.
 #[derive(Clone, Copy)]
 pub enum Object<'a> {
     /// Nothing: the pointer is zero.
@@ -71,25 +71,25 @@ pub enum Object<'a> {
     Flat {
         /// The first word of the elements.
         start: Place<'a>,
-        /// How wide an element is.
+        /// The element size.
         size: ElementSize,
-        /// How many elements, fewer than 2^29.
+        /// The number of elements, fewer than 2^29.
         count: u32,
     },
     /// A list of pointers.
     Pointers {
         /// The first pointer.
         start: Place<'a>,
-        /// How many pointers, fewer than 2^29.
+        /// The number of pointers, fewer than 2^29.
         count: u32,
     },
     /// A list of structs.
     Structs {
-        /// The first word behind the tag.
+        /// The first word after the tag.
         start: Place<'a>,
         /// The two sections of each element.
         size: StructSize,
-        /// How many elements, fewer than 2^30.
+        /// The number of elements, fewer than 2^30.
         count: u32,
     },
 }
@@ -99,8 +99,8 @@ pub enum Object<'a> {
 pub enum Expected {
     /// A struct.
     Struct,
-    /// A list whose elements are at least as wide as those of a size: `Void` and `InlineComposite`
-    /// take elements of any width but one bit.
+    /// A list whose elements are at least as wide as this size: `Void` and `InlineComposite` accept
+    /// elements of any width except bits.
     List(ElementSize),
     /// A list of bytes, the last of which is 0.
     Text,
@@ -113,6 +113,6 @@ pub enum Expected {
 pub enum Purpose {
     /// The object's value.
     Value,
-    /// The object's size alone: a list of void is not looked for, and elements without width are free.
+    /// Only the object's size: a list of void may be anywhere, and elements without width are free.
     Size,
 }

@@ -1,5 +1,5 @@
-//! Where readers read: an arena, a default, or nothing. A pointer is read in two steps: it is
-//! followed to where it leads, and the object there is entered, each with its checks and charges.
+//! What readers read from: an arena, a default, or nothing. Reads a pointer in two steps: follows
+//! it to where it leads, and enters the object there, each with its checks and charges.
 ghost use Rattle.std.specs.Prelude.{◌≡◌, ◌<◌, ◌≤◌, ◌↔◌, IfOk, IsOk, OnOk, OnErr, IfErr, length};
 ghost use Rattle.capnp_format.specs.Word.{kind, element_size};
 ghost use Rattle.capnp_words.specs.Meter.{counted_once};
@@ -26,26 +26,25 @@ use capnp_words::read_limiter::ReadLimiter;
 use capnp_words::wire_pointer::{WirePointer, WirePointerKind};
 use landing::Entrance;
 
-/// Where a reader reads.
+/// What a reader reads from.
 #[derive_where(Clone, Copy)]
 pub enum Source<'a, A> {
     /// A message.
     Arena(&'a A),
-    /// The bytes of a default, which are one segment; it is free of charge, and has no far
-    /// pointers.
+    /// The bytes of a default, which are one segment; free of charge, and without far pointers.
     Default(&'a [u8]),
     /// Nothing: a field that its struct doesn't have.
     Nothing,
 }
 
-// What following a pointer finds, its landing pads read.
+// What following a pointer finds, with its landing pads read.
 #[derive(Clone, Copy)]
 struct Found<'a> {
     // The word that describes the object: the pointer itself, its landing pad, or the pad's tag.
     word: WirePointer,
     // Where the object starts.
     start: Place<'a>,
-    // How many words the landing pads have.
+    // The number of words of the landing pads.
     pads: u32,
 }
 
@@ -54,19 +53,19 @@ impl<'a, A: ReaderArena> Source<'a, A> {
     /// "Lists", "Inter-Segment Pointers" and "Capabilities (Interfaces)" of the encoding
     /// specification).
     ///
-    /// A word of zero is `Null`, as is a place beyond its segment; nothing is counted or charged
-    /// then. Else the pointer is counted as followed, and charged in words, each before it is read:
-    /// its landing pads, the words that the object claims, and for elements without width their
-    /// number. Where the source isn't charged, nothing is counted either. A capability takes neither
-    /// a level nor words of its own; a struct and a list take a level, so the nesting limit must be
-    /// at least 1.
+    /// A zero word is `Null`, and so is a place outside of its segment; counts and charges nothing
+    /// for these. Counts any other pointer as followed, and charges words, each before it is read:
+    /// its landing pads, those that the object claims, and for elements without width their number.
+    /// If the source isn't charged, nothing is counted either. A capability takes neither a level
+    /// nor words of its own; a struct and a list take a level, so the nesting limit must be at
+    /// least 1.
     ///
-    /// A refusal is named by the first fault that is met: `InvalidSegmentId`,
-    /// `MessageContainsOutOfBoundsPointer`, `MalformedDoubleFarPointer`, `UnknownPointerType`,
+    /// Refuses with the first fault found: `InvalidSegmentId`, `MessageContainsOutOfBoundsPointer`,
+    /// `MalformedDoubleFarPointer`, `UnknownPointerType`,
     /// `MessageIsTooDeeplyNestedOrContainsCycles`,
     /// `InlineCompositeListsOfNonStructTypeAreNotSupported`,
     /// `InlineCompositeListsElementsOverrunItsWordCount`, `TriedToReadFromNullArena` for a far
-    /// pointer of a default, or `ReadLimitExceeded`. What was charged before it stays charged.
+    /// pointer of a default, or `ReadLimitExceeded`. What was charged before stays charged.
     #[inline(always)]
     pub fn read_object(
         self,
@@ -95,8 +94,8 @@ impl<'a, A: ReaderArena> Source<'a, A> {
         self.read_pointer(Purpose::Value, pointer, lim)
     }
 
-    // Reads the object that a pointer word leads to, which is not zero. For its size a level has to
-    // be left.
+    // Reads the object that a pointer word leads to. Preconditions: the word isn't zero; for the
+    // size only, a level is left.
     #[inline(always)]
     fn read_pointer(
         self,
@@ -122,8 +121,8 @@ impl<'a, A: ReaderArena> Source<'a, A> {
         entrance.enter(purpose, lim)
     }
 
-    /// Reads the struct that a near pointer leads to, as `read_object` does: where it starts in the
-    /// pointer's own segment, a position in words.
+    /// Reads the struct that a near pointer leads to, like `read_object`, and returns where it
+    /// starts in the pointer's own segment, in words.
     #[inline(always)]
     pub fn read_near_struct(
         self,
@@ -140,8 +139,9 @@ impl<'a, A: ReaderArena> Source<'a, A> {
         self.enter_near(pointer, pointer.word.struct_word_size(), lim)
     }
 
-    /// Reads the list of bits or bytes that a near pointer leads to, as `read_object` does: where its
-    /// elements start in the pointer's own segment, a position in words. It claims so many words.
+    /// Reads the list of bits or bytes that a near pointer leads to, like `read_object`, and
+    /// returns where its elements start in the pointer's own segment, in words. The list claims
+    /// `words` words.
     #[inline(always)]
     pub fn read_near_flat(
         self,
@@ -162,8 +162,9 @@ impl<'a, A: ReaderArena> Source<'a, A> {
         self.enter_near(pointer, words, lim)
     }
 
-    // Enters the object that a near pointer leads to, whose elements charge nothing apart: where it
-    // starts in the pointer's own segment, a position in words. It claims so many words.
+    // Enters the object that a near pointer leads to, whose number of elements isn't charged, and
+    // returns where it starts in the pointer's own segment, in words. The object claims `words`
+    // words.
     #[inline(always)]
     fn enter_near(
         self,
@@ -192,7 +193,7 @@ impl<'a, A: ReaderArena> Source<'a, A> {
         Ok(found.start.at)
     }
 
-    // Counts a pointer as followed, which only an arena that charges does.
+    // Counts a pointer as followed, if the source is an arena that charges.
     fn count(self, lim: &mut ReadLimiter)
         ensures { lim.new ≡ counted_once (source_start A.ReaderArena self.entry).charging lim.old }
     {
@@ -206,7 +207,7 @@ impl<'a, A: ReaderArena> Source<'a, A> {
         }
     }
 
-    // Charges words, which only an arena does.
+    // Charges words, if the source is an arena.
     fn charge(self, words: u64, lim: &mut ReadLimiter) -> Result<(), ErrorKind>
         ensures { ChargesFor words (source_start A.ReaderArena self.entry).charging
             lim.old lim.new result }
@@ -217,7 +218,7 @@ impl<'a, A: ReaderArena> Source<'a, A> {
         }
     }
 
-    // Charges the number of a list's elements where these have no width, unless for the size.
+    // Charges the number of a list's elements if these have no width, unless for the size.
     fn charge_count(
         self,
         purpose: Purpose,
@@ -237,8 +238,8 @@ impl<'a, A: ReaderArena> Source<'a, A> {
         }
     }
 
-    // Follows a pointer word, which is not zero. A default has no segment that a far pointer could
-    // name.
+    // Follows a pointer word. Precondition: it isn't zero. A default has no segment that a far
+    // pointer could name.
     #[inline(always)]
     fn follow(self, pointer: PointerWord<'a>, lim: &mut ReadLimiter) -> Result<Found<'a>, ErrorKind>
         requires { IsWordRead (pointer_at A.ReaderArena self pointer) pointer }
@@ -336,7 +337,7 @@ fn landing_pad<'a, A: ReaderArena>(
     })
 }
 
-// How many levels a nesting limit leaves.
+// The number of levels that a nesting limit leaves.
 fn depth_of(nesting_limit: i32) -> u32
     ensures { result ≡ levels nesting_limit }
 {

@@ -1,4 +1,4 @@
--- The names of what is refused of packed bytes.
+-- The names of refusals of packed bytes.
 use Rattle.std.specs.Prelude.{ℕ, List, codes}
 use Rattle.capnp_packing.specs.declared.packing.packing_error.PackingError.{PackingError}
 use Rattle.capnp_packing.specs.declared.packing.packing_error.PackingError.TheVariants.{
@@ -8,7 +8,7 @@ use Rattle.capnp_packing.specs.declared.packing.packing_error.PackingError.TheVa
   AllocationFailed,
 }
 
--- the name of a refusal
+-- The name of a refusal.
 abbrev pub packing_error_name : PackingError → List ℕ
 packing_error_name CutWord = codes "CutWord"
 packing_error_name Truncated = codes "Truncated"

@@ -6,7 +6,7 @@ use Rattle.capnp_packing.specs.Packing.{KeepsEnd, bytes_behind}
 use Rattle.capnp_packing.specs.declared.packing.unpacking_input.UnpackingInput.{UnpackingInput}
 
 module _ {R : Type 0} (g : Ghosts R) where
-  -- The packed bytes that are still to come, where they are known, and the bytes that they stand for.
+  -- The packed bytes that are still to come, if they are known, and the bytes that they stand for.
   abbrev pub packed_left : UnpackingInput R → Option (List ℕ)
   packed_left u =
       prepend_known (slice_range u.packed.bytes u.packed.at u.packed.end) (g.remaining u.packed.input)
@@ -14,7 +14,7 @@ module _ {R : Type 0} (g : Ghosts R) where
   abbrev pub unpacked_left : UnpackingInput R → Option (List ℕ)
   unpacked_left u = bytes_behind u.zeros u.place (packed_left u)
 
-  -- Some bytes were given without a read of the packed input.
+  -- From one state to the next, n bytes were given without a read of the packed input.
   pub record UnpacksAhead (n : ℕ) (from to : UnpackingInput R) (room : List ℕ) : Type 0 where
     pub some : 0 < n
     pub bound : n ≤ length room
@@ -23,8 +23,8 @@ module _ {R : Type 0} (g : Ghosts R) where
     pub input : to.packed.input ≡ from.packed.input
     pub told : to.told ≡ from.told
 
-  -- Bytes were given, none only where the packed bytes have ended; or the packed input has failed,
-  -- and all are still to come.
+  -- Bytes were given, and none only if the packed bytes have ended; or the packed input has failed,
+  -- and all bytes are still to come.
   pub record UnpacksSome {E : Type 0} (result : Result ℕ E) (from to : UnpackingInput R)
       (room : List ℕ) : Type 0 where
     pub bound : IfOk result (λ n. n ≤ length room)

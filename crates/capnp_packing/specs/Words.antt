@@ -1,5 +1,5 @@
--- Words that are packed and unpacked in memory, from the front of what stands there to the front of
--- room for them.
+-- Words that are packed and unpacked in memory, from the front of one slice to the front of
+-- another.
 use Rattle.std.specs.Prelude.{◌≡◌, ◌<◌, ◌≤◌, ◌%◌, ℕ, List, length, take}
 use Rattle.capnp_packing.specs.Packing.{GivesAndLeads, Packs}
 use Rattle.capnp_packing.specs.declared.packing.place.Place.TheVariants.{Tag}

@@ -1,5 +1,6 @@
-//! Devices that keep bytes for a while: an input that reads ahead, and an output that passes bytes on later. Whoever
-//! waits for an answer before it writes more gets one where an output passes all on before such an input is waited for.
+//! Devices that buffer bytes: an input that reads ahead, and an output that flushes later. A peer
+//! that waits for an answer before it sends more gets it if the output is flushed before the
+//! program waits for such an input.
 ghost use Rattle.std.specs.Prelude.{◌≡◌, ◌⊎◌, false, true, ℕ, IsTrue, OnOk, OnErr};
 ghost use Rattle.std.specs.Io.KnownBytes.{Keeps};
 
@@ -7,21 +8,21 @@ use capnp_framing::devices::{DeviceFault, Input, Output};
 
 /// An input that reads ahead.
 pub trait BufferedInput: Input {
-    // What is known of the bytes that were read ahead where the input says that there are enough.
+    // What is known of the bytes read ahead if the input says that there are enough.
     ghost has_enough: { Self → Type 0 };
 
-    /// Whether so much was read ahead that the next message is surely not waited for, or, of packed bytes, that its
-    /// front isn't.
+    /// Whether enough is read ahead that reading the next message surely won't wait; for packed
+    /// bytes, that reading its front won't.
     fn is_ahead(&self) -> bool
         ensures { IsTrue result → has_enough self.now };
 }
 
-/// An output that passes bytes on later.
+/// An output that flushes bytes later.
 pub trait BufferedOutput: Output {
-    // How many bytes were taken and not passed on.
+    // The number of bytes taken and not flushed yet.
     ghost kept: { Self → ℕ };
 
-    /// Passes on all bytes that were taken.
+    /// Flushes all bytes that were taken.
     fn pass_on(&mut self) -> Result<(), DeviceFault>
         ensures bytes { Keeps (Self.contents self.old) (Self.contents self.new) }
         ensures none { OnOk result (kept self.new ≡ 0) }
@@ -29,7 +30,7 @@ pub trait BufferedOutput: Output {
         ensures fails { OnErr result (Self.has_failed self.new ≡ true) };
 }
 
-/// Has an output pass on all that it took, unless enough of an input was read ahead.
+/// Flushes the output, unless enough of the input is read ahead.
 pub fn pass_on_before_waiting<R: BufferedInput, W: BufferedOutput>(
     input: &R,
     output: &mut W,

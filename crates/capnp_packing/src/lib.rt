@@ -1,5 +1,5 @@
-//! Packed bytes ("Packing"): words with their bytes of zero left out, read from an input as the
-//! bytes that they stand for.
+//! Packed bytes ("Packing"): words without their zero bytes, unpacked as they are read from an
+//! input.
 #![tactic(auto)]
 
 pub mod buffered;

@@ -1,5 +1,5 @@
-//! Packed bytes: read one by one, where each gives some bytes and leads to another place in the
-//! packing, and written a word or a run of words at a time.
+//! Packed bytes: unpacked one by one, where each gives some bytes and leads to the next place, and
+//! written a word or a run of words at a time.
 
 mod in_memory;
 mod packing_error;

@@ -1,6 +1,6 @@
 -- What the test for canonical form finds, how far it has come, and where it stops
--- ("Canonicalization"). It goes over the pointers in order with a head, the word at which the next
--- object has to start, and takes a level for each struct and list.
+-- ("Canonicalization"). It visits the pointers in order with a head, the word at which the next
+-- object must start, and enters a level for each struct and list.
 use Rattle.std.specs.Prelude.{◌≡◌, ◌≢◌, ◌⊎◌, ℕ, pred, ◌+◌, ◌*◌, ◌-◌, ◌/◌, ◌%◌, ◌^◌, min, ◌<◌, ◌≤◌}
 use Rattle.std.specs.Prelude.{List, [], ◌∷◌, Option, Some, None, if◌then◌else◌, nat_eq, length, ⊤}
 use Rattle.std.specs.Prelude.{Result, IfOk, IfErr, OnOk, OnErr}
@@ -51,7 +51,7 @@ use Rattle.capnp_objects.specs.Rows.{Rows}
 use Rattle.capnp_pointers.specs.Standing.{AllStand, ForOffsets, ElementsStand}
 use Rattle.capnp_pointers.specs.Standing.{EndsUsed, IsPadded}
 
--- How far a test has come: the word at which the next object has to start, and its limiter.
+-- How far a test has come: the word at which the next object must start, and its limiter.
 pub record Progress : Type 0 where
   pub head : ℕ
   pub meter : Meter
@@ -59,8 +59,8 @@ pub record Progress : Type 0 where
 abbrev pub progress : ℕ → Meter → Progress
 progress h m = record { head = h; meter = m }
 
--- The canonical words of t stand at a place and a head: the levels are enough, its cost is paid,
--- and the head moves behind them.
+-- The canonical words of t are at the place of r and the head of `from`. The levels are enough, the
+-- cost of t is paid, and the head moves past them.
 pub record Finds (r : Reading) (from to : Progress) (t : Tree) : Type 0 where
   pub stands : Stands r.segments r.segment r.at from.head t
   pub inside : ForOffset t (from.head ≤ length (segment_read r))
@@ -68,16 +68,16 @@ pub record Finds (r : Reading) (from to : Progress) (t : Tree) : Type 0 where
   pub paid : Paid r.charging from.meter to.meter (charge t) (pointers_in t)
   pub head_is : to.head ≡ from.head + word_count t
 
--- The canonical words of ts stand at pointers one behind the other, from the place on, and at a
--- head: as for one pointer.
+-- The canonical words of ts are at consecutive pointers, from the place of r on, and at the head:
+-- as for one pointer.
 pub record FindsAll (r : Reading) (from to : Progress) (ts : Trees) : Type 0 where
   pub stand : AllStand r.segments r.segment r.at from.head ts
   pub levels : depth_all ts ≤ r.levels
   pub paid : Paid r.charging from.meter to.meter (charge_all ts) (pointers_in_all ts)
   pub head_is : to.head ≡ from.head + word_count_all ts
 
--- The canonical words of es stand at the pointers of elements of a size, and at a head: as for one
--- pointer.
+-- The canonical words of es are at the pointers of elements of this size, and at the head: as for
+-- one pointer.
 pub record FindsElements (r : Reading) (size : StructSize) (from to : Progress) (es : Elements)
     : Type 0 where
   pub stand : ElementsStand r.segments r.segment r.at size.data_words size.pointers from.head es
@@ -85,22 +85,22 @@ pub record FindsElements (r : Reading) (size : StructSize) (from to : Progress) 
   pub paid : Paid r.charging from.meter to.meter (charge_elements es) (pointers_in_elements es)
   pub head_is : to.head ≡ from.head + word_count_elements es
 
--- Canonical words of some value stand at a place and a head; of i pointers.
+-- Canonical words of some value are at the place and the head; the same for i pointers.
 abbrev pub IsFound : Reading → Progress → Progress → Type 0
 IsFound r from to = (t : Tree) × Finds r from to t
 
 abbrev pub AreFound : Reading → ℕ → Progress → Progress → Type 0
 AreFound r i from to = (ts : Trees) × (count ts ≡ i) × FindsAll r from to ts
 
--- Canonical words stand at a place and a head, whatever the limits; at i pointers.
+-- Canonical words are at the place and the head, whatever the limits; the same for i pointers.
 abbrev pub IsCanonicalAt : Reading → ℕ → Type 0
 IsCanonicalAt r h = (t : Tree) × Stands r.segments r.segment r.at h t
 
 abbrev pub AreCanonicalAt : Reading → ℕ → ℕ → Type 0
 AreCanonicalAt r i h = (ts : Trees) × (count ts ≡ i) × AllStand r.segments r.segment r.at h ts
 
--- Where the object of a pointer at position p starts in canonical form: a struct of no words at the
--- pointer itself, and any other at the head, a list of structs with its tag. No capability is
+-- Where the object of a pointer at position p starts in canonical form: a struct without words at
+-- the pointer itself, and any other at the head h, a list of structs with its tag. No capability is
 -- canonical.
 abbrev pub StartsRight : Object → ℕ → ℕ → Type 0
 StartsRight ObjectNull p h = ⊤
@@ -111,43 +111,44 @@ StartsRight (ObjectFlat start size n) p h = start.at ≡ h
 StartsRight (ObjectPointers start n) p h = start.at ≡ h
 StartsRight (ObjectStructs start size n) p h = start.at ≡ h + 1
 
--- A place that is tested: its word is there and is that of a near pointer, in a segment of words of
--- 64 bits.
+-- A place that is tested: its word is there and is a near pointer, in a segment of words of 64
+-- bits.
 pub record IsTested (r : Reading) : Type 0 where
   pub small : (p : ℕ) → word_at r.segments r.segment p < 2 ^ 64
   pub there : IsPlace r.segments r.segment r.at
   pub near : kind (word_of r) < 2
 
--- The word of a place that is tested.
+-- The word w of a place that is tested.
 pub record IsTestedWord (w : ℕ) (r : Reading) : Type 0 where
   pub ready : IsTested r
   pub there : w ≡ word_of r
 
--- What a test that is answered tells: the head behind the canonical words that it has found, or
--- that there are none.
+-- The answer of a test: the head after the canonical words that it found, or None if there are
+-- none.
 abbrev pub Tells : Reading → Progress → Meter → Option ℕ → Type 0
 Tells r from m' (Some h) = IsFound r from (progress h m')
 Tells r from m' None = IsCanonicalAt r from.head → ⊥
 
--- Of i pointers.
+-- The same for i pointers.
 abbrev pub TellsAll : Reading → ℕ → Progress → Meter → Option ℕ → Type 0
 TellsAll r i from m' (Some h) = AreFound r i from (progress h m')
 TellsAll r i from m' None = AreCanonicalAt r i from.head → ⊥
 
--- Of a list of n numbers of a size that starts at position p of these words: the bits behind its
+-- The same for a list of n numbers of this size, from position p of these words: the bits after its
 -- numbers are zero.
 abbrev pub TellsFlat : List ℕ → ℕ → ElementSize → ℕ → Option ℕ → Type 0
 TellsFlat words p size n (Some e) =
     IsPadded (words ∷ []) 0 p (size_number size) n × (e ≡ p + words_for (size_number size) n)
 TellsFlat words p size n None = IsPadded (words ∷ []) 0 p (size_number size) n → ⊥
 
--- Of the two sections of a struct that starts at a place: each is empty or ends in a word that is
--- not zero.
+-- The two sections of a struct that starts at the place of r: each is empty or ends in a word that
+-- isn't zero.
 abbrev pub AreUsed : Reading → StructSize → Type 0
 AreUsed r size = EndsUsed r.segments r.segment r.at size.data_words ×
     EndsUsed r.segments r.segment (r.at + size.data_words) size.pointers
 
--- Of a struct that starts at a place: its pointers are canonical, the first object behind the struct.
+-- The same for a struct that starts at the place of r: its pointers are canonical, with the first
+-- object directly after the struct, and its sections are used.
 abbrev pub TellsStruct : Reading → StructSize → Meter → Meter → Option ℕ → Type 0
 TellsStruct r size m m' (Some e) =
     AreUsed r size × AreFound (behind r size.data_words) size.pointers
@@ -156,8 +157,9 @@ TellsStruct r size m m' None =
     AreUsed r size × AreCanonicalAt (behind r size.data_words) size.pointers
     (r.at + size.data_words + size.pointers) → ⊥
 
--- Of elements of a list of structs, the first of which starts at a place: their pointers are canonical,
--- the first object at the head; and no smaller size of elements would do.
+-- The same for elements of a list of structs, the first of which starts at the place of r: their
+-- pointers are canonical, with the first object at the head, and no smaller size of elements would
+-- do.
 abbrev pub TellsRows : Reading → Rows → Progress → Meter → Option ℕ → Type 0
 TellsRows r n from m' (Some e) =
     (es : Elements) × (element_count es ≡ n.count) × (data_width es ≡ n.size.data_words) ×
@@ -167,8 +169,8 @@ TellsRows r n from m' None =
     (pointer_width es ≡ n.size.pointers) ×
     ElementsStand r.segments r.segment r.at n.size.data_words n.size.pointers from.head es) → ⊥
 
--- Canonical words stand at a place and a head in its segment, the levels are enough, and the
--- limiter covers their cost; of i pointers.
+-- Canonical words are at the place, and at a head in its segment; the levels are enough, and the
+-- limiter covers their cost. The same for i pointers.
 abbrev pub CanBeFound : Reading → Progress → Type 0
 CanBeFound r from =
     (t : Tree) × Stands r.segments r.segment r.at from.head t ×
@@ -181,27 +183,28 @@ CanAllBeFound r i from =
     ForOffsets ts (from.head ≤ length (segment_read r)) × (depth_all ts ≤ r.levels) ×
     Affords r.charging from.meter (charge_all ts)
 
--- The name of a refusal: a list that has no level is refused by another than a struct is.
+-- The error of a refusal by the test: for a list without a level left it is another one than for a
+-- struct.
 abbrev pub level_refusal_name : ℕ → ErrorKind → ErrorKind
 level_refusal_name w MessageIsTooDeeplyNestedOrContainsCycles =
     if nat_eq (kind w) 1 then NestingLimitExceeded else MessageIsTooDeeplyNestedOrContainsCycles
 level_refusal_name w k = k
 
--- The object of a near pointer can't be read, for the reason k, and the limiter is left as m': its
--- reading stops as any other does.
+-- The object of a near pointer can't be read, which is refused with k and leaves the limiter as m':
+-- its reading stops as any other does.
 pub record Unread (k : ErrorKind) (r : Reading) (from : Progress) (m' : Meter) : Type 0 where
   pub name : ErrorKind
   pub near : kind (word_of r) < 2
   pub stopped : Stopped Value plain r from.meter m' name
   pub named : k ≡ level_refusal_name (word_of r) name
 
--- The head behind an object's own words, once these are read.
+-- The head after an object's own words, once these are read.
 abbrev pub behind_object : Target → Meter → Progress
 behind_object a m = progress (a.start + claim a.word) m
 
--- The test of a place ends where P says so: at the place itself; or its object is read, starts at
--- the head and claims what its elements take, and the test of one of its pointers ends, those
--- before that one being canonical.
+-- The test of a place ends where P holds: at the place itself; or its object is read, starts at the
+-- head and claims what its elements take, and the test of one of its pointers ends, those before
+-- that one being canonical.
 pub data TestEnds (P : Reading → Progress → Meter → Type 0) : Reading → Progress → Meter → Type 0 where
   here : {r : Reading} {from : Progress} {m' : Meter} → P r from m' → TestEnds P r from m'
   below :
@@ -214,7 +217,7 @@ pub data TestEnds (P : Reading → Progress → Meter → Type 0) : Reading → 
       TestEnds P (child_at r a (pred r.levels) q) mid m' →
       TestEnds P r from m'
 
--- The test of i pointers from a place on ends at one of them, those before it being canonical.
+-- The test of i pointers, from the place on, ends at one of them, those before it being canonical.
 pub record TestsEnd (P : Reading → Progress → Meter → Type 0) (r : Reading) (i : ℕ)
     (from : Progress) (m' : Meter) : Type 0 where
   pub first : Trees
@@ -232,12 +235,12 @@ pub record RowTestsEnd (P : Reading → Progress → Meter → Type 0) (r : Read
   pub are_found : FindsElements r n.size from mid first
   pub ends : TestsEnd P (pointers_of r n.size (element_count first)) n.size.pointers mid m'
 
--- The test of a place stops by the name k: an object can't be read.
+-- The test of a place stops with k: an object can't be read.
 abbrev pub TestStops : ErrorKind → Reading → Progress → Meter → Type 0
 TestStops k r from m' = TestEnds (Unread k) r from m'
 
--- A section of the struct that starts at a place ends in a zero word, which the fault names: that of
--- its data; or its data doesn't, and that of its pointers does.
+-- A section of the struct that starts at the place ends in a zero word, which the fault f names:
+-- the data section; or, if that doesn't, the pointer section.
 abbrev pub HasWideSection : CanonicalFault → Reading → StructSize → Type 0
 HasWideSection f r size =
     let first = r.at + size.data_words in
@@ -247,9 +250,9 @@ HasWideSection f r size =
     EndsUsed r.segments r.segment r.at size.data_words ×
     (EndsUsed r.segments r.segment first size.pointers → ⊥))
 
--- The pointers of n elements of a size are canonical, and none of the elements uses its last word
--- of data; or some does, and none uses its last pointer. The fault names the tag before the first
--- element, at the place.
+-- The pointers of n elements of this size are canonical, and none of the elements uses its last
+-- word of data; or some element does, and none uses its last pointer. The fault f names the tag,
+-- which is before the first element.
 abbrev pub AreFoundTooWide : CanonicalFault → Reading → StructSize → ℕ → Progress → Progress → Type 0
 AreFoundTooWide f r size n from to =
     (es : Elements) × (element_count es ≡ n) × FindsElements r size from to es
@@ -257,10 +260,10 @@ AreFoundTooWide f r size n from to =
     ⊎ (FaultIs f ElementPointers r.segment (r.at - 1) × (data_width es ≡ size.data_words) ×
     (pointer_width es ≢ size.pointers)))
 
--- A place isn't canonical by itself, for the reason and with the word that the fault f names, and
--- the limiter is left as m'. No near pointer is there, and nothing is counted or charged; or its
--- object is read and charged, and starts elsewhere than in canonical form, or has other bits than
--- zeros behind its numbers, or claims other words than its elements take; or all its pointers are
+-- The place isn't canonical by itself, for the reason and at the word that the fault f names, and
+-- the limiter is left as m'. Either there is no near pointer, and nothing is counted or charged. Or
+-- its object is read and charged, and starts elsewhere than in canonical form, has other bits than
+-- zeros after its numbers, or claims other words than its elements take. Or all its pointers are
 -- canonical and charged as well, and smaller sections or elements would do.
 pub data IsFault (f : CanonicalFault) (r : Reading) (from : Progress) (m' : Meter) : Type 0 where
   no_pointer : FaultIs f NoPointer r.segment r.at → (IsPlace r.segments r.segment r.at → ⊥) →
@@ -320,11 +323,11 @@ pub data IsFault (f : CanonicalFault) (r : Reading) (from : Progress) (m' : Mete
       (offset_bits (tag r.segments a)) (behind_object a first) (progress e m') →
       IsFault f r from m'
 
--- A place isn't canonical by itself, for some reason.
+-- The place isn't canonical by itself, for some reason.
 abbrev pub IsUnfit : Reading → Progress → Meter → Type 0
 IsUnfit r from m' = (f : CanonicalFault) × IsFault f r from m'
 
--- The test of a struct of this size that starts at a place fails: that of its pointers does, or
+-- The test of a struct of this size that starts at the place fails: that of its pointers does, or
 -- smaller sections would do.
 abbrev pub SectionsFail : CanonicalFault → Reading → StructSize → Meter → Meter → Type 0
 SectionsFail f r size m m' =
@@ -333,17 +336,17 @@ SectionsFail f r size m m' =
     TestsEnd (IsFault f) pointers size.pointers from m'
     ⊎ ((e : ℕ) × AreFound pointers size.pointers from (progress e m') × HasWideSection f r size)
 
--- The test of elements, the first object behind them, fails: that of their pointers does, or a smaller
--- size would do.
+-- The test of elements, with the first object directly after them, fails: that of their pointers
+-- does, or a smaller size would do.
 abbrev pub RowsFail : CanonicalFault → Reading → Rows → Meter → Meter → Type 0
 RowsFail f r n m m' =
     let from = progress (r.at + n.count * (n.size.data_words + n.size.pointers)) m in
     RowTestsEnd (IsFault f) r n from m'
     ⊎ ((e : ℕ) × AreFoundTooWide f r n.size n.count from (progress e m'))
 
--- What the test of a place gives, whose first object is looked for at a head: the head behind the
--- canonical words; or it has stopped, for its answer: at a fault, there being no canonical words, or
--- since an object can't be read.
+-- The result of the test of a place, with the first object expected at the head: the head after the
+-- canonical words. Or it has stopped with its answer: at a fault, so there are no canonical words,
+-- or because an object can't be read.
 pub record TestsPlace {E : Type 0} (r : Reading) (from : Progress) (new : Test)
     (result : Result ℕ E) : Type 0 where
   pub tells : IfOk result (λ end. Tells r from new.lim (Some end))
@@ -351,7 +354,7 @@ pub record TestsPlace {E : Type 0} (r : Reading) (from : Progress) (new : Test)
   pub refused : OnErr result (IfErr new.answer (λ k. TestStops k r from new.lim))
   pub failed : OnErr result (IfOk new.answer (λ f. TestEnds (IsFault f) r from new.lim))
 
--- What the test of pointers gives, one behind the other from a place on.
+-- The result of the test of consecutive pointers, from the place on.
 pub record TestsPointers {E : Type 0} (r : Reading) (count : ℕ) (from : Progress) (new : Test)
     (result : Result ℕ E) : Type 0 where
   pub tells : IfOk result (λ end. TellsAll r count from new.lim (Some end))

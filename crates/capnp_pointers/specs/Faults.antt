@@ -1,4 +1,4 @@
--- What a fault of a message in canonical form says, and its text ("Canonicalization").
+-- What a fault of a message that isn't in canonical form says, and its text ("Canonicalization").
 use Rattle.std.specs.Prelude.{◌≡◌, ℕ, List, codes, if◌then◌else◌, nat_eq}
 use Rattle.capnp_format.specs.Word.{kind, lower_half}
 use Rattle.capnp_pointers.specs.declared.pointers.canonical_fault.CanonicalFault.{CanonicalFault}
@@ -18,7 +18,7 @@ use Rattle.capnp_pointers.specs.declared.pointers.canonical_fault.CanonicalFault
 use Rattle.capnp_pointers.specs.declared.pointers.canonical_fault.CanonicalFaultReason.TheVariants.{ElementPointers}
 use Rattle.capnp_pointers.specs.declared.pointers.canonical_fault.CanonicalFaultReason.TheVariants.{WordsBehind}
 
--- the text of a reason
+-- The text of a reason.
 abbrev pub fault_reason_text : CanonicalFaultReason → List ℕ
 fault_reason_text SegmentCount = codes "not exactly one segment"
 fault_reason_text NoPointer = codes "no word for a pointer"
@@ -35,11 +35,11 @@ fault_reason_text ElementData = codes "a struct list that could do with less dat
 fault_reason_text ElementPointers = codes "a struct list that could do with fewer pointers"
 fault_reason_text WordsBehind = codes "words behind the value"
 
--- A fault names a word of a segment, for this reason.
+-- The fault f names the word at (s, p), for this reason.
 abbrev pub FaultIs : CanonicalFault → CanonicalFaultReason → ℕ → ℕ → Type 0
 FaultIs f reason s p = (f.reason ≡ reason) × (f.segment ≡ s) × (f.word ≡ p)
 
--- Why a pointer that is neither of a struct nor of a list isn't canonical, by its word.
+-- Why a pointer that is neither to a struct nor to a list isn't canonical, by its word.
 abbrev pub other_reason : ℕ → CanonicalFaultReason
 other_reason w = if nat_eq (kind w) 2 then FarPointer else if nat_eq (lower_half w) 3 then
     Capability else UnknownPointer

@@ -9,6 +9,6 @@ module _ {A : Type 0} (g : Ghosts A) where
   abbrev pub reading : Pointer A g → Reading
   reading r = reading_at g r.source r.place r.nesting_limit
 
-  -- The place at a position of a pointer's segment, as it is read within a nesting limit.
+  -- The place at position `at` of a pointer's segment, as it is read within a nesting limit.
   abbrev pub reading_on : Pointer A g → ℕ → ℤ → Reading
   reading_on r at nesting = reading_at g r.source (record r.place { at = at }) nesting

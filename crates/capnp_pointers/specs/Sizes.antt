@@ -1,4 +1,4 @@
--- What sizes are counted: the sums so far, and the words and pointers of one object.
+-- What is counted for sizes: the sums so far, and the words and pointers of one object.
 use Rattle.std.specs.Prelude.{◌≡◌, ◌≢◌, ℕ, ◌+◌, ◌*◌, ◌^◌, ◌<◌, Result, OnOk, OnErr}
 use Rattle.capnp_words.specs.Meter.{Meter}
 use Rattle.capnp_format.specs.Numbers.{words_for}
@@ -16,13 +16,12 @@ use Rattle.capnp_pointers.specs.declared.pointers.walk.Walk.{Walk}
 abbrev pub so_far : MessageSize → Meter → Tally
 so_far z m = tally z.word_count z.cap_count m
 
--- A walk adds the size of what a place means; or it stops, at the first fault on the way.
+-- A walk adds the size of what the place means; or it stops, at the first fault on the way.
 pub record AddsPlace {A E : Type 0} (r : Reading) (old new : Walk) (result : Result A E) : Type 0 where
   pub sized : OnOk result (WalksPlace r (so_far old.sums.size old.lim) (so_far new.sums.size new.lim))
   pub refused : OnErr result (SizeStops new.sums.refusal r (so_far old.sums.size old.lim) new.lim)
 
--- A walk adds the sizes of what so many pointers mean, one behind the other from a place on; or it
--- stops.
+-- A walk adds the sizes of what `count` consecutive pointers from the place on mean; or it stops.
 pub record AddsPointers {A E : Type 0} (r : Reading) (count : ℕ) (old new : Walk)
     (result : Result A E) : Type 0 where
   pub sized :
@@ -36,7 +35,7 @@ pub record IsWordAt (w : ℕ) (r : Reading) : Type 0 where
   pub small : w < 2 ^ 64
   pub some : w ≢ 0
 
--- The words of its own that an object counts.
+-- The number of an object's own words that the size counts.
 abbrev pub object_words : Object → ℕ
 object_words Null = 0
 object_words (Capability i) = 0

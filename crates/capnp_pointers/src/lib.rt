@@ -1,4 +1,4 @@
-//! Plain pointers of a message, in place: what is done with all that they lead to.
+//! Plain pointers of a message, in place, and calls on all that they lead to.
 #![tactic(auto)]
 
 pub mod pointers;

@@ -1,5 +1,5 @@
-//! Plain pointers of a message, in place: where they are, the sizes of what they lead to, and the test for
-//! canonical form.
+//! Plain pointers of a message, in place: where they are, the sizes of what they lead to, and the
+//! test for canonical form.
 ghost use Rattle.std.specs.Prelude.{◌≡◌, ◌↔◌, ⊤, IsTrue, IfOk, IsOk, OnOk, OnErr, IfErr};
 ghost use Rattle.capnp_format.specs.Bytes.{message};
 ghost use Rattle.capnp_format.specs.Segments.{IsPlace};
@@ -25,7 +25,7 @@ use capnp_words::read_limiter::ReadLimiter;
 pub use sizes::MessageSize;
 use std::alloc::AllocError;
 
-/// Where a pointer is in an arena.
+/// The place of a pointer in an arena.
 #[derive(Clone, Copy, Debug, PartialEq, Eq)]
 pub struct PointerPlace {
     /// The number of the segment.
@@ -34,14 +34,15 @@ pub struct PointerPlace {
     pub word: u32,
 }
 
-/// A pointer that is read, with the segment that it is in at hand: a `PointerReader` without the calls
-/// that give what it leads to.
+/// A pointer being read, with the segment that it is in at hand: a `PointerReader` without the
+/// calls that return what it leads to.
 pub struct Pointer<'a, A: ReaderArena> {
-    /// Where the pointer is read from.
+    /// What the pointer is read from.
     pub source: Source<'a, A>,
     /// Where the pointer's word is.
     pub place: Place<'a>,
-    /// How many levels of structs and lists may be entered from here, none below 1.
+    /// The nesting limit: how many levels of structs and lists may be entered from here; none below
+    /// 1.
     pub nesting_limit: i32,
     ghost held: { IsHeld (source_start A.ReaderArena source).segments place },
 }
@@ -61,8 +62,8 @@ impl<'a, A: ReaderArena> Copy for Pointer<'a, A> {}
 impl<'a, A: ReaderArena> Pointer<'a, A> {
     ghost use Rattle.capnp_pointers.specs.Pointers.{reading};
 
-    /// The pointer from nothing, which is null: at word 0 of a segment 0 that isn't there. Its nesting limit
-    /// is `i32::MAX`.
+    /// The pointer from nothing, which is null: at word 0 of a segment 0 that doesn't exist. Its
+    /// nesting limit is `i32::MAX`.
     pub fn new_default() -> Self
         ensures source { result.source ≡ Source.Nothing }
         ensures place { (result.place.segment ≡ 0) × (result.place.at ≡ 0) }
@@ -79,12 +80,12 @@ impl<'a, A: ReaderArena> Pointer<'a, A> {
         }
     }
 
-    /// The root of a message, word 0 of segment 0 ("Messages"), after this one word is charged. Its
-    /// nesting limit is the arena's.
+    /// The root of a message, word 0 of segment 0 ("Messages"). Charges this one word. The
+    /// pointer's nesting limit is the arena's.
     ///
-    /// Where there is no such word it is `MessageContainsOutOfBoundsPointer`, where there is no segment
-    /// `InvalidSegmentId(0)`, or `TriedToReadFromNullArena` in a `NullArena`, and where the limiter
-    /// doesn't cover a word `ReadLimitExceeded`. A refusal leaves the limiter as it was.
+    /// Refusals: `MessageContainsOutOfBoundsPointer` if there is no such word;
+    /// `InvalidSegmentId(0)` if there is no segment; `TriedToReadFromNullArena` in a `NullArena`;
+    /// `ReadLimitExceeded` if the limiter has no word left. A refusal leaves the limiter unchanged.
     pub fn get_root_from_arena(arena: &'a A, lim: &mut ReadLimiter) -> Result<Self, ErrorKind>
         ensures exactly { IsOk result ↔ Holds (message (A.segments arena.now)) 0 0 1
             × Affords (A.charging arena.now) lim.old 1 }
@@ -106,7 +107,7 @@ impl<'a, A: ReaderArena> Pointer<'a, A> {
         Ok(Self::at(arena, place, arena.nesting_limit()))
     }
 
-    /// The pointer at a place of an arena. The place lies in the arena.
+    /// The pointer at a place of an arena. Precondition: the place is inside the arena.
     pub fn at(arena: &'a A, place: PointerPlace, nesting_limit: i32) -> Self
         requires { IsPlace (message (A.segments arena.now)) place.segment place.word }
         ensures source { result.source ≡ Source.Arena arena.entry }

@@ -1,5 +1,5 @@
--- What the calls of a pointer reader answer that expect an object of a kind, and where they read:
--- the pointer's own place, or a default's.
+-- What the calls of a pointer reader return that expect an object of some kind, and where they
+-- read: at the pointer's own place, or at a default's.
 use Rattle.std.specs.Prelude.{◌≡◌, ◌≢◌, ◌⊎◌, ℕ, pos, ◌-◌, ◌<◌, ◌≤◌, ◌^◌, List, [], take, length}
 use Rattle.std.specs.Prelude.{Option, Some, None, Result, Ok, Err}
 use Rattle.std.specs.Borrow.{Bor}
@@ -27,15 +27,15 @@ use Rattle.capnp_readers.specs.declared.readers.struct_reader.StructReader.{Stru
 use Rattle.capnp_readers.specs.declared.readers.list_reader.ListReader.{ListReader}
 
 module _ {A : Type 0} (g : Ghosts A) where
-  -- A call on a pointer: what it expects there, and the default that it is given.
+  -- A call on a pointer: what it expects there, and the default that it gets.
   pub record Call : Type 0 where
     pub from : PointerReader A g
     pub expected : Expectation
     pub default : Option (Bor (List ℕ))
 
-  -- The pointer x that a call reads: its own, where that isn't null or there is no default; else
-  -- the one in the default's first word, within the same levels. Or the name x by which it is
-  -- refused that there is none: a default has no whole word, or its pointer is null where it must
+  -- The pointer x that a call reads. It is the call's own, if that isn't null or there is no
+  -- default; otherwise the one in the default's first word, within as many levels. Or x is the
+  -- error that there is none: the default has no whole word, or its pointer is null where it must
   -- not be.
   pub data IsRead (c : Call) (x : Result (PointerReader A g) ErrorKind) : Type 0 where
     of_pointer : (c.default ≡ None) ⊎ (word_of (read_by g c.from) ≢ 0) → x ≡ Ok c.from → IsRead c x
@@ -64,27 +64,27 @@ module _ {A : Type 0} (g : Ghosts A) where
         x ≡ Err k →
         IsRead c x
 
-  -- P holds of the pointer that a call reads.
+  -- P holds for the pointer that a call reads.
   abbrev pub WhereRead : Call → (PointerReader A g → Type 0) → Type 0
   WhereRead c P = (p : PointerReader A g) × IsRead c (Ok p) × P p
 
-  -- A call is refused, from m to m', by the name k: there is no pointer to read, and nothing is
-  -- counted or charged; or what it expects is withheld there.
+  -- A call is refused with k, and takes the limiter from m to m': there is no pointer to read, and
+  -- nothing is counted or charged; or what the call expects is withheld there.
   abbrev pub IsRefused : Call → Meter → Meter → ErrorKind → Type 0
   IsRefused c m m' k =
       (IsRead c (Err k) × (m' ≡ m)) ⊎ WhereRead c (λ p. Withheld c.expected (read_by g p) m m' k)
 
-  -- The struct that a pointer leads to, its words checked and charged, from m to m'; of a null
-  -- pointer the struct from nothing.
+  -- The pointer p leads to the struct r, whose words are checked, and charged from m to m'. If p is
+  -- null, r is the struct from nothing.
   abbrev pub IsStructRead : PointerReader A g → Meter → Meter → StructReader A g → Type 0
   IsStructRead p m m' r =
       ((word_of (read_by g p) ≡ 0) × (m' ≡ m) × (r.source ≡ Nothing) × (r.bits ≡ 0) ×
       (r.pointer_count ≡ 0) × (r.nesting_limit ≡ pos (2 ^ 31 - 1)))
       ⊎ IsStructThere g p m m' r
 
-  -- The list that a pointer leads to, of elements as wide as those of an expected size, or wider:
-  -- they have at least its bits of data, and a pointer where it is one; and they are bits only where
-  -- bits are expected. Of a null pointer the list from nothing.
+  -- The pointer p leads to the list r, whose words are checked, and charged from m to m'. Its
+  -- elements fit the expected size: they have at least its bits of data, and a pointer if it is
+  -- one, and are bits only if bits are expected. If p is null, r is the list from nothing.
   abbrev pub IsListRead : ElementSize → PointerReader A g → Meter → Meter → ListReader A g → Type 0
   IsListRead expected p m m' r =
       ((word_of (read_by g p) ≡ 0) × (m' ≡ m) × (r.source ≡ Nothing) × (r.element_size ≡ Void) ×
@@ -94,7 +94,8 @@ module _ {A : Type 0} (g : Ghosts A) where
       (size_number expected ≡ 6 → HoldsPointer r.element_size r.struct_size) ×
       (size_number r.element_size ≡ 1 → size_number expected ≡ 1)))
 
-  -- The bytes that a pointer leads to, in place, but so many at the end; of a null pointer none.
+  -- The bytes that p leads to, in place, without the last `but` of them; none if p is null. They
+  -- are charged from m to m'.
   abbrev pub AreBytesRead : ℕ → PointerReader A g → Meter → Meter → List ℕ → Type 0
   AreBytesRead but p m m' bytes =
       ((word_of (read_by g p) ≡ 0) × (m' ≡ m) × (bytes ≡ []))

@@ -1,4 +1,4 @@
--- What readers show of a message, and where they may be put.
+-- What readers show of a message, and at which places they may be.
 use Rattle.std.specs.Prelude.{◌≡◌, ℕ, pos, ◌+◌, ◌*◌, ◌/◌, ◌%◌, ◌^◌, slice_range, ◌-ℤ◌, ◌<◌, ◌≤◌, length}
 use Rattle.capnp_format.specs.Bytes.{words_of}
 use Rattle.capnp_words.specs.Meter.{Meter, Affords}
@@ -27,14 +27,14 @@ use Rattle.capnp_readers.specs.declared.readers.target.Target.{Target as ReadTar
 use Rattle.capnp_readers.specs.declared.readers.target.Target.TheVariants.{Null, Cap, Struct, List}
 use Rattle.capnp_objects.specs.Wanted.{FollowsTo}
 
--- Both sections of a struct lie in its segment.
+-- Both sections of a struct are inside its segment.
 abbrev pub IsStructPlace : Segments → StructPlace → Type 0
 IsStructPlace S place =
     (place.segment < length S) × (place.byte + bytes_for place.bits
     ≤ 8 * length (segment S place.segment)) × (place.pointers_at + place.pointers
     ≤ length (segment S place.segment))
 
--- The elements of a list lie in its segment, from a word on.
+-- The elements of a list are inside its segment, and start at a word.
 abbrev pub IsListPlace : Segments → ListPlace → Type 0
 IsListPlace S place =
     (place.segment < length S) × (place.byte % 8 ≡ 0)
@@ -43,7 +43,7 @@ IsListPlace S place =
     ≤ 8 * length (segment S place.segment))
 
 module _ {A : Type 0} (g : Ghosts A) where
-  -- A reader shows the struct of these sections that starts at position p of segment s.
+  -- The reader r shows the struct of these sections that starts at (s, p).
   pub record ShowsStruct (S : Segments) (r : StructReader A g) (s p : ℕ) (size : StructSize)
       : Type 0 where
     pub words_are : words_of r.content.now ≡ words_at S s p size.data_words
@@ -53,8 +53,8 @@ module _ {A : Type 0} (g : Ghosts A) where
     pub pointers_start : r.pointers.at ≡ p + size.data_words
     pub pointers_are : r.pointer_count ≡ size.pointers
 
-  -- A reader shows the list of these elements that starts at position p of segment s; where they are
-  -- no structs, their sections are of no words.
+  -- The reader r shows the list of these elements that starts at (s, p). If they aren't structs,
+  -- their sections have no words.
   pub record ShowsList (S : Segments) (r : ListReader A g) (s p : ℕ) (elements : Rows) : Type 0 where
     pub words_are : words_of r.content.now ≡ words_at S s p (elements_words r.element_size elements.count
         (elements.size.data_words + elements.size.pointers))
@@ -64,7 +64,7 @@ module _ {A : Type 0} (g : Ghosts A) where
     pub data_of : r.struct_size.data_words ≡ elements.size.data_words
     pub pointers_of : r.struct_size.pointers ≡ elements.size.pointers
 
-  -- A struct reader shows element number i of a list, whose elements have this size: a struct's two
+  -- The struct reader r shows element i of a list whose elements have this size: a struct's two
   -- sections, one pointer, or the bits of a number.
   abbrev pub ShowsElement : ElementSize → ListReader A g → ℕ → StructReader A g → Type 0
   ShowsElement InlineComposite list i r =
@@ -80,7 +80,7 @@ module _ {A : Type 0} (g : Ghosts A) where
       × (r.content.now ≡ slice_range list.content.now (i * (r.bits / 8))
       (i * (r.bits / 8) + r.bits / 8)) × (r.pointer_count ≡ 0)
 
-  -- The list of a target, by its size: one of structs starts behind its tag.
+  -- The reader r shows the list at the target a, by its size: one of structs starts after its tag.
   abbrev pub IsTargetList : ElementSize → Segments → ListReader A g → Target → Type 0
   IsTargetList InlineComposite S r a =
       (element_size a.word ≡ 7) × ShowsList S r a.segment (a.start + 1)
@@ -88,7 +88,7 @@ module _ {A : Type 0} (g : Ghosts A) where
   IsTargetList size S r a = (element_size a.word ≡ size_number size) ×
       ShowsList S r a.segment a.start (rows_sized (sized 0 0) (list_count a.word))
 
-  -- The bit of a list's words at which element number i starts.
+  -- The bit of a list's words at which element i starts.
   abbrev pub element_start : ListReader A g → ℕ → ℕ
   element_start list i = i * step_bits list.element_size list.struct_size
 
@@ -96,8 +96,8 @@ module _ {A : Type 0} (g : Ghosts A) where
   abbrev pub read_by : PointerReader A g → Reading
   read_by r = reading_at g r.source r.place r.nesting_limit
 
-  -- The pointer of a reader leads to the struct that another shows, whose words are checked and
-  -- charged, from m to m'. That one reads the same source, with one level less.
+  -- The pointer of the reader `from` leads to the struct that r shows, whose words are checked, and
+  -- charged from m to m'. r reads the same source, with one level less.
   abbrev pub IsStructThere : PointerReader A g → Meter → Meter → StructReader A g → Type 0
   IsStructThere from m m' r =
       (a : Target) × Entered Value (read_by from) m m' a × (kind a.word ≡ 0)
@@ -105,15 +105,16 @@ module _ {A : Type 0} (g : Ghosts A) where
       (record { data_words = data_words a.word; pointers = pointer_count a.word })
       × (r.source ≡ from.source) × (r.nesting_limit ≡ from.nesting_limit -ℤ pos 1)
 
-  -- The pointer of a reader leads to the list that another shows, whose words are checked and
-  -- charged, from m to m'. That one reads the same source, with one level less.
+  -- The pointer of the reader `from` leads to the list that r shows, whose words are checked, and
+  -- charged from m to m'. r reads the same source, with one level less.
   abbrev pub IsListThere : PointerReader A g → Meter → Meter → ListReader A g → Type 0
   IsListThere from m m' r =
       (a : Target) × Entered Value (read_by from) m m' a × (kind a.word ≡ 1) ×
       IsTargetList r.element_size (read_by from).segments r a
       × (r.source ≡ from.source) × (r.nesting_limit ≡ from.nesting_limit -ℤ pos 1)
 
-  -- What the pointer of a reader leads to: its words are checked and charged, from m to m'.
+  -- What the pointer of the reader `from` leads to, whose words are checked, and charged from m to
+  -- m'.
   abbrev pub IsTarget : PointerReader A g → Meter → Meter → ReadTarget A g → Type 0
   IsTarget from m m' Null = (word_of (read_by from) ≡ 0) × (m' ≡ m)
   IsTarget from m m' (Cap i) =

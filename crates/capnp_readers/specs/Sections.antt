@@ -9,29 +9,29 @@ use Rattle.capnp_words.specs.declared.wire_pointer.ElementSize.TheVariants.{Bit,
 use Rattle.capnp_words.specs.declared.wire_pointer.StructSize.{StructSize}
 use Rattle.capnp_objects.specs.declared.object.Place.{Place}
 
--- Bytes in which so many bits stand.
+-- The number of bytes that hold `bits` bits.
 abbrev pub bytes_for : ℕ → ℕ
 bytes_for bits = (bits + 7) / 8
 
--- Bytes stand in the segment of a place, from a byte position on, and hold so many bits.
+-- The bytes are those of the place's segment from byte position `byte` on, as many as hold `bits`
+-- bits.
 abbrev pub IsPart : Place → ℕ → ℕ → List ℕ → Type 0
 IsPart here byte bits bytes =
     (bytes ≡ take (bytes_for bits) (drop byte here.bytes.now)) × (length bytes ≡ bytes_for bits)
 
--- A field of so many bits, the offset counting such fields, lies wholly in a section of so many bits.
+-- A field of `width` bits, at `offset` in such fields, is inside a section of `bits` bits.
 abbrev pub IsInside : ℕ → ℕ → ℕ → Type 0
 IsInside bits width offset = (offset + 1) * width ≤ bits
 
--- A bit of bytes, 0 or 1, the lowest of each byte first.
+-- Bit i of the bytes, 0 or 1, the lowest of each byte first.
 abbrev pub bit_at : List ℕ → ℕ → ℕ
 bit_at bytes i = slice_index bytes (i / 8) / 2 ^ (i % 8) % 2
 
--- The n words from a place on lie in its segment.
+-- The n words from the place on are inside its segment.
 abbrev pub HasWordsFrom : Segments → Place → ℕ → Type 0
 HasWordsFrom S here n = here.at + n ≤ length (segment S here.segment)
 
--- How many words the elements of a list take: n elements, of a width in words where they are
--- structs ("Lists").
+-- The number of words of n elements of a list; structs are `width` words each ("Lists").
 abbrev pub elements_words : ElementSize → ℕ → ℕ → ℕ
 elements_words InlineComposite n width = n * width
 elements_words Pointer n width = n
@@ -43,25 +43,26 @@ HoldsPointer Pointer sections = ⊤
 HoldsPointer InlineComposite sections = 0 < sections.pointers
 HoldsPointer size sections = ⊥
 
--- How many words behind the elements' start the pointers of element number i start: in a struct
--- they stand behind its data.
+-- The number of words from the elements' start to the pointers of element i: in a struct they come
+-- after its data.
 abbrev pub pointers_behind : ElementSize → StructSize → ℕ → ℕ
 pointers_behind InlineComposite sections i =
     i * (sections.data_words + sections.pointers) + sections.data_words
 pointers_behind size sections i = i
 
--- How many bits there are from the start of an element to the start of the next.
+-- The number of bits from the start of an element to the start of the next.
 abbrev pub step_bits : ElementSize → StructSize → ℕ
 step_bits InlineComposite sections = 64 * (sections.data_words + sections.pointers)
 step_bits Pointer sections = 64
 step_bits size sections = element_bits (size_number size)
 
--- How many bits of data an element has: a struct those of its data section, a pointer none.
+-- The number of bits of data in an element: for a struct those of its data section, for a pointer
+-- none.
 abbrev pub data_bits : ElementSize → StructSize → ℕ
 data_bits InlineComposite sections = 64 * sections.data_words
 data_bits size sections = element_bits (size_number size)
 
--- The lowest 64 data bits of element number i as a number, of its own width where that is less.
+-- The lowest 64 data bits of element i as a number, or all if it has fewer.
 abbrev pub low_data : ElementSize → StructSize → List ℕ → ℕ → ℕ
 low_data Bit sections bytes i = bit_at bytes i
 low_data size sections bytes i =

@@ -1,5 +1,6 @@
-//! What the test for canonical form tells beyond one call. Each function does nothing: its contract is the law, proved for
-//! all messages and limits ("Canonicalization"; docs/FORMAT.md, "The test for canonical form").
+//! Laws of the test for canonical form beyond one call ("Canonicalization"; docs/FORMAT.md, "The
+//! test for canonical form"). Each function does nothing: its contract is the law, proved for all
+//! messages and limits.
 
 ghost use Rattle.std.specs.Prelude.{◌≡◌, ◌↔◌, ◌-◌, ◌≤◌, ◌∷◌, ℕ, length};
 ghost use Rattle.capnp_words.specs.declared.error.ErrorKind.{ErrorKind};
@@ -13,8 +14,8 @@ ghost use Rattle.capnp_objects.specs.Reading.{Reading, word_of, segment_read};
 ghost use Rattle.capnp_objects.specs.Wanted.{canonical};
 ghost use Rattle.capnp_pointers.specs.Checking.{Progress, progress, Finds, CanBeFound, CanAllBeFound, TestStops, TestEnds, TestsEnd, IsUnfit, Unread};
 
-/// The test of a place is not refused where canonical words stand that the limits cover; nor is that of pointers one behind
-/// the other.
+/// The test of a place is never refused if canonical words are there and the limits cover them; nor
+/// is that of consecutive pointers.
 pub fn canonical_is_answered()
     ensures place { (k : ErrorKind) (r : Reading) (from : Progress) (m' : Meter)
         → TestStops k r from m' → CanBeFound r from → ⊥ }
@@ -22,8 +23,8 @@ pub fn canonical_is_answered()
         → TestsEnd (Unread k) r i from m' → CanAllBeFound r i from → ⊥ }
 {}
 
-/// The words of a canonical copy, which stand at a place with a head in its segment, are tested within the limits that the
-/// copy was made within: the answer is yes.
+/// If the words of a canonical copy are at a place with a head in its segment, and are tested
+/// within the limits that the copy was made within, the answer is yes.
 pub fn copy_is_answered()
     ensures { (r q : Reading) (m m' : Meter) (h : ℕ) (t : Tree)
         → AreWords r.segments → Reads canonical r m m' t
@@ -32,14 +33,16 @@ pub fn copy_is_answered()
         → CanBeFound q (progress h m) }
 {}
 
-/// What the test finds is what the place means within its levels, at exactly the cost that was charged.
+/// What the test finds is what the place means within its levels, at exactly the cost that was
+/// charged.
 pub fn found_is_meant()
     ensures { (r : Reading) (from to : Progress) (t : Tree)
         → Finds r from to t → MeansThere r t (charge t) }
 {}
 
-/// Two pointers at one position that are both canonical from one head on have the same words, each the pointer's own and those
-/// between its heads, exactly if they have the same value.
+/// Take two pointers at the same position that are both canonical from the same head on. They have
+/// the same words, each the pointer's own and those between its heads, exactly if they have the
+/// same value.
 pub fn same_words()
     ensures { (r q : Reading) (from to start end : Progress) (t u : Tree)
         → Finds r from to t → Finds q start end u
@@ -49,9 +52,9 @@ pub fn same_words()
         ↔ (t ≡ u) }
 {}
 
-/// A test that says no or is refused has charged the limiter as reading does: the words that are left are fewer by those that
-/// were granted, and the count of pointers is greater by those that were followed. Where nothing is charged, as of a default,
-/// the limiter is as it was.
+/// A test that answers no or is refused has charged the limiter as reading does: it has fewer words
+/// left by those that it granted, and its count of pointers has grown by those followed. If nothing
+/// is charged, as for a default, the limiter is unchanged.
 pub fn end_is_charged()
     ensures failed { (r : Reading) (from : Progress) (m' : Meter) → TestEnds IsUnfit r from m'
         → (g : ℕ) × (i : ℕ) × Paid r.charging from.meter m' g i }

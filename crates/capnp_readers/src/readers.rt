@@ -42,19 +42,20 @@ pub use target::Target;
 /// The number of a default's segment, which no far pointer can name.
 pub const DEFAULT_SEGMENT: u64 = 0x1_0000_0000;
 
-// The sections of elements that are no structs.
+// The sections of elements that aren't structs.
 const NO_SECTIONS: StructSize = StructSize {
     data_words: 0,
     pointers: 0,
 };
 
-/// A pointer that is read, with the segment that it is in at hand.
+/// A pointer being read, with the segment that it is in at hand.
 pub struct PointerReader<'a, A: ReaderArena> {
-    /// Where the pointer is read from.
+    /// What the pointer is read from.
     pub source: Source<'a, A>,
     /// Where the pointer's word is.
     pub place: Place<'a>,
-    /// How many levels of structs and lists may be entered from here, none below 1.
+    /// The nesting limit: how many levels of structs and lists may be entered from here; none below
+    /// 1.
     pub nesting_limit: i32,
     ghost held: { IsHeld (source_start A.ReaderArena source).segments place },
 }
@@ -75,8 +76,8 @@ impl<'a, A: ReaderArena> PointerReader<'a, A> {
     ghost use Rattle.capnp_readers.specs.Readers.{IsTarget, read_by};
     ghost use Rattle.capnp_readers.specs.Calls.{IsRead, IsRefused, WhereRead, IsListRead, IsStructRead, AreBytesRead};
 
-    /// The pointer from nothing, which is null: at word 0 of a segment 0 that isn't there. Its nesting limit
-    /// is `i32::MAX`.
+    /// The pointer from nothing, which is null: at word 0 of a segment 0 that doesn't exist. Its
+    /// nesting limit is `i32::MAX`.
     pub fn new_default() -> Self
         ensures source { result.source ≡ Source.Nothing }
         ensures place { (result.place.segment ≡ 0) × (result.place.at ≡ 0) }
@@ -85,12 +86,12 @@ impl<'a, A: ReaderArena> PointerReader<'a, A> {
         Self::of_pointer(Pointer::new_default())
     }
 
-    /// The root of a message, word 0 of segment 0 ("Messages"), after this one word is charged. Its
+    /// The root of a message, word 0 of segment 0 ("Messages"). Charges this one word. The reader's
     /// nesting limit is the arena's.
     ///
-    /// Where there is no such word it is `MessageContainsOutOfBoundsPointer`, where there is no segment
-    /// `InvalidSegmentId(0)`, or `TriedToReadFromNullArena` in a `NullArena`, and where the limiter
-    /// doesn't cover a word `ReadLimitExceeded`. A refusal leaves the limiter as it was.
+    /// Refusals: `MessageContainsOutOfBoundsPointer` if there is no such word;
+    /// `InvalidSegmentId(0)` if there is no segment; `TriedToReadFromNullArena` in a `NullArena`;
+    /// `ReadLimitExceeded` if the limiter has no word left. A refusal leaves the limiter unchanged.
     pub fn get_root_from_arena(arena: &'a A, lim: &mut ReadLimiter) -> Result<Self, ErrorKind>
         ensures exactly { IsOk result ↔ Holds (message (A.segments arena.now)) 0 0 1
             × Affords (A.charging arena.now) lim.old 1 }
@@ -107,7 +108,7 @@ impl<'a, A: ReaderArena> PointerReader<'a, A> {
         Ok(Self::of_pointer(Pointer::get_root_from_arena(arena, lim)?))
     }
 
-    /// The pointer at a place of an arena. The place lies in the arena.
+    /// The pointer at a place of an arena. Precondition: the place is inside the arena.
     pub fn at(arena: &'a A, place: PointerPlace, nesting_limit: i32) -> Self
         requires { IsPlace (message (A.segments arena.now)) place.segment place.word }
         ensures source { result.source ≡ Source.Arena arena.entry }
@@ -117,11 +118,11 @@ impl<'a, A: ReaderArena> PointerReader<'a, A> {
         Self::of_pointer(Pointer::at(arena, place, nesting_limit))
     }
 
-    /// The pointer in word 0 of a default, whose bytes are one segment that no far pointer leads to.
-    /// Reading it is free of charge, and its nesting limit is `i32::MAX`. The default has fewer than 2^32
-    /// words; up to 7 bytes behind the last are not looked at.
+    /// The pointer in word 0 of a default, whose bytes are one segment that no far pointer leads
+    /// to. Reading it is free, and its nesting limit is `i32::MAX`. Precondition: the default has
+    /// fewer than 2^32 words. Ignores up to 7 bytes after the last one.
     ///
-    /// A default without a whole word is `MessageContainsOutOfBoundsPointer`.
+    /// Refuses with `MessageContainsOutOfBoundsPointer` if the default has no whole word.
     pub fn from_default(bytes: &'a [u8]) -> Result<Self, ErrorKind>
         requires { length bytes.now / 8 < 2 ^ 32 }
         ensures exactly { IsOk result ↔ (8 ≤ length bytes.now) }
@@ -154,7 +155,7 @@ impl<'a, A: ReaderArena> PointerReader<'a, A> {
         *self
     }
 
-    /// The plain pointer, which is copied, measured and tested.
+    /// The plain pointer, for copying, measuring and testing.
     #[inline(always)]
     pub fn pointer(self) -> Pointer<'a, A>
         ensures source { result.source ≡ self.entry.source }
@@ -189,7 +190,7 @@ impl<'a, A: ReaderArena> PointerReader<'a, A> {
         self.place.word().is_null()
     }
 
-    // The pointer of a default, which stands for this one, that is null.
+    // The pointer of a default, in place of this one, which is null.
     #[inline(never)]
     fn default_of(self, expected: Expected, bytes: &'a [u8]) -> Result<Self, ErrorKind>
         requires null { word_of (read_by A.ReaderArena self) ≡ 0 }
@@ -213,7 +214,7 @@ impl<'a, A: ReaderArena> PointerReader<'a, A> {
         }
     }
 
-    // The pointer that a call reads: this one, or where it is null that of a default.
+    // The pointer that a call reads: this one, or that of the default if this one is null.
     #[inline(always)]
     fn or_default(self, expected: Expected, default: Option<&'a [u8]>) -> Result<Self, ErrorKind>
         requires small { IfSome default (λ bytes. length bytes.now / 8 < 2 ^ 32) }
@@ -264,19 +265,24 @@ impl<'a, A: ReaderArena> PointerReader<'a, A> {
         Ok((from, object))
     }
 
-    /// The struct that the pointer leads to ("Structs"). A null pointer gives that of the default; where
-    /// there is none, or its pointer is null, the struct from nothing, which has no sections.
+    /// The struct that the pointer leads to ("Structs"). If the pointer is null, returns the
+    /// default's struct; without a default, or with a null one, the struct from nothing, which has
+    /// no sections.
     ///
-    /// The nesting limit must be at least 1 (`MessageIsTooDeeplyNestedOrContainsCycles`), and the struct's
-    /// is one less. Then the pointer is counted as followed, and its landing pads and the words of the
-    /// struct are charged, each before it is read. An object of another kind is
-    /// `MessageContainsNonStructPointerWhereStructPointerWasExpected`, a place outside of its segment
-    /// `MessageContainsOutOfBoundsPointer`, a segment that isn't there `InvalidSegmentId`, and what the
-    /// limiter doesn't cover `ReadLimitExceeded`; what was charged before stays charged.
+    /// Requires a nesting limit of at least 1, and the struct's is one less. Then counts the
+    /// pointer as followed, and charges its landing pads and the words of the struct, each before
+    /// it is read.
     ///
-    /// A default has fewer than 2^32 words. It is one segment, its pointer in word 0, is read within the
-    /// pointer's own nesting limit, and charges and counts nothing. One of no whole word is
-    /// `MessageContainsOutOfBoundsPointer`, a far pointer in it `TriedToReadFromNullArena`.
+    /// Refusals: `MessageIsTooDeeplyNestedOrContainsCycles` if the nesting limit is below 1;
+    /// `MessageContainsNonStructPointerWhereStructPointerWasExpected` if the object is of another
+    /// kind; `MessageContainsOutOfBoundsPointer` if a place is outside of its segment;
+    /// `InvalidSegmentId` if a segment doesn't exist; `ReadLimitExceeded` if the limiter doesn't
+    /// cover the words. What was charged before stays charged.
+    ///
+    /// A default has fewer than 2^32 words. It is one segment with its pointer in word 0, is read
+    /// within the pointer's own nesting limit, and charges and counts nothing. Refuses one without
+    /// a whole word with `MessageContainsOutOfBoundsPointer`, and a far pointer in it with
+    /// `TriedToReadFromNullArena`.
     pub fn get_struct(
         self,
         lim: &mut ReadLimiter,
@@ -301,19 +307,22 @@ impl<'a, A: ReaderArena> PointerReader<'a, A> {
         }
     }
 
-    /// The list that the pointer leads to, whose elements have to be as wide as those of a size or
-    /// wider ("Lists"); it is read by its own step. `Void` and `InlineComposite` take elements of any
-    /// width but one bit. A null pointer gives the list of the default; where there is none, or its
-    /// pointer is null, the list from nothing, a void list of none.
+    /// The list that the pointer leads to, whose elements have to be as wide as
+    /// `expected_element_size` or wider ("Lists"); it is read by its own step. `Void` and
+    /// `InlineComposite` accept elements of any width except bits. If the pointer is null, returns
+    /// the default's list; without a default, or with a null one, the list from nothing, a void
+    /// list without elements.
     ///
-    /// The nesting limit must be at least 1 (`NestingLimitExceeded`), and the list's is one less. Charges
-    /// and refusals are those of `next`, but an object of another kind is
-    /// `MessageContainsNonListPointerWhereListPointerWasExpected` before its words are charged. When all
-    /// is charged, a bit list is `FoundBitListWhereStructListWasExpected` unless bits are expected, other
-    /// elements that are too narrow `MessageContainsListWithIncompatibleElementType`; and structs are
-    /// `FoundStructListWhereBitListWasExpected` where bits are expected,
-    /// `ExpectedAPrimitiveListButGotAListOfPointerOnlyStructs` where numbers are and they have no data,
-    /// `ExpectedAPointerListButGotAListOfDataOnlyStructs` where pointers are and they have none.
+    /// Requires a nesting limit of at least 1 (otherwise `NestingLimitExceeded`), and the list's is
+    /// one less. Charges and refuses like `next`, but an object of another kind is
+    /// `MessageContainsNonListPointerWhereListPointerWasExpected` before its words are charged.
+    ///
+    /// Then, when all is charged: `FoundBitListWhereStructListWasExpected` for a bit list, unless
+    /// bits are expected; `MessageContainsListWithIncompatibleElementType` for other elements that
+    /// are too narrow; for structs `FoundStructListWhereBitListWasExpected` if bits are expected,
+    /// `ExpectedAPrimitiveListButGotAListOfPointerOnlyStructs` if numbers are and the structs have
+    /// no data, `ExpectedAPointerListButGotAListOfDataOnlyStructs` if pointers are and the structs
+    /// have none.
     ///
     /// For a default see `get_struct`.
     pub fn get_list(
@@ -342,17 +351,19 @@ impl<'a, A: ReaderArena> PointerReader<'a, A> {
         }
     }
 
-    /// The bytes of a text that the pointer leads to, in place and without its last byte, which is 0
-    /// ("Lists"). A null pointer gives the text of the default, or where there is none no bytes.
+    /// The bytes of the text that the pointer leads to, in place and without its last byte, which
+    /// is 0 ("Lists"). If the pointer is null, returns the text of the default; without a default,
+    /// no bytes.
     ///
-    /// No level is taken. The pointer is counted as followed, and its landing pads and the words of the
-    /// bytes are charged, each before it is read. What is no list is
-    /// `MessageContainsNonListPointerWhereTextWasExpected`, a list of other elements
-    /// `MessageContainsListPointerOfNonBytesWhereTextWasExpected`, both before the words are charged; a
-    /// text of no bytes, or whose last byte isn't 0, `MessageContainsTextThatIsNotNULTerminated`, when
-    /// they are. Other refusals are those of `next`.
+    /// Takes no level. Counts the pointer as followed, and charges its landing pads and the words
+    /// of the bytes, each before it is read.
     ///
-    /// For a default see `get_struct`; one whose pointer is null is refused as what is no list.
+    /// Refusals: `MessageContainsNonListPointerWhereTextWasExpected` if it isn't a list,
+    /// `MessageContainsListPointerOfNonBytesWhereTextWasExpected` if the elements aren't bytes,
+    /// both before the words are charged; `MessageContainsTextThatIsNotNULTerminated`, after that,
+    /// if the text has no bytes or its last one isn't 0. Other refusals are those of `next`.
+    ///
+    /// For a default see `get_struct`; one whose pointer is null is refused as not a list.
     pub fn get_text(
         self,
         lim: &mut ReadLimiter,
@@ -376,12 +387,12 @@ impl<'a, A: ReaderArena> PointerReader<'a, A> {
         }
     }
 
-    /// The bytes of data that the pointer leads to, in place ("Lists"). A null pointer gives the data of
-    /// the default, or where there is none no bytes.
+    /// The bytes of the data that the pointer leads to, in place ("Lists"). If the pointer is null,
+    /// returns the data of the default; without a default, no bytes.
     ///
-    /// As `get_text`, but the last byte isn't looked at and is one of the bytes. What is no list is
-    /// `MessageContainsNonListPointerWhereDataWasExpected`, a list of other elements
-    /// `MessageContainsListPointerOfNonBytesWhereDataWasExpected`.
+    /// Like `get_text`, but the last byte can be anything and is one of the bytes returned.
+    /// Refusals: `MessageContainsNonListPointerWhereDataWasExpected` if it isn't a list,
+    /// `MessageContainsListPointerOfNonBytesWhereDataWasExpected` if the elements aren't bytes.
     pub fn get_data(
         &self,
         lim: &mut ReadLimiter,
@@ -405,12 +416,12 @@ impl<'a, A: ReaderArena> PointerReader<'a, A> {
         }
     }
 
-    /// The capability that the pointer is, by its index in the message's table ("Capabilities
-    /// (Interfaces)"). The pointer is not followed, and nothing is counted or charged.
+    /// The capability that the pointer is, by its index in the message's capability table
+    /// ("Capabilities (Interfaces)"). Doesn't follow the pointer, and counts and charges nothing.
     ///
-    /// A null pointer is `MessageContainsNullCapabilityPointer`, any other
-    /// `MessageContainsNonCapabilityPointerWhereCapabilityPointerWasExpected`, a far pointer to a
-    /// capability too.
+    /// Refusals: `MessageContainsNullCapabilityPointer` if it is null;
+    /// `MessageContainsNonCapabilityPointerWhereCapabilityPointerWasExpected` for any other
+    /// pointer, also a far pointer to a capability.
     pub fn get_capability(&self) -> Result<u32, ErrorKind>
         ensures exactly { IsOk result ↔ (lower_half (word_of (read_by A.ReaderArena self.now))
             ≡ 3) }
@@ -433,12 +444,13 @@ impl<'a, A: ReaderArena> PointerReader<'a, A> {
         Ok(word.cap_index())
     }
 
-    /// What the pointer leads to: nothing, a struct, a list or a capability, by the word that describes
-    /// it alone.
+    /// What the pointer leads to: nothing, a struct, a list or a capability, judged only by the
+    /// word that describes it.
     ///
     /// A null pointer costs nothing. Any other is counted as followed, and its landing pads are
-    /// charged. A landing pad that is a far pointer again is `UnexpectedFarPointer`, a word of no
-    /// kind `UnknownPointerType`; a pointer that can't be followed is refused as by `next`.
+    /// charged. Refusals: `UnexpectedFarPointer` if a landing pad is a far pointer again;
+    /// `UnknownPointerType` if a word is of no known kind; those of `next` if the pointer can't be
+    /// followed.
     pub fn get_pointer_type(&self, lim: &mut ReadLimiter) -> Result<PointerType, ErrorKind>
         ensures of_type { IfOk result (IsOfType (read_by A.ReaderArena self.now) lim.old lim.new) }
         ensures exactly { IsOk result ↔ (t : PointerType) × (left : Meter)
@@ -452,10 +464,10 @@ impl<'a, A: ReaderArena> PointerReader<'a, A> {
     /// What the pointer leads to, one level of it ("Structs", "Lists", "Inter-Segment Pointers",
     /// "Capabilities (Interfaces)").
     ///
-    /// The pointer is counted as followed unless it is zero. Then the words of its landing pads, its
-    /// own words, and for a list of elements without width their number are charged, each before
-    /// it is read. A default and an arena that is built count and charge nothing. A refusal is named
-    /// by the first fault that is met; it keeps what was charged.
+    /// Counts the pointer as followed unless it is zero. Then charges the words of its landing
+    /// pads, the object's own words, and for a list of elements without width their number, each
+    /// before it is read. A default and an arena being built count and charge nothing. Refuses with
+    /// the first fault found, and keeps what was charged.
     pub fn next(&self, lim: &mut ReadLimiter) -> Result<Target<'a, A>, ErrorKind>
         ensures target { IfOk result (IsTarget A.ReaderArena self.now lim.old lim.new) }
         ensures exactly { IsOk result ↔ CanBeRead Value (read_by A.ReaderArena self.now) lim.old }
@@ -468,7 +480,7 @@ impl<'a, A: ReaderArena> PointerReader<'a, A> {
         Ok(self.target_of(object))
     }
 
-    // An object that the pointer leads to, as readers of the same source with one level less.
+    // The object that the pointer leads to, as a reader of the same source with one level less.
     fn target_of(self, object: Object<'a>) -> Target<'a, A>
         requires read { (m : Meter) × (m' : Meter)
             × IsObject Value (read_by A.ReaderArena self) m m' object }
@@ -522,7 +534,7 @@ fn bytes_at<'a>(start: Place<'a>, count: u32) -> &'a [u8]
     &start.bytes[first..first + count as usize]
 }
 
-// How a default is refused whose pointer is null: to a struct and a list it is as none.
+// The refusal of a default whose pointer is null; for a struct and a list, it is like no default.
 fn name_of_null_default(expected: Expected) -> Option<ErrorKind>
     ensures { result ≡ (expectation expected).null_default }
 {

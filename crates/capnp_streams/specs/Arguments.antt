@@ -1,5 +1,5 @@
--- The words behind the program's name: one names a command, options stand before or behind it, in
--- any order, and files behind all of these.
+-- The arguments after the program's name. One names a command; options come before or after it, in
+-- any order; files come after all of these.
 use Rattle.std.specs.Prelude.{◌≡◌, ◌⊎◌, ℕ, ℤ, ◌<◌, ◌==◌, nat_lt, pos, List, [], ◌∷◌, length, codes, Option, Some, None}
 use Rattle.std.specs.Prelude.{Bool, true, false, not, ◌&&◌, ◌||◌, is_some, MatchOption, if◌then◌else◌}
 use Rattle.std.specs.Option.{option_map}
@@ -22,7 +22,7 @@ use Rattle.capnp_streams.specs.declared.streams.words.Word.TheVariants.{Help, He
 use Rattle.capnp_streams.specs.declared.streams.words.Word.TheVariants.{Canon as WordCanon, Check as WordCheck, Size as WordSize}
 use Rattle.capnp_streams.specs.declared.streams.words.Word.TheVariants.{Packed, Pack, Flat as WordFlat, FromFlat, Hex, Quiet, Nesting, Words}
 
--- the text of a word that has a meaning by itself
+-- The text of an argument that has a meaning by itself.
 abbrev pub text_of_word : Word → List ℕ
 text_of_word Help = codes "--help"
 text_of_word HelpLetter = codes "-h"
@@ -41,12 +41,12 @@ text_of_word Quiet = codes "--quiet"
 text_of_word Nesting = codes "--nesting"
 text_of_word Words = codes "--words"
 
--- the name of an option with a value
+-- The name of an option with a value.
 abbrev pub setting_text : Setting → List ℕ
 setting_text SetNesting = codes "--nesting"
 setting_text SetWords = codes "--words"
 
--- no words: a nesting limit of 64, and a traversal limit of 8,388,608 words
+-- No arguments yet: a nesting limit of 64, and a traversal limit of 8,388,608 words.
 abbrev pub plain_line : Line
 plain_line = record {
   verb = None;
@@ -60,16 +60,16 @@ plain_line = record {
   expects = None;
 }
 
--- `canon` alone has options for what it writes, and `check` alone that it writes nothing; `--flat`
--- is of all three
+-- Only `canon` has options for what it writes, and only `check` has one for writing nothing;
+-- `--flat` is for all three.
 abbrev pub verb_allows : Option Verb → Bool → Bool → Bool → Bool
 verb_allows None pack hex quiet = true
 verb_allows (Some ToCanon) pack hex quiet = not quiet
 verb_allows (Some ToCheck) pack hex quiet = not pack && not hex
 verb_allows (Some ToSize) pack hex quiet = not pack && not hex && not quiet
 
--- whether the input is one message's bare words: `--from-flat` says so, and of `check` and `size`
--- `--flat` too
+-- Whether the input is one message's bare words: `--from-flat` says so, and for `check` and `size`
+-- also `--flat`.
 abbrev pub verb_reads_flat : Option Verb → Bool → Bool → Bool
 verb_reads_flat None flat from_flat = from_flat
 verb_reads_flat (Some ToCanon) flat from_flat = from_flat
@@ -79,7 +79,7 @@ verb_reads_flat (Some ToSize) flat from_flat = flat || from_flat
 abbrev pub line_reads_flat : Line → Bool
 line_reads_flat line = verb_reads_flat line.verb line.flat line.from_flat
 
--- digits are written neither as bare words nor packed, and bare words are read as they are
+-- Hex digits are written neither as bare words nor packed, and bare words aren't unpacked.
 abbrev pub options_agree : Line → Bool
 options_agree line =
     not (line.hex && (line.flat || line.pack)) && (not line.unpack || not (line_reads_flat line))
@@ -90,12 +90,12 @@ line_is_allowed line = verb_allows line.verb line.pack line.hex line.quiet && op
 abbrev pub line_if_allowed : Line → Option Line
 line_if_allowed line = if line_is_allowed line then Some line else None
 
--- a line with a command behind it, where it has none yet
+-- The line with a command added, if it has none yet.
 abbrev pub line_with_verb : Verb → Line → Option Line
 line_with_verb verb line =
     if is_some line.verb then None else line_if_allowed (record line { verb = Some verb })
 
--- a line with a word behind it that isn't the value of an option
+-- The line with an argument added that isn't the value of an option.
 abbrev pub line_after : Word → Line → Option Line
 line_after WordCanon line = line_with_verb ToCanon line
 line_after WordCheck line = line_with_verb ToCheck line
@@ -110,7 +110,7 @@ line_after Nesting line = Some (record line { expects = Some SetNesting })
 line_after Words line = Some (record line { expects = Some SetWords })
 line_after _ line = None
 
--- The value of an option makes one line of another.
+-- The value of an option takes one line to another.
 abbrev pub Sets : Setting → List ℕ → Line → Line → Type 0
 Sets SetNesting value from to =
     (n : ℤ) × IsNesting value n
@@ -120,12 +120,12 @@ Sets SetWords value from to =
     × (to
     ≡ record from { limits = record from.limits { traversal_limit_in_words = limit }; expects = None })
 
--- whether a byte parts an option from its value
+-- Whether a byte separates an option from its value.
 abbrev pub is_equals : ℕ → Bool
 is_equals b = b == 61
 
--- A word makes one line of another: it has a meaning by itself, or is an option and its value,
--- parted by a `=`.
+-- An argument takes one line to another: it has a meaning by itself, or is an option and its value,
+-- separated by `=`.
 abbrev pub MakesLineAlone : List ℕ → Line → Line → Type 0
 MakesLineAlone text from to =
     ((word : Word) × (text_of_word word ≡ text) × (line_after word from ≡ Some to))
@@ -133,19 +133,19 @@ MakesLineAlone text from to =
     × (setting_text setting ≡ before_first is_equals text)
     × Sets setting (after_first is_equals text) from to)
 
--- A word makes one line of another: as the value of the option before it, where that takes one;
--- else alone.
+-- An argument takes one line to another: as the value of the option before it, if that takes one;
+-- otherwise by itself.
 abbrev pub MakesLine : List ℕ → Line → Line → Type 0
 MakesLine text from to =
     MatchOption from.expects (MakesLineAlone text from to) (λ option. Sets option text from to)
 
--- the command, whose canonical words are bare where that is so
+-- The command, with canonical words bare if `flat` is set.
 abbrev pub command_of : Verb → Bool → Command
 command_of ToCanon flat = Canon (if flat then Flat else Framed)
 command_of ToCheck flat = Check
 command_of ToSize flat = Size
 
--- the task that a line asks for which is whole
+-- The task that a complete line requests.
 abbrev pub task_of_line : Line → Option Task
 task_of_line line =
     if is_some line.expects then None else option_map (λ verb. record {
@@ -158,8 +158,8 @@ task_of_line line =
       quiet = line.quiet;
     }) line.verb
 
--- what a word asks for behind which no option is read, and so many words stand; behind `--` they
--- are files
+-- What an argument requests that ends the options, with `behind` more arguments after it; after
+-- `--` these are files.
 abbrev pub request_of_word : Word → ℕ → Line → Option Request
 request_of_word Help behind line = Some AskHelp
 request_of_word HelpLetter behind line = Some AskHelp
@@ -168,15 +168,15 @@ request_of_word VersionLetter behind line = Some AskVersion
 request_of_word End behind line = option_map (λ task. Run task behind) (task_of_line line)
 request_of_word _ behind line = None
 
--- A word that isn't the value of an option ends the line, with so many words behind it, and it asks
--- for this.
+-- An argument that isn't the value of an option ends the line, with `behind` more after it, and
+-- requests this.
 abbrev pub Stops : Line → ℕ → List ℕ → Request → Type 0
 Stops from behind text r =
     (from.expects ≡ None)
     × ((word : Word) × (text_of_word word ≡ text) × (request_of_word word behind from ≡ Some r))
 
--- whether a text has the form of an option: a `-` with more behind it. All others can be files; `-`
--- is standard input
+-- Whether a text has the form of an option: a `-` and more after it. All others can be files; `-`
+-- is standard input.
 abbrev pub is_option : List ℕ → Bool
 is_option text = starts_with_minus text && nat_lt 1 (length text)
 
@@ -184,17 +184,19 @@ abbrev pub are_files : List (List ℕ) → Bool
 are_files [] = true
 are_files (text ∷ more) = not (is_option text) && are_files more
 
--- whether a text is the first file behind a line: that has its command, and waits for no value
+-- Whether a text is the first file after a line: that has its command, and waits for no value.
 abbrev pub is_first_file : Line → List ℕ → Bool
 is_first_file from text = is_some from.verb && not (is_some from.expects) && not (is_option text)
 
--- Words behind others, which make this line, are files, and all of them ask for this.
+-- After the arguments that made the line `from`, all others, `files`, are files, and together they
+-- request r.
 abbrev pub AsksForFiles : Line → List (List ℕ) → Request → Type 0
 AsksForFiles from files r =
     (are_files files ≡ true)
     × (option_map (λ task. Run task (length files)) (task_of_line from) ≡ Some r)
 
--- Words behind others, which make this line, ask for something. From the first file on all are files.
+-- After the arguments that made the line `from`, the others complete it to the request r. From the
+-- first file on all are files.
 abbrev pub AsksForBehind : Line → List (List ℕ) → Request → Type 0
 AsksForBehind from [] r = AsksForFiles from [] r
 AsksForBehind from (text ∷ more) r =

@@ -1,4 +1,5 @@
--- What a run says of an input that is one message of one segment: its bare words, without a frame.
+-- What a run says about an input that is one message of one segment: its bare words, without a
+-- frame.
 use Rattle.std.specs.Prelude.{◌≡◌, ◌⊎◌, ℕ, List, [], ◌∷◌, Bool, true, Option, IfSome}
 use Rattle.std.specs.Io.KnownBytes.{Appends, Consumes, IsAtEnd}
 use Rattle.capnp_format.specs.Bytes.{message}
@@ -12,9 +13,8 @@ use Rattle.capnp_streams.specs.declared.streams.fault.Fault.{Fault}
 use Rattle.capnp_streams.specs.declared.streams.fault.Fault.TheVariants.{Frame, Layout, TooManyMessages}
 use Rattle.capnp_streams.specs.declared.streams.task.Task.{Task}
 
--- From one stage to another all that the input had was taken, bare words of at most as many as the
--- traversal limit; and what a task answers to the message that they mean was written behind what
--- the output had.
+-- From old to new all that the input had was taken: bare words, at most as many as the traversal
+-- limit. The task's answer to the message that they mean was written after what the output had.
 pub record IsFlatDone (task : Task) (old new : Stage) (holds : Bool) : Type 0 where
   pub bytes : List ℕ
   pub answer : List ℕ
@@ -23,8 +23,8 @@ pub record IsFlatDone (task : Task) (old new : Stage) (holds : Bool) : Type 0 wh
   pub answered : AnswerIs task.command task (message (bytes ∷ [])) holds answer
   pub written : Appends old.output new.output answer
 
--- Why the message whose bare words an input has isn't answered: they are cut or too many, a task
--- refuses the message, or memory or the input fails.
+-- Why the message whose bare words the input has isn't answered: they are cut short or too many,
+-- the task refuses the message, or memory or the input fails.
 abbrev pub StopsFlat : Task → Option (List ℕ) → Bool → Fault → Type 0
 StopsFlat task input failed (Frame e) =
     (e ≡ NoMemory) ⊎ ((e ≡ ReadFailed) × (failed ≡ true))
@@ -35,13 +35,13 @@ StopsFlat task input failed (Layout k) =
 StopsFlat task input failed TooManyMessages = ⊥
 
 module _ {R : Type 0} (g : Ghosts R) where
-  -- What a stop has taken of an input: all of it, where the message is refused.
+  -- What a stop has taken of an input: all of it, if the message is refused.
   abbrev pub HasTakenFlat : R → R → Fault → Type 0
   HasTakenFlat from to (Frame e) = HasTakenBare g from to e
   HasTakenFlat from to (Layout k) = IsAtEnd (g.remaining to)
   HasTakenFlat from to TooManyMessages = ⊥
 
--- Bytes are bare words of a message that a task has an answer to.
+-- The bytes are bare words of a message that the task has an answer to.
 abbrev pub CanFlatBeAnswered : Task → List ℕ → Type 0
 CanFlatBeAnswered task bytes =
     AreBareWords bytes (most_words task.limits)

@@ -1,4 +1,4 @@
--- What a run says of a packed input ("Packing").
+-- What a run says about a packed input ("Packing").
 use Rattle.std.specs.Prelude.{◌≡◌, List, ℕ, Option, IfSome}
 use Rattle.std.specs.Io.KnownBytes.{IsAtEnd, Keeps}
 use Rattle.std.specs.Option.{option_map}
@@ -9,12 +9,12 @@ use Rattle.capnp_streams.specs.Streams.{Stage}
 use Rattle.capnp_streams.specs.declared.streams.fault.Fault.{Fault}
 use Rattle.capnp_streams.specs.declared.streams.fault.Fault.TheVariants.{Frame}
 
--- A stage of a packed input, by the bytes that it gives, as far as they go.
+-- A stage of a packed input, by the bytes that it unpacks to, as far as they go.
 abbrev pub unpacked_stage : Stage → Stage
 unpacked_stage stage = record stage { input = option_map (unpacked_bytes Tag) stage.input }
 
--- Behind all messages that a packed input gives it is cut short, within a word or before a number,
--- where no frame has begun, and nothing more is written.
+-- After all messages of a packed input it is cut short, within a word or before a number, where no
+-- frame has begun; nothing more is written.
 abbrev pub IsCutBehind : Option (List ℕ) → Stage → Option (List ℕ) → Fault → Type 0
 IsCutBehind packed old output fault =
     (fault ≡ Frame Truncated) × IfSome packed (λ bytes. IsWhole Tag bytes → ⊥)

@@ -1,4 +1,4 @@
--- The messages that stand in a stream, one frame behind the other, and what a task answers to them.
+-- The messages of a stream, one frame after the other, and what a task answers to them.
 use Rattle.std.specs.Prelude.{◌≡◌, ◌⊎◌, ℕ, ◌-◌, ◌^◌, ◌≤◌, min, List, [], ◌∷◌, ◌++◌, All, length, codes, ⊤}
 use Rattle.std.specs.Prelude.{Bool, true, false, ◌&&◌, Option, IsSome, IfSome, unwrap_or, Result, OnOk, IfOk, IfErr}
 use Rattle.std.specs.Option.{option_map_or}
@@ -38,7 +38,7 @@ use Rattle.capnp_messages.specs.declared.messages.command.Form.{Form}
 use Rattle.capnp_streams.specs.declared.streams.task.Task.{Task}
 use Rattle.capnp_messages.specs.Commands.{HasAnswerWithin, RefusesAnswer, form_bytes}
 
--- the name of a refusal
+-- The name of a refusal.
 abbrev pub fault_name : Fault → List ℕ
 fault_name (Frame e) = frame_error_name e
 fault_name (Layout k) = name_of k
@@ -48,7 +48,7 @@ fault_name TooManyMessages = codes "TooManyMessages"
 abbrev pub most_words : ReaderOptions → ℕ
 most_words limits = unwrap_or limits.traversal_limit_in_words (2 ^ 64 - 1)
 
--- The line of a message that isn't canonical: why, and at which word.
+-- The line about a message that isn't canonical: why, and at which word.
 unfoldable pub no_text : List ℕ
 no_text = codes "not canonical: "
 
@@ -67,9 +67,9 @@ abbrev pub written_words : Bool → Form → List ℕ → List ℕ
 written_words true form words = encode_lower (bytes_of_words words) ++ 10 ∷ []
 written_words false form words = form_bytes form words
 
--- What a command answers to a message, with what else a task asks for: yes or no, and these bytes.
--- The line that says that a message isn't canonical says why: the reason is true of the word that
--- it names.
+-- What a command answers to S, with the other settings of a task: `holds` is yes or no, and `bytes`
+-- are written. The line about a message that isn't canonical says why: the reason is true of the
+-- word that it names.
 abbrev pub AnswerIs : Command → Task → Segments → Bool → List ℕ → Type 0
 AnswerIs (Canon form) task S holds bytes =
     (holds ≡ true)
@@ -83,13 +83,13 @@ AnswerIs Size task S holds bytes =
     (holds ≡ true) × ((words : ℕ) × (caps : ℕ) × HasSizeOf S task.limits words caps ×
     (bytes ≡ size_line words caps))
 
--- A fault says why a command gives no answer to a message.
+-- The fault says why a command has no answer to S.
 abbrev pub RefusesBy : Command → ReaderOptions → Segments → Fault → Type 0
 RefusesBy command limits S (Layout k) = RefusesAnswer command limits S k
 RefusesBy command limits S _ = ⊥
 
--- How often memory was refused, behind a fault and n times before: once more where there was none
--- for the frame that is read, or for a canonical copy; and else as before.
+-- How often memory was refused after a fault, if it was n times before: one more if there was none
+-- for the frame that is read, or for a canonical copy; otherwise n.
 abbrev pub refusals_behind : Command → Fault → ℕ → ℕ
 refusals_behind command (Frame e) n = frame_refusals e n
 refusals_behind command TooManyMessages n = n
@@ -97,8 +97,8 @@ refusals_behind (Canon form) (Layout k) n = refusals_for k n
 refusals_behind Check (Layout k) n = n
 refusals_behind Size (Layout k) n = n
 
--- An allocator is there behind a command, and has counted a refusal more where memory was wanting,
--- and else none.
+-- The allocator is there after a command, and has counted one more refusal if there was no memory,
+-- and otherwise none.
 pub record CountsRefusals {A B : Type 0} (refusals : A → ℕ) (old new : Option A)
     (command : Command) (result : Result B Fault) : Type 0 where
   pub there : IsSome new
@@ -108,25 +108,25 @@ pub record CountsRefusals {A B : Type 0} (refusals : A → ℕ) (old new : Optio
       (λ fault. option_map_or refusals new 0
       ≡ refusals_behind command fault (option_map_or refusals old 0))
 
--- What is asked of a message: a command, with what else a task says.
+-- What is asked of a message: a command, with the other settings of a task.
 pub record Question : Type 0 where
   pub command : Command
   pub task : Task
   pub asked_of : Segments
 
--- what is asked of the message in segments
+-- What is asked of the message in these segments.
 abbrev pub question_on : Command → Task → List (List ℕ) → Question
 question_on command task segments =
     record { command = command; task = task; asked_of = message segments }
 
 module _ {W : Type 0} (g : OutputGhosts W) where
-  -- A fault is that of an output, which has failed.
+  -- The fault is that of an output, which has failed.
   abbrev pub IsWriteFault : W → Fault → Type 0
   IsWriteFault output fault = (fault ≡ Frame WriteFailed) × (g.has_failed output ≡ true)
 
-  -- A question is answered: from one state of an output to another, which works, the answer was
-  -- written, with yes or no as the result. Or it isn't: the output has failed; or the command
-  -- refuses the message, and nothing was written.
+  -- The question q is answered: the answer was written, from one state of an output to another,
+  -- which works; the result is yes or no. Or it isn't answered: the output has failed; or the
+  -- command refuses the message, and nothing was written.
   pub record Answers (from to : W) (q : Question) (result : Result Bool Fault) : Type 0 where
     pub answered :
         IfOk result
@@ -136,14 +136,15 @@ module _ {W : Type 0} (g : OutputGhosts W) where
     pub refused : IfErr result (λ fault. IsWriteFault to fault
         ⊎ (RefusesBy q.command q.task.limits q.asked_of fault × IsUnwritten g from to))
 
--- Bytes are the frames of these messages, one behind the other, each of at most so many words.
+-- The bytes are the frames of these messages, one after the other, each of at most `most` words.
 abbrev pub AreFrames : ℕ → List Segments → List ℕ → Type 0
 AreFrames most [] bytes = bytes ≡ []
 AreFrames most (S ∷ more) bytes =
     (first : List ℕ) × (rest : List ℕ) × (bytes ≡ first ++ rest) × IsFrameOf S first × (total S ≤ most)
     × AreFrames most more rest
 
--- A task answers to messages with these bytes, one answer behind the other, and with yes where each is.
+-- A task answers to messages with these bytes, one answer after the other, and with yes if each
+-- answer is yes.
 abbrev pub AreAnswered : Task → List Segments → Bool → List ℕ → Type 0
 AreAnswered task [] holds bytes = (holds ≡ true) × (bytes ≡ [])
 AreAnswered task (S ∷ more) holds bytes =
@@ -151,7 +152,7 @@ AreAnswered task (S ∷ more) holds bytes =
     × AnswerIs task.command task S here first × AreAnswered task more there rest
     × (holds ≡ here && there) × (bytes ≡ first ++ rest)
 
--- How far a run has come: what its input has left and what its output holds, where these are known.
+-- How far a run has come: what is left of its input and what its output holds, if these are known.
 pub record Stage : Type 0 where
   pub input : Option (List ℕ)
   pub output : Option (List ℕ)
@@ -171,9 +172,9 @@ module _ {R W : Type 0} (g : InputGhosts R) (h : OutputGhosts W) where
     pub whole : KeepsWhole (g.ends_whole from) (g.ends_whole to)
     pub work : AreWorking to output
 
--- From one stage to another the frames of so many messages were taken from the front of the input,
--- of so many bytes, up to those that 64 bits count, and what a task answers to these was written
--- behind what the output had.
+-- From old to new the frames of `summary.messages` messages were taken from the front of the input;
+-- `summary.bytes` is their number of bytes, at most what 64 bits count. What the task answers to
+-- these was written after what the output had.
 pub record AreDone (task : Task) (old new : Stage) (summary : Summary) : Type 0 where
   pub messages : List Segments
   pub bytes : List ℕ
@@ -185,16 +186,16 @@ pub record AreDone (task : Task) (old new : Stage) (summary : Summary) : Type 0 
   pub answered : AreAnswered task messages summary.holds answers
   pub written : Appends old.output new.output answers
 
--- From one stage to another the messages are done that a run has answered before it stops, whose frames
--- have as many bytes as it says.
+-- From old to new the messages are done that a run has answered before it stops; their frames have
+-- as many bytes as it says.
 abbrev pub WereAnswered : Task → Stage → Stage → Stop → Type 0
 WereAnswered task old new stop =
     (holds : Bool)
     × AreDone task old new (record { messages = stop.answered; bytes = stop.byte; holds = holds })
 
--- Why the message at the front of what an input has left isn't answered: there is no frame of one,
--- memory or the input fails; or its frame is taken, and nothing behind it, and a task refuses the
--- message.
+-- Why the message at the front of what is left of the input isn't answered. Either there is no
+-- frame of one, or memory or the input fails; or its frame is taken, and nothing after it, and the
+-- task refuses the message.
 abbrev pub StopsAt : Task → Option (List ℕ) → Option (List ℕ) → Bool → Fault → Type 0
 StopsAt task old new failed (Frame e) =
     (e ≡ NoMemory) ⊎ ((e ≡ ReadFailed) × (failed ≡ true))
@@ -204,7 +205,7 @@ StopsAt task old new failed (Layout k) =
     × Consumes old new bytes × RefusesAnswer task.command task.limits S k
 StopsAt task old new failed TooManyMessages = ⊥
 
--- Why no message is answered behind a stage, where nothing more is written: that at the front
+-- Why no message is answered after a stage, and nothing more is written: the one at the front
 -- isn't, or as many were as 64 bits count.
 abbrev pub EndsBehind : Task → Stage → Stage → Bool → Stop → Type 0
 EndsBehind task old new failed stop =
@@ -212,7 +213,7 @@ EndsBehind task old new failed stop =
     × (StopsAt task old.input new.input failed stop.fault
     ⊎ ((stop.fault ≡ TooManyMessages) × (stop.answered ≡ 2 ^ 64 - 1)))
 
--- Bytes are frames of messages that a task has an answer to.
+-- The bytes are frames of messages that the task has an answer to.
 abbrev pub CanBeAnswered : Task → List ℕ → Type 0
 CanBeAnswered task bytes =
     (messages : List Segments) × AreFrames (most_words task.limits) messages bytes

@@ -1,5 +1,5 @@
-//! A reader as an input that reads ahead, and a writer as an output that passes bytes on later; an output that writes
-//! nothing, and one that puts a name before each line.
+//! A reader as an input that reads ahead, and a writer as an output that flushes later; an output
+//! that drops what it takes, and one that puts a name before each line.
 ghost use Rattle.std.specs.Prelude.{◌≡◌, ◌<◌, ◌≤◌, ◌^◌, ◌-◌, length, false, true, None, Some, IfOk};
 ghost use Rattle.std.specs.Io.Buffered.{reader_buffer, reader_remaining, writer_buffer, writer_contents};
 ghost use Rattle.capnp_format.specs.Segments.{Segments};
@@ -10,7 +10,7 @@ use capnp_framing::framing::read_from_flat_slice;
 use capnp_packing::buffered::{BufferedInput, BufferedOutput};
 use std::io::{BufReader, BufWriter, Read, Write};
 
-/// The bytes of a reader, read ahead. It isn't asked again behind a failure.
+/// The bytes of a reader, read ahead. Doesn't read on after a failure.
 #[derive(Drop)]
 pub struct BufReaderInput<R> {
     reader: BufReader<R>,
@@ -18,7 +18,7 @@ pub struct BufReaderInput<R> {
 }
 
 impl<R: Read> BufReaderInput<R> {
-    /// The input of a reader that has not failed.
+    /// The input of a reader that hasn't failed.
     pub fn new(reader: BufReader<R>) -> Self
         ensures reader { result.reader ≡ reader }
         ensures works { result.failed ≡ false }
@@ -56,7 +56,7 @@ impl<R: Read> Input for BufReaderInput<R> {
 }
 
 impl<R: Read> BufferedInput for BufReaderInput<R> {
-    // The next frame stands there as a whole.
+    // The buffer holds the whole next frame.
     ghost has_enough = { λ r. (S : Segments) × BeginsWithFrame (reader_buffer r.reader) (2 ^ 64 - 1) S };
 
     fn is_ahead(&self) -> bool {
@@ -67,7 +67,7 @@ impl<R: Read> BufferedInput for BufReaderInput<R> {
     }
 }
 
-/// A writer that takes bytes, and passes them on later.
+/// A writer that buffers bytes and flushes them later.
 #[derive(Drop)]
 pub struct BufWriterOutput<W: Write + Drop> {
     writer: BufWriter<W>,
@@ -75,7 +75,7 @@ pub struct BufWriterOutput<W: Write + Drop> {
 }
 
 impl<W: Write + Drop> BufWriterOutput<W> {
-    /// The output to a writer that has not failed.
+    /// The output to a writer that hasn't failed.
     pub fn new(writer: BufWriter<W>) -> Self
         ensures writer { result.writer ≡ writer }
         ensures works { result.failed ≡ false }
@@ -119,7 +119,7 @@ impl<W: Write + Drop> BufferedOutput for BufWriterOutput<W> {
     }
 }
 
-/// An output that writes nothing of what it takes.
+/// An output that drops all bytes.
 #[derive(Clone, Copy)]
 pub struct NoOutput;
 
@@ -145,18 +145,19 @@ impl BufferedOutput for NoOutput {
     }
 }
 
-/// An output of lines that puts a name and `: ` before each. What the output below then has isn't said.
+/// An output of lines that puts a name and `: ` before each. Its contract doesn't state what the
+/// output below then holds.
 #[derive(Drop)]
 pub struct NamedLines<'n, 'w, W> {
     name: &'n str,
     output: &'w mut W,
-    // Whether the next byte is the first of a line.
+    // Whether the next byte begins a line.
     begins: bool,
     failed: bool,
 }
 
 impl<'n, 'w, W: Output> NamedLines<'n, 'w, W> {
-    /// The output of lines that begin with a name.
+    /// The output to `output` whose lines begin with `name`.
     pub fn new(name: &'n str, output: &'w mut W) -> Self
         ensures works { result.failed ≡ false }
     {
@@ -168,7 +169,8 @@ impl<'n, 'w, W: Output> NamedLines<'n, 'w, W> {
         }
     }
 
-    /// Writes the name where a line begins, and then bytes up to the line's end; how many of these were taken.
+    /// Writes the name if a line begins, then bytes up to the line's end. Returns how many bytes of
+    /// `from` it took.
     fn write_line(&mut self, from: &[u8]) -> Result<usize, DeviceFault>
         requires { 0 < length from.now }
         ensures some { IfOk result (λ n. 0 < n) }
@@ -190,7 +192,7 @@ impl<'n, 'w, W: Output> NamedLines<'n, 'w, W> {
     }
 }
 
-/// Where the first line of some bytes ends, behind its line feed.
+/// The position after the first line feed in `bytes`, or their end.
 fn line_end(bytes: &[u8]) -> usize
     ensures some { 0 < length bytes.now → 0 < result }
     ensures within { result ≤ length bytes.now }

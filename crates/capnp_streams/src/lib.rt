@@ -1,5 +1,5 @@
-//! Streams of framed messages ("Serialization Over a Stream"): each message of an input is made
-//! canonical, tested or measured, and the answers are written in order. It is the engine of the
+//! Streams of framed messages ("Serialization Over a Stream"): makes each message of an input
+//! canonical, tests it or measures it, and writes the answers in order. This is the engine of the
 //! program `capnp_canon`.
 #![tactic(auto)]
 

@@ -1,4 +1,5 @@
-//! What an input looks like whose first message isn't answered. It is a guess by the first bytes, that somebody is told.
+//! What an input looks like whose first message can't be answered: a guess from its first bytes,
+//! for a message to the user.
 ghost use Rattle.std.specs.Prelude.{◌<◌, ◌^◌, IfSome};
 
 use crate::streams::{Fault, Task};
@@ -17,18 +18,18 @@ pub enum Looks {
     Bzip2,
     Xz,
     Zip,
-    /// Text of ASCII characters.
+    /// ASCII text.
     Text,
-    /// Frames, one behind the other.
+    /// A stream of frames.
     Frames,
-    /// Frames that are packed ("Packing").
+    /// A packed stream of frames ("Packing").
     PackedFrames,
     /// The bare words of one message.
     BareWords,
 }
 
 impl Looks {
-    /// What that is called, and which option of `capnp_canon` reads it.
+    /// Its name, and the option of `capnp_canon` that reads it.
     pub fn text(&self) -> &'static str {
         match self {
             Looks::Gzip => "gzip",
@@ -44,8 +45,9 @@ impl Looks {
     }
 }
 
-/// What an input looks like whose first message a task doesn't answer, where it looks like something else than it was
-/// said to be. `given` is how many of its bytes are known to be there, from the first ones on.
+/// What an input looks like whose first message the task doesn't answer; `None` if it looks like
+/// what the task reads, or like nothing known. `first` has its first bytes; at least `given` of its
+/// bytes are known to exist.
 pub fn looks_like(task: Task, fault: Fault, first: &[u8], given: u64) -> Option<Looks> {
     if is_of_devices(fault) {
         return None;
@@ -66,7 +68,7 @@ pub fn looks_like(task: Task, fault: Fault, first: &[u8], given: u64) -> Option<
     }
 }
 
-/// Whether a fault is one of memory or a device, or none of a message.
+/// Whether the fault comes from memory or a device, or isn't that of one message.
 fn is_of_devices(fault: Fault) -> bool {
     match fault {
         Fault::Frame(error) => matches!(
@@ -78,7 +80,7 @@ fn is_of_devices(fault: Fault) -> bool {
     }
 }
 
-/// What begins with these bytes, whatever is expected.
+/// What begins with these bytes, whatever the task reads.
 fn by_bytes(first: &[u8]) -> Option<Looks> {
     match first {
         [0x1f, 0x8b, ..] => Some(Looks::Gzip),
@@ -91,12 +93,12 @@ fn by_bytes(first: &[u8]) -> Option<Looks> {
     }
 }
 
-/// Whether a byte is a printed character of ASCII, a tab, or ends a line.
+/// Whether the byte is a printable ASCII character, a tab, or ends a line.
 fn is_text(byte: u8) -> bool {
     matches!(byte, b'\t' | b'\n' | b'\r' | b' '..=b'~')
 }
 
-/// What an input looks like that isn't frames.
+/// What an input that should be frames looks like instead.
 fn unlike_frames(first: &[u8], given: u64) -> Option<Looks> {
     let words = given / 8;
     if begins_in_order(first, words) {
@@ -114,7 +116,7 @@ fn unlike_frames(first: &[u8], given: u64) -> Option<Looks> {
     None
 }
 
-/// What an input looks like that isn't packed.
+/// What an input that should be packed looks like instead.
 fn unlike_packed(first: &[u8]) -> Option<Looks> {
     if begins_with_frame(first) && !begins_with_packed_frame(first) {
         return Some(Looks::Frames);
@@ -122,7 +124,7 @@ fn unlike_packed(first: &[u8]) -> Option<Looks> {
     None
 }
 
-/// What an input looks like that isn't bare words.
+/// What an input that should be bare words looks like instead.
 fn unlike_words(first: &[u8]) -> Option<Looks> {
     if begins_with_frame(first) {
         return Some(Looks::Frames);
@@ -133,8 +135,9 @@ fn unlike_words(first: &[u8]) -> Option<Looks> {
     None
 }
 
-/// Whether bytes begin with a struct of pointers alone whose first one leads to right behind it, among so many words.
-/// The table of a frame is such a struct only where the frame has 65,536 words or more.
+/// Whether `first` begins with a root struct that has only pointers, the first of which leads to
+/// the word after the struct, inside `words` words. The table of a frame looks like this only if
+/// the frame has 65,536 words or more.
 fn begins_in_order(first: &[u8], words: u64) -> bool {
     let (Some(root), Some(pointer)) = (word(first, 0), word(first, 1)) else {
         return false;
@@ -146,7 +149,7 @@ fn begins_in_order(first: &[u8], words: u64) -> bool {
     WirePointer(pointer).target(1, short(words)) == Some(1 + size.total())
 }
 
-/// Whether bytes may be the front of packed ones, which begin with a frame.
+/// Whether `first` may begin a packed stream of frames.
 fn begins_with_packed_frame(first: &[u8]) -> bool {
     let mut unpacked = [0; 32];
     let mut input = UnpackingInput::new(MemoryInput::new(first));
@@ -156,15 +159,15 @@ fn begins_with_packed_frame(first: &[u8]) -> bool {
     }
 }
 
-/// Whether bytes may be the front of a frame, whose root leads to a struct within the first segment, or to a landing pad in
-/// one of several, or is null and alone.
+/// Whether `bytes` may begin with a frame whose root leads to a struct in the first segment, or to
+/// a landing pad in one of several segments, or is null and the only word.
 fn begins_with_frame(bytes: &[u8]) -> bool {
     let Some(numbers) = word(bytes, 0) else {
         return false;
     };
     let segments = (numbers & 0xffff_ffff) + 1;
     let words = numbers >> 32;
-    // the table has a number for each segment and their number before these, two of them in a word
+    // The table holds the number of segments and each one's size, two numbers a word.
     let Some(root) = word(bytes, segments / 2 + 1) else {
         return false;
     };
@@ -177,7 +180,7 @@ fn begins_with_frame(bytes: &[u8]) -> bool {
     }
 }
 
-/// A word of bytes, where it is whole.
+/// Word `at` of `bytes`, if it is whole.
 fn word(bytes: &[u8], at: u64) -> Option<u64> {
     if at < bytes.len() as u64 / 8 {
         Some(word_at(bytes, at as usize))
@@ -186,7 +189,8 @@ fn word(bytes: &[u8], at: u64) -> Option<u64> {
     }
 }
 
-/// Whether a word is a pointer to a struct or a list that ends within so many words, the first of which is that word.
+/// Whether `word`, the first of `words` words, is a pointer to a struct or a list that ends inside
+/// them.
 fn leads_within(word: u64, words: u64) -> bool {
     let pointer = WirePointer(word);
     match (object_words(pointer), pointer.target(0, short(words))) {
@@ -195,12 +199,12 @@ fn leads_within(word: u64, words: u64) -> bool {
     }
 }
 
-/// This number of words, or as many as a segment may have if that is less.
+/// `words`, at most `u32::MAX`.
 fn short(words: u64) -> u32 {
     words.min(u64::from(u32::MAX)) as u32
 }
 
-/// How many words an object takes, by the pointer to it.
+/// The number of words that the pointer's object takes.
 fn object_words(pointer: WirePointer) -> Option<u64>
     ensures { IfSome result (λ n. n < 2 ^ 62) }
 {
@@ -211,7 +215,7 @@ fn object_words(pointer: WirePointer) -> Option<u64>
     }
 }
 
-/// How many words a list takes, with its tag.
+/// The number of words that the pointer's list takes, with its tag.
 fn list_words(pointer: WirePointer) -> u64
     ensures { result < 2 ^ 62 }
 {

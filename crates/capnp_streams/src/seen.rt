@@ -1,13 +1,14 @@
-//! What is seen of a device while bytes pass through it: the first of them, how many there are, and why it failed.
+//! Watches the bytes that pass through a device: keeps the first of them, their number, and why the
+//! device failed.
 ghost use Rattle.std.specs.Prelude.{◌≡◌, ◌≤◌};
 
 use std::cell::Cell;
 use std::io::{self, Read, Write};
 
-/// How many bytes are kept.
+/// The number of bytes kept.
 const KEPT: usize = 32;
 
-/// The first bytes that a reader gave, and how many it gave in all.
+/// The first bytes read from a device, and the number of all.
 #[derive(Clone, Copy)]
 pub struct Front {
     first: [u8; KEPT],
@@ -15,7 +16,7 @@ pub struct Front {
 }
 
 impl Front {
-    /// No byte was given yet.
+    /// The front before any byte is read.
     fn new() -> Self {
         Front {
             first: [0; KEPT],
@@ -23,7 +24,7 @@ impl Front {
         }
     }
 
-    /// How many bytes are kept.
+    /// The number of bytes kept.
     fn kept(&self) -> usize
         ensures { result ≤ 32 }
     {
@@ -36,12 +37,12 @@ impl Front {
         &self.first[..kept]
     }
 
-    /// How many bytes were given.
+    /// The number of bytes read.
     pub fn given(&self) -> u64 {
         self.given
     }
 
-    /// The front with more bytes behind it.
+    /// The front after reading `more`.
     fn with(self, more: &[u8]) -> Self {
         let kept = self.kept();
         let count = more.len().min(KEPT - kept);
@@ -54,7 +55,7 @@ impl Front {
     }
 }
 
-/// What is seen of a device. It is read while the device is lent or gone.
+/// What is known about a device. Can be read while the device is lent or after it is gone.
 #[derive(Drop)]
 pub struct Seen {
     front: Cell<Front>,
@@ -62,7 +63,7 @@ pub struct Seen {
 }
 
 impl Seen {
-    /// Nothing is seen yet.
+    /// Nothing is known yet.
     pub fn new() -> Self {
         Seen {
             front: Cell::new(Front::new()),
@@ -70,28 +71,28 @@ impl Seen {
         }
     }
 
-    /// What was read at first.
+    /// The first bytes read.
     pub fn front(&self) -> Front {
         self.front.get()
     }
 
-    /// Why the device failed, in the words of the system; `None` where it didn't.
+    /// Why the device failed, as the system's error; `None` if it didn't fail.
     pub fn fault(&self) -> Option<io::Error> {
         self.fault.get()
     }
 
-    /// Keeps what is kept of bytes that were read.
+    /// Notes bytes that were read.
     fn read(&self, bytes: &[u8]) {
         self.front.set(self.front.get().with(bytes));
     }
 
-    /// Keeps why the device failed.
+    /// Notes why the device failed.
     fn failed(&self, error: io::Error) {
         self.fault.set(Some(error));
     }
 }
 
-/// A reader or a writer that is seen.
+/// A watched reader or writer.
 #[derive(Drop)]
 pub struct Watched<'a, D> {
     device: D,
@@ -99,7 +100,7 @@ pub struct Watched<'a, D> {
 }
 
 impl<'a, D> Watched<'a, D> {
-    /// Watches a device: what is seen of it goes to `seen`.
+    /// Watches a device and notes in `seen` what it reads and why it fails.
     pub fn new(device: D, seen: &'a Seen) -> Self
         ensures { result.device ≡ device }
     {

@@ -1,4 +1,4 @@
-//! A task done with each message of a stream.
+//! Does a task with each message of a stream.
 
 mod answers;
 mod fault;

@@ -1,5 +1,5 @@
--- The copy of a list that is read: its elements' words are at hand, and its first element is read
--- at its place.
+-- The copy of a list that is read: the words of its elements are at hand, and its first element is
+-- read at its place.
 use Rattle.capnp_arena_traits.specs.declared.arena.reader_arena.ReaderArena.{Ghosts}
 use Rattle.capnp_format.specs.Tree.{Tree}
 use Rattle.capnp_objects.specs.Reading.{reading_at}
@@ -7,7 +7,7 @@ use Rattle.capnp_readers.specs.declared.readers.list_reader.ListReader.{ListRead
 use Rattle.capnp_copies.specs.Originals.{Original, list_original}
 
 module _ {A : Type 0} (g : Ghosts A) where
-  -- What is copied of it.
+  -- What is copied of the list.
   abbrev pub list_read : ListReader A g → Original Tree
   list_read value =
       list_original value.element_size value.struct_size value.count

@@ -1,4 +1,4 @@
-//! The copies of what a pointer means, and of a struct or a list that is read.
+//! Copies a pointer's value, and a struct or a list being read.
 
 mod each;
 mod list_value;

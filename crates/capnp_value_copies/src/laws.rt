@@ -1,5 +1,5 @@
-//! What follows of the contracts of this crate. The functions do nothing: each contract is a law,
-//! proved for all readers and all arenas.
+//! Laws that follow from the contracts of this crate. Each function does nothing: its contract is
+//! the law, proved for all readers and all arenas.
 ghost use Rattle.std.specs.Prelude.{◌≡◌, ℕ, ◌+◌, ◌*◌, ◌<◌, ◌≤◌, List, length, sum_by, true, Some, Result, ⊤};
 ghost use Rattle.capnp_words.specs.declared.error.ErrorKind.{ErrorKind};
 ghost use Rattle.capnp_format.specs.Bytes.{words_of};
@@ -18,19 +18,19 @@ pub fn whole_sections()
         → section_words (64 * d) bytes ≡ words_of bytes }
 {}
 
-/// The objects that a copy makes take exactly their words and their landing pads. There is no pad where
-/// their words fit the segment of their pointer, and none where the message has but one segment
-/// afterwards ("Inter-Segment Pointers").
+/// The objects that a copy makes take exactly their words and their landing pads. There is no pad
+/// if their words fit the segment of their pointer, or the message has one segment afterwards
+/// ("Inter-Segment Pointers").
 pub fn pads_apart()
     ensures { (id words pads : ℕ) (old new : View) → Makes id old new words pads
         → (sum_by length new.words ≡ sum_by length old.words + (words + pads))
         × (id < length old.words → StayInSegment old new id words → pads ≡ 0) }
 {}
 
-/// Under a budget of x words a copy, whether it ends or is refused, takes at most x words, landing pads
-/// apart. It has at most x + 1 pads, each of an object that stands in another segment than its pointer,
-/// and none where x words have room in the segment of its pointer, or where the message has but one
-/// segment afterwards. It follows at most x + 1 pointers.
+/// Under a budget of x words a copy, complete or refused, takes at most x words without landing
+/// pads. It has at most x + 1 pads, each of an object in another segment than its pointer; it has
+/// none if x words have room in the segment of its pointer, or the message has one segment
+/// afterwards. It follows at most x + 1 pointers.
 pub fn few_taken()
     ensures { (r : Reading) (c : Change) (x : ℕ) (result : Result ⊤ ErrorKind)
         → r.charging ≡ true → c.before.left ≡ Some x → TakesAtMost result (value_original r) c
@@ -41,8 +41,8 @@ pub fn few_taken()
         × (c.after.followed ≤ c.before.followed + (x + 1)) }
 {}
 
-/// Under a budget of x words, with room for x words behind those of the segment of its pointer, a copy
-/// is refused by nothing but reading, whether its source can be read or not.
+/// Under a budget of x words, with room for x words after those of the segment of its pointer, a
+/// copy is refused only by reading, whether its source can be read or not.
 pub fn budget_has_room()
     ensures { (r : Reading) (c : Change) (x : ℕ) (k : ErrorKind)
         → r.charging ≡ true → c.before.left ≡ Some x → HasOwnRoom c.old c.segment x

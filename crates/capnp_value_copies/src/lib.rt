@@ -1,5 +1,4 @@
-//! Copies of a struct or a list that is read, and of pointers one behind the other, into a message
-//! that is built.
+//! Copies a struct or a list being read, and consecutive pointers, into a message being built.
 #![tactic(auto)]
 
 pub mod copy;

@@ -1,4 +1,5 @@
--- How pointers are written anew, and the words that this takes ("Inter-Segment Pointers").
+-- How pointers are rewritten at other places, and the words that this takes ("Inter-Segment
+-- Pointers").
 use Rattle.std.specs.Prelude.{◌≡◌, ◌≢◌, ◌⊎◌, ℕ, ◌+◌, ◌-◌, ◌^◌, ◌<◌, ◌≤◌, if◌then◌else◌, nat_eq, nat_lt}
 use Rattle.std.specs.Prelude.{◌*◌, IfErr, IfOk, IsOk, List, [], ◌∷◌, length, OnErr, OnOk, Result, ⊤}
 use Rattle.capnp_words.specs.declared.error.ErrorKind.{ErrorKind}
@@ -21,10 +22,10 @@ use Rattle.capnp_widening.specs.Moved.{row_of_moves}
 use Rattle.capnp_widening.specs.Rooms.{GrowsByAtMost, HasPadRoom, widened_words}
 use Rattle.capnp_widening.specs.Widened.{GrowsByZeros, widened}
 
--- The pointer x, whose object lies in segment s if it is near, is written anew in segment v as y:
--- null, a far pointer and a capability as they are; a near one near in its object's segment, where
--- a struct without sections has the offset -1, and elsewhere far, to a pad in the object's segment
--- or to two.
+-- The pointer x, whose object is in segment s if x is near, is rewritten in segment v as y. Null, a
+-- far pointer and a capability are copied. A near one stays near in its object's segment, where a
+-- struct without sections has offset -1; in another segment it becomes far, to a pad in the
+-- object's segment or to two.
 pub record IsWrittenAnew (s v x y : ℕ) : Type 0 where
   pub copied : (x ≡ 0) ⊎ (2 ≤ kind x) → y ≡ x
   pub near : x ≢ 0 → kind x < 2 → s ≡ v → kind y < 2
@@ -32,18 +33,19 @@ pub record IsWrittenAnew (s v x y : ℕ) : Type 0 where
   pub far : x ≢ 0 → kind x < 2 → s ≢ v → (kind y ≡ 2) ×
       (((is_double y ≡ 0) × (upper_half y ≡ s)) ⊎ (is_double y ≡ 1))
 
--- How many words of a landing pad it asks for in segment s: one where it becomes far, else none.
+-- The words for a landing pad that this requires in segment s: one if x becomes far, otherwise
+-- none.
 abbrev pub pad_words : ℕ → ℕ → ℕ → ℕ
 pad_words s v x =
     if nat_eq s v then 0 else if nat_eq x 0 then 0 else if nat_lt (kind x) 2 then 1 else 0
 
--- Words are written over others, and nothing else is changed.
+-- From old to new words are overwritten, and nothing else changes.
 pub record OnlyWrites (old new : View) : Type 0 where
   pub limits : KeepsLimits old new
   pub segments : length new.words ≡ length old.words
   pub words : (x : ℕ) → length (segment new.words x) ≡ length (segment old.words x)
 
--- Pointers that stand in S are written anew, as these words of R.
+-- The pointers of S are rewritten, as these words of R.
 abbrev pub AreWrittenAnew : Segments → Segments → List Move → Type 0
 AreWrittenAnew S R [] = ⊤
 AreWrittenAnew S R (m ∷ ms) =
@@ -51,7 +53,8 @@ AreWrittenAnew S R (m ∷ ms) =
     (word_at R m.to.segment m.to.at)
     × AreWrittenAnew S R ms
 
--- Words are taken for the landing pads of pointers that stand in S, for one pointer after the other.
+-- From old to new words are allocated for the landing pads of the pointers of S, one pointer after
+-- the other.
 abbrev pub TakesPadsInTurn : Segments → View → View → List Move → Type 0
 TakesPadsInTurn S old new [] = OnlyWrites old new
 TakesPadsInTurn S old new (m ∷ ms) =
@@ -60,7 +63,7 @@ TakesPadsInTurn S old new (m ∷ ms) =
     (pad_words m.from.segment m.to.segment (word_at S m.from.segment m.from.at))
     × TakesPadsInTurn S next new ms
 
--- Pointers are written anew in turn, in words that are there, wherever they mean values.
+-- From old to new the pointers are rewritten in turn, in words that are there, if they mean values.
 abbrev pub WritesAnew : View → View → List Move → Type 0
 WritesAnew old new ms =
     (S : Segments) → CanMove S old.words ms →
@@ -70,8 +73,8 @@ WritesAnew old new ms =
 abbrev pub call_place : CallAt → Start
 call_place c = record { segment = c.segment; at = c.at }
 
--- A call moves n pointers in turn, and takes at most two words for each. Or two words are refused:
--- then some of the first pointers are moved.
+-- A call moves n pointers in turn, and takes at most two words for each. Or it is refused two
+-- words: then some of the first pointers are moved.
 pub record MovesInTurn {A : Type 0} (result : Result A ErrorKind) (old new : View) (ms : List Move)
     (n : ℕ) : Type 0 where
   pub moved : OnOk result (Moves old.words new.words ms)
@@ -83,9 +86,9 @@ pub record MovesInTurn {A : Type 0} (result : Result A ErrorKind) (old new : Vie
   pub full : IfErr result (λ k. (0 < n) × RefusesWords old new 1 k)
   pub few : GrowsByAtMost old.words new.words (2 * n)
 
--- A call moves these pointers out of segment k into another one. It is granted where there is room
--- for their landing pads; where there was room for n pads more, it is left. The old words of segment
--- k stay.
+-- A call moves these pointers out of segment k into another one. It succeeds if there is room for
+-- their landing pads; if there was room for n more pads, that is left. The old words of segment k
+-- stay.
 pub record MovesApart {A : Type 0} (result : Result A ErrorKind) (old new : View) (k : ℕ)
     (ms : List Move) : Type 0 where
   pub fits : (n : ℕ) → HasPadRoom old k (near_pointers old.words ms + n) → IsOk result ×
@@ -93,8 +96,8 @@ pub record MovesApart {A : Type 0} (result : Result A ErrorKind) (old new : View
   pub kept : OnOk result ((y : ℕ) → y < length (segment old.words k) →
       word_at new.words k y ≡ word_at old.words k y)
 
--- A call moves n pointers, one behind the other from its place on, to others from h on, in turn.
--- Within a segment it is granted.
+-- The call moves n consecutive pointers, from its place on, to consecutive places from h on, in
+-- turn. Within a segment it succeeds.
 pub record MovesRow {A : Type 0} (result : Result A ErrorKind) (c : CallAt) (h : Start) (n : ℕ)
     : Type 0 where
   pub moves : MovesInTurn result c.old c.new (row_of_moves (call_place c) h n) n
@@ -102,15 +105,15 @@ pub record MovesRow {A : Type 0} (result : Result A ErrorKind) (c : CallAt) (h :
   pub apart : c.segment ≢ h.segment →
       MovesApart result c.old c.new c.segment (row_of_moves (call_place c) h n)
 
--- A call makes the pads zero that were written for these pointers, and changes nothing else.
+-- A call zeroes the pads that were written for these pointers, and changes nothing else.
 pub record TakesBack (old new : View) (ms : List Move) : Type 0 where
   pub zeroed : Unmoves old.words new.words ms
   pub pruned : IsPruned old.words new.words
   pub limits : KeepsLimits old new
 
--- A call makes an object of n words anew, to which its place leads, behind all words that were
--- there, and writes these pointers into it. Its words are taken first, then those of the landing
--- pads of these pointers in turn, and no others.
+-- The call makes a new object of n words, to which its place leads, after all words that were
+-- there, and rewrites these pointers into it. It takes first the words of the object, then those of
+-- the landing pads of these pointers in turn, and no others.
 pub record StandsAnew (c : CallAt) (n : ℕ) (ms : List Move) : Type 0 where
   pub behind : StandsBehind c.old c.segment n (start_of (target c.new.words c.segment c.at))
   pub forms : AreWrittenAnew c.old.words c.new.words ms
@@ -119,16 +122,16 @@ pub record StandsAnew (c : CallAt) (n : ℕ) (ms : List Move) : Type 0 where
   pub object : TakesWords c.old begun c.segment n
   pub pads : TakesPadsInTurn c.old.words begun c.new ms
 
--- A call makes an object anew that was t, and becomes u.
+-- The call makes a new object u of the object t.
 abbrev pub BecomesAnew : CallAt → Tree → Tree → Type 0
 BecomesAnew c t u =
     StandsAnew c (widened_words u)
     (moves_into (start_of (target c.old.words c.segment c.at))
     (start_of (target c.new.words c.segment c.at)) t u)
 
--- A call makes the struct that stands at a place anew, so that it has sections of at least a size,
--- and gives where it lies; or memory is refused, and nothing but zeros is new. What stands there is
--- said by Stands, here and below: as that it is stored.
+-- The call makes a new struct of the one at its place, with sections of at least this size, and
+-- returns where it is; or memory is refused, and only zeros are new. `Stands` states what is at the
+-- place, here and below: for example, that it is stored.
 pub record MakesStructWider (result : Result ExistingStruct ErrorKind) (Stands : Tree → Type 0)
     (size : StructSize) (c : CallAt) : Type 0 where
   pub replaced :

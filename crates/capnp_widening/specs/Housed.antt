@@ -1,4 +1,4 @@
--- New words for an object that is made anew, and its pointer set to it.
+-- New words for an object that replaces another, and its pointer set to it.
 use Rattle.std.specs.Prelude.{◌≡◌, ◌≢◌, ◌⊎◌, ℕ, ◌+◌, ◌<◌, ◌≤◌, [], ◌∷◌, length}
 use Rattle.std.specs.Prelude.{Result, IsOk, IfOk, IfErr, OnOk, OnErr}
 use Rattle.capnp_words.specs.declared.error.ErrorKind.{ErrorKind}
@@ -16,18 +16,18 @@ use Rattle.capnp_making.specs.declared.making.Start.{Start}
 use Rattle.capnp_widening.specs.Rooms.{GrowsByAtMost, HasPadRoom, HasRoomAndPads}
 use Rattle.capnp_widening.specs.declared.widening.Room.{Room}
 
--- From S to T the words of a room for n words are new, all zero: in segment id, or behind a landing pad.
+-- From S to T a room for n words is new, all zero: in segment id, or behind a landing pad.
 abbrev pub IsRoom : Segments → Segments → ℕ → ℕ → Room → Type 0
 IsRoom S T id n h =
     IsGrown S T h.segment h.at (h.pads + n) × (((h.pads ≡ 0) × (h.segment ≡ id)) ⊎ (h.pads ≡ 1))
 
--- Where the object of a room starts, behind its pads.
+-- Where the object of a room starts, after its pads.
 abbrev pub object_start : Room → Start
 object_start h = record { segment = h.segment; at = h.at + h.pads }
 
--- A call takes n words for an object behind all words that were there, and a pad where that stands
--- in another segment than id; or these are refused, and no word is written. It is granted where
--- there is room for them. Where there was room for pads of m objects in segment k too, it is left.
+-- A call allocates n words for an object after all words that were there, and a pad if they aren't
+-- in segment id; or it is refused, and no word is written. It succeeds if there is room for them.
+-- If there was also room for pads of m objects in segment k, that is left.
 pub record TakesRoom (result : Result Room ErrorKind) (old new : View) (id n : ℕ) : Type 0 where
   pub words : OnOk result (TakesWords old new id n)
   pub behind : IfOk result (λ room. StandsBehind old id n (object_start room))
@@ -40,20 +40,20 @@ pub record TakesRoom (result : Result Room ErrorKind) (old new : View) (id n : �
       IfOk result
       (λ room. k < length old.words → room.segment ≢ k → m ≤ n → HasPadRoom new k m)
 
--- From S to R so many words are copied to others: only these are written.
+-- From S to R n words are copied over others, and only these are written.
 pub record AreWordsCopied (S R : Segments) (from to : Start) (n : ℕ) : Type 0 where
   pub segments : length R ≡ length S
   pub words : (x : ℕ) → length (segment R x) ≡ length (segment S x)
   pub here : (i : ℕ) → i < n → word_at R to.segment (to.at + i) ≡ word_at S from.segment (from.at + i)
   pub kept : (x y : ℕ) → times (row to.segment to.at n ∷ []) x y ≡ 0 → word_at R x y ≡ word_at S x y
 
--- A call copies so many words to others, and changes nothing else.
+-- From old to new n words are copied over others, and nothing else changes.
 pub record CopiesWords (old new : View) (from to : Start) (n : ℕ) : Type 0 where
   pub copied : AreWordsCopied old.words new.words from to n
   pub limits : KeepsLimits old new
 
--- From S to R the pointer at a place is overwritten, and leads to the object of this shape that
--- stands in a room, behind the room's pads.
+-- From S to R the pointer at a place is overwritten, and leads to the object of this shape that is
+-- in the room h, after the room's pads.
 pub record Settles (S R : Segments) (place : Start) (h : Room) (shape : Shape) : Type 0 where
   pub object : Target
   pub segments : length R ≡ length S

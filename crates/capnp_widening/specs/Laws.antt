@@ -1,9 +1,9 @@
--- What structs and lists of structs that are made wider leave of canonical words.
+-- What widened structs and lists of structs leave of canonical words.
 use Rattle.std.specs.Prelude.{◌≡◌, ℕ, length, ⊤}
 use Rattle.capnp_format.specs.Tree.{Tree, Elements, no_elements, element, count}
 use Rattle.capnp_format.specs.Canonical.{trim, encoding}
 
--- Two values have one canonical form, and so the same canonical words.
+-- Two values have the same canonical form, and so the same canonical words.
 abbrev pub SameCanonicalForm : Tree → Tree → Type 0
 SameCanonicalForm t u = (trim u ≡ trim t) × (encoding (trim u) ≡ encoding (trim t))
 

@@ -1,4 +1,4 @@
--- Pointers written anew at other places, to what the old ones lead to ("Inter-Segment Pointers").
+-- Pointers rewritten at other places, to what the old ones lead to ("Inter-Segment Pointers").
 use Rattle.std.specs.List.{AllByRecursion}
 use Rattle.std.specs.Prelude.{flat_map, map, ◌≡◌, ℕ, zero, suc, ◌+◌, ◌*◌, ◌%◌, ◌^◌, ◌<◌, ◌≤◌, ◌⊎◌}
 use Rattle.std.specs.Prelude.{if◌then◌else◌, nat_eq, nat_lt, List, [], ◌∷◌, ◌++◌, length}
@@ -12,8 +12,8 @@ use Rattle.capnp_making.specs.Zeroed.{IsZeroed}
 use Rattle.capnp_making.specs.declared.making.Start.{Start}
 use Rattle.capnp_widening.specs.declared.moving.PointerRows.{PointerRows}
 
--- Two targets are one object. It starts at one place, or has no words, being a struct of none or a
--- capability.
+-- Two targets are the same object. It starts at the same place, or it has no words, being an empty
+-- struct or a capability.
 pub record SameObject (S : Segments) (a b : Target) : Type 0 where
   pub same_kind : kind b.word ≡ kind a.word
   pub same_sizes : upper_half b.word ≡ upper_half a.word
@@ -22,35 +22,35 @@ pub record SameObject (S : Segments) (a b : Target) : Type 0 where
       ⊎ (((kind a.word ≡ 0) × (upper_half a.word ≡ 0) × (b.start ≤ length (segment S b.segment)))
       ⊎ (a.word % 2 ^ 32 ≡ 3))
 
--- The place (v, r) leads to what the place (s, p) leads to, or both are null.
+-- The word at (v, r) leads to what the word at (s, p) leads to, or both are null.
 abbrev pub IsMoved : Segments → ℕ → ℕ → ℕ → ℕ → Type 0
 IsMoved S s p v r = ((word_at S s p ≡ 0) × (word_at S v r ≡ 0)) ⊎
     ((a : Target) × (b : Target) × Leads S s p a × Leads S v r b × SameObject S a b)
 
--- A pointer that is written anew at another place.
+-- A pointer that is rewritten at another place.
 pub record Move : Type 0 where
   pub from : Start
   pub to : Start
 
--- k pointers one behind the other, written anew one behind the other.
+-- k consecutive pointers, rewritten at consecutive places.
 abbrev pub row_of_moves : Start → Start → ℕ → List Move
 row_of_moves from to zero = []
 row_of_moves from to (suc k) =
     record { from = from; to = to }
     ∷ row_of_moves (record from { at = from.at + 1 }) (record to { at = to.at + 1 }) k
 
--- As many words from each of two places lie in their segments.
+-- n words from each of two places are inside their segments.
 pub record BothLieInside (S : Segments) (a b : Start) (n : ℕ) : Type 0 where
   pub from : a.at + n ≤ length (segment S a.segment)
   pub to : b.at + n ≤ length (segment S b.segment)
 
--- n rows of k pointers lie in their segments, and so do n others.
+-- n rows of k pointers are inside their segment, and so are n other rows.
 pub record RowsLieInside (S : Segments) (a b : PointerRows) (k n : ℕ) : Type 0 where
   pub from : a.at + n * a.step + k ≤ length (segment S a.segment) + a.step
   pub to : b.at + n * b.step + k ≤ length (segment S b.segment) + b.step
   pub small : (a.step < 2 ^ 18) × (b.step < 2 ^ 18)
 
--- n rows of k pointers, written anew in other rows.
+-- n rows of k pointers, rewritten in other rows.
 abbrev pub rows_of_moves : PointerRows → PointerRows → ℕ → ℕ → List Move
 rows_of_moves from to k zero = []
 rows_of_moves from to k (suc n) =
@@ -58,7 +58,7 @@ rows_of_moves from to k (suc n) =
     (record { segment = to.segment; at = to.at }) k
     ++ rows_of_moves (record from { at = from.at + from.step }) (record to { at = to.at + to.step }) k n
 
--- The pointers of an object t at a, as they go into the object at b that it becomes, which is u.
+-- The pointers of the object t at a, as they go into the object u at b that it becomes.
 abbrev pub moves_into : Start → Start → Tree → Tree → List Move
 moves_into a b (Struct ws ts) (Struct vs us) =
     row_of_moves (record a { at = a.at + length ws }) (record b { at = b.at + length vs }) (count ts)
@@ -70,8 +70,8 @@ moves_into a b (Structs e k es) (Structs d q fs) =
     (record { segment = b.segment; at = b.at + 1 + d; step = d + q }) k (element_count es)
 moves_into a b t u = []
 
--- How many of the old pointers are near, null apart: in another segment each of these needs a
--- landing pad.
+-- The number of the old pointers that are near and not null: in another segment each of these needs
+-- a landing pad.
 abbrev pub near_pointers : Segments → List Move → ℕ
 near_pointers S [] = 0
 near_pointers S (m ∷ ms) =
@@ -83,20 +83,20 @@ abbrev pub new_places : List Move → List Interval
 new_places [] = []
 new_places (m ∷ ms) = word_interval m.to.segment m.to.at ∷ new_places ms
 
--- The landing pads that were written for the new pointers: a far pointer is copied as it is, and
+-- The landing pads that were written for the new pointers. A far pointer is copied unchanged, and
 -- has none of its own.
 abbrev pub fresh_pads : Segments → List Move → List Interval
 fresh_pads R ms =
     flat_map (λ m. if nat_eq (kind (word_at R m.from.segment m.from.at)) 2 then []
     else pads_of (word_at R m.to.segment m.to.at)) ms
 
--- The pointer at a place means a value, whose words lie in their segments.
+-- The pointer at (s, p) means a value whose words are inside their segments.
 abbrev pub HasValueInside : Segments → ℕ → ℕ → Type 0
 HasValueInside B s p = (t : Tree) × (n : ℕ) × (c : ℕ) × Means B n s p t c ×
     ((x y : ℕ) → 0 < times (extent B s p t) x y → y < length (segment B x))
 
--- S has the words of B, where the old pointers mean values, and behind them the new places, each
--- once, all zero.
+-- S has the words of B, in which the old pointers mean values. After these words it has the new
+-- places, each once, all zero.
 pub record CanMove (B S : Segments) (ms : List Move) : Type 0 where
   pub grows : Grows B S
   pub kept : (x y : ℕ) → y < length (segment B x) → word_at S x y ≡ word_at B x y
@@ -105,9 +105,9 @@ pub record CanMove (B S : Segments) (ms : List Move) : Type 0 where
       (y < length (segment S x)) × (word_at S x y ≡ 0)
   pub once : (x y : ℕ) → times (new_places ms) x y ≤ 1
 
--- From S to R the new pointers are written, each to what the old one leads to, and their own landing
--- pads into new words, each once; nothing else is written. The pads of the new pointers are these
--- and those of the old ones.
+-- From S to R the new pointers are written, each to what the old one leads to, and their own
+-- landing pads into new words, each once. Nothing else is written. The pads of the new pointers are
+-- these and those of the old ones.
 pub record AreMoved (S R : Segments) (ms : List Move) : Type 0 where
   pub grows : Grows S R
   pub moved : AllByRecursion (λ (m : Move). IsMoved R m.from.segment m.from.at m.to.segment m.to.at) ms
@@ -122,7 +122,7 @@ pub record AreMoved (S R : Segments) (ms : List Move) : Type 0 where
   pub once : (x y : ℕ) → times (fresh_pads R ms) x y ≤ 1
   pub zero : (x y : ℕ) → times (fresh_pads R ms) x y ≡ 0 → length (segment S x) ≤ y → word_at R x y ≡ 0
 
--- From S to R these pointers are moved, wherever they mean values.
+-- From S to R these pointers are moved, if they mean values.
 abbrev pub Moves : Segments → Segments → List Move → Type 0
 Moves S R ms = (B : Segments) → CanMove B S ms → AreMoved S R ms
 
@@ -133,8 +133,8 @@ pub record MovesSome (S R : Segments) (ms : List Move) : Type 0 where
   pub all : ms ≡ done ++ left
   pub moves : Moves S R done
 
--- From S to R the pads that were written for these pointers become zero, where they lie in S and none
--- of these pointers stands in them, neither an old nor a new one.
+-- From S to R the pads that were written for these pointers are zeroed, if they are inside S and
+-- none of these pointers, old or new, is in them.
 abbrev pub Unmoves : Segments → Segments → List Move → Type 0
 Unmoves S R ms =
     ((x y : ℕ) → 0 < times (fresh_pads S ms) x y → y < length (segment S x))

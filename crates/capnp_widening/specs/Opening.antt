@@ -1,4 +1,4 @@
--- Structs and lists of structs that are opened for writing, at least as large as asked for
+-- Structs and lists of structs that are opened for writing, at least as large as requested
 -- ("Structs", "Lists").
 use Rattle.std.specs.Prelude.{◌≡◌, ◌⊎◌, ℕ, ◌+◌, ◌*◌, ◌≤◌, length, Option}
 use Rattle.std.specs.Prelude.{Some, None, IfSome, Result, Ok, Err}
@@ -22,19 +22,19 @@ use Rattle.capnp_widening.specs.Rooms.{GrowsByAtMost, RefusesGrowth, RefusesToBe
 use Rattle.capnp_widening.specs.Rooms.{direct_pointers}
 use Rattle.capnp_widening.specs.Widened.{HasSections, widened, list_widened}
 
--- The struct whose sections start at a place.
+-- The struct of this size whose sections start at a place.
 abbrev pub existing_struct : Start → StructSize → ExistingStruct
 existing_struct start size = record { segment = start.segment; start = start.at; size = size }
 
--- What a value becomes where a struct of at least a size is opened, or by what name that is
--- refused. Null becomes a new one.
+-- What a value becomes if a struct of at least this size is opened, or the error with which that is
+-- refused. Null becomes a new struct.
 abbrev pub struct_opened : StructSize → Tree → Result Tree ErrorKind
 struct_opened size Null = Ok (zero_struct size)
 struct_opened size (Struct ws ts) = Ok (widened size ws ts)
 struct_opened size t = Err MessageContainsNonStructPointerWhereStructPointerWasExpected
 
--- Where t was stored, u is stored in its stead, and what is given leads to it. Where t is large enough,
--- nothing is changed; else u is made anew.
+-- From before to after the call, u replaces t, and what the call returns leads to u (`given`). If t
+-- is large enough, nothing changes; otherwise u is a new object.
 pub record Opened (size : StructSize) (c : CallAt) (t u : Tree) (given : Type 0) : Type 0 where
   pub replaced : IsReplaced c.old.words c.new.words c.segment c.at t u
   pub leads : given
@@ -42,9 +42,10 @@ pub record Opened (size : StructSize) (c : CallAt) (t u : Tree) (given : Type 0)
   pub unchanged : HasSections size t → c.new ≡ c.old
   pub anew : (HasSections size t → ⊥) → BecomesAnew c t u
 
--- Memory is refused by the name k, for a value t that isn't large enough and was to become u: it
--- stands as it was, and new words are zero, no more than u would have taken. It is its words that
--- are refused, or those of a landing pad for one of the pointers of t.
+-- Memory is refused with k for a value t that isn't large enough and was to become u. t is
+-- unchanged, and new words are zero: at most the words of u, one for a pad, and two for each
+-- pointer of t. The refused request is for the words of u, or for those of a landing pad for one of
+-- the pointers of t.
 pub record Unopened (size : StructSize) (c : CallAt) (t u : Tree) (k : ErrorKind) : Type 0 where
   pub stands : IsReplaced c.old.words c.new.words c.segment c.at t t
   pub narrow : HasSections size t → ⊥
@@ -52,16 +53,16 @@ pub record Unopened (size : StructSize) (c : CallAt) (t u : Tree) (k : ErrorKind
   pub taken : GrowsByAtMost c.old.words c.new.words (widened_words u + 1 + 2 * direct_pointers t)
   pub full : RefusesGrowth c.old c.new (widened_words u) (direct_pointers t) k
 
--- A call opens t, which is to become u, and what it gives is as Given says; or it is refused: by
--- what t is, and nothing is changed, or for memory.
+-- The call opens t, which becomes u, and returns what `Given` states; or it is refused, for what t
+-- is, which changes nothing, or for memory.
 abbrev pub Opens : {B : Type 0} → StructSize → (Segments → ℕ → ℕ → Tree → B → Type 0) → CallAt →
     Tree → Result Tree ErrorKind → Result B ErrorKind → Type 0
 Opens size Given c t (Ok u) (Ok b) = Opened size c t u (Given c.new.words c.segment c.at u b)
 Opens size Given c t (Ok u) (Err k) = Unopened size c t u k
 Opens size Given c t (Err k) result = (result ≡ Err k) × (c.new ≡ c.old)
 
--- The pointer at a place leads to the struct u, which is e; or to the list u, which is l, or none
--- where u is null. All its structs lie in their segment.
+-- The pointer at (s, p) leads to the struct u, which is e; or to the list u, which is l, or None if
+-- u is null. All its structs are inside their segment.
 abbrev pub LeadsToOne : Segments → ℕ → ℕ → Tree → ExistingStruct → Type 0
 LeadsToOne S s p u e = (struct_in (target S s p) u ≡ Some e) × StructLiesIn S e
 
@@ -71,13 +72,13 @@ LeadsToAll S s p u l =
     × IfSome l (λ m. m.start + m.count * (m.struct_size.data_words + m.struct_size.pointers)
     ≤ length (segment S m.segment))
 
--- The struct that is there is opened, or a new one in place of null.
+-- The call opens the struct that is there, or a new one in place of null.
 abbrev pub OpensStruct : {B : Type 0} → (Segments → ℕ → ℕ → Tree → B → Type 0) → StructSize →
     Result B ErrorKind → CallAt → Tree → Type 0
 OpensStruct Given size result c t = Opens size Given c t (struct_opened size t) result
 
--- A call that opens a struct is refused by the name k: the place stores none, and nothing is
--- changed; or for memory.
+-- A call that opens a struct is refused with k: the place doesn't store one, which changes nothing;
+-- or memory is refused.
 abbrev pub IsNoWider : StructSize → CallAt → ErrorKind → Type 0
 IsNoWider size c k =
     ((k ≡ MessageContainsNonStructPointerWhereStructPointerWasExpected) × (c.new ≡ c.old)
@@ -85,8 +86,8 @@ IsNoWider size c k =
     struct_in (target c.old.words c.segment c.at) t ≡ None))
     ⊎ RefusesToBecome (IsStored c.old.words c.segment c.at) (struct_opened size) c.old c.new k
 
--- The list of structs that is there is opened, made one of any other list. Null is a list of none,
--- and nothing is changed.
+-- The call opens the list of structs that is there, after making one of any other list. Null is no
+-- list (None), and changes nothing.
 abbrev pub OpensExistingList : StructSize → Result (Option ExistingList) ErrorKind → CallAt → Tree →
     Type 0
 OpensExistingList size result c Null = (result ≡ Ok None) × (c.new ≡ c.old)

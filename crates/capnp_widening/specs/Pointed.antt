@@ -9,9 +9,9 @@ use Rattle.capnp_making.specs.Made.{IsShape}
 use Rattle.capnp_making.specs.declared.making.Shape.{Shape}
 use Rattle.capnp_making.specs.declared.making.Start.{Start}
 
--- From S to R the pointer at a place is written to the object of this shape that starts at h; its
--- pads are written into new words, and nothing else is. A struct without sections may be meant to
--- start anywhere.
+-- From S to R the pointer at a place is written to the object of this shape that starts at h. Its
+-- pads are written into new words, and nothing else is written. A struct without sections may start
+-- anywhere.
 pub record PointsTo (S R : Segments) (shape : Shape) (h at : Start) : Type 0 where
   pub object : Target
   pub grows : Grows S R
@@ -27,8 +27,8 @@ pub record PointsTo (S R : Segments) (shape : Shape) (h at : Start) : Type 0 whe
   pub starts : ((object.segment ≡ h.segment) × (object.start ≡ h.at)) ⊎
       ((kind object.word ≡ 0) × (upper_half object.word ≡ 0))
 
--- Where a word is a far pointer to a landing pad of two words, the first of these is a far pointer in
--- the form for one word, and the second a tag with the offset 0 ("Inter-Segment Pointers").
+-- If the word x is a far pointer to a landing pad of two words, the first of these is a far pointer
+-- in the form for one word, and the second a tag with offset 0 ("Inter-Segment Pointers").
 abbrev pub HasPlainPads : Segments → ℕ → Type 0
 HasPlainPads S x =
     kind x ≡ 2 → is_double x ≡ 1 →

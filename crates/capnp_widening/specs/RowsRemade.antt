@@ -1,4 +1,4 @@
--- Lists of structs made anew of the elements of other lists, as rows of words ("Lists").
+-- Lists of structs made of the elements of other lists, as rows of words ("Lists").
 use Rattle.std.specs.Prelude.{◌≡◌, ◌≢◌, ◌⊎◌, ℕ, zero, suc, ◌+◌, ◌-◌, ◌*◌, ◌^◌, ◌<◌, ◌≤◌, Option, Some, None}
 use Rattle.std.specs.Prelude.{IfErr, IfOk, IsOk, Ok, Err, List, OnErr, OnOk, Result, [], ◌∷◌, length}
 use Rattle.capnp_words.specs.Sizes.{size_number}
@@ -32,7 +32,7 @@ use Rattle.capnp_widening.specs.Rooms.{direct_pointers, widened_words}
 use Rattle.capnp_widening.specs.Widened.{GrowsByZeros, HasSections, fill_elements, struct_for_each}
 use Rattle.capnp_widening.specs.Widened.{struct_for_each_tree, list_widened}
 
--- The first words of each of so many rows, copied over those of other rows.
+-- The first words of each of `count` rows, copied over those of other rows.
 pub record RowCopy : Type 0 where
   pub from : PointerRows
   pub to : PointerRows
@@ -60,13 +60,13 @@ pub record IsTagWritten (S R : Segments) (h : Start) (n : ℕ) (size : StructSiz
   pub kept : (x y : ℕ) → times (word_interval h.segment h.at ∷ []) x y ≡ 0 →
       word_at R x y ≡ word_at S x y
 
--- The words of a list lie in their segment, its tag included.
+-- The words of a list, including its tag, are inside their segment.
 abbrev pub RowsInside : Segments → ElementRows → Type 0
 RowsInside S rows =
     rows.at + (rows.tag + rows.count * (rows.size.data_words + rows.size.pointers))
     ≤ length (segment S rows.segment)
 
--- From S to R the data words of elements are copied into structs of a size, the first of which
+-- From S to R the data words of elements are copied into structs of this size, the first of which
 -- starts at h.
 abbrev pub CopiesData : Segments → Segments → ElementRows → Start → StructSize → Type 0
 CopiesData S R old h size =
@@ -82,7 +82,7 @@ CopiesData S R old h size =
       count = old.count;
     })
 
--- The pointers of elements, written anew in these structs.
+-- The pointers of elements, rewritten in these structs.
 abbrev pub element_moves : ElementRows → Start → StructSize → List Move
 element_moves old h size =
     rows_of_moves
@@ -98,8 +98,8 @@ element_moves old h size =
     })
     old.size.pointers old.count
 
--- From old to new the data words of elements are copied into structs of a size, the first of which
--- starts at h, and then their pointers are written anew there.
+-- From old to new the data words of elements are copied into structs of this size, the first of
+-- which starts at h, and then their pointers are rewritten there.
 pub record FillsRows (old new : View) (rows : ElementRows) (h : Start) (size : StructSize) : Type 0 where
   pub between : View
   pub copied : CopiesData old.words between.words rows h size
@@ -121,12 +121,12 @@ pub record AreNumbersCopied (S R : Segments) (l : ExistingList) (to : PointerRow
   pub kept : (x y : ℕ) → times (row to.segment to.at (l.count * to.step) ∷ []) x y ≡ 0 →
       word_at R x y ≡ word_at S x y
 
--- The words of a list of numbers lie in their segment.
+-- The words of a list of numbers are inside their segment.
 abbrev pub NumbersInside : Segments → ExistingList → Type 0
 NumbersInside S l = l.start + words_for (size_number l.size) l.count ≤ length (segment S l.segment)
 
--- The elements of a list to which the target leads, if they are whole words: behind a tag, if they
--- are structs.
+-- The elements of the list t at the target a, if they are whole words: after a tag, if they are
+-- structs.
 abbrev pub rows_in : Target → Tree → Option ElementRows
 rows_in a (Structs d q es) =
     Some (record {
@@ -154,20 +154,20 @@ rows_in a (Flat zero ns) =
     })
 rows_in a t = None
 
--- The smallest struct that holds an element of a list that isn't one of bits: a number as the lowest
--- bits of a data word, a pointer as its first one, and a struct, which has a size, as it is.
+-- The smallest struct that holds an element of a list that isn't one of bits: a number becomes the
+-- lowest bits of a data word, a pointer the first pointer, and a struct keeps its size.
 abbrev pub struct_for : ElementSize → StructSize → StructSize
 struct_for Void size = record { data_words = 0; pointers = 0 }
 struct_for Pointer size = record { data_words = 0; pointers = 1 }
 struct_for InlineComposite size = size
 struct_for number size = record { data_words = 1; pointers = 0 }
 
--- How many words stand before the first element of a list: the tag of structs.
+-- The number of words before the first element of a list: the tag of structs.
 abbrev pub tag_words : ElementSize → ℕ
 tag_words InlineComposite = 1
 tag_words plain = 0
 
--- The elements of a list as rows of whole words, where they are no numbers.
+-- The elements of a list as rows of whole words, if they aren't numbers.
 abbrev pub element_rows : ExistingList → ElementRows
 element_rows l =
     record {
@@ -178,7 +178,7 @@ element_rows l =
       count = l.count;
     }
 
--- The list of structs of at least their size that the elements of a list become.
+-- The list of structs, of this size and at least their own, that the elements of a list become.
 abbrev pub as_structs : StructSize → Tree → Tree
 as_structs size (Flat zero ns) =
     Structs size.data_words size.pointers (zero_elements size.data_words size.pointers (length ns))
@@ -190,41 +190,41 @@ as_structs size (Structs d q es) =
     Structs size.data_words size.pointers (fill_elements size.data_words size.pointers es)
 as_structs size t = t
 
--- Elements can be made structs of a size: it has room for their sections, and a count of structs
--- without words fits a tag.
+-- The elements can become structs of this size: it has room for their sections, and a count of
+-- structs without words fits a tag.
 pub record CanBecome (rows : ElementRows) (size : StructSize) : Type 0 where
   pub few : size.data_words + size.pointers ≡ 0 → rows.count < 2 ^ 30
   pub data_words : rows.size.data_words ≤ size.data_words
   pub pointers : rows.size.pointers ≤ size.pointers
 
--- The place stores t in S, a list of these elements.
+-- (s, p) stores t in S, a list of these elements.
 abbrev pub StoresRows : Segments → ℕ → ℕ → ElementRows → Tree → Type 0
 StoresRows S s p rows t = IsStored S s p t × (rows_in (target S s p) t ≡ Some rows)
 
--- The place gets the list u in place of t, and the pointer leads to l.
+-- The place gets the list u in place of t, and its pointer leads to l.
 abbrev pub BecomesList : CallAt → ExistingList → Tree → Tree → Type 0
 BecomesList c l t u = IsReplaced c.old.words c.new.words c.segment c.at t u
     × (list_in (target c.new.words c.segment c.at) Void u ≡ Ok (Some l))
 
--- The place stores t in S, which is the list l.
+-- (s, p) stores t in S, which is the list l.
 abbrev pub IsList : Segments → ℕ → ℕ → ExistingList → Tree → Type 0
 IsList S s p l t = IsStored S s p t × (list_in (target S s p) Void t ≡ Ok (Some l))
 
--- The place gets, in place of the list l, what it becomes where structs of a size are wanted, which
--- is m.
+-- The place gets, in place of the list l, what that becomes if structs of this size are wanted,
+-- which is m.
 abbrev pub WidensTo : ExistingList → StructSize → CallAt → ExistingList → Type 0
 WidensTo l size c m = (t : Tree) → IsList c.old.words c.segment c.at l t → (u : Tree) ×
     (list_widened size.data_words size.pointers t ≡ Ok u) × BecomesList c m t u
 
--- A call is refused by the name k: by what stands there and what is wanted, and nothing is changed;
--- or for memory.
+-- A call is refused with k: for what is there and what is wanted, which changes nothing; or for
+-- memory.
 abbrev pub RefusesWider : (Tree → Type 0) → StructSize → View → View → ErrorKind → Type 0
 RefusesWider Stands size old new k =
     ((new ≡ old) × ((t : Tree) → Stands t → list_widened size.data_words size.pointers t ≡ Err k))
     ⊎ RefusesToBecome Stands (list_widened size.data_words size.pointers) old new k
 
--- A call makes the list that stands at a place anew, as structs of a size made of its elements; or
--- that is refused, and the list stands as it stood.
+-- The call makes a new list of the one at its place, as structs of this size made of its elements;
+-- or it is refused, and the list stays.
 pub record MakesListAnew (result : Result ExistingList ErrorKind) (Stands : Tree → Type 0)
     (size : StructSize) (c : CallAt) : Type 0 where
   pub remade : IfOk result (λ l. (t : Tree) → Stands t → BecomesList c l t (as_structs size t))
@@ -233,8 +233,8 @@ pub record MakesListAnew (result : Result ExistingList ErrorKind) (Stands : Tree
   pub memory : IfErr result (SpendsMemory c.old c.new)
   pub refused : OnErr result ((t : Tree) → Stands t → GrowsByZeros c.old.words c.new.words)
 
--- A call makes the list of these elements that stands at a place anew, as structs of a size. No
--- more words are taken than the structs have, their tag, a pad, and two for each pointer.
+-- The call makes a new list of the list of these elements at its place, as structs of this size. It
+-- takes at most the words of the structs, their tag, a pad, and two words for each pointer.
 pub record RemakesRows (result : Result ExistingList ErrorKind) (rows : ElementRows)
     (size : StructSize) (c : CallAt) : Type 0 where
   pub made : MakesListAnew result (StoresRows c.old.words c.segment c.at rows) size c
@@ -242,16 +242,16 @@ pub record RemakesRows (result : Result ExistingList ErrorKind) (rows : ElementR
       GrowsByAtMost c.old.words c.new.words
       (structs_words rows.count size + 1 + 2 * (rows.count * rows.size.pointers))
 
--- A call is refused by the name k: there is no such list, and nothing is changed; or memory is
--- refused for what the list becomes, or for a landing pad of one of its pointers.
+-- The call is refused with k: there is no such list, and nothing changes; or memory is refused for
+-- what the list becomes, or for a landing pad of one of its pointers.
 abbrev pub RefusesStructs : (Tree → Type 0) → StructSize → CallAt → ErrorKind → Type 0
 RefusesStructs Stands size c k =
     ((c.new ≡ c.old) × ((t : Tree) → Stands t → ⊥))
     ⊎ RefusesToBecome Stands (λ t. Ok (as_structs size t)) c.old c.new k
 
--- A call makes the list that stands at a place anew, as structs of a size made of its elements; or
--- that is refused, and the list stands as it stood. It never is where there is room. No more words
--- are taken than the new list has, a pad, and two for each pointer of the old one.
+-- The call makes a new list of the one at its place, as structs of this size made of its elements;
+-- or it is refused, which never happens if there is room, and the list stays. It takes at most the
+-- words of the new list, a pad, and two words for each pointer of the old one.
 pub record MakesListOfStructs (result : Result ExistingList ErrorKind) (Stands : Tree → Type 0)
     (size : StructSize) (c : CallAt) : Type 0 where
   pub made : MakesListAnew result Stands size c
@@ -262,9 +262,9 @@ pub record MakesListOfStructs (result : Result ExistingList ErrorKind) (Stands :
       GrowsByAtMost c.old.words c.new.words
       (widened_words (as_structs size t) + 1 + 2 * direct_pointers t)
 
--- A call makes the list that stands at a place one of structs of at least a size, anew where it
--- isn't; or that is refused, and the list stands as it stood. It never is where there is room. No
--- more words are taken than the new list has, a pad, and two for each pointer of the old one.
+-- The call makes the list at its place one of structs of at least this size, as a new list if it
+-- isn't yet; or it is refused, which never happens if there is room, and the list stays. It takes
+-- at most the words of the new list, a pad, and two words for each pointer of the old one.
 pub record MakesListWider {B : Type 0} (result : Result B ErrorKind) (Stands : Tree → Type 0)
     (size : StructSize) (c : CallAt) : Type 0 where
   pub anew :
@@ -282,8 +282,8 @@ pub record MakesListWider {B : Type 0} (result : Result B ErrorKind) (Stands : T
   pub few : (t u : Tree) → Stands t → list_widened size.data_words size.pointers t ≡ Ok u →
       GrowsByAtMost c.old.words c.new.words (widened_words u + 1 + 2 * direct_pointers t)
 
--- A call makes the list l that stands at a place one of structs of at least a size, and gives where
--- it lies.
+-- The call makes the list l at its place one of structs of at least this size, and returns where it
+-- is.
 pub record WidensList (result : Result ExistingList ErrorKind) (l : ExistingList) (size : StructSize)
     (c : CallAt) : Type 0 where
   pub widened : IfOk result (WidensTo l size c)

@@ -18,11 +18,11 @@ use Rattle.capnp_words.specs.declared.error.ErrorKind.TheVariants.{MessageTooLar
 use Rattle.capnp_contents.specs.Existing.{struct_in}
 use Rattle.capnp_making.specs.Stored.{IsStored}
 
--- Filled up to n words, or n children, and never cut.
+-- The words filled up to n with zeros, and never cut.
 abbrev pub fill_words : ℕ → List ℕ → List ℕ
 fill_words n ws = ws ++ words_of_zero (n - length ws)
 
--- Children filled up to n, and never cut.
+-- The children filled up to n with Nulls, and never cut.
 abbrev pub fill_trees : ℕ → Trees → Trees
 fill_trees n no_trees = nulls n
 fill_trees zero ts = ts
@@ -33,7 +33,7 @@ abbrev pub fill_elements : ℕ → ℕ → Elements → Elements
 fill_elements d q no_elements = no_elements
 fill_elements d q (element ws ts es) = element (fill_words d ws) (fill_trees q ts) (fill_elements d q es)
 
--- A struct for each number, or for each child.
+-- A struct for each number.
 abbrev pub struct_for_each : ℕ → ℕ → List ℕ → Elements
 struct_for_each d q [] = no_elements
 struct_for_each d q (x ∷ xs) = element (fill_words d (x ∷ [])) (nulls q) (struct_for_each d q xs)
@@ -44,40 +44,40 @@ struct_for_each_tree d q no_trees = no_elements
 struct_for_each_tree d q (tree t ts) =
     element (words_of_zero d) (fill_trees q (tree t no_trees)) (struct_for_each_tree d q ts)
 
--- From S to R there may be more words, all zero; those of S are as they were.
+-- From S to R there may be more words, all zero; those of S stay.
 pub record GrowsByZeros (S R : Segments) : Type 0 where
   pub grows : Grows S R
   pub kept : (x y : ℕ) → y < length (segment S x) → word_at R x y ≡ word_at S x y
   pub zero : (x y : ℕ) → length (segment S x) ≤ y → word_at R x y ≡ 0
 
--- The place stores t in S, which is the struct e.
+-- (s, p) stores t in S, which is the struct e.
 abbrev pub IsStruct : Segments → ℕ → ℕ → ExistingStruct → Tree → Type 0
 IsStruct S s p e t = IsStored S s p t × (struct_in (target S s p) t ≡ Some e)
 
--- The struct that a struct becomes where sections of a size are wanted: each is filled up, and
+-- The struct that a struct becomes if sections of this size are wanted: each is filled up, and
 -- never cut.
 abbrev pub widened : StructSize → List ℕ → Trees → Tree
 widened size ws ts = Struct (fill_words size.data_words ws) (fill_trees size.pointers ts)
 
--- A struct, or each struct of a list, has sections of at least a size. Null is a list of none,
--- which needs none.
+-- A struct, or each struct of a list, has sections of at least this size. False of all other
+-- values, Null included.
 abbrev pub HasSections : StructSize → Tree → Type 0
 HasSections size (Struct ws ts) = (size.data_words ≤ length ws) × (size.pointers ≤ count ts)
 HasSections size (Structs d q es) = (size.data_words ≤ d) × (size.pointers ≤ q)
 HasSections size t = ⊥
 
--- A struct is at least as large as asked for.
+-- The struct e is at least as large as requested.
 abbrev pub IsAtLeast : StructSize → ExistingStruct → Type 0
 IsAtLeast size e = (size.data_words ≤ e.size.data_words) × (size.pointers ≤ e.size.pointers)
 
--- A list of structs that take so many words, where these are fewer than 2^29.
+-- The list of structs t, of n words; refused with MessageTooLarge if n is 2^29 or more.
 abbrev pub limited : ℕ → Tree → Result Tree ErrorKind
 limited n t = if nat_lt n (2 ^ 29) then Ok t else Err (MessageTooLarge n)
 
--- What a list becomes where structs of at least d data words and q pointers are wanted, memory
--- aside; or by what name that is refused. Null stays. From void the elements are of exactly that
--- size; a number is the lowest bits of a first data word, and a pointer the first one of a struct
--- ("Lists").
+-- What a list becomes if structs of at least d data words and q pointers are wanted, leaving memory
+-- aside; or the error with which that is refused. Null stays. Elements of void become structs of
+-- exactly that size; a number becomes the lowest bits of a first data word, and a pointer the first
+-- pointer of a struct ("Lists").
 abbrev pub list_widened : ℕ → ℕ → Tree → Result Tree ErrorKind
 list_widened d q Null = Ok Null
 list_widened d q (Capability i) = Err ExistingPointerIsNotAList

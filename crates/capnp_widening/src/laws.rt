@@ -1,5 +1,5 @@
-//! What follows of the calls that make structs and lists of structs wider: canonical words stay. Each
-//! function does nothing: its contract is the law, proved for all values and messages.
+//! Laws of the calls that widen structs and lists of structs: canonical words stay. Each function
+//! does nothing: its contract is the law, proved for all values and messages.
 ghost use Rattle.std.specs.Prelude.{◌≡◌, ℕ, List, Ok};
 ghost use Rattle.capnp_format.specs.Forest.{IsForest};
 ghost use Rattle.capnp_format.specs.Segments.{Segments};
@@ -10,25 +10,25 @@ ghost use Rattle.capnp_widening.specs.Laws.{HaveSize, SameCanonicalForm};
 ghost use Rattle.capnp_widening.specs.Widened.{fill_words, fill_trees, list_widened, widened};
 ghost use Rattle.capnp_words.specs.declared.wire_pointer.StructSize.{StructSize};
 
-/// A struct whose sections are filled up with zeros and null pointers has the canonical words of the
-/// struct ("Canonicalization").
+/// A struct whose sections are filled up with zeros and null pointers has the canonical words of
+/// the struct ("Canonicalization").
 pub fn wider_struct()
     ensures { (d q : ℕ) (ws : List ℕ) (ts : Trees)
         → SameCanonicalForm (Struct ws ts) (Struct (fill_words d ws) (fill_trees q ts)) }
 {}
 
-/// A list of structs has the canonical words that it had, whatever size of structs it is widened for:
-/// what is added to each element is beyond the last word and pointer that any of them uses. It may have
-/// no elements, and these no words.
+/// A list of structs keeps its canonical words, whatever size of structs it is widened to: what is
+/// added to each element is after the last word and pointer that any of them uses. It may have no
+/// elements, and these may have no words.
 pub fn wider_list()
     ensures { (d q e k : ℕ) (es : Elements) (u : Tree)
         → HaveSize e k es → list_widened d q (Structs e k es) ≡ Ok u
         → SameCanonicalForm (Structs e k es) u }
 {}
 
-/// Where a struct or a list of structs is made wider anywhere inside a value that a place stores, the
-/// place stores a value of the same canonical form: a canonical copy from that place is the same words
-/// as before.
+/// If a struct or a list of structs is widened anywhere inside a value that a place stores, the
+/// place stores a value of the same canonical form: a canonical copy from that place is the same
+/// words as before.
 pub fn widened_within()
     ensures structs { (S R : Segments) (s p : ℕ) (t : Tree) (path : List Step)
         (u q : ℕ) (ws : List ℕ) (ts : Trees) (size : StructSize)
@@ -43,8 +43,8 @@ pub fn widened_within()
         → (w : Tree) × IsReplaced S R s p t w × SameCanonicalForm t w }
 {}
 
-/// Where a struct or a list of structs is made wider anywhere in a message, the whole message has the
-/// canonical words that it had, and every word outside of its value is zero.
+/// If a struct or a list of structs is widened anywhere in a message, the whole message keeps its
+/// canonical words, and every word outside of its value is zero.
 pub fn message_widened()
     ensures structs { (S R : Segments) (t : Tree) (path : List Step)
         (u q : ℕ) (ws : List ℕ) (ts : Trees) (size : StructSize)

@@ -1,5 +1,5 @@
-//! Objects of a message that is built made wider: a struct whose sections are too small, and lists
-//! whose elements are, moved into new words with all that their pointers lead to.
+//! Widens objects of a message being built: moves a struct whose sections are too small, and lists
+//! whose elements are, to new words with all that their pointers lead to.
 #![tactic(auto)]
 
 pub mod laws;

@@ -1,4 +1,4 @@
-//! Lists made lists of structs of at least a wanted size.
+//! Turns lists into lists of structs of at least a wanted size.
 ghost use Rattle.std.specs.Prelude.{ℕ, ◌⊎◌, ◌≡◌, ◌<◌, ◌≤◌, ◌^◌, ◌↔◌, IsTrue, IsOk, IfOk};
 ghost use Rattle.capnp_format.specs.Segments.{IsPlace};
 ghost use Rattle.capnp_format.specs.Tree.{Tree, Elements, Null, Structs};
@@ -18,15 +18,16 @@ use capnp_contents::existing::{self, ExistingList};
 use capnp_words::error::ErrorKind;
 use capnp_words::wire_pointer::{ElementSize, StructSize};
 
-/// The list that the pointer at a place leads to, as a list of structs with both sections at least as
-/// large as asked for; `None` where the pointer is null. Elements that are no structs, and structs with
-/// too small a section, are made anew: a number as the lowest bits of a first data word, a pointer as a
-/// first pointer, and each section as large as the greater of old and wanted.
+/// The list that the pointer at a place leads to, as a list of structs with both sections at least
+/// as large as `size`; `None` if the pointer is null. Elements that aren't structs, and structs
+/// with a section that is too small, are moved to new words: a number as the lowest bits of a first
+/// data word, a pointer as a first pointer, and each section as large as the greater of old and
+/// wanted.
 ///
-/// Anything but a list is `ExistingPointerIsNotAList`, and a list of bits
-/// `FoundBitListWhereStructListWasExpected`. Elements that would take 2^29 words or more are
-/// `MessageTooLarge` of these words. Every other refusal is that of memory, or `MessageTooLarge`; the old
-/// list stays then.
+/// Refusals: `ExistingPointerIsNotAList` for anything but a list;
+/// `FoundBitListWhereStructListWasExpected` for a list of bits; `MessageTooLarge` with the words of
+/// the elements if these would take 2^29 words or more; any other one for lack of memory, or
+/// `MessageTooLarge`, and then the old list stays.
 pub fn get_struct_list<A: BuilderArena>(
     arena: &mut A,
     id: u32,
@@ -59,7 +60,7 @@ pub fn get_struct_list<A: BuilderArena>(
     }
 }
 
-/// Whether a list is one of structs with sections as large as wanted.
+/// Whether the list is one of structs with sections at least as large as wanted.
 fn is_wide_list(list: ExistingList, wanted: StructSize) -> bool
     ensures { IsTrue result
         ↔ ((list.size ≡ InlineComposite)
@@ -69,7 +70,8 @@ fn is_wide_list(list: ExistingList, wanted: StructSize) -> bool
     list.size == ElementSize::InlineComposite && is_wide(list.struct_size, wanted)
 }
 
-/// A list made one of structs, by what its elements are. It isn't one of large enough structs.
+/// Turns a list into one of structs, by the kind of its elements. Precondition: it isn't one of
+/// structs that are large enough.
 fn widen_list<A: BuilderArena>(
     arena: &mut A,
     id: u32,
@@ -100,8 +102,8 @@ fn widen_list<A: BuilderArena>(
     }
 }
 
-/// The smallest struct that holds an element of a list that isn't one of bits: a data word for a number,
-/// a pointer for a pointer, and the struct itself for a struct.
+/// The smallest struct that holds an element of a list that isn't one of bits: a data word for a
+/// number, a pointer for a pointer, and the struct itself for a struct.
 fn struct_for(list: ExistingList) -> StructSize
     ensures { result ≡ struct_for list.size list.struct_size }
 {
@@ -122,7 +124,8 @@ fn struct_for(list: ExistingList) -> StructSize
     }
 }
 
-/// The elements of a list as rows of whole words, each the smallest struct for it. Numbers and bits are none.
+/// The elements of a list as rows of whole words, each the smallest struct for it. Numbers and bits
+/// have no such rows.
 fn element_rows(list: ExistingList) -> ElementRows
     ensures { result ≡ element_rows list }
 {
@@ -136,7 +139,7 @@ fn element_rows(list: ExistingList) -> ElementRows
     }
 }
 
-/// How many words stand before the first element of a list: the tag of structs.
+/// The number of words before the first element of a list: 1 for the tag of structs, otherwise 0.
 fn tag_words(size: ElementSize) -> u32
     ensures { result ≡ tag_words size }
 {

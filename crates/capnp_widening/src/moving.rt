@@ -1,9 +1,10 @@
-//! Pointers written anew at other places, to what the old ones lead to ("Inter-Segment Pointers").
+//! Rewrites pointers at other places, leading to the objects of the old ones ("Inter-Segment
+//! Pointers").
 //!
-//! A pointer that is near stays near in its object's segment. Anywhere else it becomes a far pointer: to
-//! a landing pad behind the words of the object's segment where that has room, and else to two words
-//! where the arena finds room. A far pointer and a capability are copied as they are. The old pointer
-//! stays as it was, so for a while two pointers lead to one object.
+//! A near pointer stays near in its object's segment. Anywhere else it becomes a far pointer: to a
+//! landing pad after the words of the object's segment if that has room, otherwise to two words
+//! where the arena finds room. A far pointer and a capability are copied unchanged. The old pointer
+//! stays, so for a while two pointers lead to one object.
 ghost use Rattle.std.specs.Prelude.{ℕ, ◌⊎◌, ◌*◌, ◌≡◌, ◌≢◌, ◌<◌, ◌≤◌, ◌+◌, ◌-◌, ◌^◌, ◌∷◌, [], length, true, false, IsOk, OnOk, IfErr, OnErr};
 ghost use Rattle.capnp_arena_traits.specs.View.{KeepsLimits};
 ghost use Rattle.capnp_format.specs.Canonical.{Reaches, offset_to};
@@ -27,9 +28,9 @@ use capnp_making::zeroing::zero_pads;
 use capnp_words::error::ErrorKind;
 use capnp_words::wire_pointer::{WirePointer, WirePointerKind};
 
-/// Writes the pointer at a place anew at another one, which is null, to what it leads to.
+/// Rewrites the pointer at `from` at `to`, which is null, leading to the same object.
 ///
-/// A refusal is that of memory for two words, and changes nothing but `refused`.
+/// Refuses only if there is no memory for two words, and changes nothing but `refused` then.
 #[inline(always)]
 pub fn move_pointer<A: BuilderArena>(arena: &mut A, from: Start, to: Start) -> Result<(), ErrorKind>
     requires from { IsPlace (A.view arena.old).words from.segment from.at }
@@ -67,7 +68,7 @@ pub fn move_pointer<A: BuilderArena>(arena: &mut A, from: Start, to: Start) -> R
     }
 }
 
-/// What a word describes that is of kind struct or list.
+/// What a word of kind struct or list describes.
 fn shape_of(word: WirePointer) -> Shape
     ensures shape { kind word.0 < 2 → IsShape result word.0 }
     ensures few { CountFits result }
@@ -79,7 +80,7 @@ fn shape_of(word: WirePointer) -> Shape
     }
 }
 
-/// Writes a pointer at a place to the object at another one. The place isn't looked at.
+/// Writes a pointer at a place to the object at another one, whatever the place held.
 #[inline(always)]
 fn point_to<A: BuilderArena>(
     arena: &mut A,
@@ -131,7 +132,7 @@ fn point_to<A: BuilderArena>(
     }
 }
 
-/// The word of a pointer to an object in its own segment. A struct without sections has the offset -1.
+/// The word of a pointer to an object in its own segment. A struct without sections has offset -1.
 fn near_word(shape: Shape, position: u32, target: u32) -> WirePointer
     requires reaches { Reaches position target }
     requires few { CountFits shape }
@@ -150,7 +151,7 @@ fn near_word(shape: Shape, position: u32, target: u32) -> WirePointer
     }
 }
 
-/// Whether an object is a struct without sections.
+/// Whether the object is a struct without sections.
 fn is_empty(shape: Shape) -> bool
     ensures some { result ≡ false → AsksWords shape }
     ensures empty { result ≡ true → IsShape shape (struct_word (2 ^ 30 - 1) 0 0) }
@@ -161,7 +162,7 @@ fn is_empty(shape: Shape) -> bool
     }
 }
 
-/// The second landing pad of an object, which says what it is, with the offset 0.
+/// The second landing pad of an object, which states what it is, with offset 0.
 #[tactic(auto, using(crate::proofs::Basics::zero_offset))]
 fn tag_of(shape: Shape) -> WirePointer
     requires few { CountFits shape }
@@ -174,9 +175,9 @@ fn tag_of(shape: Shape) -> WirePointer
     }
 }
 
-/// Writes so many pointers one behind the other anew at other places, which are null.
+/// Rewrites `count` consecutive pointers at other places, which are null.
 ///
-/// A refusal is that of memory for two words; then some of the first pointers are written.
+/// Refuses only if there is no memory for two words; some of the first pointers are written then.
 #[inline(always)]
 pub fn move_row<A: BuilderArena>(
     arena: &mut A,
@@ -195,7 +196,7 @@ pub fn move_row<A: BuilderArena>(
     }
 }
 
-/// Does `move_row` into another segment. It isn't inlined: most objects stay in their segment.
+/// Does `move_row` into another segment. Not inlined: most objects stay in their segment.
 #[cold]
 #[inline(never)]
 fn move_row_apart<A: BuilderArena>(
@@ -211,7 +212,8 @@ fn move_row_apart<A: BuilderArena>(
     move_each(arena, from, to, count)
 }
 
-/// Does `move_row`, each pointer in turn. It is inlined twice: within a segment no pointer becomes far.
+/// Does `move_row`, one pointer after the other. Inlined twice: within a segment no pointer becomes
+/// far.
 #[inline(always)]
 fn move_each<A: BuilderArena>(
     arena: &mut A,
@@ -237,7 +239,7 @@ fn move_each<A: BuilderArena>(
     Ok(())
 }
 
-/// Makes the landing pads zero that were written for so many moved pointers.
+/// Zeroes the landing pads that were written for `count` moved pointers.
 #[cold]
 #[inline(never)]
 pub fn unmove_row<A: BuilderArena>(arena: &mut A, from: Start, to: Start, count: u32)
@@ -249,8 +251,8 @@ pub fn unmove_row<A: BuilderArena>(arena: &mut A, from: Start, to: Start, count:
     }
 }
 
-/// Makes the landing pads zero that were written for a moved pointer. Of one that was copied as it is,
-/// they are the old pointer's still.
+/// Zeroes the landing pads that were written for a moved pointer. The pads of one that was copied
+/// unchanged are still the old pointer's.
 fn unmove_pointer<A: BuilderArena>(arena: &mut A, id: u32, at: u32, to_id: u32, to_at: u32)
     ensures { TakesBack (A.view arena.old) (A.view arena.new)
         (row_of_moves (record { segment = id; at = at }) (record { segment = to_id; at = to_at })
@@ -262,20 +264,20 @@ fn unmove_pointer<A: BuilderArena>(arena: &mut A, id: u32, at: u32, to_id: u32, 
     }
 }
 
-/// Pointers that stand in rows: so many one behind the other, and again every `step` words.
+/// Rows of consecutive pointers, one row every `step` words.
 #[derive(Clone, Copy)]
 pub struct PointerRows {
     /// The segment.
     pub segment: u32,
-    /// Where the first pointer of the first row stands.
+    /// Where the first pointer of the first row is.
     pub at: u32,
-    /// How many words lie from one row to the next.
+    /// The number of words from one row to the next.
     pub step: u32,
 }
 
-/// Writes the pointers of so many rows anew in other rows, where they are null.
+/// Rewrites the pointers of `count` rows in other rows, where they are null.
 ///
-/// A refusal is that of memory for two words; then some of the first pointers are written.
+/// Refuses only if there is no memory for two words; some of the first pointers are written then.
 pub fn move_rows<A: BuilderArena>(
     arena: &mut A,
     from: PointerRows,
@@ -310,7 +312,7 @@ pub fn move_rows<A: BuilderArena>(
     Ok(())
 }
 
-/// Makes the landing pads zero that were written for the moved pointers of so many rows.
+/// Zeroes the landing pads that were written for the moved pointers of `count` rows.
 pub fn unmove_rows<A: BuilderArena>(
     arena: &mut A,
     from: PointerRows,

@@ -1,4 +1,5 @@
-//! Lists of numbers made lists of structs: each number becomes the low bytes of a first data word.
+//! Turns lists of numbers into lists of structs: each number becomes the low bytes of a first data
+//! word.
 ghost use Rattle.std.specs.Prelude.{◌≡◌, ◌↔◌, ◌<◌, ◌≤◌, ◌+◌, ◌*◌, ◌^◌, IsTrue, length, IsOk, IfOk, IfErr, OnErr};
 ghost use Rattle.capnp_arena_traits.specs.View.{KeepsLimits};
 ghost use Rattle.capnp_format.specs.Numbers.{element_bits, words_for};
@@ -21,10 +22,10 @@ use capnp_making::zeroing::{zero_pads, zero_part};
 use capnp_words::error::ErrorKind;
 use capnp_words::wire_pointer::{ElementSize, StructSize, data_bits_per_element};
 
-/// Makes a list of structs of at least one data word of a list of numbers, where the pointer at a place
-/// leads to it.
+/// Turns the list of numbers that the pointer at a place leads to into a list of structs of at
+/// least one data word.
 ///
-/// Where the place stores that list, a refusal is one of memory. The old list stays then.
+/// If the place stores that list, refuses only if memory runs out, and the old list stays then.
 pub(crate) fn widen_numbers<A: BuilderArena>(
     arena: &mut A,
     id: u32,
@@ -45,7 +46,7 @@ pub(crate) fn widen_numbers<A: BuilderArena>(
     remake_numbers(arena, id, at, old, size)
 }
 
-/// Whether the words of a list of numbers lie in their segment.
+/// Whether the words of a list of numbers are inside their segment.
 fn are_numbers_inside<A: BuilderArena>(arena: &A, list: ExistingList) -> bool
     ensures { IsTrue result ↔ NumbersInside (A.view arena.now).words list }
 {
@@ -53,7 +54,7 @@ fn are_numbers_inside<A: BuilderArena>(arena: &A, list: ExistingList) -> bool
     end <= u64::from(length_of(arena, list.segment))
 }
 
-/// How many words a list of numbers has.
+/// The number of words of a list of numbers.
 fn words_of_numbers(list: ExistingList) -> u64
     ensures value { result ≡ words_for (size_number list.size) list.count }
     ensures small { result < 2 ^ 33 }
@@ -61,7 +62,7 @@ fn words_of_numbers(list: ExistingList) -> u64
     (u64::from(data_bits_per_element(list.size)) * u64::from(list.count)).div_ceil(64)
 }
 
-/// Makes a list of structs of a list of numbers, where the pointer at a place leads to it.
+/// Turns the list of numbers that the pointer at a place leads to into a list of structs.
 fn remake_numbers<A: BuilderArena>(
     arena: &mut A,
     id: u32,
@@ -103,7 +104,7 @@ fn remake_numbers<A: BuilderArena>(
     })
 }
 
-/// Copies the numbers of a list into the first words of rows of so many words.
+/// Copies the numbers of a list into the first words of rows, `step` words apart.
 fn copy_numbers<A: BuilderArena>(arena: &mut A, old: ExistingList, to: Start, step: u32)
     requires kind { (2 ≤ size_number old.size) × (size_number old.size ≤ 5) }
     requires inside { NumbersInside (A.view arena.old).words old }
@@ -123,7 +124,7 @@ fn copy_numbers<A: BuilderArena>(arena: &mut A, old: ExistingList, to: Start, st
     }
 }
 
-/// The number that an element of a list is.
+/// Element `index` of a list of numbers.
 fn number_at<A: BuilderArena>(arena: &A, list: ExistingList, index: u32) -> u64
     requires kind { (2 ≤ size_number list.size) × (size_number list.size ≤ 5) }
     requires index { index < list.count }

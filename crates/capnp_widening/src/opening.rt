@@ -1,4 +1,5 @@
-//! Structs and lists of structs opened for writing, at least as large as asked for ("Structs", "Lists").
+//! Opens structs and lists of structs for writing, at least as large as requested ("Structs",
+//! "Lists").
 ghost use Rattle.std.specs.Prelude.{◌-◌, ◌≡◌, ◌+◌, ◌^◌, ◌≤◌, IsOk, Some, IfOk, OnOk, IfErr, OnErr};
 ghost use Rattle.capnp_format.specs.Forest.{target};
 ghost use Rattle.capnp_format.specs.Segments.{IsPlace, word_at};
@@ -22,12 +23,13 @@ use capnp_making::making::{Start, make_struct};
 use capnp_words::error::ErrorKind;
 use capnp_words::wire_pointer::StructSize;
 
-/// The struct that the pointer at a place leads to, with sections at least as large as asked for: a new
-/// one, all zero, where the pointer is null, and a wider one where a section is too small. A struct that is
-/// large enough is given as it stands, and nothing is changed.
+/// The struct that the pointer at a place leads to, with sections at least as large as requested: a
+/// new one, all zero, if the pointer is null, and a wider one if a section is too small. A struct
+/// that is large enough is returned unchanged.
 ///
-/// What is no struct is `MessageContainsNonStructPointerWhereStructPointerWasExpected`, and nothing is
-/// changed. Any other refusal is `AllocationFailed` or `MessageTooLarge`, and what was there stays.
+/// Refusals: `MessageContainsNonStructPointerWhereStructPointerWasExpected` if it isn't a struct,
+/// and nothing is changed then; `AllocationFailed` or `MessageTooLarge`, and then what was there
+/// stays.
 #[inline(always)]
 pub fn open_struct<A: BuilderArena>(
     arena: &mut A,
@@ -75,7 +77,7 @@ pub fn open_struct<A: BuilderArena>(
     }
 }
 
-/// A struct, all zero, in place of a null pointer.
+/// Makes a struct, all zero, in place of a null pointer.
 #[inline(never)]
 fn new_struct<A: BuilderArena>(
     arena: &mut A,
@@ -107,7 +109,8 @@ fn new_struct<A: BuilderArena>(
     })
 }
 
-/// A struct that is too small, made wider. It is given by its numbers, which go in registers.
+/// Widens a struct that is too small. Takes the struct's fields one by one, so that they are passed
+/// in registers.
 #[inline(never)]
 fn open_narrow_struct<A: BuilderArena>(
     arena: &mut A,
@@ -142,13 +145,14 @@ fn open_narrow_struct<A: BuilderArena>(
     widen_known(arena, place.segment, place.at, old, size)
 }
 
-/// The list that the pointer at a place leads to, as a list of structs with sections at least as large as
-/// asked for; `None` where the pointer is null, and then nothing is changed. Any other list is made one of
-/// structs. One of structs that are large enough is given as it stands, and nothing is changed.
+/// The list that the pointer at a place leads to, as a list of structs with sections at least as
+/// large as `size`; `None` if the pointer is null, and nothing is changed then. A list of structs
+/// that are large enough is returned unchanged; any other list is turned into one of structs.
 ///
-/// What is no list is `ExistingPointerIsNotAList`, a list of bits `FoundBitListWhereStructListWasExpected`,
-/// and elements that would take 2^29 words or more are `MessageTooLarge` of these words; nothing is
-/// changed then. Any other refusal is `AllocationFailed` or `MessageTooLarge`, and the old list stays.
+/// Refusals: `ExistingPointerIsNotAList` if it isn't a list,
+/// `FoundBitListWhereStructListWasExpected` for a list of bits, `MessageTooLarge` with the words of
+/// the elements if these would take 2^29 words or more, and nothing is changed then; any other
+/// `AllocationFailed` or `MessageTooLarge`, and then the old list stays.
 pub fn open_struct_list<A: BuilderArena>(
     arena: &mut A,
     id: u32,

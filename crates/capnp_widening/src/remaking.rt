@@ -1,5 +1,5 @@
-//! Lists of structs made anew of the elements of other lists: their data words are copied, and their
-//! pointers moved, element by element.
+//! Makes lists of structs from the elements of other lists: copies their data words and moves their
+//! pointers, element by element.
 ghost use Rattle.std.specs.Prelude.{ℕ, ◌≡◌, ◌≢◌, ◌↔◌, ◌<◌, ◌≤◌, ◌+◌, ◌*◌, ◌^◌, IsTrue, length, IsOk, IfOk, OnOk, IfErr, OnErr};
 ghost use Rattle.capnp_arena_traits.specs.View.{KeepsLimits};
 ghost use Rattle.capnp_format.specs.Segments.{Segments, segment, IsPlace, Grows};
@@ -27,17 +27,17 @@ use capnp_words::wire_pointer::{ElementSize, StructSize, WirePointer};
 pub struct ElementRows {
     /// The segment of the list.
     pub segment: u32,
-    /// The first word of the list, its tag included.
+    /// The first word of the list, including its tag.
     pub at: u32,
-    /// How many words stand before the first element: one where there is a tag, else none.
+    /// The number of words before the first element: 1 if there is a tag, otherwise 0.
     pub tag: u32,
-    /// How many data words and pointers each row has.
+    /// The number of data words and pointers of each row.
     pub size: StructSize,
-    /// How many rows there are.
+    /// The number of rows.
     pub count: u32,
 }
 
-/// Copies the first words of each of so many rows over those of other rows.
+/// Copies the first `words` words of each of `count` rows over those of other rows.
 fn copy_rows<A: BuilderArena>(
     arena: &mut A,
     from: PointerRows,
@@ -74,7 +74,7 @@ fn copy_rows<A: BuilderArena>(
     }
 }
 
-/// Takes words for a list of so many structs, and writes its tag.
+/// Allocates words for a list of `count` structs, and writes its tag.
 pub(crate) fn begin_list<A: BuilderArena>(
     arena: &mut A,
     id: u32,
@@ -97,10 +97,10 @@ pub(crate) fn begin_list<A: BuilderArena>(
     Ok(room)
 }
 
-/// Copies the data words of elements into structs that are at least as large, all zero, and moves their
-/// pointers there.
+/// Copies the data words of elements into structs that are at least as large and all zero, and
+/// moves their pointers there.
 ///
-/// A refusal is that of memory for two words; no landing pad is left then.
+/// Refuses only if there is no memory for two words; no landing pad is left then.
 fn fill_rows<A: BuilderArena>(
     arena: &mut A,
     old: ElementRows,
@@ -170,9 +170,9 @@ fn fill_rows<A: BuilderArena>(
     }
 }
 
-/// Makes a list of structs of the elements of another list, where the pointer at a place leads to it.
+/// Makes a list of structs from the elements of the list that the pointer at a place leads to.
 ///
-/// Where the place stores that list, a refusal is one of memory. The old list stays then.
+/// If the place stores that list, refuses only if memory runs out, and the old list stays then.
 pub(crate) fn widen_rows<A: BuilderArena>(
     arena: &mut A,
     id: u32,
@@ -192,7 +192,7 @@ pub(crate) fn widen_rows<A: BuilderArena>(
     remake_rows(arena, id, at, old, size)
 }
 
-/// Whether the words of a list lie in their segment.
+/// Whether the words of a list are inside their segment.
 fn are_inside<A: BuilderArena>(arena: &A, rows: ElementRows) -> bool
     ensures { IsTrue result ↔ RowsInside (A.view arena.now).words rows }
 {
@@ -201,7 +201,8 @@ fn are_inside<A: BuilderArena>(arena: &A, rows: ElementRows) -> bool
     end <= u64::from(length_of(arena, rows.segment))
 }
 
-/// Makes a list of structs of the elements of another list, whose words lie in their segment.
+/// Makes a list of structs from the elements of another list. Precondition: the words of that are
+/// inside their segment.
 fn remake_rows<A: BuilderArena>(
     arena: &mut A,
     id: u32,

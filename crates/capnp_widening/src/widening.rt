@@ -1,6 +1,6 @@
-//! Structs and lists made wider where they are too small: the object stands anew in more words, its
-//! pointers are moved there, and at last its pointer is overwritten. Until then the old object stands
-//! as it was, and a refusal leaves nothing but zeros.
+//! Widens structs and lists that are too small: gives the object new words, moves its pointers
+//! there, and finally overwrites the pointer to it. Until then the old object is unchanged, and a
+//! refusal leaves nothing but zeros.
 ghost use Rattle.std.specs.Prelude.{ℕ, Some, ◌≡◌, ◌≢◌, ◌↔◌, ◌<◌, ◌≤◌, ◌+◌, ◌*◌, ◌^◌, max, List, IsTrue, length, IsOk, IfOk, OnOk, IfErr, OnErr};
 ghost use Rattle.capnp_arena_traits.specs.View.{KeepsLimits};
 ghost use Rattle.capnp_format.specs.Segments.{segment, IsPlace};
@@ -32,15 +32,15 @@ use capnp_words::wire_pointer::{StructSize, WirePointer};
 pub struct Room {
     /// The segment of the words.
     pub segment: u32,
-    /// The position of the first of the words: of the object, or of its landing pad.
+    /// The position of the first word: of the object, or of its landing pad.
     pub at: u32,
-    /// How many words of landing pads stand before the object: none in the segment of its pointer, else
-    /// one.
+    /// The number of words of landing pads before the object: 0 in the segment of its pointer,
+    /// otherwise 1.
     pub pads: u32,
 }
 
-/// Takes words for an object: behind those of its pointer's segment where they fit, else behind a
-/// landing pad of one word, where the arena finds room.
+/// Allocates words for an object: after those of its pointer's segment if they fit there, otherwise
+/// after a landing pad of one word, where the arena finds room.
 pub(crate) fn take<A: BuilderArena>(arena: &mut A, id: u32, amount: u32) -> Result<Room, ErrorKind>
     requires there { id < length (A.view arena.old).words }
     requires small { amount < 2 ^ 31 }
@@ -65,8 +65,8 @@ pub(crate) fn take<A: BuilderArena>(arena: &mut A, id: u32, amount: u32) -> Resu
     }
 }
 
-/// Copies words one behind the other over others: one word by itself, which most data sections are, and
-/// more in one copy.
+/// Copies consecutive words over others: one word by itself, which most data sections are, and more
+/// in one copy.
 #[inline(always)]
 pub(crate) fn copy_words<A: BuilderArena>(arena: &mut A, from: Start, to: Start, count: u32)
     requires inside { BothLieInside (A.view arena.old).words from to count }
@@ -81,7 +81,7 @@ pub(crate) fn copy_words<A: BuilderArena>(arena: &mut A, from: Start, to: Start,
     }
 }
 
-/// Copies words one behind the other over others, in one copy.
+/// Copies consecutive words over others, in one copy.
 #[inline(never)]
 fn copy_many<A: BuilderArena>(arena: &mut A, from: Start, to: Start, count: u32)
     requires { BothLieInside (A.view arena.old).words from to count }
@@ -98,7 +98,7 @@ fn copy_many<A: BuilderArena>(arena: &mut A, from: Start, to: Start, count: u32)
     arena.move_words(old, new, count);
 }
 
-/// Sets the pointer at a place to an object that stands in a room, and writes its landing pad, if any.
+/// Sets the pointer at a place to an object in `room`, and writes its landing pad, if any.
 #[inline(always)]
 pub(crate) fn settle<A: BuilderArena>(arena: &mut A, id: u32, at: u32, room: Room, shape: Shape)
     requires place { IsPlace (A.view arena.old).words id at }
@@ -122,12 +122,12 @@ pub(crate) fn settle<A: BuilderArena>(arena: &mut A, id: u32, at: u32, room: Roo
     arena.set_word(id, at, far.0);
 }
 
-/// Makes the struct that the pointer at a place leads to wider, where it is known and a section is too
-/// small: it stands anew with each section as large as the greater of old and wanted. It isn't looked for
-/// again.
+/// Widens the struct `old`, which the pointer at a place leads to, and which has a section that is
+/// too small: gives it new words, each section as large as the greater of old and wanted. Doesn't
+/// look for the struct again.
 ///
-/// A refusal is that of memory for its words or for a landing pad, or `MessageTooLarge`; the old struct
-/// stays then.
+/// Refuses if there is no memory for its words or for a landing pad, or with `MessageTooLarge`; the
+/// old struct stays then.
 pub(crate) fn widen_known<A: BuilderArena>(
     arena: &mut A,
     id: u32,
@@ -159,7 +159,7 @@ pub(crate) fn widen_known<A: BuilderArena>(
     widen_struct(arena, id, at, old, wide)
 }
 
-/// The size of which each section is as large as the greater of two.
+/// The size with each section as large as the greater of two.
 pub(crate) fn greater_size(a: StructSize, b: StructSize) -> StructSize
     ensures data_words { result.data_words ≡ max a.data_words b.data_words }
     ensures pointers { result.pointers ≡ max a.pointers b.pointers }
@@ -177,7 +177,7 @@ fn greater(a: u16, b: u16) -> u16
     if a < b { b } else { a }
 }
 
-/// Whether both sections are as large as wanted.
+/// Whether both sections are at least as large as wanted.
 pub(crate) fn is_wide(size: StructSize, wanted: StructSize) -> bool
     ensures { IsTrue result
         ↔ ((wanted.data_words ≤ size.data_words) × (wanted.pointers ≤ size.pointers)) }
@@ -208,7 +208,7 @@ fn pointers_of(e: ExistingStruct) -> Start
     }
 }
 
-/// Makes a struct anew in a larger size, where the pointer at a place leads to it.
+/// Moves the struct that the pointer at a place leads to, to new words of a larger size.
 fn widen_struct<A: BuilderArena>(
     arena: &mut A,
     id: u32,

@@ -37,7 +37,7 @@ use Rattle.capnp_words.specs.declared.error.ErrorKind.TheVariants.{TriedToReadFr
 use Rattle.capnp_words.specs.declared.error.ErrorKind.TheVariants.{UnexpectedFarPointer}
 use Rattle.capnp_words.specs.declared.error.ErrorKind.TheVariants.{UnknownPointerType}
 
--- the name of a refusal
+-- The name of a refusal.
 abbrev pub name_of : ErrorKind → List ℕ
 name_of AllocationFailed = codes "AllocationFailed"
 name_of CannotCreateACanonicalMessageWithACapability =
@@ -89,7 +89,7 @@ name_of TriedToReadFromNullArena = codes "TriedToReadFromNullArena"
 name_of UnexpectedFarPointer = codes "UnexpectedFarPointer"
 name_of UnknownPointerType = codes "UnknownPointerType"
 
--- the text that `{}` writes
+-- The text that `{}` writes.
 abbrev pub text_of : ErrorKind → List ℕ
 text_of (InvalidSegmentId n) = codes "InvalidSegmentId(" ++ decimal n ++ codes ")"
 text_of (MessageTooLarge n) = codes "MessageTooLarge(" ++ decimal n ++ codes ")"

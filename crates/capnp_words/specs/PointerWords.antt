@@ -5,7 +5,7 @@ use Rattle.capnp_format.specs.Word.{data_words, pointer_count, list_word, elemen
 use Rattle.capnp_format.specs.Word.{far_word, is_double, far_position}
 use Rattle.capnp_words.specs.declared.wire_pointer.StructSize.{StructSize}
 
--- A word describes a struct of these sections, with these bits in the place of its offset.
+-- The word x describes a struct of these sections, with `bits` as its offset.
 pub record DescribesStruct (x bits : ℕ) (size : StructSize) : Type 0 where
   pub word : x ≡ struct_word bits size.data_words size.pointers
   pub kind_of : kind x ≡ 0
@@ -13,7 +13,7 @@ pub record DescribesStruct (x bits : ℕ) (size : StructSize) : Type 0 where
   pub data_of : data_words x ≡ size.data_words
   pub pointers_of : pointer_count x ≡ size.pointers
 
--- A word describes a list at an offset, of so many elements of the size of that number.
+-- The word x describes a list at this offset, of `count` elements of the size with number `size`.
 pub record DescribesList (x : ℕ) (offset : ℤ) (size count : ℕ) : Type 0 where
   pub word : x ≡ list_word (offset_field offset) size count
   pub kind_of : kind x ≡ 1
@@ -21,8 +21,8 @@ pub record DescribesList (x : ℕ) (offset : ℤ) (size count : ℕ) : Type 0 wh
   pub size_of : element_size x ≡ size
   pub count_of : list_count x ≡ count
 
--- A word leads to a landing pad at a position of a segment. The pad has one word, or two where
--- `double` is 1.
+-- The word x leads to a landing pad at this position of this segment. The pad has one word, or two
+-- if `double` is 1.
 pub record LeadsToPad (x double position segment : ℕ) : Type 0 where
   pub word : x ≡ far_word double position segment
   pub kind_of : kind x ≡ 2

@@ -8,7 +8,7 @@ use Rattle.capnp_words.specs.declared.wire_pointer.ElementSize.TheVariants.{Inli
 use Rattle.capnp_words.specs.declared.wire_pointer.WirePointerKind.{WirePointerKind}
 use Rattle.capnp_words.specs.declared.wire_pointer.WirePointerKind.TheVariants.{Struct, List, Far, Other}
 
--- the number by which an element size is encoded ("Lists")
+-- The number by which an element size is encoded ("Lists").
 abbrev pub size_number : ElementSize → ℕ
 size_number Void = 0
 size_number Bit = 1
@@ -19,7 +19,7 @@ size_number EightBytes = 5
 size_number Pointer = 6
 size_number InlineComposite = 7
 
--- pointers of an element
+-- The number of pointers in an element.
 abbrev pub pointers_per_element : ElementSize → ℕ
 pointers_per_element Void = 0
 pointers_per_element Bit = 0

@@ -1,4 +1,4 @@
-//! Why a call is refused: one name for each fault of a message, and for want of memory or room.
+//! Why a call is refused: one name for each fault of a message, and for lack of memory or room.
 ghost use Rattle.std.specs.Prelude.{◌≡◌};
 ghost use Rattle.capnp_words.specs.Names.{name_of, text_of};
 ghost use Rattle.std.specs.Prelude.{Some};
@@ -6,44 +6,45 @@ ghost use Rattle.std.specs.Prelude.{Some};
 use std::fmt;
 use thiserror::Error;
 
-/// What a refused call says. `{}` writes the variant's name, and the number in parentheses behind it
-/// where there is one.
+/// The refusal of a call. `{}` writes the variant's name, followed by its number in parentheses, if
+/// it has one.
 #[derive(Clone, Copy, Debug, PartialEq, Eq, Error)]
 pub enum ErrorKind {
-    /// No memory, or none for another segment.
+    /// There is no memory, or none for another segment.
     AllocationFailed,
-    /// A value to be copied in canonical form holds a capability.
+    /// The value to copy in canonical form holds a capability.
     CannotCreateACanonicalMessageWithACapability,
-    /// The size of a struct list was asked for whose tag word is not of kind struct.
+    /// A size was requested, and the tag of a struct list isn't that of a struct.
     CantHandleNonStructInlineComposite,
-    /// A text or data was to be written in place where a list of other elements than bytes stands.
+    /// A text or data was expected for writing in place, and the list's elements aren't bytes.
     ExistingListPointerIsNotByteSized,
-    /// A list was to be written in place whose elements have less data, or fewer pointers, than the
-    /// elements expected.
+    /// A list was expected for writing in place, and its elements have less data, or fewer
+    /// pointers, than the expected ones.
     ExistingListValueIsIncompatibleWithExpectedType,
-    /// A list, a text or data was to be written in place where something else stands.
+    /// A list, a text or data was expected for writing in place, and the pointer leads to something
+    /// else.
     ExistingPointerIsNotAList,
-    /// A list of pointers was expected, and the structs of the list have none.
+    /// A list of pointers was expected, and the list's structs have none.
     ExpectedAPointerListButGotAListOfDataOnlyStructs,
-    /// A list of numbers was expected, and the structs of the list have no data.
+    /// A list of numbers was expected, and the list's structs have no data.
     ExpectedAPrimitiveListButGotAListOfPointerOnlyStructs,
-    /// A list of bits was found where elements of another size were expected.
+    /// A list of bits was found instead of elements of another size.
     FoundBitListWhereStructListWasExpected,
-    /// A struct list was found where bits were expected.
+    /// A struct list was found instead of bits.
     FoundStructListWhereBitListWasExpected,
     /// The elements of a struct list take more words than its pointer claims.
     InlineCompositeListsElementsOverrunItsWordCount,
-    /// The tag word of a struct list is not of kind struct.
+    /// The tag of a struct list isn't that of a struct.
     InlineCompositeListsOfNonStructTypeAreNotSupported,
-    /// A segment was named that the message doesn't have; with its number.
+    /// The message doesn't have this segment.
     InvalidSegmentId(u32),
     /// A far pointer leads to a landing pad that is itself a far pointer.
     MalformedDoubleFarPointer,
-    /// Data was expected, and the list's elements are not bytes.
+    /// Data was expected, and the list's elements aren't bytes.
     MessageContainsListPointerOfNonBytesWhereDataWasExpected,
-    /// A text was expected, and the list's elements are not bytes.
+    /// A text was expected, and the list's elements aren't bytes.
     MessageContainsListPointerOfNonBytesWhereTextWasExpected,
-    /// The elements of a list have less data, or fewer pointers, than the elements expected.
+    /// The elements of a list have less data, or fewer pointers, than the expected ones.
     MessageContainsListWithIncompatibleElementType,
     /// A capability was expected, and the pointer is something else.
     MessageContainsNonCapabilityPointerWhereCapabilityPointerWasExpected,
@@ -59,34 +60,33 @@ pub enum ErrorKind {
     MessageContainsNullCapabilityPointer,
     /// A pointer leads out of its segment, or to words some of which are outside.
     MessageContainsOutOfBoundsPointer,
-    /// A text has no bytes, or its last byte is not 0.
+    /// A text has no bytes, or its last byte isn't 0.
     MessageContainsTextThatIsNotNULTerminated,
-    /// Pointers are nested more deeply than the nesting limit, as its size was asked for.
+    /// A size was requested, and pointers are nested more deeply than the nesting limit.
     MessageIsTooDeeplyNested,
-    /// Structs, or the values of a copy, are nested more deeply than the nesting limit; pointers that
-    /// go in a circle are too.
+    /// Structs, or the values of a copy, are nested more deeply than the nesting limit; so are
+    /// pointers in a cycle.
     MessageIsTooDeeplyNestedOrContainsCycles,
-    /// Something would be too large for its limit; with the number of words asked for, or the greatest
-    /// `usize` where there is no such number.
+    /// Something would be too large for its limit; with the number of words requested, or
+    /// `usize::MAX` if there is no such number.
     MessageTooLarge(usize),
     /// Lists are nested more deeply than the nesting limit.
     NestingLimitExceeded,
-    /// An edit names a place that isn't there, or doesn't fit what it does.
+    /// An edit names a place that doesn't exist, or doesn't fit the operation.
     NoSuchPlace,
     /// The traversal limit doesn't cover the words to be read.
     ReadLimitExceeded,
-    /// A text was to be written in place whose bytes don't end with a 0.
+    /// A text was expected for writing in place, and its bytes don't end with a 0.
     TextBlobMissingNULTerminator,
-    /// Something was to be read where there are no segments: from nothing, or through a far pointer
-    /// of a default value.
+    /// There are no segments to read: from nothing, or through a far pointer of a default value.
     TriedToReadFromNullArena,
-    /// A far pointer leads to a landing pad that is itself a far pointer, as its type was asked for.
+    /// A type was requested, and a far pointer leads to a landing pad that is itself a far pointer.
     UnexpectedFarPointer,
-    /// A pointer word that the format doesn't know, or a capability in a default value.
+    /// A pointer is of no known kind, or is a capability in a default value.
     UnknownPointerType,
 }
 
-/// What a call gives that can be refused.
+/// The result of a call that can be refused.
 pub type Result<T> = std::result::Result<T, ErrorKind>;
 
 impl ErrorKind {

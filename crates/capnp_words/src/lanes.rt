@@ -1,5 +1,5 @@
-//! Zero tests, zeroing and copies of bytes by vectors: 64 bytes at a time, then what is left word by word
-//! and byte by byte. Each says what its plain loop would, for every length.
+//! Tests bytes for zero, zeroes and copies them with vectors: 64 bytes at a time, and the rest by
+//! words and bytes. Each gives the result of its plain loop, for every length.
 ghost use Rattle.std.specs.Prelude.{◌≡◌, ◌↔◌, ◌<◌, ◌≤◌, ◌+◌, ◌*◌, ◌/◌, ◌%◌, All, IsTrue, length, take, drop, replicate};
 ghost use Rattle.capnp_format.specs.Bytes.{words_of};
 ghost use Rattle.capnp_format.specs.Canonical.{used_words};
@@ -7,7 +7,7 @@ ghost use Rattle.capnp_format.specs.Canonical.{used_words};
 use crate::words::word_at;
 use std::simd::prelude::*;
 
-/// Whether the 64 bytes from a position on are zero.
+/// Whether the 64 bytes at `at` are zero.
 #[inline(always)]
 fn is_block_zero(bytes: &[u8], at: usize) -> bool
     requires { at + 64 ≤ length bytes.now }
@@ -16,7 +16,7 @@ fn is_block_zero(bytes: &[u8], at: usize) -> bool
     u8x64::from_slice(&bytes[at..]).reduce_or() == 0
 }
 
-/// Whether the eight bytes from a position on are zero.
+/// Whether the eight bytes at `at` are zero.
 #[inline(always)]
 fn is_word_zero(bytes: &[u8], at: usize) -> bool
     requires { at + 8 ≤ length bytes.now }
@@ -25,7 +25,7 @@ fn is_word_zero(bytes: &[u8], at: usize) -> bool
     u8x8::from_slice(&bytes[at..]).reduce_or() == 0
 }
 
-/// Whether bytes are zero, looked at one by one.
+/// Whether all bytes are zero, tested one by one.
 #[inline(always)]
 fn are_zero(bytes: &[u8]) -> bool
     ensures { IsTrue result ↔ All (λ byte. byte ≡ 0) bytes.now }
@@ -33,7 +33,7 @@ fn are_zero(bytes: &[u8]) -> bool
     bytes.iter().all(|byte| *byte == 0)
 }
 
-/// Whether bytes are zero, looked at word by word, and then byte by byte.
+/// Whether all bytes are zero, tested by words, and then by bytes.
 #[inline(always)]
 fn is_rest_zero(bytes: &[u8]) -> bool
     ensures { IsTrue result ↔ All (λ byte. byte ≡ 0) bytes.now }
@@ -48,7 +48,7 @@ fn is_rest_zero(bytes: &[u8]) -> bool
     are_zero(&bytes[at..])
 }
 
-/// Whether all bytes are zero. So are no bytes.
+/// Whether all bytes are zero; `true` for none.
 pub fn is_zero(bytes: &[u8]) -> bool
     ensures { IsTrue result ↔ All (λ byte. byte ≡ 0) bytes.now }
 {
@@ -62,7 +62,7 @@ pub fn is_zero(bytes: &[u8]) -> bool
     is_rest_zero(&bytes[at..])
 }
 
-/// How many of the words before a position there are up to the last that is not zero.
+/// The number of words up to the last one before word `end` that isn't zero.
 #[inline(always)]
 fn used_before(bytes: &[u8], end: usize) -> usize
     requires { 8 * end ≤ length bytes.now }
@@ -79,7 +79,7 @@ fn used_before(bytes: &[u8], end: usize) -> usize
     0
 }
 
-/// A position in words behind which all is zero, found by 64 bytes at a time.
+/// A position in words after which all is zero, found 64 bytes at a time.
 #[inline(never)]
 fn end_of_blocks(bytes: &[u8]) -> usize
     ensures used { used_words (words_of bytes.now) ≡ used_words (take result (words_of bytes.now)) }
@@ -95,8 +95,8 @@ fn end_of_blocks(bytes: &[u8]) -> usize
     end
 }
 
-/// How many of at least one word there are up to the last that is not zero: where the last one is not
-/// zero, nothing more is looked at.
+/// The number of words up to the last one that isn't zero. If that is the last word, reads no
+/// other. Precondition: there is at least one word.
 fn used_of_many(bytes: &[u8]) -> usize
     requires { 8 ≤ length bytes.now }
     ensures { result ≡ used_words (words_of bytes.now) }
@@ -108,8 +108,8 @@ fn used_of_many(bytes: &[u8]) -> usize
     used_before(bytes, end_of_blocks(bytes))
 }
 
-/// How many of the words there are up to the last that is not zero. Fewer than 32 are looked at one by
-/// one, which is the fastest for them.
+/// The number of words up to the last one that isn't zero. Fewer than 32 words are tested one by
+/// one, which is fastest for them.
 #[inline(always)]
 fn used(bytes: &[u8]) -> usize
     ensures { result ≡ used_words (words_of bytes.now) }
@@ -122,7 +122,7 @@ fn used(bytes: &[u8]) -> usize
     }
 }
 
-/// How many of the words of eight bytes at the end are zero. The bytes are whole words.
+/// The number of zero words at the end of `bytes`. Precondition: `bytes` is whole words.
 pub fn trailing_zero_words(bytes: &[u8]) -> usize
     requires { length bytes.now % 8 ≡ 0 }
     ensures { result + used_words (words_of bytes.now) ≡ length (words_of bytes.now) }
@@ -130,7 +130,7 @@ pub fn trailing_zero_words(bytes: &[u8]) -> usize
     bytes.len() / 8 - used(bytes)
 }
 
-/// Makes fewer than 64 bytes zero: by two vectors that may overlap, up to seven one by one.
+/// Zeroes fewer than 64 bytes: with two vectors that may overlap, up to seven bytes one by one.
 #[inline(always)]
 fn zero_short(bytes: &mut [u8])
     requires { length bytes.old < 64 }
@@ -153,7 +153,7 @@ fn zero_short(bytes: &mut [u8])
     }
 }
 
-/// Makes all bytes zero. From 64 bytes on the compiler's own way for a plain loop is the fastest.
+/// Zeroes all bytes. From 64 bytes on, the compiler's code for a plain loop is fastest.
 #[inline(always)]
 pub fn zero(bytes: &mut [u8])
     ensures { bytes.new ≡ replicate (length bytes.old) 0 }
@@ -167,7 +167,7 @@ pub fn zero(bytes: &mut [u8])
     }
 }
 
-/// Copies fewer than 64 bytes: by two vectors that may overlap, up to seven one by one.
+/// Copies fewer than 64 bytes: with two vectors that may overlap, up to seven bytes one by one.
 #[inline(always)]
 fn copy_short(from: &[u8], to: &mut [u8])
     requires same { length from.now ≡ length to.old }
@@ -191,7 +191,7 @@ fn copy_short(from: &[u8], to: &mut [u8])
     }
 }
 
-/// Copies bytes over as many others. From 64 bytes on the standard library's way is the fastest.
+/// Copies bytes over as many others. From 64 bytes on, the standard library's code is fastest.
 #[inline(always)]
 pub fn copy(from: &[u8], to: &mut [u8])
     requires { length from.now ≡ length to.old }

@@ -1,4 +1,4 @@
-//! What the Cap'n Proto wire format is made of: units, numbers in bytes, words, pointer words, the
+//! The basics of the Cap'n Proto wire format: units, numbers in bytes, words, pointer words, the
 //! traversal limit, and the names of refusals.
 #![tactic(auto)]
 

@@ -1,16 +1,17 @@
-//! Masks: a field is stored as its exclusive or with its default, so that the default is zero bits.
+//! Masks: a field is stored as the exclusive or of its value and its default, so that the default
+//! is zero bits.
 ghost use Rattle.std.specs.Prelude.{◌≡◌, bit_xor};
 ghost use Rattle.std.specs.Int.{w8, w16, w32, w64, int_bit_xor};
 
-/// Numbers that are masked by another number of the same bits.
+/// Numbers that can be masked by another number of the same bits.
 pub trait Mask {
-    /// What masks a number: the type itself.
+    /// The type of a mask: the number's own type.
     type T;
 
-    // The number under a mask.
+    // The number with a mask applied.
     ghost masked: { Self → Self.T → Self };
 
-    /// The exclusive or of a number and a mask. The same mask again gives the number back.
+    /// The exclusive or of a number and a mask. Applying the same mask again returns the number.
     fn mask(value: Self, mask: Self::T) -> Self
         ensures value { result ≡ masked value mask }
         ensures undone { masked result mask ≡ value };

@@ -1,15 +1,15 @@
-//! Numbers in a message: little-endian bytes, the lowest first.
+//! Numbers in a message: little-endian bytes.
 ghost use Rattle.std.specs.Prelude.{◌≡◌, ◌<◌, ◌≤◌, ◌%◌, ◌*◌, ◌^◌, ℕ, List, length};
 ghost use Rattle.std.proofs.Common.{lit<, lit≤, refl};
 ghost use Rattle.std.specs.Int.{w8, w16, w32, w64, from_le_bytes, to_le_bytes, cast_signed, cast_unsigned};
 ghost use Rattle.capnp_format.specs.Numbers.{from_digits};
 
-/// Numbers that a message holds.
+/// Numbers that a message can hold.
 pub trait Primitive {
     /// The array of the number's bytes, the lowest first.
     type Raw;
 
-    /// How many bytes the number takes.
+    /// The size of the number in bytes.
     const BYTES: usize;
 
     ghost BYTES: { ℕ };
@@ -27,31 +27,31 @@ pub trait Primitive {
     // The bits of the number as a number without a sign.
     ghost bits_of: { Self → ℕ };
 
-    // The number that so many bytes are, and the bytes of the number.
+    // The number with these `BYTES` bytes.
     ghost value_of: { List ℕ → Self };
 
     ghost bytes_of: { Self → List ℕ };
 
-    /// The number that the array holds.
+    /// The number in the array.
     fn get(raw: &Self::Raw) -> Self
         ensures value { result ≡ value_of (raw_bytes raw.now) }
         ensures again { bytes_of result ≡ raw_bytes raw.now }
         ensures little_endian { bits_of result ≡ from_digits 256 (raw_bytes raw.now) };
 
-    /// Puts a number into the array.
+    /// Stores a number in the array.
     fn set(raw: &mut Self::Raw, value: Self)
         ensures bytes { raw_bytes raw.new ≡ bytes_of value }
         ensures again { value_of (raw_bytes raw.new) ≡ value }
         ensures little_endian { from_digits 256 (raw_bytes raw.new) ≡ bits_of value };
 
-    /// The number that `BYTES` bytes are.
+    /// The number in `BYTES` bytes.
     fn load(bytes: &[u8]) -> Self
         requires { length bytes.now ≡ BYTES }
         ensures value { result ≡ value_of bytes.now }
         ensures again { bytes_of result ≡ bytes.now }
         ensures little_endian { bits_of result ≡ from_digits 256 bytes.now };
 
-    /// Puts the number into `BYTES` bytes.
+    /// Stores the number in `BYTES` bytes.
     fn store(self, bytes: &mut [u8])
         requires { length bytes.old ≡ BYTES }
         ensures bytes { bytes.new ≡ bytes_of self }

@@ -1,5 +1,5 @@
-//! The traversal limit: how many words reading may still charge. It keeps a small message that
-//! leads to the same words again and again from costing more than its reader allows.
+//! The traversal limit: how many words reading may still charge. It bounds the cost of reading a
+//! small message that leads to the same words again and again.
 ghost use Rattle.std.specs.Prelude.{◌≡◌, ◌^◌, ◌<◌, ◌↔◌, IsOk, OnOk, OnErr, IfErr};
 ghost use Rattle.capnp_words.specs.Meter.{Meter, Allows, spent, counted, unused};
 ghost use Rattle.capnp_words.specs.declared.error.ErrorKind.TheVariants.{ReadLimitExceeded};
@@ -7,7 +7,7 @@ ghost use Rattle.capnp_words.specs.declared.error.ErrorKind.TheVariants.{ReadLim
 use crate::error::ErrorKind;
 use std::marker::Model;
 
-/// What is left of a traversal limit, in words, and how many pointers were followed.
+/// What is left of a traversal limit, in words, and the number of pointers followed.
 #[derive(Drop)]
 pub struct ReadLimiter {
     words: Option<usize>,
@@ -23,7 +23,7 @@ impl Model for ReadLimiter {
 }
 
 impl ReadLimiter {
-    /// A limiter of so many words, or without a limit.
+    /// A limiter of `limit` words; `None` for no limit.
     pub fn new(limit: Option<usize>) -> Self
         ensures { result ≡ unused limit }
     {
@@ -33,8 +33,8 @@ impl ReadLimiter {
         }
     }
 
-    /// Charges `amount` words. Where the limit has fewer left, this is `ReadLimitExceeded`, and what
-    /// is left stays. Without a limit nothing is refused.
+    /// Charges `amount` words. Refuses with `ReadLimitExceeded` if fewer are left, and charges
+    /// nothing then. Without a limit, never refuses.
     pub fn can_read(&mut self, amount: usize) -> Result<(), ErrorKind>
         ensures exactly { IsOk result ↔ Allows self.old amount }
         ensures granted { OnOk result (self.new ≡ spent self.old amount) }
@@ -50,22 +50,22 @@ impl ReadLimiter {
         Ok(())
     }
 
-    /// The words that are left, None without a limit.
+    /// The words left; `None` without a limit.
     pub fn left(&self) -> Option<usize>
         ensures { result ≡ self.now.left }
     {
         self.words
     }
 
-    /// How many pointers that are not null were followed where reading is charged, at most the
-    /// greatest `u64`.
+    /// The number of pointers that aren't null and were followed with reading charged, at most
+    /// `u64::MAX`.
     pub fn followed(&self) -> u64
         ensures { result ≡ self.now.followed }
     {
         self.pointers
     }
 
-    /// Counts one pointer more as followed. From the greatest `u64` on it stays.
+    /// Counts one more pointer as followed, up to `u64::MAX`.
     pub fn count(&mut self)
         ensures counted { self.new ≡ counted self.old }
         ensures small { self.old.followed < 2 ^ 64 }

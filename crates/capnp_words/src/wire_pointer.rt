@@ -1,5 +1,5 @@
-//! Pointer words: their bits, as the encoding specification's sections "Structs", "Lists",
-//! "Inter-Segment Pointers" and "Capabilities (Interfaces)" lay them out.
+//! Pointer words: their bits, as laid out in the encoding specification's sections "Structs",
+//! "Lists", "Inter-Segment Pointers" and "Capabilities (Interfaces)".
 ghost use Rattle.std.specs.Prelude.{◌≡◌, ◌<◌, ◌≤◌, ◌+◌, ◌*◌, ◌-◌, ◌^◌, ◌↔◌, ◌+ℤ◌, pos, IsTrue};
 ghost use Rattle.capnp_format.specs.Canonical.{offset_to, Reaches};
 ghost use Rattle.capnp_format.specs.Numbers.{element_bits, words_for};
@@ -15,10 +15,10 @@ use crate::units::{
     BitCount32, ElementCount32, WirePointerCount16, WirePointerCount32, WordCount16, WordCount32,
 };
 
-/// How wide the elements of a list are, by the numbers 0 to 7 of the format ("Lists").
+/// The size of a list's elements, by the format's numbers 0 to 7 ("Lists").
 #[derive(Clone, Copy, Debug, PartialEq)]
 pub enum ElementSize {
-    /// No bits at all.
+    /// No bits.
     Void,
     /// One bit.
     Bit,
@@ -28,15 +28,15 @@ pub enum ElementSize {
     TwoBytes,
     /// Four bytes.
     FourBytes,
-    /// Eight bytes that are no pointer.
+    /// Eight bytes that aren't a pointer.
     EightBytes,
     /// One pointer of eight bytes.
     Pointer,
-    /// A struct of data words and pointers, whose size the list's tag word says.
+    /// A struct of data words and pointers, whose size is in the list's tag word.
     InlineComposite,
 }
 
-/// How many bits of data an element has: 0 for a pointer and for a struct.
+/// The number of bits of data of an element: 0 for a pointer and for a struct.
 pub fn data_bits_per_element(size: ElementSize) -> BitCount32
     ensures { result ≡ element_bits (size_number size) }
 {
@@ -50,8 +50,8 @@ pub fn data_bits_per_element(size: ElementSize) -> BitCount32
     }
 }
 
-/// How many words so many elements take together ("Lists"): the least that hold their bits. For
-/// pointers and structs it is 0.
+/// The number of words that `count` elements take together ("Lists"): the fewest that hold their
+/// bits; 0 for pointers and structs.
 #[inline]
 pub fn flat_words(size: ElementSize, count: ElementCount32) -> WordCount32
     requires { count < 2 ^ 29 }
@@ -60,8 +60,8 @@ pub fn flat_words(size: ElementSize, count: ElementCount32) -> WordCount32
     ((u64::from(count) * u64::from(data_bits_per_element(size)) + 63) / 64) as u32
 }
 
-/// Whether the elements of the list that a word describes are of bits or bytes: no pointers, no structs, and not
-/// void.
+/// Whether the elements of the list that `word` describes are bits or bytes: not pointers, not
+/// structs, and not void.
 #[inline]
 pub fn is_of_bits(word: WirePointer) -> bool
     ensures { IsTrue result ↔ (0 < element_size word.0) × (element_size word.0 ≤ 5) }
@@ -72,7 +72,7 @@ pub fn is_of_bits(word: WirePointer) -> bool
     )
 }
 
-/// How many pointers an element is: 1 for a pointer, else 0.
+/// The number of pointers in an element: 1 for a pointer, otherwise 0.
 pub fn pointers_per_element(size: ElementSize) -> WirePointerCount32
     ensures { result ≡ pointers_per_element size }
 {
@@ -82,12 +82,12 @@ pub fn pointers_per_element(size: ElementSize) -> WirePointerCount32
     }
 }
 
-/// The two sections of a struct, data first ("Structs").
+/// The sizes of the two sections of a struct, data first ("Structs").
 #[derive(Clone, Copy, Debug)]
 pub struct StructSize {
     /// The data section, in words.
     pub data_words: WordCount16,
-    /// The pointer section, in pointers, each one word.
+    /// The pointer section, in pointers of one word each.
     pub pointers: WirePointerCount16,
 }
 
@@ -100,7 +100,7 @@ impl StructSize {
     }
 }
 
-/// What a pointer word is, by its lowest two bits.
+/// The kind of a pointer word, by its lowest two bits.
 #[derive(Clone, Copy, PartialEq)]
 pub enum WirePointerKind {
     /// A pointer to a struct, or the tag of a struct list. The zero word is of this kind too.
@@ -109,11 +109,11 @@ pub enum WirePointerKind {
     List,
     /// A pointer to a landing pad.
     Far,
-    /// A capability, or a word that the format doesn't know.
+    /// A capability, or a word of no known kind.
     Other,
 }
 
-/// What a pointer leads to, landing pads followed.
+/// What a pointer leads to, with landing pads followed.
 #[derive(Clone, Copy, Debug, PartialEq, Eq)]
 pub enum PointerType {
     /// Nothing: the word is zero.
@@ -126,8 +126,8 @@ pub enum PointerType {
     Capability,
 }
 
-/// A pointer word. Each field can be read of every word; whether it means something is the
-/// word's kind to say.
+/// A pointer word. Any field can be read from any word; whether the field means something depends
+/// on the word's kind.
 #[derive(Clone, Copy, Debug, PartialEq, Eq)]
 pub struct WirePointer(pub u64);
 
@@ -139,7 +139,7 @@ impl WirePointer {
         WirePointer(0)
     }
 
-    /// The pointer to a struct of no words, in bytes `fcffffff00000000`. Its offset is -1, since
+    /// The pointer to a struct of no words, in bytes `fcffffff00000000`. Its offset is -1, as
     /// offset 0 would make it null.
     pub fn empty_struct() -> Self
         ensures { result.0 ≡ struct_word (2 ^ 30 - 1) 0 0 }
@@ -147,7 +147,7 @@ impl WirePointer {
         WirePointer(0xffff_fffc)
     }
 
-    /// A pointer to a struct that begins `offset` words after the word behind the pointer
+    /// A pointer to a struct that starts `offset` words after the word that follows the pointer
     /// ("Structs").
     pub fn new_struct(offset: i32, size: StructSize) -> Self
         requires { IsOffset offset }
@@ -158,8 +158,8 @@ impl WirePointer {
         WirePointer(low | upper_of_struct(size) << 32)
     }
 
-    /// The first word of a struct list: how many elements there are, fewer than 2^30, and the
-    /// size of each ("Lists").
+    /// The tag of a struct list: the number of elements, fewer than 2^30, and the size of each
+    /// ("Lists").
     pub fn new_tag(count: ElementCount32, size: StructSize) -> Self
         requires { count < 2 ^ 30 }
         ensures { DescribesStruct result.0 count size }
@@ -167,9 +167,9 @@ impl WirePointer {
         WirePointer(u64::from(count) << 2 | upper_of_struct(size) << 32)
     }
 
-    /// A pointer to a list of fewer than 2^29 elements, where for `InlineComposite` the count is
-    /// of the elements' words without the tag. The list begins `offset` words after the word
-    /// behind the pointer ("Lists").
+    /// A pointer to a list that starts `offset` words after the word that follows the pointer
+    /// ("Lists"). `count` is the number of elements, for `InlineComposite` of the elements' words
+    /// without the tag; fewer than 2^29.
     pub fn new_list(offset: i32, size: ElementSize, count: ElementCount32) -> Self
         requires near { IsOffset offset }
         requires few { count < 2 ^ 29 }
@@ -180,8 +180,8 @@ impl WirePointer {
         WirePointer(low | upper << 32)
     }
 
-    /// A pointer to a struct list whose tag begins `offset` words after the word behind the
-    /// pointer, and whose elements take fewer than 2^29 `words` behind the tag ("Lists").
+    /// A pointer to a struct list whose tag is `offset` words after the word that follows the
+    /// pointer, and whose elements take `words` words after the tag, fewer than 2^29 ("Lists").
     pub fn new_struct_list(offset: i32, words: WordCount32) -> Self
         requires near { IsOffset offset }
         requires few { words < 2 ^ 29 }
@@ -208,7 +208,7 @@ impl WirePointer {
         WirePointer(u64::from(position) << 3 | 6 | u64::from(segment) << 32)
     }
 
-    /// A capability, by its index in the message's table ("Capabilities (Interfaces)").
+    /// A capability, by its index in the message's capability table ("Capabilities (Interfaces)").
     pub fn new_capability(index: u32) -> Self
         ensures word { result.0 ≡ capability_word index }
         ensures lower { lower_half result.0 ≡ 3 }
@@ -217,7 +217,7 @@ impl WirePointer {
         WirePointer(u64::from(index) << 32 | 3)
     }
 
-    /// What the lowest two bits say.
+    /// The kind of the word, by its lowest two bits.
     pub fn kind(self) -> WirePointerKind
         ensures { kind_number result ≡ kind self.0 }
     {
@@ -250,7 +250,7 @@ impl WirePointer {
         self.0 & 0xffff_ffff == 3
     }
 
-    /// The offset, in words from the word behind the pointer: from -2^29 to 2^29 - 1.
+    /// The offset, in words from the word that follows the pointer: from -2^29 to 2^29 - 1.
     pub fn offset(self) -> i32
         ensures value { result ≡ signed (offset_bits self.0) }
         ensures near { IsOffset result }
@@ -263,8 +263,8 @@ impl WirePointer {
         }
     }
 
-    /// Where the offset leads, from a pointer at a position of a segment of `length` words: to a
-    /// position from 0 to `length`, else None.
+    /// Where the offset leads from a pointer at `position` of a segment of `length` words: a
+    /// position from 0 to `length`, otherwise `None`.
     pub fn target(self, position: WordCount32, length: WordCount32) -> Option<WordCount32>
         ensures { result ≡ offset_leads length position (offset_bits self.0) }
     {
@@ -284,7 +284,7 @@ impl WirePointer {
         }
     }
 
-    /// How many elements a struct list has, by its tag.
+    /// The number of elements of a struct list, by its tag.
     pub fn inline_composite_list_element_count(self) -> ElementCount32
         ensures value { result ≡ offset_bits self.0 }
         ensures few { result < 2 ^ 30 }
@@ -292,14 +292,14 @@ impl WirePointer {
         (self.0 >> 2 & 0x3fff_ffff) as u32
     }
 
-    /// The data section of a struct, in words.
+    /// The size of a struct's data section, in words.
     pub fn struct_data_size(self) -> WordCount16
         ensures { result ≡ data_words self.0 }
     {
         (self.0 >> 32 & 0xffff) as u16
     }
 
-    /// The pointers of a struct.
+    /// The number of a struct's pointers.
     pub fn struct_ptr_count(self) -> WirePointerCount16
         ensures { result ≡ pointer_count self.0 }
     {
@@ -317,14 +317,14 @@ impl WirePointer {
         }
     }
 
-    /// All of a struct, in words.
+    /// The size of a struct, in words.
     pub fn struct_word_size(self) -> WordCount32
         ensures { result ≡ data_words self.0 + pointer_count self.0 }
     {
         self.struct_size().total()
     }
 
-    /// How wide the elements of a list are.
+    /// The element size of a list.
     pub fn list_element_size(self) -> ElementSize
         ensures { size_number result ≡ element_size self.0 }
     {
@@ -340,7 +340,7 @@ impl WirePointer {
         }
     }
 
-    /// How many elements a list has; for a struct list this is its words.
+    /// The number of elements of a list; for a struct list, its number of words.
     pub fn list_element_count(self) -> ElementCount32
         ensures value { result ≡ list_count self.0 }
         ensures few { result < 2 ^ 29 }
@@ -348,7 +348,7 @@ impl WirePointer {
         (self.0 >> 35) as u32
     }
 
-    /// How many words a struct list claims for its elements, without the tag.
+    /// The number of words that a struct list claims for its elements, without the tag.
     pub fn list_inline_composite_word_count(self) -> WordCount32
         ensures value { result ≡ list_count self.0 }
         ensures few { result < 2 ^ 29 }
@@ -363,7 +363,7 @@ impl WirePointer {
         self.0 >> 2 & 1 == 1
     }
 
-    /// Where a far pointer's landing pad begins, in words from its segment's start.
+    /// Where a far pointer's landing pad starts, in words from its segment's start.
     pub fn far_position_in_segment(self) -> WordCount32
         ensures value { result ≡ far_position self.0 }
         ensures small { result < 2 ^ 29 }
@@ -378,7 +378,7 @@ impl WirePointer {
         self.upper()
     }
 
-    /// A capability's index in the message's table.
+    /// A capability's index in the message's capability table.
     pub fn cap_index(self) -> u32
         ensures { result ≡ upper_half self.0 }
     {
@@ -392,9 +392,9 @@ impl WirePointer {
     }
 }
 
-/// The offset that a pointer at a position has to hold to lead to a target, both in words from
-/// the start of one segment. The two are less than 2^29 words apart, counted from the word behind
-/// the pointer.
+/// The offset of a pointer at `position` that leads to `target`, both in words from the start of
+/// the same segment. They are less than 2^29 words apart, counted from the word that follows the
+/// pointer.
 pub fn offset_between(position: WordCount32, target: WordCount32) -> i32
     requires { Reaches position target }
     ensures distance { pos target ≡ pos (position + 1) +ℤ result }

@@ -1,5 +1,5 @@
 //! Words in slices of bytes: eight bytes each, the lowest byte first. Positions and counts are in
-//! words from the slice's start; up to seven bytes behind the last whole word are ignored.
+//! words from the slice's start; up to seven bytes after the last whole word are ignored.
 ghost use Rattle.std.specs.Prelude.{◌≡◌, ◌<◌, ◌≤◌, ◌+◌, ◌*◌, ◌/◌, ◌^◌, ◌++◌, [], ℕ, length, take, drop, replicate, slice_set, slice_index};
 ghost use Rattle.capnp_format.specs.Bytes.{words_of};
 ghost use Rattle.capnp_format.specs.Canonical.{used_words};
@@ -8,7 +8,7 @@ ghost use borrow.Rule.Slice.PartMut.{put_mid};
 use crate::lanes;
 use std::simd::prelude::*;
 
-/// The word at a position.
+/// The word at position `at`.
 #[tactic(auto, using(capnp_format::proofs::WordsOf::word_bytes))]
 pub fn word_at(bytes: &[u8], at: usize) -> u64
     requires { 8 * at + 8 ≤ length bytes.now }
@@ -27,7 +27,7 @@ pub fn word_at(bytes: &[u8], at: usize) -> u64
     ])
 }
 
-/// Writes a word.
+/// Writes `word` at position `at`.
 #[tactic(auto, using(capnp_format::proofs::WordsOf::put_words))]
 pub fn put_word(bytes: &mut [u8], at: usize, word: u64)
     requires { 8 * at + 8 ≤ length bytes.old }
@@ -38,7 +38,7 @@ pub fn put_word(bytes: &mut [u8], at: usize, word: u64)
         .copy_to_slice(&mut bytes[8 * at..]);
 }
 
-/// Copies whole words from a slice over the words from a position on.
+/// Copies the whole words of `from` over those from position `at` on.
 #[tactic(auto, using(capnp_format::proofs::WordsOf::put_words))]
 pub fn copy_words(bytes: &mut [u8], at: usize, from: &[u8])
     requires whole { length from.now ≡ 8 * length (words_of from.now) }
@@ -50,7 +50,7 @@ pub fn copy_words(bytes: &mut [u8], at: usize, from: &[u8])
     lanes::copy(from, &mut bytes[start..start + from.len()]);
 }
 
-/// Writes zeros over n words.
+/// Zeroes `n` words from position `at` on.
 #[tactic(auto, using(capnp_format::proofs::WordsOf::put_words))]
 pub fn zero_words(bytes: &mut [u8], at: usize, n: usize)
     requires { 8 * (at + n) ≤ length bytes.old }
@@ -60,7 +60,7 @@ pub fn zero_words(bytes: &mut [u8], at: usize, n: usize)
     lanes::zero(&mut bytes[start..start + 8 * n]);
 }
 
-/// How many words there are up to the last that is not zero.
+/// The number of words up to the last one that isn't zero.
 pub fn used(bytes: &[u8]) -> usize
     ensures value { result ≡ used_words (words_of bytes.now) }
     ensures within { result ≤ length bytes.now / 8 }
@@ -69,7 +69,7 @@ pub fn used(bytes: &[u8]) -> usize
     words - lanes::trailing_zero_words(&bytes[..8 * words])
 }
 
-/// The words in a part of a slice.
+/// The `n` words from position `at` on.
 #[tactic(auto, using(capnp_format::proofs::WordsOf::part_words))]
 pub fn part(bytes: &[u8], at: usize, n: usize) -> &[u8]
     requires { 8 * (at + n) ≤ length bytes.now }
@@ -80,7 +80,7 @@ pub fn part(bytes: &[u8], at: usize, n: usize) -> &[u8]
     &bytes[8 * at..8 * at + 8 * n]
 }
 
-/// How many whole words there are.
+/// The number of whole words in `bytes`.
 #[tactic(auto, using(capnp_format::proofs::WordsOf::part_words))]
 pub fn count(bytes: &[u8]) -> usize
     ensures { result ≡ length (words_of bytes.now) }
@@ -88,7 +88,7 @@ pub fn count(bytes: &[u8]) -> usize
     bytes.len() / 8
 }
 
-/// How many of `n` words from a position on there are up to the last that is not zero.
+/// The number of words, of the `n` from position `at` on, up to the last one that isn't zero.
 pub fn used_part(bytes: &[u8], at: usize, n: usize) -> usize
     requires { 8 * (at + n) ≤ length bytes.now }
     ensures value { result ≡ used_words (take n (drop at (words_of bytes.now))) }
@@ -97,8 +97,8 @@ pub fn used_part(bytes: &[u8], at: usize, n: usize) -> usize
     used(part(bytes, at, n))
 }
 
-/// Copies `n` words from one position to another, as they were before. Words that end before the others
-/// start are copied as those of another slice are.
+/// Copies `n` words from one position to another; the two ranges may overlap. Words that end before
+/// the destination starts are copied like those of another slice.
 pub fn move_words(bytes: &mut [u8], from: usize, to: usize, n: usize)
     requires there { 8 * (from + n) ≤ length bytes.old }
     requires room { 8 * (to + n) ≤ length bytes.old }

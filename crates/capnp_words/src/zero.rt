@@ -1,7 +1,7 @@
 //! The number zero, by type.
 ghost use Rattle.std.specs.Prelude.{◌≡◌, pos};
 
-/// Numbers with a zero, which a field that a struct doesn't have reads as.
+/// Numbers with a zero, which is read for a field that a struct doesn't have.
 pub trait Zero {
     // The zero.
     ghost nought: { Self };

@@ -16,7 +16,7 @@ use capnp_words::wire_pointer::StructSize;
 use std::alloc::Global;
 use std::process::ExitCode;
 
-/// A message that is built, in segments on the heap.
+/// A message being built, in segments on the heap.
 type Built = BuilderArenaImpl<HeapAllocator>;
 
 /// A struct of one word of data and one pointer.
@@ -25,7 +25,7 @@ const SIZE: StructSize = StructSize {
     pointers: 1,
 };
 
-/// A message whose segments have so many words, unless an object needs more, with a null root.
+/// A message with a null root, in segments of `words` words, or more if an object needs more.
 fn empty_message(alloc: Global, words: u32) -> Result<Built, ErrorKind>
     requires { words ≤ max_segment_words }
     ensures { IfOk result (λ b. IsPlace (⟦<Built as BuilderArena>⟧.view b).words 0 0) }
@@ -36,8 +36,8 @@ fn empty_message(alloc: Global, words: u32) -> Result<Built, ErrorKind>
     Ok(built)
 }
 
-/// Builds a struct that holds a number and a text. Its segments have two words, so each object lies
-/// in a segment of its own, behind a landing pad.
+/// Builds a struct with a number and a text. Its segments have two words, so each object is in a
+/// segment of its own, after a landing pad.
 fn build(alloc: Global) -> Result<Built, ErrorKind> {
     let mut built = empty_message(alloc, 2)?;
     let mut root = PointerBuilder::get_root(&mut built).init_struct(SIZE)?;
@@ -46,19 +46,19 @@ fn build(alloc: Global) -> Result<Built, ErrorKind> {
     Ok(built)
 }
 
-/// Makes the canonical form of a message that was built, in one segment.
+/// Copies a built message in canonical form, in one segment.
 fn canonical(alloc: Global, from: &Built) -> Result<Built, ErrorKind> {
     let mut built = empty_message(alloc, 1024)?;
-    // A message that is built is read free of charge, so the limiter is never asked.
+    // Reading a message being built is free, so the limiter is never charged.
     let mut limiter = ReadLimiter::new(None);
     let root = PointerReader::get_root_from_arena(from, &mut limiter)?;
     PointerBuilder::get_root(&mut built).copy_from(root, &mut limiter, true)?;
     Ok(built)
 }
 
-/// Prints the words of each segment, a line for each word.
+/// Prints the words of each segment, one a line.
 fn print_segments(rt: &(impl Print + AllocGlobal), built: &Built) -> anyhow::Result<()> {
-    // What goes out is read as what comes in.
+    // The output segments are read like any input.
     let output = built.get_segments_for_output()?;
     let arena = ReaderArenaImpl::new(output, ReaderOptions::default());
     for id in 0..built.len() as u32 {

@@ -1,5 +1,5 @@
-//! Makes a message of two segments canonical, and prints the canonical words: the bytes that programs
-//! have to agree on before they hash, sign or compare a value.
+//! Makes a message of two segments canonical, and prints the canonical words: the bytes that
+//! programs have to agree on before they hash, sign or compare a value.
 #![tactic(auto)]
 
 ghost use Rattle.std.specs.Prelude.{◌≡◌, ◌∷◌, [], ℕ, IfOk, map};
@@ -35,13 +35,13 @@ const SECOND: [u8; 24] = [
     b'l', 0, 0, 0, 0, 0, 0, 0,
 ];
 
-/// A message that is built, in segments on the heap.
+/// A message being built, in segments on the heap.
 type Built = BuilderArenaImpl<HeapAllocator>;
 
-/// Builds the canonical form of what a message means, of at most 1024 words.
+/// Builds the canonical form of a message's value, at most 1024 words.
 ///
-/// The clause is proved: whatever bytes the segments hold, the only segment of an `Ok` is the canonical
-/// words of the value that the root, word 0 of segment 0, leads to within 64 levels.
+/// The clause is proved: whatever bytes the segments hold, the only segment of an `Ok` is the
+/// canonical words of the value that the root, word 0 of segment 0, leads to within 64 levels.
 fn canonical(alloc: Global, segments: &[&[u8]]) -> Result<Built, ErrorKind>
     ensures { let from = message (map (λ s. s.now) segments.now) in
         IfOk result (λ b. (t : Tree) × (c : ℕ) × Means from 64 0 0 t c
@@ -60,14 +60,14 @@ fn canonical(alloc: Global, segments: &[&[u8]]) -> Result<Built, ErrorKind>
     let _root = built.allocate(0, 1);
     PointerBuilder::get_root(&mut built).copy_from(root, &mut limiter, true)?;
 
-    // What doesn't fit there goes into further segments, and isn't canonical then.
+    // What doesn't fit there goes into further segments; the copy isn't canonical then.
     if built.len() != 1 {
         return Err(ErrorKind::MessageTooLarge(1024));
     }
     Ok(built)
 }
 
-/// Prints the words of a message of one segment, a line for each.
+/// Prints the words of a message of one segment, one a line.
 fn print_words(rt: &(impl Print + AllocGlobal), built: &Built) -> io::Result<()> {
     if let Ok(words) = built.get_segment(0) {
         for word in words.chunks_exact(8) {

@@ -1,5 +1,6 @@
-//! Reads the frame of a message from standard input, makes the message canonical, and writes its frame to
-//! standard output: what a program does with a message before it hashes or signs its bytes.
+//! Reads the frame of a message from standard input, makes the message canonical, and writes its
+//! frame to standard output: what a program does with a message before it hashes or signs its
+//! bytes.
 #![tactic(auto)]
 
 ghost use Rattle.std.specs.Prelude.{◌≡◌, ◌∷◌, [], ℕ, false, OnOk};
@@ -21,10 +22,10 @@ use std::alloc::Global;
 use std::io;
 use std::process::ExitCode;
 
-/// Writes what a message means as the frame of a canonical message.
+/// Writes a message's value as the frame of a canonical message.
 ///
-/// The clause is proved: what is written is the frame of one segment, the canonical words of the value that
-/// the root, word 0 of segment 0, leads to within 64 levels.
+/// The clause is proved: what is written is the frame of one segment, the canonical words of the
+/// value that the root, word 0 of segment 0, leads to within 64 levels.
 fn write_message<W: Output>(
     alloc: Global,
     segments: OwnedSegments,
@@ -46,8 +47,8 @@ fn write_message<W: Output>(
     }
 }
 
-/// Reads a message of at most 8,388,608 words, and writes it. Of an input that is at its end nothing is
-/// written.
+/// Reads a message of at most 8,388,608 words, and writes it. Writes nothing if the input is at its
+/// end.
 fn copy_message(rt: &(impl Input + Print + AllocGlobal)) -> Result<(), CanonicalError> {
     let mut input = ReaderInput::new(rt.reader());
     let mut output = WriterOutput::new(io::writer(rt));

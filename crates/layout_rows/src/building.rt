@@ -1,4 +1,4 @@
-//! Lines of a message that is built.
+//! Lines of a message being built.
 
 use crate::memory::{self, Memory};
 use crate::output::Output;
@@ -32,7 +32,8 @@ pub fn answer(alloc: Global, task: Task, line: &str) -> Result<String, Fault> {
     }
 }
 
-/// The answer of a message in the memory of an allocator: what becomes of each edit or call, and then the words.
+/// The answer for a message in an allocator's memory: the outcome of each edit or call, and then
+/// the words.
 fn built_with<A: Allocator>(
     alloc: Global,
     allocator: A,

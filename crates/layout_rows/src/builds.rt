@@ -1,4 +1,4 @@
-//! Calls of builders of a message, and what each gives.
+//! Calls on builders of a message, and what each returns.
 
 mod bytes;
 mod call;
@@ -25,7 +25,7 @@ const ROOT: PointerPlace = PointerPlace {
     word: 0,
 };
 
-/// Makes calls in order, and adds the answer of each with a `;` behind it.
+/// Makes calls in order, and adds the answer of each, followed by `;`.
 pub fn put_answers<A: Allocator>(
     alloc: Global,
     arena: &mut BuilderArenaImpl<A>,
@@ -50,7 +50,7 @@ pub fn put_answers<A: Allocator>(
     Ok(())
 }
 
-/// Makes a call and adds its answer. Gives the place that is to be kept, if there is one.
+/// Makes a call and adds its answer. Returns the place to keep, if there is one.
 fn call_once<A: Allocator>(
     alloc: Global,
     arena: &mut BuilderArenaImpl<A>,
@@ -95,8 +95,8 @@ fn call_once<A: Allocator>(
     Ok(None)
 }
 
-/// The place that a call is made of, and the call: the place by its number before a point, or that
-/// which was kept last.
+/// The place that a call is made on, and the call. The place is given by its number before a point;
+/// otherwise it is the one kept last.
 fn made_of<'a>(kept: &[Place], text: &'a str) -> (Option<Place>, &'a str) {
     match text.split_once('.') {
         Some((number, call)) if parse::is_number(number) => {
@@ -110,7 +110,7 @@ fn made_of<'a>(kept: &[Place], text: &'a str) -> (Option<Place>, &'a str) {
     }
 }
 
-/// Makes a call of the message itself.
+/// Makes a call on the message itself.
 fn message_call<A: Allocator>(
     arena: &mut BuilderArenaImpl<A>,
     call: MessageCall,
@@ -140,7 +140,7 @@ fn message_call<A: Allocator>(
     Ok(None)
 }
 
-/// Adds the bytes of a segment that are lent to be written, or that there are none.
+/// Adds the bytes of a segment that are lent for writing, or that there are none.
 fn allocated<A: BuilderArena>(arena: &mut A, segment: u32, out: &mut Output) {
     match arena.allocated_mut(segment) {
         Some(bytes) => out.hex_or_dash(bytes),
@@ -148,7 +148,7 @@ fn allocated<A: BuilderArena>(arena: &mut A, segment: u32, out: &mut Output) {
     }
 }
 
-/// Writes one of the bytes of a segment that are lent to be written, if there are any.
+/// Writes one of the bytes of a segment that are lent for writing, if there are any.
 fn write_allocated<A: BuilderArena>(
     arena: &mut A,
     segment: u32,

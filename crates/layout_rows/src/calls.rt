@@ -1,4 +1,4 @@
-//! Calls as lines write them: a name, and arguments with commas between.
+//! Calls as lines write them: a name, and arguments separated by commas.
 
 use crate::parse::{self, Fault};
 use crate::source::{self, SourceText};
@@ -6,11 +6,11 @@ use crate::types::{ElementType, element_type};
 use capnp_arena::arena::ReaderOptions;
 use capnp_words::wire_pointer::{ElementSize, StructSize};
 
-/// A call that lines may hold: its name, a letter for each of its arguments as `Values::put` has them, how many of these
-/// there are at least, and what the call is.
+/// A call that lines may hold: its name, a letter for each of its arguments (see `Values::put`),
+/// the least number of these, and what the call is.
 pub type Form<T> = (&'static str, &'static str, usize, T);
 
-/// The arguments of a call, by what they are. Those that it doesn't have are zero or missing.
+/// The arguments of a call, by kind. Those that it doesn't have are zero or missing.
 #[derive(Clone, Copy)]
 pub struct Values<'l> {
     pub sections: StructSize,
@@ -28,9 +28,9 @@ pub struct Values<'l> {
     pub mask: Option<&'l str>,
     /// Bytes in hex digits.
     pub hex: Option<&'l str>,
-    /// Another message, or the nesting limit alone.
+    /// Another message, or only the nesting limit.
     pub source: SourceText<'l>,
-    /// Whether one of them is outside of what its type allows.
+    /// Whether an argument is out of its type's range.
     pub is_unfit: bool,
 }
 
@@ -78,7 +78,7 @@ impl<'l> Values<'l> {
         }
     }
 
-    /// Reads an argument that isn't a mere number, by its letter.
+    /// Reads an argument that isn't just a number, by its letter.
     fn put_named(&mut self, letter: u8, word: &'l str) -> Result<(), Fault> {
         match letter {
             b's' => self.size = parse::element_size(word)?,
@@ -90,7 +90,7 @@ impl<'l> Values<'l> {
         Ok(())
     }
 
-    /// Reads an argument that is kept as it is written, by its letter.
+    /// Reads an argument that is kept as written, by its letter.
     fn put_text(&mut self, letter: u8, word: &'l str) -> Result<(), Fault> {
         let has_form = match letter {
             b'h' => parse::is_hex(word),
@@ -113,7 +113,7 @@ impl<'l> Values<'l> {
     }
 }
 
-/// The call that a text is, if it is one of those that there are.
+/// Parses a call, if it is one of `forms`.
 pub fn read<'l, T: Copy>(forms: &[Form<T>], text: &'l str) -> Result<(T, Values<'l>), Fault> {
     let (name, arguments) = match text.split_once(',') {
         Some((name, arguments)) => (name, Some(arguments)),
@@ -129,7 +129,7 @@ pub fn read<'l, T: Copy>(forms: &[Form<T>], text: &'l str) -> Result<(T, Values<
     Ok((call, values_of(letters, arguments)?))
 }
 
-/// The letters of a call's arguments and the call, by its name and how many arguments it has.
+/// The letters of a call's arguments and the call, by its name and number of arguments.
 fn find<T: Copy>(forms: &[Form<T>], name: &str, count: usize) -> Option<(&'static str, T)> {
     for (known, letters, least, call) in forms {
         if *known == name && *least <= count && count <= letters.len() {
@@ -139,7 +139,8 @@ fn find<T: Copy>(forms: &[Form<T>], name: &str, count: usize) -> Option<(&'stati
     None
 }
 
-/// The arguments of these letters. One that isn't of its form stands before one that is outside of its type.
+/// The arguments of these letters. Reports one that isn't of its form before one that is out of its
+/// type's range.
 fn values_of<'l>(letters: &str, arguments: Option<&'l str>) -> Result<Values<'l>, Fault> {
     let mut values = Values::none();
     let Some(arguments) = arguments else {

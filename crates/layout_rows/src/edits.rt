@@ -1,4 +1,4 @@
-//! Edits of a message that is built, and what becomes of each.
+//! Edits of a message being built, and their outcomes.
 
 use crate::calls::{self, Form, Values};
 use crate::output::Output;
@@ -8,7 +8,7 @@ use capnp_edits::edit::{Edit, Op, Source, Step, apply};
 use capnp_words::error::ErrorKind;
 use std::alloc::Global;
 
-/// Which operation an edit does.
+/// The operation of an edit.
 #[derive(Clone, Copy)]
 enum Name {
     InitStruct,
@@ -62,7 +62,7 @@ static FORMS: [Form<Name>; 23] = [
     ("wd", "cb", 2, Name::WriteData),
 ];
 
-/// Does the edits of a word, and adds what becomes of each, parted by `;`.
+/// Applies the edits of a word, and adds their outcomes, separated by `;`.
 pub fn put_outcomes<A: BuilderArena>(
     alloc: Global,
     arena: &mut A,
@@ -86,7 +86,7 @@ pub fn put_outcomes<A: BuilderArena>(
     Ok(())
 }
 
-/// Does an edit of the form `PATH:OP,ARGUMENT,..`.
+/// Applies an edit of the form `PATH:OP,ARGUMENT,..`.
 fn edit_once<A: BuilderArena>(alloc: Global, arena: &mut A, text: &str) -> Result<(), Fault> {
     let Some((path, call)) = text.split_once(':') else {
         return Err(Fault::Malformed);
@@ -99,7 +99,7 @@ fn edit_once<A: BuilderArena>(alloc: Global, arena: &mut A, text: &str) -> Resul
     read_bytes(alloc, arena, path.as_slice(), (name, &values))
 }
 
-/// The steps of a path: `-`, or `c3` and `e12` with points between.
+/// The steps of a path: `-`, or `c3` and `e12` separated by points.
 fn path_of(alloc: Global, text: &str) -> Result<Vec<Step>, Fault> {
     let mut path = Vec::new(alloc);
     if text == "-" {
@@ -122,7 +122,7 @@ fn step_of(text: &str) -> Result<Step, Fault> {
     }
 }
 
-/// Does an operation at the end of a path, whose bytes are still to be read.
+/// Applies an operation at the end of a path, whose bytes are still to be parsed.
 fn read_bytes<A: BuilderArena>(
     alloc: Global,
     arena: &mut A,
@@ -138,8 +138,8 @@ fn read_bytes<A: BuilderArena>(
     read_source(alloc, arena, path, (name, values, given))
 }
 
-/// Does an operation with given bytes at the end of a path. The message that is copied from is still to
-/// be read.
+/// Applies an operation with given bytes at the end of a path. The message to copy from is still to
+/// be parsed.
 fn read_source<A: BuilderArena>(
     alloc: Global,
     arena: &mut A,
@@ -155,7 +155,7 @@ fn read_source<A: BuilderArena>(
     Ok(apply_at(arena, path, call, &message)?)
 }
 
-/// Does an operation with given bytes at the end of a path, with a message that is copied from.
+/// Applies an operation with given bytes at the end of a path, with a message to copy from.
 fn apply_at<'a, A: BuilderArena>(
     arena: &mut A,
     path: &'a [Step],
@@ -170,7 +170,7 @@ fn apply_at<'a, A: BuilderArena>(
     apply(arena, &Edit { path, op })
 }
 
-/// The operation of a name, of these values, bytes and message.
+/// The operation of a name, with these values, bytes and message.
 fn operation<'a>(
     name: Name,
     values: &Values<'_>,

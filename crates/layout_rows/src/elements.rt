@@ -1,11 +1,12 @@
-//! Readers that calls give, and the elements of lists that they read. An element that there isn't is `Unfit`.
+//! Readers that calls return, and the elements of lists that they read. An element that doesn't
+//! exist is `Unfit`.
 
 use crate::parse::Fault;
 use capnp_arena::arena::ReaderArena;
 use capnp_readers::readers::{ListReader, PointerReader, PrimitiveElement, StructReader};
 use capnp_words::wire_pointer::{ElementSize, data_bits_per_element};
 
-/// A reader that a call has given.
+/// A reader that a call has returned.
 #[derive_where(Clone, Copy)]
 pub enum Reader<'a, A: ReaderArena> {
     Pointer(PointerReader<'a, A>),

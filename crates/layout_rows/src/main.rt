@@ -1,5 +1,6 @@
-//! The program `layout_rows`: answers rows of reading and building calls, and audits messages, a line of standard input by a
-//! line of standard output. docs/ROWS.md says what a line holds.
+//! The program `layout_rows`: answers rows of reading and building calls, and audits messages.
+//! Answers each line of standard input with a line of standard output. docs/ROWS.md says what a
+//! line holds.
 #![tactic(auto)]
 
 mod audits;
@@ -30,11 +31,11 @@ enum Command {
     Walk,
     /// A message, and calls that read it.
     Reads,
-    /// A message that is built, and edits of it.
+    /// A message being built, and edits of it.
     Edits,
-    /// A message that is built, and calls that build it.
+    /// A message being built, and calls that build it.
     Builds,
-    /// The segments of a message, which a builder made or not.
+    /// The segments of a message, made by a builder or not.
     Audits,
 }
 
@@ -45,7 +46,7 @@ fn main(rt: HostRuntime) -> ExitCode {
     }
 }
 
-/// Does what the arguments ask for. An error is one of reading, of writing, or want of memory.
+/// Runs the command. Fails if reading or writing does, or memory runs out.
 fn run(rt: &HostRuntime) -> io::Result<ExitCode> {
     match asked(rt)? {
         Some(command) => {
@@ -59,7 +60,7 @@ fn run(rt: &HostRuntime) -> io::Result<ExitCode> {
     }
 }
 
-/// What the only word behind the program's name asks for.
+/// What the only argument asks for.
 fn asked(rt: &HostRuntime) -> io::Result<Option<Command>> {
     let mut words = Vec::new(rt.alloc());
     for word in env::args(rt)?.skip(1) {

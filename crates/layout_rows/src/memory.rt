@@ -1,4 +1,4 @@
-//! The memory of a message that is built, and its words once it is built.
+//! The memory of a message being built, and its words afterwards.
 ghost use Rattle.std.specs.Prelude.{◌≡◌, ◌≤◌, true};
 ghost use Rattle.capnp_arena_traits.specs.Allocations.{max_segment_words};
 
@@ -12,7 +12,7 @@ use capnp_words::error::ErrorKind;
 use layout_vectors::vectors::LimitedAllocator;
 use std::alloc::Global;
 
-/// Which memory a message is built in.
+/// The memory that a message is built in.
 #[derive(Clone, Copy)]
 pub struct Memory {
     words: u32,
@@ -23,9 +23,9 @@ pub struct Memory {
 }
 
 impl Memory {
-    /// Segments of at least `words` words: `segments` of them are granted, or any number where that is `none`. Behind
-    /// a `/` in `words` come the words of a scratch space, if there is one; behind one in `segments` how many rows of
-    /// segments are kept, if not any number.
+    /// Parses the memory: segments of at least `words` words, of which `segments` are granted, or
+    /// any number for `none`. After a `/`, `words` has the words of a scratch space, if there is
+    /// one, and `segments` the number of rows of segments that are kept, if it is limited.
     pub fn new(words: &str, segments: &str) -> Result<Self, Fault> {
         let (words, scratch_words) = match words.split_once('/') {
             Some((words, scratch)) => (words, Some(parse::number(scratch)?)),
@@ -52,7 +52,7 @@ impl Memory {
         }
     }
 
-    /// The allocator where there is no scratch space.
+    /// The allocator without a scratch space.
     pub fn limited(&self, alloc: Global) -> LimitedAllocator<HeapAllocator> {
         let heap = HeapAllocator::new(alloc, self.words);
         LimitedAllocator::new(heap, self.segments, self.rows)
@@ -76,8 +76,9 @@ fn count(text: &str) -> Result<u32, Fault> {
     }
 }
 
-/// A limited allocator over a scratch space, as a type of its own: a function that is generic over allocators can't be
-/// called with a `LimitedAllocator` of one that names a lifetime, since that call would have no generated proof.
+/// A limited allocator over a scratch space, as a type of its own: a function that is generic over
+/// allocators can't be called with a `LimitedAllocator` of one that names a lifetime, since that
+/// call would have no generated proof.
 #[derive(Drop)]
 pub struct LimitedScratch<'a> {
     inner: LimitedAllocator<ScratchSpaceHeapAllocator<'a>>,
@@ -126,7 +127,7 @@ pub fn built<A: Allocator>(alloc: Global, allocator: A) -> Result<BuilderArenaIm
     Ok(arena)
 }
 
-/// Adds the allocated words of each segment in hex digits, parted by commas.
+/// Adds the allocated words of each segment in hex digits, separated by commas.
 pub fn put_words(arena: &impl ReaderArena, out: &mut Output) {
     for id in 0..u32::MAX {
         match arena.get_segment(id) {

@@ -1,10 +1,11 @@
-//! The line that is written, part by part.
+//! The output line, part by part.
 
 use capnp_words::wire_pointer::{ElementSize, PointerType, StructSize};
 use std::alloc::{AllocError, Global};
 use std::fmt::Display;
 
-/// A line so far. Where there is no memory for a part of it, the line is lost, and that is said at its end.
+/// A line so far. If there is no memory for a part of it, the line is lost, which is reported at
+/// its end.
 #[derive(Drop)]
 pub struct Output {
     alloc: Global,
@@ -13,7 +14,7 @@ pub struct Output {
 }
 
 impl Output {
-    /// A line with nothing in it.
+    /// An empty line.
     pub fn new(alloc: Global) -> Self {
         Output {
             alloc,
@@ -39,7 +40,7 @@ impl Output {
         }
     }
 
-    /// Adds a number in decimal digits, or the name of a refusal, with its number where it has one.
+    /// Adds a number in decimal digits, or the name of a refusal, with its number if it has one.
     pub fn put<V: Display + Drop>(&mut self, value: V) {
         match format!(in self.alloc; "{value}") {
             Ok(shown) => self.text(shown.as_str()),
@@ -83,7 +84,7 @@ impl Output {
         }
     }
 
-    /// Adds the size of elements as a number.
+    /// Adds the element size as a number.
     pub fn element_size(&mut self, size: ElementSize) {
         self.text(match size {
             ElementSize::Void => "0",
@@ -97,7 +98,7 @@ impl Output {
         });
     }
 
-    /// Adds what the elements of a list are, each number behind a `/`.
+    /// Adds what the elements of a list are, each number after a `/`.
     pub fn elements(&mut self, size: ElementSize, structs: StructSize) {
         self.text("/");
         self.element_size(size);

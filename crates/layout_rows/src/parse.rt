@@ -1,4 +1,4 @@
-//! The parts of a line: numbers, bytes, segments, sizes.
+//! Parses the parts of a line: numbers, bytes, segments, sizes.
 
 use capnp_words::error::ErrorKind;
 use capnp_words::wire_pointer::ElementSize;
@@ -10,7 +10,8 @@ use std::str::FromStr;
 pub enum Fault {
     /// The line isn't of its command's form.
     Malformed,
-    /// A number is outside of what its type or its call allows, or a call doesn't fit what it is made of.
+    /// A number is out of the range of its type or its call, or a call doesn't fit what it is made
+    /// on.
     Unfit,
     /// The call is made, and refused.
     Refused(ErrorKind),
@@ -36,7 +37,7 @@ impl<T: Drop> From<AllocFailed<T>> for Fault {
     }
 }
 
-/// The words of a line, with one space between.
+/// The words of a line, separated by one space.
 pub fn words(alloc: Global, line: &str) -> Result<Vec<&str>, AllocError> {
     let mut list = Vec::new(alloc);
     for word in line.split(' ') {
@@ -45,7 +46,7 @@ pub fn words(alloc: Global, line: &str) -> Result<Vec<&str>, AllocError> {
     Ok(list)
 }
 
-/// Whether a text is decimal digits, with a `-` before them or not.
+/// Whether a text is decimal digits with an optional `-`.
 pub fn is_number(text: &str) -> bool {
     let bytes = text.as_bytes();
     let digits = match bytes {
@@ -55,7 +56,7 @@ pub fn is_number(text: &str) -> bool {
     !digits.is_empty() && digits.iter().all(|digit| digit.is_ascii_digit())
 }
 
-/// A number in decimal digits. One that its type doesn't have is `Unfit`.
+/// A number in decimal digits; `Unfit` if it is out of its type's range.
 pub fn number<T: FromStr>(text: &str) -> Result<T, Fault>
 where
     T::Err: Drop,
@@ -69,7 +70,7 @@ where
     }
 }
 
-/// Puts a number in decimal digits in the place of another one.
+/// Replaces a number by one in decimal digits.
 pub fn put_number<T: FromStr + Copy>(text: &str, to: &mut T) -> Result<(), Fault>
 where
     T::Err: Drop,
@@ -95,7 +96,7 @@ pub fn limit(text: &str) -> Result<Option<usize>, Fault> {
     Ok(Some(number(text)?))
 }
 
-/// The size of elements, 0 to 7.
+/// The element size, 0 to 7.
 pub fn element_size(text: &str) -> Result<ElementSize, Fault> {
     match number(text)? {
         0u8 => Ok(ElementSize::Void),
@@ -134,7 +135,7 @@ pub fn bytes(alloc: Global, text: &str) -> Result<Vec<u8>, Fault> {
     }
 }
 
-/// Segments of hex digits with a separator between; `-` in place of all is no segment, and `empty` in
+/// Segments of hex digits, separated by `separator`. A single `-` is no segment, and `empty` in
 /// place of one is an empty segment.
 pub fn segments(
     alloc: Global,

@@ -1,4 +1,4 @@
-//! Lines of a message that is read.
+//! Lines of a message being read.
 
 use crate::parse::{self, Fault};
 use crate::{reads, walk};
@@ -9,9 +9,9 @@ use std::alloc::Global;
 /// What is read of a message.
 #[derive(Clone, Copy)]
 pub enum Task {
-    /// All calls are made, in a fixed order.
+    /// All calls, in a fixed order.
     Walk,
-    /// The calls are made that stand in the line.
+    /// The calls in the line.
     Calls,
 }
 
@@ -30,7 +30,7 @@ pub fn answer(alloc: Global, task: Task, line: &str) -> Result<String, Fault> {
     answer_of(alloc, task, slices.as_slice(), options, calls)
 }
 
-/// The answer of a message of segments.
+/// The answer for a message of these segments.
 fn answer_of(
     alloc: Global,
     task: Task,

@@ -1,4 +1,4 @@
-//! Calls that read a message, each made of what an earlier one has given.
+//! Calls that read a message, each made on what an earlier one has returned.
 ghost use Rattle.std.specs.Prelude.{◌<◌, ◌/◌, ◌^◌, length, IfOk, IfSome};
 
 mod calls;
@@ -23,7 +23,7 @@ use std::alloc::Global;
 use std::fmt::Display;
 use std::str::FromStr;
 
-/// The answers to the calls that words are.
+/// The answers to calls, one a word.
 pub fn answer<A: ReaderArena>(
     alloc: Global,
     arena: &A,
@@ -38,7 +38,7 @@ pub fn answer<A: ReaderArena>(
     reading.answer(alloc, arena, calls.as_slice())
 }
 
-/// The limiter of all calls, and what they have answered.
+/// The limiter of all calls, and their answers.
 #[derive(Drop)]
 struct Reading {
     limiter: ReadLimiter,
@@ -75,7 +75,7 @@ impl Reading {
         Ok(out.into_text()?)
     }
 
-    /// What is left of the budget, and how many pointers were followed.
+    /// Adds what is left of the budget, and how many pointers were followed.
     fn limits(&mut self) {
         self.out.text(" ");
         self.out.left(self.limiter.left());
@@ -84,7 +84,7 @@ impl Reading {
         self.out.text(";");
     }
 
-    /// Makes a call, of a reader that is kept if there is one. A reader that it gives isn't shown yet.
+    /// Makes a call, on a kept reader if there is one. A reader that it returns isn't shown yet.
     fn call<'a, A: ReaderArena>(
         &mut self,
         arena: &'a A,
@@ -109,7 +109,7 @@ impl Reading {
         Ok(Some(reader))
     }
 
-    /// Makes a call of a reader that is kept, if there is one.
+    /// Makes a call on a kept reader, if there is one.
     fn call_of<'a, A: ReaderArena>(
         &mut self,
         of: Option<Reader<'a, A>>,
@@ -149,7 +149,7 @@ impl Reading {
         }
     }
 
-    /// Answers the kind of what a pointer leads to, and gives a reader of it.
+    /// Adds the kind of what a pointer leads to, and returns a reader of it.
     fn target<'a, A: ReaderArena>(&mut self, target: Target<'a, A>) -> Option<Reader<'a, A>> {
         match target {
             Target::Struct(found) => {
@@ -169,7 +169,7 @@ impl Reading {
         None
     }
 
-    /// Calls that give no reader, of a pointer.
+    /// Calls on a pointer that return no reader.
     fn ask_pointer<'a, A: ReaderArena>(
         &mut self,
         from: PointerReader<'a, A>,
@@ -222,7 +222,7 @@ impl Reading {
         }
     }
 
-    /// Calls that give no reader, of a struct.
+    /// Calls on a struct that return no reader.
     fn ask_struct<A: ReaderArena>(
         &mut self,
         from: StructReader<'_, A>,
@@ -292,7 +292,7 @@ impl Reading {
         self.used(data, pointers);
     }
 
-    /// What a test for canonical form says, and where it has come to.
+    /// Adds the answer of a test for canonical form, and its head.
     fn tested(&mut self, tested: Result<bool, ErrorKind>, head: u32) {
         match tested {
             Ok(yes) => self.out.flag(yes),
@@ -301,7 +301,7 @@ impl Reading {
         self.out.slash(head);
     }
 
-    /// Whether the last words of both sections are used.
+    /// Adds whether the last words of both sections are used.
     fn used(&mut self, data: bool, pointers: bool) {
         self.out.text("/");
         self.out.flag(data);
@@ -326,7 +326,7 @@ impl Reading {
         }
     }
 
-    /// Calls that give no reader, of a list.
+    /// Calls on a list that return no reader.
     fn ask_list<A: ReaderArena>(
         &mut self,
         from: ListReader<'_, A>,
@@ -382,7 +382,7 @@ impl Reading {
         }
     }
 
-    /// A field of a struct, under a mask if there is one, or an element of a list.
+    /// A field of a struct, with a mask if there is one, or an element of a list.
     fn number_as<
         T: Primitive + Zero + Mask<T = T> + PrimitiveElement + FromStr + Display + Drop,
         A: ReaderArena,
@@ -444,7 +444,7 @@ impl Reading {
     }
 }
 
-/// The pointer at a place, where there is a word.
+/// The pointer at a place, if there is a word.
 fn reader_at<'a, A: ReaderArena>(
     arena: &'a A,
     values: &Values<'_>,
@@ -470,7 +470,7 @@ fn from_default<'a, A: ReaderArena>(call: &'a Call) -> Result<PointerReader<'a, 
     }
 }
 
-/// The bytes of a call's default, if it has one. One of too many words is `Unfit`.
+/// The bytes of a call's default, if it has one; `Unfit` if it has too many words.
 fn default_of<'a>(call: &'a Call) -> Result<Option<&'a [u8]>, Fault>
     ensures { IfOk result (λ default. IfSome default (λ bytes. length bytes.now / 8 < 2 ^ 32)) }
 {

@@ -1,13 +1,13 @@
-//! Another message, which is copied from.
+//! Another message, to copy from.
 
 use crate::parse::{self, Fault};
 use capnp_arena::arena::ReaderOptions;
 use std::alloc::Global;
 
-/// Another message as three arguments of a call have it.
+/// Another message as three arguments of a call.
 #[derive(Clone, Copy)]
 pub struct SourceText<'a> {
-    /// The segments of the message in hex digits, with slashes between.
+    /// The segments of the message in hex digits, separated by slashes.
     pub segments: &'a str,
     /// How much of the message may be read.
     pub options: ReaderOptions,
@@ -20,7 +20,7 @@ impl SourceText<'_> {
     }
 }
 
-/// Whether a text is segments with slashes between, each `.` or bytes.
+/// Whether a text is segments separated by slashes, each `.` or bytes.
 pub fn are_segments(text: &str) -> bool {
     text.split('/')
         .all(|part| part == "." || parse::is_hex(part))

@@ -16,7 +16,7 @@ pub enum NumberType {
     I64,
 }
 
-/// The type of an element that is no struct and no pointer.
+/// The type of an element that is neither a struct nor a pointer.
 #[derive(Clone, Copy)]
 pub enum ElementType {
     Void,
@@ -24,7 +24,7 @@ pub enum ElementType {
     Number(NumberType),
 }
 
-/// The type of elements of a name.
+/// The element type of this name.
 pub fn element_type(name: &str) -> Result<ElementType, Fault> {
     match name {
         "void" => Ok(ElementType::Void),
@@ -41,7 +41,7 @@ pub fn element_type(name: &str) -> Result<ElementType, Fault> {
     }
 }
 
-/// The mask that decimal digits are, where they aren't missing.
+/// The mask in decimal digits, if there are any.
 pub fn mask_of<M: FromStr>(digits: Option<&str>) -> Result<Option<M>, Fault>
 where
     M::Err: Drop,
@@ -52,7 +52,7 @@ where
     }
 }
 
-/// Yes or no, where that isn't missing.
+/// Yes or no, if there is one.
 pub fn flag_of(digits: Option<&str>) -> Result<Option<bool>, Fault> {
     match digits {
         Some(digits) => Ok(Some(parse::flag(digits)?)),

@@ -39,7 +39,7 @@ const STRUCT: [u8; 32] = [
 /// A default whose root is a list of two structs of a word each.
 #[rattlefmt::skip]
 const STRUCTS: [u8; 32] = [
-    1, 0, 0, 0, 0x17, 0, 0, 0, // the root: structs in two words behind their tag
+    1, 0, 0, 0, 0x17, 0, 0, 0, // the root: structs in two words after their tag
     8, 0, 0, 0, 1, 0, 0, 0, // the tag: two structs, one word of data
     1, 0, 0, 0, 0, 0, 0, 0, // the first
     0, 0xff, 0, 0, 0, 0, 0, 0, // the second
@@ -49,7 +49,7 @@ const STRUCTS: [u8; 32] = [
 #[rattlefmt::skip]
 const BYTES: [u8; 16] = [
     1, 0, 0, 0, 0x22, 0, 0, 0, // the root: four bytes at the next word
-    0x61, 0x62, 0x63, 0, 0xff, 0, 0, 0, // the bytes, and one behind them
+    0x61, 0x62, 0x63, 0, 0xff, 0, 0, 0, // the bytes, and one after them
 ];
 
 /// A default whose root is null.
@@ -70,7 +70,7 @@ pub fn answer<A: ReaderArena>(
     out.into_text()
 }
 
-/// The limiter of all calls, and what they have answered.
+/// The limiter of all calls, and their answers.
 #[derive(Drop)]
 struct Walk {
     limiter: ReadLimiter,
@@ -93,7 +93,7 @@ impl Walk {
         }
     }
 
-    /// All calls at a pointer, and below it so many levels down.
+    /// All calls on a pointer, and `below` levels down from it.
     #[cycle(levels)]
     fn pointer<A: ReaderArena>(&mut self, from: PointerReader<'_, A>, below: u32) {
         self.out.text("[");
@@ -109,7 +109,8 @@ impl Walk {
         self.out.text("]");
     }
 
-    /// The list of some size of elements, and the pointers of its first elements so many levels down.
+    /// The list with elements of some size, and the pointers of its first elements, `below` levels
+    /// down.
     #[cycle(levels)]
     fn list<A: ReaderArena>(&mut self, from: PointerReader<'_, A>, size: ElementSize, below: u32) {
         match from.get_list(&mut self.limiter, size, None) {
@@ -137,7 +138,7 @@ impl Walk {
         }
     }
 
-    /// The struct, and its first pointers so many levels down.
+    /// The struct, and its first pointers, `below` levels down.
     #[cycle(levels)]
     fn structure<A: ReaderArena>(&mut self, from: PointerReader<'_, A>, below: u32) {
         match from.get_struct(&mut self.limiter, None) {
@@ -173,7 +174,7 @@ impl Walk {
         self.out.text(";");
     }
 
-    /// How many words and capabilities there are.
+    /// The number of words and capabilities.
     fn size(&mut self, size: Result<MessageSize, ErrorKind>) {
         match size {
             Ok(size) => {
@@ -202,7 +203,7 @@ impl Walk {
         self.out.text(";");
     }
 
-    /// The calls at a pointer that give no reader.
+    /// The calls on a pointer that return no reader.
     fn plain<A: ReaderArena>(&mut self, from: PointerReader<'_, A>) {
         let found = from.get_pointer_type(&mut self.limiter);
         self.pointer_type(found);
@@ -215,7 +216,7 @@ impl Walk {
         self.size(size);
     }
 
-    /// The calls with defaults, at a null pointer.
+    /// The calls with defaults, on a null pointer.
     fn defaults<A: ReaderArena>(&mut self, from: PointerReader<'_, A>) {
         self.default(from, &STRUCT);
         self.default(from, &STRUCTS);
@@ -263,7 +264,7 @@ impl Walk {
         self.out.text(";");
     }
 
-    /// How many elements a list has, and how wide they are.
+    /// The number of elements of a list, and their size.
     fn length<A: ReaderArena>(&mut self, list: &ListReader<'_, A>) {
         self.out.put(list.len());
         self.out.text(" ");
@@ -330,7 +331,7 @@ impl Walk {
         }
     }
 
-    /// The data of a struct, and how many pointers it has.
+    /// The data of a struct, and its number of pointers.
     fn sections<A: ReaderArena>(&mut self, found: StructReader<'_, A>) {
         self.out.hex(found.data_bytes());
         self.out.slash(found.pointer_count());
@@ -364,7 +365,8 @@ impl Walk {
     }
 }
 
-/// The pointer of an element from which the walk goes on, if the list is read as one of pointers or structs.
+/// The pointer of an element from which the walk goes on, if the list is read as one of pointers or
+/// structs.
 fn child_of<'a, A: ReaderArena>(
     list: &ListReader<'a, A>,
     size: ElementSize,

@@ -1,4 +1,5 @@
-//! A message of many segments, which is written as a frame, read back from it and made canonical, while memory is scarce.
+//! A message of many segments, written as a frame, read back from it and made canonical, while
+//! memory is scarce.
 ghost use Rattle.std.specs.Prelude.{◌≡◌, false};
 ghost use Rattle.capnp_arena_traits.specs.Limits.{IsSmall};
 
@@ -16,9 +17,10 @@ use std::alloc::{AllocError, Global};
 /// How many words may be read.
 const BUDGET: usize = 1 << 23;
 
-/// The answer to a line: how many pointers of a list were set, each to so many bytes; how many requests were refused;
-/// what became of the frame that is written, of those bytes read in place, and read as an input, and of the canonical copy
-/// of what was read; how many words may still be read then; and both frames. So many bytes are held until all is done.
+/// The answer to a line: how many pointers of a list were set, each to `size` bytes; how many
+/// requests were refused; the outcomes of writing the frame, of reading it in place, of reading it
+/// as an input, and of the canonical copy of what was read; how many words may still be read then;
+/// and both frames. Holds `held` bytes until all is done.
 pub fn answer(alloc: Global, count: u32, size: usize, held: usize) -> Result<String, AllocError> {
     let held = Vec::from_elem(alloc, 0u8, held)?;
     let mut data = Vec::from_elem(alloc, 0u8, size)?;
@@ -39,8 +41,8 @@ pub fn answer(alloc: Global, count: u32, size: usize, held: usize) -> Result<Str
     Ok(text)
 }
 
-/// Writes a message as a frame, reads it back where it stands and as an input, and makes a canonical copy of what was read:
-/// what becomes of each, `-` where it isn't tried.
+/// Writes a message as a frame, reads it back in place and as an input, and makes a canonical copy
+/// of what was read. Returns the outcome of each, `-` if it wasn't tried.
 fn steps(
     alloc: Global,
     arena: &BuilderArenaImpl<HeapAllocator>,
@@ -73,7 +75,8 @@ fn written(arena: &BuilderArenaImpl<HeapAllocator>, to: &mut MemoryOutput) -> &'
     }
 }
 
-/// Reads a frame where it stands: `ok`, `other` where it isn't that of a message, or the name of the refusal.
+/// Reads a frame in place: `ok`, `other` if it isn't that of the message, or the name of the
+/// refusal.
 fn read_in_place(arena: &BuilderArenaImpl<HeapAllocator>, frame: &[u8]) -> &'static str {
     match read_from_flat_slice(frame, BUDGET as u64) {
         Ok(Some(found)) => compared(&found, arena),
@@ -103,7 +106,7 @@ fn read_and_copied(
     }
 }
 
-/// `ok` where segments are those of a message, else `other`.
+/// `ok` if the segments are those of the message, otherwise `other`.
 fn compared<S: ReaderSegments>(found: &S, arena: &BuilderArenaImpl<HeapAllocator>) -> &'static str {
     if are_all(found, arena) { "ok" } else { "other" }
 }

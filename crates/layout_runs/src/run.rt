@@ -16,8 +16,8 @@ enum Asked<'l> {
     Run(Run<'l>),
     /// A message of a list of so many pointers, while so many bytes are held.
     Segments(u32, usize),
-    /// A message of a list of so many pointers to so many bytes each, written as a frame, while so many
-    /// bytes are held.
+    /// A message of a list of so many pointers to so many bytes each, written as a frame, while so
+    /// many bytes are held.
     Framed(u32, usize, usize),
 }
 
@@ -31,7 +31,7 @@ struct Run<'l> {
     writes: Strain,
     /// How many requests for memory are granted.
     requests: u64,
-    /// The lines of the input, parted by commas.
+    /// The lines of the input, separated by commas.
     input: &'l str,
 }
 
@@ -45,7 +45,7 @@ pub fn answer(alloc: Global, line: &str) -> Result<String, AllocError> {
     }
 }
 
-/// What a line asks for, if it has the form.
+/// What a line asks for, if it has the right form.
 fn read_line(alloc: Global, line: &str) -> Result<Option<Asked<'_>>, AllocError> {
     let mut words = Vec::new(alloc);
     for word in line.split(' ') {
@@ -62,7 +62,7 @@ fn read_line(alloc: Global, line: &str) -> Result<Option<Asked<'_>>, AllocError>
     }
 }
 
-/// The two numbers of a message of many segments.
+/// Parses the two numbers of a message of many segments.
 fn read_segments<'l>(count: &str, held: &str) -> Option<Asked<'l>> {
     match (count.parse(), held.parse()) {
         (Ok(count), Ok(held)) => Some(Asked::Segments(count, held)),
@@ -70,7 +70,7 @@ fn read_segments<'l>(count: &str, held: &str) -> Option<Asked<'l>> {
     }
 }
 
-/// The three numbers of a message that is written as a frame.
+/// Parses the three numbers of a message that is written as a frame.
 fn read_framed<'l>(count: &str, size: &str, held: &str) -> Option<Asked<'l>> {
     match (count.parse(), size.parse(), held.parse()) {
         (Ok(count), Ok(size), Ok(held)) => Some(Asked::Framed(count, size, held)),
@@ -78,7 +78,7 @@ fn read_framed<'l>(count: &str, size: &str, held: &str) -> Option<Asked<'l>> {
     }
 }
 
-/// The run of these words.
+/// Parses a run.
 fn read_run<'l>(
     alloc: Global,
     args: &str,
@@ -101,12 +101,12 @@ fn read_run<'l>(
     })
 }
 
-/// So many calls succeed, of a byte each.
+/// The first `calls` calls succeed, of a byte each.
 fn by_bytes(calls: u64) -> Strain {
     Strain { calls, most: 1 }
 }
 
-/// The bytes of an input: its lines, each with its end. `-` is none.
+/// The bytes of an input: its lines, each with its line feed. `-` is none.
 fn input_of(alloc: Global, text: &str) -> Result<String, AllocError> {
     let mut lines = String::new(alloc);
     if text != "-" {
@@ -118,7 +118,7 @@ fn input_of(alloc: Global, text: &str) -> Result<String, AllocError> {
     Ok(lines)
 }
 
-/// Makes a run, and says how it ends, how many requests were refused, and what was written.
+/// Makes a run, and returns how it ends, how many requests were refused, and what was written.
 fn run_once(alloc: Global, run: &Run<'_>) -> Result<String, AllocError> {
     let lines = input_of(alloc, run.input)?;
     let returned = Cell::new(0);
@@ -139,7 +139,7 @@ fn run_once(alloc: Global, run: &Run<'_>) -> Result<String, AllocError> {
     Ok(text)
 }
 
-/// Adds what was written, with `/` for the end of a line; `-` where that is nothing.
+/// Appends what was written, with `/` for a line feed; `-` if that is nothing.
 fn put_written(bytes: &[u8], text: &mut String) -> Result<(), AllocError> {
     if bytes.is_empty() {
         return text.push('-');

@@ -1,4 +1,4 @@
-//! A message of many segments, which is built and whose segments are asked for, while memory is scarce.
+//! A message of many segments, built and its output requested, while memory is scarce.
 
 use capnp_layout::arena::{
     BuilderArena, BuilderArenaImpl, HeapAllocator, ReaderArena, ReaderSegments,
@@ -9,7 +9,8 @@ use capnp_layout::wire_pointer::ElementSize;
 use std::alloc::{AllocError, Global};
 
 /// The answer to a line: how many pointers of a list were set, how many requests were refused, what
-/// `get_segments_for_output` answered, and the words of the message. So many bytes are held until it has answered.
+/// `get_segments_for_output` answered, and the words of the message. Holds `held` bytes until it
+/// has answered.
 pub fn answer(alloc: Global, count: u32, held: usize) -> Result<String, AllocError> {
     let held = Vec::from_elem(alloc, 0u8, held)?;
     let mut arena = BuilderArenaImpl::new(alloc, HeapAllocator::new(alloc, 1));
@@ -22,8 +23,9 @@ pub fn answer(alloc: Global, count: u32, held: usize) -> Result<String, AllocErr
     Ok(text)
 }
 
-/// Makes a list of so many pointers, and sets them to these data, whose first eight bytes are made their number,
-/// until one is refused. Gives how many were set. Each object has a segment of its own.
+/// Makes a list of `count` pointers, and sets them to data, whose first eight bytes are replaced by
+/// the pointer's number, until one is refused. Returns how many were set. Each object has a segment
+/// of its own.
 pub fn build(arena: &mut BuilderArenaImpl<HeapAllocator>, count: u32, data: &mut [u8]) -> u32 {
     if arena.allocate_segment(1).is_err() {
         return 0;
@@ -43,17 +45,18 @@ pub fn build(arena: &mut BuilderArenaImpl<HeapAllocator>, count: u32, data: &mut
     count
 }
 
-/// Sets an element of the list that the root leads to. Whether it was done.
+/// Sets an element of the list that the root leads to. Returns whether that succeeded.
 fn set_element(arena: &mut BuilderArenaImpl<HeapAllocator>, index: u32, bytes: &[u8]) -> bool {
     edit(arena, &[Step::Element(index)], Op::SetData(bytes))
 }
 
-/// Does an operation at the end of a path. Whether it was done.
+/// Applies an operation at the end of a path. Returns whether that succeeded.
 fn edit(arena: &mut BuilderArenaImpl<HeapAllocator>, path: &[Step], op: Op<'_>) -> bool {
     apply(arena, &Edit { path, op }).is_ok()
 }
 
-/// What `get_segments_for_output` answers: `ok` and the segments of the message, something else, or a refusal.
+/// What `get_segments_for_output` answers: `ok` for the segments of the message, something else, or
+/// a refusal.
 fn output_of(arena: &BuilderArenaImpl<HeapAllocator>) -> &'static str {
     match arena.get_segments_for_output() {
         Ok(output) => {
@@ -68,7 +71,7 @@ fn output_of(arena: &BuilderArenaImpl<HeapAllocator>) -> &'static str {
     }
 }
 
-/// Whether these are the segments of a message.
+/// Whether these are the segments of the message.
 pub fn are_all<S: ReaderSegments>(found: &S, arena: &BuilderArenaImpl<HeapAllocator>) -> bool {
     for id in 0..u32::MAX {
         match (found.get_segment(id), arena.get_segment(id)) {
@@ -84,7 +87,7 @@ pub fn are_all<S: ReaderSegments>(found: &S, arena: &BuilderArenaImpl<HeapAlloca
     false
 }
 
-/// Adds the words of each segment in hex digits, parted by commas.
+/// Appends the words of each segment in hex digits, separated by commas.
 fn put_words(
     alloc: Global,
     arena: &BuilderArenaImpl<HeapAllocator>,

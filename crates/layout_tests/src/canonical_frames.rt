@@ -1,4 +1,4 @@
-//! Values that are written as canonical frames.
+//! Values written as canonical frames.
 use capnp_layout::arena::ReaderOptions;
 use capnp_layout::devices::MemoryOutput;
 use capnp_layout::error::ErrorKind;
@@ -8,13 +8,14 @@ use capnp_layout::readers::PointerReader;
 use std::process::Abort;
 use test_support::arena_of;
 
-/// Eight words that make 23: three structs of two pointers, each of which leads to the next one twice, and
-/// the last one to the number 9.
+/// Eight words that become 23: three structs of two pointers, each of which leads to the next
+/// struct twice, and the last one to the number 9.
 const DOUBLED: &str =
     "0000000000000200 0400000000000200 0000000000000200 0400000000000200 0000000000000200 0400000001000000 0000000001000000 0900000000000000";
 
-/// A struct of two words of data, and a value that takes several tries, are each written as one frame, and
-/// charged and counted once. Where the limiter doesn't cover the copy nothing is written, charged or counted.
+/// A struct of two words of data, and a value that takes several tries, are each written as one
+/// frame, and charged and counted once. If the limiter doesn't cover the copy, nothing is written,
+/// charged or counted.
 #[test]
 fn frames(rt: HostRuntime) {
     let two = "0000000002000000 1111111111111111 0000000000000080";

@@ -1,6 +1,6 @@
-//! Tests of capnp_layout, by its public calls: its devices, the names that it gives the crates below, whole messages,
-//! what a run asks for, and what canonical frames are charged. What its engine answers else, also where memory or a
-//! device fails, runs of programs show.
+//! Tests of capnp_layout, by its public calls: its devices, its names for the crates below, whole
+//! messages, what a run requests, and what canonical frames are charged. Runs of programs show its
+//! engine's other answers, also if memory or a device fails.
 #![tactic(auto)]
 
 #[cfg(test)]

@@ -1,5 +1,5 @@
 //! The names that no other test here uses: devices over readers and writers, and the crates below
-//! under the names that this one gives them.
+//! under their names in this one.
 use capnp_layout::devices::{
     DeviceFault, Input, MemoryInput, MemoryOutput, Output, ReaderInput, WriterOutput, write_all,
 };

@@ -1,5 +1,5 @@
-//! What a run asks its allocator for: rows for the input, and for canonical words a segment and its row
-//! at each try.
+//! What a run requests from its allocator: rows for the input, and for canonical words a segment
+//! and its row at each try.
 use capnp_layout::arena::{HeapAllocator, ReaderOptions};
 use capnp_layout::devices::{MemoryInput, MemoryOutput};
 use capnp_layout::tool::{Args, Outcome, run_with};
@@ -9,15 +9,16 @@ use test_support::{NotingAllocator, Request};
 /// One word: a null pointer. Its canonical words are as many.
 const NULL: &[u8] = b"0000000000000000\n";
 
-/// Eight words that make 23: three structs of two pointers, each of which leads to the next one twice,
-/// and the last one to the number 9.
+/// Eight words that become 23: three structs of two pointers, each of which leads to the next
+/// struct twice, and the last one to the number 9.
 const DOUBLED: &[u8] =
     b"00000000000002000400000000000200000000000000020004000000000002000000000000000200040000000100000000000000010000000900000000000000\n";
 
-/// One word: a pointer to a struct of one word, behind the end of the segment.
+/// One word: a pointer to a struct of one word, after the end of the segment.
 const BEYOND: &[u8] = b"0000000001000000\n";
 
-/// What an allocator is asked for, behind the input's rows, where these are the rooms of the tries.
+/// The requests to an allocator, after those for the input's rows, if these are the rooms of the
+/// tries.
 fn asked(alloc: Global, rooms: &[u32]) -> Result<Vec<Request>, AllocError> {
     let mut requests = Vec::new(alloc);
     for room in rooms {
@@ -27,9 +28,9 @@ fn asked(alloc: Global, rooms: &[u32]) -> Result<Vec<Request>, AllocError> {
     Ok(requests)
 }
 
-/// The first try asks for the words of the input and one more, each further one for twice as many as
-/// the one before, and nothing else is asked for: no segment for a check, a size or a frame. A message
-/// that can't be read is asked for once.
+/// The first try requests the words of the input plus one, each further one twice as many as the
+/// one before, and nothing else is requested: no segment for a check, a size or a frame. For a
+/// message that can't be read there is one request.
 #[test]
 fn rooms(rt: HostRuntime) -> Result<(), AllocError> {
     let options = ReaderOptions::default();

@@ -1,4 +1,5 @@
-//! Whole messages by calls that no row makes: the root, canonical copies and the test for them, and words without a frame.
+//! Whole messages by calls that no row makes: the root, canonical copies and the test for them, and
+//! words without a frame.
 use capnp_layout::arena::{
     Allocator, BuilderArenaImpl, HeapAllocator, OutputSegments, ReaderOptions, ReaderSegments,
 };
@@ -12,7 +13,7 @@ use capnp_layout::read_limiter::ReadLimiter;
 use std::process::Abort;
 use test_support::{arena_of, bytes_of};
 
-/// A struct of three words, the last of which is zero, and a word behind it.
+/// A struct of three words, the last of which is zero, followed by a word.
 const LONG: &str = "0000000003000000 1111111111111111 0000000000000080 0000000000000000";
 
 /// The canonical words of the same value.
@@ -26,7 +27,7 @@ fn has_only<A: Allocator>(made: &BuilderArenaImpl<A>, words: &[u8]) -> bool {
     }
 }
 
-/// A copy is charged once, the words of its source.
+/// A copy is charged once, for the words of its source.
 #[test]
 fn copies(rt: HostRuntime) {
     let source = arena_of(rt.alloc(), LONG, ReaderOptions::default()).expect(&rt, "a message");
@@ -42,7 +43,7 @@ fn copies(rt: HostRuntime) {
     }
 }
 
-/// The root costs a word, what it leads to its own words, and several segments nothing.
+/// The root costs a word, its struct its own words, and a message of several segments nothing.
 #[test]
 fn canonical_messages(rt: HostRuntime) {
     let unread = "0000000000000000,0000000000000000";
@@ -58,7 +59,8 @@ fn canonical_messages(rt: HostRuntime) {
     }
 }
 
-/// Two words are the only segment; where one may be read they are too many, and half a word is cut short.
+/// Two words are the only segment; if one may be read they are too many, and half a word is cut
+/// short.
 #[test]
 fn words_without_a_frame(rt: HostRuntime) {
     let bytes = [7u8; 20];

@@ -1,7 +1,8 @@
-//! The program `layout_tool`: what a message says in canonical form, whether it is in that form, or how
-//! large it is; and its frame, the segments of one, and whether a framed message is canonical. Its
-//! arguments are `frame`, `unframe`, or `canon`, `check`, `size`, `framed-canon` or `framed-check` and
-//! then `NESTING BUDGET`; its input is lines of hex digits, each of them a segment, or one line a frame.
+//! The program `layout_tool`: writes the canonical form of a message, says whether it is in that
+//! form, or how large it is; and writes its frame, the segments of one, and whether a framed
+//! message is canonical. Its arguments are `frame`, `unframe`, or `canon`, `check`, `size`,
+//! `framed-canon` or `framed-check` followed by `NESTING BUDGET`. Its input is lines of hex digits,
+//! each a segment, or one line with a frame.
 #![tactic(auto)]
 
 use capnp_layout::devices::{ReaderInput, WriterOutput};
@@ -19,8 +20,8 @@ fn main(rt: HostRuntime) -> ExitCode {
     }
 }
 
-/// Runs the tool as its arguments say. An error is want of memory for the arguments or the output's
-/// buffer; nothing is written then.
+/// Runs the tool. Fails only if there is no memory for the arguments or the output's buffer, and
+/// then writes nothing.
 fn answer(rt: &HostRuntime) -> Result<ExitCode, AllocError> {
     let Some(args) = arguments(rt)? else {
         return Ok(complain(rt, "bad arguments"));
@@ -33,7 +34,7 @@ fn answer(rt: &HostRuntime) -> Result<ExitCode, AllocError> {
     })
 }
 
-/// What the words behind the program's name ask for.
+/// What the arguments ask for.
 fn arguments(rt: &HostRuntime) -> Result<Option<Args>, AllocError> {
     let given = match env::args(rt) {
         Ok(given) => given,
@@ -69,7 +70,7 @@ fn refuse(rt: &HostRuntime, kind: ErrorKind) -> ExitCode {
     }
 }
 
-/// Says what is wrong, where it can be said.
+/// Reports `text` on standard error, if possible.
 fn complain(rt: &HostRuntime, text: &str) -> ExitCode {
     let _ = eprintln!(rt; "{text}");
     ExitCode::from(2)

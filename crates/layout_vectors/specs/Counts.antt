@@ -1,4 +1,4 @@
--- What is reached from places that are still to be looked at, counted word by word.
+-- What is reached from places that are still to be visited, counted word by word.
 use Rattle.std.specs.Prelude.{◌≡◌, ℕ, ◌+◌, ◌*◌, ◌≤◌, List, [], ◌∷◌, length, ⊤}
 use Rattle.capnp_format.specs.Word.{kind, data_words, pointer_count, element_size, list_count}
 use Rattle.capnp_format.specs.Word.{capability_word}
@@ -18,19 +18,19 @@ Counting = ℕ → ℕ → ℕ
 abbrev pub plus : Counting → Counting → Counting
 plus M N u q = M u q + N u q
 
--- A place means a value, and below it all is tidy.
+-- The word at (s, p) means t, and everything below it is tidy.
 pub record MeansTidily (S : Segments) (s p : ℕ) (t : Tree) : Type 0 where
   pub means : (n : ℕ) × (c : ℕ) × Means S n s p t c
   pub tidy : IsTidy S s p t
 
--- F is M and what is reached from these places, for some values that they mean.
+-- F is M plus what is reached from these places, for some values that they mean.
 abbrev pub Counts : Segments → Counting → List Spot → Counting → Type 0
 Counts S M [] F = (u q : ℕ) → F u q ≡ M u q
 Counts S M (j ∷ J) F = (t : Tree) × MeansTidily S j.segment j.at t ×
     Counts S (plus M (times (cover S j.segment j.at t))) J F
 
--- Pointers one behind the other mean values, and below them all is tidy; of the pointers of
--- elements the same.
+-- Consecutive pointers mean values, and everything below them is tidy; the same for the pointers of
+-- elements.
 abbrev pub AreRead : Segments → ℕ → ℕ → Trees → Type 0
 AreRead S s p no_trees = ⊤
 AreRead S s p (tree t ts) = MeansTidily S s p t × AreRead S s (p + 1) ts
@@ -41,7 +41,7 @@ AreElementsRead S s p d q (element ws ts es) =
     (length ws ≡ d) × (count ts ≡ q) × HasWords S s p ws × AreRead S s (p + d) ts ×
     AreElementsRead S s (p + d + q) d q es
 
--- Where the target a leads, a value stands, and all is tidy.
+-- The target a leads to an object with the value t, and everything is tidy.
 abbrev pub IsTidyObject : Segments → Target → Tree → Type 0
 IsTidyObject S a Null = ⊥
 IsTidyObject S a (Capability i) = a.word ≡ capability_word i
@@ -63,11 +63,11 @@ IsTidyObject S a (Structs d q es) =
     × IsTag (word_at S a.segment a.start) (element_count es) d q ×
     AreElementsRead S a.segment (a.start + 1) d q es
 
--- F is M, and what is reached from an object where a leads, and from these places.
+-- F is M plus what is reached from an object at the target a, and from these places.
 abbrev pub ObjectCounts : Segments → Target → Counting → List Spot → Counting → Type 0
 ObjectCounts S a M J F =
     (t : Tree) × IsTidyObject S a t × Counts S (plus M (times (object_cover S a t))) J F
 
--- No word is held more often than once.
+-- No word is held more than once.
 abbrev pub IsOnce : Counting → Type 0
 IsOnce F = (u q : ℕ) → F u q ≤ 1

@@ -1,5 +1,5 @@
--- Marks of words that are taken: for each segment a row of numbers, one for each word, of which
--- those that aren't 0 are taken.
+-- Marks of words that are taken: for each segment a row of numbers, one for each word. A word is
+-- taken if its number isn't 0.
 use Rattle.std.specs.Prelude.{◌≡◌, ◌≢◌, ℕ, ◌+◌, ◌<◌, ◌≤◌, count_by, nat_eq, sum_by, Bool, true}
 use Rattle.std.specs.Prelude.{false, List, [], ◌∷◌, length, map, slice_index, vec_items}
 use Rattle.capnp_format.specs.Segments.{Segments, segment, word_at}
@@ -11,38 +11,38 @@ use Rattle.layout_vectors.specs.declared.vectors.marks.Marks.{Marks}
 abbrev pub rows_of : Marks → Segments
 rows_of m = map vec_items m.rows.items
 
--- None of the n words of a row from a position on is taken; or one is.
+-- None of the n words of a row from position p on is taken; or one is.
 abbrev pub AreFreeWithin : List ℕ → ℕ → ℕ → Type 0
 AreFreeWithin xs p n = (q : ℕ) → p ≤ q → q < p + n → slice_index xs q ≡ 0
 
 abbrev pub IsMarkedWithin : List ℕ → ℕ → ℕ → Type 0
 IsMarkedWithin xs p n = (q : ℕ) × (p ≤ q) × (q < p + n) × (slice_index xs q ≢ 0)
 
--- How many words are free.
+-- The number of words that are free.
 abbrev pub free : Segments → ℕ
 free M = sum_by (λ marks. count_by (λ mark. nat_eq mark 0) marks) M
 
--- From M to N as many words are marked, of as many segments, and none more often than once; and so
--- many more may be.
+-- From M to N the rows stay as many and as long; if no word of M is taken more than once, none of N
+-- is.
 pub record KeepsRows (M N : Segments) : Type 0 where
   pub segments : length N ≡ length M
   pub words : (u : ℕ) → length (segment N u) ≡ length (segment M u)
   pub once : IsOnce (word_at M) → IsOnce (word_at N)
 
--- From M to N the n words from a place on are taken, of which none was.
+-- From M to N the n words from (s, p) on are taken, of which none was.
 pub record TakesRow (M N : Segments) (s p n : ℕ) : Type 0 where
   pub keeps : KeepsRows M N
   pub marks : (u q : ℕ) → word_at N u q ≡ word_at M u q + times (row s p n ∷ []) u q
   pub fewer : free N + n ≡ free M
 
--- From M to N words are taken, each as often as this says.
+-- From M to N words are taken, each as often as `is` says.
 pub record TakesEach (M N : Segments) (is : ℕ → ℕ → ℕ) : Type 0 where
   pub keeps : KeepsRows M N
   pub marks : (u q : ℕ) → word_at N u q ≡ word_at M u q + is u q
   pub fewer : free N ≤ free M
 
--- The landing pads of the word x are taken from M to N, if it is a far pointer; or they aren't
--- there, or one of their words is taken already.
+-- From M to N the landing pads of the word x are taken, if it is a far pointer. Or (`false`) they
+-- aren't in the message, or one of their words is taken already.
 abbrev pub TakesPads : Segments → Segments → ℕ → Bool → Type 0
 TakesPads M N x true = TakesEach M N (times (pads_of x))
 TakesPads M N x false =

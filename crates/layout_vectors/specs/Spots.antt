@@ -1,4 +1,4 @@
--- The places of pointers one behind the other, and of those of elements one behind the other.
+-- The places of consecutive pointers, and of the pointers of consecutive elements.
 use Rattle.std.specs.Prelude.{ℕ, zero, suc, ◌+◌, List, [], ◌∷◌, ◌++◌}
 use Rattle.layout_vectors.specs.declared.vectors.pending.Spot.{Spot}
 

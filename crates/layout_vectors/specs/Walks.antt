@@ -1,4 +1,4 @@
--- What a step of the walk over a message does: each word that is reached is marked once.
+-- What a step of the walk over a message does: it marks each word that is reached once.
 use Rattle.std.specs.Prelude.{◌≡◌, ℕ, ◌+◌, ◌^◌, ◌<◌, ◌≤◌, ◌↔◌, List, ◌∷◌, length, Bool, true, false}
 use Rattle.std.specs.Global.{Vec}
 use Rattle.capnp_format.specs.Segments.{Segments, segment, word_at, Target}
@@ -7,7 +7,7 @@ use Rattle.layout_vectors.specs.Marks.{rows_of, free, KeepsRows}
 use Rattle.layout_vectors.specs.declared.vectors.marks.Marks.{Marks}
 use Rattle.layout_vectors.specs.declared.vectors.pending.Spot.{Spot}
 
--- The words that are marked, and the places that are still to be looked at.
+-- The words that are marked, and the places that are still to be visited.
 pub record Walk : Type 0 where
   pub marks : Segments
   pub pending : List Spot
@@ -15,30 +15,30 @@ pub record Walk : Type 0 where
 abbrev pub walk : Marks → Vec Spot → Walk
 walk m pending = record { marks = rows_of m; pending = pending.items }
 
--- There is a mark for each word of a message, of fewer than 2^32 segments.
+-- M has a mark for each word of S, which has fewer than 2^32 segments of fewer than 2^32 words.
 pub record FitsRows (S M : Segments) : Type 0 where
   pub few : length S < 2 ^ 32
   pub small : (u : ℕ) → length (segment S u) < 2 ^ 32
   pub segments : length M ≡ length S
   pub words : (u : ℕ) → length (segment M u) ≡ length (segment S u)
 
--- From w to v marks are only set, at least one for each place more.
+-- From w to v marks are only set: at least one for each added place.
 pub record Proceeds (w v : Walk) : Type 0 where
   pub keeps : KeepsRows w.marks v.marks
   pub fewer : free v.marks + length v.pending ≤ free w.marks + length w.pending
 
--- From w to v the object where a leads is taken: what is counted with it before is what is counted
--- without it afterwards.
+-- From w to v the object at the target a is taken: what is counted with it before is what is
+-- counted without it afterwards.
 pub record TakesTarget (S : Segments) (a : Target) (w v : Walk) : Type 0 where
   pub proceeds : Proceeds w v
   pub same : (F : Counting) → ObjectCounts S a (word_at w.marks) w.pending F
       ↔ Counts S (word_at v.marks) v.pending F
 
--- There is no object with which no word would be held twice.
+-- There is no object at the target a with which no word would be held twice.
 abbrev pub HasNoObject : Segments → Target → Walk → Type 0
 HasNoObject S a w = (F : Counting) → ObjectCounts S a (word_at w.marks) w.pending F → IsOnce F → ⊥
 
--- From w to v the object where a leads is taken; or there is none.
+-- From w to v the object at the target a is taken; or there is none.
 abbrev pub TakesObject : Segments → Target → Walk → Walk → Bool → Type 0
 TakesObject S a w v true = TakesTarget S a w v
 TakesObject S a w v false = HasNoObject S a w

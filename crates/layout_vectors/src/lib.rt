@@ -1,5 +1,5 @@
-//! What tests of messages that are built need beside the messages themselves: an audit of their
-//! segments, and an allocator that refuses.
+//! What tests of built messages need in addition to the messages: an audit of their segments, and
+//! an allocator that refuses.
 #![tactic(auto)]
 
 pub mod vectors;

@@ -1,4 +1,4 @@
-//! An audit of the segments of a message that was built, and an allocator that refuses.
+//! An audit of the segments of a built message, and an allocator that refuses.
 
 mod landing;
 mod limits;

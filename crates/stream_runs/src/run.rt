@@ -1,6 +1,6 @@
-//! One run, as a line of text asks for it. How each device works is a word of that line, read as a
-//! `Strain`: how many of its calls succeed, and how many bytes each moves at most, with a comma between
-//! them (`none`: no limit).
+//! One run, as a line of text asks for it. A word of that line, parsed as a `Strain`, describes
+//! each device: how many of its calls succeed, and how many bytes each moves at most, separated by
+//! a comma (`none`: no limit).
 ghost use Rattle.std.specs.Prelude.{◌≡◌, false};
 
 use capnp_packing::buffered::BufferedOutput;
@@ -26,7 +26,7 @@ pub fn answer(alloc: Global, line: &str) -> Result<String, AllocError> {
     }
 }
 
-/// What a line asks for, if it has the form.
+/// What a line asks for, if it has the right form.
 fn read_line(alloc: Global, line: &str) -> Result<Option<Run>, AllocError> {
     let mut words = Vec::new(alloc);
     for word in line.split(' ') {
@@ -52,7 +52,7 @@ fn read_line(alloc: Global, line: &str) -> Result<Option<Run>, AllocError> {
     })
 }
 
-/// What the words behind the program's name ask for.
+/// What the arguments ask for.
 fn read_task(alloc: Global, text: &str) -> Result<Option<Task>, AllocError> {
     let words = arguments(alloc, text)?;
     Ok(match streams::parse_args(words.as_slice()) {
@@ -61,9 +61,9 @@ fn read_task(alloc: Global, text: &str) -> Result<Option<Task>, AllocError> {
     })
 }
 
-/// How a device works: two numbers with a comma between them, how many of its calls succeed and how
-/// many bytes each moves at most; each in decimal digits, a `+` before them or none, or `none` for no
-/// limit. `None` where the text isn't of this form.
+/// Parses how a device works: two numbers separated by a comma, how many of its calls succeed and
+/// how many bytes each moves at most; each in decimal digits with an optional `+`, or `none` for no
+/// limit. Returns `None` if the text doesn't have this form.
 fn read_strain(text: &str) -> Option<Strain> {
     let (calls, most) = text.split_once(',')?;
     Some(Strain {
@@ -83,7 +83,7 @@ fn read_input(alloc: Global, text: &str) -> Result<Option<Vec<u8>>, AllocError> 
     }
 }
 
-/// Makes a run, and says how it ends and what was written.
+/// Makes a run, and returns how it ends and what was written.
 fn run_once(alloc: Global, run: &Run) -> Result<String, AllocError> {
     let mut output = StrainedOutput::new(alloc, run.writes);
     if !run.task.pack {
@@ -102,7 +102,7 @@ fn run_once(alloc: Global, run: &Run) -> Result<String, AllocError> {
     }
 }
 
-/// Makes a run to an output that hasn't failed.
+/// Makes a run to an output. Precondition: the output hasn't failed.
 fn run_to<W: BufferedOutput>(alloc: Global, run: &Run, output: &mut W) -> Result<Summary, Stop>
     requires { W.has_failed output.old ≡ false }
 {
@@ -114,8 +114,8 @@ fn run_to<W: BufferedOutput>(alloc: Global, run: &Run, output: &mut W) -> Result
     }
 }
 
-/// How a run ended: how many messages there were, and whether each answer was a yes; or how many were
-/// answered, and why the next one wasn't. Behind a `-` what was written.
+/// How a run ended: how many messages there were, and whether every answer was yes; or how many
+/// were answered, and why the next one wasn't. After a `-`, what was written.
 fn told(alloc: Global, ended: Result<Summary, Stop>, written: &[u8]) -> Result<String, AllocError> {
     let digits = hex::encode(alloc, written)?;
     match ended {

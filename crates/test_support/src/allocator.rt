@@ -1,4 +1,4 @@
-//! An allocator that refuses memory where a test wants it.
+//! An allocator that refuses memory where a test wants it to.
 ghost use Rattle.std.specs.Prelude.{◌≡◌, false};
 
 use capnp_arena::arena::{Allocator, HeapAllocator, HeapSegment, MAX_SEGMENT_WORDS, Segment};
@@ -14,7 +14,7 @@ pub enum Granted {
     Rows(u64),
 }
 
-/// Makes segments on the heap. It counts what it grants and refuses, and notes what comes back.
+/// Makes segments on the heap. Counts what it grants and refuses, and notes what is returned.
 #[derive(Drop)]
 pub struct TestAllocator<'a> {
     heap: HeapAllocator,
@@ -24,9 +24,9 @@ pub struct TestAllocator<'a> {
 }
 
 impl<'a> TestAllocator<'a> {
-    /// An allocator that has refused nothing yet. `returned` is to hold the words of each segment
-    /// that comes back and how many of them were used, each as two decimal digits behind those of
-    /// the earlier ones.
+    /// An allocator that has refused nothing yet. `returned` will hold the words of each segment
+    /// that is returned and the number of those used, each as two decimal digits after those of the
+    /// earlier ones.
     pub fn new(heap: HeapAllocator, granted: Granted, returned: &'a Cell<u64>) -> Self
         ensures { result.refused ≡ 0 }
     {

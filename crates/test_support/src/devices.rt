@@ -1,4 +1,4 @@
-//! Devices that move few bytes at a time, and fail behind so many calls.
+//! Devices that move few bytes at a time, and fail after so many calls.
 ghost use Rattle.std.specs.Prelude.{◌≡◌, [], Some, false, true, ⊤};
 
 use capnp_framing::devices::{DeviceFault, Input, Output};
@@ -14,7 +14,7 @@ pub struct Strain {
     pub most: usize,
 }
 
-/// Gives bytes of memory.
+/// Reads bytes in memory.
 #[derive(Drop)]
 pub struct StrainedInput<'a> {
     bytes: &'a [u8],
@@ -23,7 +23,7 @@ pub struct StrainedInput<'a> {
 }
 
 impl<'a> StrainedInput<'a> {
-    /// An input of these bytes, of which no read has failed yet.
+    /// An input of these bytes, with no read failed yet.
     pub fn new(bytes: &'a [u8], strain: Strain) -> Self
         ensures bytes { result.bytes.now ≡ bytes.now }
         ensures works { result.failed ≡ false }
@@ -69,17 +69,17 @@ impl BufferedInput for StrainedInput<'_> {
     }
 }
 
-/// Takes bytes into memory.
+/// Writes bytes to memory.
 #[derive(Drop)]
 pub struct StrainedOutput {
-    /// What was taken.
+    /// The bytes written.
     pub bytes: Vec<u8>,
     strain: Strain,
     failed: bool,
 }
 
 impl StrainedOutput {
-    /// An output that has taken nothing, and of which no write has failed yet.
+    /// An empty output, with no write failed yet.
     pub fn new(alloc: Global, strain: Strain) -> Self
         ensures none { result.bytes.items ≡ [] }
         ensures works { result.failed ≡ false }
@@ -118,7 +118,7 @@ impl Output for StrainedOutput {
 impl BufferedOutput for StrainedOutput {
     ghost kept = { λ _. 0 };
 
-    /// The device keeps no bytes.
+    /// The device buffers no bytes.
     fn pass_on(&mut self) -> Result<(), DeviceFault> {
         Ok(())
     }

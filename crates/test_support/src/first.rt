@@ -4,8 +4,8 @@ ghost use Rattle.std.specs.Prelude.{◌≡◌, true};
 use capnp_arena::arena::Allocator;
 use capnp_words::error::ErrorKind;
 
-/// What `A` does, but for where an arena keeps the row of its first segment: in itself, so that it asks for no
-/// memory for that row.
+/// Does what `A` does, except that an arena keeps the row of its first segment in itself, and so
+/// requests no memory for that row.
 #[derive(Drop)]
 pub struct FirstInArena<A: Allocator> {
     inner: A,

@@ -1,6 +1,7 @@
-//! What the crates of tests share, and the programs that answer lines: messages written as hex digits, an allocator that
-//! refuses memory where a test wants it and notes what comes back, one that notes what it is asked for, one whose arenas
-//! keep their first row, devices that move few bytes at a time and fail, and lines with their answers.
+//! What the crates of tests, and the programs that answer lines, share: messages written as hex
+//! digits, an allocator that refuses memory where a test wants it to and notes what is returned,
+//! one that notes the requests that it gets, one whose arenas keep their first row, devices that
+//! move few bytes at a time and fail, and lines with their answers.
 #![tactic(auto)]
 
 mod allocator;

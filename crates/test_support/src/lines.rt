@@ -4,8 +4,8 @@ use std::alloc::{AllocError, Global};
 use std::io::{self, BufReader, BufWriter, Read, Write};
 use std::process::ExitCode;
 
-/// Answers each line of standard input with a line of standard output. The program fails where reading, writing or
-/// memory does.
+/// Answers each line of standard input with a line of standard output. The program fails if reading
+/// or writing does, or memory runs out.
 pub fn answer_lines<F: Fn(Global, &str) -> Result<String, AllocError>>(
     rt: &HostRuntime,
     answer: F,
@@ -18,7 +18,7 @@ pub fn answer_lines<F: Fn(Global, &str) -> Result<String, AllocError>>(
     }
 }
 
-// Answers each line. An error is one of reading, of writing, or want of memory.
+// Answers each line. Fails if reading or writing does, or memory runs out.
 fn respond<F: Fn(Global, &str) -> Result<String, AllocError>>(
     rt: &HostRuntime,
     answer: F,
@@ -37,7 +37,7 @@ fn respond<F: Fn(Global, &str) -> Result<String, AllocError>>(
     writer.flush()
 }
 
-/// The arguments of a program as one word, parted by commas.
+/// The arguments of a program as one word, separated by commas.
 pub fn arguments(alloc: Global, text: &str) -> Result<Vec<String>, AllocError> {
     let mut words = Vec::new(alloc);
     for word in text.split(',') {
@@ -46,7 +46,7 @@ pub fn arguments(alloc: Global, text: &str) -> Result<Vec<String>, AllocError> {
     Ok(words)
 }
 
-/// A limit in decimal digits; `none` is no limit. `None` where the word is neither.
+/// A limit in decimal digits; `none` is no limit. Returns `None` if the word is neither.
 pub fn limit(text: &str) -> Option<u64> {
     if text == "none" {
         Some(u64::MAX)

@@ -8,8 +8,8 @@ use capnp_framing::devices::{MemoryInput, MemoryOutput};
 use capnp_framing::framing::{OwnedSegments, read, write};
 use std::alloc::Global;
 
-/// The bytes of hex digits. Spaces between the pairs are for reading only. `None` where the text
-/// holds anything else, or memory fails.
+/// The bytes of hex digits. Spaces between the pairs are ignored. `None` if the text holds anything
+/// else, or memory runs out.
 pub fn bytes_of(alloc: Global, text: &str) -> Option<Vec<u8>> {
     let mut bytes = Vec::new(alloc);
     for word in text.split(' ') {
@@ -19,8 +19,8 @@ pub fn bytes_of(alloc: Global, text: &str) -> Option<Vec<u8>> {
     Some(bytes)
 }
 
-/// The arena of a message whose segments are hex digits, as in `bytes_of`, with commas between
-/// the segments, of whole words, at most 512. `None` where the text holds anything else, or memory fails.
+/// The arena of a message whose segments are hex digits, as in `bytes_of`, separated by commas; of
+/// whole words, at most 512 segments. `None` if the text holds anything else, or memory runs out.
 pub fn arena_of(
     alloc: Global,
     text: &str,
@@ -49,7 +49,7 @@ fn frame_of(alloc: Global, segments: &[Vec<u8>]) -> Option<MemoryOutput> {
     Some(frame)
 }
 
-/// An arena with one segment, and in it a word for the root. `None` where memory fails.
+/// An arena with one segment, and in it a word for the root. `None` if memory runs out.
 pub fn arena_of_root<A: Allocator>(alloc: Global, allocator: A) -> Option<BuilderArenaImpl<A>> {
     let mut arena = BuilderArenaImpl::new(alloc, allocator);
     arena.allocate_segment(1).ok()?;
@@ -57,8 +57,8 @@ pub fn arena_of_root<A: Allocator>(alloc: Global, allocator: A) -> Option<Builde
     Some(arena)
 }
 
-/// Whether the segments are those of hex digits, with commas between them. A text that holds anything
-/// else is that of none.
+/// Whether the segments are those of hex digits, separated by commas. A text that holds anything
+/// else stands for none.
 pub fn has_words(alloc: Global, arena: &impl ReaderArena, want: &str) -> bool {
     let mut id: u32 = 0;
     for text in want.split(", ") {

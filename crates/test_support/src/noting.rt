@@ -1,20 +1,21 @@
-//! An allocator that notes what it is asked for.
+//! An allocator that notes the requests that it gets.
 ghost use Rattle.std.specs.Prelude.{◌≡◌};
 
 use capnp_arena::arena::{Allocator, HeapAllocator, HeapSegment, MAX_SEGMENT_WORDS, Segment};
 use capnp_words::error::ErrorKind;
 use std::alloc::Global;
 
-/// What an allocator is asked for.
+/// A request to an allocator.
 #[derive(Clone, Copy, Debug, PartialEq, Eq)]
 pub enum Request {
     /// A segment of at least so many words.
     Segment(u32),
-    /// Memory for one row more of a list.
+    /// Memory for one more row of a list.
     Row,
 }
 
-/// Makes segments on the heap, and notes each request, in order. What it can't note it refuses.
+/// Makes segments on the heap, and notes each request, in order. Refuses a request that it can't
+/// note.
 #[derive(Drop)]
 pub struct NotingAllocator {
     heap: HeapAllocator,
@@ -23,7 +24,7 @@ pub struct NotingAllocator {
 }
 
 impl NotingAllocator {
-    /// An allocator that was asked for nothing yet.
+    /// An allocator without any request yet.
     pub fn new(alloc: Global, heap: HeapAllocator) -> Self
         ensures { result.refused ≡ 0 }
     {
@@ -34,12 +35,12 @@ impl NotingAllocator {
         }
     }
 
-    /// What the allocator was asked for, in order.
+    /// The requests, in order.
     pub fn requests(&self) -> &[Request] {
         self.requests.as_slice()
     }
 
-    // Notes a request; false where there is no memory for it.
+    // Notes a request; returns `false` if there is no memory for that.
     fn note(&mut self, request: Request) -> bool
         ensures heap { self.new.heap ≡ self.old.heap }
         ensures refused { self.new.refused ≡ self.old.refused }

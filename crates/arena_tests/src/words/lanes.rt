@@ -1,4 +1,4 @@
-//! The lane functions beside their plain forms, at every length from 0 to 200.
+//! Compares the lane functions with their plain forms, at every length from 0 to 200.
 use capnp_words::lanes::{copy, is_zero, trailing_zero_words, zero};
 use std::process::Abort;
 
@@ -13,7 +13,7 @@ fn numbers() -> [u8; LENGTH] {
     bytes
 }
 
-/// One bit of so many bytes is set, each in turn, and none: how many whole words at the end are zero.
+/// Sets one bit of the bytes, each in turn, and none: checks the number of zero words at the end.
 fn check_one_bit(rt: &impl Abort, bytes: &mut [u8]) {
     let words = bytes.len() / 8;
     assert!(rt; is_zero(bytes) && trailing_zero_words(&bytes[..8 * words]) == words);

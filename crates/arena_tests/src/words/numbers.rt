@@ -5,7 +5,7 @@ use capnp_words::mask::Mask;
 use capnp_words::primitive::Primitive;
 use capnp_words::zero::Zero;
 
-// A number that is masked, put into an array and read back under the same mask is as it was.
+// A number that is masked, stored in an array and read back with the same mask is unchanged.
 fn set_and_get<T: Primitive + Mask>(raw: &mut T::Raw, value: T, mask: T::T) -> T
 where
     T::T: Copy,

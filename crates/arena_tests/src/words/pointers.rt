@@ -5,7 +5,7 @@ use capnp_words::wire_pointer::{
     Bit, StructSize, Void, WirePointer, WirePointerKind, offset_between,
 };
 
-// A word is made of its fields again. A word that the format doesn't know has none.
+// Makes the word again from its fields. A word of no known kind has none.
 #[tactic(auto, using(capnp_format::proofs::Fields::fields))]
 fn made_again(pointer: WirePointer) -> WirePointer
     ensures { result.0 ≡ pointer.0 }
@@ -30,7 +30,7 @@ fn made_again(pointer: WirePointer) -> WirePointer
     }
 }
 
-// The word whose bytes stand in a message as these digits do.
+// The word whose bytes in a message are these digits.
 fn pointer(digits: u64) -> WirePointer {
     WirePointer(digits.swap_bytes())
 }

@@ -20,7 +20,7 @@ fn four(bytes: &[u8]) -> [u64; 4]
     ]
 }
 
-/// A word is put among zeros.
+/// Writes a word among zeros.
 fn check_put(rt: &impl Abort, bytes: &mut [u8; 36]) {
     assert!(rt; [count(bytes), used(bytes)] == [4, 0]);
     put_word(bytes, 1, WORD);
@@ -29,7 +29,7 @@ fn check_put(rt: &impl Abort, bytes: &mut [u8; 36]) {
     assert!(rt; word_at(part(bytes, 1, 2), 0) == WORD);
 }
 
-/// Words are copied behind it, all are moved, and one is made zero.
+/// Copies words after it, moves all, and zeroes one.
 fn check_moved(rt: &impl Abort, bytes: &mut [u8; 36]) {
     copy_words(bytes, 2, b"\x09\0\0\0\0\0\0\0\x08\0\0\0\0\0\0\0");
     move_words(bytes, 1, 0, 3);

@@ -1,4 +1,4 @@
-//! Edits in an arena without a root, and an edited message that is read where it stands.
+//! Edits in an arena without a root, and an edited message read in place.
 use super::messages::{check_outcomes, edit, size};
 use capnp_arena::arena::{BuilderArena, BuilderArenaImpl, HeapAllocator, ReaderArena};
 use capnp_edits::edit::Op::{Clear, InitStruct, InitStructList, SetElement, SetField, SetText};
@@ -24,7 +24,7 @@ fn no_root(rt: HostRuntime) {
     assert!(rt; arena.get_segment(0) == Ok(&[]));
 }
 
-/// A list of two structs that is edited is canonical, and has its size, where it stands.
+/// An edited list of two structs is canonical, and has its size, when read in place.
 #[test]
 fn read_in_place(rt: HostRuntime) {
     let alloc = rt.alloc();

@@ -1,4 +1,4 @@
-//! Edits done in a message, and what becomes of them.
+//! Edits applied to a message, and their outcomes.
 use capnp_arena::arena::{Allocator, BuilderArenaImpl};
 use capnp_edits::edit::{Edit, Op, Step, apply_all};
 use capnp_words::error::ErrorKind;
@@ -18,7 +18,7 @@ pub fn size(data_words: u16, pointers: u16) -> StructSize {
     }
 }
 
-/// Does edits in order, and checks what becomes of each.
+/// Applies edits in order, and checks the outcome of each.
 pub fn check_outcomes<A: Allocator>(
     rt: &impl Abort,
     arena: &mut BuilderArenaImpl<A>,

@@ -1,4 +1,5 @@
-//! Segments of messages that are edited, with every request for memory refused in turn: each comes back once.
+//! Segments of messages that are edited, with every request for memory refused in turn: each is
+//! returned once.
 use super::messages::{edit, size};
 use capnp_arena::arena::{
     BuilderArena, HeapAllocator, ReaderArena, ReaderArenaImpl, ReaderOptions, SegmentArray,
@@ -21,9 +22,9 @@ const STRUCT: &[u8] = b"\0\0\0\0\x01\0\x01\0\x07\0\0\0\0\0\0\0\x01\0\0\0\x12\0\0
 const LIST: &[u8] =
     b"\x01\0\0\0\x17\0\0\0\x08\0\0\0\0\0\x01\0\x05\0\0\0\x12\0\0\0\0\0\0\0\0\0\0\0a\0\0\0\0\0\0\0";
 
-/// Does edits in segments of a word or more, with so many requests for memory granted: each segment takes two.
-/// Clearing the root then takes no words and gives no segment back. Checks the words of each segment as they
-/// come back, and then those that were used.
+/// Applies edits in segments of a word or more, with `requests` requests for memory granted; each
+/// segment takes two. Clearing the root then takes no words and returns no segment. Checks the
+/// words of each segment as they are returned, and then those that were used.
 fn check(rt: &impl Abort, alloc: Global, edits: &[Edit<'_>], requests: u64, segments: u64) {
     let returned = Cell::new(0);
     let heap = HeapAllocator::new(alloc, 1);
@@ -41,8 +42,8 @@ fn check(rt: &impl Abort, alloc: Global, edits: &[Edit<'_>], requests: u64, segm
     assert!(rt; returned.get() == segments, "{segments}");
 }
 
-/// Refuses in turn the memory for the first object, for its row, for the text and for its row, and then
-/// nothing. A segment without a row comes back at once.
+/// Refuses in turn the memory for the first object, for its row, for the text and for its row, and
+/// then nothing. A segment without a row is returned at once.
 fn check_each(rt: &impl Abort, alloc: Global, edits: &[Edit<'_>], segments: [u64; 5]) {
     for (requests, want) in (2..7).zip(segments) {
         check(rt, alloc, edits, requests, want);
@@ -65,7 +66,7 @@ const OF_LIST: [u64; 5] = [
     1_01_04_04_02_02,
 ];
 
-/// A struct and its text are made.
+/// Makes a struct and its text.
 #[test]
 fn made(rt: HostRuntime) {
     let edits = &[
@@ -76,7 +77,7 @@ fn made(rt: HostRuntime) {
     check_each(&rt, rt.alloc(), edits, OF_STRUCT);
 }
 
-/// A struct and its text, and a list of structs and its text, are copied from another message.
+/// Copies a struct and its text, and a list of structs and its text, from another message.
 #[test]
 fn copied(rt: HostRuntime) {
     for (message, is_list, segments) in [(STRUCT, false, OF_STRUCT), (LIST, true, OF_LIST)] {
@@ -100,7 +101,7 @@ fn copied(rt: HostRuntime) {
     }
 }
 
-/// The content of a struct is copied over one that was made.
+/// Copies the content of a struct over one that was made.
 #[test]
 fn content(rt: HostRuntime) {
     let bytes: &[&[u8]] = &[STRUCT];

@@ -33,7 +33,7 @@ pub const TEXT: &str = "0100000042000000 6162636465666700";
 pub const POINTERS: &str =
     "010000001e000000 0000000000000000 0400000002000000 0000000000000000 0900000000000000 0000000000000000";
 
-/// The arena of a message, under the options by default.
+/// The arena of a message, with the default options.
 pub fn arena(rt: &impl Abort, alloc: Global, text: &str) -> ReaderArenaImpl<OwnedSegments> {
     arena_of(alloc, text, ReaderOptions::default()).expect(rt, "a message")
 }

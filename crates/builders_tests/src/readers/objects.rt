@@ -1,5 +1,5 @@
-//! The object that a pointer leads to, read by `Source::read_object` and its kin of `capnp_objects`,
-//! which `capnp_readers` re-exports.
+//! The object that a pointer leads to, read by `Source::read_object` and its kin of
+//! `capnp_objects`, which `capnp_readers` re-exports.
 use super::messages::*;
 use capnp_arena::arena::ReaderArena;
 use capnp_readers::object::{Expected, Object, Place};
@@ -10,7 +10,7 @@ use capnp_words::read_limiter::ReadLimiter;
 use capnp_words::wire_pointer::{ElementSize, PointerType};
 
 /// Reads the object that a pointer leads to, within the nesting limit of the pointer's reader, and
-/// charges the limiter for it. A null pointer gives `Object::Null`.
+/// charges the limiter for it. Returns `Object::Null` for a null pointer.
 fn object<'a, A: ReaderArena>(
     pointer: PointerReader<'a, A>,
     lim: &mut ReadLimiter,
@@ -20,7 +20,8 @@ fn object<'a, A: ReaderArena>(
     source.read_object(place, pointer.nesting_limit, lim)
 }
 
-/// A letter of an object, where it starts, and how many words, pointers or elements it has.
+/// A letter for the kind of an object, where it starts, and its number of words, pointers or
+/// elements.
 fn shown(object: Object<'_>) -> (char, u32, u32) {
     match object {
         Object::Null => ('n', 0, 0),

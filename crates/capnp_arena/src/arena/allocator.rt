@@ -7,8 +7,8 @@ ghost use Rattle.capnp_words.specs.declared.error.ErrorKind.TheVariants.{Allocat
 use capnp_words::error::ErrorKind;
 use std::alloc::Global;
 
-/// The bytes of a segment, which never change their number. Those at the front are ready: they can be read and written. The others are
-/// zero, and become ready as words are allocated.
+/// The bytes of a segment, whose number never changes. Those at the front are ready: they can be
+/// read and written. The others are zero, and become ready as words are allocated.
 pub trait Segment {
     // All bytes, ready or not.
     ghost content: { Self → List ℕ };
@@ -16,7 +16,7 @@ pub trait Segment {
     // The bytes that are ready.
     ghost ready: { Self → List ℕ };
 
-    // The segment with other bytes in place of those that are ready.
+    // The segment with other bytes in place of the ready ones.
     ghost with_ready: { Self → List ℕ → Self };
 
     ghost holds: { (s : Self) (w : List ℕ) → length w ≡ length (ready s) → ready (with_ready s w) ≡ w };
@@ -25,11 +25,11 @@ pub trait Segment {
 
     ghost zeros_behind: { (s : Self) → content s ≡ ready s ++ replicate (length (content s) - length (ready s)) 0 };
 
-    /// A segment of no bytes, for which no memory is taken.
+    /// A segment of no bytes, which takes no memory.
     fn empty(alloc: Global) -> Self
         ensures { content result ≡ [] };
 
-    /// How many bytes the segment has, ready or not.
+    /// The number of bytes, ready or not.
     fn len(&self) -> usize
         ensures { result ≡ length (content self.now) };
 
@@ -37,46 +37,46 @@ pub trait Segment {
     fn bytes(&self) -> &[u8]
         ensures { result.now ≡ ready self.now };
 
-    /// The bytes that are ready, to be written.
+    /// The bytes that are ready, for writing.
     fn bytes_mut(&mut self) -> &mut [u8]
         ensures* lends { sem 𝓛 (Lends Self.row (Array byte 0) self.entry result
             (with_ready self.old)) }
         ensures now { result.now ≡ ready self.old };
 
-    /// Makes at least so many bytes ready, and takes no memory.
+    /// Makes at least `bytes` bytes ready, and takes no memory.
     fn make_ready(&mut self, bytes: usize)
         requires { bytes ≤ length (content self.old) }
         ensures ready { bytes ≤ length (ready self.new) }
         ensures content { content self.new ≡ content self.old };
 }
 
-/// Where segments come from and go back to.
+/// Where segments come from and are returned to.
 pub trait Allocator: Drop {
-    /// Goes back by `deallocate_segment`. It may be dropped where its allocator isn't at hand.
+    /// Returned with `deallocate_segment`. May be dropped if its allocator isn't at hand.
     type Segment: Segment + Drop;
 
-    // Whether an arena keeps the row of its first segment in itself. Where an allocator doesn't say,
-    // it doesn't.
+    // Whether an arena keeps the row of its first segment inside itself; by default, it doesn't.
     ghost first_in_arena: { Bool } = { false };
 
-    /// Whether an arena keeps the row of its first segment, what it knows of it, in itself, and not in
-    /// a list with the others. Then that segment takes memory only where the allocator does, and each
-    /// access asks whether it is the first. Always the same for an allocator.
+    /// Whether an arena keeps the row of its first segment, what it knows of it, inside itself, and
+    /// not in a list with the others. That segment then takes memory only if the allocator does,
+    /// and each access tests whether it is the first. Always the same for an allocator.
     fn keeps_first_in_arena() -> bool
         ensures { result ≡ first_in_arena };
 
-    // How often memory was refused, up to the greatest u64.
+    // How often memory was refused, at most `u64::MAX`.
     ghost refusals: { Self → ℕ };
 
     // Whether a request for so many words may be met by a segment of so many words.
     ghost offers: { Self → ℕ → ℕ → Bool };
 
-    // Whether a request for so many words is sure to be met. Where an allocator doesn't say, none is.
+    // Whether a request for so many words is sure to be met; by default, none is.
     ghost grants: { Self → ℕ → Bool } = { λ _ _. false };
 
     /// A segment of zeros, of at least `min_words` words and at most 536,870,911.
     ///
-    /// A larger request is `MessageTooLarge(min_words)`; every other refusal is `AllocationFailed`, and counts in `refused`.
+    /// Refusals: `MessageTooLarge(min_words)` for a larger request; otherwise `AllocationFailed`,
+    /// which counts in `refused`.
     fn allocate_segment(&mut self, min_words: u32) -> Result<Self::Segment, ErrorKind>
         ensures fresh { IfOk result (λ s. IsFresh min_words (Self.Segment.content s)) }
         ensures sure { IsTrue (grants self.old min_words) → IsOk result }
@@ -90,15 +90,16 @@ pub trait Allocator: Drop {
             × (refusals self.new ≡ one_more (refusals self.old))) }
         ensures offers { offers self.new ≡ offers self.old };
 
-    /// Gives a segment back, whose first `used_words` words were allocated. All words behind
-    /// these are zero.
+    /// Returns a segment, whose first `used_words` words were allocated. Precondition: all words
+    /// after these are zero.
     fn deallocate_segment(&mut self, segment: Self::Segment, used_words: u32)
         requires within { 8 * used_words ≤ length (Self.Segment.content segment) }
         requires clear { IsClearFrom used_words (Self.Segment.content segment) }
         ensures refusals { refusals self.new ≡ refusals self.old }
         ensures offers { offers self.new ≡ offers self.old };
 
-    /// Puts a row last in a list. Where there is no memory for it, gives the row back, leaves the list as it was, and counts in `refused`.
+    /// Appends a row to a list. If there is no memory for it, returns the row, leaves the list
+    /// unchanged, and counts in `refused`.
     fn keep<T>(&mut self, list: &mut Vec<T>, row: T) -> Option<T>
         ensures kept { IsNone result → (list.new.items ≡ list.old.items ++ row ∷ [])
             × (refusals self.new ≡ refusals self.old) }
@@ -106,7 +107,8 @@ pub trait Allocator: Drop {
             × (refusals self.new ≡ one_more (refusals self.old))) }
         ensures offers { offers self.new ≡ offers self.old };
 
-    /// How often memory was refused: one for each `AllocationFailed` and each row given back, up to the greatest u64.
+    /// How often memory was refused, at most `u64::MAX`: once for each `AllocationFailed` and each
+    /// row returned.
     fn refused(&self) -> u64
         ensures { result ≡ refusals self.now };
 }

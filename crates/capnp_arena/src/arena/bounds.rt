@@ -1,12 +1,12 @@
-//! Which row is the first with room for so many words more, found without a look at each.
+//! Finds the first row with room for `amount` more words without looking at each.
 //!
-//! The rows are cut into ranges as in a Fenwick tree: counted from 1, row i is the last of a range of as many rows
-//! as the greatest power of two that divides i. So all rows before any one are as many ranges as its number has
-//! binary digits, at most. Each row holds a bound, which no row of its range has more room than: a range without room
-//! is passed over by one look at it.
+//! The rows are cut into ranges as in a Fenwick tree: counted from 1, row i is the last of a range
+//! whose length is the greatest power of two that divides i. So the rows before any one are at most
+//! as many ranges as its number has binary digits. Each row holds a bound, and no row of its range
+//! has more room than that: a range without room is skipped with one look at its bound.
 //!
-//! Rooms only shrink. So words are taken, and rows put behind the others, without a look at bounds. One that has come
-//! to be too great leads to a row without room, and is lowered then.
+//! Rooms only shrink. So words are allocated, and rows appended, without a look at bounds. A bound
+//! that has become too great leads to a row without room, and is lowered then.
 ghost use Rattle.std.specs.Prelude.{◌≡◌, ◌<◌, ◌≤◌, ◌+◌, ◌-◌, ℕ, length, IfSome, IsNone};
 ghost use Rattle.capnp_arena_traits.specs.Allocations.{max_segments};
 ghost use Rattle.capnp_arena.specs.Bounds.{FindsFit, HasBounds, HaveNoRoom, IsBoundAt, rooms};
@@ -15,7 +15,7 @@ ghost use Rattle.capnp_arena.specs.Row.{shown, capacity_at};
 use crate::arena::Segment;
 use crate::arena::row::Row;
 
-/// The first row from `from` on that no bound says to have no room for so many words.
+/// The first row from `from` on whose bounds don't rule out room for `amount` words.
 fn first_allowed<S: Segment>(rows: &[Row<S>], from: usize, amount: u32) -> Option<usize>
     requires few { length rows.now ≤ max_segments }
     requires bounded { HasBounds S.Segment rows.now }
@@ -25,7 +25,7 @@ fn first_allowed<S: Segment>(rows: &[Row<S>], from: usize, amount: u32) -> Optio
     ensures none { IsNone result
         → HaveNoRoom (rooms S.Segment rows.now) from (length rows.now) amount }
 {
-    // The ranges that begin at `from` are narrower than the greatest power of two that divides it.
+    // The ranges that start at `from` are narrower than the greatest power of two that divides it.
     let mut rest = from;
     let mut width = 1;
     'widen: while width <= rows.len() && rest % 2 == 0 {
@@ -42,8 +42,8 @@ fn first_allowed<S: Segment>(rows: &[Row<S>], from: usize, amount: u32) -> Optio
     if at < rows.len() { Some(at) } else { None }
 }
 
-/// What no row of the range that ends with row `at` has more room than: the room of `at` itself, and the bounds of the
-/// ranges that make up the others.
+/// The most room that a row of the range that ends with row `at` can have, by the room of `at`
+/// itself, and the bounds of the ranges that make up the others.
 fn greatest_room<S: Segment>(rows: &[Row<S>], at: usize) -> u32
     requires there { at < length rows.now }
     requires bounded { HasBounds S.Segment rows.now }
@@ -73,7 +73,7 @@ fn lower<S: Segment>(rows: &mut [Row<S>], at: usize)
     row.bound = greatest;
 }
 
-/// The first row that has room for so many words more, by the bounds.
+/// The first row with room for `amount` more words, found by the bounds.
 #[inline(never)]
 pub(crate) fn first_by_bounds<S: Segment>(rows: &mut [Row<S>], amount: u32) -> Option<u32>
     requires few { length rows.old ≤ max_segments }
@@ -92,7 +92,8 @@ pub(crate) fn first_by_bounds<S: Segment>(rows: &mut [Row<S>], amount: u32) -> O
     None
 }
 
-/// The first row that has room for so many words more. Where it is row 0, as in most messages, no bound is looked at.
+/// The first row with room for `amount` more words. If it is row 0, as in most messages, looks at
+/// no bound.
 #[inline(always)]
 pub(crate) fn first_fit<S: Segment>(rows: &mut [Row<S>], amount: u32) -> Option<u32>
     requires few { length rows.old ≤ max_segments }

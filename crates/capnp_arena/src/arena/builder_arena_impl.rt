@@ -1,4 +1,4 @@
-//! The arena of a message that is built.
+//! The arena of a message being built.
 ghost use Rattle.std.below.core.specs.declared.int.i32.TheConstants.{MAX};
 ghost use Rattle.std.specs.Prelude.{◌≡◌, ◌⊎◌, ◌<◌, ◌≤◌, ◌+◌, ◌*◌, ◌/◌, ◌^◌, ◌↔◌, ◌++◌, ◌∷◌, [], ℕ, ℤ, pos, false, refl, length, map, replicate, Some, None, IsTrue, IsSome, IsNone, IfSome, IsOk, IfOk, OnOk, OnErr, IfErr, slice_get};
 ghost use Rattle.capnp_format.specs.Bytes.{message};
@@ -30,19 +30,20 @@ use capnp_arena_traits::arena::sealed::Closed;
 use capnp_words::error::ErrorKind;
 use std::alloc::Global;
 
-/// A message of any number of segments, each of an allocator. Its nesting limit is `i32::MAX`, and reading it charges nothing.
+/// A message of any number of segments, each from an allocator. Its nesting limit is `i32::MAX`,
+/// and reading it charges nothing.
 ///
-/// Dropping it gives each segment back to the allocator once, in order of number.
+/// Dropping it returns each segment to the allocator once, in order of number.
 pub struct BuilderArenaImpl<A: Allocator> {
     alloc: Global,
     allocator: A,
-    /// All rows, where the allocator doesn't say that the first stands in the arena.
+    /// All rows, unless the allocator has the first one kept in the arena.
     listed: Listed<A::Segment>,
-    /// All rows, where it does.
+    /// All rows, if it does.
     apart: Rows<A::Segment>,
 }
 
-/// Gives the segment of a row back to the allocator.
+/// Returns the segment of a row to the allocator.
 #[tactic(auto, using(crate::proofs::RowLemmas::segment_clear))]
 fn deallocate<A: Allocator>(allocator: &mut A, row: Row<A::Segment>)
     ensures { RefusesNothing A.Allocator allocator.old allocator.new }
@@ -55,7 +56,7 @@ fn deallocate<A: Allocator>(allocator: &mut A, row: Row<A::Segment>)
     allocator.deallocate_segment(segment, used);
 }
 
-/// Gives the segment of each row of a list back to the allocator once, in order of number.
+/// Returns the segment of each row of a list to the allocator once, in order of number.
 #[inline(always)]
 fn give_back_list<A: Allocator>(allocator: &mut A, mut rows: Vec<Row<A::Segment>>)
     ensures { RefusesNothing A.Allocator allocator.old allocator.new }
@@ -69,7 +70,7 @@ fn give_back_list<A: Allocator>(allocator: &mut A, mut rows: Vec<Row<A::Segment>
     rows.destroy_empty();
 }
 
-/// Gives the segments of the rows behind a first one that stands apart back to the allocator once, in
+/// Returns the segments of the rows after a first one that is kept apart to the allocator once, in
 /// order of number. Most messages have no such rows.
 #[inline(never)]
 fn give_back_others<A: Allocator>(allocator: &mut A, rows: Vec<Row<A::Segment>>)
@@ -82,8 +83,8 @@ fn give_back_others<A: Allocator>(allocator: &mut A, rows: Vec<Row<A::Segment>>)
     }
 }
 
-/// Gives the segments of all rows back to the allocator once, in order of number, where the first row
-/// stands apart.
+/// Returns the segments of all rows to the allocator once, in order of number, if the first row is
+/// kept apart.
 #[inline(always)]
 fn give_back_apart<A: Allocator>(allocator: &mut A, rows: Rows<A::Segment>)
     ensures { RefusesNothing A.Allocator allocator.old allocator.new }
@@ -107,8 +108,8 @@ fn give_back_apart<A: Allocator>(allocator: &mut A, rows: Rows<A::Segment>)
     }
 }
 
-/// Gives each segment back to the allocator once, in order of number. There are no rows of one of the
-/// two kinds.
+/// Returns each segment to the allocator once, in order of number. One of the two kinds has no
+/// rows.
 #[inline(always)]
 fn give_back<A: Allocator>(allocator: &mut A, listed: Listed<A::Segment>, apart: Rows<A::Segment>)
     ensures { RefusesNothing A.Allocator allocator.old allocator.new }
@@ -118,8 +119,8 @@ fn give_back<A: Allocator>(allocator: &mut A, listed: Listed<A::Segment>, apart:
     give_back_list(allocator, rows);
 }
 
-/// Puts a segment behind the others, with none of its words allocated. Where there is no memory for
-/// its row, it goes back to the allocator; the first needs none.
+/// Appends a segment with none of its words allocated. If there is no memory for its row, returns
+/// the segment to the allocator; the first needs none.
 #[tactic(auto, using(crate::proofs::TakingLemmas::pushed, crate::proofs::BoundsLemmas::bounded_pushed))]
 fn put_behind<A: Allocator>(
     allocator: &mut A,
@@ -148,7 +149,7 @@ fn put_behind<A: Allocator>(
     }
 }
 
-/// Puts a segment behind the others as `put_behind` does, for rows in a list.
+/// Like `put_behind`, for rows in a list.
 #[tactic(auto, using(crate::proofs::TakingLemmas::pushed, crate::proofs::BoundsLemmas::bounded_pushed))]
 fn put_in_list<A: Allocator>(
     allocator: &mut A,
@@ -171,8 +172,8 @@ fn put_in_list<A: Allocator>(
     }
 }
 
-/// Puts the allocated words of each row behind what is there, in order. Want of memory is
-/// `AllocationFailed`.
+/// Appends the allocated words of each row to `segments`, in order. Fails with `AllocationFailed`
+/// if memory runs out.
 fn put_allocated<'a, S: Segment>(
     segments: &mut Vec<&'a [u8]>,
     rows: &'a [Row<S>],
@@ -189,7 +190,7 @@ fn put_allocated<'a, S: Segment>(
     Ok(())
 }
 
-/// The allocated words of each row, in order. Want of memory is `AllocationFailed`.
+/// The allocated words of each row, in order. Fails with `AllocationFailed` if memory runs out.
 fn allocated_of_each<S: Segment>(alloc: Global, rows: &Rows<S>) -> Result<Vec<&[u8]>, ErrorKind>
     ensures bytes { IfOk result
         (λ v. map (λ s. s.now) v.items ≡ shown S.Segment (all S.Segment rows.now)) }
@@ -208,7 +209,8 @@ fn allocated_of_each<S: Segment>(alloc: Global, rows: &Rows<S>) -> Result<Vec<&[
     Ok(segments)
 }
 
-/// The allocated words of each row of a list, in order. Want of memory is `AllocationFailed`.
+/// The allocated words of each row of a list, in order. Fails with `AllocationFailed` if memory
+/// runs out.
 fn allocated_of_list<S: Segment>(alloc: Global, list: &Listed<S>) -> Result<Vec<&[u8]>, ErrorKind>
     ensures bytes { IfOk result
         (λ v. map (λ s. s.now) v.items ≡ shown S.Segment list.now.rows.items) }
@@ -222,7 +224,7 @@ fn allocated_of_list<S: Segment>(alloc: Global, list: &Listed<S>) -> Result<Vec<
     Ok(segments)
 }
 
-/// What goes out of rows whose first one stands apart.
+/// The output segments of rows whose first one is kept apart.
 fn output_apart<S: Segment>(alloc: Global, rows: &Rows<S>) -> Result<OutputSegments<'_>, ErrorKind>
     ensures bytes { IfOk result
         (λ o. output_bytes o ≡ shown S.Segment (all S.Segment rows.now)) }
@@ -239,7 +241,7 @@ fn output_apart<S: Segment>(alloc: Global, rows: &Rows<S>) -> Result<OutputSegme
     Ok(OutputSegments::MultiSegment(segments))
 }
 
-/// What goes out of rows in a list.
+/// The output segments of rows in a list.
 fn output_of_list<S: Segment>(
     alloc: Global,
     list: &Listed<S>,
@@ -258,7 +260,7 @@ fn output_of_list<S: Segment>(
     Ok(OutputSegments::MultiSegment(segments))
 }
 
-/// How many words of rows are allocated.
+/// The number of allocated words in rows.
 fn used_in<S: Segment>(rows: &[Row<S>]) -> usize
     requires { length rows.now ≤ max_segments }
     ensures words { result ≡ total_words (shown S.Segment rows.now) }
@@ -271,7 +273,7 @@ fn used_in<S: Segment>(rows: &[Row<S>]) -> usize
     words
 }
 
-/// How many words of rows are allocated, where the first row stands apart.
+/// The number of allocated words in rows whose first one is kept apart.
 fn used_apart<S: Segment>(rows: &Rows<S>) -> usize
     ensures { result ≡ total_words (shown S.Segment (all S.Segment rows.now)) }
 {
@@ -295,7 +297,7 @@ impl<A: Allocator> Drop for BuilderArenaImpl<A> {
 }
 
 impl<A: Allocator> BuilderArenaImpl<A> {
-    /// An arena with no segment.
+    /// An arena without segments.
     #[tactic(auto, using(crate::proofs::KeptLemmas::keeping))]
     pub fn new(alloc: Global, allocator: A) -> Self
         ensures segments { ⟦<Self as ReaderArena>⟧.segments result ≡ [] }
@@ -313,7 +315,7 @@ impl<A: Allocator> BuilderArenaImpl<A> {
         }
     }
 
-    /// How many segments there are.
+    /// The number of segments.
     #[tactic(auto, using(crate::proofs::KeptLemmas::keeping))]
     pub fn len(&self) -> usize
         ensures { result ≡ length (⟦<Self as ReaderArena>⟧.segments self.now) }
@@ -325,14 +327,15 @@ impl<A: Allocator> BuilderArenaImpl<A> {
         }
     }
 
-    /// Whether there is no segment.
+    /// Whether there are no segments.
     pub fn is_empty(&self) -> bool
         ensures { IsTrue result ↔ (length (⟦<Self as ReaderArena>⟧.segments self.now) ≡ 0) }
     {
         self.len() == 0
     }
 
-    /// Gives each segment back to the allocator once, in order of number, and then the allocator itself.
+    /// Returns each segment to the allocator once, in order of number, and then returns the
+    /// allocator.
     #[inline(always)]
     pub fn into_allocator(self) -> A
         ensures refusals { A.refusals result ≡ A.refusals self.allocator }
@@ -348,9 +351,11 @@ impl<A: Allocator> BuilderArenaImpl<A> {
         allocator
     }
 
-    /// Takes the allocator out. The arena keeps its segments and their words, has room in them alone, and counts its refusals from 0; `with_allocator` puts an allocator in again.
+    /// Takes the allocator out. The arena keeps its segments and their words, has room only in
+    /// these, and counts its refusals from 0; `with_allocator` puts an allocator in again.
     ///
-    /// Dropping the arena while it is out drops the segments: they don't go back to the allocator.
+    /// Dropping the arena while the allocator is out drops the segments: they aren't returned to
+    /// the allocator.
     pub fn without_allocator(self) -> (BuilderArenaImpl<NullAllocator<A>>, A)
         ensures segments { ⟦<BuilderArenaImpl<NullAllocator<A>> as ReaderArena>⟧.segments result.0
             ≡ ⟦<Self as ReaderArena>⟧.segments self }
@@ -377,8 +382,8 @@ impl<A: Allocator> BuilderArenaImpl<A> {
         (segments, allocator)
     }
 
-    /// Puts a segment behind the others, with none of its words allocated. Where there is no memory for
-    /// its row, it goes back to the allocator; a first that is kept in the arena needs none.
+    /// Appends a segment with none of its words allocated. If there is no memory for its row,
+    /// returns the segment to the allocator; a first one that is kept in the arena needs none.
     #[inline(always)]
     #[tactic(auto, using(crate::proofs::KeptLemmas::keeping))]
     fn put_last(&mut self, segment: A::Segment) -> Result<(), ErrorKind>
@@ -402,12 +407,12 @@ impl<A: Allocator> BuilderArenaImpl<A> {
         }
     }
 
-    /// Puts a segment of at least `min` words behind the others, with none of its words allocated.
+    /// Appends a segment of at least `min` words, with none of its words allocated.
     ///
-    /// `MessageTooLarge(usize::MAX)` says that there are 4,294,967,295 segments, else
-    /// `MessageTooLarge(min)` that `min` is above 536,870,911; `AllocationFailed` is want of memory,
-    /// which the first segment takes only where the allocator does if its row is kept in the arena
-    /// (`keeps_first_in_arena`). A refusal changes nothing but `refused`.
+    /// Refusals, which change nothing but `refused`: `MessageTooLarge(usize::MAX)` if there are
+    /// 4,294,967,295 segments; `MessageTooLarge(min)` if `min` is above 536,870,911;
+    /// `AllocationFailed` if memory ran out. The first segment takes memory only if the allocator
+    /// does, provided that its row is kept in the arena (`keeps_first_in_arena`).
     #[tactic(auto, using(crate::proofs::KeptLemmas::keeping))]
     pub fn allocate_segment(&mut self, min: u32) -> Result<(), ErrorKind>
         ensures made { OnOk result (⟦<Self as ReaderArena>⟧.segments self.new
@@ -449,7 +454,8 @@ impl<A: Allocator> BuilderArenaImpl<A> {
         self.put_last(segment)
     }
 
-    /// The allocated words of each segment, within the limits of a reader. It takes memory where there is not exactly one segment, and want of it is `AllocationFailed`.
+    /// The allocated words of each segment, within the limits of a reader. Takes memory unless
+    /// there is exactly one segment, and fails with `AllocationFailed` if memory runs out.
     #[tactic(auto, using(crate::proofs::KeptLemmas::keeping))]
     pub fn get_segments_for_output(&self) -> Result<OutputSegments<'_>, ErrorKind>
         ensures bytes { IfOk result (λ o. output_bytes o
@@ -467,7 +473,7 @@ impl<A: Allocator> BuilderArenaImpl<A> {
         }
     }
 
-    /// The allocated words of a segment; `None` where there is no such segment.
+    /// The allocated words of segment `id`; `None` if there is no such segment.
     #[inline(always)]
     #[tactic(auto, using(crate::proofs::KeptLemmas::keeping))]
     fn allocated(&self, id: u32) -> Option<&[u8]>
@@ -483,7 +489,7 @@ impl<A: Allocator> BuilderArenaImpl<A> {
         }
     }
 
-    /// The first segment that has room for so many words more.
+    /// The first segment with room for `amount` more words.
     #[tactic(auto, using(crate::proofs::KeptLemmas::keeping))]
     fn first_fit(&mut self, amount: u32) -> Option<u32>
         ensures fit { IfSome result
@@ -501,7 +507,7 @@ impl<A: Allocator> BuilderArenaImpl<A> {
         }
     }
 
-    /// Takes words at the end of a segment that has room for them.
+    /// Allocates `amount` words at the end of segment `id`, which has room for them.
     #[tactic(auto, using(crate::proofs::KeptLemmas::keeping))]
     fn take(&mut self, id: u32, amount: u32) -> u32
         requires there { id < length (⟦<Self as ReaderArena>⟧.segments self.old) }
@@ -519,7 +525,7 @@ impl<A: Allocator> BuilderArenaImpl<A> {
         }
     }
 
-    /// Takes words in a new segment behind the others, and gives its number.
+    /// Allocates `amount` words in a new last segment, and returns its number.
     fn take_another(&mut self, amount: u32) -> Result<u32, ErrorKind>
         ensures { TakesAnother (⟦<Self as BuilderArena>⟧.view self.old)
             (⟦<Self as BuilderArena>⟧.view self.new) amount result }
@@ -533,7 +539,9 @@ impl<A: Allocator> BuilderArenaImpl<A> {
 }
 
 impl<A: Allocator> BuilderArenaImpl<NullAllocator<A>> {
-    /// Puts an allocator in, in place of the one that gives nothing: it gives further segments from now on, and those that are there go back to it. The segments, their words and their room stay.
+    /// Puts an allocator in, in place of the one that refuses everything: it grants further
+    /// segments from now on, and the present ones will be returned to it. The segments, their words
+    /// and their room stay.
     pub fn with_allocator(self, allocator: A) -> BuilderArenaImpl<A>
         ensures segments { ⟦<BuilderArenaImpl<A> as ReaderArena>⟧.segments result
             ≡ ⟦<Self as ReaderArena>⟧.segments self }

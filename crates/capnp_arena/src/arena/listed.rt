@@ -14,7 +14,7 @@ use crate::arena::rows::{At, allocated_in, copy_across_in};
 use crate::arena::{Segment, WordPlace, bounds};
 use std::alloc::Global;
 
-/// Rows that all stand in a list.
+/// Rows that are all in a list.
 pub(crate) struct Listed<S: Segment> {
     pub(crate) rows: Vec<Row<S>>,
     ghost few: { length rows.items ≤ max_segments },
@@ -25,7 +25,7 @@ impl<S: Segment> Listed<S> {
     ghost use Rattle.capnp_arena.specs.Listed.{with_bytes_listed};
     ghost use Rattle.capnp_arena.specs.contracts.arena.listed.Listed.{the_row};
 
-    /// No row.
+    /// No rows.
     #[inline(always)]
     pub(crate) fn new(alloc: Global) -> Self
         ensures { result.rows.items ≡ [] }
@@ -35,7 +35,7 @@ impl<S: Segment> Listed<S> {
         }
     }
 
-    /// How many rows there are.
+    /// The number of rows.
     #[inline(always)]
     pub(crate) fn len(&self) -> usize
         ensures { result ≡ length self.now.rows.items }
@@ -43,7 +43,7 @@ impl<S: Segment> Listed<S> {
         self.rows.len()
     }
 
-    /// Whether a row has room for so many words more.
+    /// Whether row `id` has room for `amount` more words.
     #[inline(always)]
     fn has_room(&self, id: u32, amount: u32) -> bool
         requires { id < length self.now.rows.items }
@@ -54,7 +54,7 @@ impl<S: Segment> Listed<S> {
         self.rows[id as usize].has_room(amount)
     }
 
-    /// Takes words at the end of a row that has room for them.
+    /// Allocates `amount` words at the end of row `id`, which has room for them.
     #[inline(always)]
     #[tactic(auto, using(crate::proofs::RowsLemmas::rows_written))]
     pub(crate) fn take(&mut self, id: u32, amount: u32) -> u32
@@ -70,7 +70,7 @@ impl<S: Segment> Listed<S> {
         row.take(amount)
     }
 
-    /// Takes words at the end of a row; `None` where it has no room for them.
+    /// Allocates `amount` words at the end of row `id`; returns `None` if it has no room for them.
     #[inline(always)]
     pub(crate) fn allocate(&mut self, id: u32, amount: u32) -> Option<u32>
         requires { id < length self.old.rows.items }
@@ -130,7 +130,7 @@ impl<S: Segment> Listed<S> {
         row.copy_words(at, from);
     }
 
-    /// Writes `n` words of zero over others.
+    /// Zeroes `n` words.
     #[inline(always)]
     #[tactic(auto, using(crate::proofs::RowsLemmas::rows_written))]
     pub(crate) fn zero_words(&mut self, id: u32, at: u32, n: u32)
@@ -144,8 +144,7 @@ impl<S: Segment> Listed<S> {
         row.zero_words(at, n);
     }
 
-    /// Copies `n` words of a row to another position of the same row. The two ranges may overlap: what
-    /// is copied are the words from before the call.
+    /// Copies `n` words of a row to another position in it; the two ranges may overlap.
     #[inline(always)]
     #[tactic(auto, using(crate::proofs::RowsLemmas::rows_written))]
     pub(crate) fn move_words(&mut self, id: u32, from: u32, to: u32, n: u32)
@@ -187,7 +186,7 @@ impl<S: Segment> Listed<S> {
         copy_across_in(&mut self.rows, old, new, n);
     }
 
-    /// The allocated words of a row; `None` where there is no such row.
+    /// The allocated words of row `id`; `None` if there is no such row.
     #[inline(always)]
     pub(crate) fn allocated(&self, id: u32) -> Option<&[u8]>
         ensures there { IsSome result ↔ (id < length self.now.rows.items) }
@@ -197,7 +196,7 @@ impl<S: Segment> Listed<S> {
         allocated_in(&self.rows, id as usize)
     }
 
-    /// Lends the allocated words of a row, to be written.
+    /// Lends the allocated words of row `id`, for writing.
     #[inline(always)]
     pub(crate) fn allocated_mut(&mut self, id: u32) -> &mut [u8]
         requires { id < length self.old.rows.items }
@@ -209,7 +208,7 @@ impl<S: Segment> Listed<S> {
         row.allocated_mut()
     }
 
-    /// The first row that has room for so many words more.
+    /// The first row with room for `amount` more words.
     #[inline(always)]
     pub(crate) fn first_fit(&mut self, amount: u32) -> Option<u32>
         ensures { FindsFit S.Segment self.old.rows.items self.new.rows.items amount result }

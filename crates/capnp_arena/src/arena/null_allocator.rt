@@ -1,15 +1,18 @@
-//! An allocator that has no segment to give.
+//! An allocator that grants no segment.
 ghost use Rattle.std.specs.Prelude.{◌≡◌, false};
 
 use crate::arena::{Allocator, MAX_SEGMENT_WORDS};
 use capnp_words::error::ErrorKind;
 use std::marker::PhantomData;
 
-/// Has no segment to give. An arena over it has segments of an allocator `A`, and gets no more of them: words are taken in these, or not at all.
+/// Refuses every request. An arena over it keeps its segments from an allocator `A` and gets no
+/// more: it allocates words in these, or none.
 ///
-/// A request of at most 536,870,911 words is `AllocationFailed`, and counts in `refused`, which no other allocator knows of. A segment that is given back is dropped.
+/// A request of at most 536,870,911 words is refused with `AllocationFailed`, and counts in
+/// `refused`, which no other allocator sees. A segment returned to it is dropped.
 ///
-/// `BuilderArenaImpl::without_allocator` makes such an arena, and `with_allocator` puts the allocator in again.
+/// `BuilderArenaImpl::without_allocator` makes such an arena, and `with_allocator` puts the
+/// allocator in again.
 #[derive(Drop)]
 pub struct NullAllocator<A: Allocator> {
     of: PhantomData<A>,

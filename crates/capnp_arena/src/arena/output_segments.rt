@@ -1,13 +1,14 @@
-//! The segments of a message that was built, to be written out.
+//! The segments of a built message, for writing them out.
 ghost use Rattle.std.specs.Prelude.{◌≡◌, length};
 ghost use Rattle.capnp_arena.specs.Output.{output_bytes};
 
 use crate::arena::ReaderSegments;
 
-/// The allocated words of each segment of a builder arena, in order of number. Section "Messages" of the encoding specification.
+/// The allocated words of each segment of a builder arena, in order of number. Section "Messages"
+/// of the encoding specification.
 #[derive(Drop)]
 pub enum OutputSegments<'a> {
-    /// The only segment there is.
+    /// The only segment.
     SingleSegment(&'a [u8]),
     /// No segment, or more than one.
     MultiSegment(Vec<&'a [u8]>),

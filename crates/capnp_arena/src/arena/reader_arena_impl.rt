@@ -1,4 +1,4 @@
-//! The arena of a message that is read.
+//! The arena of a message being read.
 ghost use Rattle.std.specs.Prelude.{◌≡◌, ◌<◌, ◌+◌, ◌*◌, ◌/◌, ◌^◌, ℕ, ℤ, pos, List, length, map, true, refl, Some, None};
 ghost use Rattle.capnp_format.specs.Bytes.{message};
 ghost use Rattle.capnp_arena_traits.specs.Limits.{whole, IsSmall};
@@ -8,12 +8,13 @@ ghost use Rattle.capnp_words.specs.declared.error.ErrorKind.TheVariants.{Invalid
 use crate::arena::{ReaderArena, ReaderSegments};
 use capnp_words::error::ErrorKind;
 
-/// How much of a message may be read. The default is 8,388,608 words and a nesting limit of 64.
+/// The limits for reading a message. The default is 8,388,608 words and a nesting limit of 64.
 #[derive(Clone, Copy)]
 pub struct ReaderOptions {
-    /// How many words may be traversed, `None` for no limit. A program makes its `ReadLimiter` of it.
+    /// The traversal limit: how many words may be read; `None` for no limit. A program makes its
+    /// `ReadLimiter` from it.
     pub traversal_limit_in_words: Option<usize>,
-    /// How many levels of structs and lists may be entered, one inside the other.
+    /// The nesting limit: how many structs and lists may be inside one another.
     pub nesting_limit: i32,
 }
 
@@ -29,7 +30,8 @@ impl Default for ReaderOptions {
     }
 }
 
-/// The arena of a message, over the whole words of its segments; up to 7 bytes behind the last word of a segment are not looked at.
+/// The arena of a message, over the whole words of its segments; ignores up to 7 bytes after the
+/// last word of a segment.
 #[derive(Drop)]
 pub struct ReaderArenaImpl<S: ReaderSegments> {
     segments: S,
@@ -40,7 +42,8 @@ pub struct ReaderArenaImpl<S: ReaderSegments> {
 }
 
 impl<S: ReaderSegments> ReaderArenaImpl<S> {
-    /// The arena of these segments. There are fewer than 2^32 segments, and each has fewer than 2^32 words.
+    /// The arena of these segments. Precondition: there are fewer than 2^32, each of fewer than
+    /// 2^32 words.
     #[tactic(auto, using(capnp_arena_traits::proofs::MessageLemmas::message_wholes))]
     pub fn new(segments: S, options: ReaderOptions) -> Self
         requires { IsSmall (S.segments segments) }

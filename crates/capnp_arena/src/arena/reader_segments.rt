@@ -4,15 +4,15 @@ ghost use Rattle.capnp_arena_traits.specs.Limits.{AreSmall, IsSmall};
 
 /// The segments of a message, as bytes. Section "Messages" of the encoding specification.
 pub trait ReaderSegments {
-    // The bytes of each segment, those behind its last whole word included.
+    // The bytes of each segment, including those after its last whole word.
     ghost segments: { Self → List (List ℕ) };
 
-    /// The bytes of a segment, `None` exactly where `id` is not below `len`.
+    /// The bytes of segment `id`; `None` exactly if `id` isn't below `len`.
     fn get_segment(&self, id: u32) -> Option<&[u8]>
         ensures there { IsSome result ↔ (id < length (segments self.now)) }
         ensures bytes { IfSome result (λ s. slice_get (segments self.now) id ≡ Some s.now) };
 
-    /// How many segments there are.
+    /// The number of segments.
     fn len(&self) -> usize
         ensures { result ≡ length (segments self.now) };
 
@@ -32,7 +32,8 @@ pub struct SegmentArray<'a> {
 }
 
 impl<'a> SegmentArray<'a> {
-    /// The segments in this order. `None` exactly where there are 2^32 segments or more, or where one has 2^32 words or more.
+    /// The segments in this order. `None` exactly if there are 2^32 segments or more, or one has
+    /// 2^32 words or more.
     pub fn new(segments: &'a [&'a [u8]]) -> Option<Self>
         ensures exactly { IsSome result ↔ AreSmall segments.now }
         ensures segments { IfSome result (λ r. r.segments.now ≡ segments.now) }

@@ -9,7 +9,7 @@ ghost use Rattle.capnp_arena.specs.Front.{RewritesFront};
 use crate::arena::{MAX_SEGMENT_WORDS, Segment};
 use capnp_words::words;
 
-/// Writes a word below the first `end` words.
+/// Writes word `at` of the first `end` words.
 #[tactic(auto, using(crate::proofs::RowLemmas::kept))]
 fn put_below(bytes: &mut [u8], end: usize, at: usize, word: u64)
     requires inside { at < end }
@@ -20,7 +20,7 @@ fn put_below(bytes: &mut [u8], end: usize, at: usize, word: u64)
     words::put_word(&mut bytes[..8 * end], at, word);
 }
 
-/// Writes words below the first `end` words.
+/// Writes words, from `at` on, of the first `end` words.
 #[tactic(auto, using(crate::proofs::RowLemmas::kept))]
 fn copy_below(bytes: &mut [u8], end: usize, at: usize, from: &[u8])
     requires whole { length from.now ≡ 8 * length (words_of from.now) }
@@ -32,7 +32,7 @@ fn copy_below(bytes: &mut [u8], end: usize, at: usize, from: &[u8])
     words::copy_words(&mut bytes[..8 * end], at, from);
 }
 
-/// Writes `n` words of zero below the first `end` words.
+/// Zeroes `n` words, from `at` on, of the first `end` words.
 #[tactic(auto, using(crate::proofs::RowLemmas::kept_zeros))]
 fn zero_below(bytes: &mut [u8], end: usize, at: usize, n: usize)
     requires inside { at + n ≤ end }
@@ -43,7 +43,8 @@ fn zero_below(bytes: &mut [u8], end: usize, at: usize, n: usize)
     words::zero_words(&mut bytes[..8 * end], at, n);
 }
 
-/// Copies `n` words below the first `end` words over others there, as they were before.
+/// Copies `n` words to another position, both within the first `end` words; the two ranges may
+/// overlap.
 #[tactic(auto, using(crate::proofs::RowLemmas::kept))]
 fn move_below(bytes: &mut [u8], end: usize, from: usize, to: usize, n: usize)
     requires there { from + n ≤ end }
@@ -56,7 +57,7 @@ fn move_below(bytes: &mut [u8], end: usize, from: usize, to: usize, n: usize)
     words::move_words(&mut bytes[..8 * end], from, to, n);
 }
 
-/// Lends the first `n` bytes of a segment; the others stay.
+/// Lends the first `n` bytes of a segment; the others are unchanged.
 fn front_of<S: Segment>(segment: &mut S, n: usize) -> &mut [u8]
     requires { n ≤ length (S.ready segment.old) }
     ensures* lends { sem 𝓛 (Lends S.row (Array byte 0) segment.entry result
@@ -67,7 +68,7 @@ fn front_of<S: Segment>(segment: &mut S, n: usize) -> &mut [u8]
     &mut bytes[..n]
 }
 
-/// A segment, and how many of its words are allocated, which are ready; the others are zero.
+/// A segment, and the number of its allocated words, which are ready; the others are zero.
 pub(crate) struct Row<S: Segment> {
     pub(crate) segment: S,
     pub(crate) used: u32,
@@ -88,7 +89,7 @@ impl<S: Segment> Row<S> {
         &self.segment.bytes()[..8 * self.used as usize]
     }
 
-    /// Lends the allocated words, to be written.
+    /// Lends the allocated words, for writing.
     pub(crate) fn allocated_mut(&mut self) -> &mut [u8]
         ensures* lends { sem 𝓛 (Lends (the_row S.row S.Segment) (Array byte 0) self.entry result
             (with_allocated S.Segment self.old)) }
@@ -114,21 +115,21 @@ impl<S: Segment> Row<S> {
         }
     }
 
-    /// How many words more can be taken.
+    /// How many more words can be allocated.
     pub(crate) fn room(&self) -> u32
         ensures { result ≡ room S.Segment self.now }
     {
         (self.segment.len() / 8) as u32 - self.used
     }
 
-    /// Whether so many words more can be taken.
+    /// Whether `amount` more words can be allocated.
     pub(crate) fn has_room(&self, amount: u32) -> bool
         ensures { IsTrue result ↔ (self.now.used + amount ≤ capacity S.Segment self.now) }
     {
         self.used as usize + amount as usize <= self.segment.len() / 8
     }
 
-    /// Takes so many words behind the others, which are zero.
+    /// Allocates `amount` words after the others; they are zero.
     #[tactic(auto, using(crate::proofs::RowLemmas::taking))]
     pub(crate) fn take(&mut self, amount: u32) -> u32
         requires { self.old.used + amount ≤ capacity S.Segment self.old }
@@ -192,7 +193,7 @@ impl<S: Segment> Row<S> {
         );
     }
 
-    /// Copies `n` words of another row from a position on.
+    /// Copies `n` words of another row, from position `from` on, to position `at`.
     #[tactic(auto, using(crate::proofs::RowsLemmas::reading))]
     pub(crate) fn copy_from(&mut self, at: u32, row: &Row<S>, from: u32, n: u32)
         requires there { from + n ≤ row.now.used }

@@ -1,9 +1,9 @@
 //! The rows of a builder arena whose allocator has the first one kept in the arena
-//! (`keeps_first_in_arena`): the first stands in the struct itself, so that no memory is taken for it,
-//! and the others in a list. All other arenas have `listed`.
+//! (`keeps_first_in_arena`): the first is in the struct itself, so that it takes no memory, and the
+//! others are in a list. All other arenas use `listed`.
 //!
-//! Most messages have one segment, and most words are written in it. So what is asked of row 0 is
-//! answered in place, and what is asked of another by a function that is called.
+//! Most messages have one segment, and most words are written in it. So calls for row 0 are
+//! answered inline, and those for other rows by functions that are called.
 ghost use Rattle.std.specs.Prelude.{◌≡◌, ◌≢◌, ◌<◌, ◌≤◌, ◌+◌, ◌-◌, ◌*◌, ◌/◌, ◌↔◌, ◌∷◌, [], length, replicate, slice_get, Some, IsSome, IsNone, IfSome};
 ghost use Rattle.std.specs.Borrow.{sem, Lends, Array, u8 as byte};
 ghost use Rattle.capnp_format.specs.Bytes.{words_of, message};
@@ -19,7 +19,7 @@ use crate::arena::{Segment, WordPlace, bounds};
 use std::alloc::Global;
 use std::mem::replace;
 
-/// Takes words at the end of a row that has room for them.
+/// Allocates `amount` words at the end of row `id`, which has room for them.
 #[cold]
 #[inline(never)]
 #[tactic(auto, using(crate::proofs::RowsLemmas::rows_written))]
@@ -35,7 +35,7 @@ fn take_in<S: Segment>(rows: &mut [Row<S>], id: usize, amount: u32) -> u32
     row.take(amount)
 }
 
-/// Takes words at the end of a row; `None` where it has no room for them.
+/// Allocates `amount` words at the end of row `id`; returns `None` if it has no room for them.
 #[cold]
 #[inline(never)]
 fn allocate_in<S: Segment>(rows: &mut [Row<S>], id: usize, amount: u32) -> Option<u32>
@@ -97,7 +97,7 @@ fn copy_words_in<S: Segment>(rows: &mut [Row<S>], id: usize, at: u32, from: &[u8
     row.copy_words(at, from);
 }
 
-/// Writes `n` words of zero over others of a row.
+/// Zeroes `n` words of a row.
 #[cold]
 #[inline(never)]
 #[tactic(auto, using(crate::proofs::RowsLemmas::rows_written))]
@@ -111,8 +111,7 @@ fn zero_words_in<S: Segment>(rows: &mut [Row<S>], id: usize, at: u32, n: u32)
     row.zero_words(at, n);
 }
 
-/// Copies `n` words of a row to another position of the same row. The two ranges may overlap: what
-/// is copied are the words from before the call.
+/// Copies `n` words of a row to another position in it; the two ranges may overlap.
 #[cold]
 #[inline(never)]
 #[tactic(auto, using(crate::proofs::RowsLemmas::rows_written))]
@@ -128,14 +127,14 @@ fn move_words_in<S: Segment>(rows: &mut [Row<S>], id: usize, from: u32, to: u32,
     row.move_words(from, to, n);
 }
 
-/// A row of those behind the first, and a position in it.
+/// A row after the first, and a position in it.
 #[derive(Clone, Copy)]
 pub(crate) struct At {
     pub(crate) row: usize,
     pub(crate) at: u32,
 }
 
-/// Copies `n` words of another row, from a position on, over those of one.
+/// Copies `n` words of `row`, from position `from` on, over those of another.
 #[inline(never)]
 #[tactic(auto, using(crate::proofs::RowsLemmas::rows_written))]
 fn copy_in<S: Segment>(rows: &mut [Row<S>], to: At, row: &Row<S>, from: u32, n: u32)
@@ -173,7 +172,7 @@ pub(crate) fn copy_across_in<S: Segment>(rows: &mut [Row<S>], from: At, to: At, 
     }
 }
 
-/// The allocated words of a row; `None` where there is no such row.
+/// The allocated words of row `id`; `None` if there is no such row.
 #[inline(always)]
 #[tactic(auto, using(crate::proofs::RowsLemmas::reading))]
 pub(crate) fn allocated_in<S: Segment>(rows: &[Row<S>], id: usize) -> Option<&[u8]>
@@ -186,10 +185,10 @@ pub(crate) fn allocated_in<S: Segment>(rows: &[Row<S>], id: usize) -> Option<&[u
     }
 }
 
-/// Rows whose first one stands apart.
+/// Rows whose first one is kept apart.
 pub(crate) struct Rows<S: Segment> {
     pub(crate) first: Row<S>,
-    /// Whether there is a first row; else it is one of no words, and there are no others.
+    /// Whether there is a first row; if not, `first` has no words, and there are no others.
     pub(crate) there: bool,
     pub(crate) others: Vec<Row<S>>,
     ghost few: { length others.items ≤ most_others there },
@@ -201,7 +200,7 @@ impl<S: Segment> Rows<S> {
     ghost use Rattle.capnp_arena.specs.Rows.{all, with_bytes_apart};
     ghost use Rattle.capnp_arena.specs.contracts.arena.rows.Rows.{the_row};
 
-    /// No row.
+    /// No rows.
     #[tactic(auto, using(crate::proofs::RowLemmas::fresh_rows))]
     pub(crate) fn new(alloc: Global) -> Self
         ensures { all S.Segment result ≡ [] }
@@ -217,14 +216,14 @@ impl<S: Segment> Rows<S> {
         }
     }
 
-    /// How many rows there are.
+    /// The number of rows.
     pub(crate) fn len(&self) -> usize
         ensures { result ≡ length (all S.Segment self.now) }
     {
         if self.there { self.others.len() + 1 } else { 0 }
     }
 
-    /// Takes words at the end of a row that has room for them.
+    /// Allocates `amount` words at the end of row `id`, which has room for them.
     #[inline(always)]
     #[tactic(auto, using(crate::proofs::ListedLemmas::listing))]
     pub(crate) fn take(&mut self, id: u32, amount: u32) -> u32
@@ -244,7 +243,7 @@ impl<S: Segment> Rows<S> {
         }
     }
 
-    /// Takes words at the end of a row; `None` where it has no room for them.
+    /// Allocates `amount` words at the end of row `id`; returns `None` if it has no room for them.
     #[inline(always)]
     #[tactic(auto, using(crate::proofs::ListedLemmas::listing))]
     pub(crate) fn allocate(&mut self, id: u32, amount: u32) -> Option<u32>
@@ -321,7 +320,7 @@ impl<S: Segment> Rows<S> {
         }
     }
 
-    /// Writes `n` words of zero over others.
+    /// Zeroes `n` words.
     #[inline(always)]
     #[tactic(auto, using(crate::proofs::ListedLemmas::listing))]
     pub(crate) fn zero_words(&mut self, id: u32, at: u32, n: u32)
@@ -339,8 +338,7 @@ impl<S: Segment> Rows<S> {
         }
     }
 
-    /// Copies `n` words of a row to another position of the same row. The two ranges may overlap: what
-    /// is copied are the words from before the call.
+    /// Copies `n` words of a row to another position in it; the two ranges may overlap.
     #[tactic(auto, using(crate::proofs::ListedLemmas::listing))]
     pub(crate) fn move_words(&mut self, id: u32, from: u32, to: u32, n: u32)
         requires row { id < length (all S.Segment self.old) }
@@ -396,7 +394,7 @@ impl<S: Segment> Rows<S> {
         }
     }
 
-    /// The allocated words of a row; `None` where there is no such row.
+    /// The allocated words of row `id`; `None` if there is no such row.
     #[inline(always)]
     pub(crate) fn allocated(&self, id: u32) -> Option<&[u8]>
         ensures there { IsSome result ↔ (id < length (all S.Segment self.now)) }
@@ -437,7 +435,7 @@ impl<S: Segment> Rows<S> {
         row.allocated_mut()
     }
 
-    /// Lends the allocated words of a row, to be written.
+    /// Lends the allocated words of row `id`, for writing.
     #[inline(always)]
     pub(crate) fn allocated_mut(&mut self, id: u32) -> &mut [u8]
         requires { id < length (all S.Segment self.old) }
@@ -452,8 +450,8 @@ impl<S: Segment> Rows<S> {
         }
     }
 
-    /// The first row that has room for so many words more. Where it is row 0, as in most messages,
-    /// no bound is looked at.
+    /// The first row with room for `amount` more words. If it is row 0, as in most messages, looks
+    /// at no bound.
     #[inline(always)]
     pub(crate) fn first_fit(&mut self, amount: u32) -> Option<u32>
         ensures { FindsFit S.Segment (all S.Segment self.old) (all S.Segment self.new)
@@ -476,7 +474,7 @@ impl<S: Segment> Rows<S> {
 impl<S: Segment + Drop> Rows<S> {
     ghost use Rattle.capnp_arena.specs.Rows.{all};
 
-    /// The first row, of a segment with none of its words allocated.
+    /// Adds the first row, of a segment with none of its words allocated.
     pub(crate) fn put_first(&mut self, segment: S)
         requires none { length (all S.Segment self.old) ≡ 0 }
         requires fresh { IsFresh 0 (S.Segment.content segment) }

@@ -1,4 +1,4 @@
-//! Segments whose first one is in memory that the caller lends.
+//! Segments whose first one is in memory lent by the caller.
 ghost use Rattle.std.specs.Prelude.{◌++◌, ◌∷◌, [], ◌≡◌, ◌≤◌, ◌<◌, ◌+◌, ◌*◌, ◌/◌, ◌==◌, ℕ, List, length, replicate, min, max, refl, true, false, IsTrue, IsFalse, IsSome, IsNone, IfSome, ◌↔◌, IsOk, IfOk, IsOkAnd, OnOk, IfErr, Err};
 ghost use Rattle.capnp_arena_traits.specs.Allocations.{IsClearFrom, IsFresh, max_segment_words, one_more};
 ghost use Rattle.capnp_words.specs.declared.error.ErrorKind.TheVariants.{AllocationFailed, MessageTooLarge};
@@ -106,7 +106,7 @@ impl<B: Segment + Drop> Segment for ScratchSegment<B> {
     }
 }
 
-/// Bytes that are borrowed, all of them zero. A proof sees how many.
+/// Borrowed bytes, all zero. Proofs can refer to their number.
 #[derive(Drop)]
 struct ZeroBytes<'a> {
     bytes: &'a mut [u8],
@@ -121,7 +121,7 @@ impl<'a> Model for ZeroBytes<'a> {
 }
 
 impl<'a> ZeroBytes<'a> {
-    /// Writes zeros over all bytes.
+    /// Zeroes all bytes.
     fn new(bytes: &'a mut [u8]) -> Self
         ensures { result ≡ length bytes.old }
     {
@@ -129,7 +129,7 @@ impl<'a> ZeroBytes<'a> {
         ZeroBytes { bytes }
     }
 
-    /// Writes zeros over the first words, behind which all are zero.
+    /// Zeroes the first `used` words. Precondition: all words after them are zero.
     fn again(bytes: &'a mut [u8], used: u32) -> Self
         requires within { 8 * used ≤ length bytes.old }
         requires clear { IsClearFrom used bytes.old }
@@ -157,11 +157,12 @@ impl<'a> ZeroBytes<'a> {
     }
 }
 
-/// Makes segments as `HeapAllocator` does, but for one: the scratch space, which is memory that the caller lends.
+/// Makes segments like `HeapAllocator`, except for one: the scratch space, which is memory lent by
+/// the caller.
 ///
-/// The whole words of the scratch space, at most 536,870,911, are a segment. A request that it can hold
-/// is met by it while it isn't out, takes no memory and is never refused. Given back, it can be handed
-/// out again. A scratch space without a whole word is never handed out.
+/// The whole words of the scratch space, at most 536,870,911, are a segment. While it isn't in use,
+/// it meets each request that it is large enough for: this takes no memory and is never refused.
+/// After it is returned, it can be used again. A scratch space without a whole word is never used.
 ///
 /// An arena over it keeps the row of its first segment in itself. So a message that fits in the
 /// scratch space takes no memory at all.
@@ -172,7 +173,8 @@ pub struct ScratchSpaceHeapAllocator<'a> {
     heap: HeapAllocator,
 }
 
-// No ghost field stands here: an arena over a type that holds a `&mut` and one would have no proof.
+// There is no ghost field here: an arena over a type that holds a `&mut` and one would have no
+// proof.
 impl<'a> Model for ScratchSpaceHeapAllocator<'a> {
     ghost use Rattle.std.specs.Prelude.{◌≡◌, ◌≤◌, ◌/◌, min, is_some, unwrap_or};
     ghost use Rattle.std.specs.Option.{ForSome};
@@ -189,8 +191,8 @@ impl<'a> Model for ScratchSpaceHeapAllocator<'a> {
 impl<'a> ScratchSpaceHeapAllocator<'a> {
     ghost use Rattle.capnp_arena.specs.Scratch.{lends, offered, whole_words};
 
-    /// Writes zeros over all bytes of the scratch space, and takes no memory. `words`, the least number of words of every other segment, is at most
-    /// 536,870,911.
+    /// Zeroes all bytes of the scratch space, and takes no memory. `words`, the least number of
+    /// words of every other segment, is at most 536,870,911.
     pub fn new(alloc: Global, scratch: &'a mut [u8], words: u32) -> Self
         requires { words ≤ max_segment_words }
         ensures grants { (asked : ℕ) → IsTrue (⟦<Self as Allocator>⟧.grants result asked)
@@ -210,7 +212,7 @@ impl<'a> ScratchSpaceHeapAllocator<'a> {
         }
     }
 
-    /// The scratch space, where it isn't out and can hold so many words.
+    /// The scratch space, if it isn't in use and has at least `min_words` words.
     fn lend(&mut self, min_words: u32) -> Option<&'a mut [u8]>
         ensures exactly { IsSome result ↔ IsTrue (lends self.old min_words) }
         ensures fresh { IfSome result (λ s. IsFresh min_words s.now
@@ -227,7 +229,8 @@ impl<'a> ScratchSpaceHeapAllocator<'a> {
         Some(scratch.into_words())
     }
 
-    /// Takes the scratch space back, with zeros over its used words. Bytes of another number aren't the scratch space.
+    /// Takes the scratch space back, and zeroes its used words. Bytes of another number aren't the
+    /// scratch space.
     fn take_back(&mut self, bytes: &'a mut [u8], used_words: u32)
         requires within { 8 * used_words ≤ length bytes.old }
         requires clear { IsClearFrom used_words bytes.old }

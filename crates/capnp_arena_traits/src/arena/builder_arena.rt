@@ -1,4 +1,4 @@
-//! Arenas that are written.
+//! Arenas for writing.
 ghost use Rattle.std.specs.Prelude.{◌≡◌, ◌⊎◌, ◌<◌, ◌≤◌, ◌+◌, ◌-◌, ◌*◌, ◌/◌, ◌^◌, ◌↔◌, ◌++◌, ◌∷◌, [], ℕ, Bool, List, length, replicate, slice_get, slice_set, Some, IsTrue, IsNone, IsSome, IfSome, IsOk, IfOk, IsOkAnd, OnOk, OnErr, IfErr};
 ghost use Rattle.std.specs.Borrow.{sem, Lends, Array, u8 as byte};
 ghost use Rattle.capnp_format.specs.Segments.{segment, word_at, words_at, IsPlace};
@@ -16,24 +16,29 @@ pub mod sealed {
     pub trait Closed {}
 }
 
-/// An arena that is written. Only `capnp_arena` implements it.
+/// An arena that can be written. Only `capnp_arena` implements it.
 pub trait BuilderArena: ReaderArena + sealed::Closed {
-    // The words of each segment, how many it can hold, how often memory was refused, and how a request may be met.
+    // The words of each segment, how many it has room for, how often memory was refused, and how a
+    // request may be met.
     ghost view: { Self → View };
 
     // The arena with other bytes in the allocated words of a segment.
     ghost with_bytes: { Self → ℕ → List ℕ → Self };
 
-    /// Lends the allocated words of a segment, as bytes, to be written. Whatever is written, the words behind them stay zero.
+    /// Lends the allocated words of segment `id`, as bytes, for writing. Whatever is written, the
+    /// words after them stay zero.
     fn segment_mut(&mut self, id: u32) -> &mut [u8]
         requires { id < length (Self.segments self.old) }
         ensures* lends { sem 𝓛 (Lends Self.row (Array byte 0) self.entry result
             (with_bytes self.old id)) }
         ensures bytes { slice_get (Self.segments self.old) id ≡ Some result.now };
 
-    /// Lends the allocated words of a segment, as bytes, to be written; `None` exactly where `id` is not below the number of segments,
-    /// and the arena is then as it was. What is left of the arena afterwards is no clause here, and is shown by rows alone. `segment_mut`
-    /// lends the same bytes of a segment that is there, and its contract says exactly what the arena is afterwards.
+    /// Lends the allocated words of segment `id`, as bytes, for writing; returns `None` exactly if
+    /// `id` isn't below the number of segments, and leaves the arena unchanged then.
+    ///
+    /// No clause states what the arena is afterwards; only rows show it. `segment_mut` lends the
+    /// same bytes of a segment that exists, and its contract states exactly what the arena is
+    /// afterwards.
     fn allocated_mut(&mut self, id: u32) -> Option<&mut [u8]>
         ensures there { IsSome result ↔ (id < length (Self.segments self.old)) }
         ensures bytes { IfSome result (λ s. slice_get (Self.segments self.old) id ≡ Some s.now) };
@@ -49,7 +54,7 @@ pub trait BuilderArena: ReaderArena + sealed::Closed {
         ensures { view self.new
             ≡ record (view self.old) { words = with_word (view self.old).words id at word } };
 
-    /// Writes words over others. There may be none, and then nothing changes.
+    /// Writes the words of `from` over others. If there are none, nothing changes.
     fn copy_words(&mut self, id: u32, at: u32, from: &[u8])
         requires whole { length from.now ≡ 8 * length (words_of from.now) }
         requires inside { at + length (words_of from.now)
@@ -58,7 +63,8 @@ pub trait BuilderArena: ReaderArena + sealed::Closed {
             ≡ record (view self.old)
             { words = with_words (view self.old).words id at (words_of from.now) } };
 
-    /// Copies `n` words over others of the same segment or of another one, as they were before. Where `n` is 0, nothing changes.
+    /// Copies `n` words over others of the same segment or of another one; the two ranges may
+    /// overlap. If `n` is 0, nothing changes.
     fn move_words(&mut self, from: WordPlace, to: WordPlace, n: u32)
         requires there { from.at + n ≤ length (segment (view self.old).words from.segment) }
         requires inside { to.at + n ≤ length (segment (view self.old).words to.segment) }
@@ -68,14 +74,15 @@ pub trait BuilderArena: ReaderArena + sealed::Closed {
                   (words_at (view self.old).words from.segment from.at n);
             } };
 
-    /// Writes `n` words of zero over others. Where `n` is 0, nothing changes.
+    /// Zeroes `n` words. If `n` is 0, nothing changes.
     fn zero_words(&mut self, id: u32, at: u32, n: u32)
         requires { at + n ≤ length (segment (view self.old).words id) }
         ensures { view self.new
             ≡ record (view self.old)
             { words = with_words (view self.old).words id at (replicate n 0) } };
 
-    /// Takes words at the end of what is allocated of a segment; they are zero.
+    /// Allocates `amount` words after the allocated ones of segment `id`, and returns their
+    /// position; they are zero. Returns `None` if the segment has no room for them.
     fn allocate(&mut self, id: u32, amount: u32) -> Option<u32>
         requires { id < length (view self.old).words }
         ensures exactly { IsSome result
@@ -83,9 +90,13 @@ pub trait BuilderArena: ReaderArena + sealed::Closed {
         ensures taken { IfSome result (GrowsSegment (view self.old) (view self.new) amount id) }
         ensures none { IsNone result → view self.new ≡ view self.old };
 
-    /// Takes words in the first segment with room, in order of number, else in a new segment for which it asks `amount` words. Gives the segment and the position; the words are zero.
+    /// Allocates `amount` words in the first segment with room, in order of number, or in a new
+    /// segment for which it requests `amount` words. Returns the segment and the position; the
+    /// words are zero.
     ///
-    /// Where no segment has room, `MessageTooLarge(usize::MAX)` says that there are 4,294,967,295 segments, else `MessageTooLarge(amount)` that `amount` is above 536,870,911. `AllocationFailed` is want of memory. A refusal changes nothing but `refused`.
+    /// Refusals, if no segment has room: `MessageTooLarge(usize::MAX)` if there are 4,294,967,295
+    /// segments; `MessageTooLarge(amount)` if `amount` is above 536,870,911; `AllocationFailed` if
+    /// memory ran out. A refusal changes nothing but `refused`.
     fn allocate_anywhere(&mut self, amount: u32) -> Result<(SegmentId, u32), ErrorKind>
         ensures taken { IfOk result (λ r. IsTaken (view self.old).words
             (view self.new).words amount r.0 r.1) }
@@ -108,15 +119,15 @@ pub trait BuilderArena: ReaderArena + sealed::Closed {
         ensures refused { OnErr result
             (view self.new ≡ record (view self.old) { refusals = (view self.new).refusals }) };
 
-    /// The arena itself, to be read.
+    /// The arena itself, for reading.
     fn as_reader(&self) -> &Self
         ensures { result.now ≡ self.now };
 
-    /// How often memory was refused, up to the greatest u64: the `refused` of its allocator.
+    /// How often memory was refused, at most `u64::MAX`: the `refused` of its allocator.
     fn refused(&self) -> u64
         ensures { result ≡ (view self.now).refusals };
 
-    // An unknown number is refused by its own name.
+    // An unknown number is refused with its own name.
     ghost known: { (a : Self) (id : ℕ) → Self.ReaderArena.absent a id ≡ InvalidSegmentId id };
 
     // The words are those of the bytes that are read.
@@ -128,7 +139,7 @@ pub trait BuilderArena: ReaderArena + sealed::Closed {
     // A segment has room for fewer than 2^29 words.
     ghost small: { (a : Self) (id : ℕ) → (view a).room id < 2 ^ 29 };
 
-    // Other bytes, as many as there were: that segment has them, and the others stay.
+    // With other bytes, as many as before: that segment has them, and the others are unchanged.
     ghost with_bytes_segments: { (a : Self) (id : ℕ) (old ws : List ℕ) → slice_get (Self.ReaderArena.segments a) id ≡ Some old → length ws ≡ length old → Self.ReaderArena.segments (with_bytes a id ws) ≡ slice_set (Self.ReaderArena.segments a) id ws };
 
     // Nothing else changes.

@@ -1,4 +1,4 @@
-//! Arenas that are read.
+//! Arenas for reading.
 ghost use Rattle.std.specs.Prelude.{IsTrue, IsSome, IfSome, ◌≡◌, ◌<◌, ◌≤◌, ◌+◌, ◌*◌, ◌/◌, ◌^◌, ◌↔◌, ◌⊎◌, ℕ, ℤ, pos, ◌+ℤ◌, ◌≤ℤ◌, List, Bool, length, IsOk, IfOk, OnOk, OnErr, IfErr, Some, slice_get};
 ghost use Rattle.capnp_format.specs.Segments.{segment};
 ghost use Rattle.capnp_format.specs.Bytes.{words_of, message};
@@ -10,7 +10,9 @@ ghost use Rattle.capnp_words.specs.declared.error.ErrorKind.TheVariants.{ReadLim
 use capnp_words::error::ErrorKind;
 use capnp_words::read_limiter::ReadLimiter;
 
-/// What readers ask of a message: the words of its segments, whether a place lies in them, and what reading costs. Sections "Messages", "Inter-Segment Pointers" and "Security Considerations" of the encoding specification.
+/// What readers need of a message: the words of its segments, whether a place is inside them, and
+/// what reading costs. Sections "Messages", "Inter-Segment Pointers" and "Security Considerations"
+/// of the encoding specification.
 pub trait ReaderArena {
     // The whole words of each segment, as bytes.
     ghost segments: { Self → List (List ℕ) };
@@ -20,15 +22,17 @@ pub trait ReaderArena {
     // Whether reading is charged and counted at all.
     ghost charging: { Self → Bool };
 
-    // The refusal of a segment that is not there.
+    // The refusal for a segment that doesn't exist.
     ghost absent: { Self → ℕ → ErrorKind };
 
     // The refusal names the number, or says that there is no segment at all.
     ghost absent_named: { (a : Self) (id : ℕ) → IsUnknown (segments a) id (absent a id) };
 
-    /// The whole words of segment `id`, as bytes, fewer than 2^35 of them. Segments are numbered from 0.
+    /// The whole words of segment `id`, as bytes, fewer than 2^35 of them. Segments are numbered
+    /// from 0.
     ///
-    /// A number that no segment has is `InvalidSegmentId(id)`. Only an arena without any segment may say `TriedToReadFromNullArena` instead, as `NullArena` does.
+    /// Refuses with `InvalidSegmentId(id)` if no segment has this number. Only an arena without any
+    /// segment may refuse with `TriedToReadFromNullArena` instead, as `NullArena` does.
     fn get_segment(&self, id: u32) -> Result<&[u8], ErrorKind>
         ensures there { IsOk result ↔ (id < length (segments self.now)) }
         ensures bytes { IfOk result (λ s. slice_get (segments self.now) id ≡ Some s.now) }
@@ -39,21 +43,26 @@ pub trait ReaderArena {
         ensures small { IfOk result (λ s. length s.now < 8 * 2 ^ 32) }
         ensures named { IfErr result (λ e. e ≡ absent self.now id) };
 
-    /// How many levels of structs and lists may be entered, one inside the other, from the root on. Zero or less leaves none.
+    /// The nesting limit: how many structs and lists may be inside one another, from the root on.
+    /// Zero or less allows none.
     fn nesting_limit(&self) -> i32
         ensures { result ≡ nesting self.now };
 
-    /// Whether reading is charged to a read limiter, and pointers are counted there. Where it isn't, every charge is granted and leaves the limiter as it was.
+    /// Whether reading is charged to a read limiter, and pointers are counted there. If not, every
+    /// charge is granted and leaves the limiter unchanged.
     fn charges(&self) -> bool
         ensures { result ≡ charging self.now };
 
-    /// The sum of the whole words of all segments; in an arena that is built, of those that are allocated.
+    /// The total number of whole words in all segments; in an arena being built, of those that are
+    /// allocated.
     fn size_in_words(&self) -> usize
         ensures { result ≡ total_words (segments self.now) };
 
-    /// The word position `start + offset` of segment `id`. `start` and the sum are positions in words, from 0 to the segment's length, which is included in both.
+    /// The word position `start + offset` of segment `id`. `start` and the sum are positions in
+    /// words, from 0 to the segment's length, inclusive.
     ///
-    /// A position beyond these bounds is `MessageContainsOutOfBoundsPointer`. A segment that isn't there is refused as by `get_segment`.
+    /// Refuses with `MessageContainsOutOfBoundsPointer` if a position is outside of these bounds,
+    /// and like `get_segment` if the segment doesn't exist.
     #[tactic(auto, using(crate::proofs::MessageLemmas::placing))]
     fn check_offset(&self, id: u32, start: u32, offset: i32) -> Result<u32, ErrorKind>
         ensures exactly { IsOk result ↔ LeadsInside (message (segments self.now)) id start offset }
@@ -68,9 +77,11 @@ pub trait ReaderArena {
         }
     }
 
-    /// Charges `amount` words that a message claims and doesn't hold, as those of a list of empty structs.
+    /// Charges `amount` words that a message claims and doesn't hold, such as those of a list of
+    /// empty structs.
     ///
-    /// `ReadLimitExceeded` where fewer are left; `lim` is then as it was. Where the arena doesn't charge, this is granted and `lim` stays.
+    /// Refuses with `ReadLimitExceeded` if fewer are left, and leaves `lim` unchanged then. If the
+    /// arena doesn't charge, grants this and leaves `lim` unchanged.
     fn amplified_read(&self, amount: u64, lim: &mut ReadLimiter) -> Result<(), ErrorKind>
         ensures exactly { IsOk result ↔ Affords (charging self.now) lim.old amount }
         ensures granted { OnOk result (lim.new ≡ charged (charging self.now) lim.old amount) }
@@ -84,9 +95,12 @@ pub trait ReaderArena {
         }
     }
 
-    /// Grants the `size` words from position `start` of segment `id`, and then charges them. The interval may be empty, and may end where the segment does.
+    /// Tests that the `size` words from position `start` on are inside segment `id`, and then
+    /// charges them. The interval may be empty, and may end at the segment's end.
     ///
-    /// An interval that doesn't lie in the segment is `MessageContainsOutOfBoundsPointer`, and a segment that isn't there is refused as by `get_segment`; neither is charged. `ReadLimitExceeded` where fewer words are left. After each refusal `lim` is as it was.
+    /// Refusals, which leave `lim` unchanged: `MessageContainsOutOfBoundsPointer` if the interval
+    /// isn't inside the segment; that of `get_segment` if the segment doesn't exist;
+    /// `ReadLimitExceeded` if fewer words are left.
     #[tactic(auto, using(crate::proofs::MessageLemmas::placing))]
     fn contains_interval(
         &self,
@@ -117,7 +131,7 @@ pub trait ReaderArena {
     }
 }
 
-// The position `start + offset`, where both `start` and it are from 0 to `length`.
+// The position `start + offset`, if both `start` and it are from 0 to `length`.
 #[inline]
 fn position_within(length: usize, start: u32, offset: i32) -> Option<u32>
     requires { length < 2 ^ 32 }

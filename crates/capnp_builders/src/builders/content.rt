@@ -1,4 +1,4 @@
-//! The data section of a struct written from other content, and its pointers cleared ("Structs").
+//! Writes the data section of a struct from other content, and clears its pointers ("Structs").
 ghost use Rattle.std.specs.Prelude.{◌≡◌, ℕ, ◌+◌, ◌*◌, ◌/◌, ◌%◌, ◌^◌, ◌<◌, ◌≤◌, length, slice_index};
 ghost use Rattle.capnp_arena_traits.specs.View.{KeepsLimits};
 ghost use Rattle.capnp_format.specs.Segments.{segment, word_at};
@@ -13,7 +13,8 @@ use capnp_making::making::clear;
 use capnp_readers::readers::StructPlace;
 use capnp_words::lanes;
 
-/// Writes content of so many bits over the data section of a struct, and zeros where there is none.
+/// Writes content of `bits` bits over the data section of a struct, and zeros where the content
+/// ends.
 pub(crate) fn write_content<A: BuilderArena>(
     arena: &mut A,
     place: StructPlace,
@@ -36,7 +37,7 @@ pub(crate) fn write_content<A: BuilderArena>(
     }
 }
 
-/// Makes pointers null, one after the other, and zero what they held.
+/// Clears `count` consecutive pointers: makes each null, and zeroes what it held.
 pub(crate) fn clear_pointers<A: BuilderArena>(arena: &mut A, id: u32, at: u32, count: u16)
     requires room { at + count ≤ length (segment (A.view arena.old).words id) }
     ensures cleared { AreCleared (A.view arena.old).words (A.view arena.new).words id at count }
@@ -49,7 +50,7 @@ pub(crate) fn clear_pointers<A: BuilderArena>(arena: &mut A, id: u32, at: u32, c
     }
 }
 
-/// Writes content of so many bits over the whole bytes of the data section of a struct.
+/// Writes content of `bits` bits over the whole bytes of the data section of a struct.
 fn write_bytes<A: BuilderArena>(arena: &mut A, place: StructPlace, bytes: &[u8], bits: u32)
     requires inside { IsStructPlace (A.view arena.old).words place }
     requires long { length bytes.now ≡ bytes_for bits }
@@ -89,7 +90,7 @@ fn copy_bytes<A: BuilderArena>(arena: &mut A, id: u32, start: u64, from: &[u8])
     }
 }
 
-/// Writes so many zero bytes over those of a segment.
+/// Zeroes `count` bytes of a segment.
 fn zero_bytes<A: BuilderArena>(arena: &mut A, id: u32, start: u64, count: u32)
     requires inside { start + count ≤ 8 * length (segment (A.view arena.old).words id) }
     ensures { A.view arena.new
@@ -106,7 +107,7 @@ fn zero_bytes<A: BuilderArena>(arena: &mut A, id: u32, start: u64, count: u32)
     }
 }
 
-/// Writes the lowest bits of a byte over bits of a segment.
+/// Writes the lowest `count` bits of `byte` over bits of a segment.
 fn write_bits<A: BuilderArena>(arena: &mut A, id: u32, start: u64, count: u32, byte: u8)
     requires inside { start + count ≤ 64 * length (segment (A.view arena.old).words id) }
     requires few { count < 8 }
@@ -121,7 +122,7 @@ fn write_bits<A: BuilderArena>(arena: &mut A, id: u32, start: u64, count: u32, b
     }
 }
 
-/// A byte of content of so many bits, 0 where there is none.
+/// Byte `index` of content of `bits` bits; 0 after its end.
 fn byte_of(bytes: &[u8], bits: u32, index: u32) -> u8
     requires long { length bytes.now ≡ bytes_for bits }
     ensures { result ≡ content_byte bits bytes.now index }

@@ -18,13 +18,14 @@ use capnp_words::error::ErrorKind;
 use capnp_words::read_limiter::ReadLimiter;
 use capnp_words::words;
 
-/// Copies the value of a default to the null pointer at a place, as it stands ("Default Values"). The
+/// Makes a plain copy of a default's value at a null pointer ("Default Values"). Precondition: the
 /// default has a first word, and fewer than 2^32 words.
 ///
-/// Nothing is charged, and `i32::MAX` levels may be entered. A capability is `UnknownPointerType`, a far
-/// pointer `TriedToReadFromNullArena`; any other fault keeps its name. A refusal of the arena is
-/// `AllocationFailed` or `MessageTooLarge`, and comes only where the words don't fit behind those of the
-/// pointer's segment. Then the pointer is null and the words that were allocated are zero.
+/// Charges nothing; `i32::MAX` levels may be entered. Refusals: `UnknownPointerType` for a
+/// capability; `TriedToReadFromNullArena` for a far pointer; any other fault's own name; if the
+/// words don't fit after those of the pointer's segment, and only then, the arena's
+/// `AllocationFailed` or `MessageTooLarge`. The pointer is null after a refusal, and the allocated
+/// words are zero.
 #[inline(never)]
 pub fn copy_default<A: BuilderArena>(
     arena: &mut A,
@@ -51,11 +52,11 @@ pub fn copy_default<A: BuilderArena>(
     copy::copy_in_form(arena, to, from.pointer(), &mut lim)
 }
 
-/// Puts the value of a default in place of the null pointer at a place, as `copy_default` does. What isn't
-/// null stays, and so does null where there is no default, or one whose first word is null.
+/// Replaces a null pointer by the value of a default, like `copy_default`. Leaves a pointer that
+/// isn't null; also leaves it null without a default, or with one whose first word is null.
 ///
-/// A default without a whole word is `MessageContainsOutOfBoundsPointer`, and nothing is changed. Any other
-/// refusal is one of `copy_default`.
+/// Refuses a default without a whole word with `MessageContainsOutOfBoundsPointer`, and then
+/// changes nothing. Any other refusal is one of `copy_default`.
 pub(crate) fn put_default<A: BuilderArena>(
     arena: &mut A,
     id: u32,
@@ -84,8 +85,8 @@ pub(crate) fn put_default<A: BuilderArena>(
     copy_default(arena, id, at, bytes)
 }
 
-/// Does `put_default` for a text or data, which is never null: where the pointer is null, a default whose
-/// first word is null is `ExistingPointerIsNotAList`.
+/// Like `put_default`, for a text or data, which is never null: if the pointer is null, refuses a
+/// default whose first word is null with `ExistingPointerIsNotAList`.
 pub(crate) fn put_blob_default<A: BuilderArena>(
     arena: &mut A,
     id: u32,
@@ -103,7 +104,7 @@ pub(crate) fn put_blob_default<A: BuilderArena>(
     put_default(arena, id, at, default)
 }
 
-/// Whether there is a default with a first word that is null.
+/// Whether there is a default whose first word is null.
 fn has_null_word(default: Option<&[u8]>) -> bool
     ensures { IsTrue result
         ↔ IsSomeAnd default.entry (λ d. slice_get (words_of d.now) 0 ≡ Some 0) }

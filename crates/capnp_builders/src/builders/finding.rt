@@ -1,5 +1,5 @@
-//! What a pointer leads to, found for writing: a default is put in place of null first, and a struct or
-//! list of structs that is too small is made wider ("Structs", "Lists", "Default Values").
+//! Finds what a pointer leads to, for writing: first replaces null by a default, and widens a
+//! struct or list of structs that is too small ("Structs", "Lists", "Default Values").
 ghost use Rattle.std.specs.Prelude.{◌-◌, ◌≡◌, ◌+◌, ◌*◌, ◌^◌, ◌<◌, ◌≤◌, true, IsNone, IsOk, IfOk, IfErr, OnOk, OnErr};
 ghost use Rattle.capnp_contents.specs.Existing.{BytesLieIn, data_in, is_unfound, text_in};
 ghost use Rattle.capnp_format.specs.Forest.{target};
@@ -35,14 +35,16 @@ use capnp_words::wire_pointer::{ElementSize, StructSize};
 impl<'a, A: BuilderArena> PointerBuilder<'a, A> {
     ghost use Rattle.capnp_builders.specs.Building.{FindsStored, GivesList, GivesStruct, HandsOn, IsNull, IsThere, KeepsBuilder, LooksUp, OfStored, StaysThere, built, calling};
 
-    /// Puts the value of a default in place of a null pointer, as it stands ("Default Values"). What isn't
-    /// null stays, and so does null where there is no default, or one whose first word is null.
+    /// Replaces a null pointer by a plain copy of a default's value ("Default Values"). Leaves a
+    /// pointer that isn't null; also leaves it null without a default, or with one whose first word
+    /// is null.
     ///
-    /// Nothing is charged, and `i32::MAX` levels may be entered. A default without a whole word, or with a
-    /// place outside, is `MessageContainsOutOfBoundsPointer`, a capability in it `UnknownPointerType`, and a
-    /// far pointer `TriedToReadFromNullArena`; any other fault has its name. Where it finds no room, that is
-    /// `AllocationFailed`, or `MessageTooLarge` of an object's words and one more. After a refusal the
-    /// pointer is null, and the words that were taken are zero.
+    /// Charges nothing; `i32::MAX` levels may be entered. Refusals:
+    /// `MessageContainsOutOfBoundsPointer` if the default has no whole word, or a place is outside
+    /// of it; `UnknownPointerType` for a capability in it; `TriedToReadFromNullArena` for a far
+    /// pointer; any other fault's own name; if there is no room, `AllocationFailed`, or
+    /// `MessageTooLarge` with an object's words plus one. After a refusal the pointer is null, and
+    /// the words allocated are zero.
     pub fn put_default(&mut self, default: Option<&[u8]>) -> Result<(), ErrorKind>
         requires { TakesDefault (built A.view self.old) default }
         ensures put { PutsDefaultBy (object_default default.entry)
@@ -56,8 +58,9 @@ impl<'a, A: BuilderArena> PointerBuilder<'a, A> {
         put_default(&mut *self.arena, self.segment, self.at, default)
     }
 
-    /// Where the struct is that the pointer leads to, as `get_struct` looks for it; `into_struct` is its
-    /// builder. With both outcomes, it is what `get_struct` is made of.
+    /// Finds the struct that the pointer leads to, as `get_struct` does, and returns its place;
+    /// `into_struct` gives its builder. `get_struct` is made of both; this call's contract covers
+    /// success and refusal.
     #[inline(always)]
     pub fn find_struct(
         &mut self,
@@ -95,16 +98,17 @@ impl<'a, A: BuilderArena> PointerBuilder<'a, A> {
         Ok(struct_place(opened))
     }
 
-    /// The struct that the pointer leads to, to be written, with sections at least as large as asked for
-    /// ("Structs"). One that is large enough is given as it stands, and nothing is changed. Where a section
-    /// is too small, the struct stands anew with each section as large as the greater of old and wanted:
-    /// its data and its children are the same, with zeros and nulls behind them. A null pointer becomes the
-    /// default's value, as by `put_default`, or a struct of exactly that size, all zero.
+    /// Returns the struct that the pointer leads to, for writing, with sections at least as large
+    /// as `size` ("Structs"). A struct that is large enough is returned unchanged. If a section is
+    /// too small, the struct is moved to new words, each section as large as the greater of old and
+    /// wanted: its data and its children are the same, followed by zeros and nulls. A null pointer
+    /// becomes the default's value, as with `put_default`, or a struct of exactly that size, all
+    /// zero.
     ///
-    /// What is no struct is `MessageContainsNonStructPointerWhereStructPointerWasExpected`. Any other
-    /// refusal is one of `put_default`, or `AllocationFailed` or `MessageTooLarge` of the words of a struct
-    /// or of landing pads, and then what was there stays. A default that was put stays also where the call is
-    /// refused then.
+    /// Refusals: `MessageContainsNonStructPointerWhereStructPointerWasExpected` if it isn't a
+    /// struct; those of `put_default`; `AllocationFailed`, or `MessageTooLarge` with the words of a
+    /// struct or of landing pads, and then what was there stays. A default that replaced null stays
+    /// also if the call is refused afterwards.
     #[inline(always)]
     pub fn get_struct(
         mut self,
@@ -137,8 +141,9 @@ impl<'a, A: BuilderArena> PointerBuilder<'a, A> {
         Ok(self.into_struct(place))
     }
 
-    /// Where the list is that the pointer leads to, as `get_struct_list` looks for it; `into_list` is its
-    /// builder. With both outcomes, it is what `get_struct_list` is made of.
+    /// Finds the list that the pointer leads to, as `get_struct_list` does, and returns its place;
+    /// `into_list` gives its builder. `get_struct_list` is made of both; this call's contract
+    /// covers success and refusal.
     pub fn find_struct_list(
         &mut self,
         size: StructSize,
@@ -162,18 +167,21 @@ impl<'a, A: BuilderArena> PointerBuilder<'a, A> {
         Ok(found_list(self.segment, opened))
     }
 
-    /// The list that the pointer leads to, as a list of structs to be written, with sections at least as
-    /// large as asked for ("Lists"). One that is large enough is given as it stands, and nothing is changed.
-    /// Any other list stands anew as one of structs: with sections as large as the greater of old and
-    /// wanted; of exactly the wanted size from void; a number as the lowest bits of a first data word; a
-    /// pointer as a first pointer. A null pointer becomes the default's value, as by `put_default`, or
-    /// gives a void list of none, and then nothing is changed.
+    /// Returns the list that the pointer leads to, as a list of structs for writing, with sections
+    /// at least as large as `size` ("Lists").
     ///
-    /// What isn't a list is `ExistingPointerIsNotAList`, a list of bits
-    /// `FoundBitListWhereStructListWasExpected`, and elements that would take 2^29 words or more are
-    /// `MessageTooLarge` of these words. Any other refusal is one of `put_default`, or `AllocationFailed` or
-    /// `MessageTooLarge` of the words of a list or of landing pads, and then what was there stays. A default
-    /// that was put stays also where the call is refused then.
+    /// A list that is large enough is returned unchanged. Any other list is moved to new words as a
+    /// list of structs: with sections as large as the greater of old and wanted; from void, of
+    /// exactly the wanted size; a number as the lowest bits of a first data word; a pointer as a
+    /// first pointer. A null pointer becomes the default's value, as with `put_default`; if it
+    /// stays null, returns a void list without elements, and changes nothing.
+    ///
+    /// Refusals: `ExistingPointerIsNotAList` if it isn't a list;
+    /// `FoundBitListWhereStructListWasExpected` for a list of bits; `MessageTooLarge` with the
+    /// words of the elements if these would take 2^29 words or more; those of `put_default`;
+    /// `AllocationFailed`, or `MessageTooLarge` with the words of a list or of landing pads, and
+    /// then what was there stays. A default that replaced null stays also if the call is refused
+    /// afterwards.
     pub fn get_struct_list(
         mut self,
         size: StructSize,
@@ -190,9 +198,9 @@ impl<'a, A: BuilderArena> PointerBuilder<'a, A> {
         Ok(self.into_list(place))
     }
 
-    /// Where the list is that the pointer leads to, of elements of the expected size or wider, as
-    /// `get_list` looks for it; `into_list` is its builder. With both outcomes, it is what `get_list` is
-    /// made of.
+    /// Finds the list that the pointer leads to, with elements of the expected size or wider, as
+    /// `get_list` does, and returns its place; `into_list` gives its builder. `get_list` is made of
+    /// both; this call's contract covers success and refusal.
     pub fn find_list(
         &mut self,
         size: ElementSize,
@@ -210,14 +218,16 @@ impl<'a, A: BuilderArena> PointerBuilder<'a, A> {
         look_for_list(&*self.arena, self.segment, self.at, size)
     }
 
-    /// The list that the pointer leads to, of elements of the expected size or wider; it is never changed.
-    /// A null pointer becomes the default's value, as by `put_default`, or gives a void list of none.
+    /// Returns the list that the pointer leads to, with elements of the expected size or wider;
+    /// never changes it. A null pointer becomes the default's value, as with `put_default`; if it
+    /// stays null, returns a void list without elements.
     ///
-    /// What isn't a list is `ExistingPointerIsNotAList`. A list of structs where bits are expected is
-    /// `FoundStructListWhereBitListWasExpected`; elements with fewer bits of data or fewer pointers than
-    /// expected, structs without data words where data is expected, or without pointers where pointers
-    /// are, are `ExistingListValueIsIncompatibleWithExpectedType`. Any other refusal is one of
-    /// `put_default`. A default that was put stays also where its kind is refused.
+    /// Refusals: `ExistingPointerIsNotAList` if it isn't a list;
+    /// `FoundStructListWhereBitListWasExpected` for a list of structs if bits are expected;
+    /// `ExistingListValueIsIncompatibleWithExpectedType` for elements with fewer bits of data or
+    /// fewer pointers than expected, for structs without data words if data is expected, and for
+    /// structs without pointers if pointers are; those of `put_default`. A default that replaced
+    /// null stays also if its kind is refused.
     pub fn get_list(
         mut self,
         size: ElementSize,
@@ -235,8 +245,8 @@ impl<'a, A: BuilderArena> PointerBuilder<'a, A> {
         Ok(self.into_list(place))
     }
 
-    /// Where the data is that the pointer leads to, as `get_data` looks for it. With both outcomes, it is
-    /// what `get_data` is made of.
+    /// Finds the data that the pointer leads to, as `get_data` does, and returns where it is.
+    /// `get_data` is made of it; this call's contract covers success and refusal.
     pub fn find_data(&mut self, default: Option<&[u8]>) -> Result<ExistingBytes, ErrorKind>
         requires { TakesDefault (built A.view self.old) default }
         ensures found { LooksUp A.view (FindsBytes data_in default.entry)
@@ -249,13 +259,14 @@ impl<'a, A: BuilderArena> PointerBuilder<'a, A> {
         found_bytes(&*self.arena, self.segment, found)
     }
 
-    /// The data that the pointer leads to, lent to be written in place ("Lists"). A null pointer becomes the
-    /// default's value, as by `put_default`, or gives no bytes where there is no default.
+    /// Lends the data that the pointer leads to, for writing in place ("Lists"). A null pointer
+    /// becomes the default's value, as with `put_default`; without a default, lends no bytes.
     ///
-    /// What isn't a list is `ExistingPointerIsNotAList`, and so is a default whose first word is null; a
-    /// list of other elements than bytes is `ExistingListPointerIsNotByteSized`. Any other refusal is one of
-    /// `put_default`. A default that was put stays also where its kind is refused. What the message is once
-    /// the bytes are written is said by `find_data` and `bytes_mut`, which do the same in two steps.
+    /// Refusals: `ExistingPointerIsNotAList` if it isn't a list, or the default's first word is
+    /// null; `ExistingListPointerIsNotByteSized` if the elements aren't bytes; those of
+    /// `put_default`. A default that replaced null stays also if its kind is refused. `find_data`
+    /// and `bytes_mut` do the same in two steps, and their contracts state what the message is once
+    /// the bytes are written.
     pub fn get_data(mut self, default: Option<&[u8]>) -> Result<&'a mut [u8], ErrorKind>
         requires { TakesDefault (built A.view self) default }
         ensures found { ReachesArena (LendsBytes A.segments)
@@ -265,8 +276,8 @@ impl<'a, A: BuilderArena> PointerBuilder<'a, A> {
         Ok(self.into_bytes(bytes))
     }
 
-    /// Where the text is that the pointer leads to, as `get_text` looks for it. With both outcomes, it is
-    /// what `get_text` is made of.
+    /// Finds the text that the pointer leads to, as `get_text` does, and returns where it is.
+    /// `get_text` is made of it; this call's contract covers success and refusal.
     pub fn find_text(&mut self, default: Option<&[u8]>) -> Result<ExistingBytes, ErrorKind>
         requires { TakesDefault (built A.view self.old) default }
         ensures found { LooksUp A.view (FindsBytes text_in default.entry)
@@ -279,13 +290,13 @@ impl<'a, A: BuilderArena> PointerBuilder<'a, A> {
         found_bytes(&*self.arena, self.segment, found)
     }
 
-    /// The text that the pointer leads to, without the zero byte behind it, lent to be written in place
-    /// ("Lists"). A null pointer becomes the default's value, as by `put_default`, or gives no bytes where
-    /// there is no default.
+    /// Lends the text that the pointer leads to, without the zero byte after it, for writing in
+    /// place ("Lists"). A null pointer becomes the default's value, as with `put_default`; without
+    /// a default, lends no bytes.
     ///
-    /// What isn't data is refused as by `get_data`; bytes that don't end in a zero byte are
-    /// `TextBlobMissingNULTerminator`. What the message is once the bytes are written is said by
-    /// `find_text` and `bytes_mut`, which do the same in two steps.
+    /// Refuses what isn't data like `get_data`, and bytes that don't end in a zero byte with
+    /// `TextBlobMissingNULTerminator`. `find_text` and `bytes_mut` do the same in two steps, and
+    /// their contracts state what the message is once the bytes are written.
     pub fn get_text(mut self, default: Option<&[u8]>) -> Result<&'a mut [u8], ErrorKind>
         requires { TakesDefault (built A.view self) default }
         ensures found { ReachesArena (LendsBytes A.segments)
@@ -295,7 +306,7 @@ impl<'a, A: BuilderArena> PointerBuilder<'a, A> {
         Ok(self.into_bytes(bytes))
     }
 
-    /// Lends bytes of the message, to be written in place, for as long as its arena is borrowed.
+    /// Lends bytes of the message, for writing in place, as long as its arena is borrowed.
     #[inline(always)]
     fn into_bytes(self, bytes: ExistingBytes) -> &'a mut [u8]
         requires { BytesLieIn (A.view self.arena.now).words bytes }

@@ -1,4 +1,4 @@
-//! What is found where a list, a text or data is looked for ("Lists").
+//! What a search for a list, a text or data finds ("Lists").
 ghost use Rattle.std.specs.Prelude.{◌≡◌, ◌<◌, ◌≤◌, true, length, Ok, IfSome, IfOk, IfErr};
 ghost use Rattle.capnp_format.specs.Forest.{target};
 ghost use Rattle.capnp_format.specs.Segments.{IsPlace};
@@ -17,7 +17,8 @@ use capnp_readers::readers::ListPlace;
 use capnp_words::error::ErrorKind;
 use capnp_words::wire_pointer::ElementSize;
 
-/// The place of a list that was found, or a void list of none for a null pointer of a segment.
+/// The place of a list that was found; a void list without elements for a null pointer of a
+/// segment.
 pub(crate) fn found_list(segment: u32, found: Option<ExistingList>) -> ListPlace
     ensures { list_given segment (Ok found) ≡ Ok result }
 {
@@ -33,8 +34,8 @@ pub(crate) fn found_list(segment: u32, found: Option<ExistingList>) -> ListPlace
     }
 }
 
-/// The list that the pointer at a place leads to, of elements of the expected size or wider; nothing is
-/// changed.
+/// The list that the pointer at a place leads to, with elements of the expected size or wider;
+/// changes nothing.
 pub(crate) fn look_for_list<A: BuilderArena>(
     arena: &A,
     id: u32,
@@ -53,9 +54,9 @@ pub(crate) fn look_for_list<A: BuilderArena>(
     Ok(found_list(id, found))
 }
 
-/// The bytes that were looked for, or none in a segment whose pointer is null.
+/// The bytes that were found; none, in a segment, if the pointer is null.
 ///
-/// Bytes that don't lie in the message, which no stored value has, are
+/// Refuses bytes outside of the message, which no stored value has, with
 /// `MessageContainsOutOfBoundsPointer`.
 #[inline(always)]
 pub(crate) fn found_bytes<A: BuilderArena>(

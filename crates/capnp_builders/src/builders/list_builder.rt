@@ -1,4 +1,4 @@
-//! Lists of a message that is built ("Lists").
+//! Lists of a message being built ("Lists").
 ghost use Rattle.std.specs.Prelude.{◌≡◌, ◌≢◌, ◌↔◌, ◌+◌, ◌*◌, ◌/◌, ◌%◌, ◌<◌, ◌≤◌, ◌^◌, [], IsTrue, cond};
 ghost use Rattle.capnp_format.specs.Numbers.{element_bits};
 ghost use Rattle.capnp_words.specs.Sizes.{size_number};
@@ -16,17 +16,17 @@ use capnp_readers::readers::{ListPlace, ListReader, StructPlace};
 use capnp_words::primitive::Primitive;
 use capnp_words::wire_pointer::{ElementSize, data_bits_per_element, pointers_per_element};
 
-/// A list of a message that is built.
+/// A list of a message being built.
 #[derive(Drop)]
 pub struct ListBuilder<'a, A> {
-    /// Where the list is. Its elements lie in the message.
+    /// Where the list is. Its elements are inside the message.
     pub place: ListPlace,
     /// The message.
     pub arena: &'a mut A,
 }
 
 #[tactic(auto, using(capnp_readers::proofs::Sections::elements))]
-/// Where an element of a list is, as a struct: its own sections, one pointer, or the bits of a
+/// Where element `index` of a list is, as a struct: its own sections, one pointer, or the bits of a
 /// number.
 fn element_place(list: ListPlace, index: u32) -> StructPlace
     requires range { index < list.count }
@@ -69,7 +69,7 @@ fn element_place(list: ListPlace, index: u32) -> StructPlace
     }
 }
 
-/// Where the pointer of an element is, in words.
+/// Where the pointer of element `index` is, in words.
 #[tactic(auto, using(capnp_readers::proofs::Sections::elements))]
 fn element_pointer(list: ListPlace, index: u32) -> u32
     requires range { index < list.count }
@@ -87,11 +87,11 @@ fn element_pointer(list: ListPlace, index: u32) -> u32
     }
 }
 
-/// How many bits there are from one element to the next.
+/// The number of bits from one element to the next.
 fn step_bits(list: ListPlace) -> u32
     ensures { result ≡ step_bits list.size list.struct_size }
 {
-    // A sum without a branch: a loop over the elements works it out once.
+    // A sum without a branch: a loop over the elements computes it once.
     let is_struct = u32::from(list.size == ElementSize::InlineComposite);
     let words = pointers_per_element(list.size) + is_struct * list.struct_size.total();
     data_bits_per_element(list.size) + 64 * words
@@ -103,7 +103,7 @@ impl<'a, A: BuilderArena> ListBuilder<'a, A> {
     ghost use Rattle.capnp_builders.specs.contracts.builders.list_builder.ListBuilder.{the_row};
     ghost use mir.Syntax.{named};
 
-    /// A builder of this list, for as long as this one is borrowed.
+    /// A builder of this list, as long as this one is borrowed.
     pub fn reborrow(&mut self) -> ListBuilder<'_, A>
         ensures* lends { sem 𝓛 (follows (the_row (record { mir = named 1; lft = [] }) A.row) A.row
             self.entry.ghost_name result.arena.ghost_name
@@ -116,7 +116,7 @@ impl<'a, A: BuilderArena> ListBuilder<'a, A> {
         ListBuilder { arena, place }
     }
 
-    /// How many elements.
+    /// The number of elements.
     pub fn len(&self) -> u32
         ensures { result ≡ self.now.place.count }
     {
@@ -130,14 +130,14 @@ impl<'a, A: BuilderArena> ListBuilder<'a, A> {
         self.place.count == 0
     }
 
-    /// How wide an element is.
+    /// The element size.
     pub fn get_element_size(&self) -> ElementSize
         ensures { result ≡ self.now.place.size }
     {
         self.place.size
     }
 
-    /// The list, to be read: nothing is charged, and `i32::MAX` levels may be entered.
+    /// The list, for reading: charges nothing, and `i32::MAX` levels may be entered.
     pub fn as_reader(&self) -> ListReader<'_, A>
         requires { IsListPlace (A.view self.now.arena.now).words self.now.place }
         ensures { IsListReader A.ReaderArena self.now result }
@@ -145,7 +145,7 @@ impl<'a, A: BuilderArena> ListBuilder<'a, A> {
         ListReader::at(&*self.arena, self.place, i32::MAX)
     }
 
-    /// The list, to be read once building is over: nothing is charged, and `i32::MAX` levels may be
+    /// The list, for reading once building is over: charges nothing, and `i32::MAX` levels may be
     /// entered.
     pub fn into_reader(self) -> ListReader<'a, A>
         requires { IsListPlace (A.view self.arena.now).words self.place }
@@ -156,8 +156,8 @@ impl<'a, A: BuilderArena> ListBuilder<'a, A> {
     }
 
     #[tactic(auto, using(crate::proofs::ElementPlaces::element_inside))]
-    /// An element as a struct. The elements are no bits, and there are more than `index`. A number is
-    /// a struct of its bits, a pointer a struct of one pointer.
+    /// Element `index` as a struct: a number is a struct of its bits, a pointer a struct of one
+    /// pointer. Preconditions: the elements aren't bits; `index` is below their number.
     pub fn get_struct_element(self, index: u32) -> StructBuilder<'a, A>
         requires inside { IsListPlace (A.view self.arena.now).words self.place }
         requires range { index < self.place.count }
@@ -174,8 +174,8 @@ impl<'a, A: BuilderArena> ListBuilder<'a, A> {
     }
 
     #[tactic(auto, using(crate::proofs::ElementPlaces::pointer_inside))]
-    /// A pointer of an element: the element itself, or a struct element's first pointer. The elements
-    /// hold a pointer, and there are more than `index`.
+    /// Pointer `index`: the element itself, or a struct element's first pointer. Preconditions: the
+    /// elements hold a pointer; `index` is below their number.
     pub fn get_pointer_element(self, index: u32) -> PointerBuilder<'a, A>
         requires inside { IsListPlace (A.view self.arena.now).words self.place }
         requires range { index < self.place.count }

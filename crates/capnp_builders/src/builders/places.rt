@@ -1,14 +1,14 @@
-//! Places of builders, of what stands in a message ("Structs", "Lists").
+//! The places, for builders, of what is in a message ("Structs", "Lists").
 ghost use Rattle.std.specs.Prelude.{◌≡◌, ◌+◌, ◌*◌, ◌^◌, ◌<◌};
 ghost use Rattle.capnp_builders.specs.Places.{IsAligned, list_place, struct_place};
 
 use capnp_contents::existing::{ExistingList, ExistingStruct};
 use capnp_readers::readers::{ListPlace, StructPlace};
 
-/// The place of a struct that stands in a message: `StructBuilder` has it.
+/// The place of a struct in a message, as `StructBuilder` has it.
 ///
-/// Pointers that would stand at word 2^32 or behind it, as those of no struct do, are at the last
-/// word before that.
+/// If its pointers would be at word 2^32 or after it, as those of no struct are, they are at the
+/// last word before that.
 #[inline(always)]
 pub fn struct_place(found: ExistingStruct) -> StructPlace
     ensures place { found.start + found.size.data_words < 2 ^ 32 → result ≡ struct_place found }
@@ -26,7 +26,7 @@ pub fn struct_place(found: ExistingStruct) -> StructPlace
     }
 }
 
-/// The place of a list that stands in a message: `ListBuilder` has it.
+/// The place of a list in a message, as `ListBuilder` has it.
 #[inline(always)]
 pub fn list_place(found: ExistingList) -> ListPlace
     ensures { result ≡ list_place found }

@@ -1,5 +1,5 @@
-//! Elements of lists, numbers, bits or nothing: of a list that is read they are read, and of a list
-//! that is built read and written ("Lists").
+//! Elements of lists that are numbers, bits or nothing: read from a list being read, and read and
+//! written in a list being built ("Lists").
 ghost use Rattle.std.specs.Prelude.{◌≡◌, ◌<◌, ◌≤◌, ℕ, List, cond};
 ghost use Rattle.capnp_format.specs.Numbers.{element_bits};
 ghost use Rattle.capnp_words.specs.Sizes.{size_number};
@@ -18,22 +18,23 @@ use capnp_readers::readers::ListReader;
 use capnp_words::primitive::Primitive;
 use capnp_words::wire_pointer::ElementSize;
 
-/// What an element of a list can be read as and written from: a number, a bit, or nothing.
+/// A type that elements of a list can be read as and written from: a number, a bit, or nothing.
 pub trait PrimitiveElement {
     // The element size of a list of such elements.
     ghost size: { ElementSize };
 
-    // The value that starts at a bit of the bytes of a list.
+    // The value that starts at a bit of a list's bytes.
     ghost value_at: { List ℕ → ℕ → Self };
 
     // The value's bits as a number.
     ghost bits_of: { Self → ℕ };
 
-    /// An element of a list that is read: the number in the lowest bytes of the element's data, or
-    /// its lowest bit. The caller sees to it that `index` is below the number of elements, and that
-    /// each has at least as many bits of data as the value; for `()` neither is asked. The data of
-    /// a struct is its data section, so a list of numbers that became a list of structs reads as
-    /// before ("Lists").
+    /// Reads element `index` of a list being read: the number in the lowest bytes of the element's
+    /// data, or its lowest bit.
+    ///
+    /// The caller ensures that `index` is below the number of elements, and that each has at least
+    /// as many bits of data as the value; `()` requires neither. The data of a struct is its data
+    /// section, so a list of numbers that became a list of structs reads as before ("Lists").
     fn get<A: ReaderArena>(list: &ListReader<'_, A>, index: u32) -> Self
         requires range { 0 < element_bits (size_number size) → index < list.now.count }
         requires wide { element_bits (size_number size)
@@ -41,8 +42,8 @@ pub trait PrimitiveElement {
         ensures { result ≡ value_at list.now.content.now
             (element_start A.ReaderArena list.now index) };
 
-    /// An element of a list that is built: the lowest bits of the element's data, as many as the value
-    /// has. What `get` asks of the list is asked here too.
+    /// Reads element `index` of a list being built: the lowest bits of the element's data, as many
+    /// as the value has. Same preconditions as `get`.
     fn get_from_builder<A: BuilderArena>(list: &ListBuilder<'_, A>, index: u32) -> Self
         requires inside { IsListPlace (A.view list.now.arena.now).words list.now.place }
         requires range { 0 < element_bits (size_number size) → index < list.now.place.count }
@@ -51,10 +52,10 @@ pub trait PrimitiveElement {
         ensures { HasField (A.view list.now.arena.now) list.now.place.segment list.now.place.byte
             (lowest_bits list.now.place index (element_bits (size_number size)) (bits_of result)) };
 
-    /// Writes an element of a list: the lowest bits of its data, as many as the value has. There are
-    /// more elements than `index`, and each has at least as many bits of data as the value; `()` asks
-    /// for neither, and nothing is written. Of a struct the lowest bits of its data section are
-    /// written.
+    /// Writes element `index` of a list: the lowest bits of its data, as many as the value has; of
+    /// a struct, those of its data section. Preconditions: `index` is below the number of elements;
+    /// each has at least as many bits of data as the value. `()` requires neither, and writes
+    /// nothing.
     fn set<A: BuilderArena>(list: &mut ListBuilder<'_, A>, index: u32, value: Self)
         requires inside { IsListPlace (A.view list.old.arena.now).words list.old.place }
         requires range { 0 < element_bits (size_number size) → index < list.old.place.count }
@@ -68,8 +69,8 @@ pub trait PrimitiveElement {
             → list.new.arena.now ≡ list.old.arena.now }
         ensures builder { KeepsListBuilder A.view list.old list.new };
 
-    /// The element size of a list of such elements: by the number of bytes, `Bit` for a `bool`, `Void`
-    /// for `()` ("Lists").
+    /// The element size of a list of such elements: by the number of bytes, `Bit` for a `bool`,
+    /// `Void` for `()` ("Lists").
     fn element_size() -> ElementSize
         ensures { result ≡ size };
 }

@@ -1,4 +1,4 @@
-//! Structs of a message that is built ("Structs").
+//! Structs of a message being built ("Structs").
 ghost use Rattle.std.specs.Prelude.{◌≡◌, ◌≢◌, ◌↔◌, ◌+◌, ◌*◌, ◌<◌, [], IsTrue, IsOk, IfOk, IfErr, cond, true, false, min};
 ghost use Rattle.capnp_format.specs.Segments.{segment, word_at, IsPlace};
 ghost use Rattle.capnp_making.specs.Fields.{field_in};
@@ -24,10 +24,10 @@ use capnp_words::primitive::Primitive;
 use capnp_words::read_limiter::ReadLimiter;
 use capnp_words::zero::Zero;
 
-/// A struct of a message that is built.
+/// A struct of a message being built.
 #[derive(Drop)]
 pub struct StructBuilder<'a, A> {
-    /// Where the struct is. Both sections lie in the message.
+    /// Where the struct is. Both sections are inside the message.
     pub place: StructPlace,
     /// The message.
     pub arena: &'a mut A,
@@ -41,7 +41,7 @@ impl<'a, A: BuilderArena> StructBuilder<'a, A> {
     ghost use Rattle.capnp_builders.specs.contracts.builders.struct_builder.StructBuilder.{the_row};
     ghost use mir.Syntax.{named};
 
-    /// A builder of this struct, for as long as this one is borrowed.
+    /// A builder of this struct, as long as this one is borrowed.
     pub fn reborrow(&mut self) -> StructBuilder<'_, A>
         ensures* lends { sem 𝓛 (follows (the_row (record { mir = named 1; lft = [] }) A.row) A.row
             self.entry.ghost_name result.arena.ghost_name
@@ -54,7 +54,7 @@ impl<'a, A: BuilderArena> StructBuilder<'a, A> {
         StructBuilder { arena, place }
     }
 
-    /// The struct, to be read: nothing is charged, and `i32::MAX` levels may be entered.
+    /// The struct, for reading: charges nothing, and `i32::MAX` levels may be entered.
     pub fn as_reader(&self) -> StructReader<'_, A>
         requires { IsStructPlace (A.view self.now.arena.now).words self.now.place }
         ensures { IsStructReader A.ReaderArena self.now result }
@@ -62,7 +62,7 @@ impl<'a, A: BuilderArena> StructBuilder<'a, A> {
         StructReader::at(&*self.arena, self.place, i32::MAX)
     }
 
-    /// The struct, to be read once building is over: nothing is charged, and `i32::MAX` levels may be
+    /// The struct, for reading once building is over: charges nothing, and `i32::MAX` levels may be
     /// entered.
     pub fn into_reader(self) -> StructReader<'a, A>
         requires { IsStructPlace (A.view self.arena.now).words self.place }
@@ -72,7 +72,7 @@ impl<'a, A: BuilderArena> StructBuilder<'a, A> {
         StructReader::at(arena, place, i32::MAX)
     }
 
-    /// A pointer of the pointer section, which has more than `index`.
+    /// Pointer `index` of the pointer section. Precondition: the section has it.
     pub fn get_pointer_field(self, index: usize) -> PointerBuilder<'a, A>
         requires inside { IsStructPlace (A.view self.arena.now).words self.place }
         requires field { index < self.place.pointers }
@@ -89,15 +89,15 @@ impl<'a, A: BuilderArena> StructBuilder<'a, A> {
         }
     }
 
-    /// Makes the struct's content that of another one, as it stands: the data that both have is copied,
-    /// and the rest of the data section is zero; the pointers become null, and zero what they held; then
-    /// the pointers that both have are copied in order ("Structs"). What the copied pointers mean is
-    /// charged as reading it costs, within the reader's nesting limit, and no other words.
+    /// Makes a plain copy of another struct's content ("Structs"). Copies the data that both have,
+    /// and zeroes the rest of the data section; makes the pointers null, and zeroes what they held;
+    /// then copies the pointers that both have, in order. Charges what reading the values of the
+    /// copied pointers costs, within the reader's nesting limit, and no other words.
     ///
-    /// A refusal is the first one of reading what the pointers mean; or, where the words of what they mean
-    /// don't fit behind those of the struct's segment, `AllocationFailed`, or `MessageTooLarge` of an
-    /// object's words and one more. Then the data is copied and so are the pointers before the refused one;
-    /// it and those behind it are null, the words that were taken for it are zero and stay allocated, and
+    /// Refusals: the first one of reading what the pointers mean; if the words of that don't fit
+    /// after those of the struct's segment, `AllocationFailed`, or `MessageTooLarge` with an
+    /// object's words plus one. The data is then copied, and so are the pointers before the refused
+    /// one; it and those after it are null, the words taken for it are zero and stay allocated, and
     /// what was charged stays charged.
     pub fn copy_content_from<B: ReaderArena>(
         &mut self,
@@ -138,7 +138,7 @@ impl<'a, A: BuilderArena> StructBuilder<'a, A> {
         copy::copy_each(&mut *self.arena, to, from, count, lim)
     }
 
-    /// Whether a pointer of the pointer section, which has more than `index`, is zero.
+    /// Whether pointer `index` of the pointer section is zero. Precondition: the section has it.
     pub fn is_pointer_field_null(&self, index: usize) -> bool
         requires inside { IsStructPlace (A.view self.now.arena.now).words self.now.place }
         requires field { index < self.now.place.pointers }
@@ -150,7 +150,8 @@ impl<'a, A: BuilderArena> StructBuilder<'a, A> {
     }
 
     #[tactic(auto, using(crate::proofs::FieldPlaces::still_inside))]
-    /// Writes a field of the data section, in which it lies, by its offset in values of `T`.
+    /// Writes the field of the data section at `offset`, in values of `T`. Precondition: it is
+    /// inside the section.
     pub fn set_data_field<T: Primitive + Zero>(&mut self, offset: usize, value: T)
         requires { HoldsField A.view self.old (8 * T.BYTES) offset }
         ensures written { WritesField (A.view self.old.arena.now)
@@ -162,8 +163,8 @@ impl<'a, A: BuilderArena> StructBuilder<'a, A> {
         numbers::set_number(&mut *self.arena, self.place.segment, byte, value);
     }
 
-    /// Writes a field of the data section under a mask, its default: `get_data_field_mask` with the
-    /// same mask gives the value.
+    /// Writes a field of the data section with its default `mask` applied: `get_data_field_mask`
+    /// with the same mask returns `value`.
     pub fn set_data_field_mask<T: Primitive + Zero + Mask>(
         &mut self,
         offset: usize,
@@ -180,7 +181,8 @@ impl<'a, A: BuilderArena> StructBuilder<'a, A> {
     }
 
     #[tactic(auto, using(crate::proofs::FieldPlaces::still_inside))]
-    /// Writes a bit of the data section, in which it lies, by its offset in bits.
+    /// Writes the bit of the data section at `offset`, in bits. Precondition: it is inside the
+    /// section.
     pub fn set_bool_field(&mut self, offset: usize, value: bool)
         requires { HoldsBit A.view self.old offset }
         ensures written { WritesField (A.view self.old.arena.now)
@@ -192,8 +194,8 @@ impl<'a, A: BuilderArena> StructBuilder<'a, A> {
         numbers::set_bit(&mut *self.arena, self.place.segment, bit, value);
     }
 
-    /// Writes a bit of the data section under a mask, its default: `get_bool_field_mask` with the same
-    /// mask gives the value.
+    /// Writes a bit of the data section with its default `mask` applied: `get_bool_field_mask` with
+    /// the same mask returns `value`.
     pub fn set_bool_field_mask(&mut self, offset: usize, value: bool, mask: bool)
         requires { HoldsBit A.view self.old offset }
         ensures written { WritesField (A.view self.old.arena.now)
@@ -204,7 +206,8 @@ impl<'a, A: BuilderArena> StructBuilder<'a, A> {
         self.set_bool_field(offset, value != mask);
     }
 
-    /// A field of the data section, in which it lies, by its offset in values of `T`.
+    /// The field of the data section at `offset`, in values of `T`. Precondition: it is inside the
+    /// section.
     pub fn get_data_field<T: Primitive + Zero>(&self, offset: usize) -> T
         requires { HoldsField A.view self.now (8 * T.BYTES) offset }
         ensures { HasField (A.view self.now.arena.now) self.now.place.segment self.now.place.byte
@@ -214,7 +217,8 @@ impl<'a, A: BuilderArena> StructBuilder<'a, A> {
         numbers::get_number(&*self.arena, self.place.segment, byte)
     }
 
-    /// A field of the data section, in which it lies, under a mask, its default.
+    /// The field like `get_data_field`, with its default `mask` applied. Precondition: it is inside
+    /// the section.
     pub fn get_data_field_mask<T: Primitive + Zero + Mask>(
         &self,
         offset: usize,
@@ -229,7 +233,7 @@ impl<'a, A: BuilderArena> StructBuilder<'a, A> {
         T::mask(self.get_data_field(offset), mask)
     }
 
-    /// A bit of the data section, in which it lies, by its offset in bits.
+    /// The bit of the data section at `offset`, in bits. Precondition: it is inside the section.
     pub fn get_bool_field(&self, offset: usize) -> bool
         requires { HoldsBit A.view self.now offset }
         ensures { IsTrue result
@@ -240,7 +244,8 @@ impl<'a, A: BuilderArena> StructBuilder<'a, A> {
         numbers::get_bit(&*self.arena, self.place.segment, bit)
     }
 
-    /// A bit of the data section, in which it lies, under a mask, its default.
+    /// The bit like `get_bool_field`, with its default `mask` applied. Precondition: it is inside
+    /// the section.
     pub fn get_bool_field_mask(&self, offset: usize, mask: bool) -> bool
         requires { HoldsBit A.view self.now offset }
         ensures plain { mask ≡ false

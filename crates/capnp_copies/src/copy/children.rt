@@ -1,4 +1,4 @@
-//! The copy of pointers one behind the other.
+//! Copies consecutive pointers.
 ghost use Rattle.std.specs.Prelude.{◌≡◌, ◌<◌, ◌≤◌, ◌↔◌, IsTrue};
 ghost use Rattle.capnp_format.specs.Word.{kind, element_size};
 ghost use Rattle.capnp_objects.specs.Wanted.{Form};
@@ -22,8 +22,8 @@ use capnp_words::read_limiter::ReadLimiter;
 use capnp_words::wire_pointer::{WirePointer, WirePointerKind, flat_words, is_of_bits};
 use capnp_words::words::part;
 
-/// Copies what so many pointers mean, from that of `from` on, to as many null pointers from the
-/// destination's on.
+/// Copies the values of `count` consecutive pointers, from `from` on, to as many null pointers,
+/// from the destination's on.
 #[cycle(copies)]
 #[inline(always)]
 pub fn copy_children<A: BuilderArena, B: ReaderArena>(
@@ -44,8 +44,8 @@ pub fn copy_children<A: BuilderArena, B: ReaderArena>(
     copy_row(arena, to.place, from, count, lim, to.form)
 }
 
-/// Does what `copy_children` does, out of line: each level of structs is a call of it, to which a place
-/// and a form go in registers.
+/// Like `copy_children`, not inlined: each level of structs is a call of this, which takes a place
+/// and a form in registers.
 #[cycle(copies)]
 #[inline(never)]
 fn copy_row<A: BuilderArena, B: ReaderArena>(
@@ -66,8 +66,8 @@ fn copy_row<A: BuilderArena, B: ReaderArena>(
     copy_in_line(arena, to, from, count, lim)
 }
 
-/// Does what `copy_children` does, in line: the loop over a list calls nothing for pointers that are
-/// null or lead to bits or bytes, and a list in a list takes the stack of one call.
+/// Like `copy_children`, inlined: the loop over a list calls nothing for pointers that are null or
+/// lead to bits or bytes, and a list in a list takes the stack of one call.
 #[cycle(copies)]
 #[inline(always)]
 pub(crate) fn copy_in_line<A: BuilderArena, B: ReaderArena>(
@@ -91,8 +91,8 @@ pub(crate) fn copy_in_line<A: BuilderArena, B: ReaderArena>(
     Ok(())
 }
 
-/// Copies what a pointer means to the null pointer at a place. What is near and small to read is told
-/// by its word alone, since an object handed over through memory costs more than its reading.
+/// Copies a pointer's value to the null pointer at a place. Judges what is near and small by its
+/// word alone, because passing an object through memory costs more than reading it.
 #[cycle(copies)]
 #[inline(always)]
 fn copy_child<A: BuilderArena, B: ReaderArena>(
@@ -178,7 +178,7 @@ fn copy_near_flat<A: BuilderArena, B: ReaderArena>(
     copy_flat(arena, to, size, count, elements)
 }
 
-/// Whether a word is the pointer to a list of bits or bytes in its own segment.
+/// Whether `word` is the pointer to a list of bits or bytes in its own segment.
 fn is_list_of_bits(word: WirePointer) -> bool
     ensures { IsTrue result
         ↔ (kind word.0 ≡ 1) × (0 < element_size word.0) × (element_size word.0 ≤ 5) }

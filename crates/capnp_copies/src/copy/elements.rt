@@ -1,4 +1,4 @@
-//! The copy of the elements of a list of structs ("Lists", "Canonicalization").
+//! Copies the elements of a list of structs ("Lists", "Canonicalization").
 ghost use Rattle.std.specs.Prelude.{◌≡◌, ℕ, ◌+◌, ◌*◌, ◌<◌, ◌≤◌, length, IfOk, IfErr};
 ghost use Rattle.capnp_format.specs.Bytes.{words_of};
 ghost use Rattle.capnp_format.specs.Segments.{segment, word_at};
@@ -22,7 +22,8 @@ use capnp_words::error::ErrorKind;
 use capnp_words::read_limiter::ReadLimiter;
 use capnp_words::words::{count, part};
 
-/// Copies elements, whose first word is `from`, over words of zero, each cut to the sections that are kept.
+/// Copies elements, whose first word is `from`, over zero words, each cut to the sections that are
+/// kept.
 #[cycle(copies)]
 #[inline(always)]
 pub(crate) fn copy_elements<A: BuilderArena, B: ReaderArena>(

@@ -1,4 +1,4 @@
-//! The copy of a list of numbers: its words, with padding of zero ("Lists", "Canonicalization").
+//! Copies a list of numbers: its words, with zero padding ("Lists", "Canonicalization").
 ghost use Rattle.std.specs.Prelude.{◌≡◌, ◌+◌, ◌*◌, ◌/◌, ◌%◌, ◌<◌, ◌≤◌, ◌^◌, length, IsOk, OnOk, OnErr, IfErr, MatchResult};
 ghost use Rattle.capnp_format.specs.Bytes.{words_of};
 ghost use Rattle.capnp_format.specs.Numbers.{words_for, unpacked, digits, from_digits};
@@ -18,8 +18,8 @@ use capnp_words::error::ErrorKind;
 use capnp_words::wire_pointer::{ElementSize, data_bits_per_element};
 use capnp_words::words;
 
-/// Copies `count` elements, whose words are given, and sets the pointer at a place to the copies. Where the
-/// arena refuses it, no word changes.
+/// Copies the `count` elements in these words, and sets the pointer at a place to the copies. If
+/// the arena refuses, no word changes.
 #[inline(always)]
 pub fn copy_flat<A: BuilderArena>(
     arena: &mut A,
@@ -57,7 +57,7 @@ pub fn copy_flat<A: BuilderArena>(
     Ok(())
 }
 
-/// Writes elements of so many bits together over words of a segment, with padding of zero.
+/// Writes elements, of `bits` bits together, over words of a segment, with zero padding.
 #[inline(always)]
 fn put_elements<A: BuilderArena>(arena: &mut A, id: u32, start: u32, elements: &[u8], bits: u64)
     requires whole { length elements.now ≡ 8 * length (words_of elements.now) }

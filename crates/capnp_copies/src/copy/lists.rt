@@ -1,4 +1,4 @@
-//! The copy of lists of pointers and of structs ("Lists", "Canonicalization").
+//! Copies lists of pointers and of structs ("Lists", "Canonicalization").
 ghost use Rattle.std.specs.Prelude.{◌≡◌, ◌+◌, ◌*◌, ◌<◌, ◌≤◌, ◌^◌, length};
 ghost use Rattle.capnp_objects.specs.Reading.{segment_read};
 ghost use Rattle.capnp_pointers.specs.Pointers.{reading};
@@ -44,8 +44,8 @@ pub fn copy_pointers<A: BuilderArena, B: ReaderArena>(
     copy_in_line(arena, elements, from, count, lim)
 }
 
-/// Copies a list of structs, whose first word behind the tag is `from`, to the pointer at a place. In
-/// canonical form the elements of the copy have the least sections that lose nothing.
+/// Copies a list of structs, whose first word after the tag is `from`, to the pointer at a place.
+/// In canonical form the elements of the copy have the smallest sections that lose nothing.
 #[cycle(copies)]
 #[inline(always)]
 pub fn copy_structs<A: BuilderArena, B: ReaderArena>(
@@ -81,8 +81,8 @@ pub fn copy_structs<A: BuilderArena, B: ReaderArena>(
     copy_elements(arena, Destination { place, form }, from, sizes, lim)
 }
 
-/// The sections that a copy of `count` structs keeps of each, where `from` is the first word: in canonical
-/// form the least that lose nothing.
+/// The sections of each of `count` structs that a copy keeps, where `from` is the first word: in
+/// canonical form the smallest that lose nothing.
 fn kept_widths<B: ReaderArena>(
     from: Pointer<'_, B>,
     size: StructSize,

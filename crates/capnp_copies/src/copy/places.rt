@@ -1,5 +1,5 @@
-//! Where a copy goes on from a pointer: to those that stand behind it, and to those inside of what it
-//! leads to.
+//! Where a copy goes on from a pointer: to the pointers after it, and to those inside what it leads
+//! to.
 ghost use Rattle.std.specs.Prelude.{◌≡◌, ◌+◌, ◌<◌, ◌^◌, pred};
 ghost use Rattle.capnp_objects.specs.Objects.{IsHeld};
 ghost use Rattle.capnp_objects.specs.Reading.{behind, source_start};
@@ -11,7 +11,7 @@ use capnp_making::making::Start;
 use capnp_objects::object::Place;
 use capnp_pointers::pointers::Pointer;
 
-/// The pointer so many words behind another, in the same segment and with the same nesting limit.
+/// The pointer `words` words after `from`, in the same segment and with the same nesting limit.
 pub fn pointer_behind<B: ReaderArena>(from: Pointer<'_, B>, words: u32) -> Pointer<'_, B>
     requires { from.place.at + words < 2 ^ 32 }
     ensures { reading B.ReaderArena result ≡ behind (reading B.ReaderArena from.entry) words }
@@ -26,7 +26,7 @@ pub fn pointer_behind<B: ReaderArena>(from: Pointer<'_, B>, words: u32) -> Point
     }
 }
 
-/// The place so many words behind another, in the same segment.
+/// The place `words` words after `place`, in the same segment.
 pub fn place_behind(place: Start, words: u32) -> Start
     requires { place.at + words < 2 ^ 32 }
     ensures { result ≡ record place { at = place.at + words } }

@@ -8,8 +8,8 @@ use capnp_arena_traits::arena::BuilderArena;
 use capnp_making::making::{Start, clear};
 use capnp_words::error::ErrorKind;
 
-/// Ends a copy to a place, and returns the copy's outcome: after a refusal the pointer there becomes null,
-/// and what was made for it becomes zero.
+/// Ends a copy to a place, and returns the copy's outcome: after a refusal, makes the pointer there
+/// null, and zeroes what was made for it.
 #[inline(always)]
 pub fn clear_refused<A: BuilderArena>(
     arena: &mut A,

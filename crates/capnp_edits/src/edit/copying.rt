@@ -16,7 +16,7 @@ use capnp_words::error::ErrorKind;
 use capnp_words::read_limiter::ReadLimiter;
 use capnp_words::wire_pointer::ElementSize;
 
-/// What the root of a source is to lead to.
+/// What the root of a source has to lead to.
 #[derive(Clone, Copy)]
 pub(crate) enum Wanted {
     /// Anything.
@@ -32,7 +32,7 @@ pub(crate) enum Wanted {
 pub(crate) struct Copying<'a> {
     /// The message.
     pub(crate) source: Source<'a>,
-    /// What the source's root is to lead to.
+    /// What its root has to lead to.
     pub(crate) wanted: Wanted,
     /// Whether the copy is in canonical form.
     pub(crate) canonicalize: bool,
@@ -41,7 +41,7 @@ pub(crate) struct Copying<'a> {
 /// A pointer of another message.
 pub(crate) type SourceReader<'a> = PointerReader<'a, ReaderArenaImpl<SegmentArray<'a>>>;
 
-/// The root of another message, and what is left to be read of it once its word is charged.
+/// The root of another message, and the limiter for reading it, with the root's word charged.
 pub(crate) fn open_source<'a>(
     source: Source<'a>,
 ) -> Result<(SourceReader<'a>, ReadLimiter), ErrorKind>
@@ -55,7 +55,7 @@ pub(crate) fn open_source<'a>(
     Ok((root, lim))
 }
 
-/// Makes of a pointer a copy of what the root of another message leads to.
+/// Copies the value of another message's root to a pointer.
 pub(crate) fn copy_root<A: BuilderArena>(
     pointer: &mut PointerBuilder<'_, A>,
     copying: Copying<'_>,

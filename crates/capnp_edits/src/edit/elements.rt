@@ -28,7 +28,7 @@ use capnp_readers::readers::PointerPlace;
 use capnp_words::error::ErrorKind;
 use capnp_words::wire_pointer::{ElementSize, data_bits_per_element};
 
-/// How many words the elements of a list take, its tag aside.
+/// The number of words that the elements of a list take, without its tag.
 fn words_of(list: ExistingList) -> u64
     ensures { result ≡ elements_words list.size list.count
         (list.struct_size.data_words + list.struct_size.pointers) }
@@ -41,7 +41,7 @@ fn words_of(list: ExistingList) -> u64
     }
 }
 
-/// How many bits of data an element of a list has.
+/// The number of bits of data of an element of a list.
 fn bits_of(list: ExistingList) -> u32
     ensures { result ≡ data_bits list.size list.struct_size }
 {
@@ -51,7 +51,7 @@ fn bits_of(list: ExistingList) -> u32
     }
 }
 
-/// Whether an element of a list is there, which lies in the message, and is as wide as a size, or wider.
+/// Whether the list has element `index`, inside the message, of at least the width `size`.
 fn has_element<A: BuilderArena>(
     arena: &A,
     list: ExistingList,
@@ -72,7 +72,7 @@ fn has_element<A: BuilderArena>(
         && has_words(arena, list.segment, u64::from(list.start) + words_of(list))
 }
 
-/// Writes the lowest bits of an element of a list, as many as the size has.
+/// Writes the lowest bits of element `index` of a list, as many as `size` has.
 fn put_element<A: BuilderArena>(
     list: &mut ListBuilder<'_, A>,
     size: ElementSize,
@@ -95,7 +95,7 @@ fn put_element<A: BuilderArena>(
     }
 }
 
-/// Writes the lowest bits of an element of a list that was looked for, if it is there.
+/// Writes the lowest bits of an element of the list that was found, if it has the element.
 fn set_element<A: BuilderArena>(
     arena: &mut A,
     found: Result<Option<ExistingList>, ErrorKind>,
@@ -123,7 +123,7 @@ fn set_element<A: BuilderArena>(
     }
 }
 
-/// Writes a byte of a text or data that was looked for, if it is there.
+/// Writes byte `index` of the text or data that was found, if it has that byte.
 fn write_byte<A: BuilderArena>(
     arena: &mut A,
     found: Result<Option<ExistingBytes>, ErrorKind>,
@@ -147,7 +147,7 @@ fn write_byte<A: BuilderArena>(
     }
 }
 
-/// Writes a part of a list, a text or data that a pointer of a message leads to.
+/// Writes a part of the list, text or data that a pointer of a message leads to.
 pub(crate) fn edit_part<A: BuilderArena>(
     arena: &mut A,
     place: PointerPlace,

@@ -15,7 +15,8 @@ use capnp_words::primitive::Primitive;
 use capnp_words::wire_pointer::ElementSize;
 
 #[tactic(auto, using(crate::proofs::Fields::number_aligned, crate::proofs::Fields::number_written, crate::proofs::Fields::number_outside))]
-/// Writes a number of a data section, by its index among numbers as wide, if it lies there.
+/// Writes number `index` of a data section, counted in numbers of its width, if it is inside the
+/// section.
 fn put_number<A: BuilderArena, T: Primitive + Drop>(
     arena: &mut A,
     parent: ExistingStruct,
@@ -43,7 +44,7 @@ fn put_number<A: BuilderArena, T: Primitive + Drop>(
 }
 
 #[tactic(auto, using(crate::proofs::Fields::bit_written, crate::proofs::Fields::bit_outside))]
-/// Writes a bit of a data section, by its index, if it lies there.
+/// Writes bit `index` of a data section, if it is inside the section.
 fn put_bit<A: BuilderArena>(
     arena: &mut A,
     parent: ExistingStruct,
@@ -64,7 +65,7 @@ fn put_bit<A: BuilderArena>(
     Ok(())
 }
 
-/// Writes a number of a data section, or a bit, if it lies there.
+/// Writes a number or a bit of a data section, if it is inside the section.
 pub(crate) fn put_field<A: BuilderArena>(
     arena: &mut A,
     parent: ExistingStruct,

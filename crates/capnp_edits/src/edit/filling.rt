@@ -1,4 +1,4 @@
-//! Changes of a struct, and those that copy the content of a struct of another message.
+//! Edits of a struct, among them those that copy the content of another message's struct.
 ghost use Rattle.std.specs.Prelude.{◌≡◌, ◌+◌, None, true, IsOk, IfErr, IfSome};
 ghost use Rattle.capnp_contents.specs.Existing.{StructLiesIn};
 ghost use Rattle.capnp_readers.specs.Readers.{IsStructPlace};
@@ -22,7 +22,7 @@ use capnp_contents::existing::ExistingStruct;
 use capnp_readers::readers::StructPlace;
 use capnp_words::error::ErrorKind;
 
-/// The place of a struct that lies in the message, if it has a word.
+/// The place of a struct inside the message; `None` if the struct has no word.
 fn place_in<A: BuilderArena>(arena: &A, parent: ExistingStruct) -> Option<StructPlace>
     requires { StructLiesIn (A.view arena.now).words parent }
     ensures empty { result ≡ None → parent.size.data_words + parent.size.pointers ≡ 0 }
@@ -36,11 +36,13 @@ fn place_in<A: BuilderArena>(arena: &A, parent: ExistingStruct) -> Option<Struct
     Some(struct_place(parent))
 }
 
-/// Makes the data and pointers of a struct those of the struct that the root of the source, another
-/// message, leads to. A null root counts as a struct of no words, which leaves zeros and null pointers;
-/// a root that is no struct, or can't be read, changes nothing. Where the copy of a pointer is refused,
-/// the data and the pointers before it are copied, and that one and those behind it are null. In the
-/// clauses `AtElement parent` is this struct, whether it is an element or a pointer leads to it.
+/// Replaces the data and pointers of a struct by those of the struct that the root of `source`,
+/// another message, leads to.
+///
+/// A null root counts as a struct of no words, which leaves zeros and null pointers. If the root
+/// isn't a struct, or can't be read, nothing changes. If the copy of a pointer is refused, the data
+/// and the pointers before it are copied, and that one and those after it are null. In the clauses,
+/// `AtElement parent` is this struct, whether it is an element or a pointer leads to it.
 pub(crate) fn fill<A: BuilderArena>(
     arena: &mut A,
     parent: ExistingStruct,

@@ -12,7 +12,7 @@ use capnp_arena::arena::BuilderArena;
 use capnp_builders::builders::PointerBuilder;
 use capnp_words::error::ErrorKind;
 
-/// Looks for something, as a builder call does.
+/// Looks for something with the builder's call for it.
 pub(crate) fn look<A: BuilderArena>(
     pointer: &mut PointerBuilder<'_, A>,
     sought: Sought,

@@ -21,7 +21,7 @@ pub(crate) enum PathEnd {
     Element(ExistingStruct),
 }
 
-/// Whether a segment has at least so many words.
+/// Whether segment `id` has at least `words` words.
 pub(crate) fn has_words<A: BuilderArena>(arena: &A, id: u32, words: u64) -> bool
     ensures enough { IsTrue result ↔ (words ≤ length (segment (A.view arena.now).words id)) }
     ensures small { IsTrue result → words < 2 ^ 32 }
@@ -32,7 +32,7 @@ pub(crate) fn has_words<A: BuilderArena>(arena: &A, id: u32, words: u64) -> bool
     }
 }
 
-/// Where a pointer of a struct is, by its index.
+/// Where pointer `i` of a struct is.
 fn child_of<A: BuilderArena>(arena: &A, parent: ExistingStruct, i: u16) -> Option<PathEnd>
     ensures { IsEndFound (A.view arena.now).words (child_in parent i) result }
 {
@@ -47,7 +47,7 @@ fn child_of<A: BuilderArena>(arena: &A, parent: ExistingStruct, i: u16) -> Optio
     }
 }
 
-/// Where an element of a list is, by its index, if it is a pointer or a struct.
+/// Where element `i` of a list is, if it is a pointer or a struct.
 fn element_of<A: BuilderArena>(arena: &A, list: ExistingList, i: u32) -> Option<PathEnd>
     ensures { IsEndFound (A.view arena.now).words (element_in list i) result }
 {

@@ -20,7 +20,7 @@ use capnp_readers::readers::PointerPlace;
 use capnp_words::error::ErrorKind;
 use capnp_words::wire_pointer::ElementSize;
 
-/// An outcome without what it gives.
+/// The outcome without its value.
 pub(crate) fn done<T: Drop>(outcome: Result<T, ErrorKind>) -> Result<(), ErrorKind>
     ensures { refusal_of result ≡ refusal_of outcome }
 {
@@ -28,7 +28,7 @@ pub(crate) fn done<T: Drop>(outcome: Result<T, ErrorKind>) -> Result<(), ErrorKi
     Ok(())
 }
 
-/// Makes an object that a pointer leads to.
+/// Makes a pointer lead to a new object.
 fn make<A: BuilderArena>(
     pointer: &mut PointerBuilder<'_, A>,
     object: NewObject<'_>,
@@ -47,7 +47,7 @@ fn make<A: BuilderArena>(
     }
 }
 
-/// Makes of a pointer the capability by an index, or null.
+/// Makes a pointer a capability, or null.
 fn point<A: BuilderArena>(pointer: &mut PointerBuilder<'_, A>, capability: Option<u32>)
     requires { IsThere (built A.view pointer.old) }
     ensures { IsDoneBy A.view pointer.old pointer.new (Point capability) None }

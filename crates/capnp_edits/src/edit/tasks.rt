@@ -8,40 +8,41 @@ use crate::edit::copying::{Copying, Wanted};
 use crate::edit::{Op, Source};
 use capnp_words::wire_pointer::{ElementSize, StructSize};
 
-/// An object that is made.
+/// An object to make.
 #[derive(Clone, Copy)]
 pub(crate) enum NewObject<'a> {
     /// A struct, all zero.
     ZeroStruct(StructSize),
-    /// A list of so many elements that are no structs, all zero or null.
+    /// A list of so many elements that aren't structs, all zero or null.
     ZeroList(ElementSize, u32),
     /// A list of so many structs, all zero.
     ZeroStructs(u32, StructSize),
-    /// A text of so many bytes, all zero, with a zero behind them.
+    /// A text of so many bytes, all zero, followed by a zero byte.
     ZeroText(u32),
-    /// A text of these bytes, with a zero behind them.
+    /// A text of these bytes, followed by a zero byte.
     Text(&'a [u8]),
     /// Data of these bytes.
     Data(&'a [u8]),
 }
 
-/// A bit, or a number of 1, 2, 4 or 8 bytes, and its index among numbers as wide.
+/// A bit, or a number of 1, 2, 4 or 8 bytes, to write at an index.
 #[derive(Clone, Copy)]
 pub(crate) struct Number {
-    /// How wide the number is.
+    /// The width of the number.
     pub(crate) size: ElementSize,
-    /// The index of the number.
+    /// The index, counted in numbers of that width.
     pub(crate) index: u32,
-    /// What the number becomes.
+    /// The value to write.
     pub(crate) value: u64,
 }
 
-/// What is done with a struct, at a pointer that leads to one or at an element of a list.
+/// A change of a struct, at a pointer that leads to one or at an element of a list.
 #[derive(Clone, Copy)]
 pub(crate) enum StructChange<'a> {
-    /// A number of the struct's data section is written.
+    /// Write a number of the struct's data section.
     Bits(Number),
-    /// The struct's content becomes that of the struct that the root of another message leads to.
+    /// Replace the struct's content by that of the struct that the root of another message leads
+    /// to.
     Content(Source<'a>),
 }
 
@@ -56,7 +57,7 @@ pub(crate) enum Part {
     DataByte(u32, u8),
 }
 
-/// What is looked for.
+/// What to look for.
 #[derive(Clone, Copy)]
 pub(crate) enum Sought {
     /// A struct at least this large.
@@ -74,17 +75,17 @@ pub(crate) enum Sought {
 /// An operation whose numbers are in range, by what it does.
 #[derive(Clone, Copy)]
 pub(crate) enum Task<'a> {
-    /// The pointer leads to a new object.
+    /// Make the pointer lead to a new object.
     Make(NewObject<'a>),
-    /// The pointer becomes the capability by this index, or null.
+    /// Make the pointer the capability with this index, or null.
     Point(Option<u32>),
-    /// A struct is changed.
+    /// Change a struct.
     InStruct(StructChange<'a>),
-    /// A part of a list, a text or data is written.
+    /// Write a part of a list, a text or data.
     Write(Part),
-    /// Something is looked for, with a default.
+    /// Look for something, with a default.
     Search(Sought, Option<&'a [u8]>),
-    /// The pointer leads to a copy of what the root of another message means.
+    /// Copy the value of another message's root to the pointer.
     CopyRoot(Copying<'a>),
 }
 
@@ -94,7 +95,7 @@ const LIST_LIMIT: u32 = 0x2000_0000;
 // Defaults have fewer words than this.
 const DEFAULT_LIMIT: usize = 0x1_0000_0000;
 
-/// Whether a number has no more bits than its element size, which is a bit or one of 1, 2, 4 or 8 bytes.
+/// Whether `value` fits `size`, which is a bit or one of 1, 2, 4 or 8 bytes.
 fn is_number(size: ElementSize, value: u64) -> bool
     ensures { result ≡ is_number size value }
 {
@@ -108,7 +109,7 @@ fn is_number(size: ElementSize, value: u64) -> bool
     }
 }
 
-/// Whether a default has fewer words than a segment can have.
+/// Whether a default has fewer words than `DEFAULT_LIMIT`.
 fn is_small_default(default: Option<&[u8]>) -> bool
     ensures { result ≡ is_small_default default.entry }
 {
@@ -118,7 +119,7 @@ fn is_small_default(default: Option<&[u8]>) -> bool
     }
 }
 
-/// Whether a pointer can lead to an object.
+/// Whether a pointer can lead to the object.
 fn is_object(object: NewObject<'_>) -> bool
     ensures { result ≡ is_in_range (Make object.entry) }
 {
@@ -137,7 +138,7 @@ fn is_object(object: NewObject<'_>) -> bool
     }
 }
 
-/// Whether something can be looked for so.
+/// Whether this can be looked for, with this default.
 fn is_search(sought: Sought, default: Option<&[u8]>) -> bool
     ensures { result ≡ is_in_range (Search sought default.entry) }
 {
@@ -149,8 +150,8 @@ fn is_search(sought: Sought, default: Option<&[u8]>) -> bool
     }
 }
 
-/// Whether the numbers of a task are those of something that a pointer can lead to, or that a field or an
-/// element holds, and its default is small.
+/// Whether the numbers of a task are those of something that a pointer can lead to, or that a field
+/// or an element holds, and its default is small.
 fn is_in_range(task: Task<'_>) -> bool
     ensures { result ≡ is_in_range task.entry }
 {
@@ -165,7 +166,7 @@ fn is_in_range(task: Task<'_>) -> bool
     }
 }
 
-/// A copy of what the root of another message leads to.
+/// A copy of the value of another message's root.
 fn copy_of(source: Source<'_>, wanted: Wanted, canonicalize: bool) -> Task<'_>
     ensures { result ≡ CopyRoot (record {
       source = source.entry;
@@ -220,8 +221,8 @@ fn as_task(op: Op<'_>) -> Task<'_>
     }
 }
 
-/// What an operation does, if its numbers are in range. A number of a data section that is a bit has an
-/// operation of its own.
+/// What an operation does, if its numbers are in range. A bit of a data section has an operation of
+/// its own.
 pub(crate) fn task_of(op: Op<'_>) -> Option<Task<'_>>
     ensures { result ≡ task_of op.entry }
 {

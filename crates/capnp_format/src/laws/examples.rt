@@ -1,6 +1,7 @@
-//! Worked examples of the definitions, computed by the check. A word is written as its upper and its lower half in
-//! hexadecimal; in a message's bytes the lower half comes first, each half with its lowest byte first. Messages and
-//! values that stand in several examples have names in `specs/Examples.antt`.
+//! Worked examples of the definitions, computed by the check. A word is written as its upper and
+//! its lower half in hexadecimal; in a message's bytes the lower half comes first, each half with
+//! its lowest byte first. Messages and values used in several examples have names in
+//! `specs/Examples.antt`.
 
 ghost use Rattle.std.specs.Prelude.{◌≡◌, ℕ, map, ◌+◌, ◌-◌, ◌^◌, List, [], ◌∷◌, Some, None};
 ghost use Rattle.capnp_format.specs.Word.{kind, offset_bits, upper_half, data_words, pointer_count, element_size, list_count, is_double, far_position, struct_word, list_word, far_word, capability_word};
@@ -24,19 +25,20 @@ pub fn worked_examples()
     // A struct loses the zero word at its end.
     ensures trimmed_struct { HasCanonicalWords trimmed_struct 64 3
         (0x00000002_00000000 ∷ 0x11111111_11111111 ∷ 0x80000000_00000000 ∷ []) }
-    // The one element of a list of structs loses its last data word, and so does the tag.
+    // The only element of a list of structs loses its last data word, and so does the tag.
     ensures narrowed_struct_list { HasCanonicalWords
         ((0x00010000_00000000 ∷ 0x0000001f_00000001 ∷ 0x00000003_00000004 ∷ 0x22222222_22222222
         ∷ 0x80000000_00000000 ∷ 0x00000000_00000000 ∷ []) ∷ []) 64 5
         (0x00010000_00000000 ∷ 0x00000017_00000001 ∷ 0x00000002_00000004 ∷ 0x22222222_22222222
         ∷ 0x80000000_00000000 ∷ []) }
-    // The widest element decides: both keep one data word, though the first needs none, and lose the pointer.
+    // The widest element decides: both keep one data word, though the first needs none, and lose
+    // the pointer.
     ensures widest_element { HasCanonicalWords
         ((0x00000027_00000001 ∷ 0x00010001_00000008 ∷ 0x00000000_00000000 ∷ 0x00000000_00000000
         ∷ 0xaaaaaaaa_aaaaaaaa ∷ 0x00000000_00000000 ∷ []) ∷ []) 64 5
         (0x00000017_00000001 ∷ 0x00000001_00000008 ∷ 0x00000000_00000000 ∷ 0xaaaaaaaa_aaaaaaaa
         ∷ []) }
-    // A struct of no words is not Null, and its pointer has offset -1.
+    // A struct of no words isn't Null, and its pointer has offset -1.
     ensures empty_struct { HasCanonicalWords
         ((0x00020000_00000000 ∷ 0x00000001_00000004 ∷ 0x00000000_fffffffc ∷ 0xeeeeeeee_eeeeeeee
         ∷ []) ∷ []) 64 3
@@ -48,21 +50,21 @@ pub fn worked_examples()
         ∷ []) ∷ []) 64 3
         (0x00020000_00000000 ∷ 0x00000001_00000004 ∷ 0x00000000_fffffffc ∷ 0xeeeeeeee_eeeeeeee
         ∷ []) }
-    // Padding behind the eleven bits of a list is no part of the value.
+    // The padding after the eleven bits of a list isn't part of the value.
     ensures bit_padding { HasCanonicalWords
         ((0x00000059_00000001 ∷ 0x00000000_00000fee ∷ []) ∷ []) 64 1
         (0x00000059_00000001 ∷ 0x00000000_000007ee ∷ []) }
     // A far pointer to a pad in another segment: the pad costs one word.
     ensures far_pointer { HasCanonicalWords far_pointer 64 2
         (0x00000001_00000000 ∷ 0x07060504_03020100 ∷ []) }
-    // A far pointer to a pad of zero means an empty struct, not Null.
+    // A far pointer to a zero pad means an empty struct, not Null.
     ensures far_to_zero_pad { HasCanonicalWords
         ((0x00000001_00000002 ∷ []) ∷ (0x00000000_00000000 ∷ []) ∷ []) 64 1
         (0x00000000_fffffffc ∷ []) }
-    // A double far pointer: its two pads cost two words, and the kind of the first is not looked at.
+    // A double far pointer: its two pads cost two words, and the kind of the first is ignored.
     ensures double_far { HasCanonicalWords double_far 64 4
         (0x00000002_00000000 ∷ 0x00000000_00000008 ∷ 0x00000002_00000000 ∷ []) }
-    // A double far pointer whose object lies outside of its segment.
+    // A double far pointer whose object is outside of its segment.
     ensures double_far_outside { MeansNothing
         ((0x00000000_0000000e ∷ 0x00000000_fffffffa ∷ 0x0000000f_00000001 ∷ []) ∷ []) 64 }
     // A struct that is its own child.
@@ -87,7 +89,8 @@ pub fn worked_examples()
         ∷ (0x00000000_0000001a ∷ 0x00000012_00000001 ∷ []) ∷ []) 64 8
         (0x00010001_00000000 ∷ 0x00000000_00000007 ∷ 0x00000012_00000001 ∷ 0x00000000_00000061
         ∷ []) }
-    // One child that two pointers name is a child of each: it is read, charged and written twice.
+    // If two pointers lead to one child, it is a child of each: it is read, charged and written
+    // twice.
     ensures shared_child { HasCanonicalWords shared_child 64 4
         (0x00020000_00000000 ∷ 0x00000001_00000004 ∷ 0x00000001_00000004 ∷ 0x00000000_00000009
         ∷ 0x00000000_00000009 ∷ []) }
@@ -97,8 +100,8 @@ pub fn worked_examples()
         ∷ 0x00010203_04050607 ∷ []) ∷ []) 64 4
         (0x00020000_00000000 ∷ 0x00000001_00000004 ∷ 0x00000001_00000004 ∷ 0x00010203_04050607
         ∷ 0x07060504_03020100 ∷ []) }
-    // A struct inside of a struct takes two levels. Both are trimmed; the first child is Null and stays, since the
-    // second is none.
+    // A struct inside a struct takes two levels. Both are trimmed; the first child is Null and
+    // stays, because the second isn't.
     ensures inner_struct { let S : Segments =
         (0x00020001_00000000 ∷ 0x00000000_00000000 ∷ 0x00000000_00000000 ∷ 0x00010002_00000000
         ∷ 0x00000000_00000005 ∷ 0x00000000_00000000 ∷ 0x00000000_00000000 ∷ []) ∷ [] in
@@ -136,7 +139,7 @@ pub fn worked_examples()
     ensures two_segments { message ((1 ∷ 0 ∷ 0 ∷ 0 ∷ 0 ∷ 0 ∷ 0 ∷ 0 ∷ []) ∷ [] ∷ [])
         ≡ (1 ∷ []) ∷ [] ∷ [] }
 
-    // Elements of lists in words.
+    // List elements in words.
     ensures sizes { map element_bits (0 ∷ 1 ∷ 2 ∷ 3 ∷ 4 ∷ 5 ∷ 6 ∷ 7 ∷ [])
         ≡ 0 ∷ 1 ∷ 8 ∷ 16 ∷ 32 ∷ 64 ∷ 0 ∷ 0 ∷ [] }
     ensures number_of_digits { from_digits 10 (3 ∷ 2 ∷ 1 ∷ []) ≡ 123 }
@@ -226,7 +229,8 @@ pub fn worked_examples()
     ensures stands_nowhere_else { Stands ((0x00000001_00000000 ∷ 9 ∷ 9 ∷ []) ∷ []) 0 0 2
         (Struct (9 ∷ []) no_trees) → ⊥ }
 
-    // What a value covers: no word twice in a builder's message, but the shared child is.
+    // What a value covers: in a builder's message no word twice; the shared child's word is covered
+    // twice.
     ensures far_cover { cover far_pointer 0 0 (Struct (0x07060504_03020100 ∷ []) no_trees)
         ≡ record { segment = 1; start = 0; words = 1 }
         ∷ record { segment = 1; start = 1; words = 1 } ∷ [] }

@@ -1,4 +1,4 @@
-//! Bytes in memory, to be read and written.
+//! Reads and writes bytes in memory.
 ghost use Rattle.std.specs.Prelude.{◌≡◌, ◌<◌, ◌+◌, [], true, false, Some, Ok, length, min, vec_len, IfOk, OnErr};
 ghost use Rattle.std.specs.Vec.{vec_capacity};
 ghost use Rattle.capnp_framing.specs.Devices.{ReadGives, WriteTakes};
@@ -6,7 +6,7 @@ ghost use Rattle.capnp_framing.specs.Devices.{ReadGives, WriteTakes};
 use super::{DeviceFault, Input, Output};
 use std::alloc::Global;
 
-/// Bytes in memory, to be read. It never fails, and a read gives as many as there are and as there is room for.
+/// Reads bytes in memory. It never fails, and a read returns as many bytes as there are and fit.
 #[derive(Clone, Copy)]
 pub struct MemoryInput<'a> {
     bytes: &'a [u8],
@@ -43,8 +43,8 @@ impl Input for MemoryInput<'_> {
     }
 }
 
-/// Bytes in memory, written one behind the other. A write takes all that it is given, and fails only where there is no
-/// memory for more.
+/// Appends the bytes that are written to it, in memory. A write takes all of its bytes, and fails
+/// only if there is no memory for them.
 #[derive(Drop)]
 pub struct MemoryOutput {
     bytes: Vec<u8>,
@@ -52,7 +52,7 @@ pub struct MemoryOutput {
 }
 
 impl MemoryOutput {
-    /// An output that has taken nothing yet.
+    /// An empty output.
     pub fn new(alloc: Global) -> Self
         ensures empty { result.bytes.items ≡ [] }
         ensures works { result.failed ≡ false }
@@ -63,7 +63,7 @@ impl MemoryOutput {
         }
     }
 
-    /// All bytes that were taken.
+    /// All bytes written so far.
     pub fn bytes(&self) -> &[u8]
         ensures { Some result.now ≡ ⟦<Self as Output>⟧.contents self.now }
     {

@@ -1,4 +1,4 @@
-//! The readers and writers of the standard library.
+//! The standard library's readers and writers.
 ghost use Rattle.std.specs.Prelude.{◌≡◌, true, false, Some, IsErr, OnOk, OnErr};
 ghost use Rattle.std.specs.Io.KnownBytes.{Keeps};
 ghost use Rattle.capnp_framing.specs.Devices.{ReadGives};
@@ -6,7 +6,8 @@ ghost use Rattle.capnp_framing.specs.Devices.{ReadGives};
 use super::{DeviceFault, Input, Output};
 use std::io::{Read, Write};
 
-/// The bytes of a reader. What goes wrong in it is a fault, and is not told; the reader isn't asked again behind one.
+/// The bytes of a reader. An error of the reader is a fault, whose reason is dropped; the reader
+/// isn't read on after one.
 #[derive(Drop)]
 pub struct ReaderInput<R> {
     reader: R,
@@ -14,7 +15,7 @@ pub struct ReaderInput<R> {
 }
 
 impl<R: Read> ReaderInput<R> {
-    /// The input of a reader that has not failed.
+    /// The input of a reader that hasn't failed.
     pub fn new(reader: R) -> Self
         ensures reader { result.reader ≡ reader }
         ensures works { result.failed ≡ false }
@@ -55,7 +56,7 @@ impl<R: Read> Input for ReaderInput<R> {
     }
 }
 
-/// A writer that takes bytes. What goes wrong in it is a fault, and is not told.
+/// Writes bytes to a writer. An error of the writer is a fault, whose reason is dropped.
 #[derive(Drop)]
 pub struct WriterOutput<W> {
     writer: W,
@@ -63,7 +64,7 @@ pub struct WriterOutput<W> {
 }
 
 impl<W: Write> WriterOutput<W> {
-    /// The output to a writer that has not failed.
+    /// The output to a writer that hasn't failed.
     pub fn new(writer: W) -> Self
         ensures writer { result.writer ≡ writer }
         ensures works { result.failed ≡ false }
@@ -74,7 +75,7 @@ impl<W: Write> WriterOutput<W> {
         }
     }
 
-    /// Has the writer pass on what it may have kept.
+    /// Flushes the writer.
     pub fn flush(&mut self) -> Result<(), DeviceFault>
         ensures works { OnOk result (self.new.failed ≡ self.old.failed) }
         ensures fails { OnErr result (self.new.failed ≡ true) }

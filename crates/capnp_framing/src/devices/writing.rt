@@ -1,10 +1,10 @@
-//! All bytes written to an output.
+//! Writes all of some bytes to an output.
 ghost use Rattle.std.specs.Prelude.{◌≡◌, false};
 ghost use Rattle.capnp_framing.specs.Writing.{Writes};
 
 use super::{DeviceFault, Output};
 
-/// Writes all bytes, in as many writes as it takes.
+/// Writes all of `from`, in as many writes as it takes.
 pub fn write_all<W: Output>(output: &mut W, from: &[u8]) -> Result<(), DeviceFault>
     requires { W.has_failed output.old ≡ false }
     ensures { Writes W.Output result output.old output.new from.now }

@@ -1,4 +1,4 @@
-//! A message read where its frame stands in memory ("Serialization Over a Stream").
+//! Reads a message in place from a frame in memory ("Serialization Over a Stream").
 ghost use Rattle.std.specs.Prelude.{◌≡◌, ◌+◌, ◌*◌, ◌<◌, ◌≤◌, [], Ok, None, IfSome, IfOk, IfErr, length};
 ghost use Rattle.capnp_format.specs.Bytes.{message};
 ghost use Rattle.capnp_arena_traits.specs.Limits.{IsSmall};
@@ -11,23 +11,23 @@ use super::frame_error::FrameError;
 use super::reading::{number_at, words_between};
 use capnp_arena::arena::ReaderSegments;
 
-/// How many segments there are from one whose start is kept to the next.
+/// The start of every `STEP`th segment is kept.
 const STEP: usize = 32;
 
-/// How many starts are kept.
+/// The number of starts kept.
 const STARTS: usize = MAX_SEGMENTS / STEP;
 
-/// The segments of a message, where its frame stands in memory.
+/// The segments of a message, in the memory of its frame.
 #[derive(Clone, Copy)]
 pub struct FrameSegments<'a> {
     count: usize,
-    // The lengths of the segments in words, four bytes each, and what stands behind them.
+    // The sizes of the segments in words, four bytes each, and what follows them.
     table: &'a [u8],
-    // The words of the segments, and what stands behind them.
+    // The words of the segments, and what follows them.
     words: &'a [u8],
-    // How many words stand before every 32nd segment.
+    // The number of words before every 32nd segment.
     starts: [u64; STARTS],
-    // How many bytes the frame takes.
+    // The size of the frame in bytes.
     size: usize,
     ghost few: { count ≤ 512 },
     ghost told: { 4 * count ≤ length table.now },
@@ -36,7 +36,7 @@ pub struct FrameSegments<'a> {
     ghost sized: { size ≡ table_size count + 8 * words_told count table.now },
 }
 
-/// How many words stand before every 32nd segment of those that a table tells, and how many in all.
+/// The number of words before every 32nd segment, and in all, of the `count` sizes in `table`.
 fn starts_of(table: &[u8], count: usize) -> ([u64; STARTS], u64)
     requires inside { 4 * count ≤ length table.now }
     requires few { count ≤ 512 }
@@ -53,15 +53,15 @@ fn starts_of(table: &[u8], count: usize) -> ([u64; STARTS], u64)
 }
 
 impl FrameSegments<'_> {
-    /// How many bytes the frame takes at the front of those that it was read from: the table with its padding, and
-    /// the words. The next frame of a row begins behind them.
+    /// The size of the frame in bytes: its table with padding, and its words. The next frame of a
+    /// stream starts after it.
     pub fn size_in_bytes(&self) -> usize
         ensures { result ≡ length (frame (message (⟦<Self as ReaderSegments>⟧.segments self.now))) }
     {
         self.size
     }
 
-    /// How many words stand before a segment: from the nearest start that is kept.
+    /// The number of words before segment `id`, counted from the nearest start that is kept.
     fn words_before(&self, id: usize) -> u64
         requires { id < self.now.count }
         ensures { result ≡ words_told id self.now.table.now }
@@ -94,10 +94,10 @@ impl ReaderSegments for FrameSegments<'_> {
     }
 }
 
-/// Reads a message from the front of bytes, where they stand: nothing is copied, and no memory is taken. Bytes
-/// behind the message are not looked at. `None` is no bytes.
+/// Reads a message in place from the front of `bytes`: copies nothing, and takes no memory. Ignores
+/// the bytes after the message. Returns `None` if `bytes` is empty.
 ///
-/// The call refuses what `read` refuses, in the same order, but for what a device or want of memory may do.
+/// Refuses what `read` refuses, in the same order, except for failures of devices and memory.
 pub fn read_from_flat_slice(
     bytes: &[u8],
     max_words: u64,

@@ -5,24 +5,24 @@ ghost use Rattle.capnp_framing.specs.Names.{frame_error_name, frame_error_text};
 use std::fmt;
 use thiserror::Error;
 
-/// What a refused call says. `{}` writes the variant's name, and the number in parentheses behind it
-/// where there is one.
+/// The refusal of a call. `{}` writes the variant's name, followed by its number in parentheses, if
+/// it has one.
 #[derive(Clone, Copy, Debug, PartialEq, Eq, Error)]
 pub enum FrameError {
     /// A message without segments has no frame.
     NoSegments,
-    /// A message has more than 512 segments; with their number.
+    /// The message has more than 512 segments; with their number.
     TooManySegments(u64),
-    /// A message has more words than were to be read; with their number, or of bare words that of the first one too
-    /// many.
+    /// The message has more words than `max_words`; with their number, or, for bare words, with the
+    /// number of the first word too many.
     MessageTooLong(u64),
-    /// The input ended within a frame, or within a bare word.
+    /// The input ended inside a frame, or inside a bare word.
     Truncated,
     /// The input failed.
     ReadFailed,
     /// The output failed.
     WriteFailed,
-    /// No memory for what was read.
+    /// There is no memory for the message.
     AllocationFailed,
 }
 

@@ -8,15 +8,16 @@ ghost use Rattle.capnp_framing.specs.Reading.{words_told};
 use capnp_arena::arena::ReaderSegments;
 use std::alloc::Global;
 
-/// The segments of a message that was read, each of whole words, in memory that the next one can be read into.
+/// The segments of a message that was read, each of whole words. Their memory can be reused for the
+/// next message.
 #[derive(Drop)]
 pub struct OwnedSegments {
     pub(super) count: usize,
-    // The lengths of the segments in words, four bytes each, and what stands behind them.
+    // The sizes of the segments in words, four bytes each, and what follows them.
     pub(super) table: Vec<u8>,
-    // Before which word each segment ends.
+    // The number of words up to the end of each segment.
     pub(super) ends: Vec<usize>,
-    // The words of the segments, one behind the other, and what stands behind them.
+    // The words of the segments, in order, and what follows them.
     pub(super) words: Vec<u8>,
     ghost few: { count ≤ 512 },
     ghost told: { 4 * count ≤ length table.items },
@@ -25,7 +26,7 @@ pub struct OwnedSegments {
 }
 
 impl OwnedSegments {
-    /// No segments. It takes no memory.
+    /// No segments. Takes no memory.
     pub fn new(alloc: Global) -> Self
         ensures none { ⟦<Self as ReaderSegments>⟧.segments result ≡ [] }
     {
@@ -37,7 +38,7 @@ impl OwnedSegments {
         }
     }
 
-    /// Before which word a segment ends.
+    /// The number of words up to the end of segment `id`.
     fn end_of(&self, id: usize) -> usize
         requires { id < self.now.count }
         ensures { result ≡ words_told (id + 1) self.now.table.items }
@@ -45,7 +46,7 @@ impl OwnedSegments {
         self.ends.as_slice()[id]
     }
 
-    /// How many words stand before a segment, or in all of them.
+    /// The number of words before segment `id`, or in all segments.
     fn words_before(&self, id: usize) -> usize
         requires { id ≤ self.now.count }
         ensures { result ≡ words_told id self.now.table.items }
@@ -53,7 +54,8 @@ impl OwnedSegments {
         if id == 0 { 0 } else { self.end_of(id - 1) }
     }
 
-    /// How many bytes the frame takes that they were read from: the table with its padding, and the words.
+    /// The size in bytes of the frame that they were read from: its table with padding, and its
+    /// words.
     pub fn size_in_bytes(&self) -> usize
         ensures { result ≡ length (frame (message (⟦<Self as ReaderSegments>⟧.segments self.now))) }
     {
@@ -80,7 +82,7 @@ impl ReaderSegments for OwnedSegments {
     }
 }
 
-/// Segments that are lent.
+/// Lent segments.
 impl ReaderSegments for &OwnedSegments {
     ghost segments = { λ m. ⟦<OwnedSegments as ReaderSegments>⟧.segments m.now };
 

@@ -1,4 +1,4 @@
-//! A message read from a stream of bytes ("Serialization Over a Stream").
+//! Reads a message from a stream of bytes ("Serialization Over a Stream").
 ghost use Rattle.std.specs.Prelude.{◌≡◌, ℕ, ◌<◌, ◌≤◌, ◌+◌, ◌-◌, ◌*◌, [], false, true, length, take, drop, slice_index, Ok, None, IfSome, OnSome, IfOk, IfErr, OnOk, OnErr};
 ghost use Rattle.std.specs.Int.{from_le_bytes, w32};
 ghost use Rattle.std.specs.Io.KnownBytes.{Consumes, IsAtEnd};
@@ -16,11 +16,11 @@ use crate::devices::{DeviceFault, Input};
 use capnp_arena::arena::{Allocator, HeapAllocator, ReaderSegments};
 use std::alloc::{AllocError, Global};
 
-/// By how many bytes at most memory is made longer, before bytes come for it: what a table only announces is
-/// believed no further.
+/// The most bytes that memory grows by before bytes for it arrive: a table's announcement is
+/// trusted no further.
 const PIECE: usize = 1 << 18;
 
-/// Reads until there is no more room or no more input: how many bytes came.
+/// Reads until `to` is full or the input ends, and returns the number of bytes read.
 pub(super) fn read_up_to<R: Input>(input: &mut R, to: &mut [u8]) -> Result<usize, DeviceFault>
     requires { R.has_failed input.old ≡ false }
     ensures within { IfOk result (λ n. n ≤ length to.new) }
@@ -42,7 +42,7 @@ pub(super) fn read_up_to<R: Input>(input: &mut R, to: &mut [u8]) -> Result<usize
     Ok(n)
 }
 
-/// Makes room for some bytes more behind the first n, where there is none.
+/// Makes room in `to` for `more` bytes after the first `n`, if there isn't any.
 pub(super) fn make_room<A: Allocator>(
     allocator: &mut A,
     to: &mut Vec<u8>,
@@ -65,8 +65,8 @@ pub(super) fn make_room<A: Allocator>(
     }
 }
 
-/// Makes room for a byte or more behind the first n bytes, which are kept. An allocator counts where there
-/// is no memory for one.
+/// Makes room in `to` for one byte or more after the first `n`, which are kept. If there is no
+/// memory for one, the allocator counts it.
 #[cold]
 #[inline(never)]
 fn make_some_room<A: Allocator>(
@@ -83,13 +83,14 @@ fn make_some_room<A: Allocator>(
     if allocator.keep(to, 0u8).is_some() {
         return Err(FrameError::AllocationFailed);
     }
-    // All that was taken for it is used.
+    // Uses the whole capacity.
     let room = to.capacity();
     let _ = to.resize(room, 0);
     Ok(())
 }
 
-/// Reads over the bytes from one position on, before another one, until there is no more input: how many came.
+/// Reads to the bytes of `to` from `start` up to `end`, until the input ends, and returns the
+/// number of bytes read.
 pub(super) fn read_between<R: Input>(
     input: &mut R,
     to: &mut [u8],
@@ -111,7 +112,7 @@ pub(super) fn read_between<R: Input>(
     read_up_to(input, &mut to[start..end])
 }
 
-/// Reads bytes over those from one position on, before another one.
+/// Reads to all bytes of `to` from `start` up to `end`.
 fn fill_between<R: Input>(
     input: &mut R,
     to: &mut [u8],
@@ -136,7 +137,7 @@ fn fill_between<R: Input>(
     }
 }
 
-/// Reads so many bytes to the front of memory, which is made longer where it has to be.
+/// Reads `size` bytes to the front of memory, which grows if it has to.
 #[inline(always)]
 fn read_front<A: Allocator, R: Input>(
     allocator: &mut A,
@@ -162,7 +163,7 @@ fn read_front<A: Allocator, R: Input>(
     Ok(())
 }
 
-/// The number in the four bytes from a position on.
+/// The number in the four bytes at `at`.
 pub(super) fn number_at(table: &[u8], at: usize) -> u32
     requires { at + 4 ≤ length table.now }
     ensures { result ≡ from_le_bytes w32 (take 4 (drop at table.now)) }
@@ -170,7 +171,7 @@ pub(super) fn number_at(table: &[u8], at: usize) -> u32
     u32::from_le_bytes([table[at], table[at + 1], table[at + 2], table[at + 3]])
 }
 
-/// How many words the lengths from one on tell, before another one.
+/// The total number of words of the segments from `first` up to `end`, by their sizes in `table`.
 pub(super) fn words_between(table: &[u8], first: usize, end: usize) -> u64
     requires inside { 4 * end ≤ length table.now }
     requires few { end ≤ 512 }
@@ -185,7 +186,8 @@ pub(super) fn words_between(table: &[u8], first: usize, end: usize) -> u64
     words
 }
 
-/// Before which word each segment ends whose length a table tells, and how many words there are.
+/// Stores in `ends` the number of words up to the end of each segment, by the `count` sizes in
+/// `table`, and returns the number of all words.
 fn ends_of<A: Allocator>(
     allocator: &mut A,
     table: &[u8],
@@ -210,12 +212,13 @@ fn ends_of<A: Allocator>(
     Ok(sum)
 }
 
-/// Each byte is below 256. It does nothing; its contract says so.
+/// Each byte is below 256. Does nothing; its contract states this.
 fn are_bytes(bytes: &[u8])
     ensures { (i : ℕ) → slice_index bytes.now i < 256 }
 {}
 
-/// Reads the number of segments, which the first four bytes tell. `None` is an input that is at its end at once.
+/// Reads the first four bytes and returns the number of segments that they state; `None` if the
+/// input is at its end.
 #[inline(always)]
 fn read_count<R: Input>(input: &mut R, first: &mut [u8; 4]) -> Result<Option<usize>, FrameError>
     requires { R.has_failed input.old ≡ false }
@@ -244,20 +247,22 @@ fn read_count<R: Input>(input: &mut R, first: &mut [u8; 4]) -> Result<Option<usi
     Ok(Some(told as usize))
 }
 
-/// Reads a message from the front of an input into segments that are used again, and leaves what stands behind it.
-/// `false` is an input that is at its end at once; there are no segments then.
+/// Reads a message from the front of an input into reused segments, and leaves what follows it
+/// unread. Returns `false` if the input is at its end; there are no segments then.
 ///
-/// Fewer than four bytes are `Truncated`; more than 512 segments `TooManySegments`, with their number; a
-/// table that is cut short, its padding included, `Truncated`; more than `max_words` words together
-/// `MessageTooLong`, with their number; words that are cut short `Truncated`, in this order. `ReadFailed`
-/// is the input's, and where the input has failed there is no other refusal; `AllocationFailed` is want of
-/// memory. Where there are too many segments their number is read, four bytes; where there are too many words the
-/// table; and what is cut short to its end. How much was read behind the other two isn't said, nor which segments there
-/// are after a refusal.
+/// Refusals, in this order: `Truncated` if there are fewer than four bytes; `TooManySegments`, with
+/// their number, if there are more than 512; `Truncated` if the table is cut short, padding
+/// included; `MessageTooLong`, with the number of words, if there are more than `max_words`;
+/// `Truncated` if the words are cut short. Also `ReadFailed` if the input failed, which then is the
+/// only refusal; and `AllocationFailed` if memory ran out.
 ///
-/// The memory that is taken grows with the bytes that came, and not with those that the table announces.
-/// None is taken for a message that has no more segments and words than one that was read before. An
-/// allocator counts where there is none: once for an `AllocationFailed`, and else not.
+/// What is read if refused: `TooManySegments`: the four bytes of the number; `MessageTooLong`: the
+/// table; `Truncated`: all of the input; otherwise unspecified. Which segments there are after a
+/// refusal is unspecified too.
+///
+/// The memory taken grows with the bytes that arrive, not with those that the table announces.
+/// Takes none for a message with no more segments and words than one read before. If there is none,
+/// the allocator counts it: once for an `AllocationFailed`, and otherwise not.
 pub fn read_into_with<A: Allocator, R: Input>(
     allocator: &mut A,
     input: &mut R,
@@ -296,8 +301,7 @@ pub fn read_into_with<A: Allocator, R: Input>(
     Ok(true)
 }
 
-/// Reads a message from the front of an input into segments that are used again, as `read_into_with` does with
-/// memory of the heap.
+/// Like `read_into_with`, with memory from the heap.
 pub fn read_into<R: Input>(
     input: &mut R,
     max_words: u64,
@@ -319,10 +323,10 @@ pub fn read_into<R: Input>(
     read_into_with(&mut heap, input, max_words, into)
 }
 
-/// Reads a message from the front of an input, and leaves what stands behind it. `None` is an input that
-/// is at its end at once.
+/// Reads a message from the front of an input, and leaves what follows it unread. Returns `None` if
+/// the input is at its end.
 ///
-/// The call refuses what `read_into` refuses, and leaves as much unread then.
+/// Refuses what `read_into` refuses, and then leaves as much unread.
 pub fn read<R: Input>(
     alloc: Global,
     input: &mut R,

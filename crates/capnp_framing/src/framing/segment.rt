@@ -1,4 +1,4 @@
-//! A message of one segment read as its bare words, without a frame ("Messages").
+//! Reads a message of one segment from its bare words, without a frame ("Messages").
 ghost use Rattle.std.specs.Prelude.{◌≡◌, ◌⊎◌, ℕ, ◌<◌, ◌≤◌, ◌+◌, ◌++◌, [], false, true, length, take, drop, IfSome, IfOk, IfErr, OnOk, OnErr};
 ghost use Rattle.std.specs.Io.KnownBytes.{Consumes, IsAtEnd};
 ghost use Rattle.capnp_arena_traits.specs.Limits.{IsSmall};
@@ -14,14 +14,15 @@ use super::reading::{make_room, read_between};
 use crate::devices::{DeviceFault, Input};
 use capnp_arena::arena::{Allocator, HeapAllocator, ReaderSegments};
 
-/// The greatest number of words of a segment.
+/// The most words that a segment can have.
 const MAX_WORDS: u64 = (1 << 32) - 1;
 
-/// For how many bytes memory is taken before any come. Behind that it is made longer by as many as came.
+/// How many bytes of memory to take before any byte arrives. After that, memory grows by as many as
+/// arrived.
 const FIRST_PIECE: usize = 1 << 12;
 
-/// Reads to the front of memory, which is made longer as bytes come, until there are so many or no more input: how many
-/// came.
+/// Reads to the front of memory, which grows as bytes arrive, until there are `most` bytes or the
+/// input ends. Returns the number of bytes read.
 fn read_to_end<A: Allocator, R: Input>(
     allocator: &mut A,
     input: &mut R,
@@ -57,7 +58,7 @@ fn read_to_end<A: Allocator, R: Input>(
     Ok(n)
 }
 
-/// Puts bytes behind others. An allocator counts where there is no memory for one.
+/// Appends bytes to `list`. If there is no memory for one, the allocator counts it.
 fn keep_bytes<A: Allocator>(
     allocator: &mut A,
     list: &mut Vec<u8>,
@@ -74,7 +75,7 @@ fn keep_bytes<A: Allocator>(
     Ok(())
 }
 
-/// The table of one segment of so many words, and where it ends.
+/// Stores the table of one segment of `words` words, and where it ends.
 fn tell_only<A: Allocator>(
     allocator: &mut A,
     words: u32,
@@ -95,17 +96,18 @@ fn tell_only<A: Allocator>(
     Ok(())
 }
 
-/// Reads all that an input has, to its end, as the words of the only segment of a message, into segments that are used
-/// again. No bytes are a segment of no words.
+/// Reads all of an input as the words of a message's only segment, into reused segments. No bytes
+/// are a segment of no words.
 ///
-/// More than `max_words` words, or than 2^32 - 1, which is all that a segment has room for, are `MessageTooLong`, with
-/// the number of the first word too many: no word behind it is read. Bytes that end within a word are `Truncated`.
-/// `ReadFailed` is the input's, and where the input has failed there is no other refusal; `AllocationFailed` is want of
-/// memory. There are no segments after a refusal.
+/// Refusals: `MessageTooLong`, with the number of the first word too many, if there are more than
+/// `max_words` words, or more than 2^32 - 1, which is all that a segment has room for; no word
+/// after it is read. `Truncated` if the bytes end inside a word. `ReadFailed` if the input failed,
+/// which then is the only refusal. `AllocationFailed` if memory ran out. After a refusal there are
+/// no segments.
 ///
-/// The memory that is taken grows with the bytes that came, to twice as many at most, or 4 KiB. None is taken for a
-/// message of no more words than one that was read so before. An allocator counts where there is none: once for an
-/// `AllocationFailed`, and else not.
+/// The memory taken grows with the bytes that arrive, to at most twice as many, or 4 KiB. Takes
+/// none for a message with no more words than one read so before. If there is none, the allocator
+/// counts it: once for an `AllocationFailed`, and otherwise not.
 pub fn read_segment_into_with<A: Allocator, R: Input>(
     allocator: &mut A,
     input: &mut R,
@@ -142,8 +144,7 @@ pub fn read_segment_into_with<A: Allocator, R: Input>(
     Ok(())
 }
 
-/// Reads all that an input has, to its end, as the words of the only segment of a message, as `read_segment_into_with`
-/// does with memory of the heap.
+/// Like `read_segment_into_with`, with memory from the heap.
 pub fn read_segment_into<R: Input>(
     input: &mut R,
     max_words: u64,

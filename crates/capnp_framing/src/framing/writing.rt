@@ -1,4 +1,4 @@
-//! A message written as a stream of bytes ("Serialization Over a Stream").
+//! Writes a message to a stream of bytes ("Serialization Over a Stream").
 ghost use Rattle.std.specs.Prelude.{◌≡◌, ◌⊎◌, ◌<◌, ◌≤◌, ◌+◌, ◌-◌, ◌*◌, ◌^◌, ◌++◌, All, false, true, length, take, drop, replicate, Err, IfErr, OnOk, OnErr};
 ghost use Rattle.std.specs.Int.{to_le_bytes, w32};
 ghost use Rattle.capnp_format.specs.Bytes.{message, words_of};
@@ -16,7 +16,7 @@ use crate::devices::{DeviceFault, Output, write_all};
 use capnp_arena::arena::ReaderSegments;
 use capnp_words::words::{count, part};
 
-/// The whole words of a segment. None where there is no such segment.
+/// The whole words of segment `id`; none if there is no such segment.
 fn words_in<S: ReaderSegments>(segments: &S, id: u32) -> &[u8]
     requires small { IsSmall (S.segments segments.now) }
     ensures words { words_of result.now ≡ segment (message (S.segments segments.now)) id }
@@ -29,7 +29,7 @@ fn words_in<S: ReaderSegments>(segments: &S, id: u32) -> &[u8]
     }
 }
 
-/// Writes a number in four bytes, the lowest first.
+/// Writes `number` in four bytes at `at`, the lowest first.
 fn put_number(to: &mut [u8], at: usize, number: u32)
     requires { at + 4 ≤ length to.old }
     ensures { to.new ≡ put_mid at 4 to.old (to_le_bytes w32 number) }
@@ -47,7 +47,7 @@ fn two_numbers(first: u32, second: u32) -> [u8; 8]
     bytes
 }
 
-/// The length of a segment in words, 0 where there is no such segment.
+/// The size of segment `id` in words; 0 if there is no such segment.
 fn length_of<S: ReaderSegments>(segments: &S, id: u32) -> u32
     requires small { IsSmall (S.segments segments.now) }
     ensures { result ≡ length (segment (message (S.segments segments.now)) id) }
@@ -55,8 +55,9 @@ fn length_of<S: ReaderSegments>(segments: &S, id: u32) -> u32
     (words_in(segments, id).len() / 8) as u32
 }
 
-/// Writes the table of a message, with its padding: the number of segments less one, and the length of each in words,
-/// two numbers at a time. The padding is the length of a segment that isn't there.
+/// Writes the table of a message, with its padding: the number of segments minus one, and each
+/// one's size in words, two numbers at a time. The padding is the size of a segment that doesn't
+/// exist.
 fn write_table<W: Output, S: ReaderSegments>(
     output: &mut W,
     segments: &S,
@@ -92,7 +93,7 @@ fn write_words<W: Output>(output: &mut W, words: &[u8]) -> Result<(), DeviceFaul
     write_all(output, words)
 }
 
-/// Writes the words of all segments, one behind the other.
+/// Writes the words of all segments, in order.
 fn write_contents<W: Output, S: ReaderSegments>(
     output: &mut W,
     segments: &S,
@@ -109,11 +110,12 @@ fn write_contents<W: Output, S: ReaderSegments>(
     Ok(())
 }
 
-/// Writes a message as a frame: the whole words of its segments behind a table of their lengths. The
-/// padding of the table is zero. It takes no memory.
+/// Writes a message as a frame: a table of its segments' sizes, with zero padding, then their whole
+/// words. Takes no memory.
 ///
-/// A message of no segments is `NoSegments`, and one of more than 512 `TooManySegments`, with their
-/// number; nothing is written then. `WriteFailed` is the output's: how much it took isn't said.
+/// Refusals: `NoSegments` if there are no segments; `TooManySegments`, with their number, if there
+/// are more than 512; nothing is written then. `WriteFailed` if the output failed; how much it took
+/// is unspecified.
 pub fn write<W: Output, S: ReaderSegments>(output: &mut W, segments: &S) -> Result<(), FrameError>
     requires works { W.has_failed output.old ≡ false }
     requires small { IsSmall (S.segments segments.now) }

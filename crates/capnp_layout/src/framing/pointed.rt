@@ -1,5 +1,5 @@
-//! The root of a message, and canonical copies of what a reader of a pointer is at, as `capnp_messages` has them
-//! of plain pointers.
+//! The root of a message, and canonical copies of a pointer's value: the calls of `capnp_messages`,
+//! for readers of pointers.
 ghost use Rattle.std.specs.Prelude.{◌≡◌, ◌⊎◌, ◌∷◌, [], ◌↔◌, false, true, IsOk, OnOk, IfOk, OnErr, IfErr};
 ghost use Rattle.capnp_words.specs.Meter.{spent};
 ghost use Rattle.capnp_words.specs.declared.error.ErrorKind.{ErrorKind};
@@ -32,11 +32,11 @@ use capnp_words::error::ErrorKind;
 use capnp_words::read_limiter::ReadLimiter;
 use std::alloc::Global;
 
-/// A reader of the root of a message, after its word is charged: that of
-/// `PointerReader::get_root_from_arena`, over whatever holds the segments.
+/// Returns a reader of the message's root and charges its word, like
+/// `PointerReader::get_root_from_arena`, whatever holds the segments.
 ///
-/// A message without a root pointer is `InvalidSegmentId(0)` or `MessageContainsOutOfBoundsPointer`,
-/// and a limiter that has no word left `ReadLimitExceeded`. A refusal charges nothing.
+/// Refusals, which charge nothing: `InvalidSegmentId(0)` or `MessageContainsOutOfBoundsPointer` if
+/// there is no root pointer; `ReadLimitExceeded` if the limiter has no word left.
 pub fn read_root<'a, S: ReaderSegments>(
     arena: &'a ReaderArenaImpl<S>,
     lim: &mut ReadLimiter,
@@ -54,14 +54,15 @@ pub fn read_root<'a, S: ReaderSegments>(
     Ok(PointerReader::of_pointer(messages::read_root(arena, lim)?))
 }
 
-/// Makes what a pointer means canonical: a message of one segment, its canonical words
-/// ("Canonicalization"), with memory of an allocator. A refusal gives the allocator back, and leaves
-/// the limiter as it was.
+/// Copies the value of `from` in canonical form into a message of one segment ("Canonicalization"),
+/// with the allocator's memory. A refusal returns the allocator, and leaves the limiter unchanged.
 ///
-/// The limiter is charged what the copy costs, and counts each pointer that isn't null, once, however
-/// many tries it takes to find the room: the first asks for the words of the message that is read and
-/// one more, each further one for twice those of the one before. More than 536,870,911 words are
-/// `MessageTooLarge(536870911)`. `AllocationFailed` is want of memory, which the allocator has counted.
+/// Charges the limiter what the copy costs, and counts each pointer that isn't null once, however
+/// many tries it takes to find the room. The first try requests the words of the source message
+/// plus one, and each further try twice as many as the one before.
+///
+/// Refusals: `MessageTooLarge(536870911)` if the copy has more than 536,870,911 words;
+/// `AllocationFailed` if memory ran out, which the allocator has counted.
 pub fn copy_canonical_with<A: Allocator, B: ReaderArena>(
     alloc: Global,
     allocator: A,
@@ -82,7 +83,8 @@ pub fn copy_canonical_with<A: Allocator, B: ReaderArena>(
     messages::copy_canonical_with(alloc, allocator, from.pointer(), lim)
 }
 
-/// Does `copy_canonical_with` with memory of the heap: exactly as many words as each try asks for.
+/// Like `copy_canonical_with`, with memory from the heap: exactly as many words as each try
+/// requests.
 pub fn copy_canonical<B: ReaderArena>(
     alloc: Global,
     from: PointerReader<'_, B>,
@@ -100,13 +102,15 @@ pub fn copy_canonical<B: ReaderArena>(
     messages::copy_canonical(alloc, from.pointer(), lim)
 }
 
-/// Writes what a pointer means as the frame of a canonical message: one segment, its canonical words.
+/// Writes the value of `from` as the frame of a canonical message: one segment with its canonical
+/// words.
 ///
-/// The limiter is charged what the copy costs, and counts each pointer that isn't null, once, however
-/// many tries it takes to find the room. A value that isn't copied is `Layout`, with the refusal of the
-/// copy; nothing is written, and the limiter is left as it was. More than 536,870,911 words are
-/// `MessageTooLarge(536870911)`. `Frame` says that the output has failed; how much it took isn't said,
-/// and the copy is charged.
+/// Charges the limiter what the copy costs, and counts each pointer that isn't null once, however
+/// many tries it takes to find the room.
+///
+/// Refusals: `Layout` if the value can't be copied, with `MessageTooLarge(536870911)` inside if the
+/// copy has more than 536,870,911 words; nothing is written then, and the limiter is unchanged.
+/// `Frame` if the output fails: the copy is charged, and how much the output took is unspecified.
 pub fn write_canonical<W: Output, B: ReaderArena>(
     alloc: Global,
     output: &mut W,

@@ -1,4 +1,4 @@
-//! The words behind the program's name.
+//! The arguments after the program's name.
 ghost use Rattle.std.specs.Prelude.{Some, None, IfSome, IsNone, Option, map, string_bytes};
 ghost use Rattle.capnp_layout.specs.Arguments.{AreArguments, IsNamed, IsNamedAlone};
 ghost use Rattle.capnp_layout.specs.declared.tool.args.Args.{Args};
@@ -7,31 +7,32 @@ ghost use Rattle.capnp_arena.specs.declared.arena.reader_arena_impl.ReaderOption
 use capnp_arena::arena::ReaderOptions;
 use capnp_messages::text::{parse_budget, parse_nesting};
 
-/// What the program is asked for.
+/// What the program is asked to do.
 #[derive(Clone, Copy)]
 pub enum Args {
-    /// The canonical words of a message ("Canonicalization"), which is read within these limits.
+    /// Write the canonical words of a message ("Canonicalization"), read within these limits.
     Canon(ReaderOptions),
-    /// Whether a message is in canonical form at its root ("Canonicalization"), which is tested within
-    /// these limits.
+    /// Test whether a message is in canonical form at its root ("Canonicalization"), within these
+    /// limits.
     Check(ReaderOptions),
-    /// How many words and capabilities a message has without landing pads ("Structs", "Lists"),
-    /// which is read within these limits.
+    /// Count the words and capabilities of a message, without landing pads ("Structs", "Lists"),
+    /// within these limits.
     Size(ReaderOptions),
-    /// The frame of a message ("Serialization Over a Stream").
+    /// Write the frame of a message ("Serialization Over a Stream").
     Frame,
-    /// The segments of the message whose frame a line begins with ("Serialization Over a Stream").
+    /// Write the segments of the message whose frame a line begins with ("Serialization Over a
+    /// Stream").
     Unframe,
-    /// The frame of a message's canonical words, in one segment ("Canonicalization"). The message is
-    /// read within these limits.
+    /// Write the frame of a message's canonical words, in one segment ("Canonicalization"), reading
+    /// the message within these limits.
     FramedCanon(ReaderOptions),
-    /// Whether the message whose frame a line begins with is canonical as a whole
-    /// ("Canonicalization"), which is tested within these limits.
+    /// Test whether the message whose frame a line begins with is canonical as a whole
+    /// ("Canonicalization"), within these limits.
     FramedCheck(ReaderOptions),
 }
 
-/// Reads the words behind the program's name, which are `frame`, `unframe`, or `canon NESTING BUDGET`
-/// and so with `check`, `size`, `framed-canon` and `framed-check`. All else is `None`.
+/// Parses the arguments after the program's name: `frame`, `unframe`, or `canon NESTING BUDGET` and
+/// likewise `check`, `size`, `framed-canon` and `framed-check`. Returns `None` for anything else.
 ///
 /// NESTING is the nesting limit, an `i32` in decimal digits with an optional `-`. BUDGET is the
 /// traversal limit in words, a `u64` in decimal digits, or `none`.
@@ -52,7 +53,7 @@ pub fn parse_args(args: &[String]) -> Option<Args>
     }
 }
 
-/// What a command asks for that has no limits.
+/// What a command without limits asks for.
 fn without_limits(command: &str) -> Option<Args>
     ensures read { IfSome result (IsNamedAlone command.now) }
     ensures none { IsNone result → (a : Args) → IsNamedAlone command.now a → ⊥ }
@@ -66,7 +67,7 @@ fn without_limits(command: &str) -> Option<Args>
     }
 }
 
-/// What a command asks for within limits.
+/// What a command with limits asks for.
 fn within_limits(command: &str, options: ReaderOptions) -> Option<Args>
     ensures read { IfSome result (IsNamed command.now options) }
     ensures none { IsNone result → (a : Args) (limits : ReaderOptions)

@@ -17,8 +17,8 @@ use capnp_messages::messages::canonical_with;
 use capnp_words::error::ErrorKind;
 use std::alloc::Global;
 
-/// Makes a message of one segment, the canonical words of what the root of another message means.
-/// A refusal gives the allocator back.
+/// Copies the value of a message's root in canonical form into a message of one segment. A refusal
+/// returns the allocator.
 pub(crate) fn canonical<A: Allocator>(
     alloc: Global,
     allocator: A,

@@ -1,4 +1,4 @@
-//! One run of the program: an input is read, and what a command answers is written.
+//! One run of the program: reads an input, and writes the answer to a command.
 ghost use Rattle.std.specs.Prelude.{◌≡◌, ◌≢◌, ◌⊎◌, ◌++◌, ℕ, List, true, false, None, IfSome, OnOk, OnErr, IfOk, IfErr};
 ghost use Rattle.capnp_arena_traits.specs.Allocations.{one_more};
 ghost use Rattle.capnp_words.specs.declared.error.ErrorKind.TheVariants.{AllocationFailed};
@@ -35,14 +35,14 @@ pub enum Outcome {
     Done,
     /// The lines are refused, and the line `refused NAME` is written.
     Refused,
-    /// A line isn't pairs of hex digits, there are more than a command takes, or the input failed.
-    /// Nothing is written.
+    /// A line isn't pairs of hex digits, there are more lines than the command takes, or the input
+    /// failed. Nothing is written.
     BadInput,
-    /// The output failed. How much of a line was written isn't said.
+    /// The output failed. How much of a line was written is unspecified.
     WriteFailed,
 }
 
-/// The message that an input holds, one line of hex digits for each segment.
+/// Reads a message, one line of hex digits for each segment.
 fn read_message<A: Allocator, R: Input>(
     alloc: Global,
     allocator: &mut A,
@@ -60,7 +60,7 @@ fn read_message<A: Allocator, R: Input>(
     read_lines(alloc, allocator, text.as_slice())
 }
 
-/// A run that ends so where a text was written, and else by the output.
+/// Returns `outcome` if the text was written, otherwise the output's failure.
 pub(super) fn ended(written: Result<(), DeviceFault>, outcome: Outcome) -> Outcome
     ensures written { OnOk written (result ≡ outcome) }
     ensures failed { OnErr written (result ≡ Outcome.WriteFailed) }
@@ -83,7 +83,7 @@ pub(super) fn refuse<W: Output>(output: &mut W, refusal: Refusal) -> Outcome
     ended(write_refusal(output, refusal), Outcome::Refused)
 }
 
-/// Answers to a message with the line of its canonical words in a form, or of its refusal.
+/// Answers a message with the line of its canonical words, bare or framed, or of its refusal.
 fn canon<A: Allocator, W: Output>(
     alloc: Global,
     allocator: A,
@@ -110,7 +110,7 @@ fn canon<A: Allocator, W: Output>(
     }
 }
 
-/// Answers to a message with the line that says whether it is canonical, or of its refusal.
+/// Answers a message with the line that says whether it is canonical, or of its refusal.
 fn check<W: Output>(source: Message, options: ReaderOptions, output: &mut W) -> Outcome
     requires { W.has_failed output.old ≡ false }
     ensures { Responds W.Output output.old output.new
@@ -122,7 +122,7 @@ fn check<W: Output>(source: Message, options: ReaderOptions, output: &mut W) -> 
     }
 }
 
-/// Answers to a message with the line of its size, or of its refusal.
+/// Answers a message with the line of its size, or of its refusal.
 fn size<W: Output>(source: Message, options: ReaderOptions, output: &mut W) -> Outcome
     requires { W.has_failed output.old ≡ false }
     ensures { Responds W.Output output.old output.new
@@ -134,7 +134,7 @@ fn size<W: Output>(source: Message, options: ReaderOptions, output: &mut W) -> O
     }
 }
 
-/// Answers to the lines of an input with what a command prints, or with the line of its refusal.
+/// Answers the lines of an input with what the command prints, or with the line of its refusal.
 fn respond<A: Allocator, W: Output>(
     alloc: Global,
     allocator: A,
@@ -164,19 +164,24 @@ fn respond<A: Allocator, W: Output>(
     }
 }
 
-/// Reads lines from an input, and writes to an output what a command answers, or a line with
-/// `refused` and the name of the refusal. Segments come from an allocator, which keeps what is read,
-/// too.
+/// Reads lines from an input, and writes the answer to a command, or a line with `refused` and the
+/// name of the refusal. The allocator grants the segments, and keeps what is read.
 ///
-/// `Canon` answers with the canonical words of what the message means as lower case hex digits, each
-/// word's lowest byte first; `Check` with `canonical` where such words stand at the message's root,
-/// and else `not canonical`; `Size` with `words N caps M`, the numbers of words and capabilities
-/// that the root leads to, without landing pads, in decimal digits. `Frame` answers with the frame of
-/// the message as hex digits, `FramedCanon` with that of its canonical words; `Unframe` with a line for
-/// each segment of the message whose frame the only line begins with, and `FramedCheck` with
-/// `canonical message` or `not a canonical message`. Only `Canon` and `FramedCanon` take memory besides
-/// that for the input. Where a read fails the outcome is `BadInput`, and no other. The refusal
-/// `AllocationFailed` is want of memory, which the allocator has counted.
+/// The answers are, by command:
+///
+/// - `Canon`: the canonical words of the message's value as lower case hex digits, each word's
+///   lowest byte first.
+/// - `Check`: `canonical` if such words are at the message's root, otherwise `not canonical`.
+/// - `Size`: `words N caps M`, the numbers of words and capabilities that the root leads to,
+///   without landing pads, in decimal digits.
+/// - `Frame`: the frame of the message as hex digits.
+/// - `FramedCanon`: the frame of its canonical words.
+/// - `Unframe`: a line for each segment of the message whose frame the only line begins with.
+/// - `FramedCheck`: `canonical message` or `not a canonical message`.
+///
+/// Only `Canon` and `FramedCanon` take memory other than for the input. If a read fails, the
+/// outcome is `BadInput`, and no other. The refusal `AllocationFailed` means that memory ran out,
+/// which the allocator has counted.
 pub fn run_with<A: Allocator, R: Input, W: Output>(
     alloc: Global,
     allocator: A,
@@ -221,29 +226,33 @@ pub fn run_with<A: Allocator, R: Input, W: Output>(
     }
 }
 
-/// Reads lines from an input, and writes to an output what a command answers, or a line with
-/// `refused` and the name of the refusal. `Canon` answers with the canonical words of what the
-/// message means as lower case hex digits, each word's lowest byte first ("Canonicalization");
-/// `Check` with `canonical` where such words stand at the root, the first object right behind the
-/// root pointer, and else `not canonical`, whatever stands behind them or in other segments;
-/// `Size` with `words N caps M`, the numbers of words and capabilities that the root leads to,
-/// without landing pads, in decimal digits ("Structs", "Lists").
+/// Reads lines from an input, and writes the answer to a command, or a line with `refused` and the
+/// name of the refusal.
 ///
 /// A line of the input is a segment, as pairs of hex digits in either case; no bytes are no
-/// segments. The root pointer costs one word of the traversal limit. Where a read fails the outcome
-/// is `BadInput`, and no other. The refusal `AllocationFailed` is want of memory; `MessageTooLarge`
-/// says that there are more segments or words than a reader takes, more canonical words than the
-/// 536,870,911 of a segment, or a size whose words don't fit 64 bits or whose capabilities don't fit
-/// 32.
+/// segments. The root pointer costs one word of the traversal limit. The answers are, by command:
 ///
-/// `Frame` answers with the frame of the message as hex digits ("Serialization Over a Stream"); no
-/// segments are `NoSegments`, and more than 512 `TooManySegments`. `FramedCanon` answers with the frame
-/// of the canonical words, in one segment, and is refused as `Canon` is. The other two take one line,
-/// and look at the message whose frame it begins with, of at most 8,388,608 words: `Unframe` answers
-/// with a line for each of its segments, and `FramedCheck` with `canonical message` where it is the
-/// canonical words of a value and nothing else, and else `not a canonical message`. More than one line
-/// is `BadInput`; no line and an empty one are `NoMessage`; a line that begins with no frame is refused
-/// as by `framing::read`.
+/// - `Canon`: the canonical words of the message's value as lower case hex digits, each word's
+///   lowest byte first ("Canonicalization").
+/// - `Check`: `canonical` if such words are at the root, with the first object right after the root
+///   pointer, otherwise `not canonical`; whatever follows them or is in other segments.
+/// - `Size`: `words N caps M`, the numbers of words and capabilities that the root leads to,
+///   without landing pads, in decimal digits ("Structs", "Lists").
+/// - `Frame`: the frame of the message as hex digits ("Serialization Over a Stream"). Refusals:
+///   `NoSegments` if there are no segments, `TooManySegments` if there are more than 512.
+/// - `FramedCanon`: the frame of the canonical words, in one segment. Refuses like `Canon`.
+/// - `Unframe`: a line for each segment of the message whose frame the only line begins with.
+/// - `FramedCheck`: `canonical message` if that message is the canonical words of a value and
+///   nothing else, otherwise `not a canonical message`.
+///
+/// `Unframe` and `FramedCheck` take one line, and a message of at most 8,388,608 words: more than
+/// one line is `BadInput`; no line and an empty one are refused with `NoMessage`; a line that
+/// doesn't begin with a frame is refused as by `framing::read`.
+///
+/// If a read fails, the outcome is `BadInput`, and no other. The refusal `AllocationFailed` means
+/// that memory ran out. `MessageTooLarge` means more segments or words than a reader takes, more
+/// canonical words than the 536,870,911 of a segment, or a size whose words don't fit 64 bits or
+/// whose capabilities don't fit 32.
 pub fn run<R: Input, W: Output>(
     alloc: Global,
     args: &Args,

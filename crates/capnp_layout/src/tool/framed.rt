@@ -18,7 +18,7 @@ use capnp_framing::framing::{FrameError, FrameSegments, MAX_SEGMENTS, read_from_
 use capnp_messages::messages::is_canonical;
 use capnp_words::error::ErrorKind;
 
-/// The greatest number of words of a message whose frame is read.
+/// The most words of a message whose frame is read.
 const MAX_FRAME_WORDS: u64 = 8_388_608;
 
 /// The message whose frame the only line begins with.
@@ -40,7 +40,7 @@ fn frame_in(lines: &Message) -> Result<FrameSegments<'_>, Refusal>
     }
 }
 
-/// Whether the message whose frame the only line begins with is canonical as a whole.
+/// Tests whether the message whose frame the only line begins with is canonical as a whole.
 fn is_canonical_frame(lines: &Message, options: ReaderOptions) -> Result<bool, Refusal>
     requires { length (segments_in lines.now) ≤ 1 }
     ensures tells { IfOk result (TellsCanonical (segments_in lines.now)) }
@@ -54,7 +54,7 @@ fn is_canonical_frame(lines: &Message, options: ReaderOptions) -> Result<bool, R
     }
 }
 
-/// How many segments a message has that can be framed.
+/// The number of segments of a message that can be framed.
 fn count_of(source: &Message) -> Result<usize, Refusal>
     ensures small { OnOk result (IsSmall (segments_in source.now)) }
     ensures answered { OnOk result (HasAnswer (segments_in source.now) Args.Frame) }
@@ -73,7 +73,7 @@ fn count_of(source: &Message) -> Result<usize, Refusal>
     Ok(count)
 }
 
-/// Answers to segments with the line of their frame, or of a refusal.
+/// Answers segments with the line of their frame, or of a refusal.
 pub(crate) fn frame<W: Output>(source: Message, output: &mut W) -> Outcome
     requires { W.has_failed output.old ≡ false }
     ensures { Responds W.Output output.old output.new
@@ -85,8 +85,8 @@ pub(crate) fn frame<W: Output>(source: Message, output: &mut W) -> Outcome
     }
 }
 
-/// Answers to a line that begins with a frame with a line for each of its segments, or with that of a
-/// refusal. More than one line is bad input.
+/// Answers a line that begins with a frame with a line for each of its segments, or with that of a
+/// refusal. More than one line is `BadInput`.
 pub(crate) fn unframe<W: Output>(lines: Message, output: &mut W) -> Outcome
     requires { W.has_failed output.old ≡ false }
     ensures { Responds W.Output output.old output.new
@@ -101,8 +101,8 @@ pub(crate) fn unframe<W: Output>(lines: Message, output: &mut W) -> Outcome
     }
 }
 
-/// Answers to a line that begins with a frame with the line that says whether its message is canonical
-/// as a whole, or with that of a refusal. More than one line is bad input.
+/// Answers a line that begins with a frame with the line that says whether its message is canonical
+/// as a whole, or with that of a refusal. More than one line is `BadInput`.
 pub(crate) fn framed_check<W: Output>(
     lines: Message,
     options: ReaderOptions,

@@ -14,7 +14,7 @@ use crate::devices::{DeviceFault, Output, write_all};
 use capnp_arena::arena::{OutputSegments, ReaderSegments};
 use capnp_messages::messages::Form;
 
-/// The bytes of a segment. None where there is no such segment.
+/// The bytes of segment `id`; none if there is no such segment.
 fn segment_at<S: ReaderSegments>(segments: &S, id: u32) -> &[u8]
     requires { IsSmall (S.segments segments.now) }
     ensures words { id < length (S.segments segments.now)
@@ -38,7 +38,7 @@ fn write_number<W: Output>(output: &mut W, number: u32) -> Result<(), DeviceFaul
     write_all(output, &digits)
 }
 
-/// Writes the length of each segment in words.
+/// Writes the size of each segment in words.
 fn write_lengths<W: Output, S: ReaderSegments>(
     output: &mut W,
     segments: &S,
@@ -54,7 +54,7 @@ fn write_lengths<W: Output, S: ReaderSegments>(
     Ok(())
 }
 
-/// Writes the padding behind so many lengths, which is zero.
+/// Writes the padding after `count` sizes, which is zero.
 fn write_padding<W: Output>(output: &mut W, count: u32) -> Result<(), DeviceFault>
     requires works { W.has_failed output.old ≡ false }
     requires few { count ≤ max_frame_segments }
@@ -68,7 +68,7 @@ fn write_padding<W: Output>(output: &mut W, count: u32) -> Result<(), DeviceFaul
     }
 }
 
-/// Writes the words of all segments, one behind the other.
+/// Writes the words of all segments, in order.
 fn write_contents<W: Output, S: ReaderSegments>(
     output: &mut W,
     segments: &S,
@@ -102,7 +102,7 @@ pub(crate) fn write_frame<W: Output, S: ReaderSegments>(
     write_all(output, b"\n")
 }
 
-/// Writes canonical words as one line of hex digits in a form: the words themselves, or their frame.
+/// Writes canonical words as one line of hex digits, bare or framed.
 pub(crate) fn write_form<W: Output>(
     output: &mut W,
     words: &[u8],

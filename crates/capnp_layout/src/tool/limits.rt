@@ -1,4 +1,4 @@
-//! The limits of a reader, for a message that was read from the input.
+//! The limits of a reader, for a message read from the input.
 ghost use Rattle.std.specs.Prelude.{◌≡◌, ◌↔◌, ◌-◌, ◌^◌, IsOk, IfErr};
 ghost use Rattle.capnp_words.specs.declared.error.ErrorKind.TheVariants.{MessageTooLarge};
 ghost use Rattle.capnp_arena_traits.specs.Limits.{IsSmall};
@@ -7,7 +7,8 @@ ghost use Rattle.capnp_layout.specs.Messages.{segments_in};
 use super::lines::Message;
 use capnp_words::error::ErrorKind;
 
-/// Whether a message is within the limits of a reader. One beyond them is `MessageTooLarge`.
+/// Tests whether a message is within the limits of a reader. Refuses one beyond them with
+/// `MessageTooLarge`.
 pub(crate) fn within_limits(source: &Message) -> Result<(), ErrorKind>
     ensures small { IsOk result ↔ IsSmall (segments_in source.now) }
     ensures named { IfErr result (λ k. k ≡ MessageTooLarge (2 ^ 64 - 1)) }

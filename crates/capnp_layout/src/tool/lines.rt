@@ -1,4 +1,4 @@
-//! The lines of the program's input: each holds a segment as pairs of hex digits.
+//! The lines of the program's input: each is a segment, as pairs of hex digits.
 ghost use Rattle.std.specs.Prelude.{◌≡◌, ◌↔◌, ◌<◌, ◌≤◌, ◌+◌, ◌/◌, ◌^◌, ◌++◌, ◌∷◌, ◌==◌, [], ℕ, List, length, map, Some, None, Ok, IsTrue, IsSome, IfSome, IsErr, IfOk, OnOk, OnErr, IfErr, slice_get, vec_items};
 ghost use Rattle.std.specs.List.{All, position, position_or_len};
 ghost use Rattle.hex.specs.Hex.{decode_of};
@@ -64,7 +64,7 @@ impl ReaderSegments for Message {
     }
 }
 
-/// Puts bytes behind others, until the allocator refuses memory for one.
+/// Appends bytes to `list`, until the allocator refuses memory for one.
 pub(crate) fn keep_bytes<A: Allocator>(
     allocator: &mut A,
     list: &mut Vec<u8>,
@@ -83,14 +83,14 @@ pub(crate) fn keep_bytes<A: Allocator>(
     Ok(())
 }
 
-/// The place of the first line feed.
+/// The position of the first line feed.
 fn line_feed(text: &[u8]) -> Option<usize>
     ensures { result ≡ position (λ byte. byte == 10) text.now }
 {
     text.iter().position(|byte| *byte == b'\n')
 }
 
-/// Where the first line of a text ends: at a line feed, or at the text's end.
+/// The end of the first line: the position of a line feed, or the text's end.
 #[tactic(auto, using(crate::proofs::LineLemmas::feed_found, crate::proofs::LineLemmas::no_feed))]
 fn line_end(text: &[u8]) -> usize
     ensures { result ≡ position_or_len (λ byte. byte == 10) text.now }
@@ -101,7 +101,7 @@ fn line_end(text: &[u8]) -> usize
     }
 }
 
-/// The first line of a text that isn't empty, and what stands behind it.
+/// The first line of a text that isn't empty, and what follows it.
 #[tactic(auto, using(crate::proofs::LineLemmas::cut_line, crate::proofs::LineLemmas::last_line))]
 fn first_line(text: &[u8]) -> (&[u8], &[u8])
     requires { 0 < length text.now }
@@ -138,7 +138,7 @@ fn read_line<A: Allocator>(
     }
 }
 
-/// The segments of a text: a line for each.
+/// The segments of a text: one for each line.
 pub fn read_lines<A: Allocator>(
     alloc: Global,
     allocator: &mut A,

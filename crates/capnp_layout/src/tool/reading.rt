@@ -1,4 +1,4 @@
-//! All bytes of an input, kept in memory.
+//! Reads all bytes of an input into memory.
 ghost use Rattle.std.specs.Prelude.{◌≡◌, ◌++◌, false, true, IfOk, IfErr, IfSome};
 ghost use Rattle.capnp_layout.specs.Reading.{CountsRead, WorksUnlessBad};
 
@@ -7,9 +7,9 @@ use crate::devices::Input;
 use capnp_arena::arena::Allocator;
 use std::alloc::Global;
 
-/// Gives all bytes that an input still has. `BadInput` says that a read failed, `NoMemory` that the
-/// allocator refused, which it has counted; the bytes read until then are lost. The list of bytes is
-/// made over `alloc`, and grows by `Allocator::keep`, so `allocator` may refuse any byte.
+/// Reads all bytes that an input still has. Refusals, which lose the bytes read so far: `BadInput`
+/// if a read failed; `NoMemory` if the allocator refused, which it has counted. The list of bytes
+/// is made over `alloc`, and grows by `Allocator::keep`, so `allocator` may refuse any byte.
 pub(crate) fn read_text<A: Allocator, R: Input>(
     alloc: Global,
     allocator: &mut A,

@@ -1,18 +1,18 @@
-//! Why the program refuses what it is given.
+//! Why the program refuses its input.
 ghost use Rattle.std.specs.Prelude.{◌≡◌};
 ghost use Rattle.capnp_layout.specs.Refusals.{refusal_name};
 
 use capnp_framing::framing::FrameError;
 use capnp_words::error::ErrorKind;
 
-/// Why a command refuses what it is given.
+/// Why a command refuses its input.
 #[derive(Clone, Copy, Debug, PartialEq, Eq)]
 pub enum Refusal {
-    /// The segments aren't read, or what they mean isn't.
+    /// The segments can't be read, or their value can't.
     Layout(ErrorKind),
-    /// The frame isn't read, or the segments make none.
+    /// The frame can't be read, or the segments have none.
     Frame(FrameError),
-    /// There is no frame to be read: the input has no line, or an empty one.
+    /// There is no frame to read: the input has no line, or an empty one.
     NoMessage,
 }
 

@@ -1,4 +1,4 @@
-//! How many words and capabilities a message has.
+//! The number of words and capabilities of a message.
 ghost use Rattle.std.specs.Prelude.{◌↔◌, IsOk, IfOk, IfErr};
 ghost use Rattle.capnp_format.specs.Bytes.{message};
 ghost use Rattle.capnp_arena_traits.specs.Limits.{IsSmall};
@@ -14,7 +14,7 @@ use capnp_messages::messages;
 use capnp_readers::readers::MessageSize;
 use capnp_words::error::ErrorKind;
 
-/// The words and capabilities that the root of a message leads to, without landing pads.
+/// Counts the words and capabilities that the root of a message leads to, without landing pads.
 pub(crate) fn size_of(source: Message, options: ReaderOptions) -> Result<MessageSize, ErrorKind>
     ensures exactly { IsOk result ↔ IsSmall (segments_in source)
         × HasSizeWithin (message (segments_in source)) options }

@@ -1,5 +1,4 @@
-//! A message that is canonical as it stands ("Canonicalization"): it is its own canonical copy, and none
-//! has to be made.
+//! A message that is canonical already ("Canonicalization"), and so needs no copy.
 ghost use Rattle.std.specs.Prelude.{◌≡◌, ◌<◌, ◌^◌, ◌∷◌, [], length, IsNone, IfSome};
 ghost use Rattle.capnp_words.specs.Meter.{unused};
 ghost use Rattle.capnp_format.specs.Bytes.{message, words_of};
@@ -15,8 +14,9 @@ use super::writing::whole_words;
 use capnp_arena::arena::{ReaderArena, ReaderArenaImpl, ReaderOptions, ReaderSegments};
 use capnp_words::read_limiter::ReadLimiter;
 
-/// The bytes of the only segment of a message that is canonical as a whole: the canonical words of its
-/// value. `None` where it isn't, or where the limits don't let it be tested. It takes no memory.
+/// Returns the bytes of the only segment of a message that is canonical as a whole: the canonical
+/// words of its value. `None` if it isn't canonical, or the limits don't allow the test. Takes no
+/// memory.
 pub fn canonical_segment<S: ReaderSegments>(
     source: &ReaderArenaImpl<S>,
     limits: ReaderOptions,

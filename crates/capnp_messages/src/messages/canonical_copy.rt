@@ -1,7 +1,7 @@
-//! A copy in canonical form ("Canonicalization"), in a segment whose size is found by tries: the
-//! first asks for the words of the message that is read and one more, each further one for twice those
-//! of the one before, so that all together take no longer than twice the last. While one runs, its
-//! allocator is taken out, so that it ends where that segment does.
+//! A copy in canonical form ("Canonicalization"), in a segment whose size is found by tries. The
+//! first try requests the words of the source message plus one, and each further try twice as many
+//! as the one before, so all together take no longer than twice the last. During a try the
+//! allocator is taken out of the message, so the copy can't get a second segment.
 ghost use Rattle.std.specs.Prelude.{◌≡◌, ◌⊎◌, ◌<◌, ◌≤◌, ◌+◌, ◌*◌, ◌++◌, ◌∷◌, [], false, length, min, ℕ, IsTrue, OnOk, IfOk, OnErr, IfErr};
 ghost use Rattle.std.specs.Bool.{OnFalse, OnTrue};
 ghost use Rattle.capnp_format.specs.Canonical.{trim, encoding};
@@ -28,7 +28,7 @@ use capnp_words::error::ErrorKind;
 use capnp_words::read_limiter::ReadLimiter;
 use std::alloc::Global;
 
-/// Whether a refusal says that there is no room, or no memory for more.
+/// Whether the refusal says that there is no room, or no memory for more.
 fn is_want_of_room(kind: ErrorKind) -> bool
     ensures { result ≡ wants_room kind }
 {
@@ -38,9 +38,9 @@ fn is_want_of_room(kind: ErrorKind) -> bool
     )
 }
 
-/// Copies what a pointer means to the root of a message whose only word is that root, which is null.
-/// Words that don't fit behind it go into further segments, if there are any to get. The limiter of
-/// so many words that the copy was charged to is given.
+/// Copies the value of `from` to the root of a message whose only word is that root, which is null.
+/// If words don't fit after it, they go into further segments, if the allocator grants any. Returns
+/// the limiter that the copy was charged to, which had `left` words at first.
 fn copy_root<A: BuilderArena, B: ReaderArena>(
     arena: &mut A,
     from: Pointer<'_, B>,
@@ -62,8 +62,8 @@ fn copy_root<A: BuilderArena, B: ReaderArena>(
     Ok(lim)
 }
 
-/// Copies what a pointer means to the root of a message, into the first `room` words of its only segment.
-/// What doesn't fit there is `MessageTooLarge(room)`.
+/// Copies the value of `from` to the root of a message, into the first `room` words of its only
+/// segment. Refuses with `MessageTooLarge(room)` if it doesn't fit there.
 fn copy_to_segment<A: Allocator, B: ReaderArena>(
     arena: &mut BuilderArenaImpl<A>,
     from: Pointer<'_, B>,
@@ -98,8 +98,8 @@ fn copy_to_segment<A: Allocator, B: ReaderArena>(
     }
 }
 
-/// Takes a segment with room for so many words in a message that has none, and one of these words: the
-/// root, which is null.
+/// Allocates a segment with room for `room` words in a message that has none, and its first word:
+/// the root, which is null.
 fn make_root<A: Allocator>(made: &mut BuilderArenaImpl<A>, room: u32) -> Result<(), ErrorKind>
     requires none { ⟦<BuilderArenaImpl<A> as ReaderArena>⟧.segments made.old ≡ [] }
     requires room { IsSegmentRoom room }
@@ -123,7 +123,7 @@ fn make_root<A: Allocator>(made: &mut BuilderArenaImpl<A>, room: u32) -> Result<
     Ok(())
 }
 
-/// Counts so many pointers more as followed.
+/// Counts `pointers` more pointers as followed.
 fn count_pointers(lim: &mut ReadLimiter, pointers: u64)
     ensures left { lim.new.left ≡ lim.old.left }
     ensures counted { lim.new.followed ≡ raised lim.old.followed pointers }
@@ -133,9 +133,9 @@ fn count_pointers(lim: &mut ReadLimiter, pointers: u64)
     }
 }
 
-/// Charges and counts what a copy has spent by its own limiter, which had as many words as this one at
-/// first, and no pointer followed. Where none was followed here either, the copy's limiter takes the place
-/// of this one, and nothing is counted.
+/// Charges and counts on `lim` what a copy has spent on `own`, a limiter that had as many words as
+/// `lim` at first, and no pointer followed. If none was followed on `lim` either, replaces `lim` by
+/// `own` and counts nothing.
 fn settle(lim: &mut ReadLimiter, own: ReadLimiter)
     requires { IsLeftOf own.left lim.old.left }
     ensures left { lim.new.left ≡ own.left }
@@ -152,9 +152,9 @@ fn settle(lim: &mut ReadLimiter, own: ReadLimiter)
     count_pointers(lim, pointers);
 }
 
-/// Makes the canonical words of what a pointer means in a fresh message with a segment of so many
-/// words, and in that one alone: while it is copied there is no allocator to give another. A refusal
-/// gives the allocator back, and leaves the limiter as it was.
+/// Copies the value of `from` in canonical form into a new message with one segment of `room`
+/// words. While it copies, there is no allocator to grant another segment. A refusal returns the
+/// allocator, and leaves the limiter unchanged.
 fn copy_to_message<A: Allocator, B: ReaderArena>(
     alloc: Global,
     allocator: A,
@@ -192,14 +192,14 @@ fn copy_to_message<A: Allocator, B: ReaderArena>(
     }
 }
 
-/// Whether a refusal says that something would be too large.
+/// Whether the refusal says that something would be too large.
 fn is_too_large(kind: ErrorKind) -> bool
     ensures { result ≡ is_message_too_large kind }
 {
     matches!(kind, ErrorKind::MessageTooLarge(_))
 }
 
-/// The room of the first try: the words of the input and one more, up to the greatest segment.
+/// The room of the first try: the words of the source plus one, at most a segment's.
 fn first_room(words: usize) -> u32
     ensures first { result ≡ room_of_try words 0 }
     ensures can_be_asked { IsSegmentRoom result }
@@ -211,7 +211,7 @@ fn first_room(words: usize) -> u32
     }
 }
 
-/// The room of the try behind one with this room: twice as much, up to the greatest segment.
+/// The room of the try after one with `room`: twice as much, at most a segment's.
 fn next_room(room: u32) -> u32
     requires { room ≤ max_segment_words }
     ensures { result ≡ min (2 * room) max_segment_words }
@@ -219,7 +219,7 @@ fn next_room(room: u32) -> u32
     (2 * room).min(MAX_SEGMENT_WORDS)
 }
 
-/// How many words there are where a pointer is read: those of an arena, else none.
+/// The number of words in the arena of `from`; 0 if it has none.
 fn words_of_source<B: ReaderArena>(from: &Pointer<'_, B>) -> usize
     ensures { result ≡ words_read (reading B.ReaderArena from.now) }
 {
@@ -229,9 +229,8 @@ fn words_of_source<B: ReaderArena>(from: &Pointer<'_, B>) -> usize
     }
 }
 
-/// Makes the canonical words of what a pointer means in a message that has no segment yet, in one with
-/// room for so many words, and in that one alone. `false` says that there is too little room, or no memory
-/// for it.
+/// Copies the value of `from` in canonical form into `made`, which has no segment yet, in one
+/// segment of `room` words. Returns `false` if that is too small, or there is no memory for it.
 pub(super) fn copy_in_room<A: Allocator, B: ReaderArena>(
     made: &mut BuilderArenaImpl<A>,
     from: Pointer<'_, B>,
@@ -265,14 +264,15 @@ pub(super) fn copy_in_room<A: Allocator, B: ReaderArena>(
     }
 }
 
-/// Makes what a pointer means canonical: a message of one segment, its canonical words
-/// ("Canonicalization"), with memory of an allocator. A refusal gives the allocator back, and leaves
-/// the limiter as it was.
+/// Copies the value of `from` in canonical form into a message of one segment ("Canonicalization"),
+/// with the allocator's memory. A refusal returns the allocator, and leaves the limiter unchanged.
 ///
-/// The limiter is charged what the copy costs, and counts each pointer that isn't null, once, however
-/// many tries it takes to find the room: the first asks for the words of the message that is read and
-/// one more, each further one for twice those of the one before. More than 536,870,911 words are
-/// `MessageTooLarge(536870911)`. `AllocationFailed` is want of memory, which the allocator has counted.
+/// Charges the limiter what the copy costs, and counts each pointer that isn't null once, however
+/// many tries it takes to find the room. The first try requests the words of the source message
+/// plus one, and each further try twice as many as the one before.
+///
+/// Refusals: `MessageTooLarge(536870911)` if the copy has more than 536,870,911 words;
+/// `AllocationFailed` if memory ran out, which the allocator has counted.
 pub fn copy_canonical_with<A: Allocator, B: ReaderArena>(
     alloc: Global,
     allocator: A,
@@ -309,7 +309,8 @@ pub fn copy_canonical_with<A: Allocator, B: ReaderArena>(
 /// A message in canonical form, in a segment on the heap.
 pub type CanonicalCopy = BuilderArenaImpl<HeapAllocator>;
 
-/// Does `copy_canonical_with` with memory of the heap: exactly as many words as each try asks for.
+/// Like `copy_canonical_with`, with memory from the heap: exactly as many words as each try
+/// requests.
 pub fn copy_canonical<B: ReaderArena>(
     alloc: Global,
     from: Pointer<'_, B>,

@@ -8,12 +8,12 @@ ghost use Rattle.capnp_framing.specs.declared.framing.frame_error.FrameError.{Fr
 use capnp_framing::framing::FrameError;
 use capnp_words::error::ErrorKind;
 
-/// What `write_canonical` says where it is refused.
+/// A refusal of `write_canonical`.
 #[derive(Clone, Copy, Debug, PartialEq, Eq)]
 pub enum CanonicalError {
-    /// The value isn't copied; with the refusal of the copy.
+    /// The value can't be copied.
     Layout(ErrorKind),
-    /// The frame isn't written; with the refusal of the frame.
+    /// The frame can't be written.
     Frame(FrameError),
 }
 

@@ -1,21 +1,21 @@
-//! What is asked of a whole message.
+//! Commands on a whole message.
 
 /// How a canonical message is written.
 #[derive(Clone, Copy, Debug, PartialEq, Eq)]
 pub enum Form {
     /// As a frame of one segment ("Serialization Over a Stream").
     Framed,
-    /// As the bare words of the message.
+    /// As bare words.
     Flat,
 }
 
-/// What is asked of a message.
+/// A command on a message.
 #[derive(Clone, Copy, Debug, PartialEq, Eq)]
 pub enum Command {
-    /// The canonical words of the message ("Canonicalization").
+    /// Write the message's canonical words ("Canonicalization").
     Canon(Form),
-    /// Whether the message is canonical as a whole.
+    /// Test whether the message is canonical as a whole.
     Check,
-    /// How many words and capabilities the message has, without landing pads.
+    /// Count the message's words and capabilities, without landing pads.
     Size,
 }

@@ -1,4 +1,4 @@
-//! Memory for copies that are made one after the other.
+//! Memory for one copy after another.
 ghost use Rattle.std.specs.Prelude.{◌≡◌, ◌==◌, ◌≤◌, ◌+◌, length, true, vec_len};
 ghost use Rattle.std.specs.Vec.{vec_capacity};
 
@@ -7,16 +7,17 @@ use capnp_words::error::ErrorKind;
 use std::alloc::{AllocError, Global};
 use std::mem;
 
-/// How many bytes are made zero at once where fewer are needed: as many as stay in a processor's cache until they are written.
+/// How many bytes are zeroed at a time if fewer are needed: as many as stay in a processor's cache
+/// until they are written.
 const PIECE: usize = 64 * 1024;
 
-/// A segment on the heap, whose memory can be used again. It is reserved at once, and made zero as words are allocated, 64 KiB or more
-/// at a time: what lies behind these is never touched.
+/// A segment on the heap, whose memory can be reused. Reserves all of it at once, and zeroes it as
+/// words are allocated, 64 KiB or more at a time. Never touches the memory after these.
 #[derive(Drop)]
 pub struct CopySegment {
-    /// The bytes that are ready, in memory that has room for the others.
+    /// The bytes that are ready, with capacity for the others.
     bytes: Vec<u8>,
-    /// How many bytes there are besides.
+    /// The number of further bytes, not ready yet.
     unready: usize,
     ghost room: { vec_len bytes + unready ≤ vec_capacity bytes },
 }
@@ -24,7 +25,7 @@ pub struct CopySegment {
 impl CopySegment {
     ghost use Rattle.capnp_messages.specs.CopyMemory.{copy_content};
 
-    /// Makes at least so many bytes ready.
+    /// Makes at least `bytes` bytes ready.
     #[cold]
     #[inline(never)]
     fn zero_up_to(&mut self, bytes: usize)
@@ -38,7 +39,7 @@ impl CopySegment {
         self.unready -= more;
         match self.bytes.resize(ready, 0) {
             Ok(()) => {}
-            // Never: it has the capacity for them.
+            // Can't happen: it has the capacity for them.
             Err(AllocError) => {}
         }
     }
@@ -87,8 +88,9 @@ impl Segment for CopySegment {
     }
 }
 
-/// Makes segments on the heap, each of what is asked for. The memory of the one that was given back last is kept for
-/// the next one: a message of one segment takes none where one as large was made before.
+/// Allocates segments on the heap, each of the requested size. Keeps the memory of the last segment
+/// returned for the next one: a message of one segment takes no memory if one as large was built
+/// before.
 #[derive(Drop)]
 pub struct CopyMemory {
     alloc: Global,

@@ -1,4 +1,4 @@
-//! Memory that is lent for one segment.
+//! Memory lent for one segment.
 ghost use Rattle.std.specs.Prelude.{◌++◌, ◌∷◌, [], ◌≡◌, ◌<◌, ◌≤◌, ◌*◌, ◌/◌, ◌==◌, ℕ, length, replicate, false, true, nat_le, ◌&&◌, IsTrue, IsNone, IsSome, IfSome, IsOk, IfOk, OnOk, IfErr, Err};
 ghost use Rattle.std.specs.Option.{option_map_or};
 ghost use Rattle.capnp_words.specs.declared.error.ErrorKind.TheVariants.{AllocationFailed, MessageTooLarge};
@@ -8,7 +8,7 @@ use capnp_arena::arena::{Allocator, MAX_SEGMENT_WORDS};
 use capnp_words::error::ErrorKind;
 use std::marker::Model;
 
-/// Bytes that are lent, all of them zero. A proof sees how many.
+/// Lent bytes, all zero. Proofs can refer to their number.
 #[derive(Drop)]
 struct LentZeros<'a> {
     bytes: &'a mut [u8],
@@ -23,7 +23,7 @@ impl<'a> Model for LentZeros<'a> {
 }
 
 impl<'a> LentZeros<'a> {
-    /// Lends all of these bytes, which are zero.
+    /// Lends these bytes. Precondition: all are zero.
     fn new(bytes: &'a mut [u8]) -> Self
         requires { bytes.old ≡ replicate (length bytes.old) 0 }
         ensures { result ≡ length bytes.old }
@@ -31,7 +31,7 @@ impl<'a> LentZeros<'a> {
         LentZeros { bytes }
     }
 
-    /// How many bytes there are.
+    /// The number of bytes.
     fn len(&self) -> usize
         ensures { result ≡ self.now }
     {
@@ -48,9 +48,9 @@ impl<'a> LentZeros<'a> {
     }
 }
 
-/// Makes one segment in memory that is lent, of exactly as many words as are asked for, and takes no
-/// other memory. A further segment is refused, and so is one for which the memory is too small: nothing
-/// is lent then either.
+/// Makes one segment of exactly the requested size in lent memory, and takes no other memory.
+/// Refuses a segment that the memory is too small for, and any request after one for up to
+/// 536,870,911 words, whether that was granted or not.
 #[derive(Drop)]
 pub struct LentMemory<'a> {
     memory: Option<LentZeros<'a>>,
@@ -58,7 +58,7 @@ pub struct LentMemory<'a> {
 }
 
 impl<'a> LentMemory<'a> {
-    /// An allocator over memory that is zero.
+    /// An allocator over `memory`. Precondition: all of it is zero.
     pub fn new(memory: &'a mut [u8]) -> Self
         requires { memory.old ≡ replicate (length memory.old) 0 }
         ensures refused { result.refused ≡ 0 }
@@ -117,7 +117,7 @@ impl<'a> Allocator for LentMemory<'a> {
         }
     }
 
-    /// The memory isn't lent again.
+    /// Doesn't lend the memory again.
     fn deallocate_segment(&mut self, _segment: &'a mut [u8], _used_words: u32) {}
 
     fn keep<T>(&mut self, list: &mut Vec<T>, row: T) -> Option<T> {

@@ -14,7 +14,7 @@ use capnp_pointers::pointers::{CanonicalFault, CanonicalFaultReason};
 use capnp_words::error::ErrorKind;
 use capnp_words::read_limiter::ReadLimiter;
 
-/// The fault of a message that hasn't exactly one segment.
+/// The fault of a message that doesn't have exactly one segment.
 fn segment_count_fault<A: ReaderArena>(arena: &A) -> Option<CanonicalFault>
     ensures one { IsNone result ↔ (length (A.segments arena.now) ≡ 1) }
     ensures other { IfSome result (λ f. (length (A.segments arena.now) ≢ 1)
@@ -31,12 +31,12 @@ fn segment_count_fault<A: ReaderArena>(arena: &A) -> Option<CanonicalFault>
     })
 }
 
-/// Where and why a message isn't canonical as a whole, or `None` where it is: `is_canonical_message` with
-/// the place of the no. What is read, charged and refused is as there.
+/// Returns where and why a message isn't canonical as a whole, or `None` if it is:
+/// `is_canonical_message` with a place for the no. Reads, charges and refuses like that.
 ///
-/// The fault is the first that is met: that there isn't exactly one segment, then that of
-/// `PointerReader::canonical_fault` at the root, at last that there are words behind the value. Its
-/// reason is true of the word that it names.
+/// The first fault found counts: the number of segments, then the fault of
+/// `PointerReader::canonical_fault` at the root, and last, words after the value. Its reason is
+/// true of the word that it names.
 pub fn canonical_fault<S: ReaderSegments>(
     arena: &ReaderArenaImpl<S>,
     lim: &mut ReadLimiter,

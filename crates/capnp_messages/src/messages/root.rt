@@ -11,11 +11,11 @@ use capnp_pointers::pointers::Pointer;
 use capnp_words::error::ErrorKind;
 use capnp_words::read_limiter::ReadLimiter;
 
-/// A reader of the root of a message, after its word is charged: that of
-/// `Pointer::get_root_from_arena`, over whatever holds the segments.
+/// Returns a reader of the message's root and charges its word, like
+/// `Pointer::get_root_from_arena`, whatever holds the segments.
 ///
-/// A message without a root pointer is `InvalidSegmentId(0)` or `MessageContainsOutOfBoundsPointer`,
-/// and a limiter that has no word left `ReadLimitExceeded`. A refusal charges nothing.
+/// Refusals, which charge nothing: `InvalidSegmentId(0)` or `MessageContainsOutOfBoundsPointer` if
+/// there is no root pointer; `ReadLimitExceeded` if the limiter has no word left.
 pub fn read_root<'a, S: ReaderSegments>(
     arena: &'a ReaderArenaImpl<S>,
     lim: &mut ReadLimiter,

@@ -1,5 +1,5 @@
-//! What is said of a whole message, whatever holds its segments: its canonical copy, the test for
-//! canonical form, its size.
+//! The canonical copy, the test for canonical form, and the size of a whole message, whatever holds
+//! its segments.
 ghost use Rattle.std.specs.Prelude.{◌≡◌, ◌⊎◌, ◌↔◌, ◌≤◌, [], IsOk, IfOk, IfSome, IfErr, IsNone, IsTrue};
 ghost use Rattle.std.specs.Bool.{OnFalse, OnTrue};
 ghost use Rattle.capnp_format.specs.Bytes.{message};
@@ -23,7 +23,7 @@ use capnp_words::error::ErrorKind;
 use capnp_words::read_limiter::ReadLimiter;
 use std::alloc::Global;
 
-/// Makes the value of a message that is read canonical, as `canonical_with` has it.
+/// Like `canonical_with`, for a message in a reader's arena.
 pub fn canonical_from<A: Allocator, S: ReaderSegments>(
     alloc: Global,
     allocator: A,
@@ -49,9 +49,9 @@ pub fn canonical_from<A: Allocator, S: ReaderSegments>(
     }
 }
 
-/// Makes the value of a message that is read canonical in a message that has no segment yet, in one with
-/// room for so many words. `false` says that there is too little room, or no memory for it: `canonical_from`
-/// finds how much is needed.
+/// Copies a message in canonical form into `made`, which has no segment yet, in one segment of
+/// `room` words. Returns `false` if that is too small, or there is no memory for it;
+/// `canonical_from` finds out how much it needs.
 pub fn canonical_in_room<A: Allocator, S: ReaderSegments>(
     made: &mut BuilderArenaImpl<A>,
     room: u32,
@@ -76,12 +76,12 @@ pub fn canonical_in_room<A: Allocator, S: ReaderSegments>(
     copy_in_room(made, root, lim.left(), room)
 }
 
-/// Makes the value of a message canonical: a message of one segment, its canonical words
-/// ("Canonicalization"), with memory of an allocator. A refusal gives the allocator back.
+/// Copies a message in canonical form into a message of one segment ("Canonicalization"), with the
+/// allocator's memory. A refusal returns the allocator.
 ///
-/// The value is read within the limits, from the root on, whose word costs one. Want of memory is
-/// `AllocationFailed`, which the allocator has counted; more than 536,870,911 canonical words are
-/// `MessageTooLarge(536870911)`.
+/// Reads the value from the root on, whose word costs one, within the limits. Refusals: that of
+/// reading; `AllocationFailed` if memory ran out, which the allocator has counted;
+/// `MessageTooLarge(536870911)` if there are more than 536,870,911 canonical words.
 pub fn canonical_with<A: Allocator, S: ReaderSegments + Drop>(
     alloc: Global,
     allocator: A,
@@ -104,11 +104,12 @@ pub fn canonical_with<A: Allocator, S: ReaderSegments + Drop>(
     canonical_from(alloc, allocator, &arena, limits)
 }
 
-/// Where and why a message isn't canonical as a whole, or `None` where it is: one segment, which
-/// holds the canonical words of a value and nothing else ("Canonicalization"). It takes no memory.
+/// Returns where and why a message isn't canonical as a whole, or `None` if it is: one segment,
+/// which holds the canonical words of a value and nothing else ("Canonicalization"). Takes no
+/// memory.
 ///
-/// The fault is the first that is met, as of `canonical_fault`. Only a message of one segment
-/// is read, within the limits, and only that may be refused; of any other the fault is `SegmentCount`.
+/// Returns the first fault found, like `canonical_fault`. Reads and refuses only messages of one
+/// segment, within the limits; the fault of any other is `SegmentCount`.
 pub fn canonical_fault_of<S: ReaderSegments + Drop>(
     segments: S,
     limits: ReaderOptions,
@@ -124,7 +125,7 @@ pub fn canonical_fault_of<S: ReaderSegments + Drop>(
     canonical_fault(&arena, &mut lim)
 }
 
-/// Whether a message is canonical as a whole, as `canonical_fault_of` has it. It takes no memory.
+/// Tests whether a message is canonical as a whole, like `canonical_fault_of`. Takes no memory.
 pub fn is_canonical<S: ReaderSegments + Drop>(
     segments: S,
     limits: ReaderOptions,
@@ -138,8 +139,8 @@ pub fn is_canonical<S: ReaderSegments + Drop>(
     Ok(fault.is_none())
 }
 
-/// How many words and capabilities the root of a message leads to, without landing pads ("Structs",
-/// "Lists"). It takes no memory.
+/// Counts the words and capabilities that a message's root leads to, without landing pads
+/// ("Structs", "Lists"). Takes no memory.
 pub fn size_of<S: ReaderSegments + Drop>(
     segments: S,
     limits: ReaderOptions,

@@ -1,4 +1,5 @@
-//! A message made canonical and written as a frame ("Canonicalization", "Serialization Over a Stream").
+//! Writes a message in canonical form as a frame ("Canonicalization", "Serialization Over a
+//! Stream").
 ghost use Rattle.std.specs.Prelude.{◌≡◌, ◌⊎◌, ◌∷◌, ◌<◌, ◌≤◌, ◌*◌, ◌/◌, ◌^◌, [], ℕ, List, false, true, length, OnOk, OnErr, IfErr};
 ghost use Rattle.capnp_words.specs.declared.error.ErrorKind.{ErrorKind};
 ghost use Rattle.capnp_words.specs.declared.error.ErrorKind.TheVariants.{AllocationFailed};
@@ -27,7 +28,7 @@ use capnp_pointers::pointers::Pointer;
 use capnp_words::read_limiter::ReadLimiter;
 use std::alloc::Global;
 
-/// The bytes of the whole words of a segment.
+/// The bytes of the segment's whole words.
 pub(super) fn whole_words(segment: &[u8]) -> &[u8]
     ensures bytes { result.now ≡ bytes_of_words (words_of segment.now) }
     ensures words { words_of result.now ≡ words_of segment.now }
@@ -36,7 +37,7 @@ pub(super) fn whole_words(segment: &[u8]) -> &[u8]
     &segment[..8 * (segment.len() / 8)]
 }
 
-/// The bytes of a message of one segment, eight for each word.
+/// The bytes of a message of one segment, eight a word.
 pub fn canonical_bytes<A: Allocator>(made: &BuilderArenaImpl<A>) -> &[u8]
     requires { length (⟦<BuilderArenaImpl<A> as ReaderArena>⟧.segments made.now) ≡ 1 }
     ensures bytes { (words : List ℕ) →
@@ -52,7 +53,7 @@ pub fn canonical_bytes<A: Allocator>(made: &BuilderArenaImpl<A>) -> &[u8]
     }
 }
 
-/// Writes a segment of whole words as the frame of a message of that segment.
+/// Writes a frame whose one segment is the whole words of `segment`.
 pub(super) fn write_framed<W: Output>(output: &mut W, segment: &[u8]) -> Result<(), DeviceFault>
     requires works { W.has_failed output.old ≡ false }
     requires short { length segment.now < 2 ^ 35 }
@@ -64,7 +65,7 @@ pub(super) fn write_framed<W: Output>(output: &mut W, segment: &[u8]) -> Result<
     }
 }
 
-/// Writes the bytes of canonical words in a form.
+/// Writes canonical words, framed or bare.
 pub fn write_words<W: Output>(output: &mut W, bytes: &[u8], form: Form) -> Result<(), DeviceFault>
     requires works { W.has_failed output.old ≡ false }
     requires short { length bytes.now < 2 ^ 35 }
@@ -77,7 +78,7 @@ pub fn write_words<W: Output>(output: &mut W, bytes: &[u8], form: Form) -> Resul
     }
 }
 
-/// Writes a message of one segment as a frame. The refusal is the output's.
+/// Writes a message of one segment as a frame. Fails only if the output does.
 pub fn write_copy<W: Output, A: Allocator>(
     output: &mut W,
     made: &BuilderArenaImpl<A>,
@@ -96,13 +97,15 @@ pub fn write_copy<W: Output, A: Allocator>(
     }
 }
 
-/// Writes what a pointer means as the frame of a canonical message: one segment, its canonical words.
+/// Writes the value of `from` as the frame of a canonical message: one segment with its canonical
+/// words.
 ///
-/// The limiter is charged what the copy costs, and counts each pointer that isn't null, once, however
-/// many tries it takes to find the room. A value that isn't copied is `Layout`, with the refusal of the
-/// copy; nothing is written, and the limiter is left as it was. More than 536,870,911 words are
-/// `MessageTooLarge(536870911)`. `Frame` says that the output has failed; how much it took isn't said,
-/// and the copy is charged.
+/// Charges the limiter what the copy costs, and counts each pointer that isn't null once, however
+/// many tries it takes to find the room.
+///
+/// Refusals: `Layout` if the value can't be copied, with `MessageTooLarge(536870911)` inside if the
+/// copy has more than 536,870,911 words; nothing is written then, and the limiter is unchanged.
+/// `Frame` if the output fails: the copy is charged, and how much the output took is unspecified.
 pub fn write_canonical<W: Output, B: ReaderArena>(
     alloc: Global,
     output: &mut W,

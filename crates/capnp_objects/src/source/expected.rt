@@ -1,4 +1,5 @@
-//! One object that a call expects to be of a kind: a struct, a list of elements that are wide enough, a text, or data.
+//! One object that a call expects to be of a kind: a struct, a list of elements that are wide
+//! enough, a text, or data.
 ghost use Rattle.std.specs.Prelude.{◌≡◌, None, ◌<◌, ◌≤◌, ◌+◌, ◌-◌, ◌*◌, ◌↔◌, pos, IsTrue, IsOk, IfOk, IfErr, length};
 ghost use Rattle.capnp_format.specs.Numbers.{words_for};
 ghost use Rattle.capnp_words.specs.Sizes.{size_number};
@@ -24,12 +25,13 @@ impl<'a, A: ReaderArena> Source<'a, A> {
     /// Reads the object that the pointer at a place leads to, which has to be what a call expects
     /// ("Structs", "Lists" of the encoding specification).
     ///
-    /// A word of zero is `Null`, and nothing is counted or charged then. Checks and charges are those
-    /// of `read_object`, but for these: a struct and a list ask for a level, a nesting limit of at
-    /// least 1, before the pointer is followed (`MessageIsTooDeeplyNestedOrContainsCycles` for a
-    /// struct, `NestingLimitExceeded` for a list), and a text and data ask for none; an object of
-    /// another kind is refused when its landing pads are charged and before its own words are; and
-    /// a list whose elements are too narrow, or a text whose last byte isn't 0, when all is charged.
+    /// A zero word is `Null`, and counts and charges nothing. Checks and charges like
+    /// `read_object`, with these differences. A struct and a list require a nesting limit of at
+    /// least 1 before the pointer is followed (otherwise `MessageIsTooDeeplyNestedOrContainsCycles`
+    /// for a struct, `NestingLimitExceeded` for a list); a text and data require no level. An
+    /// object of another kind is refused after its landing pads are charged and before its own
+    /// words are. A list whose elements are too narrow, or a text whose last byte isn't 0, is
+    /// refused after all is charged.
     #[inline(always)]
     pub fn read_expected(
         self,
@@ -105,7 +107,7 @@ impl<'a, A: ReaderArena> Entrance<'a, A> {
     }
 }
 
-// The refusal where `depth` levels are left, if that is too few for what is expected.
+// The refusal for having `depth` levels left, if that is too few for what is expected.
 fn name_of_depth(expected: Expected, depth: u32) -> Option<ErrorKind>
     ensures { result ≡ (expectation expected).too_deep depth }
 {
@@ -116,7 +118,7 @@ fn name_of_depth(expected: Expected, depth: u32) -> Option<ErrorKind>
     }
 }
 
-// The refusal where a word describes an object of another kind than what is expected, if it does.
+// The refusal for a word that describes an object of another kind than expected, if it does.
 fn name_of_kind(expected: Expected, word: WirePointer) -> Option<ErrorKind>
     ensures { result ≡ (expectation expected).another_kind word.0 }
 {
@@ -145,7 +147,7 @@ fn name_of_kind(expected: Expected, word: WirePointer) -> Option<ErrorKind>
     }
 }
 
-// The refusal where an object of the kind isn't as expected, if it isn't.
+// The refusal for an object of the right kind that isn't as expected, if it isn't.
 fn name_of_misfit(expected: Expected, object: Object) -> Option<ErrorKind>
     requires { IsAtHand object }
     ensures { result ≡ object_misfit expected object.entry }
@@ -174,7 +176,7 @@ fn name_of_misfit(expected: Expected, object: Object) -> Option<ErrorKind>
     }
 }
 
-// Whether so many bytes from a place on end in a byte of zero.
+// Whether the `count` bytes from a place on end in a zero byte.
 fn ends_in_zero(start: Place, count: u32) -> bool
     requires { 8 * (start.at + words_for 2 count) ≤ length start.bytes.now }
     ensures { IsTrue result ↔ (0 < count) × (place_byte start.entry (count - 1) ≡ 0) }
@@ -187,7 +189,7 @@ fn ends_in_zero(start: Place, count: u32) -> bool
     word >> (8 * (last % 8)) & 0xff == 0
 }
 
-// The refusal where the elements of a list are too narrow, if they are.
+// The refusal for elements of a list that are too narrow, if they are.
 fn name_of_narrow_elements(expected: ElementSize, found: ElementSize) -> Option<ErrorKind>
     requires { size_number found < 7 }
     ensures { result ≡ narrow_elements expected (size_number found) }
@@ -203,7 +205,7 @@ fn name_of_narrow_elements(expected: ElementSize, found: ElementSize) -> Option<
     }
 }
 
-// The refusal where the sections of a list of structs are too narrow, if they are.
+// The refusal for sections of a list of structs that are too narrow, if they are.
 fn name_of_narrow_structs(expected: ElementSize, sections: StructSize) -> Option<ErrorKind>
     ensures { result ≡ narrow_structs expected sections }
 {

@@ -1,4 +1,4 @@
-//! What a pointer leads to, once it is followed, and how that is entered: its checks and charges.
+//! What a pointer leads to once it is followed, and how that is entered: its checks and charges.
 ghost use Rattle.std.specs.Prelude.{◌≡◌, ⊤};
 ghost use Rattle.capnp_words.specs.declared.error.ErrorKind.TheVariants.{CantHandleNonStructInlineComposite, InlineCompositeListsOfNonStructTypeAreNotSupported};
 ghost use Rattle.capnp_objects.specs.declared.object.Purpose.TheVariants.{Value, Size};
@@ -15,11 +15,11 @@ use std::alloc::AllocError;
 
 // What following a pointer found, in the source that it is read from.
 pub(crate) struct Entrance<'a, A: ReaderArena> {
-    // Where the object is read from.
+    // What the object is read from.
     pub(crate) source: Source<'a, A>,
-    // The word that describes the object, and where that starts.
+    // The word that describes the object, and where the object starts.
     pub(crate) found: Found<'a>,
-    // How many levels are left: a struct and a list take one.
+    // The number of levels left: a struct and a list take one.
     pub(crate) depth: u32,
     ghost held: { IsHeld (source_start A.ReaderArena source).segments found.start },
 }
@@ -44,8 +44,8 @@ impl<'a, A: ReaderArena> Entrance<'a, A> {
     ghost use Rattle.capnp_objects.specs.Demands.{claim, IsStructList, IsVoidList};
     ghost use Rattle.capnp_objects.specs.Landings.{arrival, IsClaimed, NotEntered, Enters};
 
-    // Enters the object that a pointer leads to, which takes one of the levels. For its size one
-    // has to be left.
+    // Enters the object that a pointer leads to, which takes one of the levels. Precondition for
+    // the size only: a level is left.
     #[inline(always)]
     pub(crate) fn enter(
         self,
@@ -118,7 +118,7 @@ impl<'a, A: ReaderArena> Entrance<'a, A> {
         }
     }
 
-    // Enters a list of void, which for its size is neither looked for nor charged.
+    // Enters a list of void; for the size, without a check of its place or a charge.
     #[inline(always)]
     fn enter_void(self, purpose: Purpose, lim: &mut ReadLimiter) -> Result<Object<'a>, ErrorKind>
         requires of_void { IsVoidList self.found.word.0 }
@@ -137,7 +137,7 @@ impl<'a, A: ReaderArena> Entrance<'a, A> {
         Ok(Object::Flat { start, size, count })
     }
 
-    // Enters a list of elements of bits or bytes.
+    // Enters a list of bits or of elements of bytes.
     #[inline(always)]
     fn enter_flat(
         self,

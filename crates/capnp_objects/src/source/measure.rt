@@ -1,4 +1,4 @@
-//! One object of a message, read for its size alone.
+//! Reads one object of a message only for its size.
 ghost use Rattle.std.specs.Prelude.{◌≡◌, ◌<◌, ◌↔◌, IfOk, IsOk, IfErr};
 ghost use Rattle.capnp_format.specs.Word.{kind};
 ghost use Rattle.capnp_objects.specs.declared.object.Purpose.TheVariants.{Size};
@@ -15,22 +15,22 @@ use capnp_words::error::ErrorKind;
 use capnp_words::read_limiter::ReadLimiter;
 
 impl<'a, A: ReaderArena> Source<'a, A> {
-    /// Reads the object that the pointer at a place leads to, and nothing below it, for its size
-    /// alone ("Structs", "Lists", "Inter-Segment Pointers" and "Capabilities (Interfaces)" of the
+    /// Reads the object that the pointer at a place leads to, and nothing below it, only for its
+    /// size ("Structs", "Lists", "Inter-Segment Pointers" and "Capabilities (Interfaces)" of the
     /// encoding specification).
     ///
-    /// A word of zero is `Null`, as is a place beyond its segment; nothing is counted or charged
-    /// then. Else a level is taken, also for a capability, so the nesting limit must be at least 1;
-    /// the pointer is counted as followed, and charged in words, each before it is read: its
-    /// landing pads, and the words that the object claims. A list of void is neither looked for nor
-    /// charged, and the number of elements without width isn't charged. Where the source isn't
-    /// charged, nothing is counted either.
+    /// A zero word is `Null`, and so is a place outside of its segment; counts and charges nothing
+    /// for these. Any other pointer takes a level, also one to a capability, so the nesting limit
+    /// must be at least 1. Counts it as followed, and charges words, each before it is read: its
+    /// landing pads, and those that the object claims. A list of void may be anywhere and costs
+    /// nothing; the number of elements without width isn't charged. If the source isn't charged,
+    /// nothing is counted either.
     ///
-    /// A refusal is named by the first fault that is met: `MessageIsTooDeeplyNested`, by which
-    /// nothing is counted, `InvalidSegmentId`, `MessageContainsOutOfBoundsPointer`,
+    /// Refuses with the first fault found: `MessageIsTooDeeplyNested`, after which nothing is
+    /// counted; `InvalidSegmentId`, `MessageContainsOutOfBoundsPointer`,
     /// `MalformedDoubleFarPointer`, `UnknownPointerType`, `CantHandleNonStructInlineComposite`,
     /// `InlineCompositeListsElementsOverrunItsWordCount`, `TriedToReadFromNullArena` for a far
-    /// pointer of a default, or `ReadLimitExceeded`. What was charged before it stays charged.
+    /// pointer of a default, or `ReadLimitExceeded`. What was charged before stays charged.
     #[inline(never)]
     pub fn measure_object(
         self,
@@ -63,9 +63,9 @@ impl<'a, A: ReaderArena> Source<'a, A> {
         self.read_pointer(Purpose::Size, pointer, lim)
     }
 
-    /// Reads, for its size alone, the object that a near pointer leads to, as `measure_object` does:
-    /// a struct or a list, but none of void and none of structs. It claims so many words, and starts
-    /// at this position of the pointer's own segment.
+    /// Reads the object that a near pointer leads to only for its size, like `measure_object`, and
+    /// returns where it starts in the pointer's own segment. The object is a struct or a list, but
+    /// not of void nor of structs, and claims `words` words.
     #[inline(always)]
     pub fn measure_near(
         self,

@@ -1,4 +1,4 @@
-//! Of which kind the object is that a pointer leads to.
+//! The kind of object that a pointer leads to.
 ghost use Rattle.std.specs.Prelude.{◌≡◌, ◌↔◌, IsOk, IfOk, IfErr};
 ghost use Rattle.capnp_words.specs.Meter.{Meter};
 ghost use Rattle.capnp_words.specs.declared.wire_pointer.PointerType.{PointerType};
@@ -14,13 +14,13 @@ use capnp_words::read_limiter::ReadLimiter;
 use capnp_words::wire_pointer::{PointerType, WirePointer, WirePointerKind};
 
 impl<'a, A: ReaderArena> Source<'a, A> {
-    /// Of which kind the object is that the pointer at a place leads to, by the word that describes
-    /// it alone: the object itself is neither checked nor charged.
+    /// Returns the kind of object that the pointer at a place leads to, judged only by the word
+    /// that describes it: neither checks nor charges the object itself.
     ///
-    /// A word of zero is `Null`, and nothing is counted or charged then. Else the pointer is
-    /// counted as followed, and its landing pads are charged. A landing pad that is a far pointer
-    /// again is refused as `UnexpectedFarPointer`, a word of no kind as `UnknownPointerType`; a
-    /// pointer that can't be followed as in `read_object`.
+    /// A zero word is `Null`, and counts and charges nothing. Any other pointer is counted as
+    /// followed, and its landing pads are charged. Refusals: `UnexpectedFarPointer` if a landing
+    /// pad is a far pointer again; `UnknownPointerType` if a word is of no known kind; those of
+    /// `read_object` if the pointer can't be followed.
     pub fn read_type(
         self,
         place: Place<'a>,

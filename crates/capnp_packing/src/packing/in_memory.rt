@@ -1,4 +1,4 @@
-//! Words packed, and packed bytes unpacked, in memory.
+//! Packs words and unpacks packed bytes in memory.
 ghost use Rattle.std.specs.Prelude.{◌≡◌, ◌≢◌, ◌⊎◌, ◌≤◌, ◌<◌, ◌+◌, ◌*◌, ◌%◌, ◌++◌, ℕ, List, length, take, IfOk, IfErr, OnOk};
 ghost use Rattle.std.specs.Io.KnownBytes.{Consumes, IsAtEnd};
 ghost use Rattle.capnp_packing.specs.Packing.{IsWhole, KeepsEnd, Packs, unpacked_bytes};
@@ -12,11 +12,11 @@ use super::words::pack_front;
 use capnp_framing::devices::{Input, MemoryInput};
 use std::alloc::Global;
 
-/// How many bytes are made at once.
+/// The number of bytes made at a time.
 const STEP: usize = 8192;
 
-/// Packs whole words ("Packing"). `CutWord` where the last one is cut short, and only there;
-/// `AllocationFailed` where there is no memory.
+/// Packs whole words ("Packing"). Refuses with `CutWord` if, and only if, the last one is cut
+/// short, and with `AllocationFailed` if there is no memory.
 pub fn pack(alloc: Global, words: &[u8]) -> Result<Vec<u8>, PackingError>
     ensures packed { IfOk result (λ packed. Packs packed.items words.now) }
     ensures whole { OnOk result (length words.now % 8 ≡ 0) }
@@ -34,7 +34,8 @@ pub fn pack(alloc: Global, words: &[u8]) -> Result<Vec<u8>, PackingError>
     Ok(packed)
 }
 
-/// Packs some words behind what is packed; how many bytes of words these are.
+/// Packs words from the front of `words` and appends them to `packed`. Returns the number of bytes
+/// of words packed.
 fn pack_more(packed: &mut Vec<u8>, words: &[u8]) -> Result<usize, PackingError>
     requires { 8 ≤ length words.now }
     ensures some { IfOk result (λ n. 0 < n) }
@@ -52,9 +53,11 @@ fn pack_more(packed: &mut Vec<u8>, words: &[u8]) -> Result<usize, PackingError>
     Ok(done.taken)
 }
 
-/// Unpacks packed bytes, where they stand for at most so many bytes ("Packing"). `TooLong` where
-/// they stand for more, be they whole or not; else `Truncated` where they end within a word or before
-/// a number; `AllocationFailed` where there is no memory.
+/// Unpacks packed bytes to at most `max_bytes` bytes ("Packing").
+///
+/// Refusals: `TooLong` if there are more unpacked bytes, whether the packed ones are cut short or
+/// not; otherwise `Truncated` if they end inside a word or before a count; `AllocationFailed` if
+/// there is no memory.
 pub fn unpack(alloc: Global, packed: &[u8], max_bytes: usize) -> Result<Vec<u8>, PackingError>
     ensures bytes { IfOk result (λ bytes. Packs packed.now bytes.items) }
     ensures most { IfOk result (λ bytes. length bytes.items ≤ max_bytes) }
@@ -78,7 +81,7 @@ pub fn unpack(alloc: Global, packed: &[u8], max_bytes: usize) -> Result<Vec<u8>,
     Err(PackingError::TooLong)
 }
 
-/// Unpacks at most so many bytes more behind those that are there; how many these are.
+/// Unpacks at most `most` bytes more, appends them to `bytes`, and returns their number.
 fn unpack_more<R: Input>(
     input: &mut UnpackingInput<R>,
     bytes: &mut Vec<u8>,

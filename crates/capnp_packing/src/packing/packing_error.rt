@@ -5,16 +5,16 @@ ghost use Rattle.capnp_packing.specs.Names.{packing_error_name};
 use std::fmt;
 use thiserror::Error;
 
-/// What a refused call says. `{}` writes the variant's name.
+/// The refusal of a call. `{}` writes the variant's name.
 #[derive(Clone, Copy, Debug, PartialEq, Eq, Error)]
 pub enum PackingError {
-    /// The bytes that were to be packed end within a word.
+    /// The bytes to pack end inside a word.
     CutWord,
-    /// The packed bytes end within a word or before a number.
+    /// The packed bytes end inside a word or before a count.
     Truncated,
-    /// The packed bytes stand for more bytes than were asked for.
+    /// There are more unpacked bytes than requested.
     TooLong,
-    /// No memory for the answer.
+    /// There is no memory for the result.
     AllocationFailed,
 }
 

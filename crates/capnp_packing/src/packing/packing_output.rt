@@ -1,4 +1,4 @@
-//! An output of words, as an output of packed bytes.
+//! An output of words that packs them to another output.
 ghost use Rattle.std.specs.Prelude.{◌≡◌, ◌<◌, ◌≤◌, ◌+◌, ◌-◌, false, true, IfOk, OnOk, OnErr, length, slice_range};
 ghost use Rattle.std.specs.Io.KnownBytes.{Keeps, WriteAppends, append_known};
 ghost use Rattle.capnp_framing.specs.Devices.{WriteTakes};
@@ -8,15 +8,16 @@ use super::words::{MOST_BYTES, pack_front};
 use crate::buffered::BufferedOutput;
 use capnp_framing::devices::{DeviceFault, Output};
 
-/// How many packed bytes are kept at most.
+/// The most packed bytes that are kept.
 const CAPACITY: usize = 8192;
 
-/// An output of whole words, which packs them. It keeps packed bytes until there are many, or it is
-/// flushed. Fewer bytes than a word fail, and else a write fails only where the packed output has.
+/// An output of whole words, which packs them. Keeps packed bytes until there are many, or it is
+/// flushed. A write of 1 to 7 bytes fails; any other fails only if the output of packed bytes has
+/// failed.
 #[derive(Drop)]
 pub struct PackingOutput<W> {
     packed: W,
-    // The bytes from `sent` to `end` are packed, and the output hasn't taken them.
+    // The bytes from `sent` to `end` are packed, and not yet written.
     pending: [u8; CAPACITY],
     sent: usize,
     end: usize,
@@ -28,7 +29,7 @@ pub struct PackingOutput<W> {
 impl<W: Output> PackingOutput<W> {
     ghost use Rattle.capnp_packing.specs.Sending.{Sends};
 
-    /// The output that packs to an output.
+    /// The output that packs to `packed`.
     pub fn new(packed: W) -> Self
         ensures packed { result.packed ≡ packed }
         ensures none { (result.sent ≡ 0) × (result.end ≡ 0) }
@@ -44,7 +45,7 @@ impl<W: Output> PackingOutput<W> {
         }
     }
 
-    /// Has the output take all packed bytes.
+    /// Writes all packed bytes to the output.
     pub fn flush(&mut self) -> Result<(), DeviceFault>
         ensures sends { Sends W.Output result self.old self.new }
         ensures taken { OnOk result (Keeps (⟦<Self as Output>⟧.contents self.old)
@@ -65,14 +66,15 @@ impl<W: Output> PackingOutput<W> {
         Ok(())
     }
 
-    /// The output that it packs to. Packed bytes that this hasn't taken are lost, so flush first.
+    /// Returns the output that it packs to. Loses packed bytes that aren't written yet, so flush
+    /// first.
     pub fn into_packed(self) -> W
         ensures { result ≡ self.packed }
     {
         self.packed
     }
 
-    /// Makes room for what is packed at once.
+    /// Makes room for the packed bytes of one step.
     fn make_room(&mut self) -> Result<(), DeviceFault>
         ensures sends { Sends W.Output result self.old self.new }
         ensures room { OnOk result (self.new.end + 2050 ≤ 8192) }
@@ -85,7 +87,7 @@ impl<W: Output> PackingOutput<W> {
     }
 }
 
-/// The bytes from one position to another.
+/// The bytes from `from` up to `to`.
 fn part(bytes: &[u8], from: usize, to: usize) -> &[u8]
     requires order { from ≤ to }
     requires inside { to ≤ length bytes.now }

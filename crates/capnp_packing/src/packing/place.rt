@@ -1,27 +1,26 @@
-//! Where a reader of packed bytes stands, and what a byte gives there ("Packing").
+//! The places in packed bytes, and what each byte unpacks to there ("Packing").
 ghost use Rattle.std.specs.Prelude.{◌≡◌, ◌≤◌, ◌<◌, ◌+◌, None};
 ghost use Rattle.capnp_packing.specs.Packing.{byte_given, lead, place_after, place_within, zeros_given};
 
-/// Where a reader of packed bytes stands.
+/// A place in packed bytes.
 #[derive(Clone, Copy, Debug, PartialEq, Eq)]
 pub enum Place {
     /// Before a tag.
     Tag,
-    /// Before a byte of a word that is packed. So many bytes of the word are behind it, and the
-    /// bits say which of them are packed, the lowest one the first.
+    /// Before a byte of a packed word. `left` bytes of the word come after it; `bits` says which of
+    /// them are packed, the lowest bit for the first.
     Kept { bits: u8, left: u8 },
-    /// Before the number of words of zero behind one.
+    /// Before the count of further zero words.
     Zeros,
-    /// Before a byte of a word that is given as it is, with so many bytes behind it.
+    /// Before a byte of a word that isn't packed, with so many bytes of it to follow.
     Whole(u8),
-    /// Before the number of words behind that one that are given as they are.
+    /// Before the count of further words that aren't packed.
     Count,
-    /// Before a byte of the words that are given as they are, with so many bytes behind it.
+    /// Before a byte of those further words, with so many bytes of them to follow.
     Raw(u16),
 }
 
-/// What a packed byte gives: itself or nothing, and so many bytes of zero behind it; and where it
-/// leads to.
+/// What a packed byte unpacks to: itself or nothing, then `zeros` zero bytes; and the next place.
 #[derive(Clone, Copy, Debug, PartialEq, Eq)]
 pub struct Taken {
     pub byte: Option<u8>,
@@ -29,8 +28,8 @@ pub struct Taken {
     pub next: Place,
 }
 
-/// Within a word, before so many bytes of it: how many aren't packed from there on, and the place
-/// behind these.
+/// In a word with `left` bytes to go: the number of leading ones that aren't packed, and the place
+/// after them.
 fn within_word(bits: u8, left: u8) -> (u8, Place)
     ensures zeros { result.0 ≡ lead left bits }
     ensures place { result.1 ≡ place_within left bits }
@@ -47,7 +46,7 @@ fn within_word(bits: u8, left: u8) -> (u8, Place)
     (zeros + 1, next)
 }
 
-/// What a byte gives before a tag, which it is.
+/// Steps over a tag.
 fn step_tag(tag: u8) -> Taken
     ensures byte { result.byte ≡ byte_given Place.Tag tag }
     ensures zeros { result.zeros ≡ zeros_given Place.Tag tag }
@@ -75,7 +74,8 @@ fn step_tag(tag: u8) -> Taken
     }
 }
 
-/// What a byte of a packed word gives, with so many bytes of the word behind it, which the bits say of.
+/// Steps over a byte of a packed word, with `left` bytes of it to follow, for which `bits` says
+/// which are packed.
 fn step_kept(bits: u8, left: u8, byte: u8) -> Taken
     ensures byte { result.byte ≡ byte_given (Place.Kept bits left) byte }
     ensures zeros { result.zeros ≡ zeros_given (Place.Kept bits left) byte }
@@ -89,7 +89,7 @@ fn step_kept(bits: u8, left: u8, byte: u8) -> Taken
     }
 }
 
-/// What the number of words of zero behind one gives.
+/// Steps over the count of further zero words.
 fn step_zeros(count: u8) -> Taken
     ensures byte { result.byte ≡ byte_given Place.Zeros count }
     ensures zeros { result.zeros ≡ zeros_given Place.Zeros count }
@@ -102,7 +102,7 @@ fn step_zeros(count: u8) -> Taken
     }
 }
 
-/// What a byte of a word gives that is given as it is, with so many bytes behind it.
+/// Steps over a byte of a word that isn't packed, with `left` bytes of it to follow.
 fn step_whole(left: u8, byte: u8) -> Taken
     ensures byte { result.byte ≡ byte_given (Place.Whole left) byte }
     ensures zeros { result.zeros ≡ zeros_given (Place.Whole left) byte }
@@ -120,7 +120,7 @@ fn step_whole(left: u8, byte: u8) -> Taken
     }
 }
 
-/// What the number of words gives that are given as they are.
+/// Steps over the count of further words that aren't packed.
 fn step_count(count: u8) -> Taken
     ensures byte { result.byte ≡ byte_given Place.Count count }
     ensures zeros { result.zeros ≡ zeros_given Place.Count count }
@@ -138,7 +138,7 @@ fn step_count(count: u8) -> Taken
     }
 }
 
-/// What a byte of the words gives that are given as they are, with so many bytes behind it.
+/// Steps over a byte of those further words, with `left` bytes of them to follow.
 fn step_raw(left: u16, byte: u8) -> Taken
     ensures byte { result.byte ≡ byte_given (Place.Raw left) byte }
     ensures zeros { result.zeros ≡ zeros_given (Place.Raw left) byte }
@@ -156,7 +156,7 @@ fn step_raw(left: u16, byte: u8) -> Taken
     }
 }
 
-/// What a byte gives at a place, and the place behind it.
+/// What `byte` unpacks to at `place`, and the place after it.
 pub fn step(place: Place, byte: u8) -> Taken
     ensures byte { result.byte ≡ byte_given place byte }
     ensures zeros { result.zeros ≡ zeros_given place byte }

@@ -1,13 +1,13 @@
-//! Packed bytes that are read ahead, many at a time.
+//! Reads packed bytes ahead, many at a time.
 ghost use Rattle.std.specs.Prelude.{◌≡◌, ◌≤◌, ◌<◌, ◌+◌, ◌∷◌, [], true, false, IfOk, OnOk, OnErr, IsTrue, length, take, slice_range};
 ghost use Rattle.std.specs.Io.KnownBytes.{Consumes, IsAtEnd, Keeps, prepend_known};
 
 use capnp_framing::devices::{DeviceFault, Input};
 
-/// How many bytes are read at once.
+/// The number of bytes read at a time.
 const CAPACITY: usize = 8192;
 
-/// An input whose bytes are read ahead.
+/// An input that reads ahead.
 #[derive(Drop)]
 pub(super) struct ReadAhead<R> {
     input: R,
@@ -20,7 +20,7 @@ pub(super) struct ReadAhead<R> {
 }
 
 impl<R: Input> ReadAhead<R> {
-    /// An input from which nothing is read yet.
+    /// Wraps an input, and reads nothing yet.
     pub(super) fn new(input: R) -> Self
         ensures { ⟦<Self as Input>⟧.remaining result ≡ R.remaining input }
     {
@@ -39,7 +39,8 @@ impl<R: Input> ReadAhead<R> {
         &self.bytes[self.at..self.end]
     }
 
-    /// Has some bytes ahead, where the input isn't at its end; whether there are any.
+    /// Reads some bytes ahead if there are none. Returns whether there are any now: `false` means
+    /// the end of the input.
     pub(super) fn fill(&mut self) -> Result<bool, DeviceFault>
         ensures kept { Keeps (⟦<Self as Input>⟧.remaining self.old)
             (⟦<Self as Input>⟧.remaining self.new) }
@@ -59,7 +60,7 @@ impl<R: Input> ReadAhead<R> {
         Ok(n > 0)
     }
 
-    /// Takes a byte that is ahead.
+    /// Takes a byte that is read ahead.
     pub(super) fn next(&mut self) -> u8
         requires { self.old.at < self.old.end }
         ensures byte { Consumes (⟦<Self as Input>⟧.remaining self.old)
@@ -71,7 +72,7 @@ impl<R: Input> ReadAhead<R> {
         byte
     }
 
-    /// Takes so many of the bytes that are ahead.
+    /// Takes `n` bytes that are read ahead.
     pub(super) fn consume(&mut self, n: usize)
         requires { self.old.at + n ≤ self.old.end }
         ensures bytes { Consumes (⟦<Self as Input>⟧.remaining self.old)
@@ -90,7 +91,7 @@ impl<R: Input> Input for ReadAhead<R> {
 
     ghost ends_whole = { λ r. R.ends_whole r.input };
 
-    /// Gives what is ahead, or reads straight to where the bytes are wanted.
+    /// Returns bytes that are read ahead; if there are none, reads directly into `to`.
     fn read(&mut self, to: &mut [u8]) -> Result<usize, DeviceFault> {
         if self.at == self.end {
             return self.input.read(to);

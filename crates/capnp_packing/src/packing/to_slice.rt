@@ -1,20 +1,20 @@
-//! Packed bytes unpacked to a slice that has exactly the room for what they stand for ("Packing").
+//! Unpacks packed bytes to a slice of exactly the unpacked size ("Packing").
 ghost use Rattle.std.specs.Prelude.{◌≡◌, ◌≤◌, ◌+◌, ◌^◌, length, take, IfSome, IsNone};
 ghost use Rattle.capnp_packing.specs.Packing.{all_given, place_after, place_at_end, unpacked_bytes};
 
 use super::place::{Place, step};
 use super::unpacking::{UNIT, put_zeros, unpack_words};
 
-/// How much a packed byte gives at a place, and the place behind it.
+/// How many bytes a packed byte unpacks to, and the next place.
 #[derive(Clone, Copy)]
 struct Given {
-    /// In bytes.
+    /// The number of unpacked bytes.
     count: usize,
-    /// The place behind the packed byte.
+    /// The place after the packed byte.
     next: Place,
 }
 
-/// Counts what a packed byte gives at a place.
+/// Counts what `byte` unpacks to at `place`.
 fn count_given(place: Place, byte: u8) -> Given
     ensures count { result.count ≡ length (all_given place byte) }
     ensures next { result.next ≡ place_after place byte }
@@ -31,7 +31,7 @@ fn count_given(place: Place, byte: u8) -> Given
     }
 }
 
-/// Puts what a packed byte gives at a place to the front.
+/// Writes what `byte` unpacks to at `place` to the front of `to`.
 fn put_given(place: Place, byte: u8, to: &mut [u8]) -> Given
     requires { length (all_given place byte) ≤ length to.old }
     ensures bytes { take result.count to.new ≡ all_given place byte }
@@ -55,8 +55,8 @@ fn put_given(place: Place, byte: u8, to: &mut [u8]) -> Given
     }
 }
 
-/// How many bytes packed bytes stand for, and the place behind them: before a tag where they are whole.
-/// `None` where they stand for 2^64 bytes or more.
+/// The number of unpacked bytes, and the place after the packed ones: `Tag` if they are whole.
+/// `None` if there are 2^64 unpacked bytes or more.
 pub fn unpacked_size(packed: &[u8]) -> Option<(usize, Place)>
     ensures size { IfSome result (λ s. s.0 ≡ length (unpacked_bytes Place.Tag packed.now)) }
     ensures place { IfSome result (λ s. s.1 ≡ place_at_end Place.Tag packed.now) }
@@ -75,7 +75,7 @@ pub fn unpacked_size(packed: &[u8]) -> Option<(usize, Place)>
     Some((size, place))
 }
 
-/// Unpacks packed bytes from a place on, one by one.
+/// Unpacks packed bytes one by one, from the place `start`.
 fn unpack_bytes(start: Place, packed: &[u8], to: &mut [u8])
     requires { length (unpacked_bytes start packed.now) ≡ length to.old }
     ensures { to.new ≡ unpacked_bytes start packed.now }
@@ -89,8 +89,8 @@ fn unpack_bytes(start: Place, packed: &[u8], to: &mut [u8])
     }
 }
 
-/// Unpacks packed bytes to a slice that is as long as what they stand for: words while there are
-/// enough packed bytes for any, and the bytes behind these one by one.
+/// Unpacks to a slice of exactly the unpacked size: words as long as enough packed bytes are left
+/// for any, and then byte by byte.
 pub fn unpack_to_slice(packed: &[u8], to: &mut [u8])
     requires { length (unpacked_bytes Place.Tag packed.now) ≡ length to.old }
     ensures { to.new ≡ unpacked_bytes Place.Tag packed.now }

@@ -1,4 +1,4 @@
-//! Words unpacked from packed bytes in memory ("Packing").
+//! Unpacks words from packed bytes in memory ("Packing").
 ghost use Rattle.std.specs.Prelude.{◌≡◌, ◌≢◌, ◌≤◌, ◌<◌, ◌+◌, ◌∷◌, [], length, take, drop, slice_index, replicate};
 ghost use Rattle.std.specs.Int.{to_le_bytes, w32};
 ghost use Rattle.capnp_packing.specs.Packing.{GivesAndLeads, expanded, ones};
@@ -6,23 +6,23 @@ ghost use Rattle.capnp_packing.specs.Words.{CanUnpack, UnpacksFront};
 
 use super::place::Place;
 
-/// The most packed bytes that a tag needs: itself, a word, and a number.
+/// The most packed bytes that a tag needs: itself, a word, and a count.
 pub(super) const UNIT: usize = 10;
 
-/// How far words were unpacked.
+/// How far unpacking got.
 #[derive(Clone, Copy)]
 pub(super) struct Progress {
-    /// How many packed bytes were taken.
+    /// The number of packed bytes taken.
     pub(super) taken: usize,
-    /// How many bytes were given.
+    /// The number of unpacked bytes written.
     pub(super) given: usize,
-    /// How many bytes of zero are due behind them.
+    /// The number of zero bytes still to be written after these.
     pub(super) zeros: u16,
-    /// The place behind the packed bytes.
+    /// The place after the packed bytes.
     pub(super) place: Place,
 }
 
-/// Makes all bytes zero.
+/// Zeroes all bytes.
 #[inline(always)]
 pub(super) fn put_zeros(to: &mut [u8])
     ensures { to.new ≡ replicate (length to.old) 0 }
@@ -32,8 +32,8 @@ pub(super) fn put_zeros(to: &mut [u8])
     }
 }
 
-/// By which numbers the next four packed bytes are multiplied to stand in their places of a number of four bytes, by the
-/// four bits of a tag that say of these; 0 for those that belong to no place.
+/// For each four bits of a tag, the factors that move the next four packed bytes to their positions
+/// in a number of four bytes; 0 for those that have no position in it.
 static MULTIPLIERS: [[u32; 4]; 16] = [
     [0, 0, 0, 0],
     [1, 0, 0, 0],
@@ -53,8 +53,8 @@ static MULTIPLIERS: [[u32; 4]; 16] = [
     [1, 1 << 8, 1 << 16, 1 << 24],
 ];
 
-/// Four bytes of a word as a number, the first one the lowest: the next packed one where its bit is set, and else
-/// zero.
+/// Four bytes of a word as a number, the first byte lowest: the next packed byte for each bit that
+/// is set, and zero for the others.
 #[inline(always)]
 fn half_word(bits: u8, packed: &[u8]) -> u32
     requires bits { bits < 16 }
@@ -72,8 +72,8 @@ fn half_word(bits: u8, packed: &[u8]) -> u32
         .wrapping_add(last)
 }
 
-/// The last four bytes of a word as a number, as `half_word` says of them. In most words all but the first are zero,
-/// as in a small number or the pointer to a short text.
+/// The last four bytes of a word as a number, like `half_word`. In most words all but the first are
+/// zero, as in a small number or the pointer to a short text.
 #[inline(always)]
 fn last_half(bits: u8, packed: &[u8]) -> u32
     requires bits { bits < 16 }
@@ -86,8 +86,8 @@ fn last_half(bits: u8, packed: &[u8]) -> u32
     half_word(bits, packed)
 }
 
-/// Gives the bytes of a word: the next packed one where its bit is set, and else zero. How many
-/// were packed.
+/// Writes the bytes of a word: the next packed byte for each bit of `tag` that is set, and zero for
+/// the others. Returns the number of packed bytes.
 #[inline(always)]
 fn put_word(tag: u8, packed: &[u8], to: &mut [u8]) -> usize
     requires packed { length packed.now ≡ 8 }
@@ -102,7 +102,7 @@ fn put_word(tag: u8, packed: &[u8], to: &mut [u8]) -> usize
     tag.count_ones() as usize
 }
 
-/// Unpacks a word of zero and so many words of zero behind it: as many as there is room for.
+/// Unpacks a zero word and `more` further ones, as far as there is room.
 #[inline(always)]
 fn unpack_zeros(more: u8, to: &mut [u8]) -> Progress
     requires { 8 ≤ length to.old }
@@ -132,7 +132,7 @@ fn unpack_zeros(more: u8, to: &mut [u8]) -> Progress
     }
 }
 
-/// A word as it stands, and those behind it where all of them are there and wanted.
+/// Copies a word that isn't packed; and the further ones, if all are there and fit.
 #[inline(always)]
 fn unpack_whole(packed: &[u8], to: &mut [u8]) -> Progress
     requires ready { CanUnpack packed.now to.old }
@@ -166,7 +166,7 @@ fn unpack_whole(packed: &[u8], to: &mut [u8]) -> Progress
     }
 }
 
-/// What a tag and the bytes behind it give.
+/// Unpacks a tag and what belongs to it.
 #[inline(always)]
 fn unpack_unit(packed: &[u8], to: &mut [u8]) -> Progress
     requires { CanUnpack packed.now to.old }
@@ -188,7 +188,7 @@ fn unpack_unit(packed: &[u8], to: &mut [u8]) -> Progress
     }
 }
 
-/// Unpacks words while there is room for one, and so many packed bytes as a tag may need.
+/// Unpacks words as long as there is room for one, and as many packed bytes as a tag may need.
 pub(super) fn unpack_words(packed: &[u8], to: &mut [u8]) -> Progress
     requires { CanUnpack packed.now to.old }
     ensures { UnpacksFront packed.now to.new result }

@@ -1,4 +1,4 @@
-//! An input of packed bytes, as an input of what they stand for.
+//! An input that unpacks another one.
 ghost use Rattle.std.specs.Prelude.{Some, ℕ, List, if◌then◌else◌, nat_lt, ◌&&◌, ◌≡◌, ◌≤◌, ◌<◌, ◌+◌, ◌-◌, ◌∷◌, ◌↔◌, [], IsTrue, IsErr, false, true, IfOk, OnOk, OnErr, length, take, slice_range};
 ghost use Rattle.std.specs.Io.KnownBytes.{Consumes, IsAtEnd, ReadConsumes};
 ghost use Rattle.std.specs.Option.{option_map};
@@ -13,20 +13,21 @@ use super::unpacking::{UNIT, put_zeros, unpack_words};
 use crate::buffered::BufferedInput;
 use capnp_framing::devices::{DeviceFault, Input};
 
-/// An input of the bytes that packed bytes stand for, as far as they go. A packed input that has failed isn't asked
-/// again.
+/// Unpacks the bytes of a packed input, as far as they go. Doesn't read on after the packed input
+/// has failed.
 #[derive(Drop)]
 pub struct UnpackingInput<R> {
     packed: ReadAhead<R>,
     place: Place,
-    // How many bytes of zero are given before the next packed byte is taken.
+    // The number of zero bytes to return before the next packed byte is taken.
     zeros: u16,
-    // Whether a read has said that the packed input failed. Bytes that came before that are given first.
+    // Whether a read has reported that the packed input failed. Bytes from before the failure are
+    // returned first.
     told: bool,
 }
 
 impl<R: Input> UnpackingInput<R> {
-    /// The input of packed bytes.
+    /// Unpacks the bytes of `packed`.
     pub fn new(packed: R) -> Self
         ensures place { result.place ≡ Place.Tag }
         ensures zeros { result.zeros ≡ 0 }
@@ -45,8 +46,8 @@ impl<R: Input> UnpackingInput<R> {
         }
     }
 
-    /// Whether the packed bytes are whole, and nothing of what they stand for is left: reads on
-    /// to their end. It takes at most a byte of what is left.
+    /// Reads on, and returns whether the packed bytes are whole and no unpacked byte was left.
+    /// Takes at most one of the unpacked bytes left.
     pub fn finish(&mut self) -> Result<bool, DeviceFault>
         ensures whole { IsAtEnd (⟦<Self as Input>⟧.remaining self.old) → IfOk result
             (λ whole. KeepsWhole (⟦<Self as Input>⟧.ends_whole self.old) (Some whole)) }
@@ -65,16 +66,16 @@ impl<R: Input> UnpackingInput<R> {
         Ok(n == 0 && self.is_whole())
     }
 
-    /// Whether what was read so far ends before a tag, with no byte due: not within a word or
-    /// before a number.
+    /// Whether the bytes read so far end before a tag, with no unpacked byte left; not inside a
+    /// word or before a count.
     pub fn is_whole(&self) -> bool
         ensures { IsTrue result ↔ (self.now.zeros ≡ 0) × (self.now.place ≡ Place.Tag) }
     {
         self.zeros == 0 && matches!(self.place, Place::Tag)
     }
 
-    /// Reads at most `to.len()` bytes to the front of `to`, and gives their number. None are given
-    /// only where `to` has no room, or the packed bytes have ended.
+    /// Reads at most `to.len()` bytes to the front of `to`, and returns their number: 0 only if
+    /// `to` is empty, or the packed bytes have ended.
     pub(super) fn unpack(&mut self, to: &mut [u8]) -> Result<usize, DeviceFault>
         ensures bound { IfOk result (λ n. n ≤ length to.new) }
         ensures bytes { ReadConsumes (⟦<Self as Input>⟧.remaining self.old)
@@ -112,7 +113,7 @@ impl<R: Input> UnpackingInput<R> {
         Ok(given)
     }
 
-    /// Reads some bytes, and none only where the packed bytes have ended.
+    /// Reads some bytes; none only if the packed bytes have ended.
     fn unpack_some(&mut self, to: &mut [u8]) -> Result<usize, DeviceFault>
         requires { 0 < length to.old }
         ensures { UnpacksSome R.Input result self.old self.new to.new }
@@ -138,7 +139,7 @@ impl<R: Input> UnpackingInput<R> {
         Ok(self.give_zeros(to))
     }
 
-    /// Unpacks words that are read ahead.
+    /// Unpacks words from the bytes read ahead.
     fn unpack_ahead(&mut self, to: &mut [u8]) -> usize
         requires zeros { self.old.zeros ≡ 0 }
         requires place { self.old.place ≡ Place.Tag }
@@ -153,7 +154,7 @@ impl<R: Input> UnpackingInput<R> {
         progress.given
     }
 
-    /// Gives bytes of zero that are due.
+    /// Returns zero bytes that are still to be returned.
     fn give_zeros(&mut self, to: &mut [u8]) -> usize
         requires due { 0 < self.old.zeros }
         requires room { 0 < length to.old }
@@ -165,8 +166,8 @@ impl<R: Input> UnpackingInput<R> {
         n
     }
 
-    /// Reads words that are given as they are, with so many bytes behind the first one. The bytes go
-    /// straight to where they are wanted.
+    /// Reads bytes of further words that aren't packed, `left` of which follow the first one,
+    /// directly into `to`.
     fn read_raw(&mut self, left: u16, to: &mut [u8]) -> Result<usize, DeviceFault>
         requires place { self.old.place ≡ Place.Raw left }
         requires zeros { self.old.zeros ≡ 0 }
@@ -182,8 +183,8 @@ impl<R: Input> UnpackingInput<R> {
     }
 }
 
-/// The place behind some bytes of words that are given as they stand, where so many were behind the
-/// first.
+/// The place after the next `taken` bytes of words that aren't packed, if `left` follow the first
+/// of them.
 fn raw_behind(left: u16, taken: usize) -> Place
     requires some { 0 < taken }
     requires inside { taken ≤ left + 1 }
@@ -218,7 +219,7 @@ impl<R: Input> Input for UnpackingInput<R> {
 }
 
 impl<R: Input> BufferedInput for UnpackingInput<R> {
-    // A word of packed bytes with what may stand before and behind it.
+    // A packed word, with what may come before and after it.
     ghost has_enough = { λ u. 10 ≤ u.packed.end - u.packed.at };
 
     fn is_ahead(&self) -> bool {

@@ -1,20 +1,20 @@
-//! Words packed to bytes in memory ("Packing").
+//! Packs words to bytes in memory ("Packing").
 ghost use Rattle.std.specs.Prelude.{◌≡◌, ◌≤◌, ◌<◌, ◌+◌, ◌*◌, ◌%◌, length, take, replicate};
 ghost use Rattle.capnp_packing.specs.Packing.{nonzero_bytes, tag_of_word};
 ghost use Rattle.capnp_packing.specs.Words.{CanPack, PacksFront};
 
 use std::simd::prelude::*;
 
-/// The most packed bytes that are made at once: a tag, a word, a number, and so many words as it
-/// can tell.
+/// The most packed bytes made in one step: a tag, a word, a count, and as many words as that can
+/// state.
 pub(super) const MOST_BYTES: usize = 2050;
 
-/// How much was packed.
+/// How far packing got.
 #[derive(Clone, Copy)]
 pub(super) struct Packed {
-    /// How many bytes of words were taken.
+    /// The number of bytes of words taken.
     pub(super) taken: usize,
-    /// How many packed bytes were given.
+    /// The number of packed bytes written.
     pub(super) given: usize,
 }
 
@@ -27,7 +27,7 @@ fn tag_of(word: &[u8]) -> u8
     u8x8::from_slice(word).simd_ne(u8x8::splat(0)).to_bitmask() as u8
 }
 
-/// How many words of zero there are at the front, as far as a byte can tell.
+/// The number of zero words at the front, at most 255.
 fn zero_words(bytes: &[u8]) -> u8
     ensures within { 8 * result ≤ length bytes.now }
     ensures zeros { take (8 * result) bytes.now ≡ replicate (8 * result) 0 }
@@ -43,7 +43,7 @@ fn zero_words(bytes: &[u8]) -> u8
     n
 }
 
-/// Whether at most one byte of a word is zero: the highest bits of those that are tell it.
+/// Whether at most one byte of the word is zero. `zeros` has the highest bit of each zero byte.
 #[inline(always)]
 fn is_full(word: u64) -> bool {
     const LOW: u64 = 0x7f7f_7f7f_7f7f_7f7f;
@@ -51,7 +51,7 @@ fn is_full(word: u64) -> bool {
     zeros & zeros.wrapping_sub(1) == 0
 }
 
-/// How many words at the front have at most one byte of zero, as far as a byte can tell.
+/// The number of words at the front with at most one zero byte, at most 255.
 fn full_words(bytes: &[u8]) -> u8
     ensures { 8 * result ≤ length bytes.now }
 {
@@ -65,7 +65,7 @@ fn full_words(bytes: &[u8]) -> u8
     n
 }
 
-/// Puts the bytes that aren't zero to the front; how many these are.
+/// Writes the bytes that aren't zero to the front of `to`, and returns their number.
 #[inline(always)]
 fn put_kept(to: &mut [u8], bytes: &[u8]) -> usize
     requires { length bytes.now ≤ length to.old }
@@ -82,8 +82,8 @@ fn put_kept(to: &mut [u8], bytes: &[u8]) -> usize
     n
 }
 
-/// Puts the bytes of a word that aren't zero to the front; how many these are. In most words the last three are zero,
-/// as in a small number or the pointer to a short text.
+/// Writes the bytes of `word` that aren't zero to the front of `to`, and returns their number. In
+/// most words the last three are zero, as in a small number or the pointer to a short text.
 #[inline(always)]
 fn put_kept_of(tag: u8, to: &mut [u8], word: &[u8]) -> usize
     requires tag { tag ≡ tag_of_word word.now }
@@ -99,7 +99,7 @@ fn put_kept_of(tag: u8, to: &mut [u8], word: &[u8]) -> usize
     n + put_kept(&mut to[n..], &word[5..])
 }
 
-/// Packs a word of zero and those behind it.
+/// Packs a zero word and those that follow it.
 #[inline(always)]
 fn pack_zeros(to: &mut [u8], from: &[u8]) -> Packed
     requires ready { CanPack to.old from.now }
@@ -115,7 +115,7 @@ fn pack_zeros(to: &mut [u8], from: &[u8]) -> Packed
     }
 }
 
-/// Packs a word without a byte of zero, and those behind it that have few.
+/// Packs a word without a zero byte, and the following ones with few.
 #[inline(always)]
 fn pack_full(to: &mut [u8], from: &[u8]) -> Packed
     requires { CanPack to.old from.now }
@@ -160,7 +160,7 @@ fn pack_unit(to: &mut [u8], from: &[u8]) -> Packed
     }
 }
 
-/// Packs words while there is one, and room for what one may need.
+/// Packs words as long as there is one, and room for what one may need.
 pub(super) fn pack_front(to: &mut [u8], from: &[u8]) -> Packed
     requires { CanPack to.old from.now }
     ensures { PacksFront to.new from.now result }

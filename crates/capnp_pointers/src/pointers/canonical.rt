@@ -27,25 +27,25 @@ use capnp_words::wire_pointer::{
 use capnp_words::words::word_at;
 
 impl<'a, A: ReaderArena> Pointer<'a, A> {
-    /// Where and why the pointer doesn't lead to a value in canonical form whose first object starts at
-    /// the head, a position in words in the pointer's segment, or `None` where it does
+    /// Returns where and why the pointer doesn't lead to a value in canonical form whose first
+    /// object starts at `head`, a position in words in the pointer's segment, or `None` if it does
     /// ("Canonicalization").
     ///
-    /// `None` is said exactly where the words from the head on are the canonical words of a value, and
-    /// the pointer is the one that canonical form has for it: near pointers in order, no capability,
-    /// sections and elements cut to what they use, zeros behind the elements of a list. Words behind
-    /// these, and other segments, don't matter. A null pointer is canonical, and a pointer from
-    /// nothing is not. With `None` the head is moved behind the words, and else it stays.
+    /// Returns `None` exactly if the words from `head` on are the canonical words of a value, and
+    /// the pointer is its canonical one: near pointers in order, no capability, sections and
+    /// elements cut to what they use, zeros after the elements of a list. Words after these, and
+    /// other segments, don't matter. A null pointer is canonical, and a pointer from nothing isn't.
+    /// With `None`, moves `head` past the words; otherwise leaves it.
     ///
-    /// The pointers are tested in order. Each but the null is counted, and the words that its object
-    /// claims, and for elements without width their number, are charged; a struct and a list take a
-    /// level. It is answered wherever a canonical value stands at a head in the segment, the limiter
-    /// covers these charges, and the nesting limit is at least the value's depth. Else it may be
-    /// refused by the first fault that is met. What was charged before it stays charged, and so it is
-    /// with a fault.
+    /// Tests the pointers in order. Counts each one that isn't null, and charges the words that its
+    /// object claims, and for elements without width their number; a struct and a list take a
+    /// level. Never refuses if a canonical value is at a head in the segment, the limiter covers
+    /// these charges, and the nesting limit is at least the value's depth. Otherwise it may refuse
+    /// with the first error found. After a fault or a refusal, what was charged before stays
+    /// charged.
     ///
-    /// The fault is the first that is met, and its reason is true of the word that it names. Where both
-    /// sections of a struct or of elements are wider than they need be, it names the data.
+    /// The first fault found counts, and its reason is true of the word that it names. If both
+    /// sections of a struct or of elements are wider than needed, names the data.
     pub fn canonical_fault(
         &self,
         lim: &mut ReadLimiter,
@@ -81,11 +81,11 @@ impl<'a, A: ReaderArena> Pointer<'a, A> {
         }
     }
 
-    /// Whether so many pointers, of which this is the first and which stand one behind the other, lead to
-    /// values in canonical form, the first of whose objects starts at the head.
+    /// Tests whether `count` consecutive pointers, from this one on, lead to values in canonical
+    /// form whose first object starts at `head`.
     ///
-    /// On a yes the head is moved behind the last of these words, and else it stays. The pointers are
-    /// tested, charged, answered and refused as by `canonical_fault`.
+    /// On `true`, moves `head` past the last of these words; otherwise leaves it. Tests, charges,
+    /// answers and refuses the pointers like `canonical_fault`.
     pub fn are_canonical(
         &self,
         count: u32,
@@ -124,8 +124,8 @@ impl<'a, A: ReaderArena> Pointer<'a, A> {
     }
 }
 
-/// Tests the pointer at a position, the first object being at a head: the head behind the canonical
-/// words, if there are any. All lies in one segment, whose reader serves every level.
+/// Tests the pointer at `at`, with its first object at `head`. Returns the head after the canonical
+/// words. All is in one segment, whose reader serves every level.
 #[cycle(tests)]
 #[inline(always)]
 fn test_place<A: ReaderArena>(
@@ -160,7 +160,7 @@ fn test_place<A: ReaderArena>(
     }
 }
 
-/// Tests so many pointers, one behind the other from a position on.
+/// Tests `count` consecutive pointers from position `at` on.
 #[cycle(tests)]
 fn test_children<A: ReaderArena>(
     from: &Pointer<'_, A>,
@@ -181,7 +181,7 @@ fn test_children<A: ReaderArena>(
     Ok(head)
 }
 
-/// Tests the struct that the word at a position describes.
+/// Tests the struct that the word at `at` describes.
 #[cycle(tests)]
 #[inline(always)]
 fn test_struct<A: ReaderArena>(
@@ -230,7 +230,7 @@ fn test_struct<A: ReaderArena>(
     test_sections(from, start, size, less(nesting_limit), test)
 }
 
-/// Tests the sections of a struct that starts at a position, its first object being right behind it.
+/// Tests the sections of a struct that starts at `start`, with its first object right after it.
 #[cycle(tests)]
 #[inline(always)]
 fn test_sections<A: ReaderArena>(
@@ -279,7 +279,7 @@ fn test_sections<A: ReaderArena>(
     Ok(end)
 }
 
-/// Tests the list of bits or bytes that the word at a position describes, as `test_list` does.
+/// Tests the list of bits or bytes that the word at `at` describes, like `test_list`.
 #[inline(always)]
 fn test_near_flat<A: ReaderArena>(
     from: &Pointer<'_, A>,
@@ -322,7 +322,7 @@ fn test_near_flat<A: ReaderArena>(
     test_flat(first, size, count, &mut test.answer)
 }
 
-/// Tests the list that the word at a position describes.
+/// Tests the list that the word at `at` describes.
 #[cycle(tests)]
 #[inline(never)]
 fn test_list<A: ReaderArena>(
@@ -371,7 +371,7 @@ fn test_list<A: ReaderArena>(
     }
 }
 
-/// Tests the elements of a list of structs that start at a place, where the list claims so many words.
+/// Tests the elements of a list of structs that start at `start`; the list claims `claimed` words.
 #[cycle(tests)]
 fn test_structs<A: ReaderArena>(
     from: &Pointer<'_, A>,
@@ -417,8 +417,8 @@ fn test_structs<A: ReaderArena>(
     test_rows(from, start, size, count, nesting_limit, test)
 }
 
-/// Tests so many elements of a list of structs, one behind the other from a place on, their first
-/// object being right behind them.
+/// Tests `count` consecutive elements of a list of structs from `start` on, with their first object
+/// right after them.
 #[cycle(tests)]
 fn test_rows<A: ReaderArena>(
     from: &Pointer<'_, A>,
@@ -478,8 +478,8 @@ fn test_rows<A: ReaderArena>(
     Ok(head)
 }
 
-/// Tests so many pointers of a struct, one behind the other from a position on. Where there are none
-/// nothing is called.
+/// Tests `count` consecutive pointers of a struct from position `at` on. Calls nothing if there are
+/// none.
 #[cycle(tests)]
 #[inline(always)]
 fn test_row<A: ReaderArena>(
@@ -500,7 +500,7 @@ fn test_row<A: ReaderArena>(
     test_children(from, at, count, nesting_limit, first, test)
 }
 
-/// Tests a list of numbers that starts at a place: the bits behind the last one have to be zero.
+/// Tests a list of numbers that starts at a place: the bits after the last one have to be zero.
 #[inline(always)]
 fn test_flat(
     start: Place,
@@ -529,8 +529,8 @@ fn test_flat(
     }
 }
 
-/// The position behind a list of numbers that starts at one, or that of the word which has other bits than
-/// zeros behind the last number.
+/// The position after a list of numbers that starts at `start`; as an error, the position of the
+/// word whose bits after the last number aren't all zero.
 #[inline(always)]
 fn padded_end(bytes: &[u8], start: u32, size: ElementSize, count: u32) -> Result<u32, u32>
     requires inside { start + words_for (size_number size) count ≤ length (words_of bytes.now) }
@@ -554,7 +554,7 @@ fn padded_end(bytes: &[u8], start: u32, size: ElementSize, count: u32) -> Result
     Ok(end + 1)
 }
 
-/// Whether the bits of a word from a position on are zero.
+/// Whether the bits of a word from `position` on are zero.
 #[inline(always)]
 fn is_zero_from(word: u64, position: u64) -> bool
     requires { position < 64 }
@@ -563,7 +563,7 @@ fn is_zero_from(word: u64, position: u64) -> bool
     lanes::is_zero((word >> position).to_le_bytes().as_slice())
 }
 
-/// How many whole words bytes have, each of which is one of 64 bits.
+/// The number of whole words in `bytes`, each a word of 64 bits.
 fn whole_words(bytes: &[u8]) -> usize
     ensures count { result ≡ length (words_of bytes.now) }
     ensures small { (i : ℕ) → slice_index (words_of bytes.now) i < 2 ^ 64 }
@@ -571,7 +571,7 @@ fn whole_words(bytes: &[u8]) -> usize
     bytes.len() / 8
 }
 
-/// Whether there are none of so many words from a position on, or the last isn't zero.
+/// Whether the last of the `count` words from position `at` on isn't zero, or `count` is 0.
 pub fn ends_used(place: Place, at: u32, count: u32) -> bool
     requires { at + count < 2 ^ 32 }
     ensures { IsTrue result
@@ -587,15 +587,15 @@ pub fn ends_used(place: Place, at: u32, count: u32) -> bool
     !last.word().is_null()
 }
 
-/// A nesting limit of one level less.
+/// The nesting limit with one level less.
 fn less(nesting_limit: i32) -> i32
     ensures { levels result ≡ pred (levels nesting_limit) }
 {
     nesting_limit.saturating_sub(1)
 }
 
-/// Whether the object of the pointer at a position starts where canonical form has it: a struct of no
-/// words at the pointer itself, and any other at the head, a list of structs with its tag.
+/// Whether the object of the pointer at `at` starts where canonical form has it: a struct of no
+/// words at the pointer itself, and any other at `head`, a list of structs with its tag.
 fn starts_right(object: Object, at: u32, head: u32) -> bool
     ensures { IsTrue result ↔ StartsRight object.entry at head }
 {

@@ -1,4 +1,4 @@
-//! What a test for canonical form answers that stops ("Canonicalization").
+//! The answer of a test for canonical form that stops ("Canonicalization").
 ghost use Rattle.std.specs.Prelude.{◌≡◌, Ok, Err};
 ghost use Rattle.capnp_pointers.specs.Faults.{other_reason};
 ghost use Rattle.capnp_pointers.specs.Checking.{level_refusal_name};
@@ -10,25 +10,25 @@ use capnp_words::read_limiter::ReadLimiter;
 use capnp_words::wire_pointer::{WirePointer, WirePointerKind};
 use std::mem;
 
-/// What a test answers that stops: a fault, or why an object can't be read.
+/// The answer of a test that stops: a fault, or why an object can't be read.
 pub(crate) type Answer = Result<CanonicalFault, ErrorKind>;
 
-/// A test stopped, for its answer. A `Result` of the answer itself would go through memory at each level,
-/// while one of this goes in a register.
+/// A test has stopped, with its answer in `Test`. A `Result` with the answer itself would go
+/// through memory at each level; one of this is passed in a register.
 #[derive(Clone, Copy)]
 pub(crate) struct Stopped;
 
-/// A test: the limiter that it charges, and once it has stopped its answer.
+/// A test: the limiter that it charges, and its answer once it has stopped.
 #[derive(Drop)]
 pub(crate) struct Test {
     /// What may still be read.
     pub(crate) lim: ReadLimiter,
-    /// What the test answers, which says nothing before it has stopped.
+    /// The test's answer; means nothing before it has stopped.
     pub(crate) answer: Answer,
 }
 
 impl Test {
-    /// A test that has a limiter taken over.
+    /// A test that takes over a limiter.
     pub(crate) fn begin(lim: &mut ReadLimiter) -> Self
         ensures { result.lim ≡ lim.old }
     {
@@ -39,7 +39,7 @@ impl Test {
     }
 }
 
-/// Stops a test: the answer is a fault of a word of a place's segment.
+/// Stops a test: the answer is a fault at a word of the place's segment.
 #[cold]
 pub(crate) fn fault_at(
     answer: &mut Answer,
@@ -61,7 +61,7 @@ pub(crate) fn fault_at(
     Stopped
 }
 
-/// Stops a test: the object of a word isn't read.
+/// Stops a test: the object of a word can't be read.
 #[cold]
 pub(crate) fn refused(answer: &mut Answer, word: WirePointer, kind: ErrorKind) -> Stopped
     ensures { answer.new ≡ Err (level_refusal_name word.0 kind) }
@@ -70,7 +70,7 @@ pub(crate) fn refused(answer: &mut Answer, word: WirePointer, kind: ErrorKind) -
     Stopped
 }
 
-/// Why the pointer of a word isn't canonical that is neither of a struct nor of a list.
+/// Why the pointer in a word isn't canonical if it is neither of a struct nor of a list.
 pub(crate) fn reason_of(word: WirePointer) -> CanonicalFaultReason
     ensures { result ≡ other_reason word.0 }
 {
@@ -83,7 +83,7 @@ pub(crate) fn reason_of(word: WirePointer) -> CanonicalFaultReason
     }
 }
 
-// The refusal where the object of a word isn't read.
+// The refusal if the object of a word can't be read.
 fn name_of_refusal(word: WirePointer, kind: ErrorKind) -> ErrorKind
     ensures { result ≡ level_refusal_name word.0 kind }
 {

@@ -10,9 +10,9 @@ use thiserror::Error;
 /// `REASON at segment SEGMENT, word WORD`.
 #[derive(Clone, Copy, Debug, PartialEq, Eq, Error)]
 pub struct CanonicalFault {
-    /// The number of the segment, below 2^32 in an arena; a default is the segment of number 2^32.
+    /// The number of the segment: in an arena below 2^32; 2^32 for a default.
     pub segment: u64,
-    /// The position in the segment, in words. Which word it is, each reason says.
+    /// The position in the segment, in words. Each reason states which word it is.
     pub word: u32,
     /// Why the test stopped there.
     pub reason: CanonicalFaultReason,
@@ -21,10 +21,10 @@ pub struct CanonicalFault {
 /// Why a word isn't that of a message in canonical form. `{}` writes the text.
 #[derive(Clone, Copy, Debug, PartialEq, Eq, Error)]
 pub enum CanonicalFaultReason {
-    /// There isn't exactly one segment. The word is the first of segment 1, or of segment 0 where there
-    /// is no segment.
+    /// There isn't exactly one segment. The word is the first of segment 1, or of segment 0 if
+    /// there is none.
     SegmentCount,
-    /// There is no word for the pointer. The word is where it would stand.
+    /// There is no word for the pointer. The word is where it would be.
     NoPointer,
     /// The word is a far pointer.
     FarPointer,
@@ -32,29 +32,31 @@ pub enum CanonicalFaultReason {
     Capability,
     /// The word is a pointer of no known kind.
     UnknownPointer,
-    /// A struct without words starts elsewhere than at its pointer. The word is the pointer.
+    /// A struct without words doesn't start at its pointer. The word is the pointer.
     EmptyStructPlace,
-    /// An object starts elsewhere than behind the last one. The word is the pointer to it.
+    /// An object doesn't start right after the last one. The word is the pointer to it.
     ObjectPlace,
-    /// The bits behind the last number of a list aren't zero. The word is the one with these bits.
+    /// The bits after the last number of a list aren't zero. The word is the one with these bits.
     Padding,
     /// The last word of a data section is zero. The word is this one.
     DataSection,
     /// The last pointer of a pointer section is null. The word is this one.
     PointerSection,
-    /// The elements of a list of structs take other words than its pointer claims. The word is the tag.
+    /// The elements of a list of structs don't take the words that its pointer claims. The word is
+    /// the tag.
     ElementWords,
-    /// The elements of a list of structs have more data words than any of them uses. The word is the
-    /// tag.
+    /// The elements of a list of structs have more data words than any of them uses. The word is
+    /// the tag.
     ElementData,
-    /// The elements of a list of structs have more pointers than any of them uses. The word is the tag.
+    /// The elements of a list of structs have more pointers than any of them uses. The word is the
+    /// tag.
     ElementPointers,
-    /// There are words behind the value. The word is the first of these.
+    /// There are words after the value. The word is the first of these.
     WordsBehind,
 }
 
 impl CanonicalFaultReason {
-    /// What is wrong, in words.
+    /// The reason as text.
     pub fn text(&self) -> &'static str
         ensures { result.now ≡ fault_reason_text self.now }
     {

@@ -1,4 +1,4 @@
-//! How many words and capabilities a value has, without reading its data.
+//! Counts the words and capabilities of a value, without reading its data.
 ghost use Rattle.std.specs.Prelude.{◌≡◌, ◌≢◌, ◌<◌, ◌≤◌, ◌+◌, ◌*◌, ◌-◌, ◌^◌, ◌↔◌, length, IsTrue, MatchOption, IsOk, IfOk, OnOk, IfErr, OnErr};
 ghost use Rattle.capnp_format.specs.Word.{kind, element_size, list_count};
 ghost use Rattle.capnp_format.specs.Numbers.{words_for};
@@ -21,32 +21,32 @@ use capnp_words::error::ErrorKind;
 use capnp_words::read_limiter::ReadLimiter;
 use capnp_words::wire_pointer::{WirePointer, WirePointerKind, flat_words, is_of_bits};
 
-/// The size of a value: of its objects, itself and all below, without landing pads.
+/// The size of a value: of its object and all below it, without landing pads.
 #[derive(Clone, Copy, Debug, PartialEq, Eq)]
 pub struct MessageSize {
-    /// How many words.
+    /// The number of words.
     pub word_count: u64,
-    /// How many capabilities.
+    /// The number of capabilities.
     pub cap_count: u32,
 }
 
 impl<'a, A: ReaderArena> Pointer<'a, A> {
-    /// How many words the value takes that the pointer leads to, itself and all below, without
-    /// landing pads, and how many capabilities it has ("Structs", "Lists").
+    /// Counts the words of the value that the pointer leads to, with all below it and without
+    /// landing pads, and its capabilities ("Structs", "Lists").
     ///
-    /// A null pointer has none of both. A list of structs takes its tag and its elements, even where
-    /// it claims more. Each pointer but the null is counted as followed, takes a level, also to a
-    /// capability, and charges the words of its landing pads and those that its object claims, each
-    /// before it is read; a list of void is not looked at, and elements without width are free. So
-    /// an answer doesn't say that the pointer leads to a value. A default and an arena that is
-    /// built count and charge nothing.
+    /// A null pointer has neither. A list of structs takes its tag and its elements, even if it
+    /// claims more. Each pointer except a null one is counted as followed, takes a level (also one
+    /// to a capability), and is charged the words of its landing pads and those that its object
+    /// claims, each before it is read. Ignores the place of a list of void, and charges nothing for
+    /// elements without width, so an answer doesn't mean that the pointer leads to a value. A
+    /// default and an arena being built count and charge nothing.
     ///
-    /// A refusal is named by the first fault that is met: `MessageIsTooDeeplyNested`,
+    /// Refuses with the first fault found, and keeps what was charged: `MessageIsTooDeeplyNested`,
     /// `InvalidSegmentId`, `MessageContainsOutOfBoundsPointer`, `MalformedDoubleFarPointer`,
     /// `UnknownPointerType`, `CantHandleNonStructInlineComposite`,
     /// `InlineCompositeListsElementsOverrunItsWordCount`, `TriedToReadFromNullArena` for a far
-    /// pointer of a default, `ReadLimitExceeded`, or `MessageTooLarge(usize::MAX)` where the words
-    /// don't fit 64 bits or the capabilities 32. It keeps what was charged.
+    /// pointer of a default, `ReadLimitExceeded`, or `MessageTooLarge(usize::MAX)` if the words
+    /// don't fit 64 bits or the capabilities 32.
     pub fn total_size(&self, lim: &mut ReadLimiter) -> Result<MessageSize, ErrorKind>
         ensures sized { IfOk result (λ z. WalksPlace (reading A.ReaderArena self.now)
             (tally 0 0 lim.old) (so_far z lim.new)) }
@@ -69,12 +69,11 @@ impl<'a, A: ReaderArena> Pointer<'a, A> {
         }
     }
 
-    /// The size of an object that has so many words of its own and so many pointers, the first of which is
-    /// this one: itself and all below.
+    /// The size of an object with `own_words` words of its own and `count` consecutive pointers,
+    /// from this one on, and of all below it.
     ///
-    /// The object's own words aren't charged, and take no level. The pointers stand one behind the other;
-    /// each is counted, charged and refused as `total_size` does it, in order, with the sums begun at the
-    /// object's own words.
+    /// The object's own words aren't charged, and take no level. Counts, charges and refuses each
+    /// pointer like `total_size`, in order, with sums that start at the object's own words.
     pub fn total_size_of(
         &self,
         count: u32,
@@ -106,21 +105,21 @@ impl<'a, A: ReaderArena> Pointer<'a, A> {
 }
 
 // The pointers of an object, in elements of equal size: a struct and a list of pointers are one
-// element, so that all pointers are gone over in one place.
+// element, so that one loop handles all pointers.
 #[derive(Clone, Copy)]
 struct MeasuredRows<'a> {
     // The first word of the first element.
     start: Place<'a>,
-    // How many words stand before the pointers of an element.
+    // The number of words before the pointers of an element.
     data_words: u32,
-    // How many pointers an element has.
+    // The number of pointers of an element.
     pointers: u32,
-    // How many elements there are.
+    // The number of elements.
     count: u32,
 }
 
-// Adds the sizes of so many pointers, one behind the other from a position on. A struct in the same
-// segment is entered by its position alone, and the reader of the segment serves it too.
+// Adds the sizes of `count` consecutive pointers from position `at` on. Enters a struct in the same
+// segment by its position alone, with the same reader of the segment.
 #[cycle(sizes)]
 #[inline(never)]
 fn add_pointers<A: ReaderArena>(
@@ -137,8 +136,8 @@ fn add_pointers<A: ReaderArena>(
     add_row(from, at, count, nesting_limit, walk)
 }
 
-// Does what `add_pointers` does, in line: so the loop over the elements of a list calls nothing for
-// pointers to bits or bytes.
+// Like `add_pointers`, but inlined: the loop over a list's elements calls nothing for pointers to
+// bits or bytes.
 #[cycle(sizes)]
 #[inline(always)]
 fn add_row<A: ReaderArena>(
@@ -158,7 +157,7 @@ fn add_row<A: ReaderArena>(
     Ok(())
 }
 
-// Adds the size of what the pointer at a position leads to.
+// Adds the size of what the pointer at `at` leads to.
 #[cycle(sizes)]
 #[inline(always)]
 fn add_pointer<A: ReaderArena>(
@@ -183,7 +182,7 @@ fn add_pointer<A: ReaderArena>(
     }
 }
 
-// Adds the size of the struct that the word at a position describes.
+// Adds the size of the struct that the word at `at` describes.
 #[cycle(sizes)]
 #[inline(always)]
 fn add_struct<A: ReaderArena>(
@@ -221,7 +220,7 @@ fn add_struct<A: ReaderArena>(
     add_pointers(from, first, count, nesting_limit - 1, walk)
 }
 
-// Adds the size of the list of bits or bytes that the word at a position describes.
+// Adds the size of the list of bits or bytes that the word at `at` describes.
 #[inline(always)]
 fn add_flat<A: ReaderArena>(
     from: &Pointer<'_, A>,
@@ -251,8 +250,8 @@ fn add_flat<A: ReaderArena>(
     }
 }
 
-// Adds the size of what the pointer at a position leads to, be it near or far, and of any kind. It
-// stands apart from the loop over pointers, so that a level in the same segment takes little stack.
+// Adds the size of what the pointer at `at` leads to, near or far, and of any kind. Apart from the
+// loop over pointers, so that a level in the same segment takes little stack.
 #[cycle(sizes)]
 #[inline(never)]
 fn add_object<A: ReaderArena>(
@@ -290,8 +289,8 @@ fn add_object<A: ReaderArena>(
     add_rows(&inner, rows.data_words, rows.pointers, rows.count, walk)
 }
 
-// Adds the sizes of the pointers of so many elements, one behind the other, each of so many data
-// words and pointers.
+// Adds the sizes of the pointers of `count` consecutive elements, each of `data_words` data words
+// and `pointers` pointers.
 #[cycle(sizes)]
 fn add_rows<A: ReaderArena>(
     from: &Pointer<'_, A>,
@@ -321,7 +320,8 @@ fn add_rows<A: ReaderArena>(
     Ok(())
 }
 
-// How many words of its own an object counts; a list of structs its tag and its elements.
+// The number of words of its own that an object counts; for a list of structs, its tag and its
+// elements.
 fn words_of_object(object: Object) -> u64
     requires { IsFew object }
     ensures { result ≡ object_words object.entry }
@@ -335,7 +335,7 @@ fn words_of_object(object: Object) -> u64
     }
 }
 
-// The pointers of an object; there are none of what is null, a capability, or a list of bits.
+// The pointers of an object; a null, a capability, and a list of bits have none.
 fn rows_of_object(object: Object) -> Option<MeasuredRows>
     ensures { MatchOption result ((rows : MeasuredRows) → HasRows object.entry rows → ⊥)
         (HasRows object.entry) }

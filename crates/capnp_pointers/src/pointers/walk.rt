@@ -17,23 +17,23 @@ pub(crate) struct Walk {
     pub(crate) lim: ReadLimiter,
 }
 
-/// The sums of a walk, and once it has stopped the name of the refusal. A `Result` of such a name goes
-/// through memory at each level, while one of `Stopped` goes in a register.
+/// The sums of a walk, and the refusal once it has stopped. A `Result` with that refusal would go
+/// through memory at each level; one of `Stopped` is passed in a register.
 #[derive(Drop)]
 pub(crate) struct Sums {
     /// The sums so far.
     pub(crate) size: MessageSize,
-    /// Why the walk stopped, which says nothing before.
+    /// Why the walk stopped; means nothing before.
     pub(crate) refusal: ErrorKind,
     ghost fits: { FitSize size.word_count size.cap_count },
 }
 
-/// The walk stopped, for its `refusal`.
+/// The walk has stopped, with its `refusal`.
 #[derive(Clone, Copy)]
 pub(crate) struct Stopped;
 
 impl Walk {
-    /// A walk that begins with so many words, and has a limiter taken over.
+    /// A walk that starts with `words` words, and takes over a limiter.
     pub(crate) fn begin(words: u64, lim: &mut ReadLimiter) -> Self
         ensures words { result.sums.size.word_count ≡ words }
         ensures caps { result.sums.size.cap_count ≡ 0 }

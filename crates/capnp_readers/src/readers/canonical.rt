@@ -1,4 +1,4 @@
-//! The test for canonical form, of what a reader is at.
+//! Tests whether what a reader is at is in canonical form.
 ghost use Rattle.std.specs.Prelude.{◌≡◌, ◌≢◌, ◌↔◌, None, IsOk, IsTrue, IsNone, Ok, true, false, IfOk, IfErr, IfNone, IfSome};
 ghost use Rattle.capnp_readers.specs.Readers.{read_by};
 ghost use Rattle.capnp_readers.specs.Sizes.{pointers_read};
@@ -13,26 +13,25 @@ use capnp_words::error::ErrorKind;
 use capnp_words::read_limiter::ReadLimiter;
 
 impl<'a, A: ReaderArena> PointerReader<'a, A> {
-    /// Whether the pointer leads to a value in canonical form, whose first object starts at the head,
-    /// a position in words in the pointer's segment ("Canonicalization").
+    /// Tests whether the pointer leads to a value in canonical form whose first object starts at
+    /// `head`, a position in words in the pointer's segment ("Canonicalization").
     ///
-    /// Yes is said exactly where the words from the head on are the canonical words of a value, and
-    /// the pointer is the one that canonical form has for it: near pointers in order, no capability,
-    /// sections and elements cut to what they use, zeros behind the elements of a list. Words behind
-    /// these, and other segments, don't matter. A null pointer is canonical, and a pointer from
-    /// nothing is not. On a yes the head is moved behind the words, and else it stays.
+    /// Returns `true` exactly if the words from `head` on are the canonical words of a value, and
+    /// the pointer is its canonical one: near pointers in order, no capability, sections and
+    /// elements cut to what they use, zeros after the elements of a list. Words after these, and
+    /// other segments, don't matter. A null pointer is canonical, and a pointer from nothing isn't.
+    /// On `true`, moves `head` past the words; otherwise leaves it.
     ///
-    /// The pointers are tested in order. Each but the null is counted, and the words that its object
-    /// claims, and for elements without width their number, are charged, as `get_struct` and
-    /// `get_list` do; a struct and a list take a level. It is answered wherever a canonical value
-    /// stands at a head in the segment, the limiter covers these charges, and the nesting limit is at
-    /// least the value's depth. Else it may be refused by the first fault that is met:
-    /// `MessageContainsOutOfBoundsPointer`, `MessageIsTooDeeplyNestedOrContainsCycles` for a struct
-    /// and `NestingLimitExceeded` for a list that have no level,
-    /// `InlineCompositeListsOfNonStructTypeAreNotSupported`,
-    /// `InlineCompositeListsElementsOverrunItsWordCount`, or `ReadLimitExceeded`. What was charged
-    /// before it stays charged. So it is with a no: it is said at the first place that isn't
-    /// canonical, and what was charged until then stays charged.
+    /// Tests the pointers in order. Counts each one that isn't null, and charges the words that its
+    /// object claims, and for elements without width their number, like `get_struct` and
+    /// `get_list`; a struct and a list take a level. Never refuses if a canonical value is at a
+    /// head in the segment, the limiter covers these charges, and the nesting limit is at least the
+    /// value's depth. Otherwise it may refuse with the first fault found:
+    /// `MessageContainsOutOfBoundsPointer`; if no level is left,
+    /// `MessageIsTooDeeplyNestedOrContainsCycles` for a struct and `NestingLimitExceeded` for a
+    /// list; `InlineCompositeListsOfNonStructTypeAreNotSupported`,
+    /// `InlineCompositeListsElementsOverrunItsWordCount` or `ReadLimitExceeded`. Returns `false` at
+    /// the first place that isn't canonical. After either, what was charged before stays charged.
     pub fn is_canonical(&self, lim: &mut ReadLimiter, head: &mut u32) -> Result<bool, ErrorKind>
         ensures exactly { IfOk result (λ b. IsTrue b
             ↔ IsCanonicalAt (read_by A.ReaderArena self.now) head.old) }
@@ -52,13 +51,13 @@ impl<'a, A: ReaderArena> PointerReader<'a, A> {
         Ok(self.canonical_fault(lim, head)?.is_none())
     }
 
-    /// Where and why the pointer doesn't lead to a value in canonical form whose first object starts at
-    /// the head, or `None` where it does: `is_canonical` with the place of the no. What is answered,
-    /// charged, refused and moved is as there.
+    /// Returns where and why the pointer doesn't lead to a value in canonical form whose first
+    /// object starts at `head`, or `None` if it does: `is_canonical` with a place for the no.
+    /// Answers, charges, refuses and moves `head` like that.
     ///
-    /// The fault is the first that is met, the pointers being tested in order, and its reason is true of
-    /// the word that it names. Where both sections of a struct or of elements are wider than they need be,
-    /// it names the data.
+    /// Tests the pointers in order; the first fault found counts, and its reason is true of the
+    /// word that it names. If both sections of a struct or of elements are wider than needed, names
+    /// the data.
     pub fn canonical_fault(
         &self,
         lim: &mut ReadLimiter,
@@ -84,18 +83,19 @@ impl<'a, A: ReaderArena> PointerReader<'a, A> {
 }
 
 impl<'a, A: ReaderArena> StructReader<'a, A> {
-    /// Whether the struct starts at `read_head`, a position in words, has whole words of data, and
-    /// its pointers lead to values in canonical form, the first of whose objects starts at `ptr_head`
-    /// ("Canonicalization").
+    /// Tests whether the struct starts at `read_head`, a position in words, has whole words of
+    /// data, and its pointers lead to values in canonical form whose first object starts at
+    /// `ptr_head` ("Canonicalization").
     ///
-    /// On a yes `read_head` is moved behind the struct (to `u32::MAX` where the struct ends beyond it,
-    /// which needs a segment of that many words) and `ptr_head` behind the last of these words;
-    /// `data_trunc` and `ptr_trunc` tell whether the data section and the pointer section are empty
-    /// or end in a word that isn't zero. Else all four stay. The struct from nothing begins nowhere, so
-    /// it is a no; nothing is charged for it, nor for a struct that starts elsewhere or has part words
-    /// of data. The pointers are tested, charged, answered and refused as by
-    /// `PointerReader::is_canonical`, under the struct's own nesting limit; the struct's own words
-    /// aren't charged.
+    /// On `true`, moves `read_head` past the struct (to `u32::MAX` if the struct ends beyond that,
+    /// which needs a segment of that many words) and `ptr_head` past the last of these words, and
+    /// sets `data_trunc` and `ptr_trunc` to whether the data section and the pointer section are
+    /// empty or end in a word that isn't zero. Otherwise leaves all four.
+    ///
+    /// The struct from nothing starts nowhere: `false`. Charges nothing for it, nor for a struct
+    /// that starts elsewhere or has part words of data. Tests, charges, answers and refuses the
+    /// pointers like `PointerReader::is_canonical`, under the struct's own nesting limit; doesn't
+    /// charge the struct's own words.
     pub fn is_canonical(
         &self,
         lim: &mut ReadLimiter,
@@ -150,8 +150,8 @@ impl<'a, A: ReaderArena> StructReader<'a, A> {
         Ok(true)
     }
 
-    /// `is_canonical` with one head for both: the objects of the struct's pointers start right behind
-    /// the struct, and on a yes the head is moved behind the last of them.
+    /// Like `is_canonical` with one head for both: the objects of the struct's pointers start right
+    /// after the struct, and `true` moves `head` past the last of them.
     pub fn is_canonical_shared(
         &self,
         lim: &mut ReadLimiter,
@@ -202,7 +202,7 @@ impl<'a, A: ReaderArena> StructReader<'a, A> {
         }
     }
 
-    // Whether the struct begins somewhere: that from nothing doesn't.
+    // Whether the struct starts somewhere: the one from nothing doesn't.
     fn begins_somewhere(&self) -> bool
         ensures { IsTrue result ↔ self.now.source ≢ Source.Nothing }
     {

@@ -20,36 +20,37 @@ use capnp_words::wire_pointer::{
 };
 use std::alloc::AllocError;
 
-/// Where a list is in an arena.
+/// The place of a list in an arena.
 #[derive(Clone, Copy, Debug)]
 pub struct ListPlace {
     /// The number of the segment.
     pub segment: u32,
-    /// Where the elements start, in bytes: at a word, in a struct list behind the tag.
+    /// Where the elements start, in bytes: at a word; in a struct list, after the tag.
     pub byte: u64,
-    /// How wide an element is.
+    /// The element size.
     pub size: ElementSize,
-    /// The two sections of each element, which counts for a struct list alone.
+    /// The two sections of each element; only used for a struct list.
     pub struct_size: StructSize,
-    /// How many elements.
+    /// The number of elements.
     pub count: u32,
 }
 
-/// A list that is read, with the words of its elements at hand.
+/// A list being read, with the words of its elements at hand.
 pub struct ListReader<'a, A: ReaderArena> {
-    /// Where the list is read from.
+    /// What the list is read from.
     pub source: Source<'a, A>,
     /// The words of the elements.
     pub content: &'a [u8],
     /// Where the elements start.
     pub start: Place<'a>,
-    /// How wide an element is.
+    /// The element size.
     pub element_size: ElementSize,
-    /// The two sections of each element of a struct list, else 0 and 0.
+    /// The two sections of each element of a struct list, otherwise 0 and 0.
     pub struct_size: StructSize,
-    /// How many elements.
+    /// The number of elements.
     pub count: u32,
-    /// How many levels of structs and lists may be entered from its pointers, none below 1.
+    /// The nesting limit for its pointers: how many levels of structs and lists may be entered from
+    /// them; none below 1.
     pub nesting_limit: i32,
     ghost held: { IsHeld (source_start A.ReaderArena source).segments start },
     ghost content_is: { IsPart start (8 * start.at) (64 * elements_words element_size count (struct_size.data_words + struct_size.pointers)) content.now },
@@ -77,7 +78,7 @@ const ONE_POINTER: StructSize = StructSize {
     pointers: 1,
 };
 
-/// How many words so many elements take.
+/// The number of words that `count` elements take.
 fn words_of_elements(size: ElementSize, struct_size: StructSize, count: u32) -> usize
     ensures { result ≡ elements_words size count (struct_size.data_words + struct_size.pointers) }
 {
@@ -91,7 +92,7 @@ fn words_of_elements(size: ElementSize, struct_size: StructSize, count: u32) -> 
 impl<'a, A: ReaderArena> ListReader<'a, A> {
     ghost use Rattle.capnp_readers.specs.Readers.{ShowsList, ShowsElement, IsListPlace, element_start};
 
-    /// The list from nothing: a void list of none. Its nesting limit is `i32::MAX`.
+    /// The list from nothing: a void list without elements. Its nesting limit is `i32::MAX`.
     pub fn new_default() -> Self
         ensures source { result.source ≡ Source.Nothing }
         ensures elements { (result.element_size ≡ Void) × (result.count ≡ 0) }
@@ -115,7 +116,7 @@ impl<'a, A: ReaderArena> ListReader<'a, A> {
         }
     }
 
-    /// The list at a place of an arena. Its elements lie in the arena.
+    /// The list at a place of an arena. Precondition: its elements are inside the arena.
     pub fn at(arena: &'a A, place: ListPlace, nesting_limit: i32) -> Self
         requires { IsListPlace (message (A.segments arena.now)) place }
         ensures source { result.source ≡ Source.Arena arena.entry }
@@ -181,7 +182,7 @@ impl<'a, A: ReaderArena> ListReader<'a, A> {
         }
     }
 
-    /// How many elements.
+    /// The number of elements.
     pub fn len(&self) -> u32
         ensures { result ≡ self.now.count }
     {
@@ -195,14 +196,14 @@ impl<'a, A: ReaderArena> ListReader<'a, A> {
         self.count == 0
     }
 
-    /// How wide an element is.
+    /// The element size.
     pub fn get_element_size(&self) -> ElementSize
         ensures { result ≡ self.now.element_size }
     {
         self.element_size
     }
 
-    /// The two sections of each element of a struct list, else 0 and 0.
+    /// The two sections of each element of a struct list, otherwise 0 and 0.
     pub fn struct_size(&self) -> StructSize
         ensures value { result ≡ self.now.struct_size }
         ensures none { size_number self.now.element_size < 7
@@ -218,15 +219,17 @@ impl<'a, A: ReaderArena> ListReader<'a, A> {
         self.content
     }
 
-    /// How many bits of data an element has: a struct those of its data section, a pointer none.
+    /// The number of bits of data of an element: for a struct those of its data section, for a
+    /// pointer 0.
     pub fn element_data_bits(&self) -> u32
         ensures { result ≡ data_bits self.now.element_size self.now.struct_size }
     {
         data_bits_per_element(self.element_size) + 64 * u32::from(self.struct_size.data_words)
     }
 
-    /// The lowest 64 bits of an element's data, as a number: a number or a bit is its value, a struct its
-    /// first data word, and 0 where an element has no data. There are more elements than `index`.
+    /// The lowest 64 bits of an element's data, as a number: the value of a number or a bit, the
+    /// first data word of a struct, 0 if an element has no data. Precondition: `index` is below the
+    /// number of elements.
     pub fn element_data(&self, index: u32) -> u64
         requires { index < self.now.count }
         ensures { result ≡ low_data self.now.element_size self.now.struct_size
@@ -245,11 +248,11 @@ impl<'a, A: ReaderArena> ListReader<'a, A> {
         }
     }
 
-    // How many bits there are from one element to the next.
+    // The number of bits from one element to the next.
     fn step_bits(&self) -> u32
         ensures { result ≡ step_bits self.now.element_size self.now.struct_size }
     {
-        // A sum without a branch: a loop over the elements works it out once.
+        // A sum without a branch: a loop over the elements computes it once.
         let StructSize {
             data_words,
             pointers,
@@ -287,8 +290,8 @@ impl<'a, A: ReaderArena> ListReader<'a, A> {
         self.content[at / 8] >> (at % 8) & 1 == 1
     }
 
-    /// A pointer of an element: the element itself, or a struct element's first pointer. The elements
-    /// hold a pointer, and there are more than `index`.
+    /// Pointer `index`: the element itself, or a struct element's first pointer. Preconditions: the
+    /// elements hold a pointer; `index` is below their number.
     #[tactic(auto, using(crate::proofs::Sections::elements))]
     pub fn get_pointer_element(self, index: u32) -> PointerReader<'a, A>
         requires range { index < self.count }
@@ -315,8 +318,9 @@ impl<'a, A: ReaderArena> ListReader<'a, A> {
         }
     }
 
-    /// An element as a struct, under the list's own nesting limit. The elements are no bits, and there
-    /// are more than `index`. A number is a struct of its bits, a pointer a struct of one pointer.
+    /// Element `index` as a struct, under the list's own nesting limit: a number is a struct of its
+    /// bits, a pointer a struct of one pointer. Preconditions: the elements aren't bits; `index` is
+    /// below their number.
     pub fn get_struct_element(&self, index: u32) -> StructReader<'a, A>
         requires range { index < self.now.count }
         requires size { size_number self.now.element_size ≢ 1 }
@@ -327,7 +331,7 @@ impl<'a, A: ReaderArena> ListReader<'a, A> {
         self.element_within(index, self.nesting_limit)
     }
 
-    /// An element as a struct, as `get_struct_element` gives it.
+    /// Element `index` as a struct, like `get_struct_element`.
     pub fn element(&self, index: u32) -> StructReader<'a, A>
         requires range { index < self.now.count }
         requires size { size_number self.now.element_size ≢ 1 }
@@ -360,8 +364,8 @@ impl<'a, A: ReaderArena> ListReader<'a, A> {
         }
     }
 
-    // An element that is no struct, as a struct of its bits or of one pointer. It isn't inlined: so a loop over
-    // structs makes one test for each.
+    // An element that isn't a struct, as a struct of its bits or of one pointer. Not inlined, so
+    // that a loop over structs makes one test for each.
     #[tactic(auto, using(crate::proofs::Sections::elements))]
     #[cold]
     #[inline(never)]

@@ -12,19 +12,20 @@ use capnp_arena_traits::arena::ReaderArena;
 use capnp_words::primitive::Primitive;
 use capnp_words::wire_pointer::ElementSize;
 
-/// What an element of a list can be read as: a number, a bit, or nothing.
+/// A type that elements of a list can be read as: a number, a bit, or nothing.
 pub trait PrimitiveElement {
     // The element size of a list of such elements.
     ghost size: { ElementSize };
 
-    // The value that starts at a bit of the bytes of a list.
+    // The value that starts at a bit of a list's bytes.
     ghost value_at: { List ℕ → ℕ → Self };
 
-    /// An element of a list: the number in the lowest bytes of the element's data, or its lowest
-    /// bit. The caller sees to it that `index` is below the number of elements, and that each has
-    /// at least as many bits of data as the value; for `()` neither is asked. The data of a struct
-    /// is its data section, so a list of numbers that became a list of structs reads as before
-    /// ("Lists").
+    /// Reads element `index` of a list: the number in the lowest bytes of the element's data, or
+    /// its lowest bit.
+    ///
+    /// The caller ensures that `index` is below the number of elements, and that each has at least
+    /// as many bits of data as the value; `()` requires neither. The data of a struct is its data
+    /// section, so a list of numbers that became a list of structs reads as before ("Lists").
     fn get<A: ReaderArena>(list: &ListReader<'_, A>, index: u32) -> Self
         requires range { 0 < element_bits (size_number size) → index < list.now.count }
         requires wide { element_bits (size_number size)
@@ -32,8 +33,8 @@ pub trait PrimitiveElement {
         ensures { result ≡ value_at list.now.content.now
             (element_start A.ReaderArena list.now index) };
 
-    /// The element size of a list of such elements: by the number of bytes, `Bit` for a `bool`, `Void`
-    /// for `()` ("Lists").
+    /// The element size of a list of such elements: by the number of bytes, `Bit` for a `bool`,
+    /// `Void` for `()` ("Lists").
     fn element_size() -> ElementSize
         ensures { result ≡ size };
 }

@@ -1,4 +1,4 @@
-//! How many words and capabilities a value that is read has, without reading its data.
+//! Counts the words and capabilities of a value being read, without reading its data.
 ghost use Rattle.std.specs.Prelude.{◌≡◌, ◌↔◌, IsOk, IfOk, IfErr};
 ghost use Rattle.capnp_objects.specs.Sizing.{FitSize, Tally, tally, WalksPlace, WalksPointers, SizeStops, SizesStop};
 ghost use Rattle.capnp_pointers.specs.Sizes.{so_far};
@@ -12,22 +12,22 @@ use capnp_words::error::ErrorKind;
 use capnp_words::read_limiter::ReadLimiter;
 
 impl<'a, A: ReaderArena> PointerReader<'a, A> {
-    /// How many words the value takes that the pointer leads to, itself and all below, without
-    /// landing pads, and how many capabilities it has ("Structs", "Lists").
+    /// Counts the words of the value that the pointer leads to, with all below it and without
+    /// landing pads, and its capabilities ("Structs", "Lists").
     ///
-    /// A null pointer has none of both. A list of structs takes its tag and its elements, even where
-    /// it claims more. Each pointer but the null is counted as followed, takes a level, also to a
-    /// capability, and charges the words of its landing pads and those that its object claims, each
-    /// before it is read; a list of void is not looked at, and elements without width are free. So
-    /// an answer doesn't say that the pointer leads to a value. A default and an arena that is
-    /// built count and charge nothing.
+    /// A null pointer has neither. A list of structs takes its tag and its elements, even if it
+    /// claims more. Each pointer except a null one is counted as followed, takes a level (also one
+    /// to a capability), and is charged the words of its landing pads and those that its object
+    /// claims, each before it is read. Ignores the place of a list of void, and charges nothing for
+    /// elements without width, so an answer doesn't mean that the pointer leads to a value. A
+    /// default and an arena being built count and charge nothing.
     ///
-    /// A refusal is named by the first fault that is met: `MessageIsTooDeeplyNested`,
+    /// Refuses with the first fault found, and keeps what was charged: `MessageIsTooDeeplyNested`,
     /// `InvalidSegmentId`, `MessageContainsOutOfBoundsPointer`, `MalformedDoubleFarPointer`,
     /// `UnknownPointerType`, `CantHandleNonStructInlineComposite`,
     /// `InlineCompositeListsElementsOverrunItsWordCount`, `TriedToReadFromNullArena` for a far
-    /// pointer of a default, `ReadLimitExceeded`, or `MessageTooLarge(usize::MAX)` where the words
-    /// don't fit 64 bits or the capabilities 32. It keeps what was charged.
+    /// pointer of a default, `ReadLimitExceeded`, or `MessageTooLarge(usize::MAX)` if the words
+    /// don't fit 64 bits or the capabilities 32.
     pub fn total_size(&self, lim: &mut ReadLimiter) -> Result<MessageSize, ErrorKind>
         ensures sized { IfOk result (λ z. WalksPlace (read_by A.ReaderArena self.now)
             (tally 0 0 lim.old) (so_far z lim.new)) }
@@ -42,12 +42,12 @@ impl<'a, A: ReaderArena> PointerReader<'a, A> {
 }
 
 impl<'a, A: ReaderArena> StructReader<'a, A> {
-    /// How many words the struct takes, itself and all below, without landing pads, and how many
-    /// capabilities it has ("Structs").
+    /// Counts the words of the struct, with all below it and without landing pads, and its
+    /// capabilities ("Structs").
     ///
-    /// The struct's own words are its data section, rounded up to words, and its pointers; they aren't
-    /// charged, and take no level. Each pointer is counted, charged and refused as
-    /// `PointerReader::total_size` does it, in order, with the sums begun at the struct's own words.
+    /// The struct's own words are its data section, rounded up to words, and its pointers; they
+    /// aren't charged, and take no level. Counts, charges and refuses each pointer like
+    /// `PointerReader::total_size`, in order, with sums that start at the struct's own words.
     pub fn total_size(&self, lim: &mut ReadLimiter) -> Result<MessageSize, ErrorKind>
         ensures sized { IfOk result (λ z. WalksPointers
             (pointers_read A.ReaderArena self.now) self.now.pointer_count

@@ -18,37 +18,38 @@ use capnp_words::wire_pointer::{ElementSize, StructSize};
 use capnp_words::zero::Zero;
 use std::alloc::AllocError;
 
-/// Where a struct is in an arena. Its data section may be a part of a byte, and its two sections
-/// may stand apart.
+/// The place of a struct in an arena. Its data section may be a part of a byte, and its two
+/// sections may be apart.
 #[derive(Clone, Copy, Debug, PartialEq, Eq)]
 pub struct StructPlace {
     /// The number of the segment.
     pub segment: u32,
-    /// The data section, in bits.
+    /// The size of the data section in bits.
     pub bits: u32,
     /// Where the data section starts, in bytes.
     pub byte: u64,
     /// Where the pointer section starts, in words.
     pub pointers_at: u32,
-    /// The pointer section, in pointers.
+    /// The number of pointers in the pointer section.
     pub pointers: u16,
 }
 
-/// A struct that is read, with its data section at hand.
+/// A struct being read, with its data section at hand.
 pub struct StructReader<'a, A: ReaderArena> {
-    /// Where the struct is read from.
+    /// What the struct is read from.
     pub source: Source<'a, A>,
     /// The bytes of the data section.
     pub content: &'a [u8],
     /// Where the data section starts in its segment, in bytes.
     pub byte: u64,
-    /// The data section, in bits.
+    /// The size of the data section in bits.
     pub bits: u32,
     /// Where the pointer section starts.
     pub pointers: Place<'a>,
-    /// The pointer section, in pointers.
+    /// The number of pointers in the pointer section.
     pub pointer_count: u16,
-    /// How many levels of structs and lists may be entered from its pointers, none below 1.
+    /// The nesting limit for its pointers: how many levels of structs and lists may be entered from
+    /// them; none below 1.
     pub nesting_limit: i32,
     ghost held: { IsHeld (source_start A.ReaderArena source).segments pointers },
     ghost content_is: { IsPart pointers byte bits content.now },
@@ -92,7 +93,7 @@ impl<'a, A: ReaderArena> StructReader<'a, A> {
         }
     }
 
-    /// The struct at a place of an arena. Both sections lie in the arena.
+    /// The struct at a place of an arena. Precondition: both sections are inside the arena.
     pub fn at(arena: &'a A, place: StructPlace, nesting_limit: i32) -> Self
         requires { IsStructPlace (message (A.segments arena.now)) place }
         ensures source { result.source ≡ Source.Arena arena.entry }
@@ -153,21 +154,21 @@ impl<'a, A: ReaderArena> StructReader<'a, A> {
         }
     }
 
-    /// The bytes of the data section, the last of which may be used in part.
+    /// The bytes of the data section; the last may be used in part.
     pub fn data_bytes(&self) -> &'a [u8]
         ensures { result.now ≡ self.now.content.now }
     {
         self.content
     }
 
-    /// How many pointers the pointer section has.
+    /// The number of pointers in the pointer section.
     pub fn pointer_count(&self) -> u16
         ensures { result ≡ self.now.pointer_count }
     {
         self.pointer_count
     }
 
-    // The first pointer of the pointer section, or where it would stand.
+    // The first pointer of the pointer section, or where it would be.
     #[inline(always)]
     pub(crate) fn pointers(&self) -> Pointer<'a, A>
         ensures source { result.source ≡ self.now.source }
@@ -181,7 +182,7 @@ impl<'a, A: ReaderArena> StructReader<'a, A> {
         }
     }
 
-    /// A pointer of the pointer section, and from nothing where it doesn't have so many.
+    /// Pointer `index` of the pointer section; a pointer from nothing if the section is shorter.
     pub fn get_pointer_field(&self, index: usize) -> PointerReader<'a, A>
         ensures source { index < self.now.pointer_count → result.source ≡ self.now.source }
         ensures place { index < self.now.pointer_count
@@ -207,9 +208,9 @@ impl<'a, A: ReaderArena> StructReader<'a, A> {
         }
     }
 
-    /// The pointer section as a list of pointers, under the struct's own nesting limit. Its pointer
-    /// element `i` is the struct's pointer field `i`; a struct without pointers gives a list of none
-    /// ("Structs", "Lists").
+    /// The pointer section as a list of pointers, under the struct's own nesting limit. Its element
+    /// `i` is the struct's pointer `i`; a struct without pointers gives an empty list ("Structs",
+    /// "Lists").
     pub fn get_pointer_section_as_list(&self) -> ListReader<'a, A>
         ensures source { result.source ≡ self.now.source }
         ensures size { result.element_size ≡ ElementSize.Pointer }
@@ -229,7 +230,7 @@ impl<'a, A: ReaderArena> StructReader<'a, A> {
         )
     }
 
-    /// Whether a pointer of the pointer section is zero, or the section doesn't have so many.
+    /// Whether pointer `index` of the pointer section is zero, or the section is shorter.
     pub fn is_pointer_field_null(&self, index: usize) -> bool
         ensures { IsTrue result
             ↔ (index < self.now.pointer_count
@@ -239,8 +240,8 @@ impl<'a, A: ReaderArena> StructReader<'a, A> {
         self.get_pointer_field(index).is_null()
     }
 
-    /// A field of the data section, by its offset in values of `T`; zero where the field doesn't lie
-    /// wholly in the section.
+    /// The field of the data section at `offset`, in values of `T`; zero if it isn't wholly inside
+    /// the section.
     pub fn get_data_field<T: Primitive + Zero>(&self, offset: usize) -> T
         ensures inside { IsInside self.now.bits (8 * T.BYTES) offset
             → result ≡ T.value_of
@@ -256,7 +257,8 @@ impl<'a, A: ReaderArena> StructReader<'a, A> {
         }
     }
 
-    /// A field of the data section under a mask, its default, where `get_data_field` is zero too.
+    /// The field like `get_data_field`, with its default `mask` applied, also to the zero of a
+    /// field outside of the section.
     pub fn get_data_field_mask<T: Primitive + Zero + Mask>(
         &self,
         offset: usize,
@@ -272,7 +274,7 @@ impl<'a, A: ReaderArena> StructReader<'a, A> {
         T::mask(self.get_data_field(offset), mask)
     }
 
-    /// A bit of the data section, by its offset in bits; false behind the section.
+    /// The bit of the data section at `offset`, in bits; `false` after the section.
     pub fn get_bool_field(&self, offset: usize) -> bool
         ensures { IsTrue result ↔ (offset < self.now.bits)
             × (bit_at self.now.content.now offset ≡ 1) }
@@ -280,7 +282,8 @@ impl<'a, A: ReaderArena> StructReader<'a, A> {
         offset < self.bits as usize && self.content[offset / 8] >> (offset % 8) & 1 == 1
     }
 
-    /// A bit of the data section under a mask, its default, where `get_bool_field` is false too.
+    /// The bit like `get_bool_field`, with its default `mask` applied, also to the `false` of a bit
+    /// after the section.
     pub fn get_bool_field_mask(&self, offset: usize, mask: bool) -> bool
         ensures plain { mask ≡ false
             → (IsTrue result ↔ (offset < self.now.bits)

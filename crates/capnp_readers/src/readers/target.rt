@@ -5,12 +5,12 @@ use crate::readers::{ListReader, StructReader};
 use capnp_arena_traits::arena::ReaderArena;
 use std::alloc::AllocError;
 
-/// What a pointer leads to. The words of a struct or a list are checked and charged; of its
-/// children nothing is known.
+/// What a pointer leads to. The words of a struct or a list are checked and charged; nothing is
+/// known of its children.
 pub enum Target<'a, A: ReaderArena> {
     /// Nothing: the pointer is zero.
     Null,
-    /// A capability, by its index in the message's table.
+    /// A capability, by its index in the message's capability table.
     Cap(u32),
     /// A struct, with one level less for its pointers.
     Struct(StructReader<'a, A>),

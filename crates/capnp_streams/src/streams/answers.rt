@@ -23,15 +23,15 @@ const WRITE_FAILED: Fault = Fault::Frame(FrameError::WriteFailed);
 #[derive(Drop)]
 pub(super) struct Memory<A: Allocator> {
     alloc: Global,
-    /// Where the memory of messages and copies comes from. Only while a copy is made it isn't here.
+    /// The allocator of messages and copies; `None` only while a copy is made.
     pub(super) allocator: Option<A>,
-    /// Whether the message before was canonical as it stood. A test costs more than it saves where messages
-    /// aren't, so only behind one that was is the next one tested before it is copied.
+    /// Whether the previous message was canonical already. A test before the copy pays off only if
+    /// messages are canonical, so it is made only after one that was.
     was_canonical: bool,
 }
 
 impl<A: Allocator> Memory<A> {
-    /// None is taken yet, and the first message is tested.
+    /// Before any message: no memory is taken, and the first message will be tested.
     pub(super) fn new(alloc: Global, allocator: A) -> Self
         ensures { result.allocator ≡ Some allocator }
     {
@@ -42,7 +42,7 @@ impl<A: Allocator> Memory<A> {
         }
     }
 
-    /// The allocator.
+    /// Returns the allocator.
     pub(super) fn into_allocator(self) -> A
         requires { IsSome self.allocator }
         ensures { self.allocator ≡ Some result }
@@ -56,7 +56,7 @@ impl<A: Allocator> Memory<A> {
     }
 }
 
-/// Whether these are the bytes of a message's first segment.
+/// Whether `bytes` are those of the message's first segment.
 fn is_first_segment<S: ReaderSegments>(source: &ReaderArenaImpl<S>, bytes: &[u8]) -> bool {
     match source.get_segment(0) {
         Ok(segment) => segment == bytes,
@@ -64,7 +64,7 @@ fn is_first_segment<S: ReaderSegments>(source: &ReaderArenaImpl<S>, bytes: &[u8]
     }
 }
 
-/// The answer of a command that has written it, or the fault of the output.
+/// Returns `holds` if the answer was written, otherwise the fault of the output.
 fn if_written(written: Result<(), DeviceFault>, holds: bool) -> Result<bool, Fault>
     ensures written { OnOk written (result ≡ Ok holds) }
     ensures failed { OnErr written (result ≡ Err (Fault.Frame WriteFailed)) }
@@ -75,7 +75,7 @@ fn if_written(written: Result<(), DeviceFault>, holds: bool) -> Result<bool, Fau
     }
 }
 
-/// Writes a message in canonical form by a copy, and notes whether it is the message as it stands.
+/// Writes the message in canonical form by a copy, and notes whether it was canonical already.
 fn canon_copy<A: Allocator, S: ReaderSegments, W: Output>(
     memory: &mut Memory<A>,
     form: Form,
@@ -109,8 +109,8 @@ fn canon_copy<A: Allocator, S: ReaderSegments, W: Output>(
     }
 }
 
-/// Writes a message in canonical form: as it stands, where it is in that form and the one before was,
-/// and else by a copy.
+/// Writes the message in canonical form: from its own segment if it is canonical and the previous
+/// message was; otherwise by a copy.
 fn canon<A: Allocator, S: ReaderSegments + Drop, W: Output>(
     memory: &mut Memory<A>,
     form: Form,
@@ -135,7 +135,7 @@ fn canon<A: Allocator, S: ReaderSegments + Drop, W: Output>(
     canon_copy(memory, form, task, &source, output)
 }
 
-/// Answers to one message: writes what its task asks for, and gives whether that is a yes.
+/// Answers one message: writes what the task asks for, and returns whether the answer is yes.
 pub(super) fn answer<A: Allocator, S: ReaderSegments + Drop, W: Output>(
     memory: &mut Memory<A>,
     task: Task,

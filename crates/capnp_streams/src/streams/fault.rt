@@ -8,11 +8,11 @@ use capnp_words::error::ErrorKind;
 /// Why a message of a stream isn't answered.
 #[derive(Clone, Copy, Debug, PartialEq, Eq)]
 pub enum Fault {
-    /// No frame of the message is read, or the answer isn't written; with the refusal of the frame.
+    /// The message's frame can't be read, or the answer can't be written.
     Frame(FrameError),
-    /// What the message means isn't copied, tested or measured; with the refusal of that.
+    /// The message can't be copied, tested or measured.
     Layout(ErrorKind),
-    /// There were more messages than 64 bits count.
+    /// There are more messages than 64 bits count.
     TooManyMessages,
 }
 

@@ -1,4 +1,4 @@
-//! A task done with the one message whose bare words an input has, without a frame.
+//! Does a task with the one message that an input holds as bare words, without a frame.
 ghost use Rattle.std.specs.Prelude.{◌≡◌, ◌⊎◌, true, OnOk, IfOk, IfErr, IsSomeAnd};
 ghost use Rattle.capnp_framing.specs.declared.framing.frame_error.FrameError.TheVariants.{ReadFailed};
 ghost use Rattle.capnp_framing.specs.Writing.{IsUnwritten};
@@ -15,19 +15,21 @@ use capnp_framing::framing::{OwnedSegments, read_segment_into_with};
 use capnp_messages::messages::CopyMemory;
 use std::alloc::Global;
 
-/// Does a task with the one message that an input is, writes the answer to an output, and gives whether it is a yes.
+/// Does a task with the one message that the input holds, writes the answer, and returns whether it
+/// is yes.
 ///
-/// All that the input has, to its end, are the words of the only segment of the message, of at most so many words as
-/// the traversal limit, and no frame. That is what `Canon` writes in the form `Flat` ("Canonicalization"). The message
-/// is answered to as `run_with` answers to one. No bytes are a segment of no words, which has no root:
-/// `MessageContainsOutOfBoundsPointer`.
+/// The input's bytes up to its end are the words of the message's only segment, without a frame:
+/// what `Canon` writes in the form `Flat` ("Canonicalization"). They are at most as many words as
+/// the traversal limit. The message is answered as `run_with` answers one. An empty input is a
+/// segment of no words, which has no root: `MessageContainsOutOfBoundsPointer`.
 ///
-/// Bytes that end within a word are `Truncated`, and more words than the limit `MessageTooLong`; the message is
-/// refused, or the output fails. But for the last of these, nothing is written. Of bare words of a message that has an
-/// answer within the limits, only want of memory or a device is a refusal.
+/// Refusals: `Truncated` if the bytes end inside a word; `MessageTooLong` if there are more words
+/// than the limit; that of the message; that of the output. Nothing is written, unless the output
+/// failed. If the bare words are a message that has an answer within the limits, the only refusals
+/// are that memory runs out or a device fails.
 ///
-/// All memory is an allocator's, which counts where there is none: once for an `AllocationFailed`, and else not. `Check`
-/// and `Size` take it for what is read alone.
+/// All memory is the allocator's. It counts one refusal for an `AllocationFailed`, and none
+/// otherwise. `Check` and `Size` take memory only for what is read.
 pub fn run_flat_with<A: Allocator, R: Input, W: Output>(
     alloc: Global,
     allocator: A,
@@ -63,7 +65,7 @@ pub fn run_flat_with<A: Allocator, R: Input, W: Output>(
     }
 }
 
-/// Does a task with the one message that an input is, as `run_flat_with` does with memory of the heap.
+/// Like `run_flat_with`, with memory from the heap.
 pub fn run_flat<R: Input, W: Output>(
     alloc: Global,
     task: Task,

@@ -1,4 +1,4 @@
-//! A task done with each message of a packed stream.
+//! Does a task with each message of a packed stream.
 ghost use Rattle.std.specs.Prelude.{◌≡◌, ◌⊎◌, ℕ, List, [], Option, Some, false, true, OnOk, IfOk, IfErr, IfSome, IsSomeAnd};
 ghost use Rattle.capnp_packing.specs.Packing.{IsWhole, unpacked_bytes};
 ghost use Rattle.capnp_packing.specs.declared.packing.place.Place.TheVariants.{Tag};
@@ -17,12 +17,12 @@ use capnp_packing::buffered::BufferedOutput;
 use capnp_packing::packing::UnpackingInput;
 use std::alloc::Global;
 
-/// Does a task with each message of a packed input ("Packing"), as `run_with` does with what its bytes
-/// stand for.
+/// Does a task with each message of a packed input ("Packing"), as `run_with` does with the
+/// unpacked bytes.
 ///
-/// Packed bytes that are cut short, within a word or before a number, are no end: they are
-/// `Truncated`, behind the answers to all messages whose frames they give, and with nothing of the
-/// one that they are cut in. `ReadFailed` is the packed input's: it has failed then.
+/// Packed bytes that are cut short, inside a word or before a count, aren't an end: they are
+/// `Truncated`, after the answers to all messages whose frames they complete, and with nothing
+/// written of the one that is cut. `ReadFailed` means that the packed input has failed.
 pub fn run_packed_with<A: Allocator, R: Input + Drop, W: BufferedOutput>(
     alloc: Global,
     allocator: A,
@@ -63,7 +63,7 @@ pub fn run_packed_with<A: Allocator, R: Input + Drop, W: BufferedOutput>(
     }
 }
 
-/// Does a task with each message of a packed input, as `run_packed_with` does with memory of the heap.
+/// Like `run_packed_with`, with memory from the heap.
 pub fn run_packed<R: Input + Drop, W: BufferedOutput>(
     alloc: Global,
     task: Task,
@@ -92,7 +92,7 @@ pub fn run_packed<R: Input + Drop, W: BufferedOutput>(
     answered
 }
 
-/// A stop behind all messages, where no frame is read.
+/// The stop after all messages so far, with no frame read.
 fn behind(summary: Summary, error: FrameError) -> Stop
     ensures answered { result.answered ≡ summary.messages }
     ensures byte { result.byte ≡ summary.bytes }

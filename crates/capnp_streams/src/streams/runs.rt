@@ -1,4 +1,4 @@
-//! A task done with each message of a stream.
+//! Does a task with each message of a stream.
 ghost use Rattle.std.specs.Prelude.{◌≡◌, ◌⊎◌, [], Some, true, Ok, None, IsSome, OnOk, IfOk, IfErr, IfSome, IsSomeAnd};
 ghost use Rattle.std.specs.Io.KnownBytes.{IsAtEnd, Keeps};
 ghost use Rattle.capnp_framing.specs.declared.framing.frame_error.FrameError.TheVariants.{ReadFailed};
@@ -15,41 +15,40 @@ use capnp_messages::messages::CopyMemory;
 use capnp_packing::buffered::{BufferedInput, BufferedOutput, pass_on_before_waiting};
 use std::alloc::Global;
 
-/// What was done with a stream that is answered to its end.
+/// What was done with a stream that was answered to its end.
 #[derive(Clone, Copy, Debug, PartialEq, Eq)]
 pub struct Summary {
-    /// How many messages there were.
+    /// The number of messages.
     pub messages: u64,
-    /// How many bytes their frames have, one behind the other; where 64 bits don't count them, as
-    /// many as these count.
+    /// The total size of their frames in bytes, at most `u64::MAX`.
     pub bytes: u64,
-    /// Whether each answer was a yes: of a test whether each message is canonical, and else always.
+    /// Whether every answer was yes: for `Check`, whether each message is canonical; otherwise
+    /// always true.
     pub holds: bool,
 }
 
-/// Where a stream isn't answered any further.
+/// Where and why answering a stream stopped.
 #[derive(Clone, Copy, Debug, PartialEq, Eq)]
 pub struct Stop {
-    /// How many messages were answered before.
+    /// The number of messages answered.
     pub answered: u64,
-    /// At which byte of the input the frame of the one behind them begins: how many the frames of
-    /// the answered ones have, counted from 0. Of packed bytes it is a byte of what they stand for.
-    /// Where 64 bits don't count them, it is the last number that these count.
+    /// The byte of the input at which the next frame begins, counted from 0: the total size of the
+    /// answered frames, at most `u64::MAX`. For a packed input, it counts unpacked bytes.
     pub byte: u64,
-    /// Why the one behind them isn't.
+    /// Why the next message isn't answered.
     pub fault: Fault,
 }
 
 /// What was done with one message.
 #[derive(Clone, Copy)]
 struct Answered {
-    /// Whether the answer was a yes.
+    /// Whether the answer was yes.
     holds: bool,
-    /// How many bytes its frame has.
+    /// The size of its frame in bytes.
     bytes: u64,
 }
 
-/// How many words a message may have whose frame is read.
+/// The most words that a message may have for its frame to be read.
 pub(super) fn words_of(limits: ReaderOptions) -> u64
     ensures { result ≡ most_words limits }
 {
@@ -59,8 +58,8 @@ pub(super) fn words_of(limits: ReaderOptions) -> u64
     }
 }
 
-/// Passes on the answers so far, unless the next message is read ahead; reads that message, and answers to it. `None` where
-/// the input is at its end.
+/// Reads the next message and answers it; flushes the answers so far first, unless the message is
+/// read ahead. Returns `None` at the end of the input.
 fn next<A: Allocator, R: BufferedInput, W: BufferedOutput>(
     task: Task,
     input: &mut R,
@@ -106,26 +105,28 @@ fn next<A: Allocator, R: BufferedInput, W: BufferedOutput>(
     }
 }
 
-/// Does a task with each message of an input, and writes the answers to an output, in the order of
-/// the messages.
+/// Does a task with each message of the input, and writes the answers in the order of the messages.
 ///
-/// The input holds frames, one behind the other, each of a message of at most so many words as the
-/// traversal limit. A message is read within the limits, as if it were alone. `Canon` answers with
-/// the canonical words of the message, as a frame of one segment, or bare ("Canonicalization"), or
-/// with a line of lower case hex digits where the task has `hex`, two for each byte; `Check` with the
-/// line `canonical` where the message is canonical as a whole, and else with `not canonical: REASON
-/// at segment S, word W`; `Size` with the line `words N caps M`, without landing pads.
+/// The input is a stream of frames, each of a message of at most as many words as the traversal
+/// limit. Each message is read within the limits, as if it were the only one. The answers are, by
+/// command:
 ///
-/// The first message that isn't answered ends the run: the frame isn't read, the message is
-/// refused, or the output fails. But for the last of these, the output has the answers to all
-/// messages before, and nothing of that one. Of a stream of frames whose messages all have an
-/// answer within the limits, only want of memory or a device is a refusal. Memory is taken for one
-/// message at a time, and none for one that is no larger than those before. Behind a message that
-/// is refused nothing is taken of the input. The answers so far are passed on before a message is read
+/// - `Canon`: the message's canonical words, as a frame of one segment or bare
+///   ("Canonicalization"); with `hex`, a line of lower case hex digits, two a byte.
+/// - `Check`: the line `canonical` if the message as a whole is canonical, otherwise
+///   `not canonical: REASON at segment S, word W`.
+/// - `Size`: the line `words N caps M`, without landing pads.
+///
+/// The run ends at the first message that isn't answered: its frame can't be read, the message is
+/// refused, or the output fails. Unless the output failed, it then has the answers to all messages
+/// before, and nothing of that one. If every message of a stream of frames has an answer within the
+/// limits, the only refusals are that memory runs out or a device fails. Takes memory for one
+/// message at a time, and none for one no larger than those before. After a message that is
+/// refused, takes nothing more of the input. Flushes the answers so far before it reads a message
 /// that isn't read ahead.
 ///
-/// All memory is an allocator's, which counts where there is none: once for an `AllocationFailed`, and
-/// else not. `Check` and `Size` take it for the frames alone.
+/// All memory is the allocator's. It counts one refusal for an `AllocationFailed`, and none
+/// otherwise. `Check` and `Size` take memory only for the frames.
 pub fn run_with<A: Allocator, R: BufferedInput, W: BufferedOutput>(
     alloc: Global,
     allocator: A,
@@ -186,8 +187,7 @@ pub fn run_with<A: Allocator, R: BufferedInput, W: BufferedOutput>(
     (Err(stop), memory.into_allocator())
 }
 
-/// Does a task with each message of an input, as `run_with` does with memory of the heap, which is kept from
-/// one message to the next.
+/// Like `run_with`, with memory from the heap, which is kept from one message to the next.
 pub fn run<R: BufferedInput, W: BufferedOutput>(
     alloc: Global,
     task: Task,

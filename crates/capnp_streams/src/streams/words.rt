@@ -1,4 +1,4 @@
-//! The words behind the program's name, one by one.
+//! The arguments, one by one.
 ghost use Rattle.std.specs.Prelude.{◌≡◌, ◌<◌, Bool, Option, IfSome, IsNone, MatchOption, ℕ, List, length};
 ghost use Rattle.std.specs.List.{after_first, before_first, position_or_len};
 ghost use Rattle.std.specs.Option.{option_map};
@@ -13,7 +13,7 @@ use capnp_arena::arena::ReaderOptions;
 use capnp_messages::messages::{Command, Form};
 use capnp_messages::text::{parse_budget, parse_nesting};
 
-/// A word that has a meaning by itself.
+/// An argument that has a fixed meaning.
 #[derive(Clone, Copy)]
 pub(super) enum Word {
     Help,
@@ -34,7 +34,7 @@ pub(super) enum Word {
     Words,
 }
 
-/// All of these words.
+/// All of them.
 const WORDS: [Word; 16] = [
     Word::Help,
     Word::HelpLetter,
@@ -55,7 +55,7 @@ const WORDS: [Word; 16] = [
 ];
 
 impl Word {
-    /// The text of the word.
+    /// The argument's text.
     fn text(self) -> &'static str
         ensures { result.now ≡ text_of_word self }
     {
@@ -80,7 +80,7 @@ impl Word {
     }
 }
 
-/// A command's name.
+/// A command.
 #[derive(Clone, Copy)]
 pub(super) enum Verb {
     Canon,
@@ -95,7 +95,7 @@ pub(super) enum Setting {
     Words,
 }
 
-/// What the words so far ask for.
+/// What the arguments so far ask for.
 #[derive(Clone, Copy)]
 pub(super) struct Line {
     verb: Option<Verb>,
@@ -111,7 +111,7 @@ pub(super) struct Line {
 }
 
 impl Line {
-    /// No words.
+    /// What no arguments ask for.
     pub(super) fn plain() -> Self
         ensures { result ≡ plain_line }
     {
@@ -128,7 +128,7 @@ impl Line {
         }
     }
 
-    /// Whether the line's command has all of the line's options.
+    /// Whether the line's command takes all of the line's options.
     fn has_its_options(&self) -> bool
         ensures { result ≡ verb_allows self.now.verb self.now.pack self.now.hex self.now.quiet }
     {
@@ -140,7 +140,7 @@ impl Line {
         }
     }
 
-    /// Whether the line's input is one message's bare words.
+    /// Whether the input is the bare words of one message.
     fn reads_flat(&self) -> bool
         ensures { result ≡ line_reads_flat self.now }
     {
@@ -150,8 +150,8 @@ impl Line {
         }
     }
 
-    /// Whether the line's options go together: digits are neither bare words nor packed, and bare words
-    /// that are read aren't packed.
+    /// Whether the options go together: hex digits are neither bare words nor packed, and bare
+    /// words are never read packed.
     fn has_one_form(&self) -> bool
         ensures { result ≡ options_agree self.now }
     {
@@ -168,14 +168,15 @@ impl Line {
         self.has_its_options() && self.has_one_form()
     }
 
-    /// Whether a text is the first file behind it: it has its command, and waits for no value.
+    /// Whether `text`, after this line, is the first file: there is a command, and no option waits
+    /// for its value.
     pub(super) fn begins_files(&self, text: &str) -> bool
         ensures { result ≡ is_first_file self.now text.now }
     {
         self.verb.is_some() && !self.expects.is_some() && !has_option_form(text)
     }
 
-    /// A line, if it is allowed.
+    /// The line, if it is allowed.
     fn if_allowed(self) -> Option<Self>
         ensures { result ≡ line_if_allowed self }
     {
@@ -196,7 +197,7 @@ impl Line {
         }
     }
 
-    /// The line with a word behind it, which isn't the value of an option.
+    /// The line after `word`, which isn't the value of an option.
     fn with_word(self, word: Word) -> Option<Self>
         ensures { result ≡ line_after word self }
     {
@@ -234,7 +235,7 @@ impl Line {
         }
     }
 
-    /// The line with the value of an option.
+    /// The line after the value of an option.
     fn with_value(self, setting: Setting, value: &str) -> Option<Self>
         ensures read { IfSome result (Sets setting value.now self) }
         ensures none { IsNone result → (next : Line) → Sets setting value.now self next → ⊥ }
@@ -266,7 +267,7 @@ impl Line {
     }
 }
 
-/// The task that a line asks for, if it is whole.
+/// The task that the line asks for, if it is complete.
 fn task_of(line: Line) -> Option<Task>
     ensures { result ≡ task_of_line line }
 {
@@ -289,7 +290,7 @@ fn task_of(line: Line) -> Option<Task>
     })
 }
 
-/// Whether a text has the form of an option: a `-`, with more behind it. `-` alone is a file.
+/// Whether `text` looks like an option: `-` followed by more. `-` alone is a file.
 pub(super) fn has_option_form(text: &str) -> bool
     ensures { result ≡ is_option text.now }
 {
@@ -297,8 +298,8 @@ pub(super) fn has_option_form(text: &str) -> bool
     1 < bytes.len() && bytes[0] == b'-'
 }
 
-/// What a word asks for behind which no option is read. It isn't the value of an option, and so many
-/// words stand behind it.
+/// What `text` asks for if it ends the options. It isn't the value of an option, and `behind`
+/// arguments follow it.
 pub(super) fn stopped(text: &str, behind: usize, from: Line) -> Option<Request>
     ensures read { IfSome result (Stops from behind text.now) }
     ensures none { IsNone result → (r : Request) → Stops from behind text.now r → ⊥ }
@@ -310,8 +311,8 @@ pub(super) fn stopped(text: &str, behind: usize, from: Line) -> Option<Request>
     request_at(word, behind, from)
 }
 
-/// What a word asks for that isn't the value of an option, if no option is read behind it. So many
-/// words stand behind it.
+/// What `word` asks for if it ends the options. It isn't the value of an option, and `behind`
+/// arguments follow it.
 fn request_at(word: Word, behind: usize, from: Line) -> Option<Request>
     ensures { result ≡ request_of_word word behind from }
 {
@@ -324,7 +325,7 @@ fn request_at(word: Word, behind: usize, from: Line) -> Option<Request>
     }
 }
 
-/// The run of the task that a line asks for, if it is whole, with so many files.
+/// The line's task, if it is complete, with `files` files.
 pub(super) fn run_of(line: Line, files: usize) -> Option<Request>
     ensures { result ≡ option_map (λ task. Request.Run task files) (task_of_line line) }
 {
@@ -334,7 +335,7 @@ pub(super) fn run_of(line: Line, files: usize) -> Option<Request>
     }
 }
 
-/// Reads a word behind others, which ask for this.
+/// Reads one argument; `from` is what the earlier ones ask for.
 pub(super) fn read_word(text: &str, from: Line) -> Option<Line>
     ensures read { IfSome result (MakesLine text.now from) }
     ensures none { IsNone result → (next : Line) → MakesLine text.now from next → ⊥ }
@@ -345,7 +346,7 @@ pub(super) fn read_word(text: &str, from: Line) -> Option<Line>
     }
 }
 
-/// Reads a word that isn't the value of an option.
+/// Reads an argument that isn't the value of an option.
 fn read_alone(text: &str, from: Line) -> Option<Line>
     ensures read { IfSome result (MakesLineAlone text.now from) }
     ensures none { IsNone result → (next : Line) → MakesLineAlone text.now from next → ⊥ }
@@ -358,7 +359,7 @@ fn read_alone(text: &str, from: Line) -> Option<Line>
     from.with_value(setting, value)
 }
 
-/// What stands before and behind the first `=`.
+/// What comes before and after the first `=`.
 fn parted(text: &str) -> Option<(&str, &str)>
     ensures { MatchOption result (position_or_len is_equals text.now ≡ length text.now) (λ x.
         (position_or_len is_equals text.now < length text.now)
@@ -368,7 +369,7 @@ fn parted(text: &str) -> Option<(&str, &str)>
     text.split_once('=')
 }
 
-/// The option with a value of this name.
+/// The option with a value that has this name.
 fn setting_of(name: &str) -> Option<Setting>
     ensures read { IfSome result (λ s. setting_text s ≡ name.now) }
     ensures none { IsNone result → (s : Setting) → setting_text s ≡ name.now → ⊥ }
@@ -382,7 +383,7 @@ fn setting_of(name: &str) -> Option<Setting>
     }
 }
 
-/// The word that has a meaning by itself.
+/// The argument with a fixed meaning that has this text.
 fn word_of(text: &str) -> Option<Word>
     ensures read { IfSome result (λ w. text_of_word w ≡ text.now) }
     ensures none { IsNone result → (w : Word) → text_of_word w ≡ text.now → ⊥ }

@@ -1,4 +1,4 @@
-//! The lines that are written of a message.
+//! Writes the answers about one message.
 ghost use Rattle.std.specs.Prelude.{◌≡◌, ◌≤◌, ◌<◌, ◌^◌, ◌++◌, ◌∷◌, [], false, true, length};
 ghost use Rattle.hex.specs.Hex.{encode_lower};
 ghost use Rattle.capnp_format.specs.Bytes.{words_of};
@@ -12,13 +12,13 @@ use capnp_messages::messages::{Form, write_words};
 use capnp_messages::text::write_number;
 use capnp_pointers::pointers::CanonicalFault;
 
-/// How many bytes are written as digits at a time.
+/// The number of bytes written as hex digits at a time.
 const PIECE: usize = 512;
 
-/// How many digits these have.
+/// The number of their digits.
 const DIGITS: usize = 2 * PIECE;
 
-/// Writes the line of a message that is canonical.
+/// Writes the line of a canonical message.
 pub(super) fn write_canonical<W: Output>(output: &mut W) -> Result<(), DeviceFault>
     requires { W.has_failed output.old ≡ false }
     ensures { Writes W.Output result output.old output.new (check_line true) }
@@ -26,7 +26,7 @@ pub(super) fn write_canonical<W: Output>(output: &mut W) -> Result<(), DeviceFau
     write_all(output, b"canonical\n")
 }
 
-/// Writes the front of the line of a message that isn't canonical.
+/// Writes the beginning of the line of a message that isn't canonical.
 #[tactic(auto, unfolding(crate::specs::Streams::no_text))]
 fn write_no<W: Output>(output: &mut W) -> Result<(), DeviceFault>
     requires { W.has_failed output.old ≡ false }
@@ -35,7 +35,7 @@ fn write_no<W: Output>(output: &mut W) -> Result<(), DeviceFault>
     write_all(output, b"not canonical: ")
 }
 
-/// Writes in which segment it isn't.
+/// Writes the segment of the fault.
 #[tactic(auto, unfolding(crate::specs::Streams::segment_text))]
 fn write_segment<W: Output>(output: &mut W, segment: u64) -> Result<(), DeviceFault>
     requires { W.has_failed output.old ≡ false }
@@ -45,7 +45,7 @@ fn write_segment<W: Output>(output: &mut W, segment: u64) -> Result<(), DeviceFa
     write_number(output, segment)
 }
 
-/// Writes at which word of the segment, to the end of the line.
+/// Writes the word of the fault, and ends the line.
 #[tactic(auto, unfolding(crate::specs::Streams::word_text))]
 fn write_word<W: Output>(output: &mut W, word: u64) -> Result<(), DeviceFault>
     requires { W.has_failed output.old ≡ false }
@@ -70,7 +70,7 @@ pub(super) fn write_fault<W: Output>(
     write_word(output, u64::from(fault.word))
 }
 
-/// Writes at most 512 bytes as lower case hex digits, two for each.
+/// Writes at most 512 bytes as lower case hex digits, two a byte.
 fn write_digits<W: Output>(output: &mut W, bytes: &[u8]) -> Result<(), DeviceFault>
     requires works { W.has_failed output.old ≡ false }
     requires few { length bytes.now ≤ 512 }
@@ -82,7 +82,7 @@ fn write_digits<W: Output>(output: &mut W, bytes: &[u8]) -> Result<(), DeviceFau
     write_all(output, &*digits)
 }
 
-/// Writes bytes as a line of lower case hex digits, two for each.
+/// Writes bytes as a line of lower case hex digits, two a byte.
 fn write_hex_line<W: Output>(output: &mut W, bytes: &[u8]) -> Result<(), DeviceFault>
     requires { W.has_failed output.old ≡ false }
     ensures { Writes W.Output result output.old output.new
@@ -97,7 +97,7 @@ fn write_hex_line<W: Output>(output: &mut W, bytes: &[u8]) -> Result<(), DeviceF
     write_all(output, b"\n")
 }
 
-/// Writes the bytes of canonical words: as a line of lower case hex digits, or in a form.
+/// Writes canonical words: as a line of lower case hex digits, or framed or bare.
 pub(super) fn write_canonical_words<W: Output>(
     output: &mut W,
     bytes: &[u8],

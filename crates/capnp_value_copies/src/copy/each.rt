@@ -1,4 +1,4 @@
-//! The copy of pointers one behind the other, each of which is copied or stays null.
+//! Copies consecutive pointers, each of which is copied or stays null.
 ghost use Rattle.std.specs.Prelude.{◌≡◌, ℕ, ◌+◌, ◌<◌, ◌≤◌, length, IsOk, IfOk, IfErr};
 ghost use Rattle.capnp_format.specs.Segments.{segment, word_at};
 ghost use Rattle.capnp_objects.specs.Reading.{segment_read};
@@ -17,12 +17,12 @@ use capnp_pointers::pointers::Pointer;
 use capnp_words::error::ErrorKind;
 use capnp_words::read_limiter::ReadLimiter;
 
-/// Copies what so many pointers mean as it stands, from that of `from` on, to as many null pointers of
-/// a segment from the place on.
+/// Makes plain copies of the values of `count` consecutive pointers, from `from` on, to as many
+/// null pointers of a segment, from the place on.
 ///
-/// A refusal is the first one of `copy_value`: then the pointers before the refused one are copied, and
-/// it and those behind it are null. There is none where all the pointers can be read and the words of
-/// what they mean fit behind those of the segment.
+/// Refuses with the first refusal of `copy_value`. The pointers before the refused one are then
+/// copied, and it and those after it are null. Never refuses if all the pointers can be read and
+/// the words of their values fit after those of the segment.
 pub fn copy_each<A: BuilderArena, B: ReaderArena>(
     arena: &mut A,
     to: Start,

@@ -1,4 +1,4 @@
-//! The copy of a list that is read, whose words are at hand ("Lists", "Canonicalization").
+//! Copies a list being read, whose words are at hand ("Lists", "Canonicalization").
 ghost use Rattle.std.specs.Prelude.{◌+◌, ◌↔◌, IsTrue};
 ghost use Rattle.capnp_copies.specs.Changes.{change, IsNullPlace};
 ghost use Rattle.capnp_copies.specs.Rooms.{CopiesOrClears};
@@ -18,20 +18,20 @@ use capnp_words::error::ErrorKind;
 use capnp_words::read_limiter::ReadLimiter;
 use capnp_words::wire_pointer::{ElementSize, StructSize};
 
-/// Copies a list that is read to the null pointer at a place, as it stands or in canonical form: as
-/// pointers where they are its elements, as structs, or as numbers with padding of zero. Its own words
-/// and its count cost nothing, and what its elements lead to costs what reading it does.
+/// Copies a list being read to the null pointer at a place, plain or in canonical form: as pointers
+/// if its elements are pointers, as structs, or as numbers with zero padding. Its own words and its
+/// count cost nothing; charges what reading the values of its elements costs.
 ///
-/// The words of the copy stand behind those of the pointer's segment, in the canonical order of objects,
-/// where they all fit its room, or where the message has but one segment afterwards; then no other word
-/// changes but the pointer.
+/// If all words of the copy fit the segment of the place, or the message has one segment
+/// afterwards, they come after that segment's words, in the canonical order of objects, and no
+/// other word changes except the pointer.
 ///
-/// A refusal of the arena is `AllocationFailed` or `MessageTooLarge`, and comes only where the words
-/// don't fit behind those of the pointer's segment; a capability is
-/// `CannotCreateACanonicalMessageWithACapability` in canonical form; a refusal to read keeps its name;
-/// a list of more elements or words than a list pointer can say, which no message holds, is
-/// `MessageTooLarge(usize::MAX)`. Then the pointer is null and the words that were allocated are zero;
-/// the limiter keeps what was charged.
+/// Refusals: the arena's `AllocationFailed` or `MessageTooLarge`, only if the words don't fit after
+/// those of the pointer's segment; `CannotCreateACanonicalMessageWithACapability` for a capability
+/// in canonical form; a refusal to read, under its own name; `MessageTooLarge(usize::MAX)` for a
+/// list of more elements or words than a list pointer can state, which no message holds. After a
+/// refusal the pointer is null, the words that were allocated are zero, and the limiter keeps what
+/// was charged.
 pub fn copy_list<A: BuilderArena, B: ReaderArena>(
     arena: &mut A,
     to: Start,
@@ -69,7 +69,7 @@ pub fn copy_list<A: BuilderArena, B: ReaderArena>(
     }
 }
 
-/// Whether so many elements are as many as a list pointer and its tag can say.
+/// Whether a list pointer and its tag can state `count` elements.
 fn fits_list_pointer(size: ElementSize, sections: StructSize, count: u32) -> bool
     ensures { IsTrue result ↔ FitsListPointer size count (sections.data_words + sections.pointers) }
 {

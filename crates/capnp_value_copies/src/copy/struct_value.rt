@@ -1,5 +1,4 @@
-//! The copy of a struct that is read, whose sections may stand apart ("Structs",
-//! "Canonicalization").
+//! Copies a struct being read, whose sections may be apart ("Structs", "Canonicalization").
 ghost use Rattle.std.specs.Prelude.{◌≡◌, ◌<◌, ◌^◌, IfOk, IfErr};
 ghost use Rattle.capnp_objects.specs.Reading.{words_from};
 ghost use Rattle.capnp_readers.specs.Sizes.{pointers_read};
@@ -22,19 +21,19 @@ use capnp_words::read_limiter::ReadLimiter;
 use capnp_words::wire_pointer::StructSize;
 use capnp_words::words::used_part;
 
-/// Copies a struct that is read to the null pointer at a place, as it stands or in canonical form. Its
-/// data section is padded with zeros to whole words. Its own words cost nothing, and what its pointers
-/// mean costs what reading it does.
+/// Copies a struct being read to the null pointer at a place, plain or in canonical form. Its data
+/// section is padded with zeros to whole words. Its own words cost nothing; charges what reading
+/// the values of its pointers costs.
 ///
-/// The words of the copy stand behind those of the pointer's segment, in the canonical order of objects,
-/// where they all fit its room, or where the message has but one segment afterwards; then no other word
-/// changes but the pointer.
+/// If all words of the copy fit the segment of the place, or the message has one segment
+/// afterwards, they come after that segment's words, in the canonical order of objects, and no
+/// other word changes except the pointer.
 ///
-/// A refusal of the arena is `AllocationFailed` or `MessageTooLarge`, and comes only where the words
-/// don't fit behind those of the pointer's segment; a capability is
-/// `CannotCreateACanonicalMessageWithACapability` in canonical form; a refusal to read keeps its name;
-/// more than 65535 data words are `MessageTooLarge` with their number, and nothing is charged. Then the
-/// pointer is null and the words that were allocated are zero; the limiter keeps what was charged.
+/// Refusals: the arena's `AllocationFailed` or `MessageTooLarge`, only if the words don't fit after
+/// those of the pointer's segment; `CannotCreateACanonicalMessageWithACapability` for a capability
+/// in canonical form; a refusal to read, under its own name; `MessageTooLarge` with the number of
+/// data words if that is above 65535, and then nothing is charged. After a refusal the pointer is
+/// null, the words that were allocated are zero, and the limiter keeps what was charged.
 pub fn copy_struct_value<A: BuilderArena, B: ReaderArena>(
     arena: &mut A,
     to: Start,
@@ -66,10 +65,10 @@ pub fn copy_struct_value<A: BuilderArena, B: ReaderArena>(
     clear_refused(arena, to, copied)
 }
 
-/// The sections that a copy of a struct keeps: in canonical form the words of each up to the last
-/// that is not zero.
+/// The sections of a struct that a copy keeps: in canonical form the words of each up to the last
+/// one that isn't zero.
 ///
-/// More data words than a struct can have are `MessageTooLarge`.
+/// Refuses more data words than a struct can have with `MessageTooLarge`.
 fn kept_sections<B: ReaderArena>(
     value: StructReader<'_, B>,
     canonicalize: bool,

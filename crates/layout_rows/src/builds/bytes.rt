@@ -33,7 +33,7 @@ pub fn call<A: BuilderArena>(
     }
 }
 
-// Makes so many bytes, and writes the first of them.
+// Makes `count` bytes, and writes the first of them.
 fn init<A: BuilderArena>(
     arena: &mut A,
     place: PointerPlace,
@@ -50,7 +50,7 @@ fn init<A: BuilderArena>(
     Ok(())
 }
 
-// The bytes of a text or of data that is made, to be written.
+// The bytes of a text or of data that is made, for writing.
 fn made<'a, A: BuilderArena>(
     arena: &'a mut A,
     place: PointerPlace,
@@ -112,7 +112,7 @@ fn find<A: BuilderArena>(
     Ok(())
 }
 
-// The bytes of a text or of data, to be written.
+// The bytes of a text or of data, for writing.
 fn lent<'a, A: BuilderArena>(
     arena: &'a mut A,
     place: PointerPlace,

@@ -3,47 +3,47 @@
 use crate::calls::Form;
 use crate::types::NumberType;
 
-/// A call, by what it is made of.
+/// A call, by what it is made on.
 #[derive(Clone, Copy)]
 pub enum Call {
-    /// A call of the message.
+    /// A call on the message.
     Message(MessageCall),
-    /// A call of a pointer, a struct or a list: what a reader of it reads.
+    /// A call on a pointer, a struct or a list: what a reader of it reads.
     Read,
-    /// A call of a pointer.
+    /// A call on a pointer.
     Pointer(PointerCall),
-    /// A call of a pointer that leads to text or to data.
+    /// A call on a pointer that leads to text or to data.
     Bytes(Blob, BlobCall),
-    /// A call of a pointer, which becomes a copy.
+    /// A call on a pointer that copies to it.
     Copy(Copying),
-    /// A call of a struct.
+    /// A call on a struct.
     Struct(StructCall),
-    /// A call of a struct, whose content becomes a copy.
+    /// A call on a struct that replaces its content by a copy.
     Content,
-    /// A call of a list.
+    /// A call on a list.
     List(ListCall),
 }
 
-/// A call of the message.
+/// A call on the message.
 #[derive(Clone, Copy)]
 pub enum MessageCall {
     /// The words of the message.
     Words,
-    /// How many segments the message has.
+    /// The number of segments.
     Len,
-    /// How many requests for memory were refused.
+    /// The number of refused requests for memory.
     Refused,
     /// `size_in_words`.
     Size,
-    /// The allocated words of a segment, as they are lent to be written.
+    /// The allocated words of a segment, lent for writing.
     Allocated,
-    /// A byte of the allocated words of a segment is written.
+    /// Write a byte of the allocated words of a segment.
     WriteAllocated,
     /// The pointer of a word.
     PointerAt,
 }
 
-/// A call of a pointer.
+/// A call on a pointer.
 #[derive(Clone, Copy)]
 pub enum PointerCall {
     Word(WordCall),
@@ -53,7 +53,7 @@ pub enum PointerCall {
     StructList(Verb),
 }
 
-/// A call on a pointer's word alone.
+/// A call on a pointer's word only.
 #[derive(Clone, Copy)]
 pub enum WordCall {
     IsNull,
@@ -62,16 +62,16 @@ pub enum WordCall {
     GetCapability,
 }
 
-/// How an object is made or looked for.
+/// How to make an object or look for it.
 #[derive(Clone, Copy)]
 pub enum Verb {
-    /// The object is made, and its place is given.
+    /// Make the object, and return its place.
     Put,
-    /// The object is made, and its builder is given.
+    /// Make the object, and return its builder.
     Init,
-    /// The object is looked for, and its place is given.
+    /// Look for the object, and return its place.
     Find,
-    /// The object is looked for, and its builder is given.
+    /// Look for the object, and return its builder.
     Get,
 }
 
@@ -85,22 +85,22 @@ pub enum Blob {
 /// A call on a text or on data.
 #[derive(Clone, Copy)]
 pub enum BlobCall {
-    /// Zero bytes are made, and some of them written.
+    /// Make zero bytes, and write some of them.
     Init,
-    /// Given bytes are made.
+    /// Make the given bytes.
     Set,
-    /// The bytes are looked for.
+    /// Look for the bytes.
     Find,
-    /// The bytes are lent.
+    /// Lend the bytes.
     Get,
-    /// One of the bytes is written.
+    /// Write one of the bytes.
     Write,
 }
 
-/// What is copied of another message, the source.
+/// What to copy from another message, the source.
 #[derive(Clone, Copy)]
 pub enum Copying {
-    /// What the source's root means.
+    /// The value of the source's root.
     Value,
     /// The struct that the source's root leads to.
     Struct,
@@ -112,14 +112,14 @@ pub enum Copying {
     Section,
 }
 
-/// Whether a value is read or written.
+/// Whether to read or write a value.
 #[derive(Clone, Copy)]
 pub enum Access {
     Get,
     Set,
 }
 
-/// A call of a struct.
+/// A call on a struct.
 #[derive(Clone, Copy)]
 pub enum StructCall {
     Field,
@@ -128,7 +128,7 @@ pub enum StructCall {
     Number(NumberType, Access),
 }
 
-/// A call of a list.
+/// A call on a list.
 #[derive(Clone, Copy)]
 pub enum ListCall {
     /// An element as a struct.
@@ -139,7 +139,7 @@ pub enum ListCall {
     Element(Access),
 }
 
-/// The calls that there are.
+/// All calls.
 pub static FORMS: [Form<Call>; 65] = [
     ("words", "", 0, Call::Message(MessageCall::Words)),
     ("len", "", 0, Call::Message(MessageCall::Len)),

@@ -12,7 +12,7 @@ use capnp_words::read_limiter::ReadLimiter;
 use capnp_words::wire_pointer::ElementSize;
 use std::alloc::Global;
 
-/// Copies from another message, to a pointer or to the content of a struct, and adds what becomes of it.
+/// Copies from another message, to a pointer or to the content of a struct, and adds the outcome.
 pub fn copy<A: BuilderArena>(
     alloc: Global,
     arena: &mut A,
@@ -59,7 +59,7 @@ fn copy_from<A: BuilderArena, B: ReaderArena>(
     Ok(())
 }
 
-// What is copied.
+// What to copy.
 fn original<'a, B: ReaderArena>(
     message: &'a B,
     copying: Copying,
@@ -82,7 +82,7 @@ fn original<'a, B: ReaderArena>(
     })
 }
 
-// Makes a place a copy.
+// Copies to a place.
 fn put_copy<A: BuilderArena, B: ReaderArena>(
     arena: &mut A,
     place: Place,
@@ -100,7 +100,7 @@ fn put_copy<A: BuilderArena, B: ReaderArena>(
     }
 }
 
-// Makes a pointer lead to a copy.
+// Copies to a pointer.
 fn put_pointer<A: BuilderArena, B: ReaderArena>(
     arena: &mut A,
     place: PointerPlace,

@@ -1,4 +1,4 @@
-//! Calls of a list.
+//! Calls on a list.
 
 use super::call::{Access, ListCall};
 use super::numbers::{element, number, set_element};
@@ -11,7 +11,7 @@ use capnp_arena::arena::BuilderArena;
 use capnp_readers::readers::{ListPlace, PointerPlace};
 use capnp_words::wire_pointer::ElementSize;
 
-/// Makes a call of a list and adds its answer.
+/// Makes a call on a list and adds its answer.
 pub fn call<A: BuilderArena>(
     arena: &mut A,
     place: ListPlace,
@@ -63,7 +63,7 @@ fn pointer_element<A: BuilderArena>(
     })))
 }
 
-// Adds an element that is no struct and no pointer, or writes it.
+// Adds an element that is neither a struct nor a pointer, or writes it.
 fn primitive<A: BuilderArena>(
     arena: &mut A,
     place: ListPlace,

@@ -78,7 +78,7 @@ where
     Ok(())
 }
 
-// Writes a number of a struct, under a mask if there is one.
+// Writes a number of a struct, with a mask if there is one.
 fn set_field<A: BuilderArena, T: Primitive + Zero + Mask<T = T> + FromStr + Drop>(
     arena: &mut A,
     place: StructPlace,
@@ -101,7 +101,7 @@ where
     Ok(())
 }
 
-// A number of a struct, under a mask if there is one.
+// A number of a struct, with a mask if there is one.
 fn field<A: BuilderArena, T: Primitive + Zero + Mask<T = T> + FromStr + Drop>(
     arena: &mut A,
     place: StructPlace,
@@ -122,7 +122,7 @@ where
     })
 }
 
-// Whether a field of so many bits lies in a data section, by its index among fields as wide.
+// Whether field `index`, counted in fields of its width, is inside a data section of `bits` bits.
 fn is_field(bits: u32, width: usize, index: usize) -> bool
     ensures { IsTrue result → IsInside bits width index }
 {
@@ -163,8 +163,8 @@ pub fn element<A: BuilderArena, T: PrimitiveElement>(
     Ok(T::get_from_builder(&builder, index))
 }
 
-// Whether there is such an element, whose data is as wide as that of elements of a size, or these have
-// no data.
+// Whether there is such an element, whose data is as wide as that of elements of a size, or these
+// have no data.
 fn is_element(place: ListPlace, size: ElementSize, index: u32) -> bool
     ensures range { IsTrue result → 0 < element_bits (size_number size) → index < place.count }
     ensures wide { IsTrue result → element_bits (size_number size)

@@ -1,4 +1,4 @@
-//! Places of a message that is built: pointers, structs and lists, and whether they are in it.
+//! Places of a message being built: pointers, structs and lists, and whether they are in it.
 ghost use Rattle.std.specs.Prelude.{◌≡◌, ◌<◌, ◌^◌, ◌*◌, length, IsTrue, IfSome, IfOk};
 ghost use Rattle.capnp_format.specs.Segments.{segment, IsPlace};
 ghost use Rattle.capnp_readers.specs.Readers.{IsListPlace, IsStructPlace};
@@ -14,7 +14,7 @@ use capnp_readers::readers::{ListPlace, PointerPlace, StructPlace};
 use capnp_words::read_limiter::ReadLimiter;
 use capnp_words::wire_pointer::{ElementSize, data_bits_per_element};
 
-/// A place of a message that is built.
+/// A place of a message being built.
 #[derive(Clone, Copy)]
 pub enum Place {
     /// A pointer.
@@ -102,7 +102,7 @@ fn read_list<A: BuilderArena>(
     Ok(())
 }
 
-// How many words a segment has, if it is there.
+// The number of words of a segment, if it exists.
 fn words_in<A: BuilderArena>(arena: &A, id: u32) -> Option<u64>
     ensures there { IfSome result (λ n. (id < length (A.view arena.now).words)
         × (n ≡ length (segment (A.view arena.now).words id))) }
@@ -114,7 +114,7 @@ fn words_in<A: BuilderArena>(arena: &A, id: u32) -> Option<u64>
     }
 }
 
-/// Whether the word of a pointer is there.
+/// Whether the word of a pointer exists.
 pub fn is_pointer<A: BuilderArena>(arena: &A, place: PointerPlace) -> bool
     ensures { IsTrue result → IsPlace (A.view arena.now).words place.segment place.word }
 {
@@ -124,7 +124,7 @@ pub fn is_pointer<A: BuilderArena>(arena: &A, place: PointerPlace) -> bool
     }
 }
 
-// Whether both sections of a struct are there.
+// Whether both sections of a struct exist.
 fn is_struct<A: BuilderArena>(arena: &A, place: StructPlace) -> bool
     ensures { IsTrue result → IsStructPlace (A.view arena.now).words place }
 {
@@ -139,14 +139,14 @@ fn is_struct<A: BuilderArena>(arena: &A, place: StructPlace) -> bool
     }
 }
 
-// How many bytes so many bits touch.
+// The number of bytes that `bits` bits touch.
 fn bytes_for(bits: u32) -> u64
     ensures { result ≡ bytes_for bits }
 {
     (u64::from(bits) + 7) / 8
 }
 
-// Whether the numbers of a data section lie on bytes that are a multiple of their own.
+// Whether the numbers of a data section are at bytes that are a multiple of their size.
 fn is_aligned(place: StructPlace) -> bool
     ensures { IsTrue result → IsAligned place }
 {
@@ -154,7 +154,7 @@ fn is_aligned(place: StructPlace) -> bool
     widest == 0 || 8 % widest == 0 && place.byte % widest == 0
 }
 
-// Whether the elements of a list are there.
+// Whether the elements of a list exist.
 fn is_list<A: BuilderArena>(arena: &A, place: ListPlace) -> bool
     ensures { IsTrue result → IsListPlace (A.view arena.now).words place }
 {
@@ -168,7 +168,7 @@ fn is_list<A: BuilderArena>(arena: &A, place: ListPlace) -> bool
     }
 }
 
-// How many words so many elements take, of a width in words where they are structs.
+// The number of words of `count` elements; `width` is that of a struct, in words.
 fn words_of(size: ElementSize, width: u32, count: u32) -> u64
     ensures { result ≡ elements_words size count width }
 {
@@ -179,7 +179,7 @@ fn words_of(size: ElementSize, width: u32, count: u32) -> u64
     }
 }
 
-/// The pointer of a place, `Unfit` where it isn't there.
+/// The pointer at a place; `Unfit` if it doesn't exist.
 pub fn pointer<A: BuilderArena>(
     arena: &mut A,
     place: PointerPlace,
@@ -196,7 +196,7 @@ pub fn pointer<A: BuilderArena>(
     })
 }
 
-/// The struct of a place, `Unfit` where it isn't there.
+/// The struct at a place; `Unfit` if it doesn't exist.
 pub fn structure<A: BuilderArena>(
     arena: &mut A,
     place: StructPlace,
@@ -210,7 +210,7 @@ pub fn structure<A: BuilderArena>(
     Ok(StructBuilder { arena, place })
 }
 
-/// The list of a place, `Unfit` where it isn't there.
+/// The list at a place; `Unfit` if it doesn't exist.
 pub fn list<A: BuilderArena>(arena: &mut A, place: ListPlace) -> Result<ListBuilder<'_, A>, Fault>
     ensures inside { IfOk result (λ b. IsListPlace (A.view b.arena.now).words b.place) }
     ensures place { IfOk result (λ b. b.place ≡ place) }

@@ -1,4 +1,4 @@
-//! Calls of a pointer.
+//! Calls on a pointer.
 ghost use Rattle.std.specs.Prelude.{IfOk};
 ghost use Rattle.capnp_builders.specs.Building.{built, IsThere};
 ghost use Rattle.capnp_builders.specs.Defaults.{IsShortDefault};
@@ -17,7 +17,7 @@ use std::alloc::Global;
 // Lists have fewer elements than this, and lists of structs fewer words.
 pub const LIST_LIMIT: u32 = 0x2000_0000;
 
-/// Makes a call of a pointer and adds its answer.
+/// Makes a call on a pointer and adds its answer.
 pub fn call<A: BuilderArena>(
     alloc: Global,
     arena: &mut A,
@@ -47,7 +47,7 @@ pub fn call<A: BuilderArena>(
     Ok(None)
 }
 
-/// A call's bytes as a default, if it has any; `Unfit` where they are too many.
+/// A call's bytes as a default, if it has any; `Unfit` if they are too many.
 pub fn default_of<'a>(values: &Values<'_>, bytes: &'a [u8]) -> Result<Option<&'a [u8]>, Fault>
     ensures { IfOk result IsShortDefault }
 {
@@ -61,7 +61,7 @@ pub fn default_of<'a>(values: &Values<'_>, bytes: &'a [u8]) -> Result<Option<&'a
     }
 }
 
-/// Makes a call on the pointer's word alone.
+/// Makes a call on the pointer's word only.
 fn word<A: BuilderArena>(
     mut pointer: PointerBuilder<'_, A>,
     call: WordCall,
@@ -85,7 +85,7 @@ fn word<A: BuilderArena>(
     Ok(())
 }
 
-/// Makes a struct where a pointer leads, or looks for it.
+/// Makes a pointer lead to a new struct, or looks for one.
 fn structure<A: BuilderArena>(
     mut pointer: PointerBuilder<'_, A>,
     verb: Verb,
@@ -104,7 +104,7 @@ fn structure<A: BuilderArena>(
     Ok(Some(Place::Struct(place)))
 }
 
-/// Makes a list whose elements aren't structs where a pointer leads, or looks for it.
+/// Makes a pointer lead to a new list whose elements aren't structs, or looks for one.
 fn list<A: BuilderArena>(
     mut pointer: PointerBuilder<'_, A>,
     verb: Verb,
@@ -127,7 +127,7 @@ fn list<A: BuilderArena>(
     Ok(Some(Place::List(place)))
 }
 
-/// Makes a list of structs where a pointer leads, or looks for it.
+/// Makes a pointer lead to a new list of structs, or looks for one.
 fn struct_list<A: BuilderArena>(
     mut pointer: PointerBuilder<'_, A>,
     verb: Verb,

@@ -1,4 +1,4 @@
-//! Calls of a struct.
+//! Calls on a struct.
 
 use super::call::{Access, StructCall};
 use super::numbers::number;
@@ -10,7 +10,7 @@ use crate::types::flag_of;
 use capnp_arena::arena::BuilderArena;
 use capnp_readers::readers::{PointerPlace, StructPlace};
 
-/// Makes a call of a struct and adds its answer.
+/// Makes a call on a struct and adds its answer.
 pub fn call<A: BuilderArena>(
     arena: &mut A,
     place: StructPlace,
@@ -28,7 +28,7 @@ pub fn call<A: BuilderArena>(
     Ok(None)
 }
 
-// Gives a pointer.
+// Returns a pointer.
 fn field<A: BuilderArena>(
     arena: &mut A,
     place: StructPlace,
@@ -61,7 +61,7 @@ fn is_field_null<A: BuilderArena>(
     Ok(())
 }
 
-// Adds a bit, or writes it, under a mask if there is one.
+// Adds a bit, or writes it, with a mask if there is one.
 fn bit<A: BuilderArena>(
     arena: &mut A,
     place: StructPlace,

@@ -25,7 +25,8 @@ pub enum Op {
     Size,
     /// The test for canonical form, from a head on.
     Canonical,
-    /// The test of a struct for canonical form, with a head for it and one for what its pointers lead to.
+    /// The test of a struct for canonical form, with a head for it and one for what its pointers
+    /// lead to.
     CanonicalStruct,
     CanonicalShared,
     Number(NumberType),
@@ -86,7 +87,7 @@ static FORMS: [Form<Op>; 37] = [
 /// A call.
 #[derive(Drop)]
 pub struct Call<'l> {
-    /// The number of the reader that it is made of, the last one where there is none.
+    /// The number of the reader that it is made on; the last one if there is none.
     pub of: Option<usize>,
     pub op: Op,
     pub values: Values<'l>,
@@ -94,7 +95,7 @@ pub struct Call<'l> {
     pub default: Option<Vec<u8>>,
 }
 
-/// The calls that words are.
+/// Parses calls, one a word.
 pub fn read_calls<'l>(alloc: Global, words: &[&'l str]) -> Result<Vec<Call<'l>>, Fault> {
     let mut list = Vec::new(alloc);
     for word in words {
@@ -103,7 +104,7 @@ pub fn read_calls<'l>(alloc: Global, words: &[&'l str]) -> Result<Vec<Call<'l>>,
     Ok(list)
 }
 
-/// The call that a word is.
+/// Parses a call.
 fn read_call<'l>(alloc: Global, word: &'l str) -> Result<Call<'l>, Fault> {
     let (of, text) = match word.split_once('.') {
         Some((number, text)) => (Some(number_of(number)?), text),
@@ -122,7 +123,7 @@ fn read_call<'l>(alloc: Global, word: &'l str) -> Result<Call<'l>, Fault> {
     })
 }
 
-/// The number of a reader. One that is too large is that of none.
+/// The number of a reader. One that is too large is that of no reader.
 fn number_of(digits: &str) -> Result<usize, Fault> {
     match parse::number(digits) {
         Err(Fault::Unfit) => Ok(usize::MAX),

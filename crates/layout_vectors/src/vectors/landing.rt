@@ -1,5 +1,6 @@
-//! Where the pointers of a message lead ("Inter-Segment Pointers"). The audit follows them by code of its own, not by that
-//! which builds messages, and trusts no landing pad: it is to find what a builder has done wrong.
+//! Where the pointers of a message lead ("Inter-Segment Pointers"). The audit follows them by code
+//! of its own, not by that which builds messages, and trusts no landing pad: it has to find what a
+//! builder has done wrong.
 ghost use Rattle.std.specs.Prelude.{◌≡◌, ◌<◌, ◌/◌, ◌^◌, IsTrue, ◌↔◌, length, option_map};
 ghost use Rattle.capnp_format.specs.Bytes.{message, words_of};
 ghost use Rattle.capnp_format.specs.Segments.{segment, word_at, leads, near, far};
@@ -10,7 +11,7 @@ use capnp_arena::arena::ReaderArena;
 use capnp_words::wire_pointer::{WirePointer, WirePointerKind};
 use capnp_words::words;
 
-/// Where a pointer leads, its landing pads read.
+/// Where a pointer leads, with its landing pads read.
 #[derive(Clone, Copy)]
 pub(crate) struct PointerTarget {
     /// The word that describes the object: the pointer itself, its landing pad, or the pad's tag.
@@ -19,11 +20,11 @@ pub(crate) struct PointerTarget {
     pub(crate) segment: u32,
     /// Where the object starts.
     pub(crate) start: u32,
-    /// How many words the landing pads have.
+    /// The number of words of the landing pads.
     pub(crate) pads: u32,
 }
 
-/// The bytes of a segment, none where there is no such segment.
+/// The bytes of segment `id`; none if there is no such segment.
 fn bytes_of<A: ReaderArena>(arena: &A, id: u32) -> &[u8]
     ensures words { words_of result.now ≡ segment (message (A.segments arena.now)) id }
     ensures short { length result.now / 8 < 2 ^ 32 }
@@ -31,7 +32,7 @@ fn bytes_of<A: ReaderArena>(arena: &A, id: u32) -> &[u8]
     arena.get_segment(id).unwrap_or(&[])
 }
 
-/// How many words a segment has, none where there is no such segment.
+/// The number of words of segment `id`; 0 if there is no such segment.
 #[tactic(auto, using(capnp_format::proofs::WordsOf::words))]
 pub(crate) fn length_of<A: ReaderArena>(arena: &A, id: u32) -> u32
     ensures { result ≡ length (segment (message (A.segments arena.now)) id) }
@@ -39,7 +40,7 @@ pub(crate) fn length_of<A: ReaderArena>(arena: &A, id: u32) -> u32
     (bytes_of(arena, id).len() / 8) as u32
 }
 
-/// The word at a place, zero where there is none.
+/// The word at a place; zero if there is none.
 #[tactic(auto, using(capnp_format::proofs::WordsOf::words, std::proofs::lemmas::List::get_or_past))]
 pub(crate) fn word_of<A: ReaderArena>(arena: &A, id: u32, at: u32) -> WirePointer
     ensures { result.0 ≡ word_at (message (A.segments arena.now)) id at }
@@ -58,7 +59,7 @@ fn exists<A: ReaderArena>(arena: &A, id: u32) -> bool
     arena.get_segment(id).is_ok()
 }
 
-/// Where the pointer at a place leads, which is not zero.
+/// Where the pointer at a place leads, if it isn't zero.
 pub(crate) fn follow<A: ReaderArena>(arena: &A, id: u32, at: u32) -> Option<PointerTarget>
     ensures { option_map target_at result ≡ leads (message (A.segments arena.now)) id at }
 {
@@ -70,7 +71,7 @@ pub(crate) fn follow<A: ReaderArena>(arena: &A, id: u32, at: u32) -> Option<Poin
     }
 }
 
-/// Where a word leads that is not a far pointer and stands at a place.
+/// Where a word at a place leads that isn't a far pointer.
 fn follow_near<A: ReaderArena>(
     arena: &A,
     id: u32,
@@ -90,10 +91,10 @@ fn follow_near<A: ReaderArena>(
     })
 }
 
-/// Where a far pointer leads, its landing pad of one or two words read. `None` where the pad isn't
-/// within its segment; where what describes the object, the pad of one word or the second word of two,
-/// is itself a far pointer; where a pad of one word leads out of its segment; and where a pad of two
-/// words names a segment that isn't there. The position that the latter names isn't checked here.
+/// Where a far pointer leads, with its landing pad of one or two words read. `None` if the pad
+/// isn't inside its segment; if what describes the object, the pad of one word or the second word
+/// of two, is itself a far pointer; if a pad of one word leads out of its segment; or if a pad of
+/// two words names a segment that doesn't exist. The position in that segment isn't checked here.
 fn follow_far<A: ReaderArena>(arena: &A, word: WirePointer) -> Option<PointerTarget>
     ensures { option_map target_at result
         ≡ far (message (A.segments arena.now)) word.0 (is_double word.0) }

@@ -1,13 +1,15 @@
-//! An allocator of so many segments and rows.
+//! An allocator with a limit on segments and rows.
 ghost use Rattle.std.specs.Prelude.{◌≡◌};
 
 use capnp_arena::arena::{Allocator, MAX_SEGMENT_WORDS};
 use capnp_words::error::ErrorKind;
 
-/// Makes segments as another allocator does, but no more than so many, and keeps no more than so many rows of segments.
+/// Makes segments like another allocator, but at most `segments`, and keeps at most `rows` rows of
+/// segments.
 ///
-/// Each further request of at most 536,870,911 words is `AllocationFailed`, and each further row is given back; both
-/// count in `refused`. A segment that was given back and is handed out again counts once more.
+/// Each further request of at most 536,870,911 words is refused with `AllocationFailed`, and each
+/// further row is returned; both count in `refused`. A segment that was returned and is used again
+/// counts once more.
 #[derive(Drop)]
 pub struct LimitedAllocator<A: Allocator> {
     inner: A,
@@ -17,7 +19,7 @@ pub struct LimitedAllocator<A: Allocator> {
 }
 
 impl<A: Allocator> LimitedAllocator<A> {
-    /// An allocator of so many segments and rows that has refused nothing yet.
+    /// An allocator of this many segments and rows that has refused nothing yet.
     pub fn new(inner: A, segments: u32, rows: u32) -> Self
         ensures inner { result.inner ≡ inner }
         ensures segments { result.segments ≡ segments }

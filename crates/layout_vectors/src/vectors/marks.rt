@@ -7,13 +7,13 @@ ghost use Rattle.layout_vectors.specs.Marks.{rows_of, TakesRow, IsMarkedWithin, 
 
 use std::alloc::{AllocError, Global};
 
-/// A byte for each word of a message: 1 where the word is taken, else 0.
+/// A byte for each word of a message: 1 if the word is taken, otherwise 0.
 #[derive(Drop)]
 pub(crate) struct Marks {
     pub(crate) rows: Vec<Vec<u8>>,
 }
 
-/// Whether none of `n` words from a position on is taken.
+/// Whether none of the `n` words from `start` on is taken.
 fn are_free(row: &[u8], start: usize, n: usize) -> bool
     requires { start + n ≤ length row.now }
     ensures free { IsTrue result → AreFreeWithin row.now start n }
@@ -27,7 +27,7 @@ fn are_free(row: &[u8], start: usize, n: usize) -> bool
     true
 }
 
-/// Takes `n` words from a position on.
+/// Takes the `n` words from `start` on.
 fn fill(row: &mut [u8], start: usize, n: usize)
     requires { start + n ≤ length row.old }
     ensures { row.new ≡ put_mid start n row.old (replicate n 1) }
@@ -49,7 +49,7 @@ impl Marks {
         Ok(Marks { rows })
     }
 
-    /// How many words a segment has, none where there is no such segment.
+    /// The number of words of segment `id`; 0 if there is no such segment.
     fn length_of(&self, id: u32) -> usize
         ensures { result ≡ length (segment (rows_of self.now) id) }
     {
@@ -59,7 +59,8 @@ impl Marks {
         }
     }
 
-    /// Takes `n` words of a segment from a position on, if they are there and none of them is taken.
+    /// Takes the `n` words of segment `id` from `start` on, if they exist and none of them is
+    /// taken.
     pub(crate) fn take(&mut self, id: u32, start: u32, n: u32) -> bool
         ensures inside { IsTrue result → start + n ≤ length (segment (rows_of self.old) id) }
         ensures taken { IsTrue result → TakesRow (rows_of self.old) (rows_of self.new) id start n }
@@ -75,7 +76,8 @@ impl Marks {
         self.take_some(id, start as usize, n as usize)
     }
 
-    /// Takes words of a segment that are there, at least one, if none of them is taken.
+    /// Takes the `n` words of segment `id` from `start` on, if none of them is taken.
+    /// Preconditions: they exist; there is at least one.
     fn take_some(&mut self, id: u32, start: usize, n: usize) -> bool
         requires some { 0 < n }
         requires inside { start + n ≤ length (segment (rows_of self.old) id) }

@@ -19,9 +19,9 @@ use capnp_words::wire_pointer::{ElementSize, WirePointerKind, data_bits_per_elem
 use capnp_words::words::word_at;
 use std::alloc::AllocError;
 
-/// Takes the words of the object that a pointer leads to, and puts the places of its pointers
-/// behind the others. False where there is no such object, or one of its words is taken already,
-/// or it has padding that is not zero, or claims more than its elements.
+/// Takes the words of the object that a pointer leads to, and appends the places of its pointers.
+/// Returns `false` if there is no such object, or one of its words is taken already, or it has
+/// padding that isn't zero, or claims more than its elements.
 pub(crate) fn take_object<A: ReaderArena>(
     arena: &A,
     marks: &mut Marks,
@@ -44,7 +44,7 @@ pub(crate) fn take_object<A: ReaderArena>(
     }
 }
 
-/// Takes the words of a struct, and puts the places of its pointers behind the others ("Structs").
+/// Takes the words of a struct, and appends the places of its pointers ("Structs").
 fn take_struct<A: ReaderArena>(
     arena: &A,
     marks: &mut Marks,
@@ -65,7 +65,7 @@ fn take_struct<A: ReaderArena>(
     Ok(true)
 }
 
-/// Takes the words of a list of pointers, and puts their places behind the others ("Lists").
+/// Takes the words of a list of pointers, and appends their places ("Lists").
 fn take_pointers<A: ReaderArena>(
     arena: &A,
     marks: &mut Marks,
@@ -85,7 +85,7 @@ fn take_pointers<A: ReaderArena>(
     Ok(true)
 }
 
-/// Takes the words of a list of numbers, if the bits behind its elements are zero ("Lists").
+/// Takes the words of a list of numbers, if the bits after its elements are zero ("Lists").
 fn take_flat<A: ReaderArena>(
     arena: &A,
     marks: &mut Marks,
@@ -105,7 +105,8 @@ fn take_flat<A: ReaderArena>(
     marks.take(landing.segment, landing.start, words) && has_padding(arena, landing, size, count)
 }
 
-/// Whether the bits behind the elements of a list are zero, whose words lie in their segment.
+/// Whether the bits after the elements of a list are zero. Precondition: the list's words are
+/// inside their segment.
 fn has_padding<A: ReaderArena>(
     arena: &A,
     landing: PointerTarget,
@@ -127,8 +128,8 @@ fn has_padding<A: ReaderArena>(
     }
 }
 
-/// Whether the bits behind the elements of a list are zero, which starts at a word of these bytes and lies
-/// in them.
+/// Whether the bits after the elements of a list are zero. Precondition: the list starts at a word
+/// of these bytes and is inside them.
 fn is_padded(bytes: &[u8], start: u32, size: ElementSize, count: u32) -> bool
     requires inside { start + words_for (size_number size) count ≤ length (words_of bytes.now) }
     requires small { length (words_of bytes.now) < 2 ^ 32 }
@@ -150,8 +151,8 @@ fn is_padded(bytes: &[u8], start: u32, size: ElementSize, count: u32) -> bool
     false
 }
 
-/// Takes the words of a list of structs with its tag, if it claims exactly its elements, and puts the
-/// places of their pointers behind the others ("Lists").
+/// Takes the words of a list of structs with its tag, if it claims exactly its elements, and
+/// appends the places of their pointers ("Lists").
 fn take_structs<A: ReaderArena>(
     arena: &A,
     marks: &mut Marks,

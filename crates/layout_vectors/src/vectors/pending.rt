@@ -1,4 +1,4 @@
-//! The places whose pointers are still to be looked at.
+//! The places of the pointers still to be visited.
 ghost use Rattle.std.specs.Prelude.{◌≡◌, ◌+◌, ◌*◌, ◌^◌, ◌<◌, ◌≤◌, ◌++◌, OnOk};
 ghost use Rattle.layout_vectors.specs.Spots.{spots, element_spots};
 
@@ -12,7 +12,7 @@ pub(crate) struct Spot {
     pub(crate) at: u32,
 }
 
-/// Puts a place behind the others.
+/// Appends a place.
 pub(crate) fn put(pending: &mut Vec<Spot>, segment: u32, at: u32) -> Result<(), AllocError>
     ensures { OnOk result (pending.new.items ≡ pending.old.items ++ spots segment at 1) }
 {
@@ -20,7 +20,7 @@ pub(crate) fn put(pending: &mut Vec<Spot>, segment: u32, at: u32) -> Result<(), 
     Ok(())
 }
 
-/// Puts the places of pointers one behind the other behind the others.
+/// Appends the places of consecutive pointers.
 #[tactic(auto, using(crate::proofs::SpotsMore::spots_more))]
 pub(crate) fn put_pointers(
     pending: &mut Vec<Spot>,
@@ -38,7 +38,7 @@ pub(crate) fn put_pointers(
     Ok(())
 }
 
-/// Puts the places of the pointers of elements one behind the other behind the others.
+/// Appends the places of the pointers of consecutive elements.
 #[tactic(auto, using(crate::proofs::SpotsMore::element_spots_more, crate::proofs::SpotsMore::element_spots_none))]
 pub(crate) fn put_elements(
     pending: &mut Vec<Spot>,

@@ -1,4 +1,4 @@
-//! The audit: a walk over a message from its root, with each word that is reached marked.
+//! The audit: a walk over a message from its root that marks each word that it reaches.
 ghost use Rattle.std.specs.Prelude.{◌≡◌, ℕ, ◌+◌, ◌<◌, ◌↔◌, ◌∷◌, [], IsTrue, IfOk, IfErr, length, map, slice_index};
 ghost use Rattle.capnp_arena_traits.specs.Limits.{AreSmall};
 ghost use Rattle.capnp_format.specs.Bytes.{words_of, message};
@@ -21,13 +21,13 @@ use std::alloc::{AllocError, Global};
 
 /// Whether segments are those of a message that a builder made: the root pointer means a value; no
 /// word is used twice, whether by an object or by a landing pad, and none outside of its segment;
-/// the bits behind the elements of lists are zero; lists of structs claim exactly their elements;
+/// the bits after the elements of lists are zero; lists of structs claim exactly their elements;
 /// and every other word is zero.
 ///
-/// There are fewer than 2^32 segments, each of fewer than 2^32 words, and segment 0 has a word.
-/// `AllocationFailed` is want of memory. The call takes a byte for each word, and eight for each pointer
-/// that is still to be looked at. It looks at each word at most twice, and takes no more of the machine's
-/// stack the deeper the message is.
+/// Preconditions: there are fewer than 2^32 segments, each of fewer than 2^32 words, and segment 0
+/// has a word. Fails with `AllocationFailed` if memory runs out. Takes a byte for each word, and
+/// eight for each pointer still to be visited. Looks at each word at most twice, and takes no more
+/// stack for deeper messages.
 pub fn audit(alloc: Global, segments: &[&[u8]]) -> Result<bool, ErrorKind>
     requires small { AreSmall segments.now }
     requires root { IsPlace (message (map (λ s. s.now) segments.now)) 0 0 }
@@ -51,7 +51,8 @@ pub fn audit(alloc: Global, segments: &[&[u8]]) -> Result<bool, ErrorKind>
     }
 }
 
-/// Whether a message is one that a builder made, with marks for its words, none of which is set yet.
+/// Whether a message is one that a builder made. `marks` has a mark for each of its words, none of
+/// which is set yet.
 fn walk_from_root<A: ReaderArena>(
     alloc: Global,
     arena: &A,
@@ -75,8 +76,8 @@ fn walk_from_root<A: ReaderArena>(
     Ok(rest_is_zero(arena, &marks))
 }
 
-/// Takes what the pointer at a place leads to, with its landing pads. False where it leads nowhere, where a
-/// word of a landing pad is taken already, and where `take_object` says so.
+/// Takes what the pointer at a place leads to, with its landing pads. Returns `false` if it leads
+/// nowhere, if a word of a landing pad is taken already, and if `take_object` returns `false`.
 fn walk_pointer<A: ReaderArena>(
     arena: &A,
     marks: &mut Marks,
@@ -133,7 +134,8 @@ fn rest_is_zero<A: ReaderArena>(arena: &A, marks: &Marks) -> bool
     true
 }
 
-/// Whether each word of a segment that isn't taken is zero, by its bytes and the marks of its words.
+/// Whether each word of a segment that isn't taken is zero, by its bytes and the marks of its
+/// words.
 fn is_zero_behind(bytes: &[u8], row: &[u8]) -> bool
     requires { length row.now ≡ length (words_of bytes.now) }
     ensures { IsTrue result
