@@ -8,22 +8,23 @@
  *   - as its bare words, which are one segment without the table of a frame: capnp_canonical_words_*.
  * Unpack packed bytes ("Packing") first, with capnp_canonical_unpack.
  *
- * Two messages have the same canonical bytes exactly if their trimmed values are equal (docs/THEOREM.md).
+ * Two messages have the same canonical bytes exactly if their values are equal once zeros and nulls at the ends of
+ * structs are dropped (docs/THEOREM.md).
  *
  * WARNING: bare words aren't a frame. Hash, sign and store what capnp_canonical_copy_flat and
  * capnp_canonical_segments_copy_flat write, and read it back with the calls named capnp_canonical_words_*. The calls
- * that take a frame may SUCCEED on bare words, and then read ANOTHER value: the pointer to a root without pointers,
- * `00 00 00 00 DD DD 00 00`, is also the table of a frame of one segment of DDDD words. Nothing in the bytes says which
- * they are.
+ * that take a frame may SUCCEED on bare words, and then read ANOTHER value: the pointer to a root struct of DDDD data
+ * words and no pointers, `00 00 00 00 DD DD 00 00`, is also the table of a frame of one segment of DDDD words. Nothing
+ * in the bytes says which they are.
  *
  * Limits. `nesting` is the nesting limit: how deep structs and lists may be nested. `words` is the traversal limit in
- * words of 8 bytes: what it costs to read the value from the root on, whose pointer costs one. A frame may not have
- * more words than that either. CAPNP_CANONICAL_NESTING and CAPNP_CANONICAL_WORDS are the defaults of C++ and Rust.
+ * words of 8 bytes: how many words may be read, including the root pointer. A frame may not have more words than that
+ * either. CAPNP_CANONICAL_NESTING and CAPNP_CANONICAL_WORDS are the defaults of C++ and Rust.
  *
- * Answers. Each call returns CAPNP_CANONICAL_DONE or the number of a refusal. A number never gets another meaning.
+ * Answers. Each call returns CAPNP_CANONICAL_DONE or the number of a refusal. A number never changes its meaning.
  *
- * Memory. No call keeps anything, so several threads may call at once. A message of fewer than 64 words is copied on
- * the stack, if its copy has as few, and a longer one that is already canonical is copied from where it lies. For
+ * Memory. No call keeps anything, so several threads may call at once. If both a message and its copy have fewer than
+ * 64 words, the copy is made on the stack. A longer message that is already canonical is copied from where it lies. For
  * others, the calls that copy take memory with malloc, about the size of the canonical message, and free it before they
  * return. No other call takes any.
  *
@@ -73,7 +74,7 @@ enum capnp_canonical_answer {
     CAPNP_CANONICAL_TOO_MANY_SEGMENTS = 17,
     /* A frame has more words than the limit. */
     CAPNP_CANONICAL_MESSAGE_TOO_LONG = 18,
-    /* The bytes end inside a frame; or packed bytes end inside a word, or before a count. */
+    /* The bytes end inside a frame; or packed bytes end inside a word, or before the count that has to follow. */
     CAPNP_CANONICAL_TRUNCATED = 19,
     /* malloc returned null. */
     CAPNP_CANONICAL_ALLOCATION_FAILED = 32,
@@ -95,8 +96,8 @@ enum capnp_canonical_answer {
     CAPNP_CANONICAL_MESSAGE_IS_TOO_DEEPLY_NESTED = 57,
     /* The message is nested too deeply. From the calls that copy, and from those that test, at a struct. */
     CAPNP_CANONICAL_MESSAGE_IS_TOO_DEEPLY_NESTED_OR_CONTAINS_CYCLES = 58,
-    /* The canonical message would have more than 536,870,911 words; or there are 2^32 or more segments, or as many
-     * words in one. */
+    /* The canonical message would have more than 536,870,911 words; or there are 2^32 or more segments, or a segment
+     * has 2^32 or more words. */
     CAPNP_CANONICAL_MESSAGE_TOO_LARGE = 59,
     /* The message is nested too deeply. From the calls that test, at a list. */
     CAPNP_CANONICAL_NESTING_LIMIT_EXCEEDED = 60,
@@ -159,12 +160,13 @@ struct capnp_canonical_segment {
 };
 
 /* Makes the message at `frame` canonical. Writes it as a frame of one segment to the front of the `room` bytes at `to`,
- * and its size in bytes to `*written`. `frame_size` is how many bytes there are; those after the frame are ignored.
+ * and its size in bytes to `*written`. `frame_size` is the number of bytes at `frame`; bytes after the end of the frame
+ * are ignored.
  *
- * CAPNP_CANONICAL_NO_ROOM means that it takes more than `room` bytes, and `*written` says how many; so pass null and 0
- * to ask for the size. 16 bytes, plus 8 for each word that capnp_canonical_size gives, are always enough. After any
- * other refusal `*written` is 0. Bytes of `to` after those written stay as they are, and after a refusal all of them
- * do. */
+ * CAPNP_CANONICAL_NO_ROOM means that the copy takes more than `room` bytes, and `*written` says how many; so pass null
+ * and 0 to ask for the size. 16 bytes, plus 8 for each word that capnp_canonical_size gives, are always enough. After
+ * any other refusal `*written` is 0. Bytes of `to` after those written stay as they are, and after a refusal all of
+ * them do. */
 uint32_t capnp_canonical_copy(const uint8_t *frame, size_t frame_size, int32_t nesting, uint64_t words, uint8_t *to, size_t room, size_t *written);
 
 /* The same, but writes bare words, without the table of a frame: the bytes to hash or sign. 8 bytes, plus 8 for each
@@ -183,11 +185,11 @@ uint32_t capnp_canonical_check(const uint8_t *frame, size_t frame_size, int32_t 
 uint32_t capnp_canonical_size(const uint8_t *frame, size_t frame_size, int32_t nesting, uint64_t words, uint64_t *word_count, uint32_t *cap_count);
 
 /* Writes to `*bytes` the size of the frame at the front of `size` bytes; the next frame of a stream starts after it.
- * Reads nothing of the message. After a refusal `*bytes` is 0. */
+ * Reads only the table of the frame, not the message. After a refusal `*bytes` is 0. */
 uint32_t capnp_canonical_frame_size(const uint8_t *frame, size_t size, uint64_t words, size_t *bytes);
 
-/* The same four calls, for a message of `count` segments. There may be more segments than a frame can have. If there
- * are none there is no root, and the call is refused with CAPNP_CANONICAL_INVALID_SEGMENT_ID. */
+/* copy, copy_flat, check and size, for a message of `count` segments. There may be more segments than a frame can have.
+ * If there are none there is no root, and the call is refused with CAPNP_CANONICAL_INVALID_SEGMENT_ID. */
 uint32_t capnp_canonical_segments_copy(const struct capnp_canonical_segment *segments, size_t count, int32_t nesting, uint64_t words, uint8_t *to, size_t room, size_t *written);
 
 uint32_t capnp_canonical_segments_copy_flat(const struct capnp_canonical_segment *segments, size_t count, int32_t nesting, uint64_t words, uint8_t *to, size_t room, size_t *written);
@@ -197,8 +199,9 @@ uint32_t capnp_canonical_segments_check(const struct capnp_canonical_segment *se
 uint32_t capnp_canonical_segments_size(const struct capnp_canonical_segment *segments, size_t count, int32_t nesting, uint64_t words, uint64_t *word_count, uint32_t *cap_count);
 
 /* The same, for a message given as bare words, as copy_flat writes them: all `size` bytes at `message` are its one
- * segment. The copy is bare words too. If you pass a frame here it is read as words, and is another value. No bytes are
- * a message without a root, which is refused with CAPNP_CANONICAL_MESSAGE_CONTAINS_OUT_OF_BOUNDS_POINTER. */
+ * segment. The copy is bare words too. If you pass a frame here, its bytes are read as bare words and mean another
+ * value. If `size` is 0, the message has no root, which is refused with
+ * CAPNP_CANONICAL_MESSAGE_CONTAINS_OUT_OF_BOUNDS_POINTER. */
 uint32_t capnp_canonical_words_copy(const uint8_t *message, size_t size, int32_t nesting, uint64_t words, uint8_t *to, size_t room, size_t *written);
 
 uint32_t capnp_canonical_words_check(const uint8_t *message, size_t size, int32_t nesting, uint64_t words, bool *is_canonical, struct capnp_canonical_fault *fault);
@@ -255,9 +258,9 @@ CAPNP_CANONICAL_INLINE bool capnp_canonical_words_is_canonical(const uint8_t *me
 }
 
 /* How many bytes are always enough for a copy within a traversal limit of `words`, framed or flat. The message isn't
- * looked at. For untrusted messages, a limit of twice the words of the message is usual. The size of a message alone
- * gives no bound: an object that several pointers lead to is copied for each of them, so the canonical form may be
- * larger than its message by any factor, up to this limit. */
+ * looked at. For untrusted messages, set the limit to twice the words of the largest message that you accept. The size
+ * of a message alone gives no bound: an object that several pointers lead to is copied for each of them, so the
+ * canonical form may be larger than its message by any factor, up to this limit. */
 CAPNP_CANONICAL_INLINE uint64_t capnp_canonical_bound(uint64_t words) {
     const uint64_t most = UINT64_C(536870911);
     return 8 + 8 * (words < most ? words : most);
