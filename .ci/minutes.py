@@ -1,17 +1,20 @@
 #!/usr/bin/env python3
-"""Runs a command that ends in a line `N passed, M failed`, and prints the processor minutes that it and all that it
-started took in the line before that one, and how many times the first proof of a crate that is.
+"""Runs a command whose last line is `N passed, M failed`. Prints one line before that one: the processor minutes of the
+command and everything that it started, and their ratio to the first proof of a crate.
 
     minutes.py CRATE COMMAND WORD..
 
-The crate, which stands on no other one of the repository, is proved from nothing right before and right after, in a
-folder of its own: as its minutes are taken on the same machine, the ratio says more than the minutes. Both are printed,
-since one first proof has taken half as much again as another one two hours before, on a machine that did nothing else.
-The exit status is the command's own. Where the command ends without such a line, the last line is `0 passed, 1 failed`."""
+The crate depends on no other crate of the repository. It is proved from nothing five times before the command and five
+times after it, in a folder of its own, and the ratio is to the median of the ten. Minutes differ from machine to
+machine; the ratio is what two machines can compare. One first proof alone isn't enough: it has taken half as much again
+as another one, on an idle machine.
+
+The exit status is the command's. If the command ends without such a line, the last line is `0 passed, 1 failed`."""
 import pathlib
 import re
 import resource
 import shutil
+import statistics
 import subprocess
 import sys
 import tempfile
@@ -41,25 +44,34 @@ def first_proof(crate):
         return None if run.returncode else minutes() - before
 
 
-def times(used, one, when):
-    """How many times a first proof that is, as text."""
-    return f'{used / one:.1f} times the one {when} ({one:.3f})' if one else f'not proved {when}'
+def first_proofs(crate):
+    """The processor minutes of five first proofs, or an empty list if one of them fails."""
+    taken = [first_proof(crate) for _ in range(5)]
+    return [] if None in taken else taken
+
+
+def ratio(used, crate, before, after):
+    """How many first proofs that is, as text."""
+    if not before or not after:
+        return f'{crate} was not proved'
+    taken = sorted(before + after)
+    median = statistics.median(taken)
+    return f'{used / median:.1f} first proofs of {crate} (median {median:.3f} of {len(taken)}, from {taken[0]:.3f} to {taken[-1]:.3f})'
 
 
 def main():
-    # as it came, whatever the locale
+    # bytes pass unchanged in every locale
     sys.stdout.reconfigure(encoding='utf-8', errors='surrogateescape')
     crate, *command = sys.argv[1:]
-    first = first_proof(crate)
+    first = first_proofs(crate)
     before, held = minutes(), ''
     with subprocess.Popen(command, stdout=subprocess.PIPE, encoding='utf-8', errors='surrogateescape') as run:
         for line in run.stdout:
-            # what may be the last line waits for the next one
+            # this may be the last line: hold it back until the next one comes
             held, shown = (line, held) if COUNTS.fullmatch(line) else ('', held + line)
             print(shown, end='', flush=True)
     used = minutes() - before
-    told = times(used, first, 'before'), times(used, first_proof(crate), 'after')
-    print(f'processor minutes: {used:.1f}; first proofs of {crate}: {", ".join(told)}')
+    print(f'processor minutes: {used:.1f}; {ratio(used, crate, first, first_proofs(crate))}')
     print(held or '0 passed, 1 failed\n', end='')
     return (run.returncode if run.returncode >= 0 else 128 - run.returncode) or int(not held)
 
