@@ -12,6 +12,9 @@ import sys
 
 import proved
 
+sys.path.append(str(proved.TOP / 'tools/c_of_module'))
+import constants
+
 # No vectors that the processor might not have, and nothing that is longer than its loop: the C compiler does that. Nothing
 # that stands on where code is loaded.
 OPTIMISED = '--target=x86_64-unknown-linux-gnu --no-default-config -O2 -fno-vectorize -fno-slp-vectorize -fno-unroll-loops -fno-pic -fno-pie'
@@ -42,6 +45,8 @@ def in_c(room, crate):
     run = subprocess.run(writer, stdout=subprocess.PIPE, stderr=subprocess.PIPE, encoding='utf-8')
     if run.returncode:
         raise proved.Stopped(run.stderr)
+    if wrong := constants.differing(module.read_text(encoding='latin-1'), run.stdout)[0]:
+        raise proved.Stopped(f'{crate}: the C of {wrong} isn\'t what the module has')
     return run.stdout
 
 

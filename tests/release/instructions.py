@@ -19,6 +19,7 @@ WRITER = TOP / 'tools/c_of_module'
 sys.path.append(str(WRITER))
 sys.dont_write_bytecode = True
 
+import constants
 import writing
 
 WIDTHS = 8, 16, 32, 64
@@ -91,6 +92,10 @@ NUMBERS = {
     'abs': lambda a, b, w: abs(signed(a, w)), 'ctpop': lambda a, b, w: bin(a).count('1'), 'cttz': lambda a, b, w: (a & -a).bit_length() - 1 if a else w, 'ctlz': lambda a, b, w: w - a.bit_length(),
     'bswap': lambda a, b, w: int.from_bytes(a.to_bytes(w // 8, 'little'), 'big'), 'umin': lambda a, b, w: min(a, b), 'umax': lambda a, b, w: max(a, b),
     'smin': of_signed(min), 'smax': of_signed(max), 'uadd.sat': lambda a, b, w: min(a + b, 2**w - 1), 'usub.sat': lambda a, b, w: max(a - b, 0),
+}
+# Two numbers, joined and shifted by a third one, modulo their width: the upper half, and the lower one.
+JOINED = {
+    'fshl': lambda a, b, c, w: ((a << w | b) << c % w) >> w, 'fshr': lambda a, b, c, w: (a << w | b) >> c % w,
 }
 
 
@@ -250,8 +255,17 @@ ret i64 3'''
     cases.add('call fastcc void @nothing()\nret i64 8', lambda a, b: 8, before='define internal fastcc void @nothing() unnamed_addr #0 {\nstart:\n  ret void\n}\n')
 
 
+def as_llvm_writes(text):
+    """A constant's bytes as LLVM writes them: a backslash as two, and what isn't printed, or is a quote, as two hex digits."""
+    return ''.join('\\\\' if it == 92 else chr(it) if 32 <= it < 127 and it != 34 else f'\\{it:02X}' for it in text)
+
+
 def standing(cases):
     """Constants."""
+    # every byte, and each of them next to a backslash, which LLVM writes as two
+    for name, row in ('bytes', bytes(range(256))), ('pairs', b''.join(bytes((92, it, it, 92)) for it in range(256))), ('slashes', b'\\41\\'):
+        cases.add(f'%p = getelementptr inbounds i8, ptr @{name}, i64 %a\n%v = load i8, ptr %p, align 1\n%r = zext i8 %v to i64\nret i64 %r', lambda a, b, row=row: row[a],
+                  [(i, 0) for i in range(len(row))], f'@{name} = private unnamed_addr constant [{len(row)} x i8] c"{as_llvm_writes(row)}", align 1\n')
     text = b'a"b\\c?? /*\n\xff\x00z'
     shown = ''.join(chr(it) if 32 <= it < 127 and it not in (34, 92) else f'\\{it:02X}' for it in text)
     before = f'@row = private unnamed_addr constant [{len(text)} x i8] c"{shown}", align 1\n@plain = internal constant [9 x i8] c"say \\22hi?\\22", align 1\n' \
@@ -305,6 +319,12 @@ def counting(cases):
         given = f'i{width} {a}, i{width} {b}' if word[:1] in 'us' else f'i{width} {a}, i1 false' if word in ('abs', 'cttz', 'ctlz') else f'i{width} {a}'
         cases.add(f'{cut}%r = call i{width} @llvm.{word}.i{width}({given})\n{widened(width, "%r")}', lambda x, y, count=count, width=width: count(x % 2**width, y, width) % 2**width, edges(width))
 
+    for (word, count), width, by in itertools.product(JOINED.items(), WIDTHS, (0, 1, 3, 7, 8, 63, 64, 200)):
+        cut, (a, b) = narrowed(width, 'a', 'b')
+        by %= 2**width
+        cases.add(f'{cut}%r = call i{width} @llvm.{word}.i{width}(i{width} {a}, i{width} {b}, i{width} {by})\n{widened(width, "%r")}',
+                  lambda x, y, count=count, width=width, by=by: count(x % 2**width, y % 2**width, by, width) % 2**width, edges(width)[::7])
+
 
 ATTRIBUTES = '''
 attributes #0 = { nofree norecurse nosync nounwind willreturn memory(none) "frame-pointer"="all" "target-cpu"="x86-64" }
@@ -319,7 +339,7 @@ REFUSED = [BODY.format(it) for it in (
     '%x = cmpxchg ptr null, i64 1, i64 2 seq_cst seq_cst, align 8', '%x = load volatile i64, ptr null, align 8', '%x = load atomic i64, ptr null seq_cst, align 8',
     'store volatile i64 1, ptr null, align 8', 'store atomic i64 1, ptr null seq_cst, align 8', '%x = load i1, ptr null, align 1', 'store i1 true, ptr null, align 1', '%x = load double, ptr null, align 8',
     '%x = load ptr addrspace(1), ptr null, align 8', '%p = inttoptr i64 %a to ptr\n  %x = call i64 %p(i64 1)', 'call void asm sideeffect "nop", ""()', '%x = va_arg ptr null, i64', '%x = udiv <16 x i8> zeroinitializer, zeroinitializer',
-    '%x = add <16 x i8> zeroinitializer, zeroinitializer', '%x = call i64 @llvm.fshl.i64(i64 %a, i64 %b, i64 3)', '%x = call i64 @llvm.bitreverse.i64(i64 %a)', '%x = call { i64, i1 } @llvm.uadd.with.overflow.i64(i64 %a, i64 %b)',
+    '%x = add <16 x i8> zeroinitializer, zeroinitializer', '%x = call i64 @llvm.bitreverse.i64(i64 %a)', '%x = call { i64, i1 } @llvm.uadd.with.overflow.i64(i64 %a, i64 %b)',
     'call void @llvm.memset.p0.i64(ptr null, i8 0, i64 8, i1 true)', 'call void @llvm.memcpy.p0.p0.i64(ptr null, ptr null, i64 8, i1 true)', '%x = extractelement <16 x i8> zeroinitializer, i64 0',
     '%x = insertelement <16 x i8> zeroinitializer, i8 1, i64 0', '%x = shufflevector <16 x i8> zeroinitializer, <16 x i8> poison, <2 x i32> <i32 1, i32 0>', '%x = getelementptr { i64, i64 }, ptr null, i64 0, i32 1',
     '%x = getelementptr i8, ptr null, i32 1', 'musttail call void @test_0(i64 1, i64 2)', 'invoke void @test_0() to label %start unwind label %start', 'indirectbr ptr null, [label %start]', 'resume { ptr, i32 } poison',
@@ -332,6 +352,8 @@ REFUSED = [BODY.format(it) for it in (
     '@x = global i64 7, align 8\n', '@x = thread_local constant [1 x i8] zeroinitializer\n', '@x = private constant { i64 } { i64 1 }\n', '@x = external constant [2 x i8]\n', '@x = alias i64, ptr @y\n', '@x = private constant [3 x i8] c"ab"\n',
     'declare i64 @printf(ptr)\n', '$x = comdat any\n', 'module asm "nop"\n',
 ]
+# Changes of the written C that no compiler can tell.
+WRONG_CONSTANTS = (('say \\"hi', 'say \\"ho'), ('4294967295u, 7u', '4294967295u, 6u'), ('{ row, zeros }', '{ zeros, row }'), ('plain[9]', 'plain[10]'))
 KNOWN = 'define i64 @test_0(i64 %a, i64 %b) #0 {\nstart:\n  %x = add i64 %a, %b\n  ret i64 %x\n}\n'
 
 
@@ -433,6 +455,9 @@ def main(compilers):
                 holds, said = compiled_and_run(room, [compiler, *FLAGS, *flags, f'-I{room}', str(room / 'main.c'), str(room / 'module.c')], runner)
                 counts.told(holds, f'{len(cases.calls)} calls by {compiler} {kind}', f': {said}')
             by_llvm(room, counts)
+            counts.told(constants.differing(text, made)[0] is None, 'the constants, read a second time')
+            for old, new in WRONG_CONSTANTS:
+                counts.told(made.count(old) == 1 and constants.differing(text, made.replace(old, new))[0], f'a wrong constant is found: {new}')
         refusals(room, counts)
     print(f'{counts.passed} passed, {counts.failed} failed')
     return 1 if counts.failed else 0

@@ -101,7 +101,7 @@ def text_of(value, count):
     """A row of bytes: a text where that can be read, else numbers."""
     if value in ZERO:
         return '{ 0 }'
-    data = re.sub(rb'\\([0-9A-Fa-f]{2})', lambda hit: bytes([int(hit[1], 16)]), value[2:-1].encode('latin-1'))
+    data = re.sub(rb'\\(\\|[0-9A-Fa-f]{2})', lambda hit: hit[1] if hit[1] == b'\\' else bytes([int(hit[1], 16)]), value[2:-1].encode('latin-1'))
     if len(data) != count:
         raise Unknown(f'{len(data)} bytes in a row of {count}')
     if not all(32 <= it < 127 or it == 10 for it in data):

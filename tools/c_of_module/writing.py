@@ -9,7 +9,7 @@ SHIFTS = {'shl': '<<', 'lshr': '>>', 'ashr': '>>'}
 COMPARED = {'eq': '==', 'ne': '!=', 'lt': '<', 'le': '<=', 'gt': '>', 'ge': '>='}
 # Intrinsics: what moves and sets blocks, and functions of numbers, each with how many it takes.
 BLOCKS = 'memset.p0.i64', 'memmove.p0.p0.i64', 'memcpy.p0.p0.i64'
-NUMBERS = {'abs': 1, 'ctpop': 1, 'cttz': 1, 'ctlz': 1, 'bswap': 1, 'umin': 2, 'umax': 2, 'smin': 2, 'smax': 2, 'uadd.sat': 2, 'usub.sat': 2}
+NUMBERS = {'abs': 1, 'ctpop': 1, 'cttz': 1, 'ctlz': 1, 'bswap': 1, 'umin': 2, 'umax': 2, 'smin': 2, 'smax': 2, 'uadd.sat': 2, 'usub.sat': 2, 'fshl': 3, 'fshr': 3}
 # The largest block that is moved by reading all of it before any is written.
 MOVED = 64
 
