@@ -194,8 +194,12 @@ class Calls(unittest.TestCase):
         for numbers in {'words': None}, {'words': 5.5}, {'nesting': '64'}:
             with self.assertRaisesRegex(TypeError, f'{next(iter(numbers))} is a number'):
                 Limits(**numbers)
-        with self.assertRaisesRegex(TypeError, 'class Limits'):
-            capnp_canonical.copy(ZERO_WORD, (64, 8))
+        buffer = bytearray(ZERO_WORD)
+        for call in capnp_canonical.copy, capnp_canonical.check, capnp_canonical.is_canonical, capnp_canonical.size:
+            with self.assertRaisesRegex(TypeError, 'class Limits'):
+                call(buffer, (64, 8))
+            # a buffer that was still lent could not be extended
+            buffer.append(0)
 
     def test_faults(self):
         fault = capnp_canonical.check(ZERO_WORD)
@@ -289,6 +293,19 @@ class Packed(unittest.TestCase):
             self.assertEqual((refused.exception.number, refused.exception.wanted), (Refusal.NO_ROOM, 16))
             self.assertEqual(to, b'.' * room)
 
+    def test_in_place(self):
+        """A buffer that overlaps the packed bytes is refused, and nothing is written."""
+        packed = bytes.fromhex('00ff') * 2
+        buffer = bytearray(4096)
+        for at in 0, 1, 4000:
+            buffer[at:at + len(packed)] = packed
+            before = bytes(buffer)
+            with self.assertRaises(ValueError):
+                capnp_canonical.unpack_into(buffer, memoryview(buffer)[at:at + len(packed)])
+            self.assertEqual(buffer, before)
+        apart = bytearray(packed + bytes(4096))
+        self.assertEqual(capnp_canonical.unpack_into(memoryview(apart)[len(packed):], memoryview(apart)[:len(packed)]), 4096)
+
     def test_limit(self):
         packed = bytes.fromhex('00ff') * 100
         self.assertEqual(capnp_canonical.unpack(packed, 25600), bytes(8 * 25600))
@@ -330,6 +347,19 @@ class FramesOfFiles(unittest.TestCase):
             self.assertEqual(refused.exception.place, (101, len(self.STREAM)))
             self.assertIs(refused.exception.number, Refusal.TRUNCATED)
             self.assertEqual(len(found), 100)
+
+    def test_one_name_however_the_bytes_arrive(self):
+        for piece in 1, 2, 3, 4, 5:
+            with self.assertRaises(Error) as refused:
+                list(capnp_canonical.frames(Raw(bytes.fromhex('0100002a01'), piece)))
+            self.assertIs(refused.exception.number, Refusal.TOO_MANY_SEGMENTS)
+
+    def test_a_table_that_announces_more_than_comes(self):
+        """Memory is taken for what is there, and not for 32 GiB."""
+        for file in io.BytesIO(bytes.fromhex('00000000ffffffff2a')), Raw(bytes.fromhex('00000000ffffffff2a'), 3):
+            with self.assertRaises(Error) as refused:
+                next(capnp_canonical.frames(file, words=2**64 - 1))
+            self.assertIs(refused.exception.number, Refusal.TRUNCATED)
 
     def test_large(self):
         words = 100_000

@@ -87,6 +87,41 @@ class Commands(unittest.TestCase):
         self.require(run('digest', '--check', '--quiet', input=other.encode()), 1, [f'{path}:2: FAILED'],
                      '1 of the messages listed is not there, or not as listed')
 
+    def test_check_of_sorted_lists(self):
+        """In any order each file is read once: as often as there are messages it would take minutes."""
+        count = 3000
+        paths = [self.file(it, FRAMES['canonical'] * count) for it in ('one', 'two')]
+        value = name_of(WORDS['canonical'])
+        lines = [f'{value}  {path}:{number}' for number in range(1, count + 1) for path in paths]
+        listed = self.file('list', '\n'.join(lines).encode())
+        start = time.monotonic()
+        self.require(run('digest', '--check', '--quiet', listed), 0, [])
+        self.assertLess(time.monotonic() - start, 30)
+        merged = run('digest', '--check', listed).stdout.decode().splitlines()
+        self.assertEqual(merged, [f'{line.partition("  ")[2]}: OK' for line in lines])
+
+    def test_check_of_no_entry(self):
+        empty = self.file('empty', b'')
+        self.require(run('digest', '--check', empty), 1, [], 'no list names a message')
+        path = self.file('stream', FRAMES['canonical'] * 2)
+        groups = run('duplicates', path, self.file('book', FRAMES['book'] * 2))
+        self.require(run('digest', '--check', '--quiet', input=groups.stdout), 0, [])
+
+    def test_closed_output(self):
+        path = self.file('stream', STREAM)
+        done = subprocess.run(['sh', '-c', '"$0" -B -m capnp_canonical digest "$1" >&-', sys.executable, path], stderr=subprocess.PIPE)
+        self.assertEqual((done.stderr, done.returncode), (b'capnp_canonical: standard output: closed\n', 2))
+
+    def test_a_file_that_is_cut_while_it_is_read(self):
+        path = self.file('stream', FRAMES['canonical'] * 100_000)
+        size = path.stat().st_size
+        with subprocess.Popen([sys.executable, '-B', '-m', 'capnp_canonical', 'digest', path], stdout=subprocess.PIPE, stderr=subprocess.PIPE) as reader:
+            reader.stdout.readline()
+            os.truncate(path, size // 2 // len(FRAMES['canonical']) * len(FRAMES['canonical']) + 12)
+            _, error = reader.communicate()
+        self.assertEqual(reader.returncode, 2)
+        self.assertIn(f': {TRUNCATED}\n', error.decode())
+
     def test_names_with_line_ends(self):
         path = self.file('a\\b\nc', FRAMES['book'])
         escaped = str(path).replace('\\', '\\\\').replace('\n', '\\n')

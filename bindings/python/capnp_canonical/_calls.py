@@ -115,10 +115,18 @@ def _written_of_segments(call: _Call, segments: Iterable[ReadableBuffer], limits
         return _written(call, given, limits, given.size + 8)
 
 
+def _must_be_apart(to: Lent, given: _Given) -> None:
+    """The library reads one buffer while it writes the other. An object of type `bytes` shares no memory with a
+    writable one."""
+    if isinstance(given.first, int) and to.address < given.first + given.size and given.first < to.address + to.size:
+        raise ValueError('the buffer to write to overlaps the bytes to read')
+
+
 def _written_into(call: _Call, to: WriteableBuffer, frame: ReadableBuffer, limits: Limits) -> int:
     nesting, words = _limits(limits)
     written = ctypes.c_size_t()
     with _frame(frame) as given, Lent(to, writable=True) as room:
+        _must_be_apart(room, given)
         answer = call(given.first, given.second, nesting, words, room.address, room.size, written)
         if answer != DONE:
             raise _error_of(answer, given, written.value)
@@ -126,9 +134,9 @@ def _written_into(call: _Call, to: WriteableBuffer, frame: ReadableBuffer, limit
 
 
 def _checked(call: _Call, given: _Given, limits: Limits) -> Optional[Fault]:
-    nesting, words = _limits(limits)
     is_canonical, fault = ctypes.c_bool(), RawFault()
     with given:
+        nesting, words = _limits(limits)
         answer = call(given.first, given.second, nesting, words, is_canonical, fault)
         if answer != DONE:
             raise _error_of(answer, given)
@@ -138,16 +146,16 @@ def _checked(call: _Call, given: _Given, limits: Limits) -> Optional[Fault]:
 
 
 def _is_canonical(call: _Call, given: _Given, limits: Limits) -> bool:
-    nesting, words = _limits(limits)
     is_canonical = ctypes.c_bool()
     with given:
+        nesting, words = _limits(limits)
         return call(given.first, given.second, nesting, words, is_canonical, RawFault()) == DONE and is_canonical.value
 
 
 def _sized(call: _Call, given: _Given, limits: Limits) -> Size:
-    nesting, words = _limits(limits)
     count, capabilities = ctypes.c_uint64(), ctypes.c_uint32()
     with given:
+        nesting, words = _limits(limits)
         answer = call(given.first, given.second, nesting, words, count, capabilities)
         if answer != DONE:
             raise _error_of(answer, given)
@@ -166,8 +174,8 @@ def copy_flat(frame: ReadableBuffer, limits: Limits = LIMITS) -> bytes:
 
 
 def copy_into(to: WriteableBuffer, frame: ReadableBuffer, limits: Limits = LIMITS) -> int:
-    """Like `copy`, but write to the front of a buffer, which must not overlap the frame. Return the number of bytes
-    written."""
+    """Like `copy`, but write to the front of a buffer, and return the number of bytes written. Raises `ValueError` if
+    the buffer overlaps the frame."""
     return _written_into(library.capnp_canonical_copy, to, frame, limits)
 
 
@@ -272,9 +280,11 @@ def unpack(packed: ReadableBuffer, words: int = LIMITS.words) -> bytes:
 
 
 def unpack_into(to: WriteableBuffer, packed: ReadableBuffer) -> int:
-    """Unpack to the front of a buffer, which must not overlap the packed bytes. Return the number of bytes written. If
-    the room is too small nothing is written, and `Error` says how many bytes are needed."""
+    """Unpack to the front of a buffer, and return the number of bytes written. If the room is too small nothing is
+    written, and `Error` says how many bytes are needed. Raises `ValueError` if the buffer overlaps the packed
+    bytes."""
     with _frame(packed) as given, Lent(to, writable=True) as lent:
+        _must_be_apart(lent, given)
         has_room, size = _unpacked(given, lent.address, lent.size)
     if not has_room:
         raise Error(Refusal.NO_ROOM, wanted=size)

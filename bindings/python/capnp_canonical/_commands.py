@@ -6,14 +6,12 @@ import contextlib
 import hashlib
 import io
 import itertools
-import mmap
 import os
 import re
-import stat
 import sys
 import time
 from dataclasses import dataclass
-from typing import Any, BinaryIO, Dict, Iterator, List, NoReturn, Optional, Tuple, Union
+from typing import Any, BinaryIO, Dict, Iterator, List, NoReturn, Optional, Set, Tuple
 
 from capnp_canonical._answers import Error, Limits
 from capnp_canonical._calls import LIMITS, copy_flat, words_copy
@@ -30,7 +28,8 @@ STATUS = '''status: 0 if all is well; 1 if a message differs, isn't as listed, o
 
 
 def say(text: str) -> None:
-    sys.stdout.flush()
+    if sys.stdout:
+        sys.stdout.flush()
     print(f'{NAME}: {text}', file=sys.stderr, flush=True)
 
 
@@ -69,6 +68,8 @@ class Reading:
     is_flat: bool
     progress: Progress
     status: int = SAME
+    is_empty: bool = True
+    """Whether no list that was verified had an entry."""
 
     def trouble(self, name: str, error: object) -> None:
         self.progress.end()
@@ -88,7 +89,7 @@ class Reading:
     def _words_of(self, name: str) -> Iterator[Tuple[int, Optional[bytes]]]:
         with opened(name) as stream:
             if self.is_flat:
-                yield 1, words_copy(stream if isinstance(stream, mmap.mmap) else stream.read(), self.limits)
+                yield 1, words_copy(stream.read(), self.limits)
                 return
             at = 0
             for number, frame in enumerate(frames(stream, self.limits.words), 1):
@@ -107,22 +108,10 @@ class Reading:
                 yield number, hashlib.sha256(words).digest()
 
 
-@contextlib.contextmanager
-def opened(name: str) -> Iterator[Union[BinaryIO, mmap.mmap]]:
-    """A file, or its bytes mapped into memory if it has a length."""
-    # standard input by a number of its own, so that it stays open
-    with open(os.dup(0) if name == '-' else name, 'rb') as file:
-        of = os.fstat(file.fileno())
-        if name == '-' or not stat.S_ISREG(of.st_mode) or not of.st_size:
-            yield file
-            return
-        mapped = mmap.mmap(file.fileno(), 0, access=mmap.ACCESS_READ)
-        try:
-            yield mapped
-        finally:
-            # a frame that is still held keeps it open
-            with contextlib.suppress(BufferError):
-                mapped.close()
+def opened(name: str) -> BinaryIO:
+    """A file, open for reading. It isn't mapped into memory: if it became shorter, a read there would end the process.
+    Standard input gets a number of its own, so that it stays open."""
+    return open(os.dup(0) if name == '-' else name, 'rb')
 
 
 _ESCAPED = re.compile(r'[\\\n\r]')
@@ -157,24 +146,33 @@ def digest(reading: Reading, names: List[str]) -> int:
 
 
 def check_lists(reading: Reading, lists: List[str], quiet: bool) -> int:
-    """Verify lists that `digest` has written."""
+    """Verify lists that `digest` has written, in any order. Reads each file that a list names once."""
     failed = 0
-    for entries in (entries_of(reading, it) for it in lists):
-        for name, group in itertools.groupby(entries, lambda it: it[1]):
-            found = dict(reading.digests_of(name))
-            for value, _, number in group:
-                holds = found.get(number) == value
-                failed += not holds
-                if not holds or not quiet:
-                    print(f'{name}:{number}: {"OK" if holds else "FAILED"}')
+    for entries in (list(entries_of(reading, it)) for it in lists):
+        listed: Dict[str, Set[int]] = {}
+        for _, name, number in entries:
+            listed.setdefault(name, set()).add(number)
+        found: Dict[str, Dict[int, bytes]] = {}
+        for value, name, number in entries:
+            if name not in found:
+                found[name] = {it: own for it, own in reading.digests_of(name) if it in listed[name]}
+            holds = found[name].get(number) == value
+            failed += not holds
+            if not holds or not quiet:
+                print(f'{name}:{number}: {"OK" if holds else "FAILED"}')
+        reading.is_empty &= not entries
     if failed:
         reading.progress.end()
         say(f'{failed} of the messages listed {"is" if failed == 1 else "are"} not there, or not as listed')
+    if reading.is_empty and not reading.status:
+        say('no list names a message')
+        return DIFFERS
     return reading.status or (DIFFERS if failed else SAME)
 
 
 def entries_of(reading: Reading, name: str) -> Iterator[Tuple[bytes, str, int]]:
-    """The lines of a list. Reports how many aren't as `digest` writes them."""
+    """The lines of a list, except for empty ones, which `duplicates` writes between its groups. Reports how many
+    aren't as `digest` writes them."""
     others: List[int] = []
     try:
         with open(os.dup(0) if name == '-' else name, encoding='utf-8', errors='surrogateescape', newline='\n') as file:
@@ -182,7 +180,7 @@ def entries_of(reading: Reading, name: str) -> Iterator[Tuple[bytes, str, int]]:
                 entry = read_line(line.rstrip('\n'))
                 if entry:
                     yield entry
-                else:
+                elif line != '\n':
                     others.append(number)
     except OSError as error:
         reading.trouble(name, error.strerror or error)
@@ -231,7 +229,17 @@ class Parser(argparse.ArgumentParser):
 
 
 def words_limit(text: str) -> int:
-    return 2**64 - 1 if text == 'none' else int(text)
+    try:
+        return 2**64 - 1 if text == 'none' else int(text)
+    except ValueError:
+        raise argparse.ArgumentTypeError(f"invalid value '{text}'") from None
+
+
+def nesting_limit(text: str) -> int:
+    try:
+        return int(text)
+    except ValueError:
+        raise argparse.ArgumentTypeError(f"invalid value '{text}'") from None
 
 
 def parser() -> Parser:
@@ -247,7 +255,7 @@ def parser() -> Parser:
     for name, about, files in known:
         command = commands.add_parser(name, help=about, description=about)
         command.add_argument('files', metavar='FILE', nargs=files)
-        command.add_argument('--nesting', type=int, default=LIMITS.nesting, metavar='N', help='the nesting limit (%(default)s)')
+        command.add_argument('--nesting', type=nesting_limit, default=LIMITS.nesting, metavar='N', help='the nesting limit (%(default)s)')
         command.add_argument('--words', type=words_limit, default=LIMITS.words, metavar='N', help='the traversal limit of each message, and the most words its frame may have (%(default)s), or `none`')
         command.add_argument('--flat', action='store_true', help='each FILE is the bare words of one message')
         if name == 'digest':
@@ -271,6 +279,9 @@ def run(given: Any) -> int:
 
 def main(arguments: List[str]) -> int:
     given = parser().parse_args(arguments)
+    if not sys.stdout:
+        say('standard output: closed')
+        return TROUBLE
     # names of files are bytes
     if isinstance(sys.stdout, io.TextIOWrapper):
         sys.stdout.reconfigure(errors='surrogateescape')

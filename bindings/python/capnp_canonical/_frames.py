@@ -11,6 +11,8 @@ if TYPE_CHECKING:
     from _typeshed import ReadableBuffer
 
 _PIECE = 1 << 16
+# The most bytes requested at a time: the bytes that a table announces may never come.
+_MOST = 1 << 22
 
 
 class _Readable(Protocol):
@@ -88,7 +90,7 @@ class _Pieces:
             del self._held[:self._start]
             self._start = 0
         while self.size() < size:
-            piece = self._read(max(_PIECE, size - self.size()))
+            piece = self._read(min(max(_PIECE, size - self.size()), _MOST))
             if piece is None:
                 raise BlockingIOError('the file has no bytes now, and does not wait for them')
             if isinstance(piece, str):
@@ -129,4 +131,5 @@ def _whole_frame(pieces: _Pieces, words: int) -> int:
             if error.number != Refusal.TRUNCATED:
                 raise
             if not pieces.grow(pieces.wanted()):
-                raise
+                # the last bytes may tell more than that they are too few
+                return pieces.measured(words)

@@ -34,6 +34,8 @@ class _View(ctypes.Structure):
     ]
 
 
+if not hasattr(ctypes, 'pythonapi'):
+    raise ImportError('capnp_canonical needs CPython: this Python has no ctypes.pythonapi')
 _SIMPLE, _WRITABLE = 0, 1
 _get_buffer: Callable[..., int] = ctypes.pythonapi.PyObject_GetBuffer
 ctypes.pythonapi.PyObject_GetBuffer.argtypes = [ctypes.py_object, ctypes.POINTER(_View), ctypes.c_int]
