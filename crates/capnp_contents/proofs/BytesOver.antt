@@ -26,7 +26,7 @@ use Rattle.capnp_making.proofs.Filling.{unchanged}
 use Rattle.capnp_making.proofs.PlacedLists.{from_zeros}
 use Rattle.capnp_making.proofs.Written.{flat_written}
 
--- each of some bytes
+-- Each of some bytes is below 256.
 each_small : (ws : List ℕ) → AreBelow 256 ws → (i : ℕ) → get_or ws i 0 < 256
 each_small [] h i = omega arith
 each_small (w ∷ ws) h zero = h.0
@@ -40,7 +40,7 @@ below_both : (xs ys : List ℕ) → AreBelow 256 xs → AreBelow 256 ys → AreB
 below_both [] ys h k = k
 below_both (x ∷ xs) ys h k = (h.0, below_both xs ys h.1 k)
 
--- the elements of a list of bytes that is stored
+-- The elements of a stored list of bytes are below 256.
 elements_below : (S : Segments) (s p : ℕ) (ns : List ℕ) → IsStored S s p (Flat 2 ns) → AreBelow 256 ns
 elements_below S s p ns x =
     let m = x.means in
@@ -49,7 +49,7 @@ elements_below S s p ns x =
     go : (n c : ℕ) → Means S n s p (Flat 2 ns) c → AreBelow 256 ns
     go n c (a, some, few, o, claim, is, g) = subst (AreBelow 256) (sym is) (digits_below 256 (length ns) (from_digits (2 ^ 64) (words_at S a.segment a.start (words_for 2 (length ns)))) (omega arith))
 
--- the bytes of the words in which elements stand: these, and zeros behind them
+-- The bytes of the words that hold the elements ns: ns, and zeros after them.
 bytes_of_packed : (k : ℕ) (ns old : List ℕ) → AreBelow 256 ns → AreBelow 256 old → length old ≡ 8 * k → words_for 2 (length ns) ≡ k → words_of old ≡ packed 2 ns → old ≡ ns ++ words_of_zero (8 * k - length ns)
 bytes_of_packed k ns old small below long wide shows =
     let z : List ℕ = words_of_zero (8 * k - length ns) in
@@ -63,7 +63,7 @@ bytes_of_packed k ns old small below long wide shows =
     sym (words_are_bytes k old long) ∙ ap (from_digits (2 ^ 64)) (shows ∙ ap (λ j. digits (2 ^ 64) j (from_digits 256 ns)) wide) ∙ from_digits-digits (2 ^ 64) k (from_digits 256 ns) (omega arith) fits ∙ sym number in
     sym (digits_again 256 (8 * k) old below long) ∙ ap (digits 256 (8 * k)) same ∙ digits_again 256 (8 * k) all bytes count
 
--- bytes over the first ones of a list of bytes are a list of bytes
+-- Bytes xs over the first ones of the list of bytes ns: the words hold xs and the rest of ns.
 packed_front : (bs : List ℕ) (a k : ℕ) (ns xs : List ℕ) → length xs ≤ length ns → words_for 2 (length ns) ≡ k → 8 * (a + k) ≤ length bs → AreBelow 256 xs → AreBelow 256 bs → AreBelow 256 ns → take k (drop a (words_of bs)) ≡ packed 2 ns →
     (length (words_of (over_front bs a k xs)) ≡ k) × (words_of (over_front bs a k xs) ≡ packed 2 (xs ++ drop (length xs) ns))
 packed_front bs a k ns xs few wide room small below elements shown =
@@ -82,7 +82,7 @@ packed_front bs a k ns xs few wide room small below elements shown =
     let all : length ms ≡ length ns = omega (arith, few, length-append xs (drop (length xs) ns), length-drop (length xs) ns) in
     (count, sym (ap₂ (λ j y. digits (2 ^ 64) j y) (ap (words_for 2) all ∙ wide) number ∙ digits_again (2 ^ 64) k (words_of new) words_small count))
 
--- some bytes over the first ones of a list of bytes
+-- Some bytes xs are written over the first ones of the list of bytes ns.
 some_over : (S R : Segments) (s p : ℕ) (ns : List ℕ) (h : Start) (xs : List ℕ) (w : WritesBytes S R h xs) → AreBelow 256 xs → AreBelow 256 (slice_index_or w.old h.segment []) → IsStored S s p (Flat 2 ns) → LeadsToStart S s p h → 0 < length xs → length xs ≤ length ns →
     IsReplaced S R s p (Flat 2 ns) (Flat 2 (xs ++ drop (length xs) ns))
 some_over S R s p ns h xs w small below x lead some few =
@@ -99,7 +99,7 @@ some_over S R s p ns h xs w small below x lead some few =
     let done = words_written S R u a k (words_of (over_front bs a k xs)) list.0 claim whole in
     flat_written S R s p 2 ns ms done.long x same_length (below_both xs (drop (length xs) ns) small (below_drop 256 (length xs) ns elements)) done.but (done.here ∙ list.1)
 
--- no bytes written
+-- If no bytes are written, the segment stays the same.
 same_set : (B : List (List ℕ)) (id : ℕ) → slice_set B id (slice_index_or B id []) ≡ B
 same_set [] id = refl
 same_set (b ∷ B) zero = refl
@@ -113,7 +113,7 @@ no_bytes : (ns ws : List ℕ) → length ws ≡ 0 → Flat 2 ns ≡ Flat 2 (ws +
 no_bytes ns [] e = refl
 no_bytes ns (w ∷ ws) e = absurd (omega arith)
 
--- bytes written at the start of a list of bytes
+-- Bytes ws are written at the start of a list of bytes.
 pub overwrites : (S R : Segments) (B C : List (List ℕ)) (b : ExistingBytes) (ws : List ℕ) → S ≡ message B → R ≡ message C → C ≡ segments_with B b ws → ((i : ℕ) → get_or (slice_index_or B b.segment []) i 0 < 256) → (length ws ≡ b.length) × AreBelow 256 ws → Overwrites S R b ws
 overwrites S R B C b ws e f g below are s p ns stored is_segment is_start few =
     let h : Start = record { segment = b.segment; at = b.start } in

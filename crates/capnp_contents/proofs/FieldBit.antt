@@ -1,4 +1,4 @@
--- One bit of a byte written: its word has the bit in place of the one that stood there.
+-- One bit of a byte is written: its word has the new bit in place of the old one.
 use Rattle.std.proofs.Common.{◌≡◌, ℕ, zero, suc, ◌+◌, ◌*◌, ◌/◌, ◌%◌, ◌^◌, ◌<◌, ◌≤◌, List, [], ◌∷◌, ◌++◌, length, get_or, set, take, drop, Some, slice_get, refl, sym, ap, ◌∙◌, arith, drop-drop, get_or-drop}
 use Rattle.std.proofs.lemmas.List.{set_split, get_or_append_left}
 use borrow.Rule.Slice.PartMut.{put_mid}
@@ -23,7 +23,7 @@ byte_of_digits k ds h l =
     ∙ sym (first_digit (drop k ds) (below_drop 256 k ds h))
     ∙ ap (λ x. x % 256) (sym (cut 256 k ds h l).others ∙ ap (λ p. from_digits 256 ds / p) (pow_pow 8 k))
 
--- a byte of a word
+-- Byte k of word i.
 pub byte_of_word : (i k : ℕ) (bs : List ℕ) → ((j : ℕ) → get_or bs j 0 < 256) → k < 8 → i < length (words_of bs) → get_or bs (8 * i + k) 0 ≡ get_or (words_of bs) i 0 / 2 ^ (8 * k) % 2 ^ 8
 byte_of_word zero k (a ∷ b ∷ c ∷ d ∷ e ∷ f ∷ g ∷ h ∷ rest) small m l =
     let xs : List ℕ = a ∷ b ∷ c ∷ d ∷ e ∷ f ∷ g ∷ h ∷ [] in
@@ -40,7 +40,7 @@ pub set_is_put : (bs : List ℕ) (b y : ℕ) → b < length bs → set bs b y �
 set_is_put bs b y l =
     set_split bs b y l ∙ ap (λ zs. take b bs ++ (y ∷ zs)) (ap (λ n. drop n bs) (let q : suc b ≡ b + 1 = omega arith in q) ∙ sym (drop-drop 1 b bs))
 
--- the byte y over byte k of word i
+-- The byte y is written over byte k of word i.
 byte_put : (i k y : ℕ) (bs : List ℕ) → ((j : ℕ) → get_or bs j 0 < 256) → k < 8 → i < length (words_of bs) → words_of (set bs (8 * i + k) y) ≡ set (words_of bs) i (with_bits (get_or (words_of bs) i 0) (8 * k) 8 y)
 byte_put i k y bs small m l =
     ap words_of (set_is_put bs (8 * i + k) y (omega (arith, words bs)))
@@ -63,7 +63,7 @@ bit_put bit v y bs small m l e =
     ∙ ap (set (words_of bs) i) (within_part x (8 * k) 8 p 1 v (omega arith) (omega arith))
     ∙ ap (λ o. set (words_of bs) i (with_bits x o 1 v)) (let q : 8 * k + p ≡ bit % 64 = omega arith in q)
 
--- a message in which the byte of a bit is another
+-- The message after the byte that holds a bit was replaced: only that bit is different.
 pub bit_written : (B : List (List ℕ)) (s bit v y : ℕ) (bs : List ℕ) → slice_get B s ≡ Some bs → ((j : ℕ) → get_or bs j 0 < 256) → v < 2 → bit < 64 * (length bs / 8) → y ≡ with_bits (get_or bs (bit / 8) 0) (bit % 8) 1 v →
     message (set B s (set bs (bit / 8) y)) ≡ with_field (message B) s bit 1 v
 bit_written B s bit v y bs e small m l is =

@@ -20,7 +20,8 @@ mod_same y x k h = same_from_bits (y % 2 ^ k) (x % 2 ^ k) (λ i. elim (cases_lt 
 div_same : (y x k : ℕ) → ((i : ℕ) → bit_at y (k + i) ≡ bit_at x (k + i)) → y / 2 ^ k ≡ x / 2 ^ k
 div_same y x k h = same_from_bits (y / 2 ^ k) (x / 2 ^ k) (λ i. bit_at-div y k i ∙ h i ∙ sym (bit_at-div x k i))
 
--- bits replaced below 2 ^ k leave what is above, and the others what is below
+-- Bits replaced below 2 ^ k leave the number above unchanged, and bits replaced above leave the
+-- number below.
 pub replaced_below : (x o w v k : ℕ) → v < 2 ^ w → o + w ≤ k → with_bits x o w v / 2 ^ k ≡ x / 2 ^ k
 replaced_below x o w v k l m = div_same (with_bits x o w v) x k (λ i.
     let e : k + i ≡ o + w + (k + i - (o + w)) = omega arith in
@@ -29,7 +30,7 @@ replaced_below x o w v k l m = div_same (with_bits x o w v) x k (λ i.
 replaced_above : (x o w v k : ℕ) → v < 2 ^ w → k ≤ o → with_bits x o w v % 2 ^ k ≡ x % 2 ^ k
 replaced_above x o w v k l m = mod_same (with_bits x o w v) x k (λ i h. (has_bits x o w v l).before i (omega arith))
 
--- bits replaced in the lowest k, and in the others
+-- Bits replaced within the lowest k bits of x, and within the others.
 in_lowest : (x o w v k : ℕ) → v < 2 ^ w → o + w ≤ k → with_bits x o w v % 2 ^ k ≡ with_bits (x % 2 ^ k) o w v
 in_lowest x o w v k l m =
     let y : ℕ = with_bits x o w v in
@@ -53,7 +54,7 @@ in_others x k o w v l =
       behind = λ i. (let e : k + (o + w + i) ≡ k + o + w + i = omega arith in bit_at-div y k (o + w + i) ∙ ap (bit_at y) e ∙ h.behind i ∙ ap (bit_at x) (sym e) ∙ sym (bit_at-div x k (o + w + i)));
     })
 
--- the words of a number
+-- Bits replaced in a number replace the same bits of its word q.
 words_with_bits : (q n x o w v : ℕ) → q < n → o + w ≤ 64 → v < 2 ^ w → digits (2 ^ 64) n (with_bits x (64 * q + o) w v) ≡ set (digits (2 ^ 64) n x) q (with_bits (get_or (digits (2 ^ 64) n x) q 0) o w v)
 words_with_bits zero (suc n) x o w v l m s =
     ap (λ b. digits (2 ^ 64) (suc n) (with_bits x b w v)) (let e : 64 * 0 + o ≡ o = omega arith in e)
@@ -68,7 +69,7 @@ pub field_in_words : (n x b w v : ℕ) → b / 64 < n → b % 64 + w ≤ 64 → 
 field_in_words n x b w v l m s =
     ap (λ c. digits (2 ^ 64) n (with_bits x c w v)) (let e : b ≡ 64 * (b / 64) + b % 64 = omega arith in e) ∙ words_with_bits (b / 64) n x (b % 64) w v l m s
 
--- a digit of a number
+-- A digit of a number is replaced: the first one, and a later one.
 first_digit_set : (w n f v : ℕ) → n < 2 ^ w → v < 2 ^ w → v + 2 ^ w * f ≡ with_bits (n + 2 ^ w * f) 0 w v
 first_digit_set w n f v s t = is_with_bits (n + 2 ^ w * f) (v + 2 ^ w * f) 0 w v t (record {
   before = λ i h. absurd (omega arith);
@@ -95,7 +96,7 @@ from_digits-set w (suc i) v (n ∷ ns) h l s =
     ∙ later_digit_set w n (from_digits (2 ^ w) ns) (i * w) w v h.0 s
     ∙ ap (λ b. with_bits (from_digits (2 ^ w) (n ∷ ns)) b w v) (let e : w + i * w ≡ suc i * w = omega arith in e)
 
--- some lowest bits of a digit
+-- The lowest u bits of a digit of a number are replaced.
 first_digit_part : (w n f u v : ℕ) → n < 2 ^ w → v < 2 ^ u → u ≤ w → with_bits n 0 u v + 2 ^ w * f ≡ with_bits (n + 2 ^ w * f) 0 u v
 first_digit_part w n f u v s t l =
     let x : ℕ = n + 2 ^ w * f in

@@ -1,4 +1,4 @@
--- Bits read: from bytes, and from words in which these or others were written.
+-- Bits read: from bytes, and from words in which these bits or others were written.
 use Rattle.std.proofs.Common.{◌≡◌, ◌⊎◌, inl, inr, ℕ, zero, suc, ◌+◌, ◌*◌, ◌/◌, ◌%◌, ◌^◌, ◌<◌, ◌≤◌, List, [], ◌∷◌, ◌++◌, length, get_or, set, take, drop, bit_and, refl, sym, ap, ap₂, ◌∙◌, arith, length-drop}
 use Rattle.std.proofs.lemmas.Bool.{cases_eq}
 use Rattle.std.proofs.lemmas.List.{take-append-le, drop-append-le, get_or-set_same, get_or-set_other}
@@ -22,7 +22,7 @@ part_of_digits k n ds h l =
     ∙ ap (λ p. from_digits 256 (drop k ds) % p) (pow_pow 8 n)
     ∙ ap (λ x. x % 2 ^ (8 * n)) (sym (cut 256 k ds h (omega arith)).others ∙ ap (λ p. from_digits 256 ds / p) (pow_pow 8 k))
 
--- n bytes from byte k of word i on
+-- n bytes from byte k of word i on, in one word.
 part_of_word : (i k n : ℕ) (bs : List ℕ) → ((j : ℕ) → get_or bs j 0 < 256) → k + n ≤ 8 → i < length (words_of bs) → from_digits 256 (take n (drop (8 * i + k) bs)) ≡ get_or (words_of bs) i 0 / 2 ^ (8 * k) % 2 ^ (8 * n)
 part_of_word zero k n (a ∷ b ∷ c ∷ d ∷ e ∷ f ∷ g ∷ h ∷ rest) small m l =
     let xs : List ℕ = a ∷ b ∷ c ∷ d ∷ e ∷ f ∷ g ∷ h ∷ [] in
@@ -36,7 +36,7 @@ part_of_word (suc i) k n (a ∷ b ∷ c ∷ d ∷ e ∷ f ∷ g ∷ h ∷ rest) 
     ∙ part_of_word i k n rest (λ j. small (suc (suc (suc (suc (suc (suc (suc (suc j))))))))) m (omega arith)
 part_of_word i k n _ small m l = absurd (omega arith)
 
--- n bytes from any byte on, in the form that code has it
+-- n bytes from any byte on, in the form that the code has.
 pub bytes_read : (b n m : ℕ) (bs : List ℕ) → m ≡ n → ((j : ℕ) → get_or bs j 0 < 256) → b % 8 + n ≤ 8 → b / 8 < length (words_of bs) → from_digits 256 (take m (drop b bs)) ≡ field_in (words_of bs) (8 * b) (8 * n)
 bytes_read b n m bs e small fits l =
     ap₂ (λ j a. from_digits 256 (take j (drop a bs))) e (let q : b ≡ 8 * (b / 8) + b % 8 = omega arith in q)
@@ -56,7 +56,7 @@ bit_read bit bs small l =
     ∙ bit_at-div x (8 * k) p
     ∙ ap (bit_at x) (let q : 8 * k + p ≡ bit % 64 = omega arith in q)
 
--- bits of a number of which some are replaced: these, and others
+-- Bits read of a number after some were replaced: those that were replaced, and others.
 replaced_part : (x o w v : ℕ) → v < 2 ^ w → with_bits x o w v / 2 ^ o % 2 ^ w ≡ v
 replaced_part x o w v l =
     let rest : ℕ = x / 2 ^ (o + w) in

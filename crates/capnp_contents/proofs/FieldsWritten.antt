@@ -1,4 +1,5 @@
--- Data words, numbers and bits written in their places: the value is replaced by the one that holds them.
+-- Data words, numbers and bits written in their places: the value is replaced by the one that holds
+-- them.
 use Rattle.std.proofs.Common.{◌≡◌, ℕ, zero, suc, pred, ◌+◌, ◌*◌, ◌/◌, ◌%◌, ◌^◌, ◌<◌, ◌≤◌, List, [], ◌∷◌, length, get_or, set, take, drop, sym, ap, ap₂, ◌∙◌, subst, arith}
 use Rattle.std.proofs.lemmas.Bool.Decides.{nat_tests}
 use Rattle.std.proofs.lemmas.List.{length-set, drop-set-add, get_or-take, get_or-drop}
@@ -21,7 +22,7 @@ use Rattle.capnp_making.proofs.MadeWords.{IsPut, word_put}
 use Rattle.capnp_making.proofs.Written.{SameLengths, SameBut, with_data, data_written, flat_written, element_words, element_data_written}
 use Rattle.capnp_making.proofs.Zeros.{there, segment_here}
 
--- what one word written leaves
+-- Writing one word leaves the lengths of all segments.
 put_lengths : {S R : Segments} {s p x : ℕ} → IsPut S R s p x → SameLengths S R
 put_lengths w = record { segments = w.segments; words = w.words }
 
@@ -42,7 +43,7 @@ put_has_words : (S R : Segments) (s p j x : ℕ) (ws : List ℕ) → R ≡ with_
 put_has_words S R s p j x ws e l m h =
     ap (words_at R s p) (length-set ws j x) ∙ put_words S R s p j (length ws) x e l m ∙ ap (λ xs. set xs j x) h
 
--- a data word of a struct
+-- Data word j of a struct is written.
 pub data_word_written : (S R : Segments) (s p : ℕ) (ws : List ℕ) (ts : Trees) (j x : ℕ) → IsStored S s p (Struct ws ts) → j < length ws → R ≡ with_word S (target S s p).segment ((target S s p).start + j) x →
     IsReplaced S R s p (Struct ws ts) (Struct (set ws j x) ts)
 data_word_written S R s p ws ts j x a l e =
@@ -59,7 +60,7 @@ data_word_written S R s p ws ts j x a l e =
         (subst (λ (t : Target). SameBut S R (object_of t (length ws))) (sym to_b) (put_same_but S R (object_of b (length ws)) (b.start + j) x (omega arith) (omega (arith, l)) w))
         (subst (λ (t : Target). HasWords R t.segment t.start (set ws j x)) (sym to_b) (put_has_words S R b.segment b.start j x ws made (there S b.segment (b.start + j) place) l words))
 
--- bits of a word of words that stand in a segment
+-- Writing bits in n words that are in a segment is writing one word.
 field_as_word : (S : Segments) (s p n b w v : ℕ) (ws : List ℕ) → words_at S s p n ≡ ws → b < 64 * n →
     with_field S s (64 * p + b) w v ≡ with_word S s (p + b / 64) (with_bits (get_or ws (b / 64) 0) (b % 64) w v)
 field_as_word S s p n b w v ws h l =
@@ -70,7 +71,7 @@ field_as_word S s p n b w v ws h l =
     sym (get_or-drop p (segment S s) j 0) ∙ sym (get_or-take n (drop p (segment S s)) j 0 (omega arith)) ∙ ap (λ xs. get_or xs j 0) h in
     ap₂ (λ i o. with_word S s i (with_bits (word_at S s i) o w v)) at low ∙ ap (λ y. with_word S s (p + j) (with_bits y (b % 64) w v)) here
 
--- bits of a struct's data, counted from its first word on
+-- Bits of a struct's data are written, counted from its first word on.
 pub data_field_written : (S R : Segments) (s p : ℕ) (ws : List ℕ) (ts : Trees) (b w v : ℕ) → IsStored S s p (Struct ws ts) → b < 64 * length ws → R ≡ with_field S (target S s p).segment (64 * (target S s p).start + b) w v →
     IsReplaced S R s p (Struct ws ts) (Struct (put_field ws b w v) ts)
 data_field_written S R s p ws ts b w v a l e =
@@ -81,7 +82,7 @@ data_field_written S R s p ws ts b w v a l e =
     words_there : (n c : ℕ) → Means S n s p (Struct ws ts) c → HasWords S (target S s p).segment (target S s p).start ws
     words_there n c (b, k, some, o, claim, words, all, g) = subst (λ (t : Target). HasWords S t.segment t.start ws) (sym (ap target_in o.leads_to.1)) words
 
--- the data words of an element
+-- The data words of element i of a list of structs.
 pub element_has_words : (S : Segments) (n s p d q : ℕ) (es : Elements) (c i : ℕ) (ws : List ℕ) (ts : Trees) → MeansElements S n s p d q es c → i < element_count es → struct_at es i ≡ Struct ws ts → (length ws ≡ d) × HasWords S s (p + i * (d + q)) ws
 element_has_words S n s p d q no_elements c i ws ts m l e = absurd (omega arith)
 element_has_words S n s p d q (element vs us es) c zero ws ts (a, b, long, number, words, all, rest, g) l e =
@@ -93,7 +94,7 @@ element_has_words S n s p d q (element vs us es) c (suc i) ws ts (a, b, long, nu
 row_within : (i n d q m : ℕ) → i < n → n * (d + q) ≤ m → i * (d + q) + d ≤ m
 row_within i n d q m l f = grind arith
 
--- a data word of an element of a list of structs
+-- Data word j of element i of a list of structs is written.
 pub element_word_written : (S R : Segments) (s p d q : ℕ) (es : Elements) (i : ℕ) (ws : List ℕ) (ts : Trees) (j x : ℕ) → IsStored S s p (Structs d q es) → i < element_count es → struct_at es i ≡ Struct ws ts → j < length ws →
     R ≡ with_word S (target S s p).segment ((target S s p).start + 1 + i * (d + q) + j) x → IsReplaced S R s p (Structs d q es) (Structs d q (put_struct es i (Struct (set ws j x) ts)))
 element_word_written S R s p d q es i ws ts j x a l is f e =
@@ -113,7 +114,7 @@ element_word_written S R s p d q es i ws ts j x a l is f e =
         (subst (λ (t : Target). SameBut S R (element_words t d q i)) (sym to_b) (put_same_but S R (element_words b d q i) (first + j) x (omega arith) (omega (arith, f, words.0)) w))
         (subst (λ (t : Target). HasWords R t.segment (t.start + 1 + i * (d + q)) (set ws j x)) (sym to_b) (put_has_words S R b.segment first j x ws made (there S b.segment (first + j) place) f words.1)))
 
--- bits of an element's data, counted from the element's first word on
+-- Bits of element i's data are written, counted from the element's first word on.
 pub element_field_written : (S R : Segments) (s p d q : ℕ) (es : Elements) (i : ℕ) (ws : List ℕ) (ts : Trees) (b w v : ℕ) → IsStored S s p (Structs d q es) → i < element_count es → struct_at es i ≡ Struct ws ts → b < 64 * length ws →
     R ≡ with_field S (target S s p).segment (64 * ((target S s p).start + 1 + i * (d + q)) + b) w v → IsReplaced S R s p (Structs d q es) (Structs d q (put_struct es i (Struct (put_field ws b w v) ts)))
 element_field_written S R s p d q es i ws ts b w v a l is f e =
@@ -125,7 +126,7 @@ element_field_written S R s p d q es i ws ts b w v a l is f e =
     words_there n c (b, m, k, some, o, claim, tag, fits, all, g) =
         subst (λ (t : Target). HasWords S t.segment (t.start + 1 + i * (d + q)) ws) (sym (ap target_in o.leads_to.1)) (element_has_words S (pred n) b.segment (b.start + 1) d q es k i ws ts all l is).1
 
--- where an element of a list of numbers or bits stands
+-- Element i of a list of n numbers or bits is inside one word, and inside the words of the list.
 record StandsInWord (size i n : ℕ) : Type 0 where
   alone : i * element_bits size % 64 + element_bits size ≤ 64
   inside : i * element_bits size < 64 * words_for size n
@@ -157,7 +158,7 @@ packed-part size ns i u v h l m small at =
     ap₂ (λ n x. digits (2 ^ 64) (words_for size n) x) (length-set ns i (with_bits (get_or ns i 0) 0 u v)) (from_digits-part w i u v ns h l m small)
     ∙ field_in_words (words_for size (length ns)) (from_digits (2 ^ w) ns) (i * w) u v (omega (arith, at.inside)) (omega (arith, at.alone)) small
 
--- the elements of a list that is stored have no more bits than they are wide
+-- Each element of a stored list has no more bits than its width.
 flat_below : (S : Segments) (s p size : ℕ) (ns : List ℕ) → IsStored S s p (Flat size ns) → (size ≤ 5) × AreBelow (2 ^ element_bits size) ns
 flat_below S s p size ns x =
     let m = x.means in
@@ -168,7 +169,7 @@ flat_below S s p size ns x =
         let w : ℕ = element_bits size in
         (few, subst (AreBelow (2 ^ w)) (sym is) (digits_below (2 ^ w) (length ns) (from_digits (2 ^ 64) (words_at S a.segment a.start (words_for size (length ns)))) (pow_pos w)))
 
--- bits of the words of a list of numbers or bits, which has other elements then
+-- Bits are written in the words of a list of numbers or bits, which has the elements ms afterwards.
 flat_bits_written : (S R : Segments) (s p size : ℕ) (ns ms : List ℕ) (b u v : ℕ) → IsStored S s p (Flat size ns) → b < 64 * words_for size (length ns) → length ms ≡ length ns → AreBelow (2 ^ element_bits size) ms →
     packed size ms ≡ put_field (packed size ns) b u v → R ≡ with_field S (target S s p).segment (64 * (target S s p).start + b) u v → IsReplaced S R s p (Flat size ns) (Flat size ms)
 flat_bits_written S R s p size ns ms b u v x inside long below same e =
@@ -193,7 +194,7 @@ flat_bits_written S R s p size ns ms b u v x inside long below same e =
         (subst (λ (t : Target). SameBut S R (object_of t k)) (sym to_a) (put_same_but S R (object_of a k) (a.start + j) y (omega arith) (omega (arith, within)) put))
         (subst (λ (t : Target). words_at R t.segment t.start k ≡ packed size ms) (sym to_a) there_now)
 
--- an element of a list of numbers or bits
+-- Element i of a list of numbers or bits is written.
 pub flat_element_written : (S R : Segments) (s p size : ℕ) (ns : List ℕ) (i v : ℕ) → IsStored S s p (Flat size ns) → 0 < size → i < length ns → v < 2 ^ element_bits size →
     R ≡ with_field S (target S s p).segment (64 * (target S s p).start + i * element_bits size) (element_bits size) v → IsReplaced S R s p (Flat size ns) (Flat size (set ns i v))
 flat_element_written S R s p size ns i v x wide l small e =
@@ -201,7 +202,7 @@ flat_element_written S R s p size ns i v x wide l small e =
     let at = stands_in_word size i (length ns) wide few l in
     flat_bits_written S R s p size ns (set ns i v) (i * element_bits size) (element_bits size) v x at.inside (length-set ns i v) (below_set (2 ^ element_bits size) ns i v below small) (packed-set size ns i v below l small at) e
 
--- the lowest bits of an element of a list of numbers or bits
+-- The lowest u bits of element i of a list of numbers or bits are written.
 pub flat_part_written : (S R : Segments) (s p size : ℕ) (ns : List ℕ) (i u v : ℕ) → IsStored S s p (Flat size ns) → 0 < size → i < length ns → u ≤ element_bits size → v < 2 ^ u →
     R ≡ with_field S (target S s p).segment (64 * (target S s p).start + i * element_bits size) u v → IsReplaced S R s p (Flat size ns) (Flat size (set ns i (with_bits (get_or ns i 0) 0 u v)))
 flat_part_written S R s p size ns i u v x wide l part small e =

@@ -20,23 +20,23 @@ got [] id l = absurd (omega arith)
 got (b ∷ B) zero l = refl
 got (b ∷ B) (suc id) l = got B id (omega arith)
 
--- the bytes of a segment that is there
+-- A segment that exists has its bytes.
 pub there_got : (S : Segments) (B : List (List ℕ)) (id : ℕ) → S ≡ message B → id < length S → slice_get B id ≡ Some (slice_index_or B id [])
 there_got S B id e l = got B id (omega (arith, l, ap length e))
 
--- bytes whose words lie in a segment lie among its bytes
+-- If the words of b are inside their segment, its bytes are among those of that segment.
 pub inside_bytes : (S : Segments) (B : List (List ℕ)) (b : ExistingBytes) → S ≡ message B → AreInside S b → 8 * b.start + b.length ≤ length (slice_index_or B b.segment [])
 inside_bytes S B b e inside =
     let bs : List ℕ = slice_index_or B b.segment [] in
     omega (arith, inside, ap (λ T. length (segment T b.segment)) e, ap length (segment_bytes B b.segment), words bs)
 
--- and so many there are
+-- Then there are `b.length` of them.
 pub count_bytes : (S : Segments) (B : List (List ℕ)) (b : ExistingBytes) → S ≡ message B → AreInside S b → length (bytes_there B b) ≡ b.length
 count_bytes S B b e inside =
     let bs : List ℕ = slice_index_or B b.segment [] in
     omega (arith, inside_bytes S B b e inside, length-take b.length (drop (8 * b.start) bs), length-drop (8 * b.start) bs)
 
--- bytes whose number is zero, and the first of these
+-- If the number of bytes is zero, they are all zero; and the first ones of them are.
 all_zero : (xs : List ℕ) → from_digits 256 xs ≡ 0 → xs ≡ words_of_zero (length xs)
 all_zero [] e = refl
 all_zero (x ∷ xs) e = ap₂ (λ (y : ℕ) (ys : List ℕ). y ∷ ys) (let h : x ≡ 0 = omega (arith, e) in h) (all_zero xs (omega (arith, e)))
@@ -47,7 +47,7 @@ zero_front (suc n) zero xs l e = absurd (omega arith)
 zero_front (suc n) (suc m) [] l e = refl
 zero_front (suc n) (suc m) (x ∷ xs) l e = let rest : from_digits 256 (take n xs) ≡ 0 = zero_front n m xs (omega arith) (omega (arith, e)) in omega (arith, e, rest)
 
--- the first bytes of a list that was made of zeros
+-- The first bytes of a list that was made of n zero bytes.
 pub made_zero : (Q S : Segments) (B : List (List ℕ)) (s p n : ℕ) (t : Tree) (b : ExistingBytes) → S ≡ message B → IsReplaced Q S s p t (Flat 2 (words_of_zero n)) →
     b.segment ≡ (target S s p).segment → b.start ≡ (target S s p).start → AreInside S (record b { length = n }) → b.length ≤ n → bytes_there B b ≡ words_of_zero (length (bytes_there B b))
 made_zero Q S B s p n t b e made is_segment is_start inside few =

@@ -16,12 +16,12 @@ ends_at : (m : ℕ) (ns : List ℕ) → length ns ≡ suc m → ends_in_zero ns 
 ends_at m [] e = absurd (omega arith)
 ends_at m (n ∷ ns) e = ap (λ k. nat_eq (get_or (n ∷ ns) k 0) 0) (let f : length ns ≡ m = omega arith in f)
 
--- the first digits of a number are those of all its digits
+-- The first n digits of a number are the first of all its digits.
 digit_of : (base n m : ℕ) (ds : List ℕ) → AreBelow base ds → m < n → n ≤ length ds → get_or (digits base n (from_digits base ds)) m 0 ≡ get_or ds m 0
 digit_of base n m ds below less long =
     digit_at base n (from_digits base ds) m less ∙ sym (digit_at base (length ds) (from_digits base ds) m (omega arith)) ∙ ap (λ xs. get_or xs m 0) (digits-from_digits base ds below)
 
--- of n bytes from a word on
+-- Whether the last of n bytes from word `start` on is zero.
 pub last_byte : (start n : ℕ) (bs : List ℕ) → ((i : ℕ) → get_or bs i 0 < 256) → 0 < n → start + words_for 2 n ≤ length (words_of bs) →
     nat_eq (get_or bs (8 * start + n - 1) 0) 0 ≡ ends_in_zero (bytes_in (words_of bs) start n)
 last_byte start n bs small some there =

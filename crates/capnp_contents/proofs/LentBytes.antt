@@ -1,4 +1,5 @@
--- A part of a slice of bytes is lent as a slice, and the whole slice follows it; and each of its bytes is one.
+-- Part of a slice of bytes is lent as a slice, and the whole slice follows it. Each of its bytes is
+-- below 256.
 use Rattle.std.proofs.Common.{◌≡◌, ℕ, ◌+◌, ◌*◌, ◌≤◌, List, [], ◌∷◌, ◌++◌, length, take, drop as drop_list, sym, ap, refl, ◌∙◌, arith, MutBor, length-drop}
 use lib.ListN.{take-append-drop, length-append}
 use seplogic.Ra.Ura.{Ura}
@@ -55,7 +56,7 @@ module _ {M : Type 1} {𝓤 : Ura M} (𝓛 : Logic 𝓤) (κ : Lft) (q : Share) 
   on : at o (mem u8).size (length front) ≡ a + o
   on = at_mul o (mem u8).size (length front) ∙ ap (λ (k : ℕ). k + o) (let e : length front * (mem u8).size ≡ length front = omega arith in e) ∙ ap (λ (k : ℕ). k + o) front_long
 
-  -- the part under a new name, the token, and what the slice ends as
+  -- The part under a new name, the token, and what the slice ends as.
   abbrev pub PartLent : GName → SProp 𝓤
   PartLent δ = sep 𝓤 (sem 𝓛 ((MutSlice (named 0) κ u8).own_val (bytes (a + o) δ part) (slice_val (b, a + o) (length part) ∷ []))) (sep 𝓤 (A.lft κ q) (sem 𝓛 (follows (Array u8 0) (Array u8 0) γ δ (overwritten xs a))))
 
@@ -90,7 +91,7 @@ module _ {M : Type 1} {𝓤 : Ura M} (𝓛 : Logic 𝓤) (κ : Lft) (q : Share) 
       use1 𝓛 (‵ (cells (mem u8) part b (a + o)) ⊛ ‵ (cells (mem u8) back b (at (a + o) (mem u8).size (length part)))) (cut_app 𝓛 (mem u8) part back b (a + o)) $ split ! $
       rewrite ! 1 (λ (k : ℕ). ‵ (cells (mem u8) back b (at (a + o) (mem u8).size k))) long refl $
       feq_i ! ℕ (length part) (length part) refl $ fjoin ! $
-      -- [the part; what is behind it; what is before it; the open borrow, in three entries]
+      -- [the part; what comes after it; what comes before it; the open borrow, in three entries]
       move ! (2 ∷ 1 ∷ []) $ join ! $ move ! (2 ∷ 3 ∷ 4 ∷ 1 ∷ 0 ∷ []) $ group ! 5 $
       use1 𝓛 (later (some (λ (δ : GName). ‵ (fobs δ ((coded_list u8.coded).code part)) ⊛ ‵ (fbor κ (Body (Arr (mem u8) (length part)) b (a + o) δ)) ⊛ ‵ (flft κ q) ⊛ ‵ (follows (Array u8 0) (Array u8 0) γ δ (overwritten xs a)))))
       (takes_part 𝓛 (Arr (mem u8) (length xs)) (Arr (mem u8) (length part)) (overwritten xs a) κ q b o b (a + o) γ Others put ((coded_list u8.coded).code xs) ((coded_list u8.coded).code xs) part) $ await ! tt $ pick ! (λ δ. split3 ! $

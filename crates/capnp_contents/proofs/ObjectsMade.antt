@@ -1,4 +1,4 @@
--- An object that is made where another value was, which becomes zero first.
+-- An object made in place of another value, which is zeroed first.
 use Rattle.std.proofs.Common.{◌≡◌, ℕ, Result, Ok, Err, OnOk, OnErr, IfOk, refl, sym, subst, arith}
 use Rattle.capnp_words.specs.declared.error.ErrorKind.{ErrorKind}
 use Rattle.capnp_format.specs.Segments.{Segments}
@@ -17,7 +17,7 @@ use Rattle.capnp_making.proofs.Placed.{zeroed_replaced}
 use Rattle.capnp_making.proofs.Replaced.{replaced_again}
 use Rattle.capnp_making.proofs.Taken.{leads_behind, stands_after, takes_after}
 
--- Words become zero, and then words are taken.
+-- Words are zeroed, and then n words are allocated.
 allocates_after : {A : Type 0} (result : Result A ErrorKind) (old mid new : View) (id at n : ℕ) → KeepsLimits old mid → IsPruned old.words mid.words → Allocates result (call_at id at mid new) n → Allocates result (call_at id at old new) n
 allocates_after (Ok x) old mid new id at n limits pruned made = record {
   fits = λ room. refl;
@@ -32,12 +32,12 @@ allocates_after (Err k) old mid new id at n limits pruned made = record {
   named = refused_after old mid new n k limits pruned made.named;
 }
 
--- An object that is made behind words that became zero starts where it would without them.
+-- An object made after some words were zeroed starts where it would start without that.
 pub starts_after_zeros : (result : Result Start ErrorKind) (old mid new : View) (id at n : ℕ) → KeepsLimits old mid → IsPruned old.words mid.words → IfOk result (ObjectStartsAt (call_at id at mid new) n) → IfOk result (ObjectStartsAt (call_at id at old new) n)
 starts_after_zeros (Ok h) old mid new id at n limits pruned start = record { leads = start.leads; inside = start.inside; behind = stands_after old mid id n h limits pruned start.behind }
 starts_after_zeros (Err k) old mid new id at n limits pruned start = tt
 
--- The old value becomes zero, and then the object is made in place of null.
+-- The old value is zeroed, and then the object is made in place of null.
 pub makes_after_zeros : (result : Result Start ErrorKind) (old mid new : View) (id at n : ℕ) (t : Tree) → ((u : Tree) → IsApart old.words id at u → IsZeroed old.words mid.words (extent old.words id at u)) → KeepsLimits old mid → IsPruned old.words mid.words →
     OnOk result (IsReplaced mid.words new.words id at Null t) → IfOk result (ObjectStartsAt (call_at id at mid new) n) → Allocates result (call_at id at mid new) n → OnErr result (new.words ≡ mid.words) → MakesObject result (call_at id at old new) t n
 makes_after_zeros (Ok h) old mid new id at n t zeroed limits pruned made start memory same = record {
@@ -57,7 +57,7 @@ makes_after_zeros (Err k) old mid new id at n t zeroed limits pruned made start 
   only = subst (IsPruned old.words) (sym same) pruned;
 }
 
--- And so it is given.
+-- The same, in the record that the call states of its result.
 pub gives_after_zeros : (result : Result Start ErrorKind) (old mid new : View) (id at n : ℕ) (t : Tree) → Zeroes old mid (IsApart old.words id at) (extent old.words id at) →
     OnOk result (IsReplaced mid.words new.words id at Null t) → IfOk result (ObjectStartsAt (call_at id at mid new) n) → Allocates result (call_at id at mid new) n → OnErr result (new.words ≡ mid.words) → GivesObject result (call_at id at old new) t n
 gives_after_zeros result old mid new id at n t z made start memory same = record {
@@ -66,7 +66,7 @@ gives_after_zeros result old mid new id at n t z made start memory same = record
   start = starts_after_zeros result old mid new id at n z.limits z.pruned start;
 }
 
--- What is made stays so, whatever the call gives for it; and so does a refusal.
+-- What a call makes doesn't depend on the value that it returns; and a refusal doesn't either.
 pub made_as : {A B : Type 0} (x : A) (y : B) (c : CallAt) (t : Tree) (n : ℕ) → MakesObject (Ok x) c t n → MakesObject (Ok y) c t n
 made_as x y c t n m = record {
   made = m.made;

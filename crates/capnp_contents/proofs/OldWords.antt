@@ -1,4 +1,4 @@
--- The words of a value that is replaced stay zero: the new one stands in others.
+-- The words of a replaced value stay zero: the new value is in other words.
 use Rattle.std.proofs.Common.{◌≡◌, ℕ, ◌+◌, ◌*◌, ◌<◌, ◌≤◌, List, [], ◌∷◌, inl, inr, length, ap, ◌∙◌, arith}
 use Rattle.std.proofs.lemmas.Bool.{cases_lt}
 use Rattle.capnp_format.specs.Segments.{Segments, segment, word_at}
@@ -13,11 +13,12 @@ use Rattle.capnp_making.specs.Zeroed.{IsApart, IsZeroed}
 use Rattle.capnp_contents.proofs.BytesWritten.{WritesBytes, written_beside}
 use Rattle.capnp_making.proofs.Extents.{times-first}
 
--- The words below a place that its value in S used are zero in R: of what the place has in R no word but one of zero stands there.
+-- The words of S that a value below (s, p) uses are zero in R. So if the place in R uses one of
+-- these words, that word is zero.
 abbrev pub ZeroesOld : Segments → Segments → ℕ → ℕ → Type 0
 ZeroesOld S R s p = (t : Tree) → IsStored S s p t → (v r : ℕ) → 0 < times (cover S s p t) v r → word_at R v r ≡ 0
 
--- what the place held becomes zero, and then another value is made there
+-- What the place holds is zeroed, and then another value is made there.
 pub old_zeroed : (S M R : Segments) (s p : ℕ) (u : Tree) → ((t : Tree) → IsApart S s p t → IsZeroed S M (extent S s p t)) → IsReplaced M R s p Null u → ZeroesOld S R s p
 old_zeroed S M R s p u zeroed made = λ t stored v r held.
     (let z = zeroed t (record { means = stored.means; apart = stored.apart }) in
@@ -26,14 +27,14 @@ old_zeroed S M R s p u zeroed made = λ t stored v r held.
     let beside : times (word_interval s p ∷ []) v r ≡ 0 = omega (arith, held, whole, stored.apart v r) in
     made.kept v r beside (omega (arith, stored.inside v r some, z.words v)) ∙ z.zero v r some)
 
--- where an object starts behind all that was there
+-- An object that is after all that was there starts at or after the old end of its segment.
 starts_behind : (old : View) (id n : ℕ) (h : Start) → 0 < n → StandsBehind old id n h → length (segment old.words h.segment) ≤ h.at
 starts_behind old id n h some x = elim (cases_lt (old.room id) (length (segment old.words id) + n)) [
   | inl full ↦ (let (next, start) = x.far full in omega (arith, start))
   | inr fits ↦ (let (there, start) = x.near some (omega (arith, fits)) in omega (arith, start, ap (λ v. length (segment old.words v)) there))
 ]
 
--- and then bytes are written in it
+-- Then bytes are written in the object: the old words stay zero.
 pub old_beside : (old : View) (M R : Segments) (id p n : ℕ) (h : Start) (xs : List ℕ) → ZeroesOld old.words M id p → StandsBehind old id n h → WritesBytes M R h xs → length xs ≤ 8 * n →
     h.at + n ≤ length (segment M h.segment) → ZeroesOld old.words R id p
 old_beside old M R id p n h xs zero behind writes enough claim = λ t stored v r held.

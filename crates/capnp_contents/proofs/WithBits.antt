@@ -1,4 +1,4 @@
--- The bits of a number of which some are replaced.
+-- The bits of a number after some of them were replaced.
 use Rattle.std.proofs.Common.{◌≡◌, ◌≢◌, inl, inr, ℕ, ◌+◌, ◌-◌, ◌*◌, ◌/◌, ◌%◌, ◌^◌, ◌<◌, ◌≤◌, bit_and, bit_or, w8, sym, ap, ◌∙◌, subst, arith}
 use Rattle.std.proofs.lemmas.Bool.{cases_lt}
 use Rattle.std.proofs.lemmas.Nat.{shr-shr, shr_split, mod_below, pow_pos, and_le_l}
@@ -15,7 +15,7 @@ bit_at-mod_past x o i l = bit_at_above (x % 2 ^ o) o i (mod_below x (2 ^ o) (pow
 pub bit_at-div : (x o i : ℕ) → bit_at (x / 2 ^ o) i ≡ bit_at x (o + i)
 bit_at-div x o i = ap (λ z. z % 2) (shr-shr x o i)
 
--- y is x with the w bits from bit o on as those of v
+-- y is x, with the w bits from bit o on replaced by those of v.
 pub record HasBits (x y o w v : ℕ) : Type 0 where
   pub before : (i : ℕ) → i < o → bit_at y i ≡ bit_at x i
   pub inside : (i : ℕ) → i < w → bit_at y (o + i) ≡ bit_at v i
@@ -40,7 +40,7 @@ has_bits x o w v l =
       behind = λ i. ap (bit_at (with_bits x o w v)) (let q : o + w + i ≡ o + (w + i) = omega arith in q) ∙ cat_high (v + 2 ^ w * rest) o (x % 2 ^ o) (w + i) lowest ∙ cat_high rest w v i l ∙ bit_at-div x (o + w) i;
     }
 
--- there is one such number
+-- There is only one such number.
 pub same_number : {x o w v : ℕ} (y z : ℕ) → HasBits x y o w v → HasBits x z o w v → y ≡ z
 same_number {x = x} {o = o} {w = w} {v = v} y z a b = same_from_bits y z bits
   where
@@ -72,7 +72,7 @@ with_bits-below x o w v k l m s =
     let e : k + i ≡ o + w + (k + i - (o + w)) = omega arith in
     ap (bit_at (with_bits x o w v)) e ∙ h.behind (k + i - (o + w)) ∙ ap (bit_at x) (sym e) ∙ bit_at_above x k (k + i) s (omega arith))
 
--- bits of a part, whose bits are in the number
+-- Replacing bits within a part of a number replaces them in the number.
 pub within_part : (x o w p u v : ℕ) → v < 2 ^ u → p + u ≤ w → with_bits x o w (with_bits (x / 2 ^ o % 2 ^ w) p u v) ≡ with_bits x (o + p) u v
 within_part x o w p u v l m = is_with_bits x y (o + p) u v l (record { before = before; inside = inside; behind = behind })
   where
@@ -112,7 +112,7 @@ within_part x o w p u v l m = is_with_bits x y (o + p) u v l (record { before = 
           | inr f ↦ (let d : o + p + u + i ≡ o + w + (j - w) = omega arith in ap (bit_at y) d ∙ of_y.behind (j - w) ∙ ap (bit_at x) (sym d))
         ]
 
--- one bit of a byte
+-- One bit of a byte is set.
 pub bit_set : (x k : ℕ) → k < 8 → bit_or x (1 * 2 ^ k % 256) ≡ with_bits x k 1 1
 bit_set x k l =
     let y : ℕ = bit_or x (1 * 2 ^ k % 256) in

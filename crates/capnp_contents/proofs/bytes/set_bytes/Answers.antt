@@ -9,7 +9,7 @@ use Rattle.capnp_contents.proofs.OldWords.{old_beside}
 use Rattle.capnp_making.proofs.Taken.{leads_behind, leads_to_end, takes_written}
 use Rattle.capnp_contents.proofs.bytes.set_bytes.Goals as goal
 
--- The bytes are written from where the list starts.
+-- The bytes are written from the start of the list on.
 writes : (g : _) (c : goal.After-write_bytes g) → WritesBytes (g.A.BuilderArena.view c.init_list.new.arena).words (g.A.BuilderArena.view c.write_bytes.new.arena).words c.in_ok-start.start c.args.from.now
 writes g c = record {
   old = g.A.ReaderArena.segments c.init_list.new.arena;
@@ -21,7 +21,7 @@ writes g c = record {
   written = λ some holds. c.write_bytes.ensures.written some;
 }
 
--- And the pointer still leads to the list.
+-- The pointer still leads to the list.
 leads : (g : _) (c : goal.After-write_bytes g) → LeadsToStart (g.A.BuilderArena.view c.write_bytes.new.arena).words c.args.id c.args.at c.in_ok-start.start
 leads g c =
     let M : Segments = (g.A.BuilderArena.view c.init_list.new.arena).words in
@@ -29,7 +29,8 @@ leads g c =
     let (N, pruned, made) = c.in_ok-start.ensures.gives.once_zeroed in
     bytes_target M R c.args.id c.args.at c.args.count c.in_ok-start.start c.args.from.now (writes g c) made.stored c.in_ok-start.ensures.gives.start.leads c.requires.few.0
 
--- The list is made of zero bytes, and then its first ones are written: no segment is longer or shorter for these.
+-- The list is made of zero bytes, and then its first ones are written, which makes no segment
+-- longer or shorter.
 pub returns-clause-object : goal.returns-clause-object
 returns-clause-object g c =
     let old : View = g.A.BuilderArena.view c.args.arena.now in

@@ -9,7 +9,7 @@ use Rattle.capnp_making.specs.Makes.{MakesObject, call_at}
 use Rattle.capnp_making.specs.Stored.{PutsOnceZeroed}
 use Rattle.capnp_contents.proofs.bytes.set_data.Goals as goal
 
--- No byte more.
+-- No zero bytes follow.
 all_bytes : (xs : List ℕ) → xs ++ words_of_zero (length xs - length xs) ≡ xs
 all_bytes xs =
     let none : length xs - length xs ≡ 0 = omega arith in

@@ -8,7 +8,7 @@ use Rattle.capnp_making.specs.Makes.{MakesObject, call_at}
 use Rattle.capnp_making.specs.Stored.{PutsOnceZeroed}
 use Rattle.capnp_contents.proofs.bytes.set_text.Goals as goal
 
--- One byte more is a zero byte behind the others.
+-- One byte more: a zero byte after the others.
 pub returns-clause-object : goal.returns-clause-object
 returns-clause-object g c =
     let old : View = g.A.BuilderArena.view c.args.arena.now in

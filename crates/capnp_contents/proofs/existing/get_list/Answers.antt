@@ -8,7 +8,7 @@ use Rattle.capnp_making.specs.Landings.{target_of}
 use Rattle.capnp_contents.specs.declared.existing.ExistingList.{ExistingList}
 use Rattle.capnp_contents.proofs.existing.get_list.Goals as goal
 
--- Elements that are too narrow are refused by a name that says so.
+-- Elements that are too narrow are refused with a name that says so.
 misfit_named : (r : Result (Option ExistingList) ErrorKind) (expected size : ElementSize) (l : ExistingList) → r ≡ unless (plain_misfit expected size) l → IfErr r (λ k. is_unfound k ≡ true)
 misfit_named r expected size l e = subst (λ x. IfErr x (λ k. is_unfound k ≡ true)) (sym e) (either _)
   where

@@ -7,7 +7,7 @@ use Rattle.capnp_making.proofs.Outcomes.{if_ok_so, on_made_so}
 use Rattle.capnp_making.proofs.Taken.{ends_after, starts_after}
 use Rattle.capnp_contents.proofs.initializing.init_list.Goals as goal
 
--- The old object becomes zero, and then the new one is made.
+-- The old object is zeroed, and then the new one is made.
 pub returns-clause-gives : goal.returns-clause-gives
 returns-clause-gives g c =
     let old : View = g.A.BuilderArena.view c.args.arena.now in

@@ -6,7 +6,7 @@ use Rattle.capnp_contents.proofs.ObjectsMade.{gives_after_zeros}
 use Rattle.capnp_making.proofs.Outcomes.{on_made_so}
 use Rattle.capnp_contents.proofs.initializing.init_struct_list.Goals as goal
 
--- The old object becomes zero, and then the new one is made.
+-- The old object is zeroed, and then the new one is made.
 pub returns : goal.returns
 returns g c =
     let old : View = g.A.BuilderArena.view c.args.arena.now in

@@ -9,7 +9,7 @@ use Rattle.capnp_making.proofs.Placed.{zeroed_replaced}
 use Rattle.capnp_making.proofs.PlacedStructs.{capability_made}
 use Rattle.capnp_contents.proofs.initializing.set_capability.Goals as goal
 
--- The old object becomes zero, and then the pointer is set.
+-- The old object is zeroed, and then the pointer is set.
 pub returns-clause-made : goal.returns-clause-made
 returns-clause-made g c =
     let S : Segments = (g.A.BuilderArena.view c.args.arena.now).words in

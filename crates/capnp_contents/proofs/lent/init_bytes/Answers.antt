@@ -21,7 +21,7 @@ returns-clause-zero g c =
     c.in_ok-start.ensures.gives.start.leads.0 c.in_ok-start.ensures.gives.start.leads.1 c.in_ok-start.ensures.gives.start.inside.1 c.requires.few.0
     ∙ ap (λ (xs : List ℕ). words_of_zero (length xs)) (sym now)
 
--- The list is that of the call that keeps the arena, and so is the refusal.
+-- The list is the same as that of the call that keeps the arena, and so is the refusal.
 pub returns-clause-made : goal.returns-clause-made
 returns-clause-made g c =
     let now = c.init_list.new.arena in

@@ -1,4 +1,5 @@
--- A segment lends its bytes, and of these a part is lent on: a walk of the function's MIR by hand.
+-- A segment lends its bytes, and then a part of them is lent: a manual walk through the function's
+-- MIR.
 use Rattle.std.proofs.Common.{◌≡◌, ℕ, ◌+◌, ◌-◌, ◌^◌, ◌<◌, ◌≤◌, List, [], ◌∷◌, length, take, drop as drop_list, get_or, slice_get, slice_index_or, Some, refl, sym, ap, subst, arith, w8, w32, w64, MutBor}
 use Rattle.std.proofs.raw_atomic.Walks.{proved}
 use base.Logic.{emp, id⊢}
