@@ -1,4 +1,4 @@
--- What is below a place made zero, part by part.
+-- What is below a place is zeroed, part by part.
 use Rattle.std.proofs.Common.{◌≡◌, ◌≢◌, ℕ, zero, suc, pred, ◌+◌, ◌*◌, ◌<◌, ◌≤◌, List, [], ◌∷◌, ◌++◌, length, Some, refl, sym, ap, ◌∙◌, subst, le_of_eq, append-nil, arith}
 use Rattle.std.proofs.lemmas.Bool.Decides.{nat_tests}
 use Rattle.capnp_format.specs.Word.{kind}
@@ -17,7 +17,7 @@ pub use Rattle.capnp_format.proofs.LandingPads.{pads_inside}
 pub split_row : (s p m n v r : ℕ) → times (row s p (m + n) ∷ []) v r ≡ times (row s p m ∷ []) v r + times (row s (p + m) n ∷ []) v r
 split_row s p m n v r = grind (arith, nat_tests)
 
--- Pointers one behind the other, each with what is reached from it.
+-- Consecutive pointers, each with what is reached from it.
 abbrev pub child_extents : Segments → ℕ → ℕ → Trees → List Interval
 child_extents S s p no_trees = []
 child_extents S s p (tree t ts) = extent S s p t ++ child_extents S s (p + 1) ts
@@ -28,7 +28,7 @@ rest zero ts = ts
 rest (suc i) no_trees = no_trees
 rest (suc i) (tree t ts) = rest i ts
 
--- children and their pointers, counted together or one by one
+-- Children and their pointers, counted together or one by one.
 pub times-children : (S : Segments) (s p : ℕ) (ts : Trees) (v r : ℕ) → times (child_extents S s p ts) v r ≡ times (row s p (count ts) ∷ cover_all S s p ts) v r
 times-children S s p no_trees v r = grind (arith, nat_tests)
 times-children S s p (tree t ts) v r =
@@ -41,14 +41,14 @@ times-children S s p (tree t ts) v r =
       ap (λ n. times (row s p n ∷ []) v r) (let e : suc (count ts) ≡ 1 + count ts = omega arith in e),
     )
 
--- words that become zero are not those of a value that stays apart from them
+-- Zeroing words doesn't change those of a value that is apart from them.
 kept_agrees : (S K : Segments) (is js : List Interval) → IsZeroed S K is → ((v r : ℕ) → times is v r + times js v r ≤ 1) → Agree S K js
 kept_agrees S K is js z few v r some = z.kept v r (omega (arith, few v r))
 
 pub zeroed_grows : (S K : Segments) (is : List Interval) → IsZeroed S K is → Grows S K
 zeroed_grows S K is z = record { segments = le_of_eq (sym z.segments); words = λ v. le_of_eq (sym (z.words v)) }
 
--- a value that is apart from words that become zero
+-- A value that is apart from the words that are zeroed stays the same.
 pub apart_kept : (S K : Segments) (s p : ℕ) (t : Tree) (is : List Interval) → IsZeroed S K is → ((v r : ℕ) → times is v r + times (extent S s p t) v r ≤ 1) → IsApart S s p t → IsApart K s p t × (extent K s p t ≡ extent S s p t)
 apart_kept S K s p t is z few a =
     let agree : Agree S K (extent S s p t) = kept_agrees S K is (extent S s p t) z few in
@@ -66,7 +66,7 @@ all_kept S K s p ts is z few a =
     let f = frame_all ts (zeroed_grows S K is z) (agree_here S K R (cover_all S s p ts) agree) (agree_rest S K R (cover_all S s p ts) agree) (record { means = m.2 }) in
     (record { mean = (m.0, m.1, f.0); apart = λ v r. subst (λ js. times (R ∷ js) v r ≤ 1) (sym f.1) (a.apart v r) }, f.1)
 
--- the children from one on
+-- The children from one on: that one, and those after it.
 pub rest_step : (i : ℕ) (ts : Trees) → i < count ts → rest i ts ≡ tree (tree_at ts i) (rest (i + 1) ts)
 rest_step i no_trees l = absurd (omega arith)
 rest_step zero (tree t ts) l = refl
@@ -76,15 +76,15 @@ pub rest_none : (ts : Trees) → rest (count ts) ts ≡ no_trees
 rest_none no_trees = refl
 rest_none (tree t ts) = rest_none ts
 
--- what is zero after some children, of which the others are still to come
+-- What is zero after the first i children, while the others are still to come.
 abbrev pub Done : Segments → Segments → ℕ → ℕ → Trees → ℕ → Type 0
 Done S K s p ts i = (is : List Interval) × IsZeroed S K is × ((v r : ℕ) → times is v r + times (child_extents S s (p + i) (rest i ts)) v r ≡ times (child_extents S s p ts) v r)
 
--- none at first
+-- At first no child is zero.
 pub none_done : (S : Segments) (s p : ℕ) (ts : Trees) → Done S S s p ts 0
 none_done S s p ts = ([], nothing_zeroed S, λ v r. omega (arith, ap (λ q. times (child_extents S s q ts) v r) (let e : p + 0 ≡ p = omega arith in e)))
 
--- the next child is apart, and zero as well once it is
+-- The next child is apart, and once it is zeroed one more child is.
 pub next_done : (S K L : Segments) (s p i : ℕ) (ts : Trees) → i < count ts → AreApart S s p ts → Done S K s p ts i → ((t : Tree) → IsApart K s (p + i) t → IsZeroed K L (extent K s (p + i) t)) → Done S L s p ts (i + 1)
 next_done S K L s p i ts l a (is, z, sum) h =
     let t = tree_at ts i in
@@ -102,13 +102,13 @@ next_done S K L s p i ts l a (is, z, sum) h =
       λ v r. omega (arith, times-append is (extent S s (p + i) t) v r, parts v r, sum v r),
     )
 
--- once all are
+-- Once all children are zero, so are their pointers and all that they cover.
 pub all_done : (S K : Segments) (s p : ℕ) (ts : Trees) → Done S K s p ts (count ts) → IsZeroed S K (row s p (count ts) ∷ cover_all S s p ts)
 all_done S K s p ts (is, z, sum) =
     let none : (v r : ℕ) → times (child_extents S s (p + count ts) (rest (count ts) ts)) v r ≡ 0 = λ v r. ap (λ us. times (child_extents S s (p + count ts) us) v r) (rest_none ts) in
     zeroed_again S S K [] is (row s p (count ts) ∷ cover_all S s p ts) (λ v r. (λ x. omega (arith, sum v r, none v r, times-children S s p ts v r), λ x. omega (arith, sum v r, none v r, times-children S s p ts v r))) (nothing_zeroed S) z
 
--- the words of a struct, whose pointers are zero with all below them
+-- The words of a struct are zeroed, after its pointers and all below them.
 pub struct_done : (S K L : Segments) (s p d q : ℕ) (ts : Trees) {a b n : ℕ} → a ≡ p + d → b ≡ q → n ≡ d + q → count ts ≡ q → p + (d + q) ≤ length (segment S s) → AreApart S s (p + d) ts → length (segment K s) ≡ length (segment S s) →
     ((us : Trees) → (count us ≡ b) × (a + b ≤ length (segment S s)) × AreApart S s a us → IsZeroed S K (row s a b ∷ cover_all S s a us)) → (p + n ≤ length (segment K s) → IsZeroed K L (row s p n ∷ [])) →
     IsZeroed S L (row s p (d + q) ∷ cover_all S s (p + d) ts)
@@ -119,7 +119,7 @@ struct_done S K L s p d q ts {a} {b} {n} is_a is_b is_n many fits apart long h k
     zeroed_again S K L (row s (p + d) q ∷ cover_all S s (p + d) ts) (row s p (d + q) ∷ []) (row s p (d + q) ∷ cover_all S s (p + d) ts)
     (λ v r. let f = split_row s p d q v r in (λ x. omega (arith, f, x), λ x. omega (arith, f, x))) below own
 
--- the object that a place leads to
+-- The object that a place leads to.
 pub place_object : (S : Segments) (n s p : ℕ) (t : Tree) (c : ℕ) → word_at S s p ≢ 0 → Means S n s p t c →
     (a : Target) × (leads S s p ≡ Some a) × IsObjectAt S (pred n) a t × (cover S s p t ≡ pads_of (word_at S s p) ++ object_cover S a t)
 place_object S n s p Null c some m = absurd (some m.0)

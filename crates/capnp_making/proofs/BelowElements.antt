@@ -1,4 +1,4 @@
--- What is below the elements of a list of structs made zero, element by element.
+-- What is below the elements of a list of structs is zeroed, element by element.
 use Rattle.std.proofs.Common.{◌≡◌, ℕ, zero, suc, ◌+◌, ◌*◌, ◌<◌, ◌≤◌, List, [], ◌∷◌, ◌++◌, length, refl, sym, ap, ap₂, ◌∙◌, subst, arith}
 use Rattle.std.proofs.lemmas.Bool.Decides.{nat_tests}
 use Rattle.capnp_format.specs.Segments.{Segments, segment, word_at}
@@ -17,7 +17,7 @@ rest_elements zero es = es
 rest_elements (suc i) no_elements = no_elements
 rest_elements (suc i) (element ws ts es) = rest_elements i es
 
--- the pointers of elements are within their words
+-- The pointers of elements are within the elements' words.
 pub extents_within : (S : Segments) (s p d q : ℕ) (es : Elements) (v r : ℕ) → times (element_extents S s p (sections d q) es) v r ≤ times (row s p (element_count es * (d + q)) ∷ cover_elements S s p d q es) v r
 extents_within S s p d q no_elements v r = omega arith
 extents_within S s p d q (element ws ts es) v r =
@@ -43,7 +43,7 @@ within_extents S s p d q (element ws ts es) v r =
       within_extents S s (p + d + q) d q es v r,
     )
 
--- the elements from one on
+-- The elements from one on: that one, with its children, and those after it.
 pub another_element : (S : Segments) (n s p d q i : ℕ) (es : Elements) (c : ℕ) → i < element_count es → MeansElements S n s p d q es c →
     (ws : List ℕ) × (ts : Trees) × (k : ℕ) × (rest_elements i es ≡ element ws ts (rest_elements (i + 1) es)) × (count ts ≡ q) × MeansAll S n s (p + i * (d + q) + d) ts k
 another_element S n s p d q i no_elements c l h = absurd (omega arith)
@@ -57,7 +57,7 @@ pub no_element_left : (es : Elements) → rest_elements (element_count es) es �
 no_element_left no_elements = refl
 no_element_left (element ws ts es) = no_element_left es
 
--- what is zero after some elements, of which the others are still to come from a position on
+-- What is zero after the first i elements, while the others are still to come.
 abbrev pub DoneElements : Segments → Segments → ℕ → ℕ → ℕ → ℕ → ℕ → Elements → ℕ → Type 0
 DoneElements S K s p d q at es i = (is : List Interval) × IsZeroed S K is × ((v r : ℕ) → times is v r + times (element_extents S s at (sections d q) (rest_elements i es)) v r ≡ times (element_extents S s p (sections d q) es) v r)
 
@@ -85,7 +85,7 @@ elements_done S K s p d q at es (is, z, sum) =
     let none : (v r : ℕ) → times (element_extents S s at (sections d q) (rest_elements (element_count es) es)) v r ≡ 0 = λ v r. ap (λ us. times (element_extents S s at (sections d q) us) v r) (no_element_left es) in
     zeroed_again S S K [] is (element_extents S s p (sections d q) es) (λ v r. (λ x. omega (arith, sum v r, none v r), λ x. omega (arith, sum v r, none v r))) (nothing_zeroed S) z
 
--- elements without pointers have nothing below them
+-- Elements without pointers have nothing below them.
 pub no_pointers : (S : Segments) (n s p d : ℕ) (es : Elements) (c : ℕ) → MeansElements S n s p d 0 es c → IsZeroed S S (element_extents S s p (sections d 0) es)
 no_pointers S n s p d es c m = zeroed_again S S S [] [] (element_extents S s p (sections d 0) es) (λ v r. let e = none n p es c m v r in (λ x. omega (arith, e), λ x. omega arith)) (nothing_zeroed S) (nothing_zeroed S)
   where
@@ -103,7 +103,7 @@ no_pointers S n s p d es c m = zeroed_again S S S [] [] (element_extents S s p (
         let f : times own v r ≡ 0 = ap (λ js. times (row s (p + d) 0 ∷ js) v r) (no_cover (p + d) ts len) ∙ no_row (p + d) v r in
         omega (arith, times-append own (element_extents S s (p + d + 0) (sections d 0) es) v r, none n (p + d + 0) es j others v r, f)
 
--- the elements' words as well, and the tag before them
+-- Then the elements' words are zeroed as well, and the tag before them.
 pub structs_done : (S K L : Segments) (s p d q : ℕ) (es : Elements) → IsZeroed S K (element_extents S s (p + 1) (sections d q) es) → IsZeroed K L (row s p (1 + element_count es * (d + q)) ∷ []) →
     IsZeroed S L (row s p (1 + element_count es * (d + q)) ∷ cover_elements S s (p + 1) d q es)
 structs_done S K L s p d q es a b =
@@ -111,14 +111,14 @@ structs_done S K L s p d q es a b =
     zeroed_again S K L (element_extents S s (p + 1) (sections d q) es) (row s p (1 + w) ∷ []) (row s p (1 + w) ∷ cover_elements S s (p + 1) d q es)
     (λ v r. let e = extents_within S s (p + 1) d q es v r in let f = within_extents S s (p + 1) d q es v r in let g = split_row s p 1 w v r in (λ x. omega (arith, e, f, g), λ x. omega (arith, e, f, g))) a b
 
--- an element's words are within those of all
+-- The words of element i are within those of all n elements.
 pub element_within : (width n i : ℕ) → i < n → i * width + width ≤ n * width
 element_within width n i l = grind arith
 
 pub next_place : (width i : ℕ) → (i + 1) * width ≡ i * width + width
 next_place width i = grind arith
 
--- a list of structs, by its tag
+-- A list of structs is zeroed, with the counts that its tag has.
 pub structs_zeroed : (S K L : Segments) (s p g n d q w : ℕ) → n ≡ offset_bits g → d ≡ data_words g → q ≡ pointer_count g → w ≡ 1 + n * (d + q) → length (segment K s) ≡ length (segment S s) →
     ((es : Elements) → (element_count es ≡ n) × AreApartElements S s (p + 1) (sections d q) es → IsZeroed S K (element_extents S s (p + 1) (sections d q) es)) →
     (p + w ≤ length (segment K s) → IsZeroed K L (row s p w ∷ [])) → g ≡ word_at S s p → (t : Tree) → IsStructListApart S s p t → IsZeroed S L (struct_list_cover S s p t)
@@ -137,7 +137,7 @@ structs_zeroed S K L s p g n d q w is_n is_d is_q is_w long h k is_g (Structs e 
     let below : IsZeroed S K (element_extents S s (p + 1) (sections e f) es) = subst (λ x. IsZeroed S K (element_extents S s (p + 1) (sections e x) es)) same_q (subst (λ x. IsZeroed S K (element_extents S s (p + 1) (sections x q) es)) same_d (h es (sym same_n, apart))) in
     structs_done S K L s p e f es below (subst (λ x. IsZeroed K L (row s p x ∷ [])) same_w (k (omega (arith, same_w, long))))
 
--- a list of structs that doesn't lie in its segment isn't one, by its tag
+-- A list of structs doesn't exist if its words, by the tag, aren't inside their segment.
 pub list_outside : (S : Segments) (s p g n d q w : ℕ) → n ≡ offset_bits g → d ≡ data_words g → q ≡ pointer_count g → w ≡ 1 + n * (d + q) → length (segment S s) < p + w → g ≡ word_at S s p → (t : Tree) → IsStructListApart S s p t → ⊥
 list_outside S s p g n d q w is_n is_d is_q is_w out is_g Null a = a
 list_outside S s p g n d q w is_n is_d is_q is_w out is_g (Capability i) a = a

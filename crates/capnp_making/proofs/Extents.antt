@@ -1,4 +1,4 @@
--- One object on the way to a replaced place: what agrees there, and what is covered.
+-- One object on the way to a replaced place: which of its words agree, and what it covers.
 use Rattle.std.proofs.Common.{◌≡◌, ◌≢◌, ℕ, ◌+◌, ◌<◌, ◌≤◌, List, [], ◌∷◌, ◌++◌, Some, ap, ◌∙◌, arith}
 use Rattle.std.proofs.lemmas.Bool.Decides.{nat_tests}
 use Rattle.capnp_format.specs.Segments.{Segments, word_at, Target, leads}
@@ -8,11 +8,11 @@ use Rattle.capnp_making.specs.Path.{word_interval}
 use Rattle.capnp_format.specs.Segments.{Grows}
 use Rattle.capnp_format.proofs.Frame.{Agree, times-append, leads_agree}
 
--- R has the words of S that the whole holds more often than the part does
+-- R has the words of S that the whole holds more often than the part does.
 abbrev pub AgreeBeside : Segments → Segments → List Interval → List Interval → Type 0
 AgreeBeside S R part whole = (v r : ℕ) → times part v r < times whole v r → word_at R v r ≡ word_at S v r
 
--- a word of an object is in it
+-- A word of an object is in it.
 pub word_within : (a : Target) (n c v r : ℕ) → a.start ≤ c → c < a.start + n → times (word_interval a.segment c ∷ []) v r ≤ times (object_of a n ∷ []) v r
 word_within a n c v r l m = grind (arith, nat_tests)
 
@@ -28,7 +28,7 @@ not_held s p q other = grind (arith, nat_tests)
 pub times-first : (i : Interval) (is : List Interval) (v r : ℕ) → times (i ∷ is) v r ≡ times (i ∷ []) v r + times is v r
 times-first i is v r = omega arith
 
--- the cover of an object, in its parts
+-- The cover of an object, in its parts.
 pub times-object : (S : Segments) (s p n : ℕ) (a : Target) (more : Target → List Interval) (v r : ℕ) → leads S s p ≡ Some a →
     times (pads_of (word_at S s p) ++ object_of (target S s p) n ∷ more (target S s p)) v r ≡ times (pads_of (word_at S s p)) v r + times (object_of a n ∷ []) v r + times (more a) v r
 times-object S s p n a more v r l =
@@ -36,7 +36,7 @@ times-object S s p n a more v r l =
     ∙ times-append (pads_of (word_at S s p)) (object_of a n ∷ more a) v r
     ∙ omega (arith, times-first (object_of a n) (more a) v r)
 
--- what R keeps of an object at whose word c a part of it begins
+-- What R keeps of an object if a part of it begins at its word c.
 pub record KeepsObject (S R : Segments) (s p : ℕ) (a : Target) (n c : ℕ) (child others part : List Interval) : Type 0 where
   pub same : word_at R s p ≡ word_at S s p
   pub leads_to : Leads R s p a

@@ -1,4 +1,4 @@
--- Bytes written over some of a word's: the word has their bits in place of those that stood there.
+-- Bytes written over some of those of a word: the word has their bits in place of the old ones.
 use Rattle.std.proofs.Common.{◌≡◌, ℕ, zero, suc, ◌+◌, ◌*◌, ◌/◌, ◌%◌, ◌^◌, ◌<◌, ◌≤◌, List, [], ◌∷◌, ◌++◌, length, get_or, set, take, drop, Some, slice_get, refl, sym, ap, ap₂, ◌∙◌, subst, arith, length-take, length-drop, length-append, take-append-drop, append_assoc, add_comm, mul_comm, pow-suc}
 use Rattle.std.proofs.Math.Nat.{pow-zero}
 use Rattle.std.proofs.lemmas.List.{take-append-le, drop-append-le, map-set}
@@ -37,7 +37,7 @@ below_drop b zero ds h = h
 below_drop b (suc k) [] h = tt
 below_drop b (suc k) (d ∷ ds) h = below_drop b k ds h.1
 
--- the lowest k digits of a number, and the others
+-- The lowest k digits of a number, and the others.
 pub record Cut (b k : ℕ) (ds : List ℕ) : Type 0 where
   pub first : from_digits b ds % b ^ k ≡ from_digits b (take k ds)
   pub others : from_digits b ds / b ^ k ≡ from_digits b (drop k ds)
@@ -53,7 +53,7 @@ cut b k ds h l =
       others = ap (λ x. x / b ^ k) parts ∙ high (b ^ k) (from_digits b (take k ds)) (from_digits b (drop k ds)) small;
     }
 
--- digits written over others
+-- Digits ys written over others.
 pub digits_written : (k n : ℕ) (ds ys : List ℕ) → AreBelow 256 ds → length ys ≡ n → k + n ≤ length ds → from_digits 256 (put_mid k n ds ys) ≡ with_bits (from_digits 256 ds) (8 * k) (8 * n) (from_digits 256 ys)
 digits_written k n ds ys h e l =
     let x = from_digits 256 ds in
@@ -85,7 +85,7 @@ first_written k n xs rest ys long h e l =
     ∙ words_of-append 1 (put_mid k n xs ys) rest whole
     ∙ ap (λ ws. ws ++ words_of rest) (one_word_of (put_mid k n xs ys) whole ∙ ap (λ w. w ∷ []) (digits_written k n xs ys h e (omega arith)))
 
--- n bytes written from byte k of word i on
+-- n bytes written from byte k of word i on.
 pub words_of-put_bytes : (i k n : ℕ) (bs ys : List ℕ) → ((j : ℕ) → get_or bs j 0 < 256) → length ys ≡ n → k + n ≤ 8 → i < length (words_of bs) →
     words_of (put_mid (8 * i + k) n bs ys) ≡ set (words_of bs) i (with_bits (get_or (words_of bs) i 0) (8 * k) (8 * n) (from_digits 256 ys))
 words_of-put_bytes zero k n (a ∷ b ∷ c ∷ d ∷ e ∷ f ∷ g ∷ h ∷ rest) ys small long fits l =
@@ -98,7 +98,7 @@ words_of-put_bytes (suc i) k n (a ∷ b ∷ c ∷ d ∷ e ∷ f ∷ g ∷ h ∷ 
     ∙ ap (λ ws. words_of (a ∷ b ∷ c ∷ d ∷ e ∷ f ∷ g ∷ h ∷ []) ++ ws) (words_of-put_bytes i k n rest ys (λ j. small (suc (suc (suc (suc (suc (suc (suc (suc j))))))))) long fits (omega arith))
 words_of-put_bytes i k n _ ys small long fits l = absurd (omega arith)
 
--- n bytes written from any byte on, in the form that code has it
+-- n bytes written from any byte on, in the form that the code has.
 pub words_of-put_field : (b n m v : ℕ) (bs ys : List ℕ) → m ≡ n → from_digits 256 ys ≡ v → ((j : ℕ) → get_or bs j 0 < 256) → length ys ≡ n → b % 8 + n ≤ 8 → b / 8 < length (words_of bs) → words_of (put_mid b m bs ys) ≡ put_field (words_of bs) (8 * b) (8 * n) v
 words_of-put_field b n m v bs ys e f small long fits l =
     ap₂ (λ a j. words_of (put_mid a j bs ys)) (let q : b ≡ 8 * (b / 8) + b % 8 = omega arith in q) e
@@ -106,7 +106,7 @@ words_of-put_field b n m v bs ys e f small long fits l =
     ∙ ap₂ (λ i o. set (words_of bs) i (with_bits (get_or (words_of bs) i 0) o (8 * n) (from_digits 256 ys))) (let q : b / 8 ≡ 8 * b / 64 = omega arith in q) (let q : 8 * (b % 8) ≡ 8 * b % 64 = omega arith in q)
     ∙ ap (put_field (words_of bs) (8 * b) (8 * n)) f
 
--- a number's bytes lie in one word, since 8 is a multiple of how many they are, and their position too
+-- A number's bytes are in one word, since both 8 and their position are multiples of their count n.
 pub in_one_word : (n b : ℕ) → 0 < n → n ≤ 8 → 8 % n ≡ 0 → b % n ≡ 0 → b % 8 + n ≤ 8
 in_one_word (suc zero) b p l d e = omega arith
 in_one_word (suc (suc zero)) b p l d e = omega arith
@@ -118,11 +118,11 @@ in_one_word (suc (suc (suc (suc (suc (suc (suc zero))))))) b p l d e = absurd (o
 in_one_word (suc (suc (suc (suc (suc (suc (suc (suc zero)))))))) b p l d e = omega arith
 in_one_word _ b p l d e = absurd (omega arith)
 
--- a message of which the bytes of a segment are others
+-- A message after some bytes of a segment were replaced.
 pub message_written : (B : List (List ℕ)) (s : ℕ) (bs ws : List ℕ) (b w v : ℕ) → slice_get B s ≡ Some bs → words_of ws ≡ put_field (words_of bs) b w v → message (set B s ws) ≡ with_field (message B) s b w v
 message_written B s bs ws b w v e f =
     map-set words_of B s ws ∙ ap (set (message B) s) (f ∙ ap (λ xs. put_field xs b w v) (sym (segment-message B s bs e)))
 
--- a segment's words by its bytes
+-- The number of words of a segment, from that of its bytes.
 pub words_lent : (S : Segments) (B : List (List ℕ)) (s : ℕ) (bs : List ℕ) → S ≡ message B → slice_get B s ≡ Some bs → length (segment S s) ≡ length bs / 8
 words_lent S B s bs e f = ap (λ (T : Segments). length (segment T s)) e ∙ ap length (segment-message B s bs f) ∙ words bs

@@ -15,11 +15,12 @@ use Rattle.capnp_making.proofs.Placed.{count-nulls}
 use Rattle.capnp_making.proofs.Replace.{put_tree-count, times-others}
 use Rattle.capnp_making.proofs.Replaced.{stored_within, replaced_within, replaced_again, grown}
 
--- nothing done replaces a value by itself
+-- If nothing is done, a value is replaced by itself.
 pub unchanged : (S : Segments) (s p : ℕ) (t : Tree) → IsStored S s p t → IsReplaced S S s p t t
 unchanged S s p t a = grown S S s p t (record { segments = omega arith; words = λ v. omega arith }) a (λ v r l. refl) (λ v r l. get_or_past (segment S v) r 0 l)
 
--- A place holds an object of n words from a on: the value for these children, whose pointers stand from position b on.
+-- A place holds an object of n words at the target a: the value for these children, whose pointers
+-- are from position b on.
 pub record IsHolder (F : Trees → Tree) (path : ℕ → List Step) (s p q : ℕ) (a : Target) (b n : ℕ) : Type 0 where
   pub leads : (S : Segments) (X : Trees) (i : ℕ) → Leads S s p a → count X ≡ q → i < q → PathLeads S (node s p (F X)) (path i) (node a.segment (b + i) (tree_at X i))
   pub puts : (X : Trees) (i : ℕ) (u : Tree) → update (F X) (path i) u ≡ F (put_tree X i u)
@@ -32,7 +33,7 @@ pub record IsHolder (F : Trees → Tree) (path : ℕ → List Step) (s p q : ℕ
   pub low : a.start ≤ b
   pub high : b + q ≤ a.start + n
 
--- what is written in an object leaves the pointer to it
+-- Writing in an object leaves the pointer to it unchanged.
 pub still_leads : (S R : Segments) (s p n : ℕ) (a : Target) (x : Tree) (more : List Interval) → Leads S s p a → IsStored S s p x →
     ((v r : ℕ) → times (cover S s p x) v r ≡ times (pads_of (word_at S s p)) v r + times (object_of a n ∷ []) v r + times more v r) →
     Grows S R → ((v r : ℕ) → times (object_of a n ∷ []) v r ≡ 0 → r < length (segment S v) → word_at R v r ≡ word_at S v r) → Leads R s p a
@@ -41,7 +42,7 @@ still_leads S R s p n a x more l y parts grows same =
     let here : word_at R s p ≡ word_at S s p = same s p (omega (arith, whole s p, parts s p, y.apart s p, once_held s p)) (y.inside s p (omega (arith, whole s p, once_held s p))) in
     leads_agree (record { grows = grows; same = here }) (λ v r m. same v r (omega (arith, whole v r, parts v r, y.apart v r)) (y.inside v r (omega (arith, whole v r, parts v r)))) l
 
--- the children, with others from the i-th on
+-- The children X, with others from the i-th on.
 abbrev pub put_from : Trees → ℕ → Trees → Trees
 put_from X i no_trees = X
 put_from X i (tree u us) = put_from (put_tree X i u) (i + 1) us
@@ -73,7 +74,7 @@ pub record Holds (F : Trees → Tree) (S : Segments) (s p : ℕ) (a : Target) (X
   pub stored : IsStored S s p (F X)
   pub leads : Leads S s p a
 
--- one pointer of an object gets another value
+-- Pointer i of an object gets another value.
 pub holder_put : (F : Trees → Tree) (path : ℕ → List Step) (S R : Segments) (s p q : ℕ) (a : Target) (b n : ℕ) (X : Trees) (i : ℕ) (u : Tree) → IsHolder F path s p q a b n → Holds F S s p a X → count X ≡ q → i < q →
     (IsStored S a.segment (b + i) (tree_at X i) → IsReplaced S R a.segment (b + i) (tree_at X i) u) → IsReplaced S R s p (F X) (F (put_tree X i u)) × Leads R s p a
 holder_put F path S R s p q a b n X i u h y len l puts =
@@ -91,7 +92,7 @@ holder_put F path S R s p q a b n X i u h y len l puts =
           (λ v r m. one.kept v r (omega (arith, m, whole v r, parts v r, below i l v r, child v r, within v r, apart v r)) (y.stored.inside v r (omega (arith, m, whole v r, parts v r)))) y.leads,
     )
 
--- pointers of an object are filled, those before them being so already
+-- The pointers from the i-th on of an object are filled, after those before them.
 filled_from : (F : Trees → Tree) (path : ℕ → List Step) (S R : Segments) (s p q : ℕ) (a : Target) (b n : ℕ) (X ts : Trees) (i : ℕ) → IsHolder F path s p q a b n → Holds F S s p a X → count X ≡ q → i + count ts ≤ q →
     ((j : ℕ) → i ≤ j → tree_at X j ≡ Null) → AreFilled S R a.segment (b + i) ts → IsReplaced S R s p (F X) (F (put_from X i ts)) × Leads R s p a
 filled_from F path S R s p q a b n X no_trees i h y len fits null same =
@@ -106,13 +107,13 @@ filled_from F path S R s p q a b n X (tree u us) i h y len fits null (M, one, re
     (subst (λ z. AreFilled M R a.segment z us) (let e : b + i + 1 ≡ b + (i + 1) = omega arith in e) rest) in
     (replaced_again S M R s p (F X) (F (put_tree X i u)) _ first others.0, others.1)
 
--- the first pointers of an object that has nulls are filled
+-- The first pointers of an object with null pointers are filled.
 pub holder_filled : (F : Trees → Tree) (path : ℕ → List Step) (S R : Segments) (s p q : ℕ) (a : Target) (b n : ℕ) (ts : Trees) → IsHolder F path s p q a b n → Holds F S s p a (nulls q) → count ts ≤ q → AreFilled S R a.segment b ts →
     IsReplaced S R s p (F (nulls q)) (F (put_from (nulls q) 0 ts)) × Leads R s p a
 holder_filled F path S R s p q a b n ts h y fits f =
     filled_from F path S R s p q a b n (nulls q) ts 0 h y (count-nulls q) (omega arith) (λ j l. null_at q j) (subst (λ z. AreFilled S R a.segment z ts) (let e : b ≡ b + 0 = omega arith in e) f)
 
--- structs, and lists of pointers
+-- Structs, and lists of pointers.
 
 pub in_struct : (S : Segments) (s p : ℕ) (a : Target) (w : ℕ) (more : Target → List Interval) (v r : ℕ) → Leads S s p a →
     times (pads_of (word_at S s p) ++ object_of (target S s p) w ∷ more (target S s p)) v r ≡ times (pads_of (word_at S s p)) v r + times (object_of a w ∷ []) v r + times (more a) v r

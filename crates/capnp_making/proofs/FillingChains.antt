@@ -1,4 +1,5 @@
--- Pointers that are filled one after the other: one more, and what is kept ahead.
+-- Pointers that are filled one after the other: one more pointer, and what stays unchanged after
+-- them.
 use Rattle.std.proofs.Common.{◌≡◌, ℕ, suc, ◌+◌, ◌*◌, ◌<◌, ◌≤◌, List, length, refl, sym, ap, ◌∙◌, subst, le_trans, arith}
 use Rattle.capnp_format.specs.Segments.{Segments, Grows, segment, word_at}
 use Rattle.capnp_format.specs.Tree.{Tree, Null, Trees, no_trees, tree, Elements, no_elements, element, count, element_count}
@@ -19,7 +20,7 @@ pub filled_grows : (S R : Segments) (s p : ℕ) (ts : Trees) → AreFilled S R s
 filled_grows S R s p no_trees e = subst (Grows S) (sym e) (no_growth S)
 filled_grows S R s p (tree t ts) (M, one, rest) = grows_on (record { segments = one.segments; words = one.words }) (filled_grows M R s (p + 1) ts rest)
 
--- the words behind the pointers that are filled are as before
+-- The words after the pointers that are filled are unchanged.
 pub filled_ahead : (S R : Segments) (s p : ℕ) (ts : Trees) (j : ℕ) → AreFilled S R s p ts → p + count ts ≤ j → j < length (segment S s) → word_at R s j ≡ word_at S s j
 filled_ahead S R s p no_trees j e l place = ap (λ T. word_at T s j) e
 filled_ahead S R s p (tree t ts) j (M, one, rest) l place =
@@ -31,7 +32,7 @@ filled_more S R Q s p no_trees u e one =
 filled_more S R Q s p (tree t ts) u (M, first, rest) one =
     (M, first, filled_more M R Q s (p + 1) ts u rest (subst (λ i. IsReplaced R Q s i Null u) (let f : p + suc (count ts) ≡ p + 1 + count ts = omega arith in f) one))
 
--- elements
+-- Elements.
 
 pub element_grows : (S R : Segments) (s p : ℕ) (ws : List ℕ) (ts : Trees) → IsElementFilled S R s p ws ts → p + length ws ≤ length (segment S s) → Grows S R
 element_grows S R s p ws ts f room = let laid = words_put S f.written s p ws room f.writes in grows_on (same_grows S f.written laid.long) (filled_grows f.written R s (p + length ws) ts f.filled)

@@ -1,4 +1,5 @@
--- Lists of structs whose elements are filled one after the other, and structs whose data words are written.
+-- Lists of structs whose elements are filled one after the other, and structs whose data words are
+-- written.
 use Rattle.std.proofs.Common.{◌≡◌, ℕ, zero, suc, ◌+◌, ◌*◌, ◌<◌, ◌≤◌, List, [], ◌∷◌, length, refl, sym, ap, ◌∙◌, subst, le_of_eq, arith}
 use Rattle.std.proofs.lemmas.Bool.Decides.{nat_tests}
 use Rattle.std.proofs.lemmas.List.{length-replicate}
@@ -20,12 +21,12 @@ use Rattle.capnp_making.proofs.Replaced.{replaced_again}
 use Rattle.capnp_making.proofs.WordsPut.{ArePut, words_put}
 use Rattle.capnp_making.proofs.Written.{same_grows, with_data, element_data_written, data_written}
 
--- structs
+-- Structs.
 
 pub part_of_object : (a : Target) (b n k v r : ℕ) → a.start ≤ b → b + n ≤ a.start + k → times (object_of a k ∷ []) v r ≡ 0 → times (row a.segment b n ∷ []) v r ≡ 0
 part_of_object a b n k v r l m e = grind (arith, nat_tests)
 
--- a struct of zeros and nulls gets its data words
+-- A struct of zeros and null pointers gets its data words.
 pub struct_written : (S R : Segments) (s p q : ℕ) (a : Target) (ws : List ℕ) → Holds (Struct (words_of_zero (length ws))) S s p a (nulls q) → ArePut S R a.segment a.start ws →
     IsReplaced S R s p (Struct (words_of_zero (length ws)) (nulls q)) (Struct ws (nulls q)) × Leads R s p a
 struct_written S R s p q a ws y laid =
@@ -40,7 +41,7 @@ struct_written S R s p q a ws y laid =
           (λ v r e l. laid.kept v r (part_of_object a a.start (length ws) k v r (omega arith) (omega arith) e)),
     )
 
--- one element
+-- One element.
 
 pub put_struct-count : (X : Elements) (i : ℕ) (ws : List ℕ) (ts : Trees) → element_count (put_struct X i (Struct ws ts)) ≡ element_count X
 put_struct-count no_elements i ws ts = refl
@@ -67,7 +68,7 @@ put_struct-again (element xs os X) (suc i) ws vs ts us = ap (element xs os) (put
 pub row_high : (i m d q : ℕ) → i < m → i * (d + q) + (d + q) ≤ m * (d + q)
 row_high i m d q l = grind arith
 
--- what a child of an element covers is part of what the elements cover
+-- What a child of an element covers is part of what the elements cover.
 struct_children : (xs ws : List ℕ) (us ts : Trees) → Struct xs us ≡ Struct ws ts → us ≡ ts
 struct_children xs ws us ts e = cc
 
@@ -121,7 +122,8 @@ structs_claim S s p d q a X y l = let (n, c, (b, m, k, some, o, claim, tag, fits
     let same : b ≡ a = sym (ap target_in o.leads_to.1) ∙ ap target_in l.1 in
     subst (λ z. z.start + 1 + element_count X * (d + q) ≤ length (segment S z.segment)) same (omega arith)
 
--- element number i, of zeros and nulls, gets its words and the first of its pointers, or all
+-- Element i, of zeros and null pointers, gets its words ws and the first of its pointers, or all of
+-- them.
 element_filled : (S R : Segments) (s p d q : ℕ) (a : Target) (X : Elements) (i : ℕ) (ws : List ℕ) (ts : Trees) → IsStored S s p (Structs d q X) → Leads S s p a → i < element_count X → struct_at X i ≡ Struct (words_of_zero d) (nulls q) → length ws ≡ d → count ts ≤ q →
     IsElementFilled S R a.segment (a.start + 1 + i * (d + q)) ws ts → IsReplaced S R s p (Structs d q X) (Structs d q (put_struct X i (Struct ws (put_from (nulls q) 0 ts)))) × Leads R s p a
 element_filled S R s p d q a X i ws ts y l less blank ld lq f =
@@ -144,7 +146,7 @@ element_filled S R s p d q a X i ws ts y l less blank ld lq f =
     (subst (λ k. AreFilled T R a.segment (a.start + 1 + i * (d + q) + k) ts) ld f.filled) in
     (replaced_again S T R s p (Structs d q X) (Structs d q E) _ words done.0, done.1)
 
--- the elements, with others from the i-th on
+-- The elements, with others from the i-th on.
 abbrev put_elements : Elements → ℕ → Elements → Elements
 put_elements X i no_elements = X
 put_elements X i (element ws ts es) = put_elements (put_struct X i (Struct ws ts)) (i + 1) es
@@ -164,13 +166,14 @@ blank_at d q zero i l = absurd (omega arith)
 blank_at d q (suc n) zero l = refl
 blank_at d q (suc n) (suc i) l = blank_at d q n i (omega arith)
 
--- Elements from the i-th on are still blank.
+-- The elements from the i-th on are still blank.
 record AreBlank (S : Segments) (s p d q : ℕ) (a : Target) (X : Elements) (i : ℕ) : Type 0 where
   pub stored : IsStored S s p (Structs d q X)
   pub leads : Leads S s p a
   pub blank : (j : ℕ) → i ≤ j → j < element_count X → struct_at X j ≡ Struct (words_of_zero d) (nulls q)
 
--- the elements from the i-th on are filled
+-- The elements before the i-th are filled: Y replaces X, and its elements from the i-th on are
+-- still blank.
 record FilledTo (S R : Segments) (s p d q : ℕ) (a : Target) (X Y : Elements) (i : ℕ) : Type 0 where
   pub replaced : IsReplaced S R s p (Structs d q X) (Structs d q Y)
   pub left : AreBlank R s p d q a Y i
@@ -199,14 +202,14 @@ elements_from S R s p d q a X (element ws ts es) i y fits (M, ld, lq, first, res
 first_blank : (S : Segments) (s p d q n : ℕ) (a : Target) → IsStored S s p (Structs d q (zero_elements d q n)) → Leads S s p a → AreBlank S s p d q a (zero_elements d q n) 0
 first_blank S s p d q n a y l = record { stored = y; leads = l; blank = λ j h m. blank_at d q n j (omega (arith, count-zero_elements d q n)) }
 
--- a list of blank structs gets all its elements
+-- A list of blank structs gets all its elements.
 pub elements_full : (S R : Segments) (s p d q n : ℕ) (a : Target) (es : Elements) → IsStored S s p (Structs d q (zero_elements d q n)) → Leads S s p a → element_count es ≡ n → AreElementsFilled S R a.segment (a.start + 1) d q es →
     IsReplaced S R s p (Structs d q (zero_elements d q n)) (Structs d q es)
 elements_full S R s p d q n a es y l full f =
     let done = elements_from S R s p d q a (zero_elements d q n) es 0 (first_blank S s p d q n a y l) (omega (arith, full, count-zero_elements d q n)) (subst (λ z. AreElementsFilled S R a.segment z d q es) (let e : a.start + 1 ≡ a.start + 1 + 0 * (d + q) = omega arith in e) f) in
     subst (λ E. IsReplaced S R s p (Structs d q (zero_elements d q n)) (Structs d q E)) (ap (λ k. put_elements (zero_elements d q k) 0 es) (sym full) ∙ put_elements-all d q es) done.replaced
 
--- or some of them, and the next one in part
+-- Or it gets some of them, and part of the next one.
 pub elements_partly : (S R : Segments) (s p d q n : ℕ) (a : Target) → IsStored S s p (Structs d q (zero_elements d q n)) → Leads S s p a → ArePartlyFilled S R a.segment (a.start + 1) d q n → (y : Tree) × IsReplaced S R s p (Structs d q (zero_elements d q n)) y
 elements_partly S R s p d q n a y l f =
     let es = f.elements in

@@ -24,7 +24,7 @@ use Rattle.capnp_making.proofs.WordsPut.{ArePut, words_put}
 use Rattle.capnp_making.proofs.Written.{flat_written}
 use Rattle.capnp_making.proofs.Zeros.{in_row}
 
--- a null pointer is stored
+-- A null pointer is stored.
 pub null_stored : (S : Segments) (s p : ℕ) → p < length (segment S s) → word_at S s p ≡ 0 → IsStored S s p Null
 null_stored S s p place none = record {
   means = (0, 0, (none, refl));
@@ -59,7 +59,7 @@ nulls_zero S n s p zero c i h l = absurd (omega arith)
 nulls_zero S n s p (suc q) c zero (a, b, one, rest, g) l = ap (word_at S s) (let e : p + 0 ≡ p = omega arith in e) ∙ one.0
 nulls_zero S n s p (suc q) c (suc i) (a, b, one, rest, g) l = ap (word_at S s) (let e : p + suc i ≡ p + 1 + i = omega arith in e) ∙ nulls_zero S n s (p + 1) q b i rest (omega arith)
 
--- the pointers of a struct of zeros and nulls are null
+-- The pointers of a struct of zeros and null pointers are null.
 struct_nulls : (S : Segments) (s p q : ℕ) (ws : List ℕ) (i : ℕ) → IsStored S s p (Struct ws (nulls q)) → i < q → word_at S (target S s p).segment ((target S s p).start + length ws + i) ≡ 0
 struct_nulls S s p q ws i y l = let (n, c, (a, k, some, o, claim, e, all, g)) = y.means in
     subst (λ b. word_at S b.segment (b.start + length ws + i) ≡ 0) (sym (ap target_in o.leads_to.1)) (nulls_zero S _ a.segment (a.start + length ws) q k i all l)
@@ -94,7 +94,7 @@ structs_zero : (S : Segments) (s p d q k i : ℕ) → IsStored S s p (Structs d 
 structs_zero S s p d q k i y l = let (n, c, (a, m, j, some, o, claim, tag, fits, all, g)) = y.means in
     subst (λ b. word_at S b.segment (b.start + 1 + i) ≡ 0) (sym (ap target_in o.leads_to.1)) (elements_zero S _ a.segment (a.start + 1) d q k j i all l)
 
--- a struct, begun, its data words written, and then its pointers filled
+-- A struct: it is begun, its data words are written, and then its pointers are filled.
 
 pub struct_ready : (S M T : Segments) (s p q : ℕ) (h : Start) (ws : List ℕ) → IsBegun S M s p (length ws + q) h (Struct (words_of_zero (length ws)) (nulls q)) → T ≡ with_words M h.segment h.at ws →
     (h.at + length ws + q ≤ length (segment T h.segment)) × ((i : ℕ) → i < q → word_at T h.segment (h.at + length ws + i) ≡ 0)
@@ -123,7 +123,7 @@ pub struct_whole : (S M T R : Segments) (s p q : ℕ) (h : Start) (ws : List ℕ
 struct_whole S M T R s p q h ws ts b e f full =
     subst (λ X. IsReplaced S R s p Null (Struct ws X)) (ap (λ k. put_from (nulls k) 0 ts) (sym full) ∙ put_all ts) (struct_done S M T R s p q h ws ts b e f (le_of_eq full))
 
--- a list of pointers
+-- A list of pointers.
 
 pub pointers_ready : (S M : Segments) (s p q : ℕ) (h : Start) → IsBegun S M s p q h (Pointers (nulls q)) → (i : ℕ) → i < q → word_at M h.segment (h.at + i) ≡ 0
 pointers_ready S M s p q h b i l = rw (b.start.0, b.start.1) (pointers_nulls M s p q i b.made.stored l)
@@ -139,7 +139,7 @@ pub pointers_whole : (S M R : Segments) (s p q : ℕ) (h : Start) (ts : Trees) �
 pointers_whole S M R s p q h ts b f full =
     subst (λ X. IsReplaced S R s p Null (Pointers X)) (ap (λ k. put_from (nulls k) 0 ts) (sym full) ∙ put_all ts) (pointers_done S M R s p q h ts b f (le_of_eq full))
 
--- a list of structs
+-- A list of structs.
 
 pub structs_ready : (S M : Segments) (s p d q n : ℕ) (h : Start) → IsBegun S M s p (1 + n * (d + q)) h (Structs d q (zero_elements d q n)) → (i : ℕ) → i < n * (d + q) → word_at M h.segment (h.at + 1 + i) ≡ 0
 structs_ready S M s p d q n h b i l = rw (b.start.0, b.start.1) (structs_zero M s p d q n i b.made.stored l)
@@ -157,7 +157,7 @@ structs_done S M R s p d q n h b f =
     let done = elements_partly M R s p d q n a b.made.stored (structs_lead M s p d q (zero_elements d q n) b.made.stored) filled in
     (done.0, replaced_again S M R s p Null (Structs d q (zero_elements d q n)) _ b.made done.1)
 
--- a list of numbers
+-- A list of numbers.
 
 pub flat_whole : (S M R : Segments) (s p size n : ℕ) (h : Start) (ns : List ℕ) → IsBegun S M s p (words_for size n) h (Flat size (words_of_zero n)) → length ns ≡ n → AreBelow (2 ^ element_bits size) ns → R ≡ with_words M h.segment h.at (packed size ns) → IsReplaced S R s p Null (Flat size ns)
 flat_whole S M R s p size n h ns b len small e =

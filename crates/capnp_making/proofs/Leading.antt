@@ -1,4 +1,4 @@
--- Where far words lead, by one pad and by two.
+-- Where far pointers lead, by one pad and by two.
 use Rattle.std.proofs.Common.{◌≡◌, ◌≢◌, ℕ, suc, ◌+◌, ◌<◌, ◌≤◌, cond, nat_eq, nat_lt, Bool, true, false, zero, length, Option, Some, None, refl, sym, ap, ◌∙◌, arith, eq-eqb, ne_eqb, lt-ltb}
 use Rattle.std.proofs.lemmas.Bool.{ltb-true}
 use Rattle.capnp_format.specs.Word.{kind, is_double, far_position, upper_half, offset_bits}
@@ -7,7 +7,7 @@ use Rattle.capnp_format.specs.Means.{Leads}
 use Rattle.capnp_making.proofs.Zeros.{there}
 use Rattle.capnp_format.proofs.Following.{IsOffsetTo, offset_at}
 
--- where a far word leads by one pad, and by two
+-- Where a far pointer leads by one pad, and by two.
 far_word : (S : Segments) (s p x : ℕ) (a : Target) → word_at S s p ≡ x → kind x ≡ 2 → far S x (is_double x) ≡ Some a → Leads S s p a
 far_word S s p x a e is_far h = (
   λ z. let o : x ≡ 0 = cc in omega arith,
@@ -38,7 +38,7 @@ bound : {A B : Type 0} (o : Option A) (f : A → Option B) (y : B) → (o >>= f)
 bound (Some x) f y e = (x, refl, e)
 bound None f y e = cc
 
--- a word that is not far leads into its own segment
+-- A word that isn't a far pointer leads into its own segment.
 near_segment : (S : Segments) (s p x pads : ℕ) (a : Target) → near S s p x pads ≡ Some a → a.segment ≡ s
 near_segment S s p x pads a e =
     let (b, there, found) = bound (offset_leads (length (segment S s)) p (offset_bits x)) (λ b. Some (record { word = x; segment = s; start = b; pads = pads })) a e in
@@ -59,7 +59,7 @@ far_segment S x (suc d) a e =
     let place = passed (nat_lt (upper_half f) (length S)) (record { word = w; segment = upper_half f; start = far_position f; pads = 2 }) a (past (nat_eq (kind w) 2) (second f) a found) in
     omega (arith, ltb-true (upper_half f) (length S) place.0, ap (λ (t : Target). t.segment) place.1)
 
--- where a pointer leads there is a segment
+-- The segment that a pointer leads to exists.
 pub leads_segment : (S : Segments) (s p : ℕ) (a : Target) → s < length S → leads S s p ≡ Some a → a.segment < length S
 leads_segment S s p a l e = go (nat_eq (kind x) 2) e
   where

@@ -1,4 +1,4 @@
--- Objects made anew: what the words are, and that the place means them.
+-- New objects: what their words are, and that the place means them.
 use Rattle.std.proofs.Common.{◌≡◌, ◌≢◌, inl, inr, ℕ, zero, suc, ◌+◌, ◌-◌, ◌<◌, ◌≤◌, List, [], ◌∷◌, ◌++◌, length, set, replicate, get_or, cond, refl, sym, ap, ◌∙◌, subst, arith, ne_eqb, eq-eqb}
 use Rattle.std.proofs.lemmas.List.{length-set, length-append, length-replicate, get_or-set_same, get_or-set_other, get_or_append_left, get_or-append_right, get_or_past}
 use Rattle.std.proofs.lemmas.Bool.{cases_lt, cases_eq}
@@ -23,11 +23,11 @@ zeros_at zero i = refl
 zeros_at (suc k) zero = refl
 zeros_at (suc k) (suc i) = zeros_at k i
 
--- zeros behind words
+-- Zeros after the words xs.
 behind : (xs : List ℕ) (k r : ℕ) → length xs ≤ r → get_or (xs ++ replicate k 0) r 0 ≡ 0
 behind xs k r l = get_or-append_right xs (replicate k 0) (length xs) r 0 refl l ∙ zeros_at k (r - length xs)
 
--- words at the end of a segment
+-- n words more at the end of a segment.
 pub extended_grown : (S : Segments) (s n : ℕ) → s < length S → IsGrown S (extended S s (replicate n 0)) s (length (segment S s)) n
 extended_grown S s n l =
     let W = segment S s in
@@ -54,7 +54,7 @@ extended_grown S s n l =
       ];
     }
 
--- a segment behind the others
+-- A new segment after the others.
 pub another_grown : (S : Segments) (n : ℕ) → IsGrown S (with_another S n) (length S) 0 n
 another_grown S n =
     let zs : List ℕ = replicate n 0 in
@@ -90,7 +90,7 @@ pub taken_grown : (S T : Segments) (n s p : ℕ) → IsTaken S T n s p → IsGro
 taken_grown S T n s p (inl (l, e, f)) = rw (e, f) (extended_grown S s n l)
 taken_grown S T n s p (inr (l, e, f)) = rw (l, e, f) (another_grown S n)
 
--- one word written
+-- One word is written.
 pub record IsPut (S R : Segments) (s p x : ℕ) : Type 0 where
   pub segments : length R ≡ length S
   pub words : (v : ℕ) → length (segment R v) ≡ length (segment S v)
@@ -112,7 +112,7 @@ word_put S R s p x l e =
       ];
     })
 
--- zeros over words before, one word written then
+-- First words are zeroed, and then one word is written.
 pub pruned_but : (S M R : Segments) (s p x : ℕ) → IsPruned S M → IsPut M R s p x → IsPrunedBut S R s p x
 pruned_but S M R s p x pruned put = record {
   segments = put.segments ∙ pruned.segments;
@@ -139,7 +139,7 @@ outside s p v r h = elim (cases_eq (times (word_interval s p ∷ []) v r) 0) [
 once_row : (s p n v r : ℕ) → times (row s p n ∷ []) v r ≤ 1
 once_row s p n v r = grind (arith, nat_tests)
 
--- words taken behind those of the pointer's segment, and a near pointer
+-- Words are allocated after those of the pointer's segment, and a near pointer is written.
 pub made_near : (S T R : Segments) (s p n x : ℕ) → p < length (segment S s) → IsGrown S T s (length (segment S s)) n → R ≡ with_word T s p x → x ≢ 0 → kind x ≢ 2 → Reaches p (length (segment S s)) → offset_bits x ≡ offset_to p (length (segment S s)) →
     IsMade S R s p (record { word = x; segment = s; start = length (segment S s); pads = 0 }) n
 made_near S T R s p n x place g e some near reaches off =
@@ -160,7 +160,7 @@ made_near S T R s p n x place g e some near reaches off =
       zero = λ v r h l. put.kept v r (outside s p v r (λ f k. omega (arith, subst (λ u. length (segment S u) ≤ r) f l))) ∙ g.zero v r l;
     }
 
--- words and a pad before them taken anywhere, and a far pointer
+-- Words and a pad before them are allocated anywhere, and a far pointer is written.
 pub made_far : (S T U R : Segments) (s p k q n x f : ℕ) → p < length (segment S s) → IsGrown S T k q (n + 1) → U ≡ with_word T k q x → R ≡ with_word U s p f → kind x ≢ 2 → Reaches q (q + 1) → offset_bits x ≡ offset_to q (q + 1) →
     kind f ≡ 2 → is_double f ≡ 0 → far_position f ≡ q → upper_half f ≡ k → IsMade S R s p (record { word = x; segment = k; start = q + 1; pads = 1 }) n
 made_far S T U R s p k q n x f place g e h near reaches off far single at to =

@@ -12,7 +12,7 @@ use Rattle.capnp_making.specs.Zeroed.{IsPruned}
 abbrev pub words_in : View → Segments
 words_in v = v.words
 
--- zeros written over words leave the room
+-- Zeroing words leaves the room.
 pub room_left : (old new : View) (id n : ℕ) → KeepsLimits old new → IsPruned old.words new.words → HasRoom old id n → HasRoom new id n
 room_left old new id n limits pruned (inl fits) =
     let same : new.room ≡ old.room = ap (λ (v : View). v.room) limits in
@@ -21,7 +21,7 @@ room_left old new id n limits pruned (inr (k, first)) =
     let same : (j : ℕ) → new.room j ≡ old.room j = λ j. ap (λ (v : View). v.room j) limits in
     inr (k, (omega (arith, first.0, pruned.segments), omega (arith, first.1, pruned.words k, same k), λ j less. omega (arith, first.2 j less, pruned.words j, same j)))
 
--- nothing but words is changed by a write, nor by one call after another
+-- A write changes only words, and so does one call after another.
 
 pub limits_written : (a b : View) (S : Segments) → b ≡ record a { words = S } → KeepsLimits a b
 limits_written a b S e = subst (KeepsLimits a) (sym e) refl
@@ -29,7 +29,7 @@ limits_written a b S e = subst (KeepsLimits a) (sym e) refl
 pub limits_again : (a b c : View) → KeepsLimits a b → KeepsLimits b c → KeepsLimits a c
 limits_again a b c x y = y ∙ ap (λ (v : View). record v { words = c.words }) x
 
--- one call after another
+-- Memory is kept if nothing is done, and by one call after another.
 
 pub keeps_itself : (v : View) → KeepsMemory v v
 keeps_itself v = (refl, λ k l. refl)
@@ -40,7 +40,7 @@ keeps_both a b c grows x y = (y.0 ∙ ap (λ (v : View). record v { words = c.wo
 pub keeps_written : (a b : View) (S : Segments) → b ≡ record a { words = S } → KeepsMemory a b
 keeps_written a b S e = subst (KeepsMemory a) (sym e) (refl, λ k l. refl)
 
--- a refusal that isn't the allocator's
+-- A refusal that isn't the allocator's.
 pub not_the_allocator : (k : ErrorKind) → (k ≡ AllocationFailed → ⊥) → (n : ℕ) → refusals_for k n ≡ n
 not_the_allocator AllocationFailed other n = absurd (other refl)
 not_the_allocator k other n = refl
@@ -67,14 +67,14 @@ spends_then_limits a b c k x e =
       times ∙ x.2,
     )
 
--- a refusal, told of a view before and of one after
+-- A refusal, as a statement about the view before and the view after.
 
 refusal_of : (a b c d : View) (n m : ℕ) (k : ErrorKind) → b.refusals ≡ a.refusals → d.refusals ≡ c.refusals → IsAllocationRefusal b c n m k → IsAllocationRefusal a d n m k
 refusal_of a b c d n m k before after (inl (e, f, g, h)) = inl (e, f, g, after ∙ h ∙ ap one_more before)
 refusal_of a b c d n m k before after (inr (inl (e, f, g, h))) = inr (inl (e, f, g, after ∙ h ∙ before))
 refusal_of a b c d n m k before after (inr (inr (e, f, h))) = inr (inr (e, f, after ∙ h ∙ before))
 
--- words become zero before an object is refused
+-- Words are zeroed before an object is refused.
 pub refused_after : (a b c : View) (n : ℕ) (k : ErrorKind) → KeepsLimits a b → IsPruned a.words b.words → IsRefusedFor b c n k → IsRefusedFor a c n k
 refused_after a b c n k limits pruned (r, e) = (
   subst (λ i. IsAllocationRefusal a c i (n + 1) k) pruned.segments (refusal_of a b c c (length b.words) (n + 1) k (ap (λ (v : View). v.refusals) limits) refl r),
@@ -92,7 +92,7 @@ words_refused_before a b c n k (r, full) e pruned =
       λ j fit. full j (omega (arith, fit.0, pruned.segments), omega (arith, fit.1, pruned.words j, same j), λ i less. omega (arith, fit.2 i less, pruned.words i, same i)),
     )
 
--- an object that is refused
+-- An object that is refused.
 pub made_refused : (a b : View) (id n : ℕ) (k : ErrorKind) → IsRefusedFor a b n k → b.words ≡ a.words → (HasRoom a id n → ⊥) → RefusesWords a b n k × SpendsMemory a b k
 made_refused a b id n k (r, e) words full =
     let room : b.room ≡ a.room = ap (λ (v : View). v.room) e in

@@ -10,7 +10,7 @@ use Rattle.capnp_arena_traits.specs.Written.{with_word, extended}
 use Rattle.capnp_making.specs.Made.{words_of_zero, list_words}
 use Rattle.capnp_making.specs.Near.{HasOwnRoom, offset_behind, with_object}
 
--- Segment id has room for a struct that has a word; or for a list of n structs.
+-- Segment id has room for a struct with at least one word; or for a list of n structs.
 abbrev pub HasStructRoom : View → ℕ → StructSize → Type 0
 HasStructRoom v id size =
     (0 < size.data_words + size.pointers) × HasOwnRoom v id (size.data_words + size.pointers)
@@ -18,8 +18,8 @@ HasStructRoom v id size =
 abbrev pub HasStructsRoom : View → ℕ → ℕ → StructSize → Type 0
 HasStructsRoom v id n size = HasOwnRoom v id (1 + n * (size.data_words + size.pointers))
 
--- a struct, a list of n elements that are no structs, and a list of n structs, all zero, each with
--- its pointer
+-- A struct, a list of n elements that aren't structs, and a list of n structs, all zero, each with
+-- its pointer.
 abbrev pub with_struct : Segments → ℕ → ℕ → StructSize → Segments
 with_struct S id p size =
     with_object S id p (struct_word (offset_behind S id p) size.data_words size.pointers)
@@ -35,13 +35,13 @@ with_struct_list S id p n size =
     (struct_word n size.data_words size.pointers
     ∷ words_of_zero (n * (size.data_words + size.pointers)))
 
--- a word of a segment is written before or after more words are taken behind its own
+-- Writing a word of a segment before or after more words are added at its end is the same.
 pub object_put : (S : Segments) (s p x : ℕ) (ws : List ℕ) → IsPlace S s p → with_word (extended S s ws) s p x ≡ with_object S s p x ws
 object_put [] s p x ws l = refl
 object_put (t ∷ S) zero p x ws l = ap (λ ys. ys ∷ S) (set-append_left t ws p x l)
 object_put (t ∷ S) (suc s) p x ws l = ap (λ T. t ∷ T) (object_put S s p x ws l)
 
--- the first of the words that were taken is written
+-- The first of the words that were allocated is written.
 pub first_put : {b : ℕ} (S : Segments) (s n x : ℕ) → b ≡ length (segment S s) → with_word (extended S s (replicate (1 + n) 0)) s b x ≡ extended S s (x ∷ replicate n 0)
 first_put [] s n x e = refl
 first_put {b} (t ∷ S) zero n x e =
@@ -49,7 +49,7 @@ first_put {b} (t ∷ S) zero n x e =
     ap (λ ys. ys ∷ S) (ap₂ (λ i xs. set (t ++ xs) i x) e more ∙ set-append_seam t 0 (replicate n 0) x)
 first_put (t ∷ S) (suc s) n x e = ap (λ T. t ∷ T) (first_put S s n x e)
 
--- a word that is written leaves the segment as long
+-- Writing a word leaves the length of the segment unchanged.
 pub long_as : (S : Segments) (s p x : ℕ) → length (segment (with_word S s p x) s) ≡ length (segment S s)
 long_as [] s p x = refl
 long_as (t ∷ S) zero p x = length-set t p x

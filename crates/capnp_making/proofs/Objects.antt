@@ -1,4 +1,4 @@
--- The object that a pointer leads to made zero, with all below it, and its pads.
+-- The object that a pointer leads to is zeroed, with all below it, and its pads.
 use Rattle.std.proofs.Common.{◌≡◌, ◌≢◌, ℕ, pred, ◌+◌, ◌*◌, ◌<◌, ◌≤◌, [], ◌∷◌, length, Some, None, refl, sym, ap, ◌∙◌, subst, le_trans, arith}
 use Rattle.std.proofs.lemmas.Bool.Decides.{nat_tests}
 use Rattle.capnp_format.specs.Word.{kind, upper_half, data_words, pointer_count, element_size, list_count}
@@ -13,7 +13,7 @@ use Rattle.capnp_making.proofs.Zeros.{zeroed_again}
 use Rattle.capnp_format.proofs.ZeroWords.{zero_is_null}
 use Rattle.capnp_making.proofs.Below.{split_row, zeroed_grows, pads_inside, place_object}
 
--- an object whose words and all below it stay
+-- An object stays the same if its words and all below it do.
 pub object_kept : (S R : Segments) (n : ℕ) (a : Target) (t : Tree) → Grows S R → Agree S R (object_cover S a t) → IsObjectAt S n a t → IsObjectAt R n a t × (object_cover R a t ≡ object_cover S a t)
 object_kept S R n a Null grows h o = absurd o
 object_kept S R n a (Capability i) grows h o = (o, refl)
@@ -37,7 +37,7 @@ object_kept S R n a (Structs d q es) grows h (k, x, e, tag, claim, all) =
     let first : word_at R a.segment a.start ≡ word_at S a.segment a.start = same a.start (omega arith) (omega arith) in
     ((k, x, e, subst (λ y. IsTag y (element_count es) d q) (sym first) tag, le_trans claim (grows.words a.segment), f.0), ap (λ js. own ∷ js) f.1)
 
--- the pointer becomes zero, then its object and all below it, then its pads
+-- The pointer is zeroed, then its object and all below it, then its pads.
 pub object_done : (S R K L : Segments) (s p : ℕ) (t : Tree) (b : Target) → word_at S s p ≢ 0 → ((a : Target) → leads S s p ≡ Some a → Some b ≡ Some a) → IsZeroed S R (word_interval s p ∷ []) →
     ((u : Tree) → IsObjectApart R b u → IsZeroed R K (object_cover R b u)) → (PadsInside K (word_at S s p) → IsZeroed K L (pads_of (word_at S s p))) → IsApart S s p t → IsZeroed S L (extent S s p t)
 object_done S R K L s p t b some goes z object pads a =
@@ -56,7 +56,7 @@ object_done S R K L s p t b some goes z object pads a =
     let first : IsZeroed S K (word_interval s p ∷ O) = zeroed_again S R K (word_interval s p ∷ []) O (word_interval s p ∷ O) (λ v r. (λ x. omega arith, λ x. omega arith)) z gone in
     zeroed_again S K L (word_interval s p ∷ O) P (extent S s p t) (λ v r. let f = all v r in (λ x. omega (arith, f), λ x. omega (arith, f))) first (pads inside)
 
--- a pointer that leads nowhere means nothing
+-- A pointer that leads nowhere means nothing.
 pub nowhere_apart : (S : Segments) (s p : ℕ) (t : Tree) → word_at S s p ≢ 0 → ((a : Target) → leads S s p ≡ Some a → None ≡ Some a) → IsApart S s p t → ⊥
 nowhere_apart S s p t some goes a = let m = a.means in let (c, e, o, covers) = place_object S m.0 s p t m.1 some m.2 in let f = goes c e in cc
 
@@ -67,7 +67,7 @@ null_done S s p t e a = let n = zero_is_null S s p t a.means.0 a.means.1 e a.mea
     place : (v r : ℕ) → 0 < times (word_interval s p ∷ []) v r → (v ≡ s) × (r ≡ p)
     place v r l = (grind (arith, nat_tests), grind (arith, nat_tests))
 
--- the object of each kind
+-- The object of each kind.
 pub landed_struct : (S L : Segments) (a : Target) (d q : ℕ) (t : Tree) → kind a.word ≡ 0 → d ≡ data_words a.word → q ≡ pointer_count a.word →
     ((ts : Trees) → (count ts ≡ q) × (a.start + (d + q) ≤ length (segment S a.segment)) × AreApart S a.segment (a.start + d) ts → IsZeroed S L (row a.segment a.start (d + q) ∷ cover_all S a.segment (a.start + d) ts)) →
     IsObjectApart S a t → IsZeroed S L (object_cover S a t)

@@ -1,4 +1,5 @@
--- The value at the end of a path is replaced, and the whole means the tree with the new value there.
+-- The value at the end of a path is replaced, and the whole means the tree with the new value
+-- there.
 use Rattle.std.proofs.Common.{◌≡◌, ◌≢◌, ℕ, zero, suc, pred, ◌+◌, ◌*◌, ◌<◌, ◌≤◌, List, [], ◌∷◌, ◌++◌, length, Some, refl, sym, ap, ◌∙◌, subst, le_trans, arith}
 use Rattle.capnp_format.specs.Word.{list_count}
 use Rattle.capnp_format.specs.Segments.{Segments, segment, word_at, Target, leads}
@@ -13,7 +14,7 @@ use Rattle.capnp_format.proofs.Levels.{other_levels, depth_within}
 use Rattle.capnp_making.proofs.Extents.{AgreeBeside, word_within, times-first, times-object, keeps_object}
 use Rattle.capnp_making.proofs.Tidy.{at_target, tidy_kept, tidy_kept_all, tidy_kept_elements}
 
--- one child, at its place
+-- One child, at its place.
 pub means_child : (S : Segments) (n s p : ℕ) (ts : Trees) (c i : ℕ) → i < count ts → MeansAll S n s p ts c → (k : ℕ) × Means S n s (p + i) (tree_at ts i) k
 means_child S n s p no_trees c i l h = absurd (omega arith)
 means_child S n s p (tree t ts) c zero l (a, b, one, rest, g) = (a, subst (λ q. Means S n s q t a) (let e : p ≡ p + 0 = omega arith in e) one)
@@ -70,7 +71,7 @@ tidy_element_child S n s p d q (element ws ts es) c (suc i) j l m (a, b, long, l
 row_within : (i n w k : ℕ) → i < n → k < w → i * w + k < n * w
 row_within i n w k l m = grind arith
 
--- one child written anew
+-- From S to R child i is rewritten to y.
 pub record ChildrenPut (S R : Segments) (n s p : ℕ) (ts : Trees) (i : ℕ) (y : Tree) : Type 0 where
   pub cost : ℕ
   pub means : MeansAll R n s p (put_tree ts i y) cost
@@ -117,7 +118,7 @@ put_child S R n s p (tree t ts) c (suc i) y e grows l same h (a, b, one, rest, g
       tidy = λ v w. (tidy_kept S R n s p t a grows same_first agree_first one v.0, others.tidy v.1 (subst (λ q. IsTidy R s q y) here w));
     }
 
--- one child of one element
+-- From S to R child j of element i is rewritten to y.
 pub record ElementsPut (S R : Segments) (n s p d q : ℕ) (es : Elements) (i j : ℕ) (y : Tree) : Type 0 where
   pub cost : ℕ
   pub means : MeansElements R n s p d q (put_struct es i (put (struct_at es i) (Child j) y)) cost
@@ -184,14 +185,14 @@ word_in (node s p t) = p
 abbrev value_in : Node → Tree
 value_in (node s p t) = t
 
--- the same pointer with the same value, and its parts
+-- If two nodes are the same, so are their places and their values.
 pub same_node : {s p u q : ℕ} {t x : Tree} → node s p t ≡ node u q x → (s ≡ u) × (p ≡ q) × (t ≡ x)
 same_node h = (ap segment_in h, ap word_in h, ap value_in h)
 
 pub node_of_parts : {s p u q : ℕ} {t x : Tree} → s ≡ u → p ≡ q → t ≡ x → node s p t ≡ node u q x
 node_of_parts a b c = rw (a, b, c) refl
 
--- what is held along the path is held by the whole
+-- What the value at the end of the path holds is held by the whole.
 pub part_within : (S : Segments) (n s p : ℕ) (t : Tree) (c : ℕ) (path : List Step) (u q : ℕ) (x : Tree) → PathLeads S (node s p t) path (node u q x) → Means S n s p t c →
     (v r : ℕ) → times (extent S u q x) v r ≤ times (extent S s p t) v r
 part_within S n s p t c [] u q x h m v r =
@@ -239,7 +240,7 @@ part_within S n s p (Structs d w es) c (Element i ∷ Child j ∷ path) u q x h 
     )
 part_within S n s p t c (step ∷ path) u q x h m v r = absurd h
 
--- an object's extent in R beside its extent in S
+-- An object's extent in R, compared with its extent in S.
 object_covers : (S R : Segments) (s p n m : ℕ) (a : Target) (more more' : Target → List Interval) (v r : ℕ) → word_at R s p ≡ word_at S s p → leads S s p ≡ Some a → leads R s p ≡ Some a → m ≡ n →
     times (word_interval s p ∷ pads_of (word_at R s p) ++ object_of (target R s p) m ∷ more' (target R s p)) v r + times (more a) v r
     ≡ times (word_interval s p ∷ pads_of (word_at S s p) ++ object_of (target S s p) n ∷ more (target S s p)) v r + times (more' a) v r
@@ -254,7 +255,8 @@ object_covers S R s p n m a more more' v r same l k e =
       ap (λ x. times (object_of a x ∷ []) v r) e,
     )
 
--- the place (s, p), where t was meant, means t with y at the path in place of x at (u, q); and all that is held is what was, but for what x held, and what y holds
+-- From S to R the place (s, p), which meant t, means t with y at the end of the path instead of x
+-- at (u, q). It holds the same words as before, without those of x and with those of y.
 pub record IsUpdated (S R : Segments) (n s p : ℕ) (t : Tree) (path : List Step) (u q : ℕ) (x y : Tree) : Type 0 where
   pub cost : ℕ
   pub means : Means R n s p (update t path y) cost

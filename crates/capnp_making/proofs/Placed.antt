@@ -1,4 +1,4 @@
--- What is made anew is stored.
+-- New objects are stored.
 use Rattle.std.proofs.Common.{◌≡◌, ◌≢◌, inl, inr, ℕ, zero, suc, ◌+◌, ◌-◌, ◌^◌, ◌<◌, ◌≤◌, [], ◌∷◌, ◌++◌, length, take, drop, refl, sym, ap, ap₂, ◌∙◌, le_of_eq, arith}
 use Rattle.std.proofs.lemmas.List.{length-replicate, get_or_past}
 use Rattle.std.proofs.Math.Seq.{drop-cons}
@@ -18,13 +18,13 @@ use Rattle.capnp_making.specs.Made.{IsMade, words_of_zero, nulls}
 use Rattle.capnp_making.proofs.MadeWords.{IsPut, not_far}
 use Rattle.capnp_making.proofs.Zeros.{there, in_row, of_row}
 
--- what a place holds becomes zero
+-- What a place holds is zeroed.
 pub zeroed_replaced : (S R : Segments) (s p : ℕ) (t : Tree) → ((u : Tree) → IsApart S s p u → IsZeroed S R (extent S s p u)) → IsStored S s p t → IsReplaced S R s p t Null
 zeroed_replaced S R s p t h a =
     let z = h t (record { means = a.means; apart = a.apart }) in
     cleared S R s p t z.segments z.words a z.zero z.kept
 
--- words of zero
+-- n zero words.
 pub zeros_stand : (R : Segments) (s b n : ℕ) → ((r : ℕ) → b ≤ r → r < b + n → word_at R s r ≡ 0) → b + n ≤ length (segment R s) → words_at R s b n ≡ words_of_zero n
 zeros_stand R s b zero h l = refl
 zeros_stand R s b (suc n) h l =
@@ -32,7 +32,7 @@ zeros_stand R s b (suc n) h l =
     ap (take (suc n)) (drop-cons W b 0 (omega arith)) ∙ ap₂ (λ x xs. x ∷ xs) (h b (omega arith) (omega arith))
     (ap (λ i. take n (drop i W)) (let e : suc b ≡ b + 1 = omega arith in e) ∙ zeros_stand R s (b + 1) n (λ r x y. h r (omega arith) (omega arith)) (omega arith))
 
--- the words of an object that is made anew
+-- The words of a new object are zero.
 pub new_zero : (S R : Segments) (s p : ℕ) (a : Target) (n : ℕ) → IsMade S R s p a n → (r : ℕ) → a.start ≤ r → r < a.start + n → word_at R a.segment r ≡ 0
 new_zero S R s p a n m r l h =
     let one = of_row a.segment a.start n r l h in
@@ -55,7 +55,7 @@ pub nulls_cover : (R : Segments) (s b k : ℕ) → cover_all R s b (nulls k) ≡
 nulls_cover R s b zero = refl
 nulls_cover R s b (suc k) = nulls_cover R s (b + 1) k
 
--- a struct made anew
+-- A new struct is stored.
 pub struct_made : (S R : Segments) (s p d q : ℕ) (a : Target) → p < length (segment S s) → IsMade S R s p a (d + q) → kind a.word ≡ 0 → data_words a.word ≡ d → pointer_count a.word ≡ q →
     IsReplaced S R s p Null (Struct (words_of_zero d) (nulls q))
 struct_made S R s p d q a place m is_struct is_d is_q =
@@ -82,7 +82,7 @@ struct_made S R s p d q a place m is_struct is_d is_q =
     (λ v r. omega (arith, same v r, m.once v r)) (λ v r l. m.fresh v r (omega (arith, same v r))) m.kept
     (λ v r none l. m.zero v r (omega (arith, same v r, times-append (pads_of (word_at R s p)) (object_of a (d + q) ∷ []) v r)) l)
 
--- the empty struct, which takes no words
+-- The empty struct, which takes no words.
 pub empty_made : (S R : Segments) (s p x : ℕ) → p < length (segment S s) → IsPut S R s p x → x ≡ struct_word (2 ^ 30 - 1) 0 0 → IsMade S R s p (record { word = x; segment = s; start = p; pads = 0 }) (0 + 0)
 empty_made S R s p x place put e =
     let some : x ≢ 0 = λ z. omega arith in

@@ -1,4 +1,4 @@
--- Lists made anew are stored.
+-- New lists are stored.
 use Rattle.std.proofs.Common.{◌≡◌, ℕ, zero, suc, ◌+◌, ◌*◌, ◌/◌, ◌%◌, ◌^◌, ◌<◌, ◌≤◌, [], ◌∷◌, ◌++◌, length, inl, inr, cond, refl, sym, ap, ap₂, ◌∙◌, subst, arith, eq-eqb, ne_eqb}
 use Rattle.std.proofs.lemmas.List.{length-replicate}
 use Rattle.std.proofs.lemmas.Bool.{cases_eq}
@@ -38,7 +38,7 @@ pub packed_zeros : (size n : ℕ) → packed size (words_of_zero n) ≡ words_of
 packed_zeros size n =
     ap (digits (2 ^ 64) (words_for size (length (words_of_zero n)))) (from_zeros (2 ^ element_bits size) n) ∙ no_digits (2 ^ 64) (words_for size (length (words_of_zero n))) ∙ ap (λ k. words_of_zero (words_for size k)) (length-replicate {A = ℕ} n 0)
 
--- a list of numbers made anew
+-- A new list of numbers.
 pub flat_made : (S R : Segments) (s p size n : ℕ) (a : Target) → p < length (segment S s) → size ≤ 5 → IsMade S R s p a (words_for size n) → kind a.word ≡ 1 → element_size a.word ≡ size → list_count a.word ≡ n →
     IsReplaced S R s p Null (Flat size (words_of_zero n))
 flat_made S R s p size n a place small m is_list is_size is_n =
@@ -67,7 +67,7 @@ flat_made S R s p size n a place small m is_list is_size is_n =
     placed S R s p (Flat size (words_of_zero n)) 1 c m.grows place means tidy (λ v r. omega (arith, same v r, m.once v r)) (λ v r l. m.fresh v r (omega (arith, same v r))) m.kept
     (λ v r none l. m.zero v r (omega (arith, same v r, times-append (pads_of (word_at R s p)) (object_of a w ∷ []) v r)) l)
 
--- a list of null pointers made anew
+-- A new list of null pointers.
 pub pointers_made : (S R : Segments) (s p n : ℕ) (a : Target) → p < length (segment S s) → IsMade S R s p a n → kind a.word ≡ 1 → element_size a.word ≡ 6 → list_count a.word ≡ n → IsReplaced S R s p Null (Pointers (nulls n))
 pointers_made S R s p n a place m is_list is_size is_n =
     let ln : count (nulls n) ≡ n = count-nulls n in
@@ -90,7 +90,7 @@ pointers_made S R s p n a place m is_list is_size is_n =
     placed S R s p (Pointers (nulls n)) 1 c m.grows place means (nulls_tidy R (target R s p).segment (target R s p).start n) (λ v r. omega (arith, same v r, m.once v r)) (λ v r l. m.fresh v r (omega (arith, same v r))) m.kept
     (λ v r none l. m.zero v r (omega (arith, same v r, times-append (pads_of (word_at R s p)) (object_of a n ∷ []) v r)) l)
 
--- a list of any elements but structs
+-- A list of any elements except structs.
 pub list_made : (S R : Segments) (s p size n : ℕ) (a : Target) → p < length (segment S s) → size ≤ 6 → IsMade S R s p a (list_words size n) → kind a.word ≡ 1 → element_size a.word ≡ size → list_count a.word ≡ n →
     IsReplaced S R s p Null (zero_list size n)
 list_made S R s p size n a place small m is_list is_size is_n =

@@ -1,4 +1,4 @@
--- Capabilities, and lists of structs, made anew are stored.
+-- New capabilities and lists of structs are stored.
 use Rattle.std.proofs.Common.{◌≡◌, ◌≢◌, inl, ℕ, zero, suc, ◌+◌, ◌*◌, ◌<◌, ◌≤◌, [], ◌∷◌, ◌++◌, length, refl, sym, ap, ap₂, ◌∙◌, subst, le_of_eq, arith}
 use Rattle.std.proofs.lemmas.List.{length-replicate, get_or_past}
 use Rattle.capnp_format.specs.Word.{kind, element_size, list_count, offset_bits, capability_word}
@@ -20,7 +20,7 @@ use Rattle.capnp_making.proofs.Zeros.{of_row}
 capability_fields : (x i : ℕ) → x ≡ capability_word i → (x ≢ 0) × (kind x ≡ 3) × (offset_bits x ≡ 0)
 capability_fields x i e = (λ z. omega arith, omega arith, omega arith)
 
--- a capability's word over a null pointer
+-- A capability's word is written over a null pointer.
 pub capability_made : (S R : Segments) (s p i : ℕ) → p < length (segment S s) → R ≡ with_word S s p (capability_word i) → IsReplaced S R s p Null (Capability i)
 capability_made S R s p i place e =
     let put = word_put S R s p (capability_word i) place e in
@@ -59,21 +59,21 @@ zero_elements_cover : (R : Segments) (s p d q k : ℕ) → cover_elements R s p 
 zero_elements_cover R s p d q zero = refl
 zero_elements_cover R s p d q (suc k) = ap₂ (λ is js. is ++ js) (nulls_cover R s (p + d) q) (zero_elements_cover R s (p + d + q) d q k)
 
--- What is made anew from S to M: a list of structs, but for its tag, which is written from M to R.
+-- From S to M a list of structs is made, without its tag, which is written from M to R.
 pub record IsListMade (S M : Segments) (s p : ℕ) (a : Target) (w : ℕ) : Type 0 where
   pub made : IsMade S M s p a (1 + w)
   pub is_list : kind a.word ≡ 1
   pub is_size : element_size a.word ≡ 7
   pub counts : list_count a.word ≡ w
 
--- the first word of what is made anew is new, and no pad
+-- The first word of a new object is new, and isn't a pad.
 first_is_new : (S M : Segments) (s p w : ℕ) (a : Target) → IsMade S M s p a (1 + w) → (length (segment S a.segment) ≤ a.start) × (times (pads_of (word_at M s p)) a.segment a.start ≡ 0)
 first_is_new S M s p w a m =
     let parts = times-append (pads_of (word_at M s p)) (object_of a (1 + w) ∷ []) a.segment a.start in
     let first : times (object_of a (1 + w) ∷ []) a.segment a.start ≡ 1 = of_row a.segment a.start (1 + w) a.start (omega arith) (omega arith) in
     ((m.fresh a.segment a.start (omega (arith, parts, first))).0, omega (arith, m.once a.segment a.start, parts, first))
 
--- the pointer leads there still when that word is written
+-- The pointer still leads there when that word is written.
 still_leads : (S M R : Segments) (s p w x : ℕ) (a : Target) → p < length (segment S s) → IsMade S M s p a (1 + w) → IsPut M R a.segment a.start x → (word_at R s p ≡ word_at M s p) × Leads R s p a
 still_leads S M R s p w x a place m put =
     let (new, no_pad) = first_is_new S M s p w a m in
@@ -85,7 +85,7 @@ still_leads S M R s p w x a place m put =
 pub structs_lead : (S M R : Segments) (s p w x : ℕ) (a : Target) → p < length (segment S s) → IsMade S M s p a (1 + w) → R ≡ with_word M a.segment a.start x → target R s p ≡ a
 structs_lead S M R s p w x a place m e = ap target_in (still_leads S M R s p w x a place m (word_put M R a.segment a.start x (omega (arith, m.claims)) e)).1.1
 
--- a list of structs made anew
+-- A new list of structs.
 pub structs_made : (S M R : Segments) (s p d q n x : ℕ) (a : Target) → p < length (segment S s) → IsListMade S M s p a (n * (d + q)) → IsTag x n d q → R ≡ with_word M a.segment a.start x →
     IsReplaced S R s p Null (Structs d q (zero_elements d q n))
 structs_made S M R s p d q n x a place list tag e =

@@ -1,4 +1,4 @@
--- What all children but one cover.
+-- What all children except one cover.
 use Rattle.std.proofs.Common.{◌≡◌, ℕ, zero, suc, ◌+◌, ◌<◌, List, [], ◌++◌, refl, ap, ◌∙◌, arith}
 use Rattle.capnp_format.specs.Segments.{Segments}
 use Rattle.capnp_format.specs.Tree.{Tree, Trees, no_trees, tree, count, Elements, no_elements, element}
@@ -6,7 +6,7 @@ use Rattle.capnp_format.specs.Forest.{Interval, times, cover, cover_all, cover_e
 use Rattle.capnp_making.specs.Path.{tree_at, put_tree}
 use Rattle.capnp_format.proofs.Frame.{times-append}
 
--- what all children but the i-th cover
+-- What all children except the i-th cover.
 abbrev pub cover_others : Segments → ℕ → ℕ → Trees → ℕ → List Interval
 cover_others S s p no_trees i = []
 cover_others S s p (tree t ts) zero = cover_all S s (p + 1) ts
@@ -28,7 +28,7 @@ times-others S s p (tree t ts) (suc i) u q l =
       moved,
     )
 
--- and of one element
+-- The same for children of the elements: all except child j of element i.
 abbrev pub cover_other_elements : Segments → ℕ → ℕ → ℕ → ℕ → Elements → ℕ → ℕ → List Interval
 cover_other_elements S s p d q no_elements i j = []
 cover_other_elements S s p d q (element ws ts es) zero j = cover_others S s (p + d) ts j ++ cover_elements S s (p + d + q) d q es

@@ -1,4 +1,4 @@
--- A value replaced at the end of a path is a value replaced at its start; and a forest stays one.
+-- A value replaced at the end of a path is replaced at its start too; and a forest stays a forest.
 use Rattle.std.proofs.Common.{◌≡◌, inl, inr, ℕ, pred, ◌+◌, ◌*◌, ◌<◌, ◌≤◌, List, [], ◌∷◌, length, refl, sym, ap, ◌∙◌, subst, le_trans, le_of_eq, arith}
 use Rattle.std.proofs.lemmas.List.{get_or_past}
 use Rattle.std.proofs.lemmas.Bool.Decides.{nat_tests}
@@ -16,7 +16,7 @@ use Rattle.capnp_format.proofs.Levels.{other_levels, depth_within}
 use Rattle.capnp_making.proofs.Extents.{AgreeBeside, once_held, times-first}
 use Rattle.capnp_making.proofs.Paths.{means_child, means_element_child, tidy_child, tidy_element_child, same_node, part_within, updated}
 
--- what a path leads to means its value, and is tidy
+-- The end of a path means its value, and is tidy.
 pub within_means : (S : Segments) (n s p : ℕ) (t : Tree) (c : ℕ) (path : List Step) (u q : ℕ) (x : Tree) → PathLeads S (node s p t) path (node u q x) → Means S n s p t c → IsTidy S s p t →
     (m : ℕ) × (k : ℕ) × Means S m u q x k × IsTidy S u q x
 within_means S n s p t c [] u q x way m y =
@@ -40,7 +40,7 @@ within_means S n s p (Structs d w es) c (Element i ∷ Child j ∷ path) u q x h
     (tidy_element_child S (pred n) a.segment (a.start + 1) d w es k i j h.0 h.1 all (subst (λ b. AreTidyElements S b.segment (b.start + 1) d w es) (ap target_in o.leads_to.1) y.1))
 within_means S n s p t c (step ∷ path) u q x h m y = absurd h
 
--- what a path leads to is stored, where its start is
+-- The value at the end of a path is stored if the one at its start is.
 pub stored_within : (S : Segments) (s p : ℕ) (t : Tree) (path : List Step) (u q : ℕ) (x : Tree) → PathLeads S (node s p t) path (node u q x) → IsStored S s p t → IsStored S u q x
 stored_within S s p t path u q x h a =
     let m = a.means in
@@ -53,7 +53,7 @@ stored_within S s p t path u q x h a =
       tidy = w.3;
     }
 
--- replaced at the end of a path, so replaced at its start
+-- A value replaced at the end of a path is replaced at its start.
 pub replaced_within : (S R : Segments) (s p : ℕ) (t : Tree) (path : List Step) (u q : ℕ) (x y : Tree) → PathLeads S (node s p t) path (node u q x) → IsStored S s p t → IsReplaced S R u q x y → IsReplaced S R s p t (update t path y)
 replaced_within S R s p t path u q x y h a b =
     let old = a.means in
@@ -98,7 +98,7 @@ replaced_within S R s p t path u q x y h a b =
       kept = λ v r none l. b.kept v r (omega (arith, le v r)) l;
     }
 
--- replaced twice
+-- A value is replaced twice.
 pub replaced_again : (S R Q : Segments) (s p : ℕ) (t u w : Tree) → IsReplaced S R s p t u → IsReplaced R Q s p u w → IsReplaced S Q s p t w
 replaced_again S R Q s p t u w a b = record {
   segments = le_trans a.segments b.segments;
@@ -124,14 +124,14 @@ replaced_again S R Q s p t u w a b = record {
   ];
 }
 
--- the root of a forest
+-- The root of a forest is stored.
 pub forest_stored : (S : Segments) (t : Tree) → IsForest S t → IsStored S 0 0 t
 forest_stored S t a = record { means = a.means; apart = a.apart; inside = a.inside; tidy = a.tidy }
 
 pub forest_of : (S : Segments) (t : Tree) → IsStored S 0 0 t → ((v r : ℕ) → times (extent S 0 0 t) v r ≡ 0 → word_at S v r ≡ 0) → IsForest S t
 forest_of S t a zeros = record { means = a.means; apart = a.apart; inside = a.inside; zero_elsewhere = zeros; tidy = a.tidy }
 
--- a value replaced at the end of a path: the forest has the tree with the new value there
+-- A value is replaced at the end of a path: the forest has the tree with the new value there.
 pub forest_updated : (S R : Segments) (t : Tree) (path : List Step) (u q : ℕ) (x y : Tree) → IsForest S t → PathLeads S (node 0 0 t) path (node u q x) → IsReplaced S R u q x y → IsForest R (update t path y)
 forest_updated S R t path u q x y a h b =
     let whole = replaced_within S R 0 0 t path u q x y h (forest_stored S t a) b in
@@ -143,7 +143,7 @@ forest_updated S R t path u q x y a h b =
       | inr some ↦ whole.zero_elsewhere v r none (inl (omega arith))
     ])
 
--- all that a value holds made zero
+-- All that a value holds is zeroed.
 pub cleared : (S R : Segments) (s p : ℕ) (t : Tree) → length R ≡ length S → ((v : ℕ) → length (segment R v) ≡ length (segment S v)) → IsStored S s p t → ((v r : ℕ) → 0 < times (extent S s p t) v r → word_at R v r ≡ 0) →
     ((v r : ℕ) → times (extent S s p t) v r ≡ 0 → word_at R v r ≡ word_at S v r) → IsReplaced S R s p t Null
 cleared S R s p t long longs a gone same =
@@ -165,7 +165,7 @@ cleared S R s p t long longs a gone same =
       kept = λ v r none l. same v r none;
     }
 
--- a value written into new words, over Null
+-- A value is written into new words, in place of Null.
 pub placed : (S R : Segments) (s p : ℕ) (u : Tree) (n c : ℕ) → Grows S R → p < length (segment S s) → Means R n s p u c → IsTidy R s p u →
     ((v r : ℕ) → times (cover R s p u) v r ≤ 1) → ((v r : ℕ) → 0 < times (cover R s p u) v r → (length (segment S v) ≤ r) × (r < length (segment R v))) →
     ((v r : ℕ) → times (word_interval s p ∷ []) v r ≡ 0 → r < length (segment S v) → word_at R v r ≡ word_at S v r) → ((v r : ℕ) → times (cover R s p u) v r ≡ 0 → length (segment S v) ≤ r → word_at R v r ≡ 0) → IsReplaced S R s p Null u
@@ -210,7 +210,7 @@ placed S R s p u n c grows place m y once new same zeros =
     place_held : (s p : ℕ) (S : Segments) (v r : ℕ) → p < length (segment S s) → 0 < times (word_interval s p ∷ []) v r → r < length (segment S v)
     place_held s p S v r place l = let e = is_place s p v r l in rw (e.0, e.1) place
 
--- new words alone, all of them zero
+-- There are only new words, all of them zero.
 pub grown : (S R : Segments) (s p : ℕ) (t : Tree) → Grows S R → IsStored S s p t → ((v r : ℕ) → r < length (segment S v) → word_at R v r ≡ word_at S v r) → ((v r : ℕ) → length (segment S v) ≤ r → word_at R v r ≡ 0) → IsReplaced S R s p t t
 grown S R s p t grows a same zeros =
     let m = a.means in

@@ -1,4 +1,4 @@
--- Words that are taken for an object: how long the segments are then, and where the object stands.
+-- Words allocated for an object: how long the segments are then, and where the object is.
 use Rattle.std.proofs.Common.{◌≡◌, ◌⊎◌, inl, inr, ℕ, zero, suc, ◌+◌, ◌-◌, ◌<◌, ◌≤◌, max, [], ◌∷◌, ◌++◌, List, length, replicate, refl, sym, ap, ap₂, ◌∙◌, subst, arith}
 use Rattle.std.proofs.lemmas.List.{length-set, length-append, length-replicate, get_or_append_left, get_or-append_right, get_or_past}
 use Rattle.std.proofs.lemmas.Bool.{cases_lt, cases_eq}
@@ -15,7 +15,7 @@ use Rattle.capnp_making.specs.Zeroed.{IsPruned}
 use Rattle.capnp_making.specs.declared.making.Start.{Start}
 use Rattle.capnp_making.proofs.Zeros.{segment_here, segment_other}
 
--- words at the end of a segment
+-- n words more at the end of a segment.
 pub extended_lengthens : (S : Segments) (s n : ℕ) → s < length S → Lengthens S (extended S s (replicate n 0)) s n
 extended_lengthens S s n l =
     let W = segment S s in
@@ -26,7 +26,7 @@ extended_lengthens S s n l =
       others = λ v other. ap length (segment_other S s v (W ++ zs) other);
     }
 
--- a segment behind the others
+-- A new segment after the others.
 pub another_lengthens : (S : Segments) (n : ℕ) → Lengthens S (with_another S n) (length S) n
 another_lengthens S n =
     let zs : List ℕ = replicate n 0 in
@@ -42,7 +42,7 @@ another_lengthens S n =
       ];
     }
 
--- the first segment with room, or none has it
+-- Either some segment is the first with room for n words, or none of the first m has it.
 first_below : (v : View) (n m : ℕ) → m ≤ length v.words → ((k : ℕ) × IsFirstFit v n k) ⊎ ((k : ℕ) → k < m → v.room k < length (segment v.words k) + n)
 first_below v n zero l = inr (λ k less. absurd (omega arith))
 first_below v n (suc m) l = elim (first_below v n m (omega arith)) [
@@ -59,7 +59,7 @@ first_below v n (suc m) l = elim (first_below v n m (omega arith)) [
 first_or_full : (v : View) (n : ℕ) → ((k : ℕ) × IsFirstFit v n k) ⊎ IsFull v n
 first_or_full v n = first_below v n (length v.words) (omega arith)
 
--- words that the arena gave where it had room
+-- The arena grants n words: in the first segment with room or, if there is none, in a new one.
 pub anywhere_lengthens : (old new : View) (n k p : ℕ) → ((j : ℕ) → IsFirstFit old n j → (k ≡ j) × GrowsSegment old new n j p) → (IsFull old n → GainsSegment old new n k p) →
     IsNextRoom old n k × Lengthens old.words new.words k n × (p ≡ length (segment old.words k))
 anywhere_lengthens old new n k p first another = elim (first_or_full old n) [
@@ -76,14 +76,14 @@ anywhere_lengthens old new n k p first another = elim (first_or_full old n) [
       )
 ]
 
--- no segment is shorter than before
+-- No segment is shorter than before.
 pub lengthens_more : (S R : Segments) (k n v : ℕ) → Lengthens S R k n → length (segment S v) ≤ length (segment R v)
 lengthens_more S R k n v x = elim (cases_eq v k) [
   | inl e ↦ subst (λ u. length (segment S u) ≤ length (segment R u)) (sym e) (omega (arith, x.gained))
   | inr e ↦ omega (arith, x.others v e)
 ]
 
--- segments are longer by the same words where words are then written over others
+-- Segments get longer by the same words if words are then written over others.
 pub lengthens_written : (S T R : Segments) (k n : ℕ) → Lengthens S T k n → length R ≡ length T → ((v : ℕ) → length (segment R v) ≡ length (segment T v)) → Lengthens S R k n
 lengthens_written S T R k n x segments words = record {
   segments = segments ∙ x.segments;
@@ -91,7 +91,7 @@ lengthens_written S T R k n x segments words = record {
   others = λ v other. words v ∙ x.others v other;
 }
 
--- words were written over others before
+-- The same if words were zeroed before.
 lengthens_after : (S T R : Segments) (k n : ℕ) → IsPruned S T → Lengthens T R k n → Lengthens S R k n
 lengthens_after S T R k n pruned x = record {
   segments = x.segments ∙ ap (λ m. max m (k + 1)) pruned.segments;
@@ -137,7 +137,7 @@ ends_after old mid id n limits pruned fits =
 pub starts_after : (S M : Segments) (id : ℕ) (h : Start) → IsPruned S M → StartsBehind M id h → StartsBehind S id h
 starts_after S M id h pruned x = (x.0, x.1 ∙ pruned.words id)
 
--- what starts at h starts where the pointer to it leads
+-- An object starts where the pointer to it leads.
 start_led : (S : Segments) (s p : ℕ) (h : Start) → LeadsToStart S s p h → h ≡ start_of (target S s p)
 start_led S s p h lead = ap₂ (λ (u b : ℕ). let x : Start = record { segment = u; at = b } in x) lead.0 lead.1
 

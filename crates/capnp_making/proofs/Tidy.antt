@@ -1,4 +1,4 @@
--- Words that a value does not cover may change without changing that it is tidy.
+-- If words that a value doesn't cover change, it stays tidy.
 use Rattle.std.proofs.Common.{◌≡◌, ℕ, pred, ◌+◌, ◌*◌, [], length, Some, sym, ap, ◌∙◌, subst, arith}
 use Rattle.capnp_format.specs.Numbers.{words_for, packed}
 use Rattle.capnp_format.specs.Segments.{Segments, word_at, words_at, Target, leads}
@@ -9,7 +9,7 @@ use Rattle.capnp_format.specs.Forest.{target, target_in, cover, cover_all, cover
 use Rattle.capnp_format.specs.Segments.{Grows}
 use Rattle.capnp_format.proofs.Frame.{Agree, SameWords, agree_left, agree_right, object_agrees, words_kept}
 
--- what holds of the target in S holds of it in R, where both lead to a
+-- What holds of the target in S holds of it in R if both pointers lead to a.
 pub at_target : (S R : Segments) (s p : ℕ) (a : Target) (P Q : Target → Type 0) → leads S s p ≡ Some a → leads R s p ≡ Some a → (P a → Q a) → P (target S s p) → Q (target R s p)
 at_target S R s p a P Q l m f h = subst Q (sym (ap target_in m)) (f (subst P (ap target_in l) h))
 

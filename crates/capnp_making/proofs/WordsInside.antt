@@ -1,4 +1,4 @@
--- Where words lie, and that counts and positions fit their numbers: over plain numbers.
+-- Where words are, and that counts and positions fit their numbers: about plain numbers.
 use Rattle.std.proofs.Common.{◌≡◌, ℕ, ◌+◌, ◌*◌, ◌<◌, ◌≤◌, ◌^◌, arith}
 use Rattle.std.proofs.lemmas.Nat.{mul-le}
 use Rattle.capnp_making.proofs.BelowElements.{element_within, next_place}
@@ -15,7 +15,7 @@ too_many is_a is_b is_e out inside = omega arith
 pub too_short : {a b e f p d q l : ℕ} → a ≡ p → b ≡ d → e ≡ q → f ≡ l → f < a + b + e → p + (d + q) ≤ l → ⊥
 too_short is_a is_b is_e is_f out inside = omega arith
 
--- where a row of n rows of d + q words starts, and where its pointers start and end
+-- Among n rows of d + q words, where row i starts, and where its pointers start and end.
 pub row_place : (p q : ℕ) {at i n d l r f : ℕ} → at ≡ p + i * (d + q) → p + n * (d + q) ≤ l → i < n → l ≤ r → r < 2 ^ 29 → f ≡ d → at + f < 2 ^ 32
 row_place p q {i = i} {n = n} {d = d} place inside less within small same = omega (arith, element_within (d + q) n i less, place, inside, within, small, same)
 
@@ -40,7 +40,7 @@ first_place p w = omega arith
 pub none_before : (n : ℕ) → 0 + n ≡ n
 none_before n = omega arith
 
--- the words of a list of structs, by its tag
+-- The words of a list of structs, by its tag.
 pub product_small : {a b n k : ℕ} → a ≡ n → n < 2 ^ 30 → b ≡ k → k < 2 ^ 32 → a * b ≤ 2 ^ 62
 product_small {a} {b} is_a few is_b small = mul-le a b (2 ^ 30) (2 ^ 32) (omega arith) (omega arith)
 

@@ -10,7 +10,7 @@ use Rattle.capnp_making.specs.Zeroed.{row}
 use Rattle.capnp_making.proofs.Zeros.{there, segment_here, word_here, word_other, lengths_kept, length-over, over_beside, of_row}
 use Rattle.capnp_making.proofs.Written.{SameLengths, SameBut}
 
--- These words stand there now, and all else is as it was.
+-- From S to R the words ws are written at (s, p), and all other words stay.
 pub record ArePut (S R : Segments) (s p : ℕ) (ws : List ℕ) : Type 0 where
   pub long : SameLengths S R
   pub here : HasWords R s p ws

@@ -1,4 +1,5 @@
--- A struct's data words, an element's, or a flat list's elements written in their places: the value is replaced, and holds the same words.
+-- The data words of a struct or an element, or the elements of a flat list, are written in their
+-- places: the value is replaced, and holds the same words.
 use Rattle.std.proofs.Common.{◌≡◌, ◌⊎◌, inl, inr, ℕ, zero, suc, pred, ◌+◌, ◌*◌, ◌^◌, ◌<◌, ◌≤◌, List, [], ◌∷◌, ◌++◌, length, refl, sym, ap, ap₂, ◌∙◌, subst, le_trans, le_of_eq, arith}
 use Rattle.std.proofs.lemmas.Bool.Decides.{nat_tests}
 use Rattle.std.proofs.lemmas.List.{get_or_past}
@@ -17,7 +18,7 @@ use Rattle.capnp_making.proofs.Extents.{once_held, times-first, times-object}
 use Rattle.capnp_format.proofs.Lies.{unpacked-packed}
 use Rattle.capnp_making.proofs.Tidy.{at_target, tidy_kept_all, tidy_kept_elements}
 
--- the segments of S and of R are as many, and as long
+-- S and R have equally many segments, and each is as long in S as in R.
 pub record SameLengths (S R : Segments) : Type 0 where
   pub segments : length R ≡ length S
   pub words : (v : ℕ) → length (segment R v) ≡ length (segment S v)
@@ -25,11 +26,11 @@ pub record SameLengths (S R : Segments) : Type 0 where
 pub same_grows : (S R : Segments) → SameLengths S R → Grows S R
 same_grows S R a = record { segments = le_of_eq (sym a.segments); words = λ v. le_of_eq (sym (a.words v)) }
 
--- S and R are the same but for words of an interval
+-- S and R are the same except for words of an interval.
 abbrev pub SameBut : Segments → Segments → Interval → Type 0
 SameBut S R i = (v r : ℕ) → times (i ∷ []) v r ≡ 0 → word_at R v r ≡ word_at S v r
 
--- another value that holds the same words
+-- A value replaced by another one that covers the same words.
 pub same_extent : (S R : Segments) (s p : ℕ) (t u : Tree) (n c : ℕ) → SameLengths S R → IsStored S s p t → ((v r : ℕ) → times (extent S s p t) v r ≡ 0 → word_at R v r ≡ word_at S v r) →
     Means R n s p u c → cover R s p u ≡ cover S s p t → IsTidy R s p u → IsReplaced S R s p t u
 same_extent S R s p t u n c long a same m e y =
@@ -57,7 +58,7 @@ shorter_object a n m v r l = grind (arith, nat_tests)
 pub past_row : (s p n r : ℕ) → p + n ≤ r → times (row s p n ∷ []) s r ≡ 0
 past_row s p n r l = grind (arith, nat_tests)
 
--- what stays of an object that is written only in some of its words
+-- What stays of an object if only some of its words are written.
 record Stays (S R : Segments) (s p : ℕ) (a : Target) (rest : List Interval) : Type 0 where
   same : word_at R s p ≡ word_at S s p
   leads_to : Leads R s p a
@@ -75,7 +76,7 @@ stays S R s p n a i more grows l part h apart =
       rest_agrees = λ v r m. h v r (omega (arith, whole v r, at v r, apart v r, part v r));
     }
 
--- the data words of a struct
+-- The data words of a struct are written.
 pub data_written : (S R : Segments) (s p : ℕ) (ws vs : List ℕ) (ts : Trees) → SameLengths S R → IsStored S s p (Struct ws ts) → length vs ≡ length ws → SameBut S R (object_of (target S s p) (length ws)) →
     HasWords R (target S s p).segment (target S s p).start vs → IsReplaced S R s p (Struct ws ts) (Struct vs ts)
 data_written S R s p ws vs ts long a len but here =
@@ -114,7 +115,7 @@ data_written S R s p ws vs ts long a len but here =
         (at_target S R s p a (λ b. AreTidy S b.segment (b.start + length ws) ts) (λ b. AreTidy R b.segment (b.start + length vs) ts) o.leads_to.1 w.leads_to.1
         (λ z. subst (λ y. AreTidy R a.segment y ts) (sym moved) (tidy_kept_all S R (pred n) a.segment (a.start + length ws) ts k grows pointers_same w.rest_agrees all z)) x.tidy)
 
--- the elements of a flat list
+-- The elements of a flat list are written.
 pub flat_written : (S R : Segments) (s p size : ℕ) (ns ms : List ℕ) → SameLengths S R → IsStored S s p (Flat size ns) → length ms ≡ length ns → AreBelow (2 ^ element_bits size) ms →
     SameBut S R (object_of (target S s p) (words_for size (length ns))) → words_at R (target S s p).segment (target S s p).start (words_for size (length ns)) ≡ packed size ms → IsReplaced S R s p (Flat size ns) (Flat size ms)
 flat_written S R s p size ns ms long a len small but here =
@@ -146,7 +147,7 @@ flat_written S R s p size ns ms long a len small but here =
         (ap (λ z. pads_of (word_at R s p) ++ object_of (target R s p) z ∷ []) same_words ∙ same_cover (λ b. object_of b k ∷ []) (λ b. object_of b k ∷ []) (record { grows = grows; same = w.same }) o.leads_to.1 w.leads_to.1 (ap (λ is. object_of a k ∷ is) refl))
         (subst (λ b. words_at R b.segment b.start (words_for size (length ms)) ≡ packed size ms) (sym (ap target_in w.leads_to.1)) packed_here)
 
--- the pointer to them leads where it led
+-- The pointer to them leads to the same target as before.
 pub flat_target : (S R : Segments) (s p size : ℕ) (ns : List ℕ) → SameLengths S R → IsStored S s p (Flat size ns) → SameBut S R (object_of (target S s p) (words_for size (length ns))) → target R s p ≡ target S s p
 flat_target S R s p size ns long x but =
     let m = x.means in
@@ -165,7 +166,7 @@ abbrev pub with_data : Tree → List ℕ → Tree
 with_data (Struct ws ts) vs = Struct vs ts
 with_data t vs = t
 
--- the data words of one element
+-- The data words of element i are written.
 record ElementWritten (S R : Segments) (n s p d q : ℕ) (es : Elements) (i : ℕ) (vs : List ℕ) : Type 0 where
   cost : ℕ
   means : MeansElements R n s p d q (put_struct es i (with_data (struct_at es i) vs)) cost
@@ -210,7 +211,7 @@ element_written S R n s p d q (element ws ts es) c (suc i) vs grows l len fits h
       tidy = λ y. (tidy_kept_all S R n s (p + d) ts a grows first_same first_agree all y.0, others.tidy y.1);
     }
 
--- d words of a list's object
+-- d words of a list's object.
 abbrev pub element_words : Target → ℕ → ℕ → ℕ → Interval
 element_words a d q i = record { segment = a.segment; start = a.start + 1 + i * (d + q); words = d }
 

@@ -1,4 +1,4 @@
--- Words written over with zeros.
+-- Words overwritten with zeros.
 use Rattle.std.proofs.Common.{cond, nat_eq, ◌≡◌, ◌≢◌, inl, inr, ◌⊎◌, ℕ, zero, suc, ◌+◌, ◌-◌, ◌*◌, ◌<◌, ◌≤◌, List, [], ◌∷◌, length, set, replicate, get_or, refl, sym, ap, ◌∙◌, subst, arith}
 use Rattle.std.proofs.lemmas.List.{length-set, length-replicate, get_or-set_same, get_or-set_other}
 use Rattle.std.proofs.lemmas.Bool.{cases_lt, cases_eq}
@@ -12,7 +12,7 @@ pub use Rattle.capnp_format.proofs.Slices.{there}
 use Rattle.capnp_making.specs.Path.{word_interval}
 use Rattle.capnp_making.specs.Zeroed.{row, IsZeroed, IsPruned}
 
--- How many words are not zero.
+-- The number of words that aren't zero.
 abbrev pub nonzero_words : List ℕ → ℕ
 nonzero_words [] = 0
 nonzero_words (x ∷ xs) = cond (nat_eq x 0) 0 1 + nonzero_words xs
@@ -21,7 +21,7 @@ abbrev pub nonzeros : Segments → ℕ
 nonzeros [] = 0
 nonzeros (ws ∷ S) = nonzero_words ws + nonzeros S
 
--- of words that are as they were or zero no more are not zero
+-- If each of some words is unchanged or zero, there are no more nonzero words than before.
 fewer_words : (xs ys : List ℕ) → length ys ≡ length xs → ((i : ℕ) → (get_or ys i 0 ≡ get_or xs i 0) ⊎ (get_or ys i 0 ≡ 0)) → nonzero_words ys ≤ nonzero_words xs
 fewer_words xs [] long same = omega arith
 fewer_words [] (y ∷ ys) long same = absurd (omega arith)
@@ -32,7 +32,7 @@ fewer_words (x ∷ xs) (y ∷ ys) long same =
       | inr e ↦ omega (arith, more, ap {B = ℕ} (λ z. cond (nat_eq z 0) 0 1) e)
     ]
 
--- and so in a message of which some words became zero
+-- The same for a message after some words were zeroed.
 pub fewer : (S R : Segments) → IsPruned S R → nonzeros R ≤ nonzeros S
 fewer S R p = go S R p.segments p.words p.only
   where
@@ -42,13 +42,14 @@ fewer S R p = go S R p.segments p.words p.only
     go (xs ∷ S) (ys ∷ R) same words only =
         omega (arith, fewer_words xs ys (words zero) (only zero), go S R (omega arith) (λ v. words (suc v)) (λ v. only (suc v)))
 
--- a segment that is written has no more words that are not zero, if these have no more
+-- If a segment is written, the count of nonzero words of the message changes by as much as that of
+-- the segment.
 pub fewer_in : (S : Segments) (s : ℕ) (ws : List ℕ) → s < length S → nonzeros (with_segment S s ws) + nonzero_words (segment S s) ≡ nonzeros S + nonzero_words ws
 fewer_in [] s ws l = absurd (omega arith)
 fewer_in (xs ∷ S) zero ws l = omega arith
 fewer_in (xs ∷ S) (suc s) ws l = omega (arith, fewer_in S s ws (omega arith))
 
--- one word becomes zero
+-- One nonzero word is zeroed.
 pub set_zero : (xs : List ℕ) (p : ℕ) → get_or xs p 0 ≢ 0 → suc (nonzero_words (set xs p 0)) ≡ nonzero_words xs
 set_zero [] p n = absurd (n refl)
 set_zero (x ∷ xs) zero n = grind (arith, nat_tests)
@@ -57,11 +58,11 @@ set_zero (x ∷ xs) (suc p) n = omega (arith, set_zero xs p n)
 pub here_once : (s p : ℕ) → 0 < times (word_interval s p ∷ []) s p
 here_once s p = omega (arith, of_row s p 1 p (omega arith) (omega arith))
 
--- each word is as it was, or zero
+-- Each word is unchanged or zero.
 only_zeros : (S R : Segments) (is : List Interval) → IsZeroed S R is → (v r : ℕ) → (word_at R v r ≡ word_at S v r) ⊎ (word_at R v r ≡ 0)
 only_zeros S R is z v r = elim (cases_eq (times is v r) 0) [ inl e ↦ inl (z.kept v r e) | inr e ↦ inr (z.zero v r (omega arith)) ]
 
--- zeros over words of a segment
+-- Zeros are written over n words of a segment.
 pub words_zeroed : (S R : Segments) (s p n : ℕ) → 0 < n → p + n ≤ length (segment S s) → R ≡ with_words S s p (replicate n 0) → IsZeroed S R (row s p n ∷ []) × IsPruned S R
 words_zeroed S R s p n some l e =
     let W = segment S s in
@@ -100,7 +101,7 @@ words_zeroed S R s p n some l e =
       ]
     ]
 
--- one word becomes zero
+-- One word is zeroed.
 pub word_zeroed : (S R : Segments) (s p : ℕ) → p < length (segment S s) → R ≡ with_word S s p 0 → IsZeroed S R (word_interval s p ∷ []) × IsPruned S R × (word_at S s p ≢ 0 → suc (nonzeros R) ≡ nonzeros S)
 word_zeroed S R s p l e =
     let W = segment S s in
@@ -124,14 +125,14 @@ word_zeroed S R s p l e =
       λ n. omega (arith, fewer_in S s made here, set_zero W p n),
     ))
 
--- A call comes below one of a larger measure, where no more words are not zero.
+-- A call is below one of a larger measure if there are no more nonzero words.
 pub falls_below : {m n t : ℕ} (i k : ℕ) → m ≤ n → 5 * n + (i + suc k) ≡ t → 5 * m + i < t
 falls_below i k fewer is = omega (arith, fewer, is)
 
 pub falls_first : {m n t : ℕ} (k : ℕ) → m ≤ n → 5 * n + suc k ≡ t → 5 * m < t
 falls_first k fewer is = omega (arith, fewer, is)
 
--- nothing becomes zero
+-- Nothing is zeroed.
 pub pruned_itself : (S : Segments) → IsPruned S S
 pruned_itself S = record { segments = refl; words = λ v. refl; only = λ v r. inl refl }
 
@@ -148,11 +149,11 @@ pruned_again S R Q a b = record {
   ];
 }
 
--- a word that is zero stays so
+-- A word that is zero stays zero.
 pub zero_stays : (S R : Segments) (v r : ℕ) → IsPruned S R → word_at S v r ≡ 0 → word_at R v r ≡ 0
 zero_stays S R v r pruned null = elim (pruned.only v r) [ inl e ↦ e ∙ null | inr e ↦ e ]
 
--- some words become zero, and then others
+-- Some words are zeroed, and then others.
 pub zeroed_again : (S R Q : Segments) (is js ks : List Interval) → ((v r : ℕ) → (0 < times ks v r → 0 < times is v r + times js v r) × (times ks v r ≡ 0 → times is v r + times js v r ≡ 0)) →
     IsZeroed S R is → IsZeroed R Q js → IsZeroed S Q ks
 zeroed_again S R Q is js ks e a b = record {

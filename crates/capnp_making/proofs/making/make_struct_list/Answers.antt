@@ -11,7 +11,7 @@ use Rattle.capnp_making.proofs.PlacedStructs.{IsListMade, structs_made, structs_
 use Rattle.capnp_making.proofs.Taken.{takes_written}
 use Rattle.capnp_making.proofs.making.make_struct_list.Goals as goal
 
--- The words of the list are taken, and its tag is written.
+-- The words of the list are allocated, and its tag is written.
 pub returns-clause-made : goal.returns-clause-made
 returns-clause-made g c =
     let S : Segments = (g.A.BuilderArena.view c.args.arena.now).words in

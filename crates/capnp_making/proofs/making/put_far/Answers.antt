@@ -11,11 +11,11 @@ use Rattle.capnp_making.proofs.Taken.{anywhere_lengthens, lengthens_more, length
 use Rattle.capnp_arena_traits.specs.Written.{with_word}
 use Rattle.capnp_making.proofs.making.put_far.Goals as goal
 
--- The word behind a pointer is in its reach.
+-- The word after a pointer is in its reach.
 next_reached : (p : ℕ) → Reaches p (p + 1)
 next_reached p = (omega arith, omega arith)
 
--- The pointer's segment has no word fewer than before.
+-- The pointer's segment has no fewer words than before.
 pub set_word-requires-in-Ok : goal.set_word-requires-in-Ok
 set_word-requires-in-Ok g c =
     let S : Segments = (g.A.BuilderArena.view c.args.arena.now).words in
@@ -24,8 +24,8 @@ set_word-requires-in-Ok g c =
     let put = word_put T _ c.in-Ok.segment c.in-Ok.pad c.pointer_to-word.result.0 (omega (arith, grown.room)) (ap words_in c.set_word.ensures) in
     omega (arith, c.requires.place, grown.grows.words c.args.id, put.words c.args.id)
 
--- A far pointer to a landing pad before the words. A word more than the object has is taken where
--- there is room next, or in a new segment.
+-- A far pointer to a landing pad, which is before the words. One word more than the object has is
+-- allocated: in the next segment with room, or in a new one.
 pub returns-in-Ok : goal.returns-in-Ok
 returns-in-Ok g c =
     let old : View = g.A.BuilderArena.view c.args.arena.now in
@@ -72,7 +72,7 @@ returns-in-Err g c =
       refused = ap words_in same;
     }
 
--- The words that are taken are fewer than a segment holds.
+-- The words that are allocated are fewer than a segment can hold.
 next_fits : (S T : Segments) (n s p room : ℕ) → IsTaken S T (n + 1) s p → length (segment T s) ≤ room → room < 2 ^ 29 → p + 1 < 2 ^ 32
 next_fits S T n s p room taken within small = omega (arith, (taken_grown S T (n + 1) s p taken).room)
 

@@ -20,7 +20,7 @@ use Rattle.capnp_making.proofs.Outcomes.{if_ok_so, on_ok_so}
 use Rattle.capnp_making.proofs.Taken.{extended_lengthens, lengthens_written}
 use Rattle.capnp_making.proofs.making.put_object.Goals as goal
 
--- A near pointer to words behind those of its segment.
+-- A near pointer to words after those of its segment.
 pub returns-in-Some-clause-made : goal.returns-in-Some-clause-made
 returns-in-Some-clause-made g c =
     let S : Segments = (g.A.BuilderArena.view c.args.arena.now).words in
@@ -47,7 +47,7 @@ returns-in-Some-clause-near g c = λ fits.
     ∙ object_put S c.args.id c.args.at x (replicate c.args.amount 0) c.requires.place
     ∙ ap (λ y. with_object S c.args.id c.args.at y (replicate c.args.amount 0)) word)
 
--- Words behind those of the pointer's segment are all that is taken.
+-- Only words after those of the pointer's segment are allocated.
 near_allocates : (old mid new : View) (id at n x : ℕ) (h : Start) → IsPlace old.words id at → HasOwnRoom old id n → mid ≡ with_more old id (replicate n 0) → new ≡ record mid { words = with_word mid.words id at x } →
     Allocates {A = Start} (Ok h) (call_at id at old new) n
 near_allocates old mid new id at n x h place room made put =

@@ -17,7 +17,7 @@ zero_object-returns-then-is_null-clause-zeroes g t c =
     let none : word_at S c.args.id c.args.at ≡ 0 = search rules in
     record { zeroed = λ u a. null_done S c.args.id c.args.at u none a; pruned = pruned_itself S; limits = refl }
 
--- One word fewer is not zero.
+-- There is one nonzero word fewer.
 pub zero_object-zero_landed-requires : goal.zero_object-zero_landed-requires
 zero_object-zero_landed-requires g t c κs within =
     let S : Segments = (g.A.BuilderArena.view c.args.arena.now).words in
@@ -53,7 +53,7 @@ zero_object-returns-in-None-clause-zeroes g t c =
       limits = limits_written (g.A.BuilderArena.view c.args.arena.now) (g.A.BuilderArena.view c.set_word.new.self) _ c.set_word.ensures;
     }
 
--- The pointer is zero once it was written, and stays so.
+-- The pointer is zero once it was written, and stays zero.
 pub zero_object-returns-in-Some-clause-null : goal.zero_object-returns-in-Some-clause-null
 zero_object-returns-in-Some-clause-null g t c =
     let S : Segments = (g.A.BuilderArena.view c.args.arena.now).words in
@@ -154,7 +154,8 @@ zero_structs-returns-then-from-words g t c =
       limits = limits_again (g.A.BuilderArena.view c.args.arena.now) (g.A.BuilderArena.view c.zero_elements.new.arena) (g.A.BuilderArena.view c.zero_part.new.arena) c.zero_elements.ensures.limits c.zero_part.ensures.limits;
     }
 
--- A call of a pointer or of fewer words comes below the one that makes it, since no more words are not zero.
+-- A call for a pointer, or for fewer words, is below the call that makes it, since there are no
+-- more nonzero words.
 
 pub zero_elements-zero_pointers-requires : goal.zero_elements-zero_pointers-requires
 zero_elements-zero_pointers-requires g t c κs within = (falls_below 1 0 (fewer _ _ c.loop-i.invariant.pruned) c.decreases, within)
@@ -199,7 +200,7 @@ zero_structs-overflow_add-from g t c = record { fits = end_fits _ c.from-3.ensur
 pub zero_structs-overflow_add-start : goal.zero_structs-overflow_add-start
 zero_structs-overflow_add-start g t c = record { fits = behind_tag _ c.from-3.ensures c.from-4.ensures c.length_of.type_inv c.if-from-words.true }
 
--- None of what is below is zero at first.
+-- At first nothing below is zeroed yet.
 
 pub zero_pointers-loop-i-init : goal.zero_pointers-loop-i-init
 zero_pointers-loop-i-init g t c = record {
@@ -216,7 +217,7 @@ zero_elements-loop-i-init g t c = record {
   limits = refl;
 }
 
--- Where the words don't lie in their segment, nothing stands there.
+-- If the words aren't inside their segment, there is no object.
 
 pub zero_pointers-returns-else-from : goal.zero_pointers-returns-else-from
 zero_pointers-returns-else-from g t c = record {

@@ -16,7 +16,7 @@ returns-then-holds_some-clause-zeroed g c = λ _.
     (let (some, inside) = c.if-holds_some.ensures.0 refl in
     (words_zeroed (g.A.BuilderArena.view c.args.arena.now).words _ c.args.id c.args.start c.args.n some inside (ap words_in c.zero_words.ensures)).0)
 
--- No words are zero already.
+-- There are no words, so they are zero already.
 none_zeroed : (S : Segments) (s p n : ℕ) → (0 < n → ⊥) → IsZeroed S S (row s p n ∷ [])
 none_zeroed S s p n none = record {
   segments = refl;
