@@ -1,5 +1,5 @@
--- Where one object passes the checks of its canonical form, and its children stand, a value stands. Each lemma takes what the
--- checks found one by one.
+-- If an object passes the checks of its canonical form, and its children have canonical words, so
+-- has its value. Each lemma takes what the checks found one by one.
 use Rattle.std.proofs.Common.{◌≡◌, ◌≢◌, inl, inr, ℕ, zero, suc, ◌+◌, ◌-◌, ◌*◌, ◌^◌, ◌<◌, ◌≤◌, cond, nat_eq, List, [], ◌∷◌, ◌++◌, length, Option, Some, None, refl, sym, ap, ap₂, ◌∙◌, subst, arith, ne_eqb, take_all, pow_pos, length-append}
 use Rattle.capnp_format.specs.Word.{kind, offset_bits, data_words, pointer_count, element_size, list_count, is_double, struct_word, list_word}
 use Rattle.capnp_format.specs.Numbers.{words_for, unpacked, packed, element_bits, from_digits}
@@ -20,12 +20,14 @@ use Rattle.capnp_format.proofs.Unique.{for_offset}
 use Rattle.capnp_pointers.proofs.Chains.{laid_where_standing, rows_where_standing, has_words_joined, has_words_more}
 use Rattle.capnp_pointers.proofs.Used.{ends_used, pointer_is_null, words_at-more}
 
--- What comes of two steps came of the first one, and then of the second.
+-- If two steps found something, the first one found something, and so did the second one from
+-- there.
 bind_found : {A B : Type 0} (o : Option A) (f : A → Option B) (y : B) → (o >>= f) ≡ Some y → (x : A) × (o ≡ Some x) × (f x ≡ Some y)
 bind_found (Some x) f y h = (x, refl, h)
 bind_found None f y h = absurd (cc h)
 
--- A word that is no far pointer leads into its own segment, over no pads, to where its offset says.
+-- The pointer at (s, p) is near: it leads into its own segment, over no pads, to where its offset
+-- says.
 pub record IsNear (S : Segments) (s p : ℕ) (a : Target) : Type 0 where
   pub same_word : a.word ≡ word_at S s p
   pub same_segment : a.segment ≡ s
@@ -34,12 +36,12 @@ pub record IsNear (S : Segments) (s p : ℕ) (a : Target) : Type 0 where
   pub reaches : Reaches p a.start
   pub offset : offset_bits (word_at S s p) ≡ offset_to p a.start
 
--- An offset that leads somewhere reaches it, and is the offset to it.
+-- An offset that leads somewhere reaches that position, and is the offset to it.
 offset_reaches : (p bits b : ℕ) → bits < 2 ^ 30 → IsOffsetTo p bits b → Reaches p b × (bits ≡ offset_to p b)
 offset_reaches p bits b small (inl (l, e)) = ((omega arith, omega arith), omega arith)
 offset_reaches p bits b small (inr (l, e)) = ((omega arith, omega arith), omega arith)
 
--- What a word leads to that is no far pointer is near.
+-- A word that leads to a target, and isn't a far pointer, is near.
 pub near_to : (S : Segments) (s p : ℕ) (a : Target) → kind (word_at S s p) ≢ 2 → leads S s p ≡ Some a → IsNear S s p a
 near_to S s p a other e =
     let x = word_at S s p in
@@ -64,7 +66,8 @@ struct_word_again x h = omega arith
 list_word_again : (x : ℕ) → kind x ≡ 1 → list_word (offset_bits x) (element_size x) (list_count x) ≡ x
 list_word_again x h = omega arith
 
--- The pointer of a struct is made of where it leads and of the struct's sections, where it is no far pointer.
+-- The pointer of a struct, if it isn't a far pointer, is made of where it leads and of the struct's
+-- sections.
 pub near_struct_word : (S : Segments) (s p : ℕ) (a : Target) (d q : ℕ) → kind (word_at S s p) ≢ 2 → StructAt S s p a d q → word_at S s p ≡ struct_word (offset_to p a.start) d q
 near_struct_word S s p a d q other o =
     let n = near_to S s p a other o.leads_to.1 in
@@ -74,7 +77,8 @@ near_struct_word S s p a d q other o =
     let po : pointer_count x ≡ q = ap pointer_count (sym n.same_word) ∙ o.pointers in
     sym (struct_word_again x is_struct) ∙ ap (λ k. struct_word k (data_words x) (pointer_count x)) n.offset ∙ ap₂ (struct_word (offset_to p a.start)) da po
 
--- The pointer of a list is made of where it leads, the element size and the count, where it is no far pointer.
+-- The pointer of a list, if it isn't a far pointer, is made of where it leads, the element size and
+-- the count.
 pub near_list_word : (S : Segments) (s p : ℕ) (a : Target) (size n : ℕ) → kind (word_at S s p) ≢ 2 → ListAt S s p a size n → word_at S s p ≡ list_word (offset_to p a.start) size n
 near_list_word S s p a size m other o =
     let n = near_to S s p a other o.leads_to.1 in
@@ -84,52 +88,54 @@ near_list_word S s p a size m other o =
     let co : list_count x ≡ m = ap list_count (sym n.same_word) ∙ o.counts in
     sym (list_word_again x is_list) ∙ ap (λ k. list_word k (element_size x) (list_count x)) n.offset ∙ ap₂ (list_word (offset_to p a.start)) si co
 
--- The fields of a word of 64 bits are of 16 bits each, of a struct's pointer.
+-- The section sizes in a struct's pointer of 64 bits have 16 bits each.
 struct_small : (x d q : ℕ) → x < 2 ^ 64 → data_words x ≡ d → pointer_count x ≡ q → (d < 2 ^ 16) × (q < 2 ^ 16)
 struct_small x d q l e f = (omega arith, omega arith)
 
--- The count of a list's pointer is of 29 bits.
+-- The count in a list's pointer has 29 bits.
 list_small : (x n : ℕ) → x < 2 ^ 64 → list_count x ≡ n → n < 2 ^ 29
 list_small x n l e = omega arith
 
--- To take as many children as there are changes nothing.
+-- Taking as many children as there are, or more, changes nothing.
 pub take_trees_all : (n : ℕ) (ts : Trees) → count ts ≤ n → take_trees n ts ≡ ts
 take_trees_all zero no_trees l = refl
 take_trees_all zero (tree t ts) l = absurd (omega arith)
 take_trees_all (suc n) no_trees l = refl
 take_trees_all (suc n) (tree t ts) l = ap (tree t) (take_trees_all n ts (omega arith))
 
--- To cut elements to the width that they have changes nothing.
+-- Cutting elements to the width that they have changes nothing.
 pub cut_to_all : (d q : ℕ) (es : Elements) → AreElements d q es → cut_to d q es ≡ es
 cut_to_all d q no_elements v = refl
 cut_to_all d q (element ws ts es) v =
     ap₂ (λ vs us. element vs us (cut_to d q es)) (take_all d ws (omega (arith, v.0))) (take_trees_all q ts (omega (arith, v.1))) ∙ ap (element ws ts) (cut_to_all d q es v.4)
 
--- The pointer of a struct that is not empty counts its offset.
+-- The pointer of a struct that isn't empty has the offset k.
 pub struct_pointer : (ws : List ℕ) (ts : Trees) (k : ℕ) → 0 < length ws + count ts → pointer (Struct ws ts) k ≡ struct_word k (length ws) (count ts)
 struct_pointer [] no_trees k l = absurd (omega arith)
 struct_pointer [] (tree t ts) k l = refl
 struct_pointer (x ∷ xs) ts k l = refl
 
--- Of the pointers of children that stand as many are used as of the children.
+-- If S has the canonical words of children, the number of their pointers that are used is that of
+-- the children used.
 pub used_where_standing : (S : Segments) (s p h : ℕ) (ts : Trees) → p + count ts ≤ length (segment S s) → AllStand S s p h ts → used_words (words_at S s p (count ts)) ≡ used_trees ts
 used_where_standing S s p h no_trees l a = refl
 used_where_standing S s p h (tree t ts) l a =
     ap used_words (words_at-more S s p (count ts) (omega arith))
     ∙ ap₂ used_from (ap (λ x. nat_eq x 0) ((a.0).5).1 ∙ pointer_is_null t (offset_to p h)) (used_where_standing S s (p + 1) (h + word_count t) ts (omega arith) a.1)
 
--- Null stands at a zero word, at any head.
+-- A zero word has canonical words of Null, with any head.
 pub null_stands : (S : Segments) (s p h : ℕ) → IsPlace S s p → word_at S s p ≡ 0 → Stands S s p h Null
 null_stands S s p h place e = (place, tt, refl, refl, tt, (tt, e, refl))
 
--- The empty struct stands where its pointer leads to its own place, at any head.
+-- The empty struct is canonical if its pointer leads to its own place, with any head.
 pub empty_stands : (S : Segments) (s p h : ℕ) (a : Target) → IsPlace S s p → kind (word_at S s p) ≢ 2 → StructAt S s p a 0 0 → a.start ≡ p → Stands S s p h (Struct [] no_trees)
 empty_stands S s p h a place other o e =
     let x = near_struct_word S s p a 0 0 other o in
     let last : offset_to p a.start ≡ 2 ^ 30 - 1 = omega arith in
     (place, (omega arith, omega arith, tt, tt), refl, refl, (tt, tt), (tt, x ∙ ap (λ k. struct_word k 0 0) last, refl))
 
--- Any other struct stands where its pointer reaches the head, and its data words and children stand from there on.
+-- Any other struct is canonical if its pointer reaches the head, and its data words and children
+-- are from there on.
 struct_there : (S : Segments) (s p h : ℕ) (ws : List ℕ) (ts : Trees) → HasSmallWords S s → IsPlace S s p → Reaches p h → word_at S s p ≡ struct_word (offset_to p h) (length ws) (count ts) →
     length ws < 2 ^ 16 → count ts < 2 ^ 16 → 0 < length ws + count ts → HasWords S s h ws → used_words ws ≡ length ws → used_trees ts ≡ count ts →
     AllStand S s (h + length ws) (h + length ws + count ts) ts → Stands S s p h (Struct ws ts)
@@ -149,7 +155,8 @@ struct_there S s p h ws ts w place r x ld lq some words uw ut all =
       ),
     )
 
--- A struct stands that begins at the head, ends with no zero in either section, and whose children stand behind it.
+-- A struct is canonical if it begins at the head, neither section ends with a zero, and its
+-- children are after it.
 pub struct_stands : (S : Segments) (s p h : ℕ) (a : Target) (d q : ℕ) (ts : Trees) → HasSmallWords S s → IsPlace S s p → kind (word_at S s p) ≢ 2 → StructAt S s p a d q → a.start ≡ h → Claims S a (d + q) → 0 < d + q →
     EndsUsed S s h d → EndsUsed S s (h + d) q → count ts ≡ q → AllStand S s (h + d) (h + d + q) ts → Stands S s p h (Struct (words_at S s h d) ts)
 struct_stands S s p h a d q ts w place other o start claim some ed eq len all =
@@ -167,7 +174,7 @@ struct_stands S s p h a d q ts w place other o start claim some ed eq len all =
     (ends_used S s h d (omega arith) ed ∙ sym long) used
     (subst (λ i. AllStand S s (h + i) (h + i + count ts) ts) (sym long) (subst (λ i. AllStand S s (h + d) (h + d + i) ts) (sym len) all))
 
--- A list of pointers stands that begins at the head, and whose children stand behind it.
+-- A list of pointers is canonical if it begins at the head, and its children are after it.
 pub pointers_stand : (S : Segments) (s p h : ℕ) (a : Target) (n : ℕ) (ts : Trees) → HasSmallWords S s → IsPlace S s p → kind (word_at S s p) ≢ 2 → ListAt S s p a 6 n → a.start ≡ h → Claims S a n →
     count ts ≡ n → AllStand S s h (h + n) ts → Stands S s p h (Pointers ts)
 pointers_stand S s p h a n ts w place other o start claim len all =
@@ -186,7 +193,7 @@ pointers_stand S s p h a n ts w place other o start claim len all =
       ),
     )
 
--- A list of numbers stands that begins at the head, with zeros behind its elements.
+-- A list of numbers is canonical if it begins at the head, with zeros after its elements.
 pub flat_stands : (S : Segments) (s p h : ℕ) (a : Target) (size n : ℕ) → HasSmallWords S s → IsPlace S s p → kind (word_at S s p) ≢ 2 → ListAt S s p a size n → size ≤ 5 → a.start ≡ h → Claims S a (words_for size n) →
     IsPadded S s h size n → Stands S s p h (Flat size (unpacked size n (words_at S s h (words_for size n))))
 flat_stands S s p h a size n w place other o size_small start claim padded =
@@ -215,12 +222,12 @@ flat_stands S s p h a size n w place other o size_small start claim padded =
 tag_again : (g n d q : ℕ) → IsTag g n d q → g ≡ struct_word n d q
 tag_again g n d q t = sym (struct_word_again g t.is_struct) ∙ ap (λ k. struct_word k (data_words g) (pointer_count g)) t.counts ∙ ap₂ (struct_word n) t.data_of t.pointers
 
--- The sections of an element are of 16 bits each, and the count is of 30 bits.
+-- The sections of an element have 16 bits each, and the count has 30 bits.
 tag_small : (g n d q : ℕ) → g < 2 ^ 64 → IsTag g n d q → (d < 2 ^ 16) × (q < 2 ^ 16) × (n < 2 ^ 30)
 tag_small g n d q l t = (omega (arith, t.data_of), omega (arith, t.pointers), omega (arith, t.counts))
 
--- A list of structs stands whose tag is at the head, which claims exactly its elements, whose widths are the least, and whose
--- children stand behind the elements.
+-- A list of structs is canonical if its tag is at the head, it claims exactly its elements, their
+-- widths are the least, and their children are after the elements.
 pub structs_stand : (S : Segments) (s p h : ℕ) (a : Target) (m n d q : ℕ) (es : Elements) → HasSmallWords S s → IsPlace S s p → kind (word_at S s p) ≢ 2 → ListAt S s p a 7 m → a.start ≡ h → Claims S a (m + 1) →
     IsTag (word_at S s h) n d q → n * (d + q) ≡ m → element_count es ≡ n → data_width es ≡ d → pointer_width es ≡ q → ElementsStand S s (h + 1) d q (h + 1 + m) es → Stands S s p h (Structs d q es)
 structs_stand S s p h a m n d q es w place other o start claim tag exact len dw pw all =
@@ -249,12 +256,12 @@ structs_stand S s p h a m n d q es w place other o start claim tag exact len dw 
       ),
     )
 
--- Elements of no words and no pointers stand anywhere.
+-- Elements without words and pointers are canonical anywhere.
 pub blanks_stand : (S : Segments) (s p h n : ℕ) → ElementsStand S s p 0 0 h (blank n)
 blanks_stand S s p h zero = tt
 blanks_stand S s p h (suc n) = (refl, refl, refl, tt, blanks_stand S s (p + 0 + 0) (h + 0) n)
 
--- Elements of no words and no pointers have no widths.
+-- Elements without words and pointers have no widths.
 pub data_width-blank : (n : ℕ) → data_width (blank n) ≡ 0
 data_width-blank zero = refl
 data_width-blank (suc n) = omega (arith, data_width-blank n)
@@ -263,7 +270,7 @@ pub pointer_width-blank : (n : ℕ) → pointer_width (blank n) ≡ 0
 pointer_width-blank zero = refl
 pointer_width-blank (suc n) = omega (arith, pointer_width-blank n)
 
--- The children of elements of no words and no pointers take no words.
+-- The children of elements without words and pointers take no words.
 pub words-blank : (n : ℕ) → word_count_elements (blank n) ≡ 0
 words-blank zero = refl
 words-blank (suc n) = omega (arith, words-blank n)

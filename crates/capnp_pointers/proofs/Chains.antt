@@ -1,5 +1,5 @@
--- Children and elements that stand one behind the other, and the words that they are.
--- The lemmas take a place, a head and what stands there one by one, as `Stands` has them.
+-- Consecutive children and elements, and the words that they are.
+-- The lemmas take the place, the head and what is there one by one, in the way of `Stands`.
 use Rattle.std.proofs.Common.{◌≡◌, ℕ, suc, ◌+◌, ◌*◌, ◌^◌, ◌<◌, ◌≤◌, List, [], ◌∷◌, ◌++◌, length, take, drop, refl, sym, ap, ap₂, ◌∙◌, subst, arith, length-append, take-add, drop-drop}
 use Rattle.std.proofs.lemmas.List.{drop_more}
 use Rattle.capnp_format.specs.Segments.{Segments, segment, word_at, HasWords}
@@ -12,14 +12,14 @@ use Rattle.capnp_format.proofs.Lengths.{length-body, length-bodies, length-point
 use Rattle.capnp_format.proofs.Lies.{pointer_ahead, reaches_ahead}
 use Rattle.capnp_format.proofs.Bounds.{HasSmallWords, words_small}
 
--- Words that stand one behind the other stand together.
+-- Consecutive words xs and ys are the words xs ++ ys.
 pub has_words_joined : (S : Segments) (s h : ℕ) (xs ys : List ℕ) → HasWords S s h xs → HasWords S s (h + length xs) ys → HasWords S s h (xs ++ ys)
 has_words_joined S s h xs ys e f =
     ap (λ n. take n (drop h (segment S s))) (length-append xs ys)
     ∙ take-add (length xs) (length ys) (drop h (segment S s))
     ∙ ap₂ (λ x y. x ++ y) e (ap (take (length ys)) (drop-drop (length xs) h (segment S s)) ∙ f)
 
--- A word that stands in its segment stands there as a list of one.
+-- A word inside its segment is there as a list of one word.
 pub has_words_one : (S : Segments) (s h x : ℕ) → word_at S s h ≡ x → h < length (segment S s) → HasWords S s h (x ∷ [])
 has_words_one S s h x e l = ap (take 1) (drop_more (segment S s) h 0 l) ∙ ap (λ y. y ∷ []) e
 
@@ -27,7 +27,7 @@ has_words_one S s h x e l = ap (take 1) (drop_more (segment S s) h 0 l) ∙ ap (
 pub has_words_more : (S : Segments) (s h x : ℕ) (xs : List ℕ) → word_at S s h ≡ x → h < length (segment S s) → HasWords S s (h + 1) xs → HasWords S s h (x ∷ xs)
 has_words_more S s h x xs e l f = has_words_joined S s h (x ∷ []) xs (has_words_one S s h x e l) f
 
--- What is so where a pointer has an offset may be weakened.
+-- What holds if a pointer has an offset may be weakened.
 pub for_offset_map : (t : Tree) (P Q : Type 0) → (P → Q) → ForOffset t P → ForOffset t Q
 for_offset_map Null P Q f h = tt
 for_offset_map (Capability i) P Q f h = tt
@@ -38,16 +38,17 @@ for_offset_map (Flat size ns) P Q f h = f h
 for_offset_map (Pointers ts) P Q f h = f h
 for_offset_map (Structs d q es) P Q f h = f h
 
--- A pointer that reaches the position k words behind it has an offset of less than 2^29.
+-- If a pointer reaches a position with k words in between, k is less than 2^29.
 reach_near : (p k : ℕ) → Reaches p (p + 1 + k) → k < 2 ^ 29
 reach_near p k r = omega arith
 
--- The pointer of a value, where it has an offset, has one of less than 2^29 if it reaches the position k words behind it.
+-- If the pointer of a value has an offset, and reaches a position with k words in between, k is
+-- less than 2^29.
 pub offset_near : (t : Tree) (p k : ℕ) → ForOffset t (Reaches p (p + 1 + k)) → ForOffset t (k < 2 ^ 29)
 offset_near t p k r = for_offset_map t (Reaches p (p + 1 + k)) (k < 2 ^ 29) (reach_near p k) r
 
--- The pointers of children stand from position p on as a canonical object has them, and k words behind the last pointer
--- their bodies begin; the children are trimmed and free of capabilities.
+-- S has the pointers of children from (s, p) on as a canonical object has them, and their bodies
+-- after k more words. The children are trimmed and have no capabilities.
 pub record AreLaid (S : Segments) (s p k : ℕ) (ts : Trees) : Type 0 where
   pub values : AreValues ts
   pub offsets : OffsetsFit k ts
@@ -57,7 +58,7 @@ pub record AreLaid (S : Segments) (s p k : ℕ) (ts : Trees) : Type 0 where
   pub heads : HasWords S s p (pointers k ts)
   pub behind : HasWords S s (p + count ts + k) (bodies ts)
 
--- Children that stand one by one are laid so together.
+-- Children that are canonical one by one are laid together so.
 pub laid_where_standing : (S : Segments) (s p k : ℕ) (ts : Trees) → AllStand S s p (p + count ts + k) ts → AreLaid S s p k ts
 laid_where_standing S s p k no_trees a = record { values = tt; offsets = tt; encodable = tt; trimmed = refl; free = refl; heads = refl; behind = refl }
 laid_where_standing S s p k (tree t ts) (stands, all) =
@@ -79,7 +80,7 @@ laid_where_standing S s p k (tree t ts) (stands, all) =
           (moved S s (p + 1 + count ts + (k + word_count t)) (h + length (body t)) (bodies ts) (omega (arith, long)) rest.behind);
     }
 
--- Children that are laid so stand one by one.
+-- Children that are laid so are canonical one by one.
 pub standing_where_laid : (S : Segments) (s p k : ℕ) (ts : Trees) → AreLaid S s p k ts → p + count ts ≤ length (segment S s) → AllStand S s p (p + count ts + k) ts
 standing_where_laid S s p k no_trees a l = tt
 standing_where_laid S s p k (tree t ts) a l =
@@ -114,8 +115,9 @@ standing_where_laid S s p k (tree t ts) a l =
           (omega arith)),
     )
 
--- Elements of d data words and q pointers stand from position p on as a canonical list has them, and k words behind the last
--- one the bodies of their children begin; these are trimmed and free of capabilities.
+-- S has elements of d data words and q pointers from (s, p) on as a canonical list has them, and
+-- the bodies of their children after k more words. The children are trimmed and have no
+-- capabilities.
 pub record AreRows (S : Segments) (s p d q k : ℕ) (es : Elements) : Type 0 where
   pub values : AreElements d q es
   pub offsets : RowsFit d q k es
@@ -125,7 +127,7 @@ pub record AreRows (S : Segments) (s p d q k : ℕ) (es : Elements) : Type 0 whe
   pub heads : HasWords S s p (rows d q k es)
   pub behind : HasWords S s (p + element_count es * (d + q) + k) (element_bodies es)
 
--- Elements that stand one by one are laid so together.
+-- Elements that are canonical one by one are laid together so.
 pub rows_where_standing : (S : Segments) (s p d q k : ℕ) (es : Elements) → HasSmallWords S s → ElementsStand S s p d q (p + element_count es * (d + q) + k) es → AreRows S s p d q k es
 rows_where_standing S s p d q k no_elements w a = record { values = tt; offsets = tt; encodable = tt; trimmed = refl; free = refl; heads = refl; behind = refl }
 rows_where_standing S s p d q k (element ws ts es) w (long, len, words, all, others) =
@@ -150,7 +152,7 @@ rows_where_standing S s p d q k (element ws ts es) w (long, len, words, all, oth
           (moved S s (p + d + q + more + (k + word_count_all ts)) (h + length (bodies ts)) (element_bodies es) (omega (arith, long_bodies)) rest.behind);
     }
 
--- Elements that are laid so stand one by one.
+-- Elements that are laid so are canonical one by one.
 pub standing_where_rows : (S : Segments) (s p d q k : ℕ) (es : Elements) → AreRows S s p d q k es → p + element_count es * (d + q) ≤ length (segment S s) →
     ElementsStand S s p d q (p + element_count es * (d + q) + k) es
 standing_where_rows S s p d q k no_elements a l = tt
@@ -193,16 +195,17 @@ standing_where_rows S s p d q k (element ws ts es) a l =
           (omega arith)),
     )
 
--- What stands ends in its segment, where the head lies in it.
+-- The canonical words of t end inside their segment if the head is inside it.
 pub stands_within : (S : Segments) (s p h : ℕ) (t : Tree) → h ≤ length (segment S s) → Stands S s p h t → h + word_count t ≤ length (segment S s)
 stands_within S s p h t l a = omega (arith, length-body t a.1, has_words_within S s h (body t) (a.5).2 l)
 
--- Children that stand end in their segment, where the head lies in it.
+-- The canonical words of children end inside their segment if the head is inside it.
 pub all_within : (S : Segments) (s p h : ℕ) (ts : Trees) → h ≤ length (segment S s) → AllStand S s p h ts → h + word_count_all ts ≤ length (segment S s)
 all_within S s p h no_trees l a = omega arith
 all_within S s p h (tree t ts) l a = omega (arith, all_within S s (p + 1) (h + word_count t) ts (stands_within S s p h t l a.0) a.1)
 
--- The children of elements that stand end in their segment, where the head lies in it.
+-- The canonical words of the children of elements end inside their segment if the head is inside
+-- it.
 pub elements_within : (S : Segments) (s p d q h : ℕ) (es : Elements) → h ≤ length (segment S s) → ElementsStand S s p d q h es → h + word_count_elements es ≤ length (segment S s)
 elements_within S s p d q h no_elements l a = omega arith
 elements_within S s p d q h (element ws ts es) l a =

@@ -1,4 +1,5 @@
--- The test for canonical form, step by step: what a yes finds and pays, where no value stands, and where the test stops.
+-- The test for canonical form, step by step: what it finds and pays if the answer is yes, when
+-- there is no value, and where it stops.
 use Rattle.std.proofs.Common.{◌≡◌, ◌≢◌, ℕ, zero, suc, pred, ◌+◌, ◌*◌, ◌^◌, slice_index, ◌<◌, ◌≤◌, ◌↔◌, ◌⊎◌, inl, inr, max, cond, nat_eq, List, [], ◌∷◌, Option, Some, None, length, refl, sym, ap, ap₂, ◌∙◌, subst, arith}
 use Rattle.std.proofs.lemmas.Bool.{false≢true}
 use Rattle.std.proofs.lemmas.Bool.Decides.{nat_tests}
@@ -56,7 +57,7 @@ one_level_more : (l n : ℕ) → 0 < n → l ≤ pred n → 1 + l ≤ n
 one_level_more l zero some h = absurd (omega arith)
 one_level_more l (suc n) some h = omega arith
 
--- The place that is tested, by the bytes that are read there.
+-- The place that is tested, from the bytes that are read there.
 pub tested : (r : Reading) (bytes : List ℕ) → words_of bytes ≡ segment_read r → ((i : ℕ) → slice_index (words_of bytes) i < 2 ^ 64) → r.at < length (words_of bytes) → kind (slice_index (words_of bytes) r.at) < 2 → IsTested r
 tested r bytes e small at near = record {
   small = λ p. subst (λ ws. slice_index ws p < 2 ^ 64) e (small p);
@@ -64,14 +65,14 @@ tested r bytes e small at near = record {
   near = subst (λ ws. kind (slice_index ws r.at) < 2) e near;
 }
 
--- what stands in a segment and from positions on, by other names of these
+-- Canonical words in a segment and from positions on, if these have other names.
 pub all_at : {s u p q h i : ℕ} (S : Segments) (ts : Trees) → s ≡ u → p ≡ q → h ≡ i → AllStand S s p h ts → AllStand S u q i ts
 all_at {s} {u} {p} {q} {h} {i} S ts e f g a = subst (λ x. AllStand S x q i ts) e (subst (λ x. AllStand S s x i ts) f (subst (λ x. AllStand S s p x ts) g a))
 
 pub used_at : {s u p q n m : ℕ} (S : Segments) → s ≡ u → p ≡ q → n ≡ m → EndsUsed S s p n → EndsUsed S u q m
 used_at {s} {u} {p} {q} {n} {m} S e f g a = subst (λ x. EndsUsed S x q m) e (subst (λ x. EndsUsed S s x m) f (subst (λ x. EndsUsed S s p x) g a))
 
--- children one behind the other
+-- Consecutive children.
 
 pub finds_none : (r : Reading) (from : Progress) → FindsAll r from from no_trees
 finds_none r from = record { stand = tt; levels = omega arith; paid = paid_none r from.meter; head_is = omega arith }
@@ -89,12 +90,12 @@ pub pointer_found : {r : Reading} {i : ℕ} {from mid to : Progress} → AreFoun
 pointer_found {r} {i} {from} {mid} {to} (ts, len, all) (u, one) =
     (with_last ts u, omega (arith, count-with_last ts u, len), finds_more all (subst (λ j. Finds (behind r j) mid to u) (sym len) one))
 
--- elements one behind the other
+-- Consecutive elements.
 
 pub finds_no_element : (r : Reading) (size : StructSize) (from : Progress) → FindsElements r size from from no_elements
 finds_no_element r size from = record { stand = tt; levels = omega arith; paid = paid_none r from.meter; head_is = omega arith }
 
--- The words of element number j before its pointers.
+-- The data words of element j, which come before its pointers.
 abbrev pub data_of_row : Reading → StructSize → ℕ → List ℕ
 data_of_row r size j = words_at r.segments r.segment (r.at + j * (size.data_words + size.pointers)) size.data_words
 
@@ -115,7 +116,7 @@ finds_element {r} {size} {from} {mid} {to} {es} {ts} all fits len one =
       head_is = omega (arith, all.head_is, one.head_is, words-with_last_element es ws ts);
     }
 
--- objects: what is found
+-- Objects: what is found.
 
 pub null_found_at : {r : Reading} {from : Progress} {m' : Meter} → IsTested r → word_of r ≡ 0 → m' ≡ from.meter → IsFound r from (progress from.head m')
 null_found_at {r} {from} {m'} ready z e = (
@@ -150,11 +151,11 @@ empty_found_at {r} {from} {m'} {a} ready o z none start =
       },
     )
 
--- The two sections of a struct end in words that are used.
+-- Each of the two sections of a struct is empty or ends in a word that isn't zero.
 abbrev SectionsUsed : Reading → Target → Type 0
 SectionsUsed r a = EndsUsed r.segments a.segment a.start (data_words a.word) × EndsUsed r.segments a.segment (a.start + data_words a.word) (pointer_count a.word)
 
--- The pointers of a struct, and of a list of pointers, as they are read.
+-- The reading of the pointers of a struct, and of a list of pointers.
 abbrev pub struct_pointers : Reading → Target → Reading
 struct_pointers r a = child_at r a (pred r.levels) (a.start + data_words a.word)
 
@@ -236,11 +237,12 @@ flat_finds {r} {from} {m'} {a} ready o z small start padded =
       },
     )
 
--- Elements one behind the other are canonical, and no smaller size of elements would do.
+-- Consecutive elements are canonical, and no smaller size of elements would do.
 abbrev pub AreFoundRows : Reading → StructSize → ℕ → Progress → Progress → Type 0
 AreFoundRows r size n from to = TellsRows r (rows_sized size n) from to.meter (Some to.head)
 
--- What the test of a list tells that claims so many words: its elements take just these, and the first object stands behind them.
+-- The answer of the test of a list that claims `claimed` words: its elements take exactly these,
+-- and the first object comes after them.
 abbrev pub TellsClaimed : Reading → StructSize → ℕ → ℕ → Meter → Meter → Option ℕ → Type 0
 TellsClaimed r size n claimed m m' (Some e) = (n * (size.data_words + size.pointers) ≡ claimed) × TellsRows r (rows_sized size n) (progress (r.at + claimed) m) m' (Some e)
 TellsClaimed r size n claimed m m' None = n * (size.data_words + size.pointers) ≡ claimed → TellsRows r (rows_sized size n) (progress (r.at + claimed) m) m' None
@@ -273,7 +275,7 @@ structs_find {r} {from} {to} {m'} {a} ready o z seven start exact (es, len, dw, 
       },
     )
 
--- elements without width: they take nothing
+-- Elements without width take nothing.
 pub empties_found : (r : Reading) (size : StructSize) (n : ℕ) (from : Progress) → size.data_words + size.pointers ≡ 0 → AreFoundRows r size n from from
 empties_found r size n from none = (
   blank n,
@@ -301,7 +303,7 @@ empties_found r size n from none = (
     pointers-blank zero = refl
     pointers-blank (suc i) = omega (arith, pointers-blank i)
 
--- objects: where no value stands
+-- Objects: when there is no value.
 
 starts_at : (n p h x : ℕ) → (n ≡ 0 → x ≡ p) → (0 < n → x ≡ h) → x ≡ cond (nat_eq n 0) p h
 starts_at zero p h x f g = f refl
@@ -373,7 +375,7 @@ structs_never {r} {a = a} h ready o z seven fails (t, stands) =
     let (exact, es, len, dw, pw, all) = (structs_of_tag S r.segment r.at h a m n d q ready.small ready.there (not_far r ready.near) (list_at 7 o z seven) start f.claim tagged).0 (t, stands) in
     fails exact (es, len, dw, pw, subst (λ x. ElementsStand S x (a.start + 1) d q (a.start + 1 + m) es) (sym seg) (subst (λ x. ElementsStand S r.segment (x + 1) d q (x + 1 + m) es) (sym start) all))
 
--- objects: what the test tells of them, once their own parts are tested
+-- Objects: the answers of the test, once their own parts are tested.
 
 -- A struct without words.
 pub empty_tells : {r : Reading} {m' : Meter} (from : Progress) (start : Place) (size : StructSize) → IsTested r → IsObject Value r from.meter m' (ObjectStruct start size) → size.data_words + size.pointers ≡ 0 →
@@ -463,16 +465,17 @@ structs_tell {r} {m'} from m'' start size n None ready (a, o, z, seven, (held, s
     (subst (λ p. ElementsAccept S start.segment p (data_words (tag S a)) (pointer_count (tag S a)) (a.start + 1 + list_count a.word) (offset_bits (tag S a))) (sym at)
     (subst (λ s. ElementsAccept S s (a.start + 1) (data_words (tag S a)) (pointer_count (tag S a)) (a.start + 1 + list_count a.word) (offset_bits (tag S a))) (sym seg) all)))))))
 
--- children: where no values stand
+-- Children: when there are no values.
 
 pub pointer_never : {r : Reading} {i : ℕ} {mid : Progress} (from : Progress) (n : ℕ) → AreFound r i from mid → i < n → (IsCanonicalAt (behind r i) mid.head → ⊥) → AreCanonicalAt r n from.head → ⊥
 pointer_never {r} {i} {mid} from n (ts, len, all) lt fails =
     none_stand r.segments r.segment r.at from.head n ts all.stand (omega (arith, len, lt)) (λ stands. fails
     (subst (λ j. IsCanonicalAt (behind r j) mid.head) len (subst (λ h. IsCanonicalAt (behind r (count ts)) h) (sym all.head_is) stands)))
 
--- elements: how far a test of them has come
+-- Elements: how far their test has come.
 
--- The first i elements are canonical; and whether some element uses the last word of its data, and some its last pointer.
+-- The first i elements are canonical. `data_used` says whether some element uses its last data
+-- word, and `pointers_used` whether some element uses its last pointer.
 pub record AreSeen (r : Reading) (size : StructSize) (i : ℕ) (from to : Progress) (data_used pointers_used : Bool) : Type 0 where
   pub elements : Elements
   pub counts : element_count elements ≡ i
@@ -489,7 +492,8 @@ none_seen r size from b c f g = record {
   pointers_are = ((λ t. sym (g.0 t)), (λ e. g.1 (sym e)));
 }
 
--- The last words of the sections of element number i.
+-- The data section of element i is empty or ends in a word that isn't zero; and its pointer section
+-- so too.
 abbrev pub RowDataUsed : Reading → StructSize → ℕ → Type 0
 RowDataUsed r size i = EndsUsed r.segments r.segment (r.at + i * (size.data_words + size.pointers)) size.data_words
 
@@ -508,7 +512,8 @@ either b c f g h = (
   ])),
 )
 
--- A width that elements and one more reach.
+-- Some elements and one more reach the width d exactly if the elements reach it, or the one more
+-- does.
 width_reached : {P : Type 0} (a b d x : ℕ) → a ≤ d → b ≤ d → x ≡ max a b → (P ↔ (b ≡ d)) → (x ≡ d) ↔ ((a ≡ d) ⊎ P)
 width_reached a b d x l m e f = (
   (λ y. elim ((reached a b d l m).0 (sym e ∙ y)) [
@@ -550,7 +555,7 @@ row_seen {r} {size} {i} {from} {mid} {to} {b} {c} b' c' seen fits (ts, len, all)
       pointers_are = either c c' seen.pointers_are g (width_reached (pointer_width es) (used_trees ts) q (pointer_width (with_last_element es ws ts)) bounds.1 (omega (arith, used_trees-le ts, len)) (pointer_width-with_last es ws ts) pointers_end);
     }
 
--- the next element is not canonical
+-- The next element isn't canonical.
 pub row_never : {r : Reading} {size : StructSize} {i : ℕ} {mid : Progress} {b c : Bool} (from : Progress) (n : ℕ) → AreSeen r size i from mid b c → i < n → (AreCanonicalAt (pointers_of r size i) size.pointers mid.head → ⊥) →
     ElementsAccept r.segments r.segment r.at size.data_words size.pointers from.head n → ⊥
 row_never {r} {size} {i} {mid} from n seen lt fails =
@@ -559,7 +564,7 @@ row_never {r} {size} {i} {mid} from n seen lt fails =
     (subst (λ j. AreCanonicalAt (pointers_of r size j) size.pointers mid.head) seen.counts
     (subst (λ h. AreCanonicalAt (pointers_of r size (element_count es)) size.pointers h) (sym seen.found.head_is) stand)))
 
--- the test ends at the next pointer; at the next element
+-- The test ends at the next pointer; or at the next element.
 pub pointer_ends : {P : Reading → Progress → Meter → Type 0} {r : Reading} {i : ℕ} {from mid : Progress} {m' : Meter} (n : ℕ) → AreFound r i from mid → i < n → TestEnds P (behind r i) mid m' → TestsEnd P r n from m'
 pointer_ends {P} {r} {i} {from} {mid} {m'} n (ts, len, all) lt ends = record {
   first = ts;
@@ -582,11 +587,11 @@ pub rows_unused : {r : Reading} {size : StructSize} {n : ℕ} {to : Progress} {b
 rows_unused {r} {size} {n} from seen fails =
     widths_fail r.segments r.segment r.at size.data_words size.pointers from.head n seen.elements seen.found.stand seen.counts (λ e. fails (seen.data_is.1 e.0, seen.pointers_are.1 e.1))
 
--- elements that use both of their sections are those of a value
+-- Elements that use both of their sections are those of a value.
 pub rows_seen : {r : Reading} {size : StructSize} {n e : ℕ} {from : Progress} {m' : Meter} {b c : Bool} → AreSeen r size n from (progress e m') b c → IsTrue b → IsTrue c → TellsRows r (rows_sized size n) from m' (Some e)
 rows_seen seen d q = (seen.elements, seen.counts, seen.data_is.0 d, seen.pointers_are.0 q, seen.found)
 
--- objects: where the test ends at one of their pointers
+-- Objects: the test ends at one of their pointers.
 
 struct_ends_at : {P : Reading → Progress → Meter → Type 0} {r : Reading} {from : Progress} {m' m'' : Meter} {a : Target} → kind (word_of r) < 2 → Entered Value r from.meter m' a → kind a.word ≡ 0 → a.start ≡ from.head →
     TestsEnd P (struct_pointers r a) (pointer_count a.word) (progress (a.start + data_words a.word + pointer_count a.word) m') m'' → TestEnds P r from m''
@@ -658,14 +663,14 @@ IsList (ObjectStructs start size n) = Unit {0}
 pub place_begins : {n : ℕ} (r : Reading) (start : Place) → n ≡ pred r.levels → r.segment ≡ start.segment → record r { levels = n; at = start.at } ≡ beginning r start
 place_begins r start e f = ap₂ (λ n s. record r { levels = n; segment = s; at = start.at }) e f
 
--- An object stands in the segment of its pointer.
+-- An object is in the segment of its pointer.
 pub pointers_here : {r : Reading} {m m' : Meter} (start : Place) (n : ℕ) → IsTested r → IsObject Value r m m' (ObjectPointers start n) → r.segment ≡ start.segment
 pointers_here {r} start n ready (a, o, z, six, (held, seg, at), many) = sym (seg ∙ (near_object r ready.near (entered_leads o)).same_segment)
 
 pub structs_here : {r : Reading} {m m' : Meter} (start : Place) (size : StructSize) (n : ℕ) → IsTested r → IsObject Value r m m' (ObjectStructs start size n) → r.segment ≡ start.segment
 structs_here {r} start size n ready (a, o, z, seven, (held, seg, at), many, wide, pointers) = sym (seg ∙ (near_object r ready.near (entered_leads o)).same_segment)
 
--- What a word of kind list leads to is a list.
+-- A word of kind list leads to a list.
 pub lists_alone : {r : Reading} (m m' : Meter) (x : Object) → IsTested r → kind (word_of r) ≡ 1 → IsObject Value r m m' x → IsList x
 lists_alone {r} m m' ObjectNull ready list object = absurd (omega (arith, list, object.0))
 lists_alone {r} m m' (ObjectCapability i) ready list (a, l, low, index, covers, spent) = let near = near_object r ready.near (leads_there r a l (λ f. omega (arith, f, low))) in absurd (omega (arith, near.same_word, low, list))
@@ -683,7 +688,7 @@ no_list_else ObjectNull list flat pointers structs = list
 no_list_else (ObjectCapability i) list flat pointers structs = list
 no_list_else (ObjectStruct start size) list flat pointers structs = list
 
--- the words of an object are there
+-- The words of an object are there.
 
 pub struct_room : {r : Reading} {m m' : Meter} (start : Place) (size : StructSize) → IsObject Value r m m' (ObjectStruct start size) → start.at + (size.data_words + size.pointers) ≤ length (segment_read (beginning r start))
 struct_room {r} start size (a, o, z, (held, seg, at), wide, many) = omega (arith, o.meets.claims, claim_struct a.word z, at, wide, many, ap (λ s. length (segment r.segments s)) seg)
@@ -693,7 +698,7 @@ structs_room {r} start size n near (a, o, z, seven, (held, seg, at), many, wide,
     let claimed : list_count (word_of r) ≡ list_count a.word = ap list_count (sym (near_object r near (entered_leads o)).same_word) in
     omega (arith, o.meets.claims, claim_list a.word 7 z seven, at, claimed, ap (λ s. length (segment r.segments s)) seg)
 
--- flags: what was seen stays seen, and what was not is looked at
+-- Flags: what was seen stays seen, and what wasn't seen is tested.
 
 pub still_seen : {b c : Bool} {Q : Type 0} → c ≡ b → b ≡ true → IsTrue c ↔ (IsTrue b ⊎ Q)
 still_seen e f = ((λ t. inl f), (λ x. e ∙ f))

@@ -1,5 +1,5 @@
--- Object by object: some value stands at a place and a head exactly where the object passes the checks of its canonical form.
--- Each lemma takes what the checks found one by one.
+-- Object by object: canonical words of some value are at a place and a head exactly if the object
+-- passes the checks of its canonical form. Each lemma takes what the checks found one by one.
 use Rattle.std.proofs.Common.{◌≡◌, ◌≢◌, ℕ, ◌+◌, ◌*◌, ◌<◌, ◌≤◌, ◌↔◌, ◌⊎◌, inl, inr, max, sym, ap, ◌∙◌, subst, arith}
 use Rattle.std.proofs.lemmas.Bool.{cases_lt}
 use Rattle.capnp_format.specs.Word.{kind}
@@ -14,11 +14,13 @@ use Rattle.capnp_pointers.proofs.Growing.{Accepts, AllAccept, next_element_stand
 use Rattle.capnp_format.proofs.Trimming.{used_words-le, used_trees-le}
 use Rattle.capnp_pointers.proofs.Found.{structs_found}
 
--- Some n elements stand from a place and a head on, and no smaller sections would hold them.
+-- Canonical words of some n elements are from a place and a head on, and no smaller sections would
+-- hold them.
 abbrev pub ElementsAccept : Segments → ℕ → ℕ → ℕ → ℕ → ℕ → ℕ → Type 0
 ElementsAccept S s p d q h n = (es : Elements) × (element_count es ≡ n) × (data_width es ≡ d) × (pointer_width es ≡ q) × ElementsStand S s p d q h es
 
--- Where the tag is read already, a list of structs stands exactly where its elements stand behind the tag and fill its words.
+-- If its tag is known, a list of structs is canonical exactly if its elements are canonical after
+-- the tag and fill its words.
 pub structs_of_tag : (S : Segments) (s p h : ℕ) (a : Target) (m n d q : ℕ) → HasSmallWords S s → IsPlace S s p → kind (word_at S s p) ≢ 2 → ListAt S s p a 7 m → a.start ≡ h → Claims S a (m + 1) → IsTag (word_at S s h) n d q →
     Accepts S s p h ↔ ((n * (d + q) ≡ m) × (es : Elements) × (element_count es ≡ n) × (data_width es ≡ d) × (pointer_width es ≡ q) × ElementsStand S s (h + 1) d q (h + 1 + m) es)
 structs_of_tag S s p h a m n d q w place other o start claim tag = (
@@ -39,28 +41,29 @@ structs_of_tag S s p h a m n d q w place other o start claim tag = (
   (λ y. (Structs d q y.1, structs_stand S s p h a m n d q y.1 w place other o start claim tag y.0 y.2 y.3 y.4 y.5)),
 )
 
--- Where the children of the next element don't stand, no row of more elements does.
+-- If the children of the next element aren't canonical, no list of more elements is.
 pub element_fails : (S : Segments) (s p d q h n : ℕ) (es : Elements) → ElementsStand S s p d q h es → element_count es < n →
     (AllAccept S s (p + element_count es * (d + q) + d) (h + word_count_elements es) q → ⊥) → ElementsAccept S s p d q h n → ⊥
 element_fails S s p d q h n es a less fails = λ x.
     let r = next_element_stands S s p d q h es x.0 a x.4 (omega (arith, x.1)) in
     fails (r.next, r.counts, r.stand)
 
--- Where the widths of all elements are not the least, no such elements stand.
+-- If the widths of all elements aren't the least, there are no such canonical elements.
 pub widths_fail : (S : Segments) (s p d q h n : ℕ) (es : Elements) → ElementsStand S s p d q h es → element_count es ≡ n →
     ((data_width es ≡ d) × (pointer_width es ≡ q) → ⊥) → ElementsAccept S s p d q h n → ⊥
 widths_fail S s p d q h n es a len fails = λ x.
     let same = one_row_of_elements S s p d q h es x.0 a x.4 (len ∙ sym x.1) in
     fails (ap data_width same ∙ x.2, ap pointer_width same ∙ x.3)
 
--- The widths of elements that stand are at most those of the list.
+-- The widths of canonical elements are at most those of the list.
 pub widths_within : (S : Segments) (s p d q h : ℕ) (es : Elements) → ElementsStand S s p d q h es → (data_width es ≤ d) × (pointer_width es ≤ q)
 widths_within S s p d q h no_elements a = (omega arith, omega arith)
 widths_within S s p d q h (element ws ts es) a =
     let r = widths_within S s (p + d + q) d q (h + word_count_all ts) es a.4 in
     (omega (arith, used_words-le ws, a.0, r.0), omega (arith, used_trees-le ts, a.1, r.1))
 
--- A width is reached by elements and one more exactly where it was reached before, or this element reaches it.
+-- Elements and one more reach a width exactly if they reached it before, or this element reaches
+-- it.
 pub reached : (a b d : ℕ) → a ≤ d → b ≤ d → (max a b ≡ d) ↔ ((a ≡ d) ⊎ (b ≡ d))
 reached a b d l m = (
   (λ e. elim (cases_lt a d) [

@@ -1,4 +1,4 @@
--- Where the test for canonical form fails, which is a no: by which object, and what was charged until then.
+-- The test for canonical form answers no: at which object, and what was charged until then.
 use Rattle.std.proofs.Common.{◌≡◌, ◌≢◌, ◌⊎◌, ℕ, ◌+◌, ◌-◌, ◌*◌, ◌<◌, inl, inr, pred, Bool, IsTrue, [], ◌∷◌, true, false, Option, Some, None, sym, ap, ap₂, ◌∙◌, subst, arith}
 use Rattle.std.specs.Prelude.{IfSome, is_some, not}
 use Rattle.capnp_format.specs.Word.{kind, offset_bits, data_words, pointer_count, element_size, list_count}
@@ -28,7 +28,8 @@ use Rattle.capnp_pointers.specs.Checking.{Progress, progress, AreFound, AreFound
 use Rattle.capnp_pointers.proofs.Checks.{near_object, struct_pointers, list_elements, padded_at, some_starts, lists_alone, AreSeen, struct_ends, structs_end}
 use Rattle.capnp_objects.proofs.Followed.{entered_leads}
 
--- A test that ends where P says so ends where Q does that follows; so does that of pointers.
+-- A test that ends where P holds ends where Q holds if P implies Q; and so does the test of
+-- pointers.
 pub ends_so : {P Q : Reading → Progress → Meter → Type 0} {r : Reading} {from : Progress} {m' : Meter} → ((s : Reading) (at : Progress) (m : Meter) → P s at m → Q s at m) → TestEnds P r from m' → TestEnds Q r from m'
 ends_so {r = r} {from = from} {m' = m'} f (here p) = here (f r from m' p)
 ends_so f (below a q near o start exact before ends) = below a q near o start exact before (ends_so f ends)
@@ -36,7 +37,7 @@ ends_so f (below a q near o start exact before ends) = below a q near o start ex
 pub pointers_end_so : {P Q : Reading → Progress → Meter → Type 0} {r : Reading} {i : ℕ} {from : Progress} {m' : Meter} → ((s : Reading) (at : Progress) (m : Meter) → P s at m → Q s at m) → TestsEnd P r i from m' → TestsEnd Q r i from m'
 pointers_end_so f h = record { first = h.first; fewer = h.fewer; mid = h.mid; are_found = h.are_found; ends = ends_so f h.ends }
 
--- A fault is one for some reason.
+-- A fault makes the place unfit, for some reason.
 pub fault_unfit : (f : CanonicalFault) (r : Reading) (from : Progress) (m' : Meter) → IsFault f r from m' → IsUnfit r from m'
 fault_unfit f r from m' fails = (f, fails)
 
@@ -47,7 +48,7 @@ pub some_unfit : {r : Reading} {from : Progress} {m' : Meter} (o : Option Canoni
 some_unfit None b is fails fault = absurd (let wrong : false ≡ true = is ∙ ap not fails in cc)
 some_unfit (Some f) b is fails fault = ends_so (fault_unfit f) fault
 
--- A struct without words that stands elsewhere than at its pointer; one with words, elsewhere than at the head.
+-- A struct without words that isn't at its pointer; and a struct with words that isn't at the head.
 pub empty_fails : {f : CanonicalFault} {r : Reading} {from : Progress} {m' : Meter} (start : Place) (size : StructSize) → FaultIs f EmptyStructPlace r.segment r.at → IsTested r → IsObject Value r from.meter m' (ObjectStruct start size) → size.data_words + size.pointers ≡ 0 → start.at ≢ r.at → TestEnds (IsFault f) r from m'
 empty_fails start size fault ready (a, o, z, (held, seg, at), wide, many) none other =
     here (empty_elsewhere a fault ready.near o (z, omega (arith, none, wide, many)) (λ e. other (omega (arith, e, at))))
@@ -56,7 +57,7 @@ pub struct_fails : {f : CanonicalFault} {r : Reading} {from : Progress} {m' : Me
 struct_fails start size fault ready (a, o, z, (held, seg, at), wide, many) some other =
     here (elsewhere a fault ready.near o (λ none. let e = none.1 in omega (arith, e, some, wide, many)) (λ e. other (omega (arith, e, at))))
 
--- A list that stands elsewhere than in canonical form.
+-- A list that starts elsewhere than in canonical form.
 pub unplaced_fails : {f : CanonicalFault} {r : Reading} {from : Progress} {m' : Meter} (x : Object) → FaultIs f ObjectPlace r.segment r.at → IsTested r → kind (word_of r) ≡ 1 → IsObject Value r from.meter m' x → (StartsRight x r.at from.head → ⊥) → TestEnds (IsFault f) r from m'
 unplaced_fails ObjectNull fault ready list object other = absurd (other tt)
 unplaced_fails {r} {from} {m'} (ObjectCapability i) fault ready list object other = absurd (lists_alone {r = r} from.meter m' (ObjectCapability i) ready list object)
@@ -68,7 +69,7 @@ unplaced_fails (ObjectPointers start n) fault ready list (a, o, z, six, (held, s
 unplaced_fails (ObjectStructs start size n) fault ready list (a, o, z, seven, (held, seg, at), many, wide, pointers) other =
     here (elsewhere a fault ready.near o (λ none. let e = none.0 in omega (arith, e, z)) (λ e. other (omega (arith, e, at))))
 
--- A list of numbers with other bits than zeros behind them.
+-- A list of numbers with other bits than zeros after them.
 pub flat_fails : {f : CanonicalFault} {r : Reading} {from : Progress} {m' : Meter} (start : Place) (size : ElementSize) (n : ℕ) → IsTested r → IsObject Value r from.meter m' (ObjectFlat start size n) →
     StartsRight (ObjectFlat start size n) r.at from.head → (IsPadded (words_of start.bytes.now ∷ []) 0 start.at (size_number size) n → ⊥) →
     FaultIs f Padding start.segment (start.at + words_for (size_number size) n - 1) → TestEnds (IsFault f) r from m'
@@ -77,7 +78,7 @@ flat_fails {f} {r} {from} {m'} start size n ready (a, o, z, small, (held, seg, a
     here (not_padded a (reason, segment ∙ seg, last) ready.near o (omega (arith, right, at)) z small (λ padded. fails
     (subst (λ ws. IsPadded (ws ∷ []) 0 start.at (size_number size) n) (sym held.0) (padded_at r.segments (sym seg) (omega (arith, at)) (sym width) (sym len) padded))))
 
--- A struct of which a pointer fails, or smaller sections would do.
+-- A struct with a pointer that fails, or for which smaller sections would do.
 pub sections_fail : {f : CanonicalFault} {r : Reading} {from : Progress} {m' m'' : Meter} (start : Place) (size : StructSize) → IsTested r → IsObject Value r from.meter m' (ObjectStruct start size) → 0 < size.data_words + size.pointers →
     StartsRight (ObjectStruct start size) r.at from.head → SectionsFail f (beginning r start) size m' m'' → TestEnds (IsFault f) r from m''
 sections_fail {r = r} {from = from} {m' = m'} {m'' = m''} start size ready object some right (inl ends) = struct_ends {r = r} {from = from} {m' = m'} {m'' = m''} start size ready object some right ends
@@ -94,13 +95,15 @@ sections_fail {f} {r} {from} {m'} {m''} start size ready (a, o, z, (held, seg, a
     (subst (λ x. HasWideSection f x (sized (data_words a.word) (pointer_count a.word))) begin
     (subst (λ n. HasWideSection f (beginning r start) n) of_size unused)))
 
--- The test of a list that claims so many words fails: its elements take others, and nothing more is charged; or their test fails.
+-- The test of a list that claims `claimed` words fails: its elements take another number, and
+-- nothing more is charged; or their test fails.
 abbrev pub ClaimedFails : CanonicalFault → Reading → StructSize → ℕ → ℕ → Meter → Meter → Type 0
 ClaimedFails f r size n claimed m m' =
     (FaultIs f ElementWords r.segment (r.at - 1) × (n * (size.data_words + size.pointers) ≢ claimed) × (m' ≡ m))
     ⊎ ((n * (size.data_words + size.pointers) ≡ claimed) × RowsFail f r (rows_sized size n) m m')
 
--- A list of structs whose elements take other words than it claims, or of which a pointer fails, or smaller elements would do.
+-- A list of structs whose elements take another number of words than it claims, or with a pointer
+-- that fails, or for which smaller elements would do.
 pub claimed_fails : {f : CanonicalFault} {r : Reading} {from : Progress} {m' m'' : Meter} (start : Place) (size : StructSize) (n : ℕ) → IsTested r → IsObject Value r from.meter m' (ObjectStructs start size n) →
     StartsRight (ObjectStructs start size n) r.at from.head → ClaimedFails f (beginning r start) size n (list_count (word_of r)) m' m'' → TestEnds (IsFault f) r from m''
 claimed_fails {f} {r} {from} {m'} {m''} start size n ready (a, o, z, seven, (held, seg, at), many, wide, pointers) right (inl ((reason, segment, word), other, same)) =
@@ -125,7 +128,7 @@ claimed_fails {f} {r} {from} {m'} {m''} start size n ready (a, o, z, seven, (hel
     (subst (λ y. AreFoundTooWide f (list_elements r a) y n (progress (start.at + n * (size.data_words + size.pointers)) m') (progress e m'')) of_size
     (subst (λ x. AreFoundTooWide f x size n (progress (start.at + n * (size.data_words + size.pointers)) m') (progress e m'')) there found)))))
 
--- Elements none of which uses the last word of its data section, or its last pointer.
+-- None of the elements uses the last word of its data section; or none uses its last pointer.
 pub rows_wide_data : {f : CanonicalFault} {r : Reading} {size : StructSize} {n : ℕ} {from to : Progress} {b c : Bool} →
     FaultIs f ElementData r.segment (r.at - 1) → AreSeen r size n from to b c → (IsTrue b → ⊥) → AreFoundTooWide f r size n from to
 rows_wide_data fault seen fails = (seen.elements, seen.counts, seen.found, inl (fault, (λ e. fails (seen.data_is.1 e))))

@@ -1,5 +1,5 @@
--- Where a value stands, its object passes each check of its canonical form, and its children stand. Each lemma gives what the
--- checks find one by one.
+-- If S has the canonical words of a value, its object passes each check of its canonical form, and
+-- its children have canonical words. Each lemma states what the checks find one by one.
 use Rattle.std.proofs.Common.{◌≡◌, ◌≢◌, inl, inr, ℕ, ◌+◌, ◌-◌, ◌*◌, ◌^◌, ◌<◌, ◌≤◌, List, [], ◌∷◌, ◌++◌, length, take, refl, sym, ap, ap₂, ◌∙◌, subst, arith, take_all, length-take, length-append, pow_mono, lt_of_lt_of_le}
 use Rattle.std.proofs.lemmas.Bool.{cases_lt}
 use Rattle.capnp_format.specs.Word.{kind, offset_bits, struct_word, list_word}
@@ -30,19 +30,19 @@ kind_of_pointer (Flat size ns) k e = omega arith
 kind_of_pointer (Pointers ts) k e = omega arith
 kind_of_pointer (Structs d q es) k e = omega arith
 
--- The word where canonical words stand is a pointer to a struct or a list.
+-- The word at the place of canonical words is a pointer to a struct or a list.
 pub kind_where_standing : (S : Segments) (s p h : ℕ) (t : Tree) → Stands S s p h t → kind (word_at S s p) < 2
 kind_where_standing S s p h t a = rw (a.5).1 (kind_of_pointer t (offset_to p h) a.3)
 
--- The word where canonical words stand is no far pointer.
+-- The word at the place of canonical words isn't a far pointer.
 not_far : (S : Segments) (s p h : ℕ) (t : Tree) → Stands S s p h t → kind (word_at S s p) ≢ 2
 not_far S s p h t a e = let l = kind_where_standing S s p h t a in omega arith
 
--- Two heads that one pointer reaches by one offset are one.
+-- If a pointer reaches two heads with the same offset, they are the same.
 one_head : (p h i : ℕ) → Reaches p h → Reaches p i → offset_to p h ≡ offset_to p i → h ≡ i
 one_head p h i a b e = omega arith
 
--- A list's pointer leads to no struct.
+-- A list's pointer doesn't lead to a struct.
 list_not_struct : (S : Segments) (s p : ℕ) (a : Target) (k size n d q : ℕ) → word_at S s p ≡ list_word k size n → StructAt S s p a d q → ⊥
 list_not_struct S s p a k size n d q e o =
     let is_list : kind (word_at S s p) ≡ 1 = omega arith in
@@ -51,7 +51,7 @@ list_not_struct S s p a k size n d q e o =
     let is_struct = o.is_struct in
     omega arith
 
--- A struct's pointer leads to no list.
+-- A struct's pointer doesn't lead to a list.
 struct_not_list : (S : Segments) (s p : ℕ) (a : Target) (k d q size n : ℕ) → word_at S s p ≡ struct_word k d q → ListAt S s p a size n → ⊥
 struct_not_list S s p a k d q size n e o =
     let is_struct : kind (word_at S s p) ≡ 0 = omega arith in
@@ -78,11 +78,12 @@ trimmed_struct ws ts e =
     let same : us ≡ ts = sym (take_trees_all (used_trees us) us (omega (arith, many, trim_each-count ts))) ∙ children in
     (omega (arith, length-take (used_words ws) ws, ap length words, used_words-le ws), same, ap used_trees (sym same) ∙ many)
 
--- The offset -1 reaches the pointer's own place.
+-- A pointer with the offset -1 reaches its own place.
 its_own_place : (p i : ℕ) → Reaches p i → offset_to p i ≡ 2 ^ 30 - 1 → i ≡ p
 its_own_place p i r e = omega arith
 
--- Where a pointer leads to a struct of no words, the empty struct stands, and the pointer leads to its own place.
+-- If the pointer leads to a struct without words, the value is the empty struct, and the pointer
+-- leads to its own place.
 pub empty_found : (S : Segments) (s p h : ℕ) (a : Target) (t : Tree) → Stands S s p h t → StructAt S s p a 0 0 → (t ≡ Struct [] no_trees) × (a.start ≡ p)
 empty_found S s p h a Null st o = absurd (o.leads_to.0 (st.5).1)
 empty_found S s p h a (Capability i) st o = let e = st.3 in absurd (omega arith)
@@ -102,7 +103,8 @@ empty_found S s p h a (Flat size ns) st o = absurd (list_not_struct S s p a (off
 empty_found S s p h a (Pointers ts) st o = absurd (list_not_struct S s p a (offset_to p h) 6 (count ts) 0 0 (st.5).1 o)
 empty_found S s p h a (Structs d q es) st o = absurd (list_not_struct S s p a (offset_to p h) 7 (element_count es * (d + q)) 0 0 (st.5).1 o)
 
--- A struct begins at the head, lies in its segment, ends with no zero in either section, and its children stand behind it.
+-- A struct begins at the head, is inside its segment, neither section ends with a zero, and its
+-- children are after it.
 pub record FoundStruct (S : Segments) (s p h : ℕ) (a : Target) (d q : ℕ) (t : Tree) : Type 0 where
   pub start : a.start ≡ h
   pub same_segment : a.segment ≡ s
@@ -111,19 +113,19 @@ pub record FoundStruct (S : Segments) (s p h : ℕ) (a : Target) (d q : ℕ) (t 
   pub pointers_used : EndsUsed S s (h + d) q
   pub children : (ts : Trees) × (count ts ≡ q) × AllStand S s (h + d) (h + d + q) ts × (t ≡ Struct (words_at S s h d) ts)
 
--- The pointer of a struct that is not empty has an offset.
+-- The pointer of a struct that isn't empty has an offset.
 struct_reaches : (ws : List ℕ) (ts : Trees) (P : Type 0) → 0 < length ws + count ts → ForOffset (Struct ws ts) P → P
 struct_reaches [] no_trees P l h = absurd (omega arith)
 struct_reaches [] (tree t ts) P l h = h
 struct_reaches (x ∷ xs) ts P l h = h
 
--- The pointer of a struct of no words is one word always.
+-- The pointer of a struct without words is always the same word.
 empty_pointer : (ws : List ℕ) (ts : Trees) (k : ℕ) → length ws + count ts ≡ 0 → pointer (Struct ws ts) k ≡ struct_word (2 ^ 30 - 1) 0 0
 empty_pointer [] no_trees k e = refl
 empty_pointer [] (tree t ts) k e = absurd (omega arith)
 empty_pointer (x ∷ xs) ts k e = absurd (omega arith)
 
--- A struct that stands where it begins is found so.
+-- A canonical struct is found so if its pointer leads to the head.
 struct_parts : (S : Segments) (s p h : ℕ) (a : Target) (ws : List ℕ) (ts : Trees) → h ≤ length (segment S s) → Stands S s p h (Struct ws ts) → a.start ≡ h → a.segment ≡ s →
     FoundStruct S s p h a (length ws) (count ts) (Struct ws ts)
 struct_parts S s p h a ws ts l (place, v, trimmed, free, f, lies) start same =
@@ -162,7 +164,7 @@ struct_parts S s p h a ws ts l (place, v, trimmed, free, f, lies) start same =
       );
     }
 
--- Where a pointer leads to a struct of some words, such a struct stands.
+-- If a pointer leads to a struct of at least one word, the value is such a struct.
 pub struct_found : (S : Segments) (s p h : ℕ) (a : Target) (d q : ℕ) (t : Tree) → Stands S s p h t → StructAt S s p a d q → 0 < d + q → FoundStruct S s p h a d q t
 struct_found S s p h a d q Null st o some = absurd (o.leads_to.0 (st.5).1)
 struct_found S s p h a d q (Capability i) st o some = let e = st.3 in absurd (omega arith)
@@ -185,7 +187,7 @@ struct_found S s p h a d q (Flat size ns) st o some = absurd (list_not_struct S 
 struct_found S s p h a d q (Pointers ts) st o some = absurd (list_not_struct S s p a (offset_to p h) 6 (count ts) d q (st.5).1 o)
 struct_found S s p h a d q (Structs e r es) st o some = absurd (list_not_struct S s p a (offset_to p h) 7 (element_count es * (e + r)) d q (st.5).1 o)
 
--- Where a struct stands, the pointer leads to no list.
+-- If the value is a struct, the pointer doesn't lead to a list.
 struct_no_list : (S : Segments) (s p h : ℕ) (a : Target) (size n : ℕ) (ws : List ℕ) (ts : Trees) → Stands S s p h (Struct ws ts) → ListAt S s p a size n → ⊥
 struct_no_list S s p h a size n ws ts st o =
     elim (cases_lt 0 (length ws + count ts)) [
@@ -193,7 +195,7 @@ struct_no_list S s p h a size n ws ts st o =
       | inr none ↦ struct_not_list S s p a (2 ^ 30 - 1) 0 0 size n ((st.5).1 ∙ empty_pointer ws ts (offset_to p h) (omega arith)) o
     ]
 
--- A list that stands is where its pointer leads, of the element size and the count that the pointer says.
+-- A list is where its pointer leads, with the element size and the count that the pointer says.
 list_facts : (S : Segments) (s p h : ℕ) (a : Target) (size n more m : ℕ) (t : Tree) → Stands S s p h t → ListAt S s p a size n → size < 8 → more < 8 → Reaches p h → word_at S s p ≡ list_word (offset_to p h) more m →
     (a.start ≡ h) × (a.segment ≡ s) × (more ≡ size) × (m ≡ n) × (h ≤ length (segment S s))
 list_facts S s p h a size n more m t st o ls lm r x =
@@ -203,14 +205,14 @@ list_facts S s p h a size n more m t st o ls lm r x =
     let start = one_head p a.start h near.reaches r (sym f.0) in
     (start, near.same_segment, f.1, f.2, omega (arith, near.inside, start))
 
--- A list of pointers begins at the head, lies in its segment, and its children stand behind it.
+-- A list of pointers begins at the head, is inside its segment, and its children are after it.
 pub record FoundPointers (S : Segments) (s p h : ℕ) (a : Target) (n : ℕ) (t : Tree) : Type 0 where
   pub start : a.start ≡ h
   pub same_segment : a.segment ≡ s
   pub claim : Claims S a n
   pub children : (ts : Trees) × (count ts ≡ n) × AllStand S s h (h + n) ts × (t ≡ Pointers ts)
 
--- Where a pointer leads to a list of pointers, such a list stands.
+-- If a pointer leads to a list of pointers, the value is such a list.
 pub pointers_found : (S : Segments) (s p h : ℕ) (a : Target) (n : ℕ) (t : Tree) → Stands S s p h t → ListAt S s p a 6 n → FoundPointers S s p h a n t
 pointers_found S s p h a n Null st o = absurd (o.leads_to.0 (st.5).1)
 pointers_found S s p h a n (Capability i) st o = let e = st.3 in absurd (omega arith)
@@ -252,7 +254,7 @@ pointers_found S s p h a n (Structs e r es) st o =
     let f = list_facts S s p h a 6 n 7 (element_count es * (e + r)) (Structs e r es) st o (omega arith) (omega arith) (st.5).0 (st.5).1 in
     absurd (omega (arith, f.2))
 
--- A list of numbers begins at the head, lies in its segment, and has zeros behind its elements.
+-- A list of numbers begins at the head, is inside its segment, and has zeros after its elements.
 pub record FoundFlat (S : Segments) (s p h : ℕ) (a : Target) (size n : ℕ) (t : Tree) : Type 0 where
   pub start : a.start ≡ h
   pub same_segment : a.segment ≡ s
@@ -260,7 +262,7 @@ pub record FoundFlat (S : Segments) (s p h : ℕ) (a : Target) (size n : ℕ) (t
   pub padded : IsPadded S s h size n
   pub value : t ≡ Flat size (unpacked size n (words_at S s h (words_for size n)))
 
--- Packed elements leave zeros behind them.
+-- Packed elements leave zeros after them.
 packed_below : (size : ℕ) (ns : List ℕ) → AreBelow (2 ^ element_bits size) ns → from_digits (2 ^ 64) (packed size ns) < 2 ^ (element_bits size * length ns)
 packed_below size ns h =
     let x = from_digits (2 ^ element_bits size) ns in
@@ -269,7 +271,7 @@ packed_below size ns h =
     let fits : x < (2 ^ 64) ^ words_for size (length ns) = rw (pow_pow 64 (words_for size (length ns))) (lt_of_lt_of_le small (pow_mono room)) in
     subst (λ y. y < 2 ^ (element_bits size * length ns)) (sym (from_digits-digits (2 ^ 64) (words_for size (length ns)) x (omega arith) fits)) small
 
--- A list of numbers that stands where it begins is found so.
+-- A canonical list of numbers is found so if its pointer leads to the head.
 flat_parts : (S : Segments) (s p h : ℕ) (a : Target) (size : ℕ) (ns : List ℕ) → h ≤ length (segment S s) → Stands S s p h (Flat size ns) → a.start ≡ h → a.segment ≡ s → FoundFlat S s p h a size (length ns) (Flat size ns)
 flat_parts S s p h a size ns l st start same =
     let long : length (packed size ns) ≡ words_for size (length ns) = length-digits _ (words_for size (length ns)) _ in
@@ -284,7 +286,7 @@ flat_parts S s p h a size ns l st start same =
       value = ap (Flat size) (sym (unpacked-packed size ns (st.1).2) ∙ ap (unpacked size (length ns)) (sym here));
     }
 
--- Where a pointer leads to a list of numbers, such a list stands.
+-- If a pointer leads to a list of numbers, the value is such a list.
 pub flat_found : (S : Segments) (s p h : ℕ) (a : Target) (size n : ℕ) (t : Tree) → Stands S s p h t → ListAt S s p a size n → size ≤ 5 → FoundFlat S s p h a size n t
 flat_found S s p h a size n Null st o small = absurd (o.leads_to.0 (st.5).1)
 flat_found S s p h a size n (Capability i) st o small = let e = st.3 in absurd (omega arith)
@@ -300,8 +302,8 @@ flat_found S s p h a size n (Structs e r es) st o small =
     let f = list_facts S s p h a size n 7 (element_count es * (e + r)) (Structs e r es) st o (omega arith) (omega arith) (st.5).0 (st.5).1 in
     absurd (omega (arith, f.2))
 
--- A list of structs begins at the head with its tag, lies in its segment, claims exactly its elements, has the least widths, and
--- the children of its elements stand behind them.
+-- A list of structs begins at the head with its tag, is inside its segment, claims exactly its
+-- elements, has the least widths, and the children of its elements are after them.
 pub record FoundStructs (S : Segments) (s p h : ℕ) (a : Target) (m : ℕ) (d q : ℕ) (es : Elements) : Type 0 where
   pub start : a.start ≡ h
   pub same_segment : a.segment ≡ s
@@ -312,7 +314,7 @@ pub record FoundStructs (S : Segments) (s p h : ℕ) (a : Target) (m : ℕ) (d q
   pub pointers_used : pointer_width es ≡ q
   pub elements : ElementsStand S s (h + 1) d q (h + 1 + m) es
 
--- To cut trimmed elements to the width that they have changes nothing.
+-- Cutting trimmed elements to the width that they have changes nothing.
 cut_trimmed : (d q : ℕ) (es : Elements) → AreElements d q es → cut_to d q (trim_elements es) ≡ trim_elements es
 cut_trimmed d q no_elements v = refl
 cut_trimmed d q (element ws ts es) v =
@@ -329,7 +331,7 @@ trimmed_structs d q es v e =
     let same : fs ≡ es = sym (cut_trimmed d q es v) ∙ ap₂ (λ i j. cut_to i j fs) (sym dw) (sym pw) ∙ cut in
     (ap data_width (sym same) ∙ dw, ap pointer_width (sym same) ∙ pw, same)
 
--- Where a pointer leads to a list of structs, such a list stands.
+-- If a pointer leads to a list of structs, the value is such a list.
 pub structs_found : (S : Segments) (s p h : ℕ) (a : Target) (m : ℕ) (t : Tree) → Stands S s p h t → ListAt S s p a 7 m → (d : ℕ) × (q : ℕ) × (es : Elements) × (t ≡ Structs d q es) × FoundStructs S s p h a m d q es
 structs_found S s p h a m Null st o = absurd (o.leads_to.0 (st.5).1)
 structs_found S s p h a m (Capability i) st o = let e = st.3 in absurd (omega arith)

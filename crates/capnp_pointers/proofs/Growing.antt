@@ -1,5 +1,6 @@
--- Children and elements that stand, one more at a time. Where the next one doesn't stand, no longer row does.
--- The lemmas take a place, a head and what stands there one by one, as `Stands` has them.
+-- Canonical children and elements, one more at a time. If the next one isn't canonical, no longer
+-- list is.
+-- The lemmas take the place, the head and what is there one by one, in the way of `Stands`.
 use Rattle.std.proofs.Common.{◌≡◌, ℕ, suc, ◌+◌, ◌*◌, ◌<◌, ◌≤◌, max, List, length, refl, sym, ap, ap₂, ◌∙◌, subst, arith}
 use Rattle.capnp_format.specs.Segments.{Segments, words_at, HasWords}
 use Rattle.capnp_format.specs.Tree.{Tree, Trees, no_trees, tree, Elements, no_elements, element, count, element_count, depth, depth_all, depth_elements}
@@ -11,15 +12,15 @@ use Rattle.capnp_format.proofs.LawLemmas.{one_stands}
 use Rattle.capnp_objects.proofs.Copies.{with_last_element}
 pub use Rattle.capnp_objects.proofs.Walked.{words-with_last, words-with_last_element}
 
--- some value stands at a place and a head
+-- Canonical words of some value are at a place and a head.
 abbrev pub Accepts : Segments → ℕ → ℕ → ℕ → Type 0
 Accepts S s p h = (t : Tree) × Stands S s p h t
 
--- some n children stand from a place and a head on
+-- Canonical words of some n children are from a place and a head on.
 abbrev pub AllAccept : Segments → ℕ → ℕ → ℕ → ℕ → Type 0
 AllAccept S s p h n = (ts : Trees) × (count ts ≡ n) × AllStand S s p h ts
 
--- One child more stands at the end.
+-- One more child is canonical at the end.
 pub all_stand_more : (S : Segments) (s p h : ℕ) (ts : Trees) (u : Tree) → AllStand S s p h ts → Stands S s (p + count ts) (h + word_count_all ts) u → AllStand S s p h (with_last ts u)
 all_stand_more S s p h no_trees u a b =
     (subst (λ q. Stands S s q h u) (let e : p + 0 ≡ p = omega arith in e) (subst (λ i. Stands S s (p + 0) i u) (let e : h + 0 ≡ h = omega arith in e) b), tt)
@@ -30,18 +31,18 @@ all_stand_more S s p h (tree t ts) u a b = (
       (subst (λ i. Stands S s (p + suc (count ts)) i u) (let e : h + (word_count t + word_count_all ts) ≡ h + word_count t + word_count_all ts = omega arith in e) b)),
 )
 
--- One child more adds its own charge.
+-- One more child adds its own charge.
 pub charge-with_last : (ts : Trees) (u : Tree) → charge_all (with_last ts u) ≡ charge_all ts + charge u
 charge-with_last no_trees u = omega arith
 charge-with_last (tree t ts) u = omega (arith, charge-with_last ts u)
 
--- One child more takes its own levels.
+-- One more child takes its own levels.
 pub depth-with_last : (ts : Trees) (u : Tree) → depth_all (with_last ts u) ≡ max (depth_all ts) (depth u)
 depth-with_last no_trees u = omega arith
 depth-with_last (tree t ts) u = omega (arith, depth-with_last ts u)
 
--- The child that stands next behind children, where a longer row of children stands: its charge and levels are within those
--- of the row.
+-- The child next after ts, if a longer list us of children is canonical: its charge and levels are
+-- within those of us.
 pub record NextTree (S : Segments) (s p h : ℕ) (ts us : Trees) : Type 0 where
   pub next : Tree
   pub rest : Trees
@@ -50,7 +51,8 @@ pub record NextTree (S : Segments) (s p h : ℕ) (ts us : Trees) : Type 0 where
   pub charged : charge_all ts + charge next ≤ charge_all us
   pub levelled : depth next ≤ depth_all us
 
--- Of the children that stand from one place and head on, fewer begin more.
+-- If two lists of children are canonical from the same place and head on, the shorter one begins
+-- the longer one.
 pub next_stands : (S : Segments) (s p h : ℕ) (ts us : Trees) → AllStand S s p h ts → AllStand S s p h us → count ts < count us → NextTree S s p h ts us
 next_stands S s p h no_trees no_trees a b less = absurd (omega arith)
 next_stands S s p h no_trees (tree u vs) a b less =
@@ -78,7 +80,7 @@ next_stands S s p h (tree t ts) (tree u us) a b less =
       levelled = (let k = r.levelled in omega arith);
     }
 
--- At most one row of so many children stands from a place and a head on.
+-- At most one list of a given number of children is canonical from a place and a head on.
 pub one_row : (S : Segments) (s p h : ℕ) (ts us : Trees) → AllStand S s p h ts → AllStand S s p h us → count ts ≡ count us → ts ≡ us
 one_row S s p h no_trees no_trees a b e = refl
 one_row S s p h no_trees (tree u us) a b e = absurd (omega arith)
@@ -88,12 +90,12 @@ one_row S s p h (tree t ts) (tree u us) a b e =
     ap₂ tree same (one_row S s (p + 1) (h + word_count t) ts us a.1
     (subst (λ i. AllStand S s (p + 1) i us) (let e : h + word_count u ≡ h + word_count t = ap (λ v. h + word_count v) (sym same) in e) b.1) (omega arith))
 
--- One element more adds the charge of its children.
+-- One more element adds the charge of its children.
 pub charge-with_last_element : (es : Elements) (vs : List ℕ) (us : Trees) → charge_elements (with_last_element es vs us) ≡ charge_elements es + charge_all us
 charge-with_last_element no_elements vs us = omega arith
 charge-with_last_element (element ws ts es) vs us = omega (arith, charge-with_last_element es vs us)
 
--- One element more takes the levels of its children.
+-- One more element takes the levels of its children.
 pub depth-with_last_element : (es : Elements) (vs : List ℕ) (us : Trees) → depth_elements (with_last_element es vs us) ≡ max (depth_elements es) (depth_all us)
 depth-with_last_element no_elements vs us = omega arith
 depth-with_last_element (element ws ts es) vs us = omega (arith, depth-with_last_element es vs us)
@@ -107,7 +109,7 @@ pub pointer_width-with_last : (es : Elements) (vs : List ℕ) (us : Trees) → p
 pointer_width-with_last no_elements vs us = omega arith
 pointer_width-with_last (element ws ts es) vs us = omega (arith, pointer_width-with_last es vs us)
 
--- One element more stands at the end.
+-- One more element is canonical at the end.
 pub elements_stand_more : (S : Segments) (s p d q h : ℕ) (es : Elements) (vs : List ℕ) (us : Trees) → ElementsStand S s p d q h es → length vs ≡ d → count us ≡ q →
     HasWords S s (p + element_count es * (d + q)) vs → AllStand S s (p + element_count es * (d + q) + d) (h + word_count_elements es) us → ElementsStand S s p d q h (with_last_element es vs us)
 elements_stand_more S s p d q h no_elements vs us a long len words all = (
@@ -128,8 +130,8 @@ elements_stand_more S s p d q h (element ws ts es) vs us (a, b, c, one, rest) lo
       (subst (λ i. AllStand S s (p + suc (element_count es) * (d + q) + d) i us) (let e : h + (word_count_all ts + word_count_elements es) ≡ h + word_count_all ts + word_count_elements es = omega arith in e) all)),
 )
 
--- The children of the element that stands next behind elements, where a longer row of elements stands: their charge and levels
--- are within those of the row.
+-- The children of the element next after es, if a longer list fs of elements is canonical: their
+-- charge and levels are within those of fs.
 pub record NextElement (S : Segments) (s p d q h : ℕ) (es fs : Elements) : Type 0 where
   pub next : Trees
   pub counts : count next ≡ q
@@ -137,7 +139,8 @@ pub record NextElement (S : Segments) (s p d q h : ℕ) (es fs : Elements) : Typ
   pub charged : charge_elements es + charge_all next ≤ charge_elements fs
   pub levelled : depth_all next ≤ depth_elements fs
 
--- Of the elements that stand from one place and head on, fewer begin more.
+-- If two lists of elements are canonical from the same place and head on, the shorter one begins
+-- the longer one.
 pub next_element_stands : (S : Segments) (s p d q h : ℕ) (es fs : Elements) → ElementsStand S s p d q h es → ElementsStand S s p d q h fs → element_count es < element_count fs →
     NextElement S s p d q h es fs
 next_element_stands S s p d q h no_elements no_elements a b less = absurd (omega arith)
@@ -164,7 +167,7 @@ next_element_stands S s p d q h (element ws ts es) (element vs us fs) a b less =
       levelled = (let k = r.levelled in omega arith);
     }
 
--- At most one row of so many elements stands from a place and a head on.
+-- At most one list of a given number of elements is canonical from a place and a head on.
 pub one_row_of_elements : (S : Segments) (s p d q h : ℕ) (es fs : Elements) → ElementsStand S s p d q h es → ElementsStand S s p d q h fs → element_count es ≡ element_count fs → es ≡ fs
 one_row_of_elements S s p d q h no_elements no_elements a b e = refl
 one_row_of_elements S s p d q h no_elements (element vs us fs) a b e = absurd (omega arith)
@@ -176,6 +179,6 @@ one_row_of_elements S s p d q h (element ws ts es) (element vs us fs) a b e =
     ∙ ap (element vs us) (one_row_of_elements S s (p + d + q) d q (h + word_count_all ts) es fs a.4
     (subst (λ i. ElementsStand S s (p + d + q) d q i fs) (let e : h + word_count_all us ≡ h + word_count_all ts = ap (λ v. h + word_count_all v) (sym same) in e) b.4) (omega arith))
 
--- Where the next child doesn't stand, no row of more children does.
+-- If the next child isn't canonical, no list of more children is.
 pub none_stand : (S : Segments) (s p h n : ℕ) (ts : Trees) → AllStand S s p h ts → count ts < n → (Accepts S s (p + count ts) (h + word_count_all ts) → ⊥) → AllAccept S s p h n → ⊥
 none_stand S s p h n ts a less fails all = let r = next_stands S s p h ts all.0 a all.2 (omega (arith, all.1)) in fails (r.next, r.stands)

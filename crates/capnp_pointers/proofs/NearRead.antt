@@ -1,4 +1,4 @@
--- What a near pointer leads to, by its word.
+-- Where a near pointer leads, by its word.
 use Rattle.std.proofs.Common.{◌≡◌, ℕ, ◌≤◌, arith}
 use Rattle.capnp_format.specs.Word.{kind, data_words, pointer_count, element_size, list_count}
 use Rattle.capnp_words.specs.Meter.{Meter}

@@ -1,4 +1,4 @@
--- Where canonical words stand that the limits cover, the test does not stop.
+-- If there are canonical words that the limits cover, the test doesn't stop.
 use Rattle.std.proofs.Common.{◌≡◌, ℕ, pred, ◌+◌, ◌*◌, ◌<◌, ◌≤◌, length, refl, sym, ap, ap₂, ◌∙◌, subst, arith}
 use Rattle.capnp_format.specs.Word.{kind, offset_bits, data_words, pointer_count, element_size, list_count}
 use Rattle.capnp_format.specs.Segments.{Segments, segment, word_at, words_at, Target}
@@ -31,7 +31,7 @@ use Rattle.capnp_pointers.proofs.Growing.{next_stands, next_element_stands}
 use Rattle.capnp_pointers.proofs.Takes.{stands_means_at}
 use Rattle.capnp_objects.proofs.Followed.{entered_leads}
 
--- What is so is so where some pointer has an offset, and then for each of them.
+-- What holds if some pointer has an offset holds for each of them.
 for_offsets : (ts : Trees) (P : Type 0) → P → ForOffsets ts P
 for_offsets no_trees P h = tt
 for_offsets (tree t ts) P h = (for_offset t P h, for_offsets ts P h)
@@ -40,7 +40,8 @@ offset_among : (ts : Trees) (u : Tree) (vs : Trees) (P : Type 0) → ForOffsets 
 offset_among no_trees u vs P h = h.0
 offset_among (tree t ts) u vs P h = offset_among ts u vs P h.1
 
--- The pointer that comes next where a row of more pointers stands can be found, if what was charged before it is part of what is covered.
+-- The next pointer can be found if a longer list of pointers is canonical, and if what was charged
+-- before it is part of what the limiter covers.
 record Rest (r : Reading) (from : Progress) (m : Meter) (us : Trees) : Type 0 where
   stand : AllStand r.segments r.segment r.at from.head us
   within : ForOffsets us (from.head ≤ length (segment_read r))
@@ -69,7 +70,7 @@ next_can {r} {from} {mid} {m} {us} ts rest all less =
 level_less : (l n : ℕ) → 1 + l ≤ n → l ≤ pred n
 level_less l n h = omega arith
 
--- What was charged, from the object on, is part of what is covered.
+-- What was charged, from the object on, is part of what the limiter covers.
 struct_next : {r : Reading} {from mid : Progress} {first : Meter} {a : Target} (ts : Trees) → kind (word_of r) < 2 → Entered Value r from.meter first a → kind a.word ≡ 0 → count ts < pointer_count a.word →
     FindsAll (struct_pointers r a) (behind_object a first) mid ts → CanBeFound r from → CanBeFound (behind (struct_pointers r a) (count ts)) mid
 struct_next {r} {from = from} {mid = mid} {first = first} {a = a} ts near o z less all (t, stands, inside, levels, covers) =

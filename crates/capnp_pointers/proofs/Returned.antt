@@ -1,4 +1,4 @@
--- What the test of a place and that of pointers give, by what the tests of their parts give.
+-- What the test of a place and that of pointers return, from what the tests of their parts return.
 use Rattle.std.proofs.Common.{length, ◌≡◌, ◌≢◌, ◌≤◌, ℕ, ℤ, pred, ap, arith, ◌+◌, ◌*◌, ◌-◌, ◌<◌, Some, None, Result, Ok, Err, IsErr, IfOk, IfErr, OnOk, OnErr, refl, sym, ◌∙◌, subst}
 use Rattle.std.proofs.lemmas.Bool.{false≢true}
 use Rattle.capnp_format.specs.Word.{kind, data_words, pointer_count, list_count}
@@ -32,7 +32,7 @@ use Rattle.capnp_pointers.proofs.Checks.{TellsClaimed, flat_tells, struct_tells,
 use Rattle.capnp_pointers.proofs.Found.{kind_where_standing}
 use Rattle.capnp_pointers.proofs.Fails.{ClaimedFails, flat_fails, sections_fail, claimed_fails}
 
--- The test stops at a fault, and where an object can't be read.
+-- The test stops at a fault, and at an object that can't be read.
 pub stopped_by_fault : {E : Type 0} {r : Reading} {from : Progress} {new : Test} {k : E} {f : CanonicalFault} → new.answer ≡ Ok f → Tells r from new.lim None → TestEnds (IsFault f) r from new.lim → TestsPlace r from new (Err k)
 stopped_by_fault {r = r} {from = from} {new = new} is never failed = record {
   tells = tt;
@@ -49,7 +49,7 @@ stopped_unread {r = r} {from = from} {new = new} is ends = record {
   failed = subst (λ a. IfOk a (λ g. TestEnds (IsFault g) r from new.lim)) (sym is) tt;
 }
 
--- Pointers one behind the other: all are tested; or the test of the next one stops.
+-- Consecutive pointers: all are tested; or the test of the next one stops.
 pub pointers_passed : {E : Type 0} {r : Reading} {i n head : ℕ} {from : Progress} (new : Test) → AreFound r i from (progress head new.lim) → i ≡ n → TestsPointers {E = E} r n from new (Ok head)
 pointers_passed {r = r} {head = head} {from = from} new found all = record { tells = subst (λ j. AreFound r j from (progress head new.lim)) all found; never = tt; refused = tt; failed = tt }
 
@@ -80,7 +80,7 @@ struct_tested {r = r} {m = m} {m' = m'} {head = head} {new = new} {result = resu
       failed = on_err_so result failed (λ x. ok_so new.answer x (λ f h. sections_fail {r = r} {from = from} start size ready object some right (subst (λ y. SectionsFail f y size m' new.lim) there h)));
     }
 
--- A list of numbers, by the bits behind its last number.
+-- A list of numbers, by the bits after its last number.
 pub flat_tested : {E : Type 0} {r : Reading} {m : Meter} {head : ℕ} {new : Test} {result : Result ℕ E} (start : Place) (size : ElementSize) (n : ℕ) → IsTested r → IsObject Value r m new.lim (ObjectFlat start size n) → start.at ≡ head →
     IfOk result (λ end. TellsFlat (words_of start.bytes.now) start.at size n (Some end)) →
     OnErr result (TellsFlat (words_of start.bytes.now) start.at size n None) →
@@ -131,7 +131,7 @@ elements_tested {E} {r} {x} {m} {m'} {head} {claimed} {new} {result} start size 
           (subst (λ w. ClaimedFails f s size n w m' new.lim) count (subst (λ y. ClaimedFails f y size n claimed m' new.lim) there h))));
     }
 
--- small facts of numbers, by which the words of a segment are told
+-- Small facts about numbers that describe the words of a segment.
 
 pub is_word : {i n m : ℕ} → n ≡ m → i < n → i < m
 is_word {i} e less = subst (λ x. i < x) e less
@@ -142,18 +142,18 @@ no_word e more less = omega (arith, e, more, less)
 pub not_near : {k : ℕ} → (k < 2 → ⊥) → 2 ≤ k
 not_near far = omega (arith, far)
 
--- A far pointer and a capability are no canonical words.
+-- A far pointer and a capability aren't canonical words.
 pub far_never : (r : Reading) (h : ℕ) → 2 ≤ kind (word_of r) → IsCanonicalAt r h → ⊥
 far_never r h far (t, stands) = let near : kind (word_of r) < 2 = kind_where_standing r.segments r.segment r.at h t stands in omega (arith, far, near)
 
 pub some_words : {n m : ℕ} → n ≡ m → n ≢ 0 → 0 < m
 some_words e some = omega (arith, e, some)
 
--- One level less, as a function is told it and answers it.
+-- One level less, in the numbers that a function takes and returns.
 pub inner_levels : (n l : ℤ) → SFits w32 n → SFits w32 l → levels l ≡ pred (levels (to_z w32 (of_z w32 n))) → levels (to_z w32 (of_z w32 l)) ≡ pred (levels n)
 inner_levels n l n_fits l_fits less = ap levels (to_z-of_z w32 l l_fits) ∙ less ∙ ap (λ z. pred (levels z)) (to_z-of_z w32 n n_fits)
 
--- An object by other names, and one that is read near.
+-- An object under other names, and one that is read near.
 pub object_is : (f : ℤ → Reading) (m m' : Meter) {y z : ℤ} {x w : Object} → y ≡ z → x ≡ w → IsObject Value (f y) m m' x → IsObject Value (f z) m m' w
 object_is f m m' {z = z} {x = x} e same object = subst (λ o. IsObject Value (f z) m m' o) same (subst (λ i. IsObject Value (f i) m m' x) e object)
 
@@ -161,7 +161,7 @@ pub struct_read : {r : Reading} {m m' : Meter} {w : ℕ} (start : Place) (size :
     size.data_words ≡ data_words w → size.pointers ≡ pointer_count w → IsObject Value r m m' (ObjectStruct start size)
 struct_read {r} {m} {m'} start size there is_struct held seg o wide many = struct_by_word {r = r} {m = m} {m' = m'} start size (subst (λ w. kind w ≡ 0) there is_struct) held seg o (wide ∙ ap data_words there) (many ∙ ap pointer_count there)
 
--- The words that a list of structs claims are there, in its pointer's segment.
+-- The words that a list of structs claims are in its pointer's segment.
 pub structs_room_at : {r : Reading} {m m' : Meter} {claimed : ℕ} (start : Place) (size : StructSize) (n : ℕ) → list_count (word_of r) ≡ claimed → r.segment ≡ start.segment → kind (word_of r) < 2 → IsObject Value r m m' (ObjectStructs start size n) → start.at + claimed ≤ length (segment_read r)
 structs_room_at {r} {m} {m'} {claimed} start size n count here near object =
     subst (λ w. start.at + w ≤ length (segment_read r)) count (subst (λ s. start.at + list_count (word_of r) ≤ length (segment r.segments s)) (sym here) (structs_room {r = r} {m = m} {m' = m'} start size n near object))

@@ -19,7 +19,7 @@ use Rattle.capnp_objects.proofs.Parts.{claim_list, claim_flat}
 use Rattle.capnp_objects.proofs.Walked.{row_within}
 use Rattle.capnp_pointers.proofs.Checks.{pointers_room}
 
--- The row number i of n, whose widths are known by other numbers x and y.
+-- Row i of n, if its widths have the other names x and y.
 pub row_end : {i n d q x y l : ℕ} (s : ℕ) → x ≡ d → y ≡ q → i < n → s + n * (d + q) ≤ l → s + i * (x + y) + x + y ≤ l
 row_end {i} {n} {d} {q} {x} {y} s wide many less room =
     let e : i * (x + y) ≡ i * (d + q) = ap₂ (λ a b. i * (a + b)) wide many in
@@ -41,7 +41,7 @@ some_section (suc n) unused ends = omega arith
 pub last_of : {n : ℕ} (s : ℕ) → 0 < n → 1 ≤ s + n
 last_of s some = omega (arith, some)
 
--- A list of numbers lies in its segment, and its words have few numbers.
+-- A list of numbers is inside its segment, which has fewer than 2^32 words.
 pub flat_room : {r : Reading} {m m' : Meter} (start : Place) (size : ElementSize) (n : ℕ) → IsObject Value r m m' (ObjectFlat start size n) → start.at + words_for (size_number size) n ≤ length (words_of start.bytes.now)
 flat_room {r} start size n (a, o, z, small, (held, seg, at), width, len) =
     let claimed : claim a.word ≡ words_for (size_number size) n = claim_list a.word (element_size a.word) z refl ∙ claim_flat (element_size a.word) (list_count a.word) small ∙ sym (ap₂ words_for width len) in

@@ -1,4 +1,4 @@
--- Where a walk that adds sizes stops, where it goes on, and what it reads there lies in its segment.
+-- A walk that adds sizes stops or goes on, and what it reads there is inside its segment.
 use Rattle.std.proofs.Common.{◌≡◌, ℕ, ℤ, suc, zero, ◌+◌, ◌*◌, ◌^◌, ◌<◌, ◌≤◌, length, Result, Ok, Err, IsErr, OnErr, sym, ap₂, subst, arith}
 use Rattle.std.proofs.lemmas.Bool.{false≢true}
 use Rattle.std.proofs.lemmas.Int.{ints, to_z-of_z}
@@ -26,7 +26,7 @@ use Rattle.capnp_pointers.specs.declared.pointers.walk.Walk.{Walk}
 use Rattle.capnp_pointers.specs.Sizes.{so_far, AddsPlace, AddsPointers}
 use Rattle.capnp_pointers.proofs.Walking.{Opened}
 
--- at one of the pointers that it goes over
+-- The walk stops at one of the consecutive pointers.
 pub pointers_stop : {A B E F : Type 0} {r : Reading} {i n : ℕ} {old mid new : Walk} {k : E} (result : Result B F) → IsErr result → WalksPointers r i (so_far old.sums.size old.lim) (so_far mid.sums.size mid.lim) → i < n →
     AddsPlace {A = A} (behind r i) mid new (Err k) → AddsPointers r n old new result
 pointers_stop (Ok x) err walked less one = absurd (false≢true err)
@@ -41,7 +41,7 @@ pointers_stop {r = r} {mid = mid} {new = new} (Err x) err (ts, len, all) less on
   };
 }
 
--- at one of the pointers of a row
+-- The walk stops at one of the pointers of a row.
 pub rows_stop : {B F : Type 0} {r : Reading} {size : StructSize} {i n : ℕ} {from mid : Tally} {m' : Meter} {k : ErrorKind} (result : Result B F) → WalksRows r size i from mid → i < n →
     SizesStop (pointers_of r size i) size.pointers mid m' k → OnErr result (RowsStop r (rows_sized size n) from m' k)
 rows_stop (Ok x) walked less stops = tt
@@ -53,7 +53,7 @@ rows_stop {r = r} {size = size} {mid = mid} {m' = m'} {k = k} (Err x) (es, len, 
   stops = subst (λ j. SizesStop (pointers_of r size j) size.pointers mid m' k) (sym len) stops;
 }
 
--- One level less is a number of 32 bits where there is a level.
+-- One level less is a number of 32 bits if there is a level.
 pub one_less_fits : (z : ℤ) → SFits w32 z → 0 < levels z → SFits w32 (to_z w32 (of_z w32 z) -ℤ pos 1)
 one_less_fits z fits some = subst (λ y. SFits w32 (y -ℤ pos 1)) (sym (to_z-of_z w32 z fits)) (less z fits some)
   where
@@ -64,7 +64,7 @@ one_less_fits z fits some = subst (λ y. SFits w32 (y -ℤ pos 1)) (sym (to_z-of
         subst (SFits w32) (sym e) (omega (arith, ints, y_fits))
     less (negsuc n) y_fits more = absurd (omega arith)
 
--- The rows of an object are held where it is.
+-- The bytes at the start of an object's rows are those of its segment.
 held_struct : {r : Reading} {m m' : Meter} (start : Place) (size : StructSize) → IsObject Size r m m' (ObjectStruct start size) → IsHeld r.segments start
 held_struct start size (a, o, z, (held, seg, at), wide, many) = held
 
@@ -82,7 +82,7 @@ object_held ObjectNull o = absurd o.has
 object_held (ObjectCapability i) o = absurd o.has
 object_held (ObjectFlat start size i) o = absurd o.has
 
--- A struct in the same segment lies there, and its pointers are those behind its data.
+-- A struct in the same segment is inside it, and its pointers are after its data.
 pub struct_lies : {r : Reading} {m m' : Meter} {start x y : ℕ} → EntersNear Size r m m' start → kind (word_of r) ≡ 0 → x ≡ data_words (word_of r) → y ≡ pointer_count (word_of r) → start + x + y ≤ length (segment_read r)
 struct_lies {r} o z wide many =
     let room = o.meets.claims (λ v. omega (arith, v.0, z)) in
@@ -91,7 +91,7 @@ struct_lies {r} o z wide many =
 pub within_fits : (s x y : ℕ) {b l : ℕ} → s + x + y ≤ l → b ≡ 8 * l → b < 8 * 2 ^ 32 → s + x < 2 ^ 32
 within_fits s x y room held small = omega (arith, room, held, small)
 
--- The row number i of n, whose place and widths are known by other numbers.
+-- Row i of n, if its place and widths have other names.
 pub row_lies : {i n s d q x y f g e l : ℕ} → f ≡ s → g ≡ i → x ≡ d → y ≡ q → e ≡ d → i < n → s + n * (d + q) ≤ l → f + g * (x + y) + e + q ≤ l
 row_lies {i} {n} {s} {d} {q} {x} {y} {f} {g} start number wide many before less room =
     let w : g * (x + y) ≡ i * (d + q) = ap₂ (λ a b. a * b) number (ap₂ (λ a b. a + b) wide many) in

@@ -1,4 +1,4 @@
--- How much of words and of children is used, by the last word and by the pointers.
+-- How many words and children are used, by the last word and by the pointers.
 use Rattle.std.proofs.Common.{◌≡◌, ◌≢◌, ℕ, zero, suc, ◌+◌, ◌-◌, ◌<◌, ◌≤◌, ◌⊎◌, inl, inr, nat_eq, List, [], ◌∷◌, length, get_or, take, drop, refl, sym, ap, ap₂, ◌∙◌, subst, arith, eq-eqb, ne_eqb, get_or-drop, take_all, length-take, get_or-take}
 use Rattle.std.proofs.lemmas.List.{drop_more}
 use Rattle.std.proofs.lemmas.Bool.{cases_eq}
@@ -11,22 +11,22 @@ use Rattle.capnp_format.proofs.Slices.{length_words}
 use Rattle.capnp_format.proofs.Trimming.{used_words-le}
 use Rattle.capnp_format.proofs.UsedUp.{used_whole}
 
--- A zero of which nothing behind is used is not used.
+-- A zero isn't used if nothing after it is used.
 used_from-none : (x : ℕ) → x ≡ 0 → used_from (nat_eq x 0) 0 ≡ 0
 used_from-none x z = ap (λ b. used_from b 0) (eq-eqb x 0 z)
 
--- Where a word is not zero, all words up to it are used.
+-- If word n isn't zero, all words up to it are used.
 pub used_at : (xs : List ℕ) (n : ℕ) → n < length xs → get_or xs n 0 ≢ 0 → used_words (take (suc n) xs) ≡ suc n
 used_at xs n l z = used_whole xs n (suc n) (omega arith) (omega arith) z
 
--- Where it is zero, as many are used as before it.
+-- If word n is zero, the used words are those of the words before it.
 pub unused_at : (xs : List ℕ) (n : ℕ) → get_or xs n 0 ≡ 0 → used_words (take (suc n) xs) ≡ used_words (take n xs)
 unused_at [] zero z = refl
 unused_at [] (suc n) z = refl
 unused_at (x ∷ xs) zero z = used_from-none x z
 unused_at (x ∷ xs) (suc n) z = ap (used_from (nat_eq x 0)) (unused_at xs n z)
 
--- Where all words from some index on are zero, as many are used as before it.
+-- If all words from index n on are zero, the used words are those of the first n words.
 pub unused_from : (xs : List ℕ) (n : ℕ) → ((i : ℕ) → n ≤ i → i < length xs → get_or xs i 0 ≡ 0) → used_words xs ≡ used_words (take n xs)
 unused_from [] zero z = refl
 unused_from [] (suc n) z = refl
@@ -34,27 +34,27 @@ unused_from (x ∷ xs) zero z =
     ap (used_from (nat_eq x 0)) (unused_from xs zero (λ i a b. z (suc i) (omega arith) (omega arith))) ∙ used_from-none x (z 0 (omega arith) (omega arith))
 unused_from (x ∷ xs) (suc n) z = ap (used_from (nat_eq x 0)) (unused_from xs n (λ i a b. z (suc i) (omega arith) (omega arith)))
 
--- The first n words are used where all behind them are zero, and the last of them is not.
+-- The first n words are used if all words after them are zero, and the last of them isn't zero.
 pub used_is : (xs : List ℕ) (n : ℕ) → n ≤ length xs → ((i : ℕ) → n ≤ i → i < length xs → get_or xs i 0 ≡ 0) → (n ≡ 0) ⊎ (get_or xs (n - 1) 0 ≢ 0) → used_words xs ≡ n
 used_is xs zero l z e = unused_from xs zero z
 used_is xs (suc n) l z (inl e) = absurd (omega arith)
 used_is xs (suc n) l z (inr e) = unused_from xs (suc n) z ∙ used_at xs n l (subst (λ i. get_or xs i 0 ≢ 0) (let q : suc n - 1 ≡ n = omega arith in q) e)
 
--- All words are used where there are none, or the last is not zero.
+-- All words are used if there are none, or the last one isn't zero.
 pub all_used : (xs : List ℕ) → (length xs ≡ 0) ⊎ (get_or xs (length xs - 1) 0 ≢ 0) → used_words xs ≡ length xs
 all_used xs e = used_is xs (length xs) (omega arith) (λ i a b. absurd (omega arith)) e
 
--- Where all words are used, and there are some, the last is not zero.
+-- If all words are used, and there is at least one, the last one isn't zero.
 some_used : (xs : List ℕ) (n : ℕ) → length xs ≡ suc n → used_words xs ≡ length xs → get_or xs n 0 ≢ 0
 some_used xs n long e z =
     let same : used_words xs ≡ used_words (take n xs) = ap used_words (sym (take_all (suc n) xs (omega arith))) ∙ unused_at xs n z in
     omega (arith, used_words-le (take n xs), length-take n xs)
 
--- One of the words from a place on is the word at its own place.
+-- Word i of the n words from a place on is the word i places further.
 word_of : (S : Segments) (s p n i : ℕ) → i < n → get_or (words_at S s p n) i 0 ≡ word_at S s (p + i)
 word_of S s p n i l = get_or-take n (drop p (segment S s)) i 0 l ∙ get_or-drop p (segment S s) i 0
 
--- Words of a segment that end with no zero are all used.
+-- Words of a segment are all used if they don't end with a zero.
 pub ends_used : (S : Segments) (s p n : ℕ) → p + n ≤ length (segment S s) → EndsUsed S s p n → used_words (words_at S s p n) ≡ n
 ends_used S s p n l (inl e) =
     let long = length_words S s p n l in
@@ -69,7 +69,7 @@ ends_used S s p n l (inr e) =
           all_used (words_at S s p n) (inr (λ z. e (sym there ∙ z))) ∙ long)
     ]
 
--- Words of a segment that are all used end with no zero.
+-- If words of a segment are all used, they don't end with a zero.
 pub used_ends : (S : Segments) (s p n : ℕ) → p + n ≤ length (segment S s) → used_words (words_at S s p n) ≡ n → EndsUsed S s p n
 used_ends S s p n l e = elim (cases_eq n 0) [
   | inl z ↦ inl z
@@ -80,7 +80,7 @@ used_ends S s p n l e = elim (cases_eq n 0) [
       inr (λ z. some_used (words_at S s p n) (n - 1) (omega (arith, long)) (e ∙ sym long) (there ∙ z)))
 ]
 
--- The pointer of a value is zero exactly where the value is Null.
+-- The pointer of a value is zero exactly if the value is Null.
 pub pointer_is_null : (t : Tree) (k : ℕ) → nat_eq (pointer t k) 0 ≡ is_null t
 pointer_is_null Null k = refl
 pointer_is_null (Capability i) k = ne_eqb (capability_word i) 0 (omega arith)
@@ -91,11 +91,11 @@ pointer_is_null (Flat size ns) k = ne_eqb (list_word k size (length ns)) 0 (omeg
 pointer_is_null (Pointers ts) k = ne_eqb (list_word k 6 (count ts)) 0 (omega arith)
 pointer_is_null (Structs d q es) k = ne_eqb (list_word k 7 _) 0 (omega arith)
 
--- Of the pointers of children as many are used as of the children.
+-- As many pointers of children are used as children.
 pub used_words-pointers : (k : ℕ) (ts : Trees) → used_words (pointers k ts) ≡ used_trees ts
 used_words-pointers k no_trees = refl
 used_words-pointers k (tree t ts) = ap₂ used_from (pointer_is_null t (count ts + k)) (used_words-pointers (k + word_count t) ts)
 
--- Words from a place on are the first one, and the words behind it.
+-- The words from a place on are the first one, and the words after it.
 pub words_at-more : (S : Segments) (s p n : ℕ) → p < length (segment S s) → words_at S s p (suc n) ≡ word_at S s p ∷ words_at S s (p + 1) n
 words_at-more S s p n l = ap (take (suc n)) (drop_more (segment S s) p 0 l)

@@ -1,4 +1,4 @@
--- One level less, as a nesting limit counts it; and results that are handed on.
+-- One level less, as a nesting limit counts it; and results that are passed on.
 use Rattle.std.proofs.Common.{◌≡◌, ◌↔◌, ℕ, zero, suc, pred, ◌+◌, ◌*◌, ◌-◌, ◌^◌, ◌<◌, ◌≤◌, length, Result, Ok, Err, IsOk, IfOk, IfErr, OnOk, OnErr, ap, sym, refl, subst, ◌∙◌, arith, add-zero}
 use Rattle.std.proofs.lemmas.Bool.{false≢true}
 use Rattle.std.proofs.lemmas.Int.{ints, to_z-of_z}
@@ -36,7 +36,7 @@ one_level (negsuc n) fits some = absurd (omega arith)
 pub one_level_in : (z : ℤ) → SFits w32 z → 0 < levels z → levels (to_z w32 (of_z w32 (to_z w32 (of_z w32 z) -ℤ pos 1))) ≡ pred (levels z)
 one_level_in z fits some = ap (λ y. levels (to_z w32 (of_z w32 (y -ℤ pos 1)))) (to_z-of_z w32 z fits) ∙ one_level z fits some
 
--- what is true of a result is true of it in other words
+-- What holds of a result holds of it in other words.
 pub ok_so : {A E : Type 0} (r : Result A E) {P Q : A → Type 0} → IfOk r P → ((x : A) → P x → Q x) → IfOk r Q
 ok_so (Ok x) h f = f x h
 ok_so (Err k) h f = tt
@@ -69,12 +69,12 @@ pub on_ok_so : {A E : Type 0} (r : Result A E) {X Y : Type 0} → OnOk r X → (
 on_ok_so (Ok x) h f = f h
 on_ok_so (Err k) h f = tt
 
--- a sum that doesn't fit
+-- A sum that doesn't fit.
 pub beyond_with : {A E : Type 0} (r : Result A E) (k : ErrorKind) {F : Type 0} (Q : ErrorKind → Type 0) → IsOk r ↔ F → OnErr r (k ≡ MessageTooLarge (2 ^ 64 - 1)) → ((F → ⊥) → Q (MessageTooLarge (2 ^ 64 - 1))) → OnErr r (Q k)
 beyond_with (Ok x) k Q exactly named f = tt
 beyond_with (Err e) k Q exactly named f = subst Q (sym named) (f (λ h. false≢true (exactly.1 h)))
 
--- Where the walk is refused, there is none whose sums fit: from a place, and over pointers.
+-- If the walk is refused, there is no walk whose sums fit: from a place, and over pointers.
 pub no_size : {r : Reading} {m m' : Meter} {k : ErrorKind} → SizeStops k r (tally 0 0 m) m' → (to : Tally) × WalksPlace r (tally 0 0 m) to × FitSize to.words to.caps → ⊥
 no_size refused (to, walk, fits) = stops_never refused walk.tree walk.cost walk.is_sized (omega (arith, fits.0, walk.words_are), omega (arith, fits.1, walk.caps_are)) walk.paid.covers
 
@@ -86,7 +86,7 @@ pub record Opened (r : Reading) (m m' : Meter) (x : Object) (rows : MeasuredRows
   pub is_measured : IsObject Size r m m' x
   pub has : HasRows x rows
 
--- There is a level for its pointers, and they lie in their segment.
+-- There is a level for its pointers, and they are inside their segment.
 pub object_level : {r : Reading} {m m' : Meter} {rows : MeasuredRows} (x : Object) → Opened r m m' x rows → 0 < r.levels
 object_level (ObjectStruct start size) o = o.is_measured.1.meets.levels
 object_level (ObjectPointers start i) o = o.is_measured.1.meets.levels
@@ -118,7 +118,8 @@ object_inside ObjectNull o = absurd o.has
 object_inside (ObjectCapability i) o = absurd o.has
 object_inside (ObjectFlat start size i) o = absurd o.has
 
--- What a walk finds at an object: its own words and no pointers; the pointers that it goes over, or stops at; too many words.
+-- What a walk finds at an object: its own words and no pointers; the pointers that it goes over, or
+-- stops at; or too many words.
 pub leaf_walked : {r : Reading} {from : Tally} {m' : Meter} (x : Object) → IsObject Size r from.meter m' x → ((rows : MeasuredRows) → HasRows x rows → ⊥) → ((i : ℕ) → x ≡ ObjectCapability i → ⊥) → WalksPlace r from (tally (from.words + object_words x) from.caps m')
 leaf_walked {r} {from} {m'} ObjectNull object none other = rw add-zero (null_walked {r = r} {from = from} object)
 leaf_walked {r} {from} {m'} (ObjectCapability i) object none other = absurd (other i refl)

@@ -27,11 +27,11 @@ use Rattle.capnp_pointers.proofs.Fails.{empty_fails, struct_fails, unplaced_fail
 use Rattle.capnp_pointers.proofs.pointers.canonical.+tests.Goals.{test_rows-then-is_data_used, test_rows-else-is_data_used, test_rows-then-are_pointers_used, test_rows-else-are_pointers_used}
 use Rattle.capnp_pointers.proofs.pointers.canonical.+tests.Goals as goal
 
--- the elements of a list start behind its tag
+-- The elements of a list start after its tag.
 behind_tag : {x : ℕ} (h : ℕ) → x ≡ h + 1 → 0 < x
 behind_tag h e = omega (arith, e)
 
--- a loop that is at its bound
+-- A loop that is at its bound.
 reached : {i n : ℕ} → i ≤ n → n ≤ i → i ≡ n
 reached le ge = omega (arith, le, ge)
 
@@ -234,7 +234,7 @@ test_struct-returns-then-total-eq0 g t c =
     (unplaced_never r c.args.test.now.lim c.read_near_struct.new.lim c.args.head (ObjectStruct start size) ready object (λ right. c.if-start-at.false (right ∙ ap (λ n. cond (nat_eq n 0) c.args.at c.args.head) none)))
     (empty_fails {r = r} {from = progress c.args.head c.args.test.now.lim} start size (refl, refl, refl) ready object none c.if-start-at.false)
 
--- a struct of some words that starts elsewhere than at the head doesn't start right
+-- A struct with at least one word that starts right starts at the head.
 head_right : {n h x : ℕ} (p : ℕ) → 0 < n → x ≡ cond (nat_eq n 0) p h → x ≡ h
 head_right {n} {h} p some e = e ∙ ap (λ b. cond b p h) (ne_eqb n 0 (λ none. omega (arith, none, some)))
 
@@ -300,7 +300,7 @@ test_structs-returns-clause-failed g t c =
     let exact : c.args.count * (c.args.size.data_words + c.args.size.pointers) ≡ c.args.claimed = sym (ap₂ (λ x y. x * y) c.from.ensures (c.from-2.ensures ∙ c.total.ensures)) ∙ c.if-from.false ∙ c.from-3.ensures in
     on_err_so c.test_rows.result c.test_rows.ensures.failed (λ x. ok_so c.test_rows.new.test.answer x (λ f fails. inr (exact, rw nl at fails)))
 
--- What a list's pointer leads to is a list.
+-- A list's pointer leads to a list.
 pub test_list-returns-in_default : goal.test_list-returns-in_default
 test_list-returns-in_default g t c =
     let r : Reading = reading_on g.A.ReaderArena c.args.from.now c.args.at c.args.nesting_limit in
@@ -314,7 +314,7 @@ test_list-returns-in_default g t c =
       failed = absurd (no_list_else c.in-Ok.object (lists_alone {r = r} c.args.test.now.lim c.read_object.new.lim c.in-Ok.object ready (rw c.requires.tested.there at c.requires.is_list) object) c.in_default.not-Flat c.in_default.not-Pointers c.in_default.not-Structs);
     }
 
--- The pointer section is looked at where the data section is used.
+-- The pointer section is tested if the data section is used.
 pub test_sections-returns-then-not-ends_used-2-clause-failed : goal.test_sections-returns-then-not-ends_used-2-clause-failed
 test_sections-returns-then-not-ends_used-2-clause-failed g t c =
     let nl = to_z-of_z w32 c.args.nesting_limit c.ranges.nesting_limit in
@@ -323,7 +323,7 @@ test_sections-returns-then-not-ends_used-2-clause-failed g t c =
     let word = ap₂ (λ d q. c.args.start + d + q - 1) c.from-data_words.ensures c.from-pointers.ensures in
     rw c.fault_at-then-not-ends_used-2.ensures (inr (c.in_ok-end.end, rw (nl, c.from-data_words.ensures, c.from-pointers.ensures) at c.in_ok-end.ensures.tells, inr ((refl, refl, word), used, λ unused. false≢true (sym c.if-not-ends_used-2.true ∙ ends.1 unused))))
 
--- What a test that is handed on tells.
+-- What a test means whose answer is passed on.
 pub test_place-returns-in-Struct : goal.test_place-returns-in-Struct
 test_place-returns-in-Struct g t c =
     subst (λ (z : ℤ). TestsPlace (reading_on g.A.ReaderArena c.args.from.now c.args.at z) (progress c.args.head c.args.test.now.lim) c.test_struct.new.test c.test_struct.result) (to_z-of_z w32 c.args.nesting_limit c.ranges.nesting_limit) c.test_struct.ensures
@@ -345,7 +345,7 @@ pub test_place-returns-in_default-2 : goal.test_place-returns-in_default-2
 test_place-returns-in_default-2 g t c =
     subst (λ (z : ℤ). TestsPlace (reading_on g.A.ReaderArena c.args.from.now c.args.at z) (progress c.args.head c.args.test.now.lim) c.test_list.new.test c.test_list.result) (to_z-of_z w32 c.args.nesting_limit c.ranges.nesting_limit) c.test_list.ensures
 
--- The sections of a struct, where its pointers are tested before its words are looked at.
+-- The sections of a struct, if its pointers are tested before its words.
 
 pub test_sections-returns-clause-tells : goal.test_sections-returns-clause-tells
 test_sections-returns-clause-tells g t c =

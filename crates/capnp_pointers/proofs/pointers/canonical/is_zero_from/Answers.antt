@@ -19,7 +19,7 @@ zeros : (n : ℕ) → All IsZeroByte (replicate n 0)
 zeros zero = All-nil IsZeroByte
 zeros (suc n) = All-cons IsZeroByte 0 (replicate n 0) refl (zeros n)
 
--- The bytes of a number are zero exactly where it is.
+-- The bytes of a number are zero exactly if the number is.
 zero_bytes : (n : ℕ) → n < 2 ^ 64 → All IsZeroByte (to_le_bytes w64 n) ↔ (n ≡ 0)
 zero_bytes n small = (
   (λ h. sym (from_le_bytes-to_le_bytes_8 n small) ∙ eight_bytes (to_le_bytes w64 n) refl ∙ zero_digits (to_le_bytes w64 n) h),

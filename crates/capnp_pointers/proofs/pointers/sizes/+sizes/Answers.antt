@@ -179,7 +179,7 @@ add_struct-returns g t c =
       refused = err_so c.add_pointers.result c.add_pointers.ensures.refused (λ k h. struct_stops_at {r = r} {from = so_far c.args.walk.now.sums.size c.args.walk.now.lim} measured is_struct (rw (less, wide, many, sum.0, sum.1, words) at h));
     }
 
--- What is handed on.
+-- What is passed on.
 pub add_pointer-returns-in-Struct : goal.add_pointer-returns-in-Struct
 add_pointer-returns-in-Struct g t c = subst (λ (z : ℤ). AddsPlace (reading_on g.A.ReaderArena c.args.from.now c.args.at z) c.args.walk.now c.add_struct.new.walk c.add_struct.result) (to_z-of_z w32 c.args.nesting_limit c.ranges.nesting_limit) c.add_struct.ensures
 
