@@ -1,4 +1,5 @@
--- Children copied one after another: their pointers side by side, their bodies behind the words.
+-- Children copied one after another: their pointers are consecutive, and their bodies come after
+-- the words.
 use Rattle.std.proofs.Common.{◌≡◌, ℕ, suc, ◌+◌, ◌-◌, ◌<◌, ◌≤◌, ◌^◌, List, [], ◌∷◌, ◌++◌, length, get_or, set, take, drop, refl, sym, ap, ap₂, ◌∙◌, arith, append_assoc, append-nil, length-append, length-take, length-drop}
 use Rattle.std.proofs.lemmas.List.{set_at, take-append-drop, drop_more}
 use Rattle.capnp_format.specs.Tree.{Tree, Trees, no_trees, tree, count}
@@ -28,7 +29,7 @@ pointers-with_last k ts u =
 pub bodies-with_last : (ts : Trees) (u : Tree) → bodies (with_last ts u) ≡ bodies ts ++ body u
 bodies-with_last ts u = ap bodies (with_last-append ts u) ∙ bodies-append ts (tree u no_trees) ∙ ap (λ ws. bodies ts ++ ws) (append-nil (body u))
 
--- a word between others, behind the words before it or as their last
+-- A word among others, after the words before it or as the last of them.
 opened : (F P R B U : List ℕ) (x : ℕ) → F ++ P ++ (x ∷ R) ++ B ++ U ≡ F ++ P ++ (x ∷ (R ++ (B ++ U)))
 opened F P R B U x = simp append_assoc
 
@@ -55,7 +56,7 @@ length_children ws at ts v l =
       length-bodies ts v,
     )
 
--- the next child copied, with its pointer behind those that are there
+-- The next child is copied, with its pointer after those that are there.
 pub child_added : (ws : List ℕ) (at : ℕ) (ts : Trees) (u : Tree) → AreShaped ts → (at + count ts < length ws) × (length (with_children ws at ts) < 2 ^ 29) →
     copied (with_children ws at ts) (at + count ts) u ≡ with_children ws at (with_last ts u)
 child_added ws at ts u v (l, small) =

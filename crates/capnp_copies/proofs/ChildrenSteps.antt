@@ -1,4 +1,4 @@
--- Pointers one behind the other that are copied into their own segment: one child more.
+-- Consecutive pointers that are copied into their own segment: one more child.
 use Rattle.std.proofs.Common.{◌≡◌, ℕ, ◌+◌, ◌<◌, ◌≤◌, ◌^◌, List, length, sym, ap, ◌∙◌, arith}
 use Rattle.capnp_words.specs.Meter.{Meter}
 use Rattle.capnp_format.specs.Segments.{segment, IsPlace}
@@ -23,7 +23,7 @@ use Rattle.capnp_copies.proofs.Shapes.{AreShaped, all_shaped}
 shaped : {r : Reading} {i at : ℕ} {c : Call} (first : CopiesChildren r i c at) → AreShaped (kept_each c.form first.children)
 shaped {r} {c = c} first = kept_each-shaped c.form first.children (all_shaped r first.children first.are_read.cost first.are_read.means)
 
--- the words of the segment, once the first children are copied
+-- The words of the segment once the first children are copied.
 pub now : {b : Form} {r : Reading} {old mid : View} {id i at : ℕ} {m m' : Meter} → IsPlace old.words id (at + i) → (first : CopiesChildren r i (call_of b old mid id m m') at) → segment mid.words id ≡ with_children (segment old.words id) at (kept_each b first.children)
 now {b} {r} {old} {mid} {id} {i} {at} place first = words_written old.words mid.words id (with_children (segment old.words id) at (kept_each b first.children)) (there old.words id (at + i) place) first.made
 
@@ -31,7 +31,7 @@ pub now_long : {b : Form} {r : Reading} {old mid : View} {id i at : ℕ} {m m' :
     length (with_children (segment old.words id) at (kept_each b first.children)) ≡ length (segment old.words id) + word_count_all (kept_each b first.children)
 now_long {b = b} {old = old} {id = id} {at = at} le first = length_children (segment old.words id) at (kept_each b first.children) (shaped first) (omega (arith, first.counts, kept_each-count b first.children))
 
--- the next child, once it is copied
+-- The next child, once it is copied.
 pub child_put : {b : Form} {r : Reading} {old mid new : View} {id i at : ℕ} {m m' m'' : Meter} → IsPlace old.words id (at + i) → length (segment mid.words id) < 2 ^ 29 → (first : CopiesChildren r i (call_of b old mid id m m') at) → (next : CopiesValue (behind r i) (call_of b mid new id m' m'') (at + i)) →
     AreCopied old.words new.words id at (kept_each b (with_last first.children next.value))
 child_put {b} {r} {old} {mid} {new} {id} {i} {at} {m} {m'} {m''} place few first next =

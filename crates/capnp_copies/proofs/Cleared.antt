@@ -36,24 +36,24 @@ cleared {o} {b} {s} {p} {old} {mid} {new} {m} {m'} {k} (t, stop) limits only put
   memory = spends_then_limits old mid new k stop.memory limits;
 }
 
--- the place is still there behind a copy that was refused
+-- The place is still there after a copy that was refused.
 pub place_left : (o : Original Tree) (c : Change) (copied : Result ⊤ ErrorKind) → IsPlace c.old.words c.segment c.at → IfErr copied (StopsHalfway o c) → OnErr copied (IsPlace c.new.words c.segment c.at)
 place_left o c (Ok x) place stop = tt
 place_left o c (Err k) place (t, stop) = omega (arith, place, stop.left.words c.segment)
 
--- and behind a copy of children that was refused
+-- The place is still there after a copy of children that was refused.
 pub place_behind : (r : Reading) (n s p : ℕ) (c : Change) (copied : Result ⊤ ErrorKind) → IsPlace c.old.words s p → IfErr copied (StopsAtChildren r n c) → OnErr copied (IsPlace c.new.words s p)
 place_behind r n s p c (Ok x) place stop = tt
 place_behind r n s p c (Err k) place stop = let grows = filled_grows c.old.words c.new.words c.segment c.at stop.left stop.made in omega (arith, place, grows.words s)
 
--- what can be read is not where reading stops
+-- If reading it stops with the limiter m, no value of it can be read with m.
 abbrev pub StopsOrReads : Original Tree → Form → Meter → Meter → Type 0
 StopsOrReads o form m m' = (k : ErrorKind) (i : Meter) (t : Tree) → o.stops form (λ r x y. Stopped Value form r x y k) m m' → o.reads form m i t → ⊥
 
 pub value_apart : (r : Reading) (form : Form) (m m' : Meter) → StopsOrReads (value_original r) form m m'
 value_apart r form m m' k i t refused read = (unreadable refused).only t read.cost read.means read.takes read.covers
 
--- a copy that is refused and leaves null
+-- A copy that is refused and leaves null.
 pub refused_clear : {o : Original Tree} {c : Change} {k : ErrorKind} → StopsOrReads o c.form c.before c.after → StopsCopy o c Null k → o.takes_until c.form c.before c.after (MakesAtMost c.segment c.old c.new) →
     ((j : ErrorKind) → o.exceeds c.form j → (k ≡ j) × (c.after ≡ c.before)) → CopiesOrClears (Err k) o c
 refused_clear {k = k} apart stop taken large = record {
@@ -64,12 +64,12 @@ refused_clear {k = k} apart stop taken large = record {
   large = λ j h. let x = large j h in (ap Err x.0, x.1);
 }
 
--- a copy of what is no larger than an object can be, which leaves null where it is refused
+-- A copy of something that isn't larger than an object can be, which leaves null if it is refused.
 pub ends_clear : {o : Original Tree} {c : Change} (result : Result ⊤ ErrorKind) → StopsOrReads o c.form c.before c.after → ((k : ErrorKind) → o.exceeds c.form k → ⊥) → IfOk result (λ _. MakesCopy o c) → IfErr result (StopsCopy o c Null) → TakesAtMost result o c → CopiesOrClears result o c
 ends_clear (Ok x) apart small copied refused taken = record { copied = copied; fits = λ can. refl; refused = tt; taken = taken; large = λ k h. absurd (small k h) }
 ends_clear (Err k) apart small copied refused taken = refused_clear apart refused taken (λ j h. absurd (small j h))
 
--- and one that leaves some value, once that is cleared
+-- A copy that leaves some value if it is refused, once that value is cleared.
 pub copies_or_clears : {o : Original Tree} {b : Form} {s p : ℕ} {old mid new : View} {m m' : Meter} (copied : Result ⊤ ErrorKind) {result : Result ⊤ ErrorKind} → StopsOrReads o b m m' → ((k : ErrorKind) → o.exceeds b k → ⊥) →
     ((P Q : ℕ → ℕ → Type 0) → ((i j : ℕ) → P i j → Q i j) → o.takes_until b m m' P → o.takes_until b m m' Q) → CopiesOrLeaves copied o (change b (call_at s p old mid) m m') → result ≡ copied → ClearsRefused copied (call_at s p mid new) →
     CopiesOrClears result o (change b (call_at s p old new) m m')

@@ -1,4 +1,5 @@
--- The words of a segment once a value is copied behind them: its body there, and its pointer at position p.
+-- The words of a segment once a value is copied after them: its body is there, and its pointer at
+-- position p.
 use Rattle.std.proofs.Common.{ℕ, List, ◌++◌, length, set}
 use Rattle.capnp_format.specs.Tree.{Tree}
 use Rattle.capnp_format.specs.Canonical.{pointer, body, offset_to}

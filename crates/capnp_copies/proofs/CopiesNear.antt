@@ -15,7 +15,7 @@ use Rattle.capnp_copies.proofs.Shapes.{rows_laid}
 use Rattle.capnp_copies.proofs.InPlace.{IsCopied, AreCopied}
 use Rattle.capnp_copies.specs.declared.widths.ElementSizes.{ElementSizes}
 
--- A copy into segment id: the message and the read limiter, before it and after it.
+-- A copy into segment id: the message and the read limiter, before and after it.
 pub record Call : Type 0 where
   pub form : Form
   pub old : View
@@ -27,21 +27,22 @@ pub record Call : Type 0 where
 abbrev pub call_of : Form → View → View → ℕ → Meter → Meter → Call
 call_of form old new id before after = record { form = form; old = old; new = new; id = id; before = before; after = after }
 
--- What a place means is read and copied, and its pointer stands at position at.
+-- What the place means is read and copied, and the copy's pointer is at position `at`.
 pub record CopiesValue (r : Reading) (c : Call) (at : ℕ) : Type 0 where
   pub value : Tree
   pub is_read : Reads c.form r c.before c.after value
   pub made : IsCopied c.old.words c.new.words c.id at (kept c.form value)
 
--- What i pointers from a place on mean is read and copied, and their copies' pointers stand from position at on.
+-- What i pointers from a place on mean is read and copied, and the pointers of the copies are from
+-- position `at` on.
 pub record CopiesChildren (r : Reading) (i : ℕ) (c : Call) (at : ℕ) : Type 0 where
   pub children : Trees
   pub counts : count children ≡ i
   pub are_read : ReadsAll c.form r c.before c.after children
   pub made : AreCopied c.old.words c.new.words c.id at (kept_each c.form children)
 
--- The elements of a list of structs are read and copied, and their rows stand from position at on, over the last words of
--- the segment.
+-- The elements of a list of structs are read and copied, and their rows are from position `at` on,
+-- over the last words of the segment.
 pub record CopiesElements (r : Reading) (sizes : ElementSizes) (i : ℕ) (c : Call) (at : ℕ) : Type 0 where
   pub elements : Elements
   pub counts : element_count elements ≡ i
@@ -49,8 +50,8 @@ pub record CopiesElements (r : Reading) (sizes : ElementSizes) (i : ℕ) (c : Ca
   pub made : c.new.words ≡ with_segment c.old.words c.id
       (rows_laid (take at (segment c.old.words c.id)) sizes.kept.data_words sizes.kept.pointers (cut_to sizes.kept.data_words sizes.kept.pointers (kept_elements c.form elements)) 0)
 
--- What the pointers that are kept of one element mean is read and copied. The data words of the element stand from position
--- at on, and its pointers behind them.
+-- What the kept pointers of one element mean is read and copied. The data words of the element are
+-- from position `at` on, and its pointers after them.
 pub record CopiesElement (r : Reading) (sizes : ElementSizes) (c : Call) (at : ℕ) : Type 0 where
   pub children : Trees
   pub counts : count children ≡ sizes.kept.pointers
@@ -60,7 +61,7 @@ pub record CopiesElement (r : Reading) (sizes : ElementSizes) (c : Call) (at : �
       ≡ with_segment c.old.words c.id
       (with_children (overwritten (segment c.old.words c.id) at (words_from r sizes.kept.data_words)) (at + sizes.kept.data_words) (kept_each c.form children))
 
--- More words stand at the end of segment id, from position head on, and nothing else is changed.
+-- The words ws are added at the end of segment id, from position `head` on, and all others stay.
 pub record TakesWords (old new : View) (id head : ℕ) (ws : List ℕ) : Type 0 where
   pub starts : head ≡ length (segment old.words id)
   pub extends : new ≡ record old { words = extended old.words id ws }

@@ -1,4 +1,5 @@
--- The elements of a list of structs that are copied into its segment: one element, and the next row.
+-- The elements of a list of structs that are copied into its segment: one element, and the next
+-- row.
 use Rattle.std.proofs.Common.{◌≡◌, ℕ, suc, ◌+◌, ◌-◌, ◌*◌, ◌<◌, ◌≤◌, List, get_or, length, take, refl, sym, ap, ◌∙◌, arith, length-take}
 use Rattle.capnp_words.specs.Meter.{Meter}
 use Rattle.capnp_format.specs.Segments.{Segments, segment, word_at, words_at, IsPlace}
@@ -22,16 +23,16 @@ use Rattle.capnp_copies.proofs.KeptChildren.{kept_each-count, cut_kept, cut_kept
 use Rattle.capnp_copies.proofs.SegmentsWritten.{then_written, words_written}
 use Rattle.capnp_copies.proofs.Shapes.{rows_laid, AreShapedElements, elements_shaped, cut_to-shaped}
 
--- one element
+-- One element.
 
--- The data words us of an element that are kept are put at its row.
+-- The kept data words us of an element are written at its row.
 pub record DataPut (r : Reading) (sizes : ElementSizes) (old mid : View) (id at : ℕ) (us : List ℕ) : Type 0 where
   pub place : IsPlace old.words id at
   pub are_words : us ≡ words_from r sizes.kept.data_words
   pub counts : length us ≡ sizes.kept.data_words
   pub writes : mid ≡ record old { words = with_words old.words id at us }
 
--- the children of an element, once its words are put
+-- The children of an element, once its words are written.
 pub children_put : {b : Form} {r : Reading} {sizes : ElementSizes} {old mid new : View} {id at : ℕ} {us : List ℕ} {m m' : Meter} → DataPut r sizes old mid id at us →
     (children : CopiesChildren (behind r sizes.source.data_words) sizes.kept.pointers (call_of b mid new id m m') (at + sizes.kept.data_words)) →
     new.words ≡ with_segment old.words id (with_children (overwritten (segment old.words id) at (words_from r sizes.kept.data_words)) (at + sizes.kept.data_words) (kept_each b children.children))
@@ -42,15 +43,15 @@ children_put {b} {r} {sizes} {old} {mid} {new} {id} {at} {us} put children =
     then_written old.words id (overwritten W at us) (λ xs. with_children xs (at + e) (kept_each b ts)) (there old.words id at put.place, ap (λ (v : View). v.words) put.writes) children.made
     ∙ ap (λ xs. with_segment old.words id (with_children (overwritten W at xs) (at + e) (kept_each b ts))) put.are_words
 
--- The elements lie in the source, and their rows, with the sections of the copy, are the last words W of a segment from
--- position at on.
+-- The elements are inside the source. Their rows, with the sections of the copy, are the last of
+-- the words W, from position `at` on.
 pub record ElementsFit (r : Reading) (sizes : ElementSizes) (n : ℕ) (W : List ℕ) (at : ℕ) : Type 0 where
   pub room : at + n * (sizes.kept.data_words + sizes.kept.pointers) ≡ length W
   pub inside : r.at + n * (sizes.source.data_words + sizes.source.pointers) ≤ length (segment_read r)
   pub less_data : sizes.kept.data_words ≤ sizes.source.data_words
   pub less_pointers : sizes.kept.pointers ≤ sizes.source.pointers
 
--- The first i elements are copied, and the rows of so many others are still zero.
+-- The first i elements are copied, and the rows of `left` others are still zero.
 pub record RowsCopied (r : Reading) (sizes : ElementSizes) (i left : ℕ) (c : Call) (at : ℕ) : Type 0 where
   pub elements : Elements
   pub counts : element_count elements ≡ i
@@ -60,9 +61,9 @@ pub record RowsCopied (r : Reading) (sizes : ElementSizes) (i left : ℕ) (c : C
       ≡ with_segment c.old.words c.id
       (rows_laid (take at (segment c.old.words c.id)) sizes.kept.data_words sizes.kept.pointers (cut_to sizes.kept.data_words sizes.kept.pointers (kept_elements c.form elements)) left)
 
--- elements of no width
+-- Elements without width.
 
--- The loop over n elements is at element number i, with rows of w words.
+-- The loop over n elements is at element i, with rows of w words.
 pub record AtRow (r : Reading) (sizes : ElementSizes) (n i w : ℕ) (c : Call) (at : ℕ) : Type 0 where
   pub fits : ElementsFit r sizes n (segment c.old.words c.id) at
   pub width : w ≡ sizes.kept.data_words + sizes.kept.pointers
@@ -70,8 +71,8 @@ pub record AtRow (r : Reading) (sizes : ElementSizes) (n i w : ℕ) (c : Call) (
   pub more : i < n
   pub rows : RowsCopied r sizes i (n - i) c at
 
--- What the row of the next element is: in the segment, and null where its pointers go. The rows es of the elements before
--- it are of one size.
+-- The row of the next element is in the segment, and null where its pointers go. The rows es of the
+-- elements before it have one size.
 pub record NextRow (old mid : View) (sizes : ElementSizes) (id at i w : ℕ) (es : Elements) : Type 0 where
   pub there : id < length old.words
   pub shaped : AreShapedElements sizes.kept.data_words sizes.kept.pointers es
@@ -125,7 +126,7 @@ next_inside {r} {sizes} {n} {i} width here is =
     let less : suc i ≤ n = here.more in
     rw is (let f : suc i * a ≤ n * a = grind arith in omega (arith, f, here.fits.inside))
 
--- the words of the next element, and of its children, once they are put
+-- The words of the next element, and of its children, once they are written.
 pub row_put : {b : Form} {r : Reading} {sizes : ElementSizes} {n i w id at : ℕ} {old mid new : View} {m m' m'' : Meter} (here : AtRow r sizes n i w (call_of b old mid id m m') at) →
     (next : CopiesElement (behind r (i * (sizes.source.data_words + sizes.source.pointers))) sizes (call_of b mid new id m' m'') (at + i * w)) →
     new.words

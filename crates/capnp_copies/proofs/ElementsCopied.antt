@@ -20,7 +20,7 @@ use Rattle.capnp_objects.specs.Wanted.{canonical}
 use Rattle.capnp_objects.proofs.Copies.{with_last_element, count-with_last_element, read_element, pointers_in-with_last_element}
 use Rattle.capnp_words.specs.declared.wire_pointer.StructSize.{StructSize}
 
--- widths
+-- Widths.
 
 pub pointers_within : (ws : List ℕ) (p : ℕ) (size : StructSize) (n j : ℕ) → j < n →
     used_words (take size.pointers (drop (p + j * (size.data_words + size.pointers) + size.data_words) ws)) ≤ pointers_used ws p size.data_words size.pointers n
@@ -38,13 +38,14 @@ pointers_within ws p size (suc n) (suc j) l =
     ap (λ i. used_words (take q (drop i ws))) (let e : p + suc j * (d + q) + d ≡ p + (d + q) + j * (d + q) + d = omega arith in e) in
     omega (arith, next_used ws p d q n)
 
--- one element more
+-- One more element.
 
 cut-with_last : (e r : ℕ) (es : Elements) (ws : List ℕ) (us : Trees) → cut_to e r (trim_elements (with_last_element es ws us)) ≡ with_last_element (cut_to e r (trim_elements es)) (take e ws) (take_trees r (trim_each us))
 cut-with_last e r no_elements ws us = refl
 cut-with_last e r (element vs ts es) ws us = ap (element (take e vs) (take_trees r (trim_each ts))) (cut-with_last e r es ws us)
 
--- elements that were read, with one more of which the first pointers were, at a cost of n words and k pointers
+-- Elements es that were read, and one more with its first pointers read, at a cost of n words and k
+-- pointers.
 pub record Another (r : Reading) (size least : StructSize) (m m' : Meter) (es : Elements) (ts : Trees) (n k : ℕ) : Type 0 where
   pub all : Elements
   pub counts : element_count all ≡ suc (element_count es)
@@ -55,7 +56,7 @@ pub record Another (r : Reading) (size least : StructSize) (m m' : Meter) (es : 
   pub costs : are_read.cost ≡ n
   pub follows : pointers_in_elements all ≡ k
 
--- The n elements lie in the segment, and the pointers of this size that are kept of each are all that are used.
+-- The n elements are inside the segment, and the kept pointers of each include all that are used.
 pub record SourceFits (r : Reading) (size least : StructSize) (n : ℕ) : Type 0 where
   pub inside : r.at + n * (size.data_words + size.pointers) ≤ length (segment_read r)
   pub used : pointers_used (segment_read r) r.at size.data_words size.pointers n ≤ least.pointers
@@ -83,7 +84,7 @@ another {r} {size} {least} {i} {m} {m'} {m''} {es} {ts} fits all less len one =
       follows = omega (arith, f.follows, pointers_in-with_last_element es ws f.all);
     }
 
--- what stands where elements are laid
+-- The words of elements that are laid, with one more.
 
 rows-with_last : (d q k : ℕ) (es : Elements) (ws : List ℕ) (ts : Trees) → rows d q k (with_last_element es ws ts) ≡ rows d q (k + (d + q)) es ++ (ws ++ pointers (k + word_count_elements es) ts)
 rows-with_last d q k no_elements ws ts =
@@ -120,7 +121,7 @@ among A Z B ts k fits =
 rows_length : (front : List ℕ) (d q k : ℕ) (es : Elements) → AreShapedElements d q es → length (front ++ rows d q k es) ≡ length front + element_count es * (d + q)
 rows_length front d q k es v = omega (arith, length-append front (rows d q k es), length-rows d q k es v)
 
--- the next element, with its words and its children
+-- The next element, with its words and its children.
 pub element_put : {at : ℕ} (x : Laid) (m : ℕ) (us : List ℕ) (ts : Trees) → (length us ≡ x.size.data_words) × (count ts ≡ x.size.pointers) → at ≡ rows_end x →
     with_children (overwritten (rows_laid x.front x.size.data_words x.size.pointers x.elements (suc m)) at us) (at + x.size.data_words) ts
     ≡ rows_laid x.front x.size.data_words x.size.pointers (with_last_element x.elements us ts) m

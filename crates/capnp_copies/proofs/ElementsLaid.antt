@@ -1,4 +1,4 @@
--- Rows of elements in a segment, and the next element of a list that is meant.
+-- Rows of elements in a segment, and the next element of a list that the words mean.
 use Rattle.std.proofs.Common.{◌≡◌, ℕ, zero, suc, ◌+◌, ◌-◌, ◌*◌, ◌<◌, ◌≤◌, List, [], ◌∷◌, ◌++◌, length, get_or, take, drop, replicate, refl, sym, ap, ap₂, ◌∙◌, subst, arith, append-nil, length-append, length-drop, get_or-drop}
 use Rattle.std.proofs.lemmas.List.{length-replicate, take-append-drop, get_or_append_left, get_or-append_right}
 use Rattle.std.proofs.lemmas.List.{take-take}
@@ -15,7 +15,7 @@ use Rattle.capnp_copies.proofs.KeptChildren.{cut_kept, kept_no_elements, words_o
 use Rattle.capnp_copies.proofs.Shapes.{rows_laid, AreShapedElements, length-rows, length-element_bodies}
 use Rattle.capnp_objects.proofs.Shorthands.{MeanThere, ElementsMean}
 
--- the beginning
+-- The beginning.
 
 all_zero : (xs : List ℕ) → ((i : ℕ) → get_or xs i 0 ≡ 0) → xs ≡ replicate (length xs) 0
 all_zero [] z = refl
@@ -31,9 +31,9 @@ rows_begun ws at n size l z =
     sym (take-append-drop at ws) ∙ ap (λ xs. take at ws ++ xs) rest
     ∙ sym (append-nil (take at ws ++ [] ++ replicate (n * (d + q)) 0) ∙ ap (λ xs. xs ++ replicate (n * (d + q)) 0) (append-nil (take at ws)))
 
--- one more
+-- One more.
 
--- Elements of one size, whose rows stand behind the words front.
+-- Elements of one size, with their rows after the words `front`.
 pub record Laid : Type 0 where
   pub front : List ℕ
   pub size : StructSize
@@ -59,7 +59,7 @@ get_or-zeros zero i = refl
 get_or-zeros (suc n) zero = refl
 get_or-zeros (suc n) (suc i) = get_or-zeros n i
 
--- where the rows that are laid end
+-- The end of the rows that are laid.
 abbrev pub rows_end : Laid → ℕ
 rows_end x = length x.front + element_count x.elements * (x.size.data_words + x.size.pointers)
 
@@ -76,7 +76,7 @@ row_null x n i l m =
     get_or_append_left (A ++ Z) (element_bodies es) 0 i (omega (arith, length-append A Z, length-replicate {A = ℕ} (n * (d + q)) 0))
     ∙ get_or-append_right A Z (length A) i 0 refl (omega arith) ∙ get_or-zeros (n * (d + q)) (i - length A)
 
--- refusals
+-- Refusals.
 
 pub one_row : (r : Reading) (ts us : Trees) → (k : ℕ) × MeanThere r ts k → (c : ℕ) × MeanThere r us c → count ts ≡ count us → ts ≡ us
 one_row r no_trees no_trees h g len = refl
@@ -85,11 +85,11 @@ one_row r (tree t ts) no_trees h g len = absurd (omega arith)
 one_row r (tree t ts) (tree u us) (k, (x, y, first, others, f)) (c, (a, b, one, rest, g)) len =
     ap₂ tree (one_value r.segments r.levels r.levels r.segment r.at t u x a first one).0 (one_row (behind r 1) ts us (y, others) (b, rest) (omega arith))
 
--- both lists of elements are meant at one place
+-- One place means both lists of elements.
 abbrev pub BothMeant : Reading → StructSize → Elements → Elements → Type 0
 BothMeant r size es us = ((k : ℕ) × ElementsMean r size es k) × ((c : ℕ) × ElementsMean r size us c)
 
--- the element behind the first ones, in any longer meaning of the same place
+-- The element after the first ones, in any longer list of elements that the same place means.
 pub next_element_words : (b : Form) (r : Reading) (sizes : ElementSizes) (es us : Elements) → BothMeant r sizes.source es us → element_count es < element_count us →
     (ts : Trees) × (x : ℕ) × (count ts ≡ sizes.source.pointers) × MeanThere (pointers_of r sizes.source (element_count es)) ts x
     × (word_count_elements (cut_kept b sizes es) + word_count_all (take_trees sizes.kept.pointers (kept_each b ts)) ≤ word_count_elements (cut_kept b sizes us))
@@ -110,7 +110,7 @@ next_element_words b r sizes (element vs ts es) (element ws us os) ((k, (x, y, l
       omega (arith, same, z.4, words_of_first b sizes vs ts es, words_of_first b sizes ws us os),
     )
 
--- elements of no width
+-- Elements without width.
 
 no_rows : (k : ℕ) (es : Elements) → (rows 0 0 k (cut_to 0 0 es) ≡ []) × (element_bodies (cut_to 0 0 es) ≡ [])
 no_rows k no_elements = (refl, refl)

@@ -1,13 +1,14 @@
--- The measures of the calls that copy: eight for each level that is left, and less the nearer a call is to the next level.
+-- The measures of the calls that copy: eight for each level that is left, and less the nearer a
+-- call is to the next level.
 use Rattle.std.proofs.Common.{◌≡◌, ℕ, suc, pred, ◌+◌, ◌*◌, ◌<◌, arith}
 
--- at the same level
+-- At the same level.
 pub falls_below : {a b t : ℕ} (i k : ℕ) → a ≡ b → 8 * b + (i + suc k) ≡ t → 8 * a + i < t
 falls_below i k same is = omega (arith, same, is)
 
 pub falls_last : {a b t : ℕ} (k : ℕ) → a ≡ b → 8 * b + suc k ≡ t → 8 * a < t
 falls_last k same is = omega (arith, same, is)
 
--- at the next level
+-- At the next level.
 pub falls_in : {a b t : ℕ} → a ≡ pred b → 0 < b → 8 * b ≡ t → 8 * a + 5 < t
 falls_in less some is = omega (arith, less, some, is)

@@ -1,4 +1,5 @@
--- The copy of pointers one behind the other, to a message of any number of segments: none yet, one child more, and where a child stops it.
+-- Consecutive pointers are copied to a message of any number of segments: none yet, one more child,
+-- and a child that stops the copy.
 use Rattle.std.proofs.Common.{◌≡◌, inl, inr, ℕ, ◌+◌, ◌<◌, ◌^◌, length, refl, sym, ap, ◌∙◌, subst, arith}
 use Rattle.capnp_words.specs.declared.error.ErrorKind.{ErrorKind}
 use Rattle.capnp_words.specs.Meter.{Meter}
@@ -41,11 +42,11 @@ no_child r b s p v m = record {
   stands = λ fits. not_written v.words s ∙ ap (with_segment v.words s) (sym (ap (with_children (segment v.words s) p) (kept_none b) ∙ no_children (segment v.words s) p));
 }
 
--- the segments, once the first children are copied
+-- No segment gets shorter while the first children are copied.
 pub children_grow : {r : Reading} {b : Form} {s p i : ℕ} {old mid : View} {m m' : Meter} → CopiesChildren r i (change b (call_at s p old mid) m m') → Grows old.words mid.words
 children_grow {b = b} {s = s} {p = p} {old = old} {mid = mid} first = filled_grows old.words mid.words s p (kept_each b first.children) first.made
 
--- the pointer behind them is as before
+-- The pointer after them is unchanged.
 pub child_ahead : {r : Reading} {b : Form} {s p i : ℕ} {old mid : View} {m m' : Meter} → CopiesChildren r i (change b (call_at s p old mid) m m') → p + i < length (segment old.words s) → word_at mid.words s (p + i) ≡ word_at old.words s (p + i)
 child_ahead {b = b} {s = s} {p = p} {i = i} {old = old} {mid = mid} first place =
     filled_ahead old.words mid.words s p (kept_each b first.children) (p + i) first.made (omega (arith, kept_each-count b first.children, first.counts)) place

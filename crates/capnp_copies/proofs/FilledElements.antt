@@ -1,4 +1,5 @@
--- The copy of the elements of a list of structs, to a message of any number of segments: none yet, one element more, and where an element stops it.
+-- The elements of a list of structs are copied to a message of any number of segments: none yet,
+-- one more element, and an element that stops the copy.
 use Rattle.std.proofs.Common.{◌≡◌, inl, inr, ℕ, suc, ◌+◌, ◌-◌, ◌*◌, ◌^◌, ◌<◌, ◌≤◌, List, length, take, drop, refl, sym, ap, ◌∙◌, subst, arith}
 use Rattle.capnp_words.specs.declared.error.ErrorKind.{ErrorKind}
 use Rattle.capnp_words.specs.Meter.{Meter}
@@ -35,9 +36,9 @@ use Rattle.capnp_copies.proofs.KeptForms.{SourceKept, one_more, stops_sooner, bl
 use Rattle.capnp_objects.proofs.Shorthands.{RefusedAll}
 use Rattle.capnp_making.specs.Makes.{call_at}
 
--- one element
+-- One element.
 
--- A call that copies its kept sections is refused.
+-- A call that copies the kept sections of an element is refused.
 pub record StopsAtElement (r : Reading) (sizes : ElementSizes) (c : Change) (k : ErrorKind) : Type 0 where
   pub why : RefusesToCopy (children_original (behind r sizes.source.data_words) sizes.kept.pointers) c k
   pub left : Trees
@@ -45,7 +46,7 @@ pub record StopsAtElement (r : Reading) (sizes : ElementSizes) (c : Change) (k :
   pub made : IsElementFilled c.old.words c.new.words c.segment c.at (words_from r sizes.kept.data_words) left
   pub memory : SpendsMemory c.old c.new k
 
--- The data words that are kept of an element are written at a place.
+-- The kept data words of an element are written at a place.
 pub record DataWritten (r : Reading) (sizes : ElementSizes) (old mid : View) (s p : ℕ) : Type 0 where
   pub inside : r.at + sizes.kept.data_words ≤ length (segment_read r)
   pub room : p + sizes.kept.data_words ≤ length (segment old.words s)
@@ -101,7 +102,7 @@ element_stops {r} {sizes} {b} {s} {p} {old} {mid} {new} {m} {m'} {k} put stop = 
   memory = keeps_then_spends old mid new k (same_segments put) (keeps_written old mid _ put.writes) stop.memory;
 }
 
--- elements, one after the other
+-- Elements, one after the other.
 
 elements_more : (S R Q : Segments) (s p d q : ℕ) (es : Elements) (ws : List ℕ) (ts : Trees) → AreElementsFilled S R s p d q es → length ws ≡ d → count ts ≡ q → IsElementFilled R Q s (p + element_count es * (d + q)) ws ts → AreElementsFilled S Q s p d q (with_last_element es ws ts)
 elements_more S R Q s p d q no_elements ws ts e long len one =
@@ -125,7 +126,7 @@ no_row r sizes n b s p v m = record {
     none canonical = refl
     none _ = refl
 
--- where no section is kept, there is nothing to copy
+-- If no section is kept, there is nothing to copy.
 pub no_width : (r : Reading) (sizes : ElementSizes) (n : ℕ) (b : Form) (s p : ℕ) (v : View) (m : Meter) → SourceKept b r sizes n → sizes.kept.data_words + sizes.kept.pointers ≡ 0 → CopiesRows r sizes n 0 (change b (call_at s p v v) m m)
 no_width r sizes n b s p v m fits none =
     let no_data : 0 ≡ sizes.kept.data_words = omega arith in
@@ -141,7 +142,7 @@ no_width r sizes n b s p v m fits none =
       stands = λ last fits. no_width_tight b sizes s p n v m x.all none last;
     }
 
--- The loop over n elements is at element number i; their rows of zeros lie in a segment.
+-- The loop over n elements is at element i; their rows of zeros are inside a segment.
 pub record AtRow (r : Reading) (sizes : ElementSizes) (n i : ℕ) (b : Form) (s p : ℕ) (old mid : View) (m m' : Meter) : Type 0 where
   pub fits : SourceKept b r sizes n
   pub room : p + n * (sizes.kept.data_words + sizes.kept.pointers) ≤ length (segment old.words s)
@@ -194,7 +195,7 @@ module _ {r : Reading} {sizes : ElementSizes} {n i : ℕ} {b : Form} {s p : ℕ}
   next_long : length next_words ≡ d
   next_long = length_words r.segments r.segment (r.at + i * (sizes.source.data_words + sizes.source.pointers)) d (omega (arith, next_inside, here.fits.less_data))
 
-  -- the data words of the next row are written
+  -- The data words of the next row are written.
   pub row_written : {put : View} → put ≡ record mid { words = with_words mid.words s (p + i * (d + q)) next_words } →
       DataWritten (behind r (i * (sizes.source.data_words + sizes.source.pointers))) sizes mid put s (p + i * (d + q))
   row_written writes = record { inside = omega (arith, next_inside, here.fits.less_data); room = omega (arith, next_room); writes = writes }
@@ -249,8 +250,8 @@ module _ {r : Reading} {sizes : ElementSizes} {n i : ℕ} {b : Form} {s p : ℕ}
         memory = keeps_then_spends old mid new k rows_grow.segments here.rows.memory stop.memory;
       }
 
-  -- Where the parts of the next element stand, in the words of a call that finds a row of the source w words wide, and one
-  -- of the copy v.
+  -- Where the parts of the next element are, in the words of a call that found rows of w words in
+  -- the source, and of v words in the copy.
 
   pub source_start : {w f k : ℕ} → w ≡ sizes.source.data_words + sizes.source.pointers → f ≡ sizes.source.data_words → k ≡ 8 * length (segment_read r) → k < 8 * 2 ^ 32 → r.at + i * w + f < 2 ^ 32
   source_start is_w is_f bytes small = omega (arith, ap (λ j. i * j) is_w, is_f, next_inside, bytes, small)

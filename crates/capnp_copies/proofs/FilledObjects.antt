@@ -1,4 +1,4 @@
--- The copy of a struct and of lists of pointers and of structs, from where they are made.
+-- The copy of a struct and of lists of pointers and of structs, from the moment when they are made.
 use Rattle.std.proofs.Common.{◌≡◌, inl, inr, ℕ, ◌+◌, ◌*◌, ◌≤◌, length, refl, sym, ap, ◌∙◌, subst, arith}
 use Rattle.capnp_words.specs.declared.error.ErrorKind.{ErrorKind}
 use Rattle.capnp_words.specs.Meter.{Meter}
@@ -32,7 +32,7 @@ use Rattle.capnp_copies.proofs.KeptChildren.{kept_each-count, cut_kept-count, ke
 use Rattle.capnp_copies.proofs.KeptForms.{KeepsPointers, KeepsWidths, list_kept}
 use Rattle.capnp_making.specs.Makes.{call_at}
 
--- an object that the arena refuses leaves the pointer null
+-- An object that the arena refuses leaves the pointer null.
 
 pub nothing_left : (S R : Segments) (s p : ℕ) → IsPlace S s p → word_at S s p ≡ 0 → R ≡ S → IsReplaced S R s p Null Null
 nothing_left S R s p place null same = subst (λ T. IsReplaced S T s p Null Null) (sym same) (unchanged S s p Null (null_stored S s p place null))
@@ -43,7 +43,7 @@ nothing_made b s p n old new m m' k place null named same full =
     let r = made_refused old new s n k named same full in
     (r.0, ((Null, nothing_left old.words new.words s p place null same), r.1))
 
--- a list of pointers
+-- A list of pointers.
 
 -- An object is made and starts at h.
 pub record ObjectBegun (s p n : ℕ) (old mid : View) (h : Start) (t : Tree) : Type 0 where
@@ -74,7 +74,7 @@ pointers_stop {b} {r} {i} {s} {p} {old} {mid} {new} {h} {m} {m'} {k} o made at_e
     )
     ((_, pointers_done old.words mid.words new.words s p i h stop.left o.begun stop.made stop.few), keeps_then_spends old mid new k o.begun.made.segments o.memory stop.memory)
 
--- a list of structs
+-- A list of structs.
 
 pub widths_keep : (b : Form) (r : Reading) (sizes : ElementSizes) (i : ℕ) → KeepsWidths b r sizes.source i sizes.kept → KeepsPointers b r sizes i
 widths_keep canonical r sizes i widths = omega (arith, ap (λ s. s.pointers) widths)

@@ -1,4 +1,5 @@
--- The copy of a struct that is read, from where it is made: its words, its children, and where it stops.
+-- The copy of a struct that was read, from the moment when it is made: its words, its children, and
+-- where it stops.
 use Rattle.std.proofs.Common.{◌≡◌, inl, inr, ℕ, ◌+◌, ◌-◌, ◌<◌, ◌≤◌, ◌^◌, List, length, take, refl, sym, ap, ◌∙◌, subst, le_trans, arith, length-take, take_all}
 use Rattle.capnp_words.specs.declared.error.ErrorKind.{ErrorKind}
 use Rattle.capnp_words.specs.Meter.{Meter}
@@ -39,8 +40,8 @@ use Rattle.capnp_copies.proofs.TightObjects.{StructMade, struct_tight}
 use Rattle.capnp_copies.proofs.UsedChildren.{used_children, trim-struct, fill_nulls, null_behind}
 use Rattle.capnp_making.specs.Makes.{call_at}
 
--- The kept children of a struct were read, and so were all of them, at a cost of n words and k pointers; and a struct of them is
--- kept so.
+-- The kept children ts of a struct were read, and so were all its children, at a cost of n words
+-- and k pointers. A struct of all of them is kept as its kept data words with ts.
 pub record SectionsKept (b : Form) (ws : List ℕ) (r : Reading) (q : ℕ) (m m' : Meter) (ts : Trees) (n k : ℕ) : Type 0 where
   pub all : Trees
   pub counts : count all ≡ q
@@ -67,7 +68,7 @@ sections_kept canonical ws r q m m' ts inside len all =
 sections_kept _ ws r q m m' ts inside len all =
     record { all = ts; counts = len ∙ length_words r.segments r.segment r.at q inside; are_read = all; form = ap (λ xs. Struct xs ts) (sym (take_all (length ws) ws (omega arith))); costs = refl; follows = refl }
 
--- A struct is made and starts at h, and the data words that are kept are written.
+-- A struct is made and starts at h, and its kept data words are written.
 pub record SectionsBegun (b : Form) (ws : List ℕ) (r : Reading) (q : ℕ) (least : StructSize) (s p : ℕ) (old made mid : View) (h : Start) : Type 0 where
   pub cut : SectionsCut b ws r q least
   pub begun : IsBegun old.words made.words s p (least.data_words + least.pointers) h (zero_struct least)
@@ -146,7 +147,8 @@ module _ {b : Form} {ws : List ℕ} {r : Reading} {q : ℕ} {least : StructSize}
         stands = struct_tight is_made b (le_trans longer (children_grow children).segments) children (Struct ws f.all) form;
       }
 
-  -- if its children are too large for the segment where it stands, it is for that of its pointer
+  -- If its children are too large for the segment that it is in, the struct is too large for the
+  -- segment of its pointer.
   exceeds : AreTooLarge b r least.pointers (length (segment mid.words h.segment)) (mid.room h.segment) → AreTooLargeSections b ws r q (length (segment old.words s)) (old.room s)
   exceeds large = λ ts n counts means.
       (let k = sections_meant b ts n o.cut counts means in
@@ -159,7 +161,7 @@ module _ {b : Form} {ws : List ℕ} {r : Reading} {q : ℕ} {least : StructSize}
   begins : Begins s h.segment (least.data_words + least.pointers) old made
   begins = struct_begins s p least old made h o.place o.taken o.memory o.behind o.begun.start o.empty
 
-  -- what finds no room behind its data words finds none behind it
+  -- A child without room after the struct's data words are written had no room before that.
   before : (new : View) {m m' : Meter} {k : ErrorKind} → ComesToObject (children_original r least.pointers) b m m' (FindsNoRoom (change b (call_at h.segment (h.at + least.data_words) mid new) m m') k) →
       ComesToObject (children_original r least.pointers) b m m' (FindsNoRoom (change b (call_at h.segment (h.at + least.data_words) made new) m m') k)
   before new {k = k} (w, stops, (refused, full)) = (w, stops, (words_refused_after made mid new w k (keeps_written made mid _ o.writes) refused, omega (arith, full, same_long, same_room)))
@@ -174,7 +176,7 @@ module _ {b : Form} {ws : List ℕ} {r : Reading} {q : ℕ} {least : StructSize}
       )
       ((_, struct_done old.words made.words mid.words new.words s p least.pointers h section stop.left is_begun writes (rw (sym long) at stop.made) stop.few), keeps_then_spends old mid new k segments keeps stop.memory)
 
--- The same in the words of a call, which counts what it finds by f, g, k and l.
+-- The same in the words of a call, which has the other names f, g, k and l for what it found.
 
 pub sections_done : {b : Form} {ws : List ℕ} {q : ℕ} {least : StructSize} {s p : ℕ} {old made mid new : View} {h : Start} {m m' : Meter} {f g k l : ℕ} (r : Reading) (n : ℕ) → SectionsBegun b ws (behind r n) q least s p old made mid h → f ≡ n → g ≡ least.data_words → k ≡ least.pointers → l ≡ r.levels →
     CopiesChildren (record (behind r f) { levels = l }) k (change b (call_at h.segment (h.at + g) mid new) m m') → MakesCopy (sections_original ws (behind r n) q) (change b (call_at s p old new) m m')

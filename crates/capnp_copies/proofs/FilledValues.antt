@@ -1,4 +1,5 @@
--- The copy of what a pointer means, to a message of any number of segments, once its object was read.
+-- The copy of what a pointer means, to a message of any number of segments, once its object was
+-- read.
 use Rattle.std.proofs.Common.{◌≡◌, ◌⊎◌, inl, inr, ℕ, pred, ◌+◌, ◌*◌, ◌^◌, ◌<◌, List, length, take, drop, length-take, refl, append-nil, set, sym, ap, ap₂, ◌∙◌, subst, arith, Result, Ok, Err, IsOk, OnOk, OnErr, IfOk, IfErr}
 use Rattle.capnp_words.specs.declared.error.ErrorKind.{ErrorKind}
 use Rattle.capnp_words.specs.declared.error.ErrorKind.TheVariants.{CannotCreateACanonicalMessageWithACapability, UnknownPointerType}
@@ -54,7 +55,7 @@ object_stops {r} {b} {s} {p} {v} {m} {m'} {k} place null h =
 pub read_stops : {r : Reading} {b : Form} {s p : ℕ} {v : View} {m m' : Meter} {k : ErrorKind} → IsPlace v.words s p → word_at v.words s p ≡ 0 → Stopped Value plain r m m' k → StopsHalfway (value_original r) (change b (call_at s p v v) m m') k
 read_stops {b = b} place null h = object_stops place null (stopped_in b h)
 
--- null pointers and capabilities
+-- Null pointers and capabilities.
 
 kept_null : (b : Form) → kept b Null ≡ Null
 kept_null canonical = refl
@@ -88,7 +89,7 @@ capability_stops {i = i} {m = m} {m'} object place null = object_stops place nul
 pub default_stops : {r : Reading} {s p i : ℕ} {v : View} {m m' : Meter} → IsObject Value r m m' (ObjectCapability i) → IsPlace v.words s p → word_at v.words s p ≡ 0 → StopsHalfway (value_original r) (change of_default (call_at s p v v) m m') UnknownPointerType
 default_stops {i = i} {m = m} {m'} object place null = object_stops place null (default_stopped m m' i object)
 
--- the call that copies a capability
+-- The call that copies a capability.
 pub record CapabilityCopied (result : Result (Unit {0}) ErrorKind) (b : Form) (s p i : ℕ) (old new : View) : Type 0 where
   pub as_it_stands : OnOk result (b ≡ plain)
   pub copied : OnOk result (new ≡ record old { words = with_word old.words s p (capability_word i) })
@@ -109,7 +110,7 @@ capability_value_stops {b} {s} {p} {i} {old} {new} r m m' (Err k) object place n
   | inr x ↦ rw (x.0, x.1, o.unchanged) (default_stops object place null)
 ]
 
--- a struct
+-- A struct.
 
 pub struct_value : {r : Reading} {b : Form} {s p levels : ℕ} {old new : View} {m m' m'' : Meter} {size : StructSize} (start : Place) → (0 < r.levels → levels ≡ pred r.levels) → IsObject Value r m m' (ObjectStruct start size) →
     MakesCopy (sections_original (words_from (inside r levels start) size.data_words) (behind (inside r levels start) size.data_words) size.pointers) (change b (call_at s p old new) m' m'') → MakesCopy (value_original r) (change b (call_at s p old new) m m'')
@@ -148,7 +149,7 @@ struct_value_stops {r} {b} {s} {levels = levels} {old = old} {new = new} {m = m}
       },
     )
 
--- a list of pointers
+-- A list of pointers.
 
 pub pointers_value : {r : Reading} {b : Form} {s p levels i : ℕ} {old new : View} {m m' m'' : Meter} (start : Place) → (0 < r.levels → levels ≡ pred r.levels) → IsObject Value r m m' (ObjectPointers start i) →
     MakesCopy (pointers_original i (inside r levels start)) (change b (call_at s p old new) m' m'') → MakesCopy (value_original r) (change b (call_at s p old new) m m'')
@@ -177,7 +178,7 @@ pointers_value_stops {r} {b} {s} {levels = levels} {i} {old = old} {new = new} {
       },
     )
 
--- a list of structs
+-- A list of structs.
 
 pub structs_value : {r : Reading} {b : Form} {s p levels i : ℕ} {old new : View} {m m' m'' : Meter} {size : StructSize} (start : Place) → (0 < r.levels → levels ≡ pred r.levels) → IsObject Value r m m' (ObjectStructs start size i) →
     MakesCopy (structs_original size i (inside r levels start)) (change b (call_at s p old new) m' m'') → MakesCopy (value_original r) (change b (call_at s p old new) m m'')
@@ -212,7 +213,7 @@ structs_value_stops {r} {b} {s} {levels = levels} {i} {old = old} {new = new} {m
       },
     )
 
--- a list of numbers
+-- A list of numbers.
 
 pub kept_flat : (b : Form) (size : ℕ) (ns : List ℕ) → kept b (Flat size ns) ≡ Flat size ns
 kept_flat canonical size ns = refl
@@ -225,7 +226,7 @@ flat_read_in {r} {m} {m'} {i} {n} {ws} b start size (a, o, z, small, (held, es, 
     let here : ws ≡ words_at r.segments start.segment start.at (words_for (size_number size) i) = part ∙ ap₂ (λ k xs. take k (drop start.at xs)) words (flat_held m m' start size i (a, o, z, small, (held, es, eb), ez, ei)) in
     rw here (rw (ez, ei, es, f) (read_flat o z small))
 
--- Of these elements the copy is made where result is Ok, and else the arena refuses it.
+-- The copy of these elements is made if `result` is Ok; otherwise the arena refuses it.
 pub record FlatOutcome (result : Result (Unit {0}) ErrorKind) (s p n : ℕ) (old new : View) (t : Tree) : Type 0 where
   pub copied : OnOk result (IsReplaced old.words new.words s p Null t)
   pub granted : OnOk result (KeepsMemory old new)

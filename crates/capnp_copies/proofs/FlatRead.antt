@@ -1,4 +1,4 @@
--- Results that hold by what they are made of; how many words a list of numbers takes.
+-- Results that hold by what they are made of; and the number of words that a list of numbers takes.
 use Rattle.std.proofs.Common.{◌≡◌, ℕ, List, Result, Ok, Err, IfOk, IfErr, ap}
 use Rattle.capnp_format.specs.Numbers.{words_for, unpacked}
 use Rattle.capnp_format.specs.Tree.{Flat}
@@ -13,7 +13,7 @@ pub err_so : {A E : Type 0} (r : Result A E) (P Q : E → Type 0) → IfErr r P 
 err_so (Ok x) P Q h f = tt
 err_so (Err k) P Q h f = f k h
 
--- numbers
+-- Numbers.
 
 pub word_count-flat : (size i : ℕ) (ws : List ℕ) → word_count (trim (Flat size (unpacked size i ws))) ≡ words_for size i
 word_count-flat size i ws = ap (words_for size) (length-digits _ i _)

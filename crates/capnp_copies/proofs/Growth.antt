@@ -1,4 +1,4 @@
--- How many words a message gains where objects are made, and where they are copied one after another.
+-- How many words a message gains if objects are made, and if they are copied one after another.
 use Rattle.std.proofs.Common.{◌≡◌, ◌≢◌, inl, inr, ℕ, zero, suc, pred, ◌+◌, ◌*◌, ◌<◌, ◌≤◌, Bool, true, Some, Result, Ok, Err, MatchResult, List, [], ◌∷◌, length, sum_by, length-take, drop, set, refl, sym, ap, ◌∙◌, subst, arith, mul-le-mul_left}
 use Rattle.std.specs.Prelude.{⊤}
 use Rattle.std.proofs.lemmas.Bool.{cases_lt}
@@ -58,20 +58,20 @@ use Rattle.capnp_making.specs.Makes.{call_at}
 
 -- The words of all segments.
 
--- The words of all segments of a message.
+-- The number of words of all segments of a message.
 abbrev message_words : Segments → ℕ
 message_words S = sum_by length S
 
 one_more : (s : List ℕ) (S : Segments) → message_words (s ∷ S) ≡ length s + message_words S
 one_more s S = sum_by-cons length s S
 
--- where no segment is longer, the message has no words more
+-- If no segment gets longer, the message doesn't get more words.
 no_longer : (S R : Segments) → ((v : ℕ) → length (segment R v) ≤ length (segment S v)) → message_words R ≤ message_words S
 no_longer S [] h = omega arith
 no_longer [] (r ∷ R) h = omega (arith, one_more r R, h 0, no_longer [] R (λ v. h (suc v)))
 no_longer (s ∷ S) (r ∷ R) h = omega (arith, one_more r R, one_more s S, h 0, no_longer S R (λ v. h (suc v)))
 
--- where one is longer by at most n, or by at least n
+-- One segment gets longer by at most n words, or by at least n.
 at_most : (S R : Segments) (k n : ℕ) → length (segment R k) ≤ length (segment S k) + n → ((v : ℕ) → v ≢ k → length (segment R v) ≤ length (segment S v)) → message_words R ≤ message_words S + n
 at_most S [] k n g h = omega arith
 at_most [] (r ∷ R) zero n g h = omega (arith, one_more r R, g, no_longer [] R (λ v. h (suc v) (λ e. omega (arith, e))))
@@ -95,7 +95,8 @@ lengthened S R k n x =
 same_words : (S R : Segments) → ((v : ℕ) → length (segment R v) ≡ length (segment S v)) → message_words R ≡ message_words S
 same_words S R e = omega (arith, no_longer S R (λ v. omega (arith, e v)), no_longer R S (λ v. omega (arith, e v)))
 
--- No words are taken: where nothing is done, words are written over others, objects become zero, or memory is refused.
+-- No words are allocated: nothing is done, words are overwritten, objects are zeroed, or memory is
+-- refused.
 
 pub none_itself : (v : View) → TakesNone v v
 none_itself v = record { segments = refl; words = λ k. refl; room = λ k l. refl }
@@ -138,7 +139,7 @@ made_within before after x = made_more (omega arith) (omega arith) (made_both (m
 pub made_elsewhere : {n p : ℕ} (c d : Change) → TakesNone d.old c.old → TakesNone c.new d.new → d.segment ≡ c.segment → MakesAtMost c.segment c.old c.new n p → MakesAtMost d.segment d.old d.new n p
 made_elsewhere {n} {p} c d before after same made = subst (λ id. MakesAtMost id d.old d.new n p) (sym same) (made_within before after made)
 
--- there is one next room
+-- There is only one next room.
 next_room_is : (v : View) (n j k : ℕ) → IsNextRoom v n j → IsNextRoom v n k → j ≡ k
 next_room_is v n j k (inl f) (inl g) = elim (cases_lt j k) [
   | inl less ↦ absurd (omega (arith, f.1, g.2 j less))
@@ -148,7 +149,7 @@ next_room_is v n j k (inl f) (inr (full, last)) = absurd (omega (arith, f.1, ful
 next_room_is v n j k (inr (full, last)) (inl g) = absurd (omega (arith, g.1, full k g.0))
 next_room_is v n j k (inr (full, last)) (inr (full', last')) = last ∙ sym last'
 
--- which is another one than a segment without room
+-- The next room isn't in a segment without room.
 next_room_elsewhere : (v : View) (id n k : ℕ) → id < length v.words → v.room id < length (segment v.words id) + n → IsNextRoom v (n + 1) k → k ≢ id
 next_room_elsewhere v id n k there full (inl fit) = λ same.
     (let room : length (segment v.words id) + (n + 1) ≤ v.room id = subst (λ j. length (segment v.words j) + (n + 1) ≤ v.room j) same fit.1 in
@@ -170,12 +171,12 @@ made_object {id} {k} {n} {m} {p} {old} {mid} {new} o x = elim (cases_lt (old.roo
       )
 ]
 
--- what is taken, by the result of a call
+-- What is allocated, by the result of a call.
 pub taken_so : {A E : Type 0} (result : Result A E) (P P' Q Q' : Type 0) → (P → P') → (Q → Q') → MatchResult result (λ _. P) (λ _. Q) → MatchResult result (λ _. P') (λ _. Q')
 taken_so (Ok x) P P' Q Q' f h taken = f taken
 taken_so (Err k) P P' Q Q' f h taken = h taken
 
--- Pointers one behind the other: none yet, one more, and one that is refused.
+-- Consecutive pointers: none yet, one more, and one that is refused.
 
 pub none_taken : (r : Reading) (b : Form) (s : ℕ) (v : View) (m : Meter) → TakesForCopy (children_original r 0) (change b (call_at s 0 v v) m m)
 unfolding read_none
@@ -198,7 +199,7 @@ stop_taken {r} {b} {s} {mid = mid} {new} {m' = m'} {m''} less (ts, counts, are_r
 pub all_taken : {r : Reading} {b : Form} {s i j : ℕ} {old new : View} {m m' : Meter} → i ≡ j → TakesForCopy (children_original r i) (change b (call_at s 0 old new) m m') → TakesForCopy (children_original r j) (change b (call_at s 0 old new) m m')
 all_taken same (ts, counts, are_read, made) = (ts, counts ∙ same, are_read, made)
 
--- The pointers of elements: none yet, those of one element more, and one that is refused.
+-- The pointers of elements: none yet, those of one more element, and one that is refused.
 
 pub no_row_taken : (r : Reading) (sizes : ElementSizes) (b : Form) (s : ℕ) (v : View) (m : Meter) → TakesForCopy (elements_original r sizes 0) (change b (call_at s 0 v v) m m)
 unfolding read_no_element
@@ -226,7 +227,7 @@ row_stop_taken {r} {sizes} {b} {s} {mid = mid} {new} {m' = m'} {m''} fits less (
 pub rows_taken : {r : Reading} {b : Form} {s i j : ℕ} {old new : View} {m m' : Meter} (sizes : ElementSizes) → i ≡ j → TakesForCopy (elements_original r sizes i) (change b (call_at s 0 old new) m m') → TakesForCopy (elements_original r sizes j) (change b (call_at s 0 old new) m m')
 rows_taken sizes same (es, counts, are_read, made) = (es, counts ∙ same, are_read, made)
 
--- No words are taken before something is copied, and none behind.
+-- No words are allocated before something is copied, and none afterwards.
 
 pub all_within : {r : Reading} {b : Form} {s i : ℕ} {old mid last new : View} {m m' : Meter} → TakesNone old mid → TakesNone last new → TakesForCopy (children_original r i) (change b (call_at s 0 mid last) m m') → TakesForCopy (children_original r i) (change b (call_at s 0 old new) m m')
 all_within before after (ts, counts, are_read, made) = (ts, counts, are_read, made_within before after made)
@@ -235,7 +236,7 @@ pub among_within : {r : Reading} {b : Form} {s i j : ℕ} {old mid last new : Vi
 unfolding stops_sooner
 among_within fewer before after (off, made) = (stops_sooner fewer off, made_within before after made)
 
--- of what a place means, of a struct, and of a list
+-- The same for what a place means, for a struct, and for a list.
 
 pub value_within : (r : Reading) (c d : Change) → TakesNone d.old c.old → TakesNone c.new d.new → d.segment ≡ c.segment → (value_original r).takes c.form c.before c.after (MakesAtMost c.segment c.old c.new) → (value_original r).takes c.form c.before c.after (MakesAtMost d.segment d.old d.new)
 value_within r c d before after same (t, x, made) = (t, x, made_elsewhere c d before after same made)
@@ -298,7 +299,7 @@ pub structs_stop_behind : (r : Reading) (sizes : ElementSizes) (i n : ℕ) (b : 
     TakesUntilStop (structs_original sizes.source i r) (change b (call_at s 0 old new) m m')
 structs_stop_behind r sizes i n b s k old mid new m m' begun less (off, made) = inr (off, made_more (omega (arith, less)) (omega arith) (made_object begun made))
 
--- A struct is made of the pointers that are kept: all of them are read.
+-- A struct is made of the pointers that are kept, and all its pointers are read.
 
 pub sections_behind : (ws : List ℕ) (r : Reading) (q used n : ℕ) (b : Form) (s k : ℕ) (old mid new : View) (m m' : Meter) → r.at + q ≤ length (segment_read r) → used ≡ kept_count b (words_from r q) → Begins s k n old mid → n ≤ length ws + q →
     TakesForCopy (children_original r used) (change b (call_at k 0 mid new) m m') → TakesForCopy (sections_original ws r q) (change b (call_at s 0 old new) m m')
@@ -311,7 +312,7 @@ pub sections_stop_behind : (ws : List ℕ) (r : Reading) (q used n : ℕ) (b : F
 unfolding stops_sooner
 sections_stop_behind ws r q used n b s k old mid new m m' fewer begun less (off, made) = inr (stops_sooner fewer off, made_more (omega (arith, less)) (omega arith) (made_object begun made))
 
--- elements with sections that are no wider take no more words
+-- Elements whose sections aren't wider don't take more words.
 pub no_wider : (n a b c d : ℕ) → a ≤ c → b ≤ d → n * (a + b) ≤ n * (c + d)
 no_wider n a b c d l m = mul-le-mul_left n (omega (arith, l, m))
 
@@ -342,7 +343,7 @@ capability_value_takes {b} {s} {p} {i} {old} {new} r m m' (Err k) object o = eli
   | inr x ↦ rw (x.0, o.unchanged) (default_stop_takes object)
 ]
 
--- an object is read, and there is no room for it
+-- An object is read, and there is no room for it.
 entered_takes : (r : Reading) (b : Form) (s : ℕ) (old new : View) (m m' m'' : Meter) {a : Target} → Entered Value r m m' a → m'' ≡ m' → MakesAtMost s old new 0 0 → TakesUntilStop (value_original r) (change b (call_at s 0 old new) m m'')
 entered_takes r b s old new m m' m'' {a} o same none =
     subst (λ n. TakesUntilStop (value_original r) (change b (call_at s 0 old new) m n)) (sym same) (here (inr (a, o)), none)
@@ -429,7 +430,8 @@ flat_takes {r} size start (a, o, z, small, at, es, ec) made =
 pub flat_stop_takes : {r : Reading} {b : Form} {s i : ℕ} {old new : View} {m m' : Meter} (size : ElementSize) (start : Place) → IsObject Value r m m' (ObjectFlat start size i) → TakesNone old new → TakesUntilStop (value_original r) (change b (call_at s 0 old new) m m')
 flat_stop_takes {r} {b} {s} {old = old} {new} {m} {m'} size start (a, o, z, small, at, es, ec) none = entered_takes r b s old new m m' m' o refl (made_none none)
 
--- A list that is read of which nothing is taken, as of one that is too long; and one of numbers.
+-- Nothing is allocated for a list that was read, such as one that is too long; and a list of
+-- numbers.
 
 pub nothing_for_list : (size : ElementSize) (sections : StructSize) (n : ℕ) (r : Reading) (b : Form) (m : Meter) (P : ℕ → ℕ → Type 0) → P 0 0 → (list_original size sections n r).takes_until b m m P
 nothing_for_list Pointer sections n r b m P none = inl (refl, none)
@@ -446,7 +448,8 @@ pub numbers_take : {A E : Type 0} (result : Result A E) (size : ElementSize) (n 
 numbers_take (Ok x) size n r b s p old new m made = (refl, made)
 numbers_take (Err k) size n r b s p old new m none = (refl, made_none none)
 
--- The law of what is made: its words and its pads are all that is taken, and there is no pad where all of it stays in one segment.
+-- The law of what is made: only its words and its pads are allocated, and there is no pad if all of
+-- it stays in one segment.
 
 made_words : {id words pads : ℕ} {old new : View} → Makes id old new words pads → message_words new.words ≡ message_words old.words + (words + pads)
 made_words {old = old} {new} (no_object none) = omega (arith, same_words old.words new.words none.words)
@@ -458,8 +461,8 @@ pub pads_apart : (id words pads : ℕ) (old new : View) → Makes id old new wor
     (message_words new.words ≡ message_words old.words + (words + pads)) × (id < length old.words → StayInSegment old new id words → pads ≡ 0)
 pads_apart id words pads old new made = (made_words made, λ there stays. no_pad made there stays)
 
--- The law of what a budget covers. Before the object where reading breaks off at most one pointer more is followed than words were
--- granted.
+-- The law of what a budget covers. Before the object at which reading breaks off, at most one
+-- pointer more is followed than words were granted.
 
 abbrev pub Covered : Bool → Meter → ℕ → ℕ → Type 0
 Covered charging m g f = Affords charging m g × (f ≤ g + 1)
@@ -491,11 +494,12 @@ covered_until : {form : Form} {P : Reading → Meter → Meter → Type 0} {r : 
 covered_until {r = r} {m} (here stops) = (affords_none r.charging m, omega arith)
 covered_until (below a q o before rest) = covered_below (spent_until rest).words (spent_until rest).pointers o before (covered_until rest)
 
--- where it is charged, of a budget of x words
+-- If the reading is charged, the words granted are within a budget of x words.
 pub covered_by : (charging : Bool) (m : Meter) (g x : ℕ) → charging ≡ true → m.left ≡ Some x → Affords charging m g → g ≤ x
 covered_by charging m g x charged budget covers = let all : Affords true m g = subst (λ b. Affords b m g) charged covers in rw budget at all
 
--- Of an original x words are granted at most.
+-- The call takes at most x words and x + 1 pads, and follows at most x + 1 pointers. It takes no
+-- pad if x words stay in the segment of the pointer.
 abbrev pub TakesFew : Change → ℕ → Type 0
 TakesFew c x = (made : MakesAtMost c.segment c.old c.new x (x + 1)) × (message_words c.new.words ≤ message_words c.old.words + x + made.pads) ×
     (c.segment < length c.old.words → StayInSegment c.old c.new c.segment x → made.pads ≡ 0) × (c.after.followed ≤ c.before.followed + (x + 1))

@@ -1,4 +1,4 @@
--- Where the words of a value, and of children, stand once they are copied behind those of a segment.
+-- Where the words of a value, and of children, are after a copy to the end of a segment.
 use Rattle.std.proofs.Common.{◌≡◌, ℕ}
 use Rattle.capnp_format.specs.Segments.{Segments, segment}
 use Rattle.capnp_format.specs.Tree.{Tree, Trees}

@@ -1,4 +1,4 @@
--- What a copy keeps of children, and of elements: as many as there were, and of the same sizes.
+-- What a copy keeps of children and of elements: their number, and their sizes.
 use Rattle.std.proofs.Common.{◌≡◌, ℕ, ◌+◌, List, refl, ap, ◌∙◌}
 use Rattle.capnp_format.specs.Tree.{Tree, Pointers, Trees, no_trees, tree, Elements, no_elements, element, count, element_count}
 use Rattle.capnp_format.specs.Canonical.{take_trees, cut_to, word_count, word_count_all, word_count_elements}
@@ -12,7 +12,7 @@ use Rattle.capnp_copies.proofs.ChildrenCopied.{trim_each-with_last}
 use Rattle.capnp_copies.proofs.UsedChildren.{take_trees-trim}
 use Rattle.capnp_copies.proofs.Shapes.{AreShaped, AreShapedElements, trim_each-shaped, trim_elements-shaped}
 
--- children
+-- Children.
 
 pub kept_none : (b : Form) → kept_each b no_trees ≡ no_trees
 kept_none canonical = refl
@@ -45,9 +45,9 @@ pub take_trees-kept : (b : Form) (n : ℕ) (ts : Trees) → take_trees n (kept_e
 take_trees-kept canonical n ts = take_trees-trim n ts
 take_trees-kept _ n ts = refl
 
--- elements
+-- Elements.
 
--- the elements of a list in the sections of its copy
+-- The elements of a list in the sections of its copy.
 abbrev pub cut_kept : Form → ElementSizes → Elements → Elements
 cut_kept b sizes es = cut_to sizes.kept.data_words sizes.kept.pointers (kept_elements b es)
 
@@ -62,7 +62,7 @@ kept_elements-count _ es = refl
 pub cut_kept-count : (b : Form) (e q : ℕ) (es : Elements) → element_count (cut_to e q (kept_elements b es)) ≡ element_count es
 cut_kept-count b e q es = cut_to-count e q (kept_elements b es) ∙ kept_elements-count b es
 
--- the words of the first element, and of those behind it
+-- The words of the first element, and of those after it.
 pub words_of_first : (b : Form) (sizes : ElementSizes) (ws : List ℕ) (ts : Trees) (es : Elements) →
     word_count_elements (cut_kept b sizes (element ws ts es)) ≡ word_count_all (take_trees sizes.kept.pointers (kept_each b ts)) + word_count_elements (cut_kept b sizes es)
 words_of_first canonical sizes ws ts es = refl

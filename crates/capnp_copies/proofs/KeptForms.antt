@@ -1,4 +1,4 @@
--- What a copy keeps of structs and of elements, in canonical form and as they stand.
+-- What a copy keeps of structs and of elements, in canonical form and in the plain one.
 use Rattle.std.proofs.Common.{◌≡◌, ℕ, zero, suc, ◌+◌, ◌*◌, ◌<◌, ◌≤◌, List, length, take, refl, sym, ap, ap₂, ◌∙◌, subst, arith, length-take}
 use Rattle.std.proofs.lemmas.List.{take_all}
 use Rattle.capnp_words.specs.declared.wire_pointer.StructSize.{StructSize}
@@ -29,15 +29,15 @@ use Rattle.capnp_copies.proofs.ListSteps.{AreLeast, trimmed_list}
 use Rattle.capnp_copies.proofs.UsedChildren.{used_children, means_taken, trim-struct}
 use Rattle.capnp_objects.proofs.Shorthands.{MeanThere, ElementsMean}
 
--- words
+-- Words.
 
 pub kept_count-le : (b : Form) (ws : List ℕ) → kept_count b ws ≤ length ws
 kept_count-le canonical ws = used_words-le ws
 kept_count-le _ ws = omega arith
 
--- children
+-- Children.
 
--- what stops among the first pointers stops among them all
+-- If reading stops among the first pointers, it stops among all of them.
 unfoldable pub stops_sooner : {form : Form} {P : Reading → Meter → Meter → Type 0} {r : Reading} {m m' : Meter} {q used : ℕ} → used ≤ q → StopsAmong form P r used m m' → StopsAmong form P r q m m'
 stops_sooner le h = record { first = h.first; fewer = omega (arith, h.fewer, le); mid = h.mid; are_read = h.are_read; stops = h.stops }
 
@@ -45,13 +45,14 @@ take_count : (ts : Trees) → take_trees (count ts) ts ≡ ts
 take_count no_trees = refl
 take_count (tree t ts) = ap (tree t) (take_count ts)
 
--- The kept pointers of a struct of these data words are meant, and it takes so many words.
+-- The kept pointers of a struct of these data words are meant, at cost c, and the kept struct takes
+-- the words of its sections and of its children.
 pub record SectionsMeant (b : Form) (ws : List ℕ) (r : Reading) (least : StructSize) (us : Trees) (c : ℕ) : Type 0 where
   pub counts : count (take_trees least.pointers us) ≡ least.pointers
   pub means : MeanThere r (take_trees least.pointers us) c
   pub words : word_count (kept b (Struct ws us)) ≡ least.data_words + least.pointers + word_count_all (kept_each b (take_trees least.pointers us))
 
--- The sections that are kept of a struct of these data words, of whose pointers r is the first of q.
+-- The sections that are kept of a struct of these data words with q pointers from r on.
 pub record SectionsCut (b : Form) (ws : List ℕ) (r : Reading) (q : ℕ) (least : StructSize) : Type 0 where
   pub inside : r.at + q ≤ length (segment_read r)
   pub of_data : least.data_words ≡ kept_count b ws
@@ -73,7 +74,7 @@ sections_meant _ {ws} {r} {q} {least} us c cut len all =
     let whole : take_trees least.pointers us ≡ us = ap (λ i. take_trees i us) (sym counts) ∙ take_count us in
     record { counts = ap count whole ∙ counts; means = subst (λ ts. MeanThere r ts c) (sym whole) all; words = omega (arith, cut.of_data, counts, ap word_count_all whole) }
 
--- elements
+-- Elements.
 
 cut_same : (S : Segments) (n s p d q : ℕ) (es : Elements) (c : ℕ) → MeansElements S n s p d q es c → cut_to d q es ≡ es
 cut_same S n s p d q no_elements c h = refl
@@ -91,28 +92,28 @@ list_kept canonical r size least es c inside widths all =
 list_kept _ r size least es c inside same all =
     ap (Structs size.data_words size.pointers) (sym (cut_same r.segments r.levels r.segment r.at size.data_words size.pointers es c all)) ∙ ap (λ s. Structs s.data_words s.pointers (cut_to s.data_words s.pointers es)) (sym same)
 
--- how many words a list of structs takes that is kept
+-- The number of words of a list of structs that is kept.
 pub words_of_kept_list : (b : Form) (r : Reading) (size least : StructSize) (i : ℕ) (es : Elements) (c : ℕ) → r.at + i * (size.data_words + size.pointers) ≤ length (segment_read r) → KeepsWidths b r size i least → element_count es ≡ i → ElementsMean r size es c →
     word_count (kept b (Structs size.data_words size.pointers es)) ≡ 1 + i * (least.data_words + least.pointers) + word_count_elements (cut_to least.data_words least.pointers (kept_elements b es))
 words_of_kept_list b r size least i es c inside widths len all =
     ap word_count (list_kept b r size least es c (subst (λ k. r.at + k * (size.data_words + size.pointers) ≤ length (segment_read r)) (sym len) inside) (subst (λ k. KeepsWidths b r size k least) (sym len) widths) all)
     ∙ ap (λ j. 1 + j * (least.data_words + least.pointers) + word_count_elements (cut_to least.data_words least.pointers (kept_elements b es))) (cut_kept-count b least.data_words least.pointers es ∙ len)
 
--- No pointer that is used of i elements is cut.
+-- No pointer that is used in i elements is cut.
 abbrev pub KeepsPointers : Form → Reading → ElementSizes → ℕ → Type 0
 KeepsPointers canonical r sizes i =
     most_used (segment_read r) (r.at + sizes.source.data_words) sizes.source.pointers
     (sizes.source.data_words + sizes.source.pointers) i ≤ sizes.kept.pointers
 KeepsPointers _ r sizes i = sizes.kept ≡ sizes.source
 
--- The n elements lie in the source, and no section that is used is cut.
+-- The n elements are inside the source, and no section that is used is cut.
 pub record SourceKept (b : Form) (r : Reading) (sizes : ElementSizes) (n : ℕ) : Type 0 where
   pub inside : r.at + n * (sizes.source.data_words + sizes.source.pointers) ≤ length (segment_read r)
   pub less_data : sizes.kept.data_words ≤ sizes.source.data_words
   pub less_pointers : sizes.kept.pointers ≤ sizes.source.pointers
   pub used : KeepsPointers b r sizes n
 
--- the kept pointers of an element are meant
+-- The kept pointers of an element are meant.
 pub row_kept : (b : Form) (r : Reading) (sizes : ElementSizes) (n j : ℕ) (us : Trees) (c : ℕ) → SourceKept b r sizes n → j < n → count us ≡ sizes.source.pointers → MeanThere (pointers_of r sizes.source j) us c →
     MeanThere (pointers_of r sizes.source j) (take_trees sizes.kept.pointers us) c
 row_kept canonical r sizes n j us c fits less len all =
@@ -124,11 +125,12 @@ row_kept canonical r sizes n j us c fits less len all =
 row_kept _ r sizes n j us c fits less len all =
     subst (λ ts. MeanThere (pointers_of r sizes.source j) ts c) (sym (ap (λ i. take_trees i us) (ap (λ s. s.pointers) fits.used ∙ sym len) ∙ take_count us)) all
 
--- the row of words of an element
+-- The row of words of an element.
 abbrev pub element_words : Reading → ElementSizes → ℕ → List ℕ
 element_words r sizes j = words_at r.segments r.segment (r.at + j * (sizes.source.data_words + sizes.source.pointers)) sizes.kept.data_words
 
--- elements that were read, with one more of which the kept pointers were, at a cost of n words and k pointers
+-- Elements es that were read, and one more with its kept pointers read, at a cost of n words and k
+-- pointers.
 pub record OneMore (b : Form) (r : Reading) (sizes : ElementSizes) (m m' : Meter) (es : Elements) (ts : Trees) (n k : ℕ) : Type 0 where
   pub all : Elements
   pub counts : element_count all ≡ suc (element_count es)
@@ -178,7 +180,7 @@ one_more _ r sizes n m m' m'' es ts fits all less len one =
       follows = omega (arith, pointers_in-with_last_element es ws ts);
     }
 
--- elements of which no section is kept
+-- Elements without a kept section.
 
 pub record Blank (b : Form) (r : Reading) (sizes : ElementSizes) (j : ℕ) (m : Meter) : Type 0 where
   pub all : Elements

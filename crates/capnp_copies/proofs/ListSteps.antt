@@ -1,4 +1,5 @@
--- A list of structs that is copied into the segment of its pointer, from where its words are taken: its elements.
+-- A list of structs that is copied into the segment of its pointer, once its words are allocated:
+-- its elements.
 use Rattle.std.proofs.Common.{◌≡◌, ℕ, ◌+◌, ◌*◌, ◌<◌, ◌≤◌, ◌∷◌, ◌++◌, List, [], length, set, take, replicate, sym, ap, ap₂, ◌∙◌, arith, append_assoc, append-nil}
 use Rattle.std.proofs.Math.Seq.{take-append-add}
 use Rattle.capnp_words.specs.declared.wire_pointer.StructSize.{StructSize}
@@ -29,7 +30,7 @@ pub record AreLeast (r : Reading) (size least : StructSize) (i : ℕ) : Type 0 w
   pub of_data : least.data_words ≡ data_used (segment_read r) r.at size.data_words size.pointers i
   pub of_pointers : least.pointers ≡ pointers_used (segment_read r) r.at size.data_words size.pointers i
 
--- the canonical form of a list of structs, its elements being meant
+-- The canonical form of a list of structs that is meant.
 
 pub trimmed_list : {r : Reading} {size least : StructSize} {i : ℕ} (es : Elements) (c : ℕ) → r.at + i * (size.data_words + size.pointers) ≤ length (segment_read r) → AreLeast r size least i → element_count es ≡ i → ElementsMean r size es c →
     trim (Structs size.data_words size.pointers es) ≡ Structs least.data_words least.pointers (cut_to least.data_words least.pointers (trim_elements es))
@@ -42,12 +43,13 @@ trimmed_list {r} {size} {least} {i} es c inside is_least len all =
     ∙ ap₂ (λ j k. Structs j k (cut_to j k (trim_elements es))) (data_where_meant r size es c all ∙ of_data)
     (pointers_where_meant r size es c (rw len inside) all ∙ of_pointers)
 
--- The words of a list are taken: its tag, of the sections that are kept, and words of zero for its elements.
+-- The words of a list are allocated: its tag, with the sections that are kept, and zero words for
+-- its elements.
 pub record ListBegun (least : StructSize) (i : ℕ) (old mid : View) (id at head : ℕ) : Type 0 where
   pub place : IsPlace old.words id at
   pub taken : TakesWords old mid id head (struct_word i least.data_words least.pointers ∷ replicate (i * (least.data_words + least.pointers)) 0)
 
--- the tag of a list of structs, and its elements, once they are put, and the list's pointer
+-- The tag of a list of structs, and its elements, once they are written, and the list's pointer.
 pub list_put : {b : Form} {r : Reading} {size least : StructSize} {i count : ℕ} {old mid last new : View} {id at head x : ℕ} {m m' : Meter} → ListBegun least i old mid id at head → (elements : CopiesElements r (record { count = count; source = size; kept = least }) i (call_of b mid last id m m') (head + 1)) →
     x ≡ list_word (offset_to at (length (segment old.words id))) 7 (i * (least.data_words + least.pointers)) → new ≡ record last { words = with_word last.words id at x } → IsCopied old.words new.words id at (Structs least.data_words least.pointers (cut_to least.data_words least.pointers (kept_elements b elements.elements)))
 list_put {b} {r} {size} {least} {i} {old} {mid} {last} {new} {id} {at} {head} {x} begun elements word writes =

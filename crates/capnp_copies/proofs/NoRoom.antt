@@ -1,5 +1,5 @@
--- Where a part of a copy comes to an object for which there is no room, so does the whole: with what was spent before, it is more than
--- the segment of the place has room for.
+-- If part of a copy comes to an object without room, so does the whole: with the words spent
+-- before, the object is more than the segment of the place has room for.
 use Rattle.std.proofs.Common.{◌≡◌, inl, inr, ℕ, pred, ◌+◌, ◌*◌, ◌<◌, ◌≤◌, List, length, sym, ◌∙◌, subst, arith, length-take, drop}
 use Rattle.capnp_words.specs.declared.error.ErrorKind.{ErrorKind}
 use Rattle.capnp_words.specs.declared.wire_pointer.StructSize.{StructSize}
@@ -29,11 +29,11 @@ use Rattle.capnp_copies.proofs.ObjectsMade.{TakesForCopy, Begins, full_before, f
 use Rattle.capnp_copies.proofs.ObjectsRead.{inside}
 use Rattle.capnp_making.specs.Makes.{call_at}
 
--- An object was read, and n words are to be made of it.
+-- An object was read, and n words have to be made of it.
 abbrev pub WantsWords : Form → ℕ → Reading → Meter → Meter → Type 0
 WantsWords form n r m m' = (a : Target) × Entered Value r m m' a × IsMadeOf form r a n
 
--- A child, where those before it are copied.
+-- A child, after those before it are copied.
 pub child_comes : {r : Reading} {b : Form} {s i n : ℕ} {old mid : View} (new : View) {m m' m'' : Meter} {k : ErrorKind} → s < length old.words → i < n → KeepsMemory old mid → TakesForCopy (children_original r i) (change b (call_at s 0 old mid) m m') →
     LacksRoom (value_original (behind r i)) (change b (call_at s 0 mid new) m' m'') k → ComesToObject (children_original r n) b m m'' (FindsNoRoom (change b (call_at s 0 old new) m m'') k)
 child_comes new inside less memory taken (inl none) = absurd none.2
@@ -44,7 +44,7 @@ child_comes {r} {b} {s} {i} {old = old} {mid} new {m' = m'} {m''} {k} inside les
       (words_refused_after old mid new w k memory refused, omega (arith, full_before old mid ((spent_until here.0).words + w) inside made here.1)),
     )
 
--- An element, where those before it are copied.
+-- An element, after those before it are copied.
 pub row_comes : {r : Reading} {sizes : ElementSizes} {b : Form} {s i n : ℕ} {old mid : View} (new : View) {m m' m'' : Meter} {k : ErrorKind} → SourceKept b r sizes n → s < length old.words → i < n → KeepsMemory old mid →
     TakesForCopy (elements_original r sizes i) (change b (call_at s 0 old mid) m m') → ComesToObject (children_original (pointers_of r sizes.source i) sizes.kept.pointers) b m' m'' (FindsNoRoom (change b (call_at s 0 mid new) m' m'') k) →
     ComesToObject (elements_original r sizes n) b m m'' (FindsNoRoom (change b (call_at s 0 old new) m m'') k)
@@ -56,7 +56,7 @@ row_comes {r} {sizes} {b} {s} {old = old} {mid} new {m' = m'} {m''} {k} fits ins
       (words_refused_after old mid new w k memory refused, omega (arith, full_before old mid ((spent_among here.0).words + w) inside made here.1)),
     )
 
--- The pointers that are kept of a struct, behind its words.
+-- The kept pointers of a struct, after its words.
 pub sections_come : (ws : List ℕ) {r : Reading} {q used n : ℕ} {b : Form} {s h : ℕ} {old made : View} (new : View) {m m' : Meter} {k : ErrorKind} → used ≤ q → n ≤ length ws + q → Begins s h n old made →
     ComesToObject (children_original r used) b m m' (FindsNoRoom (change b (call_at h 0 made new) m m') k) → ComesToObject (sections_original ws r q) b m m' (FindsNoRoom (change b (call_at s 0 old new) m m') k)
 unfolding stops_sooner
@@ -74,7 +74,7 @@ pub structs_come : {r : Reading} (sizes : ElementSizes) {i n : ℕ} {b : Form} {
 structs_come sizes {old = old} {mid} new {k = k} less begun (w, stops, (refused, full)) =
     (w, stops, (words_refused_after old mid new w k begun.memory refused, omega (arith, full_behind old mid ((spent_among_elements stops).words + w) begun full, less)))
 
--- An object that was read, and of which so many words are made.
+-- An object that was read, without room for the n words that have to be made of it.
 pub entered_comes : {r : Reading} {m m' m'' : Meter} {a : Target} {n : ℕ} (c : Change) (k : ErrorKind) → Entered Value r m m' a → IsMadeOf c.form r a n → m'' ≡ m' → FindsNoRoom c k n n → ComesToObject (value_original r) c.form m m'' (FindsNoRoom c k)
 entered_comes {r} {m} {a = a} {n} c k o made same (refused, full) =
     subst (λ x. ComesToObject (value_original r) c.form m x (FindsNoRoom c k)) (sym same) (n, here (a, o, made), (refused, omega (arith, full)))

@@ -1,5 +1,5 @@
--- The segment of pointers for which objects are made: what it has afterwards, and that it has no room for all where it has none for
--- what comes behind them.
+-- The segment of pointers for which objects are made: what it has afterwards. If it has no room for
+-- what comes after them, it had no room for all.
 use Rattle.std.proofs.Common.{◌≡◌, inl, inr, ℕ, ◌+◌, ◌-◌, ◌^◌, ◌<◌, ◌≤◌, length, refl, ap, ◌∙◌, subst, arith}
 use Rattle.std.proofs.lemmas.Bool.{cases_lt}
 use Rattle.capnp_words.specs.declared.wire_pointer.StructSize.{StructSize}
@@ -19,7 +19,7 @@ use Rattle.capnp_copies.specs.Growth.{Makes, no_object, near, far, both, MakesAt
 use Rattle.capnp_copies.specs.Originals.{Original}
 use Rattle.capnp_copies.proofs.Copying.{there}
 
--- What a copy takes where all is read, and where it is refused.
+-- What a copy takes if all is read, and if it is refused.
 
 abbrev pub TakesForCopy : {V : Type 0} → Original V → Change → Type 0
 TakesForCopy o c = o.takes c.form c.before c.after (MakesAtMost c.segment c.old c.new)
@@ -29,7 +29,7 @@ TakesUntilStop o c = o.takes_until c.form c.before c.after (MakesAtMost c.segmen
 
 -- An object that is made.
 
--- An object of n words is made for a pointer of segment id, and its own pointers stand in segment k.
+-- An object of n words is made for a pointer of segment id, and its own pointers are in segment k.
 pub record Begins (id k n : ℕ) (old mid : View) : Type 0 where
   pub there : id < length old.words
   pub taken : TakesWords old mid id n
@@ -37,7 +37,7 @@ pub record Begins (id k n : ℕ) (old mid : View) : Type 0 where
   pub near : HasOwnRoom old id n → k ≡ id
   pub far : old.room id < length (segment old.words id) + n → IsNextRoom old (n + 1) k
 
--- a struct without words starts in the segment of its pointer
+-- A struct without words starts in the segment of its pointer.
 empty_start : (S R : Segments) (s p : ℕ) (h : Start) → IsPlace S s p → R ≡ with_word S s p (struct_word (2 ^ 30 - 1) 0 0) → LeadsToStart R s p h → h.segment ≡ s
 empty_start S R s p h place writes lead =
     let x : ℕ = struct_word (2 ^ 30 - 1) 0 0 in
@@ -62,7 +62,7 @@ made_segments (near n mid room takes rest) = omega (arith, takes.0.segments, mad
 made_segments (far n k mid elsewhere full next takes rest) = omega (arith, takes.0.segments, made_segments rest)
 made_segments (both mid first rest) = omega (arith, made_segments first, made_segments rest)
 
--- The segment of the pointers has all the words, where there is no pad.
+-- The segment of the pointers has all the words if there is no pad.
 pub record HasAll (id words : ℕ) (old new : View) : Type 0 where
   pub long : length (segment new.words id) ≡ length (segment old.words id) + words
   pub room : new.room id ≡ old.room id
@@ -95,7 +95,8 @@ no_pad (both mid first rest) there (inr one) = omega (
   no_pad rest (omega (arith, there, made_segments first)) (inr one),
 )
 
--- Where no room is left for what comes behind objects that were made, there was none for all.
+-- If no room is left for w words after objects of n words were made, there was none for n + w
+-- words.
 pub full_before : {id n p : ℕ} (old mid : View) (w : ℕ) → id < length old.words → MakesAtMost id old mid n p → mid.room id < length (segment mid.words id) + w →
     old.room id < length (segment old.words id) + (n + w)
 full_before {id} {n} old mid w there x full = elim (cases_lt (old.room id) (length (segment old.words id) + (n + w))) [
@@ -107,7 +108,8 @@ full_before {id} {n} old mid w there x full = elim (cases_lt (old.room id) (leng
       )
 ]
 
--- Where no room is left behind an object for what its pointers lead to, there was none for both.
+-- If no room is left for w words after an object of n words, the segment of its pointer had none
+-- for n + w words.
 pub full_behind : {id k n : ℕ} (old mid : View) (w : ℕ) → Begins id k n old mid → mid.room k < length (segment mid.words k) + w →
     old.room id < length (segment old.words id) + (n + w)
 full_behind {id} {k} {n} old mid w o full = elim (cases_lt (old.room id) (length (segment old.words id) + (n + w))) [
@@ -119,6 +121,6 @@ full_behind {id} {k} {n} old mid w o full = elim (cases_lt (old.room id) (length
       )
 ]
 
--- A segment has no room for an object that finds none.
+-- If an object has no room, its segment has none for it.
 pub no_own_room : (v : View) (id n : ℕ) → (HasRoom v id n → ⊥) → v.room id < length (segment v.words id) + n
 no_own_room v id n full = let none : HasOwnRoom v id n → ⊥ = λ room. full (inl room) in omega (arith, none)

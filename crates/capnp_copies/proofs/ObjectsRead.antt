@@ -1,4 +1,4 @@
--- What a pointer means, where its object was read.
+-- What a pointer means, once its object was read.
 use Rattle.std.proofs.Common.{◌≡◌, inl, inr, ℕ, Bool, pred, ◌+◌, refl, sym, ap, ◌∙◌, subst, arith}
 use Rattle.capnp_words.specs.declared.error.ErrorKind.{ErrorKind}
 use Rattle.capnp_words.specs.declared.error.ErrorKind.TheVariants.{CannotCreateACanonicalMessageWithACapability, InlineCompositeListsElementsOverrunItsWordCount, InlineCompositeListsOfNonStructTypeAreNotSupported, MalformedDoubleFarPointer, MessageContainsOutOfBoundsPointer, MessageIsTooDeeplyNestedOrContainsCycles, UnknownPointerType}
@@ -24,8 +24,8 @@ use Rattle.capnp_objects.specs.Wanted.{Form, plain, canonical, of_default, Break
 use Rattle.capnp_objects.specs.declared.object.Purpose.TheVariants.{Value}
 use Rattle.capnp_objects.proofs.Stops.{same_word}
 
--- An object by its form, and by the levels of its place in other words: over plain readings, since what an object of no
--- known form is takes long to write out.
+-- An object by its form, and by another name for the levels of its place: for plain readings, since
+-- an object without a known form takes long to write out.
 
 pub object_read : (r : Reading) (m m' : Meter) {o x : Object} {l : ℕ} → o ≡ x → l ≡ r.levels → IsObject Value (record r { levels = l }) m m' o → IsObject Value r m m' x
 object_read r m m' {o} {x} {l} is same object = subst (λ y. IsObject Value r m m' y) is (subst (λ k. IsObject Value (record r { levels = k }) m m' o) same object)
@@ -33,11 +33,11 @@ object_read r m m' {o} {x} {l} is same object = subst (λ y. IsObject Value r m 
 pub few_read : {o x : Object} → o ≡ x → IsFew o → IsFew x
 few_read is few = subst IsFew is few
 
--- the start of an object, with so many levels
+-- The start of an object, with these levels.
 abbrev pub inside : Reading → ℕ → Place → Reading
 inside r levels start = record r { levels = levels; segment = start.segment; at = start.at }
 
--- what a plain reading breaks, one in any form breaks too
+-- What breaks a plain reading breaks one in any form.
 
 still_refused : (form : Form) (S : Segments) (n : ℕ) (a : Target) (k : ErrorKind) → BreaksObject Value plain S n a k → BreaksObject Value form S n a k
 still_refused form S n a CannotCreateACanonicalMessageWithACapability h = absurd (let e = h.0 in cc e)
@@ -55,7 +55,7 @@ stopped_in {r} {k = k} form (broken a f h paid) = broken a f (still_refused form
 stopped_in form (claim_exceeds a f level object claims short paid named) = claim_exceeds a f level object claims short paid named
 stopped_in form (count_exceeds a f meets short paid named) = count_exceeds a f meets short paid named
 
--- a capability is refused in canonical form, and in a default
+-- A capability is refused in canonical form, and in a default.
 
 pads_paid : (charging : Bool) (m m' : Meter) (g : ℕ) → Affords charging m g → m' ≡ after charging m g 1 → Paid charging m m' (g + 0) 1
 pads_paid charging m m' g covers spent =
@@ -68,7 +68,7 @@ capability_stopped {r} m m' i (a, l, low, e, covers, spent) = broken a l (refl, 
 pub default_stopped : {r : Reading} (m m' : Meter) (i : ℕ) → IsObject Value r m m' (ObjectCapability i) → Stopped Value of_default r m m' UnknownPointerType
 default_stopped {r} m m' i (a, l, low, e, covers, spent) = broken a l (omega (arith, low), inr refl) (pads_paid r.charging m m' a.pads covers spent)
 
--- what is meant where an object was read
+-- What is meant, once an object was read.
 
 abbrev pub MeansStruct : Segments → ℕ → Target → Tree → Type 0
 MeansStruct S n a t =
@@ -116,7 +116,7 @@ means_structs r (Structs d q es) a (c, (b, m, k, some, o, claims, t, fits, all, 
       rw (t.data_of, t.pointers) refl,
     )
 
--- a list of numbers
+-- A list of numbers.
 
 pub flat_held : {r : Reading} (m m' : Meter) (start : Place) (size : ElementSize) (i : ℕ) → IsObject Value r m m' (ObjectFlat start size i) → words_of start.bytes.now ≡ segment r.segments start.segment
 flat_held m m' start size i (a, o, z, small, (held, es, eb), ez, ei) = held.0

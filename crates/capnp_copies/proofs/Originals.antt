@@ -1,4 +1,5 @@
--- What is copied: what of it can be read, when it is too large, and a copy of it that is refused halfway.
+-- What is copied: what can be read of it, when it is too large, and a copy of it that is refused
+-- halfway.
 use Rattle.std.proofs.Common.{◌≡◌, ◌≢◌, ◌⊎◌, inl, inr, ℕ, ◌+◌, ◌-◌, ◌^◌, ◌<◌, Bool, true, false, None, List, length, refl, sym, subst, arith}
 use Rattle.capnp_words.specs.declared.error.ErrorKind.{ErrorKind}
 use Rattle.capnp_words.specs.declared.error.ErrorKind.TheVariants.{MessageTooLarge}
@@ -26,17 +27,18 @@ use Rattle.capnp_copies.specs.Rooms.{CanBeCopied}
 use Rattle.capnp_copies.specs.declared.widths.ElementSizes.{ElementSizes}
 use Rattle.capnp_objects.proofs.Shorthands.{MeanThere, ElementsMean, RefusedAll}
 
--- a limiter without a budget lets all be read
+-- A limiter without a budget allows all reading.
 
 affords_all : (charging : Bool) (n : ℕ) → Affords charging (unused None) n
 affords_all true n = tt
 affords_all false n = tt
 
--- whatever can be read of it has more words to be kept than fit behind so many words of a segment with this room
+-- Whatever value can be read of it, the words that are kept of that value don't fit after the
+-- `used` words of a segment with this room.
 abbrev pub ExceedsRoom : {V : Type 0} → Form → Original V → ℕ → ℕ → Type 0
 ExceedsRoom {V} form o used room = (any : Form) (m m' : Meter) (value : V) → o.reads any m m' value → room < used + o.words form value
 
--- what a place means is too large
+-- What a place means is too large.
 
 pub value_large : (b : Form) (r : Reading) (used room : ℕ) → ((t : Tree) (c : ℕ) → MeansThere r t c → room < used + word_count (kept b t)) → ExceedsRoom b (value_original r) used room
 value_large b r used room large any m m' t read = large t read.cost read.means
@@ -46,7 +48,7 @@ value_beyond b r used room large t c means =
     let read : Reads plain r (unused None) (after r.charging (unused None) c (pointers_in t)) t = record { cost = c; means = means; takes = λ f. absurd (f refl); covers = affords_all r.charging c; spent = refl } in
     large plain (unused None) (after r.charging (unused None) c (pointers_in t)) t read
 
--- a struct of these data words, of whose pointers r is the first of q
+-- A struct of these data words with q pointers from r on.
 
 abbrev pub AreTooLargeSections : Form → List ℕ → Reading → ℕ → ℕ → ℕ → Type 0
 AreTooLargeSections b ws r q used room = (ts : Trees) (c : ℕ) → count ts ≡ q → MeanThere r ts c → room < used + word_count (kept b (Struct ws ts))
@@ -63,7 +65,7 @@ sections_large b ws r q used room large any m m' t (ts, is, counts, read) = subs
 pub sections_beyond : (b : Form) (ws : List ℕ) (r : Reading) (q used room : ℕ) → ExceedsRoom b (sections_original ws r q) used room → AreTooLargeSections b ws r q used room
 sections_beyond b ws r q used room large ts c counts means = large plain (unused None) (after r.charging (unused None) c (pointers_in_all ts)) (Struct ws ts) (ts, refl, counts, all_read r ts c means)
 
--- i pointers from a place on
+-- i pointers from a place on.
 
 abbrev pub AreTooLarge : Form → Reading → ℕ → ℕ → ℕ → Type 0
 AreTooLarge b r i used room = (ts : Trees) (c : ℕ) → count ts ≡ i → MeanThere r ts c → room < used + word_count_all (kept_each b ts)
@@ -74,22 +76,23 @@ children_large b r i used room large any m m' ts (counts, read) = large ts read.
 pub children_beyond : (b : Form) (r : Reading) (i used room : ℕ) → ExceedsRoom b (children_original r i) used room → AreTooLarge b r i used room
 children_beyond b r i used room large ts c counts means = large plain (unused None) (after r.charging (unused None) c (pointers_in_all ts)) ts (counts, all_read r ts c means)
 
--- words are refused that are wanted
+-- If there is no room, a request for some n words is refused.
 pub refused_words : {V : Type 0} (o : Original V) (c : Change) (k : ErrorKind) → LacksRoom o c k → (n : ℕ) × RefusesWords c.old c.new n k
 refused_words o c k (inl (n, same, makes, (refused, full))) = (n, refused)
 refused_words o c k (inr (n, stops, (refused, full))) = (n, refused)
 
--- what finds no room in a message finds none in the one before
+-- If there is no room in a message, there is none in the one before, if the same objects find none
+-- there.
 pub lacks_before : {V : Type 0} (o : Original V) (c : Change) (v : View) (k : ErrorKind) → ((n all : ℕ) → FindsNoRoom c k n all → FindsNoRoom (record c { old = v }) k n all) → LacksRoom o c k → LacksRoom o (record c { old = v }) k
 lacks_before o c v k f (inl (n, same, makes, found)) = inl (n, same, makes, f n n found)
 lacks_before o c v k f (inr (n, stops, found)) = inr (n, stops, f n ((o.spent stops).words + n) found)
 
--- and none in the one behind, where the same words are refused
+-- And there is none in the one afterwards, if the same words are refused.
 pub lacks_after : {V : Type 0} (o : Original V) (c : Change) (v : View) (k : ErrorKind) → ((n : ℕ) → RefusesWords c.old c.new n k → RefusesWords c.old v n k) → LacksRoom o c k → LacksRoom o (record c { new = v }) k
 lacks_after o c v k f (inl (n, same, makes, (refused, full))) = inl (n, same, makes, (f n refused, full))
 lacks_after o c v k f (inr (n, stops, (refused, full))) = inr (n, stops, (f n refused, full))
 
--- why the copy of children is refused
+-- The reason why the copy of children is refused.
 abbrev pub ChildrenRefused : Reading → ℕ → Change → ErrorKind → Type 0
 ChildrenRefused r i c k =
     (ComesToObject (children_original r i) c.form c.before c.after (FindsNoRoom c k) × AreTooLarge c.form r i (length (segment c.old.words c.segment)) (c.old.room c.segment)) ⊎ RefusedAll c.form r i c.before c.after k
@@ -109,7 +112,7 @@ refuses_children r i c k why = elim why [
   | inr refused ↦ inr (inl refused)
 ]
 
--- a list of i pointers
+-- A list of i pointers.
 
 abbrev pub IsTooLargePointers : Form → Reading → ℕ → ℕ → ℕ → Type 0
 IsTooLargePointers b r i used room = (ts : Trees) (c : ℕ) → count ts ≡ i → MeanThere r ts c → room < used + word_count (kept b (Pointers ts))
@@ -120,7 +123,7 @@ pointers_large b r i used room large any m m' t (ts, is, counts, read) = subst (
 pub pointers_beyond : (b : Form) (r : Reading) (i used room : ℕ) → ExceedsRoom b (pointers_original i r) used room → IsTooLargePointers b r i used room
 pointers_beyond b r i used room large ts c counts means = large plain (unused None) (after r.charging (unused None) c (pointers_in_all ts)) (Pointers ts) (ts, refl, counts, all_read r ts c means)
 
--- i elements, cut to the sections of the copy
+-- i elements, cut to the sections of the copy.
 
 abbrev pub AreTooLargeElements : Form → Reading → ElementSizes → ℕ → ℕ → ℕ → Type 0
 AreTooLargeElements b r sizes i used room =
@@ -135,7 +138,7 @@ elements_large b r sizes i used room large any m m' es (counts, read) = large es
 pub elements_beyond : (b : Form) (r : Reading) (sizes : ElementSizes) (i used room : ℕ) → ExceedsRoom b (elements_original r sizes i) used room → AreTooLargeElements b r sizes i used room
 elements_beyond b r sizes i used room large es c counts means = large plain (unused None) (after r.charging (unused None) c (pointers_in_elements es)) es (counts, elements_read r sizes.source es c means)
 
--- a list of i structs of this size
+-- A list of i structs of this size.
 
 abbrev pub IsTooLargeList : Form → Reading → StructSize → ℕ → ℕ → ℕ → Type 0
 IsTooLargeList b r size i used room =
@@ -148,7 +151,7 @@ pub structs_beyond : (b : Form) (r : Reading) (size : StructSize) (i used room :
 structs_beyond b r size i used room large es c counts means =
     large plain (unused None) (after r.charging (unused None) c (pointers_in_elements es)) (Structs size.data_words size.pointers es) (es, refl, counts, elements_read r size es c means)
 
--- a list by its size
+-- A list by its size.
 
 pub pointers_listed : (size : ElementSize) (sections : StructSize) (n : ℕ) (r : Reading) (P : Original Tree → Type 0) → size ≡ Pointer → P (pointers_original n r) → P (list_original size sections n r)
 pointers_listed size sections n r P is h = subst (λ size. P (list_original size sections n r)) (sym is) h
@@ -166,7 +169,7 @@ numbers_listed TwoBytes sections n r P pointer struct h = h
 numbers_listed FourBytes sections n r P pointer struct h = h
 numbers_listed EightBytes sections n r P pointer struct h = h
 
--- how many words of a list a copy has
+-- The number of words of a list that a copy has.
 
 pub list_words : (size : ElementSize) (sections : StructSize) (n : ℕ) (r : Reading) (b : Form) (t : Tree) → (list_original size sections n r).words b t ≡ word_count (kept b t)
 list_words Pointer sections n r b t = refl
@@ -178,7 +181,7 @@ list_words TwoBytes sections n r b t = refl
 list_words FourBytes sections n r b t = refl
 list_words EightBytes sections n r b t = refl
 
--- a list that is larger than a list pointer can say
+-- A list that is larger than a list pointer can say.
 
 pub list_exceeds : (size : ElementSize) (sections : StructSize) (n : ℕ) (r : Reading) (b : Form) → (FitsListPointer size n (sections.data_words + sections.pointers) → ⊥) → (list_original size sections n r).exceeds b (MessageTooLarge (2 ^ 64 - 1))
 list_exceeds Pointer sections n r b long = (long, refl)
@@ -200,7 +203,7 @@ exceeding TwoBytes sections n r b k h = h
 exceeding FourBytes sections n r b k h = h
 exceeding EightBytes sections n r b k h = h
 
--- a copy that is refused halfway
+-- A copy that is refused halfway.
 
 abbrev pub LeavesSomeValue : Change → ErrorKind → Type 0
 LeavesSomeValue c k = ((t : Tree) × IsReplaced c.old.words c.new.words c.segment c.at Null t) × SpendsMemory c.old c.new k
@@ -208,7 +211,7 @@ LeavesSomeValue c k = ((t : Tree) × IsReplaced c.old.words c.new.words c.segmen
 pub halfway : {o : Original Tree} {c : Change} {k : ErrorKind} → RefusesToCopy o c k → LeavesSomeValue c k → StopsHalfway o c k
 halfway why left = (left.0.0, record { why = why; left = left.0.1; memory = left.1 })
 
--- one that can be copied is not refused
+-- A copy that can be made isn't refused.
 pub refused_rightly : {o : Original Tree} {c : Change} {t : Tree} {k : ErrorKind} → ((m : Meter) (u : Tree) → o.stops c.form (λ r i j. Stopped Value c.form r i j k) c.before c.after → o.reads c.form c.before m u → ⊥) → StopsCopy o c t k →
     CanBeCopied o c.form c.before c.old c.segment → ⊥
 refused_rightly {c = c} {k = k} apart stop can = elim stop.why [

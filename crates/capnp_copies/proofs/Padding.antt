@@ -1,4 +1,4 @@
--- Elements with padding of zero: by the last word alone.
+-- Elements with zero padding: only the last word matters.
 use Rattle.std.proofs.Common.{◌≡◌, ◌≢◌, bit_and, ℕ, zero, suc, ◌+◌, ◌-◌, ◌*◌, ◌/◌, ◌%◌, ◌^◌, ◌<◌, ◌≤◌, List, [], ◌∷◌, ◌++◌, length, get_or, set, take, drop, replicate, refl, sym, ap, ap₂, ◌∙◌, subst, arith, mul_comm, mul-le-mul_left, mod-lt, pow-suc, pow-add, pow_pos, append-nil, length-take, take_at, drop_at}
 use Rattle.std.proofs.Math.Nat.{pow-zero, mod-one, mod-eq_of_lt, mod-le, mod-add-div}
 use Rattle.std.proofs.lemmas.Nat.{and_mask, pow_below}
@@ -13,7 +13,7 @@ use Rattle.capnp_format.proofs.Lies.{pow_pow}
 use Rattle.capnp_arena_traits.specs.Written.{overwritten, with_word, with_words, extended}
 use Rattle.capnp_making.proofs.FieldBytes.{low, high}
 
--- remainders
+-- Remainders.
 
 regrouped : (a b m r k : ℕ) → a + b * (r + m * k) ≡ (a + b * r) + (b * m) * k
 regrouped a b m r k = omega arith
@@ -28,7 +28,7 @@ mod_split x b m some more =
     ap (λ y. y % (b * m)) (sym (mod-add-div x b) ∙ ap (λ y. x % b + b * y) (sym (mod-add-div q m)) ∙ regrouped (x % b) b m (q % m) (q / m))
     ∙ low (b * m) r (q / m) (within_both (x % b) b (q % m) m (mod-lt x some) (mod-lt q more))
 
--- the number of its lowest digits
+-- The number of its lowest n digits is a remainder.
 from_digits-mod : (b n x : ℕ) → 0 < b → ((k : ℕ) → 0 < b ^ k) → from_digits b (digits b n x) ≡ x % b ^ n
 from_digits-mod b zero x some powers = sym (ap (λ y. x % y) (pow-zero b) ∙ mod-one x)
 from_digits-mod b (suc n) x some powers =
@@ -39,7 +39,7 @@ from_digits-mod b (suc n) x some powers =
 powers_some : (e k : ℕ) → 0 < (2 ^ e) ^ k
 powers_some e k = subst (λ y. 0 < y) (sym (pow_pow e k)) (pow_pos (e * k))
 
--- elements packed again: the lowest bits of all words, and zeros
+-- Elements unpacked and packed again: the lowest bits of all words, and zeros.
 pub packed_again : (size n : ℕ) (ws : List ℕ) → packed size (unpacked size n ws) ≡ digits (2 ^ 64) (words_for size n) (from_digits (2 ^ 64) ws % 2 ^ (n * element_bits size))
 packed_again size n ws =
     let b = element_bits size in
@@ -47,7 +47,7 @@ packed_again size n ws =
     ap₂ (digits (2 ^ 64)) (ap (words_for size) (length-digits (2 ^ b) n x))
     (from_digits-mod (2 ^ b) n x (pow_pos b) (powers_some b) ∙ ap (λ y. x % y) (pow_pow b n ∙ ap (λ e. 2 ^ e) (mul_comm b n)))
 
--- where all bits are used
+-- All bits are used.
 pub none_masked : (j bits : ℕ) (ws : List ℕ) → AreBelow (2 ^ 64) ws → length ws ≡ j → bits ≡ 64 * j → digits (2 ^ 64) j (from_digits (2 ^ 64) ws % 2 ^ bits) ≡ ws
 none_masked j bits ws below long e =
     let x = from_digits (2 ^ 64) ws in
@@ -55,7 +55,7 @@ none_masked j bits ws below long e =
     let small : x < 2 ^ bits = subst (λ y. x < y) limit (from_digits-below (2 ^ 64) ws below) in
     ap₂ (digits (2 ^ 64)) (sym long) (mod-eq_of_lt small) ∙ digits-from_digits (2 ^ 64) ws below
 
--- where of the last word only the low r bits are used
+-- Only the lowest r bits of the last word are used.
 pub last_masked : (j r : ℕ) (ws : List ℕ) → AreBelow (2 ^ 64) ws → length ws ≡ suc j → digits (2 ^ 64) (suc j) (from_digits (2 ^ 64) ws % 2 ^ (64 * j + r)) ≡ set ws j (get_or ws j 0 % 2 ^ r)
 last_masked zero r [] below long = absurd (omega arith)
 last_masked (suc j) r [] below long = absurd (omega arith)
@@ -83,7 +83,7 @@ mask_is word r l =
     let one : 1 * 2 ^ r % 2 ^ 64 ≡ 2 ^ r = ap (λ x. x % 2 ^ 64) (let e : 1 * 2 ^ r ≡ 2 ^ r = omega arith in e) ∙ mod-eq_of_lt (pow_below r 64 l) in
     ap (λ x. bit_and word (x - 1)) one ∙ and_mask word r
 
--- the last word behind a mask, in the form that code has it
+-- The last word under a mask, in the form that the code has.
 pub last_behind_mask : {last : ℕ} (bits : ℕ) (ws : List ℕ) → AreBelow (2 ^ 64) ws → (bits + 63) / 64 ≡ length ws → bits % 64 ≢ 0 → last ≡ length ws - 1 →
     set ws last (bit_and (get_or ws last 0) (1 * 2 ^ (bits % 64) % 2 ^ 64 - 1)) ≡ digits (2 ^ 64) (length ws) (from_digits (2 ^ 64) ws % 2 ^ bits)
 last_behind_mask {last} bits ws below all some at =
@@ -94,7 +94,7 @@ last_behind_mask {last} bits ws below all some at =
     ∙ sym (last_masked last r ws below long)
     ∙ ap₂ (λ n b. digits (2 ^ 64) n (from_digits (2 ^ 64) ws % 2 ^ b)) (sym long) split
 
--- words of bytes
+-- Words of bytes.
 
 pub words_small : (bs : List ℕ) → ((i : ℕ) → get_or bs i 0 < 256) → AreBelow (2 ^ 64) (words_of bs)
 words_small (a ∷ b ∷ c ∷ d ∷ e ∷ f ∷ g ∷ h ∷ rest) l =
@@ -102,7 +102,7 @@ words_small (a ∷ b ∷ c ∷ d ∷ e ∷ f ∷ g ∷ h ∷ rest) l =
     (small, words_small rest (λ i. l (suc (suc (suc (suc (suc (suc (suc (suc i))))))))))
 words_small _ l = tt
 
--- segments
+-- Segments.
 
 -- The words ws have room in xs from position p on.
 pub record HasRoom (xs : List ℕ) (p : ℕ) (ws : List ℕ) : Type 0 where
@@ -116,7 +116,7 @@ word_over {xs} {ws} {p} j x l k =
     ∙ ap (λ ys. take p xs ++ ys) (set-append_left ws behind j x k)
     ∙ ap (λ n. take p xs ++ (set ws j x ++ drop n (drop p xs))) (sym (length-set ws j x))
 
--- one of the words that were written, written again
+-- One of the words that were written is written again.
 pub with_words_set : {p : ℕ} {ws : List ℕ} (S : Segments) (s j x : ℕ) → HasRoom (segment S s) p ws → j < length ws → with_word (with_words S s p ws) s (p + j) x ≡ with_words S s p (set ws j x)
 with_words_set [] s j x l k = refl
 with_words_set (xs ∷ S) zero j x l k = ap (λ ys. ys ∷ S) (word_over j x l k)
@@ -128,7 +128,7 @@ over_zeros xs ws p w e f =
     ∙ ap (λ ys. xs ++ (ws ++ ys)) (drop_all (length ws) (replicate w 0) (omega (arith, length-replicate {A = ℕ} w 0)))
     ∙ ap (λ ys. xs ++ ys) (append-nil ws)
 
--- words taken, all of them written
+-- Words are allocated, and then all of them are written.
 pub all_written : {p w : ℕ} (S : Segments) (s : ℕ) (ws : List ℕ) → s < length S → p ≡ length (segment S s) → length ws ≡ w → with_words (extended S s (replicate w 0)) s p ws ≡ extended S s ws
 all_written [] s ws l e f = absurd (omega arith)
 all_written {p} {w} (xs ∷ S) zero ws l e f = ap (λ ys. ys ∷ S) (over_zeros xs ws p w e f)

@@ -1,4 +1,5 @@
--- Where a part finds no room, the whole is too large: what a place means is known by its first parts.
+-- If part of it has no room, the whole is too large: the first parts of what a place means
+-- determine it.
 use Rattle.std.proofs.Common.{◌≡◌, ℕ, suc, ◌+◌, ◌<◌, ◌≤◌, ap, subst, arith}
 use Rattle.capnp_format.specs.Tree.{Tree, Trees, no_trees, tree, count}
 use Rattle.capnp_format.specs.Canonical.{word_count, word_count_all}
@@ -10,7 +11,7 @@ use Rattle.capnp_copies.specs.Forms.{kept, kept_each}
 use Rattle.capnp_copies.proofs.KeptChildren.{kept_none, kept_first}
 use Rattle.capnp_objects.proofs.Shorthands.{MeanThere}
 
--- as many pointers from one place on have one cost
+-- Equally many pointers from the same place on have the same cost.
 pub same_cost : (r : Reading) (ts us : Trees) (c e : ℕ) → count ts ≡ count us → MeanThere r ts c → MeanThere r us e → c ≡ e
 same_cost r no_trees no_trees c e len h g = omega (arith, h, g)
 same_cost r no_trees (tree u us) c e len h g = absurd (omega (arith, len))
@@ -18,7 +19,7 @@ same_cost r (tree t ts) no_trees c e len h g = absurd (omega (arith, len))
 same_cost r (tree t ts) (tree u us) c e len (k, x, first, others, f) (j, y, one, rest, g) =
     omega (arith, (one_value r.segments r.levels r.levels r.segment r.at t u k j first one).1, same_cost (behind r 1) ts us x y (omega (arith, len)) others rest, f, g)
 
--- the child behind the first ones, in any longer meaning of the same place
+-- The child after the first ones, in any longer list of children that the same place means.
 pub next_words : (b : Form) (r : Reading) (ts us : Trees) → (k : ℕ) × MeanThere r ts k → (c : ℕ) × MeanThere r us c → count ts < count us →
     (u : Tree) × (e : ℕ) × MeansThere (behind r (count ts)) u e × (word_count_all (kept_each b ts) + word_count (kept b u) ≤ word_count_all (kept_each b us))
 next_words b r ts no_trees h g lt = absurd (omega arith)

@@ -5,7 +5,7 @@ use Rattle.capnp_format.specs.Canonical.{used_from, used_words}
 use Rattle.capnp_objects.proofs.Walked.{row_within}
 use Rattle.capnp_copies.specs.Widths.{most_used}
 
--- what is used beyond the first n words, and at least these
+-- The words that are used, but at least n.
 used_beyond : (n : ℕ) (xs : List ℕ) → n ≤ length xs → max n (used_words xs) ≡ n + used_words (drop n xs)
 used_beyond zero xs l = omega arith
 used_beyond (suc n) [] l = absurd (omega arith)
@@ -16,14 +16,14 @@ used_beyond (suc n) (x ∷ xs) l = step (nat_eq x 0) (used_words xs) ∙ ap suc 
     step true (suc u) = omega arith
     step false u = omega arith
 
--- what is used of a section in a segment, and at least its first words
+-- The words that are used of a section in a segment, but at least its first `least` words.
 pub used_section : (ws : List ℕ) (at n least : ℕ) → least ≤ n → at + n ≤ length ws → max least (used_words (take n (drop at ws))) ≡ least + used_words (take (n - least) (drop (at + least) ws))
 used_section ws at n least l fits =
     used_beyond least (take n (drop at ws)) (omega (arith, length-take n (drop at ws), length-drop at ws))
     ∙ ap (λ m. least + used_words (drop least (take m (drop at ws)))) (let e : n ≡ least + (n - least) = omega arith in e)
     ∙ ap (λ xs. least + used_words xs) (drop-take least (n - least) (drop at ws) ∙ ap (take (n - least)) (drop-drop least at ws))
 
--- the most that elements of d data words and q pointers from position p on use
+-- The most that elements of d data words and q pointers from position p on use.
 
 abbrev pub data_used : List ℕ → ℕ → ℕ → ℕ → ℕ → ℕ
 data_used ws p d q n = most_used ws p d (d + q) n
@@ -31,11 +31,11 @@ data_used ws p d q n = most_used ws p d (d + q) n
 abbrev pub pointers_used : List ℕ → ℕ → ℕ → ℕ → ℕ → ℕ
 pointers_used ws p d q n = most_used ws (p + d) q (d + q) n
 
--- the pointers of the next element
+-- The pointers of the next element.
 pub next_used : (ws : List ℕ) (p d q n : ℕ) → most_used ws (p + d + (d + q)) q (d + q) n ≡ pointers_used ws (p + (d + q)) d q n
 next_used ws p d q n = ap (λ i. most_used ws i q (d + q) n) (let e : p + d + (d + q) ≡ p + (d + q) + d = omega arith in e)
 
--- a section of no words uses none
+-- A section without words uses none.
 
 none_used : (ws : List ℕ) (p stride n : ℕ) → most_used ws p 0 stride n ≡ 0
 none_used ws p stride zero = refl
@@ -47,7 +47,7 @@ no_data ws p q n = none_used ws p (0 + q) n
 pub no_pointers : (ws : List ℕ) (p d n : ℕ) → pointers_used ws p d 0 n ≡ 0
 no_pointers ws p d n = none_used ws (p + d) (d + 0) n
 
--- one element more is looked at
+-- One more element is counted.
 
 pub one_left : (n i : ℕ) → i < n → n - i ≡ suc (n - (i + 1))
 one_left n i l = omega arith
@@ -58,7 +58,7 @@ data_more ws p d q k least = omega arith
 pub pointers_more : (ws : List ℕ) (p d q k least : ℕ) → max least (pointers_used ws p d q (suc k)) ≡ max (max least (used_words (take q (drop (p + d) ws)))) (pointers_used ws (p + (d + q)) d q k)
 pointers_more ws p d q k least = omega (arith, next_used ws p d q k)
 
--- nothing is looked at yet, and all is
+-- No element is counted yet; and all elements are.
 
 pub none_yet : (ws : List ℕ) (p d stride n : ℕ) → max 0 (most_used ws p d stride (n - 0)) ≡ most_used ws p d stride n
 none_yet ws p d stride n =
@@ -72,7 +72,7 @@ pub none_left : (ws : List ℕ) (p d stride least : ℕ) {k all : ℕ} → k ≡
 none_left ws p d stride least {k} {all} none e =
     let f : max least (most_used ws p d stride 0) ≡ all = subst (λ j. max least (most_used ws p d stride j) ≡ all) none e in omega (arith, f)
 
--- where the sections of the next element stand
+-- The positions of the sections of the next element.
 
 pub first_at : (p w : ℕ) → p ≡ p + 0 * w
 first_at p w = omega arith

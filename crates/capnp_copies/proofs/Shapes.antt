@@ -1,4 +1,5 @@
--- Trees whose lists of structs have elements of one size each, which is all that lengths ask of a value; what a place means is of this shape.
+-- Trees whose lists of structs each have elements of one size, which is all that lengths require of
+-- a value. What a place means has this shape.
 use Rattle.std.proofs.Common.{◌≡◌, ℕ, zero, suc, pred, ◌+◌, ◌*◌, ◌≤◌, List, ◌++◌, length, replicate, refl, ◌∙◌, arith, length-append, length-take}
 use Rattle.capnp_format.specs.Numbers.{words_for}
 use Rattle.capnp_format.specs.Tree.{Tree, Null, Capability, Struct, Flat, Pointers, Structs, Trees, no_trees, tree, Elements, no_elements, element, count, element_count}
@@ -12,7 +13,8 @@ use Rattle.capnp_format.proofs.Lengths.{length-pointers}
 use Rattle.capnp_format.proofs.Trimming.{used_words-le, used_trees-le, take_trees-count, trim_each-count}
 use Rattle.capnp_objects.proofs.Shorthands.{MeanThere, ElementsMean}
 
--- while elements are copied, some of them being there and n still to come
+-- The words while elements are copied, after the words `front`: the rows of es are there, and n
+-- rows are still to come.
 abbrev pub rows_laid : List ℕ → ℕ → ℕ → Elements → ℕ → List ℕ
 rows_laid front d q es n = front ++ rows d q (n * (d + q)) es ++ replicate (n * (d + q)) 0 ++ element_bodies es
 
@@ -29,12 +31,12 @@ abbrev mutual
   AreShaped no_trees = Unit {0}
   AreShaped (tree t ts) = IsShaped t × AreShaped ts
 
-  -- of d data words and q children each
+  -- Elements of d data words and q children each.
   pub AreShapedElements : ℕ → ℕ → Elements → Type 0
   AreShapedElements d q no_elements = Unit {0}
   AreShapedElements d q (element ws ts es) = (length ws ≡ d) × (count ts ≡ q) × AreShaped ts × AreShapedElements d q es
 
--- what is meant
+-- What a place means.
 
 mutual
   pub means_shaped : (r : Reading) (t : Tree) (c : ℕ) → MeansThere r t c → IsShaped t
@@ -54,7 +56,7 @@ mutual
   elements_shaped r size (element ws ts es) c (k, l, long, len, e, all, rest, g) =
       (long, len, all_shaped (behind r size.data_words) ts k all, elements_shaped (record r { at = r.at + size.data_words + size.pointers }) size es l rest)
 
--- trimmed
+-- Trimmed trees.
 
 pub take_trees-shaped : (n : ℕ) (ts : Trees) → AreShaped ts → AreShaped (take_trees n ts)
 take_trees-shaped zero ts v = tt
@@ -96,7 +98,7 @@ mutual
   trim_elements-shaped d q no_elements v = tt
   trim_elements-shaped d q (element ws ts es) v = (v.0, trim_each-count ts ∙ v.1, trim_each-shaped ts v.2, trim_elements-shaped d q es v.3)
 
--- lengths
+-- Lengths.
 
 pub length-rows : (d q k : ℕ) (es : Elements) → AreShapedElements d q es → length (rows d q k es) ≡ element_count es * (d + q)
 length-rows d q k no_elements h = omega arith

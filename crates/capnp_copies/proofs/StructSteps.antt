@@ -1,4 +1,5 @@
--- A struct and a list of pointers that are copied into the segment of their pointer, from where their words are taken: their children.
+-- A struct and a list of pointers that are copied into the segment of their pointer, once their
+-- words are allocated: their children.
 use Rattle.std.proofs.Common.{◌≡◌, ℕ, ◌+◌, ◌<◌, ◌++◌, List, length, set, replicate, sym, ap, ap₂, ◌∙◌, arith, append_assoc, length-append}
 use Rattle.capnp_words.specs.declared.wire_pointer.StructSize.{StructSize}
 use Rattle.capnp_words.specs.Meter.{Meter}
@@ -22,9 +23,9 @@ use Rattle.capnp_copies.proofs.KeptChildren.{kept_each-count}
 use Rattle.capnp_copies.proofs.SegmentsWritten.{then_written}
 use Rattle.capnp_copies.proofs.StructsCopied.{object_children}
 
--- a list of pointers
+-- A list of pointers.
 
--- the pointers of a list and what they lead to, once they are put, and the list's pointer
+-- The pointers of a list and what they lead to, once they are written, and the list's pointer.
 pub pointers_put : {b : Form} {r : Reading} {old mid last new : View} {id at head q x : ℕ} {m m' : Meter} → IsPlace old.words id at → TakesWords old mid id head (replicate q 0) → (children : CopiesChildren r q (call_of b mid last id m m') head) → x ≡ list_word (offset_to at (length (segment old.words id))) 6 q →
     new ≡ record last { words = with_word last.words id at x } → IsCopied old.words new.words id at (Pointers (kept_each b children.children))
 pointers_put {b} {r} {old} {mid} {last} {new} {id} {at} {head} {q} {x} place taken children word writes =
@@ -39,15 +40,15 @@ pointers_put {b} {r} {old} {mid} {last} {new} {id} {at} {head} {q} {x} place tak
     then_written M id (with_children (W ++ replicate q 0) (length W) ts) (λ xs. set xs at x) (id_there, second) (ap (λ (v : View). v.words) writes)
     ∙ ap (with_segment M id) (ap₂ (λ xs y. set xs at y) (object_children W q ts len) is)
 
--- a struct
+-- A struct.
 
--- The words of a struct are taken: these data words, and pointers, which are null.
+-- The words of a struct are allocated: these data words, and null pointers.
 pub record StructBegun (us : List ℕ) (used : StructSize) (old mid : View) (id at head : ℕ) : Type 0 where
   pub long : length us ≡ used.data_words
   pub place : IsPlace old.words id at
   pub taken : TakesWords old mid id head (us ++ replicate used.pointers 0)
 
--- the words of a struct and of its children, once they are put, and its pointer
+-- The words of a struct and of its children, once they are written, and its pointer.
 pub struct_put : {b : Form} {us : List ℕ} {r : Reading} {used : StructSize} {old mid last new : View} {id at head x : ℕ} {m m' : Meter} → StructBegun us used old mid id at head → 0 < used.data_words + used.pointers →
     (children : CopiesChildren r used.pointers (call_of b mid last id m m') (head + used.data_words)) → x ≡ struct_word (offset_to at (length (segment old.words id))) used.data_words used.pointers →
     new ≡ record last { words = with_word last.words id at x } → new.words ≡ with_segment old.words id (copied (segment old.words id) at (Struct us (kept_each b children.children)))

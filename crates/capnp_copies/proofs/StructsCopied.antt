@@ -1,4 +1,5 @@
--- An object whose children are its last words, the pointer of a struct, and what is left where nothing is copied.
+-- An object whose children are its last words, the pointer of a struct, and what is left if nothing
+-- is copied.
 use Rattle.std.proofs.Common.{◌≡◌, ℕ, ◌+◌, ◌-◌, List, [], ◌++◌, length, set, drop, replicate, refl, sym, ap, ap₂, ◌∙◌, arith, append_assoc, append-nil, length-append, take_at}
 use Rattle.std.proofs.lemmas.List.{length-replicate, set-get_or, drop_all}
 use Rattle.capnp_format.specs.Segments.{Segments, segment, word_at}
@@ -9,7 +10,7 @@ use Rattle.capnp_copies.specs.Copied.{with_children}
 use Rattle.capnp_copies.proofs.Copied.{copied}
 use Rattle.capnp_copies.proofs.SegmentsWritten.{not_written}
 
--- an object whose children are its last words
+-- An object whose children are its last words.
 pub object_children : (front : List ℕ) (q : ℕ) (ts : Trees) → count ts ≡ q → with_children (front ++ replicate q 0) (length front) ts ≡ front ++ (pointers 0 ts ++ bodies ts)
 object_children front q ts n =
     let Z : List ℕ = replicate q 0 in

@@ -1,4 +1,4 @@
--- Children in place behind the words of their pointers' segment: one child more.
+-- Children in place after the words of their pointers' segment: one more child.
 use Rattle.std.proofs.Common.{◌≡◌, ℕ, ◌+◌, ◌<◌, ◌≤◌, ◌^◌, length, ap, ◌∙◌, arith}
 use Rattle.capnp_words.specs.Meter.{Meter}
 use Rattle.capnp_format.specs.Segments.{segment, IsPlace}
@@ -20,7 +20,7 @@ use Rattle.capnp_copies.proofs.KeptChildren.{kept_words-with_last}
 use Rattle.capnp_copies.proofs.StayingNear.{stay_first, stay_later}
 use Rattle.capnp_making.specs.Makes.{call_at}
 
--- the room of a segment that was there
+-- A segment that existed keeps its room.
 pub room_kept : (old new : View) (s p : ℕ) → IsPlace old.words s p → KeepsMemory old new → new.room s ≡ old.room s
 room_kept old new s p place memory = memory.1 s (there old.words s p place)
 

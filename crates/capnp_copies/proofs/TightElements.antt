@@ -1,4 +1,5 @@
--- Elements in place over the last words of a segment: none yet, one element more, and elements of no width.
+-- Elements in place over the last words of a segment: none yet, one more element, and elements
+-- without width.
 use Rattle.std.proofs.Common.{◌≡◌, ℕ, ◌+◌, ◌-◌, ◌*◌, ◌<◌, ◌≤◌, List, length, take, refl, sym, ap, ◌∙◌, subst, arith}
 use Rattle.std.proofs.lemmas.List.{take_all}
 use Rattle.capnp_words.specs.Meter.{Meter}
@@ -28,7 +29,7 @@ use Rattle.capnp_copies.proofs.SegmentsWritten.{not_written, length-with_words}
 use Rattle.capnp_copies.proofs.StayingNear.{stay_first, stay_later}
 use Rattle.capnp_making.specs.Makes.{call_at}
 
--- one element
+-- One element.
 
 -- A call copies the kept sections of one element of a list of structs.
 pub record CopiesElement (r : Reading) (sizes : ElementSizes) (c : Change) : Type 0 where
@@ -47,7 +48,7 @@ pub record CopiesElement (r : Reading) (sizes : ElementSizes) (c : Change) : Typ
       (words_from r sizes.kept.data_words)) (c.at
       + sizes.kept.data_words) (kept_each c.form children))
 
--- The data words us of an element are written at a place.
+-- The kept data words of an element are written at a place.
 pub record IsPut (r : Reading) (sizes : ElementSizes) (old mid : View) (s p : ℕ) : Type 0 where
   pub long : length (words_from r sizes.kept.data_words) ≡ sizes.kept.data_words
   pub room : p + sizes.kept.data_words ≤ length (segment old.words s)
@@ -65,7 +66,7 @@ element_tight {r} {sizes} {s} {p} {old} {mid} {new} {m} {m'} b put children plac
     let written : DataPut r sizes old mid s p us = record { place = place; are_words = refl; counts = put.long; writes = put.writes } in
     children_put written one
 
--- elements, one after the other
+-- Elements, one after the other.
 
 pub no_row_tight : (b : Form) (sizes : ElementSizes) (s p n : ℕ) (v : View) (m : Meter) → EndsInZeros (change b (call_at s p v v) m m) ((0 + n) * (sizes.kept.data_words + sizes.kept.pointers)) →
     v.words ≡ with_segment v.words s (rows_laid (take p (segment v.words s)) sizes.kept.data_words sizes.kept.pointers no_elements n)

@@ -1,4 +1,4 @@
--- A list of numbers, in place behind the words of its pointer's segment.
+-- A list of numbers, in place after the words of its pointer's segment.
 use Rattle.std.proofs.Common.{◌≡◌, ℕ, ◌++◌, List, length, set, replicate, refl, sym, ap, ◌∙◌}
 use Rattle.std.proofs.lemmas.List.{set-append_left}
 use Rattle.capnp_format.specs.Numbers.{words_for, packed}

@@ -1,4 +1,5 @@
--- Objects in place behind the words of their pointers' segment: structs, lists of pointers and of structs.
+-- Objects in place after the words of their pointers' segment: structs, lists of pointers and of
+-- structs.
 use Rattle.std.proofs.Common.{◌≡◌, inl, ℕ, zero, suc, ◌+◌, ◌*◌, ◌<◌, ◌≤◌, ◌-◌, ◌^◌, List, [], ◌∷◌, ◌++◌, length, get_or, set, take, drop, replicate, refl, sym, ap, ap₂, ◌∙◌, subst, arith, append-nil, length-append, length-take}
 use Rattle.std.proofs.lemmas.List.{length-replicate, get_or-append_right, nil_from_length}
 use Rattle.capnp_words.specs.Meter.{Meter}
@@ -40,7 +41,7 @@ use Rattle.capnp_copies.proofs.StayingNear.{stay_fewer, stay_later, own_room}
 use Rattle.capnp_copies.proofs.TightChildren.{room_kept}
 use Rattle.capnp_making.specs.Makes.{call_at}
 
--- the pointer stands still, where children were written behind it
+-- The pointer stays the same if children were written after it.
 pub stays : {N : Segments} (S : Segments) (s p x h : ℕ) (ws B C D : List ℕ) → IsPlace S s p → p < h → h ≤ length (segment (extended (with_word S s p x) s ws) s) →
     N ≡ with_segment (extended (with_word S s p x) s ws) s (take h (segment (extended (with_word S s p x) s ws) s) ++ B ++ C ++ D) → word_at N s p ≡ x
 stays {N} S s p x h ws B C D l less inside made =
@@ -53,13 +54,13 @@ no_trees_left : (ts : Trees) → count ts ≡ 0 → ts ≡ no_trees
 no_trees_left no_trees e = refl
 no_trees_left (tree t ts) e = absurd (omega arith)
 
--- children that stand where they fit, from a start that is known in another way
+-- Children are in place, if they fit, from a start with another name.
 moved : (mid new : View) (n : ℕ) (f : ℕ → ℕ) {s u h a : ℕ} (ts : Trees) → u ≡ s → a ≡ h → (StayInSegment mid new u n → AreCopied mid.words new.words u (f a) ts) → StayInSegment mid new s n → AreCopied mid.words new.words s (f h) ts
 moved mid new n f {s} {u} {h} {a} ts es eh =
     subst (λ i. (StayInSegment mid new u n → AreCopied mid.words new.words u (f a) ts) → StayInSegment mid new i n → AreCopied mid.words new.words i (f h) ts) es
     (subst (λ i. (StayInSegment mid new u n → AreCopied mid.words new.words u (f a) ts) → StayInSegment mid new u n → AreCopied mid.words new.words u (f i) ts) eh (λ g. g))
 
--- A struct is made near its pointer, or without words, and these data words of it are written.
+-- A struct is made near its pointer, or has no words, and these data words of it are written.
 pub record StructMade (us : List ℕ) (least : StructSize) (s p : ℕ) (old made mid : View) (h : Start) : Type 0 where
   pub long : length us ≡ least.data_words
   pub place : IsPlace old.words s p
@@ -90,7 +91,7 @@ module _ {us : List ℕ} {least : StructSize} {s p : ℕ} {old made mid : View} 
   same_long : length (segment P s) ≡ length W
   same_long = long_as S s p x
 
-  -- the words of the segment, once the data words are written
+  -- The words of the segment, once the data words are written.
   mid_near : HasStructRoom old s least → mid.words ≡ extended P s (us ++ replicate least.pointers 0)
   mid_near fits =
       let at_end : StartsBehind S s h = o.behind.near fits.0 fits.1 in
@@ -214,7 +215,7 @@ pub record StructsMade (i s p : ℕ) (least : StructSize) (old mid : View) (h : 
   pub behind : StandsBehind old s (1 + i * (least.data_words + least.pointers)) h
   pub near : HasStructsRoom old s i least → mid.words ≡ with_struct_list old.words s p i least
 
--- the words of its elements are the last of the segment
+-- The words of its elements are the last ones of the segment.
 pub ends_in_zeros : {i s p : ℕ} {least : StructSize} {old mid new : View} {h : Start} {m m' : Meter} (b : Form) → StructsMade i s p least old mid h → HasStructsRoom old s i least → EndsInZeros (change b (call_at h.segment (h.at + 1) mid new) m m') (i * (least.data_words + least.pointers))
 ends_in_zeros {i} {s} {p} {least} {old} {mid} {new} {h} {m} {m'} b o room =
     let S : Segments = old.words in

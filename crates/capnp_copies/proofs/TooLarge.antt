@@ -1,5 +1,5 @@
--- Where a part of a copy is too large for the segment that it goes to, or the arena has no room for an object of it,
--- the whole is too large for the segment of its pointer.
+-- If part of a copy is too large for the segment that it goes to, or the arena has no room for one
+-- of its objects, the whole is too large for the segment of its pointer.
 use Rattle.std.proofs.Common.{◌≡◌, inl, ℕ, pred, ◌+◌, ◌-◌, ◌*◌, ◌<◌, ◌≤◌, List, length, refl, ap, subst, sym, ◌∙◌, arith}
 use Rattle.capnp_words.specs.Meter.{Meter}
 use Rattle.capnp_words.specs.declared.wire_pointer.StructSize.{StructSize}
@@ -41,7 +41,7 @@ use Rattle.capnp_objects.proofs.Followed.{entered_leads}
 use Rattle.capnp_objects.proofs.Shorthands.{MeanThere}
 use Rattle.capnp_making.specs.Makes.{call_at}
 
--- a child
+-- A child.
 pub child_too_large : {r : Reading} {s p i n : ℕ} {old mid : View} {m m' : Meter} (b : Form) → IsPlace old.words s (p + i) → i < n → (first : CopiesChildren r i (change b (call_at s p old mid) m m')) →
     ExceedsRoom b (value_original (behind r i)) (length (segment mid.words s)) (mid.room s) → AreTooLarge b r n (length (segment old.words s)) (old.room s)
 child_too_large {r} {s} {p} {i} {n} {old} {mid} {m} {m'} b place less first large = λ us c len all.
@@ -56,7 +56,7 @@ child_too_large {r} {s} {p} {i} {n} {old} {mid} {m} {m'} b place less first larg
     omega (arith, beyond, long, room, fits, x.3)) in
     omega (arith, no))
 
--- an element
+-- An element.
 pub row_too_large : {r : Reading} {sizes : ElementSizes} {i n s p : ℕ} {old mid new : View} {m m' m'' : Meter} (b : Form) → SourceKept b r sizes n → 0 < sizes.kept.data_words + sizes.kept.pointers → i < n →
     (first : CopiesRows r sizes i (n - i) (change b (call_at s p old mid) m m')) → AreTooLarge b (pointers_of r sizes.source i) sizes.kept.pointers (length (segment mid.words s)) (mid.room s) →
     EndsInZeros (change b (call_at s p old new) m m'') (n * (sizes.kept.data_words + sizes.kept.pointers)) → AreTooLargeElements b r sizes n (length (segment old.words s)) (old.room s)
@@ -80,7 +80,7 @@ row_too_large {r} {sizes} {i} {n} {s} {p} {old} {mid} {new} {m} {m'} {m''} b fit
     omega (arith, beyond, x.long, room, fits, z.4, ap word_count_all (sym (take_trees-kept b q z.0)))) in
     omega (arith, no))
 
--- the children of a struct
+-- The children of a struct.
 
 -- An object of n words is made at h.
 pub record ObjectMade (s p n : ℕ) (old made : View) (h : Start) : Type 0 where
@@ -110,7 +110,7 @@ sections_too_large {s} {p} {used} {room} {all} {old} {made} {h} b least ts o lon
     no_words no_trees f = ap word_count_all (kept_none b)
     no_words (tree t ts) f = absurd (omega (arith, f))
 
--- the children of a list of pointers
+-- The children of a list of pointers.
 
 pointers_words : (b : Form) (i : ℕ) (us : Trees) → count us ≡ i → word_count (kept b (Pointers us)) ≡ i + word_count_all (kept_each b us)
 pointers_words b i us len = ap word_count (kept_pointers b us) ∙ ap (λ j. j + word_count_all (kept_each b us)) (kept_each-count b us ∙ len)
@@ -128,7 +128,7 @@ pointers_too_large b r {i} {s} {p} {old} {made} {h} o at_end large = λ us c len
     omega (arith, beyond, grown, kept, ap (λ j. length (segment made.words j)) first, ap made.room first, fits, words)) in
     omega (arith, no))
 
--- the elements of a list of structs
+-- The elements of a list of structs.
 pub structs_too_large : (r : Reading) (sizes : ElementSizes) {i s p : ℕ} {old made : View} {h : Start} → ObjectMade s p (1 + i * (sizes.kept.data_words + sizes.kept.pointers)) old made h → r.at + i * (sizes.source.data_words + sizes.source.pointers) ≤ length (segment_read r) →
     (b : Form) → KeepsWidths b r sizes.source i sizes.kept → (HasOwnRoom old s (1 + i * (sizes.kept.data_words + sizes.kept.pointers)) → AreTooLargeElements b r sizes i (length (segment made.words h.segment)) (made.room h.segment)) →
     IsTooLargeList b r sizes.source i (length (segment old.words s)) (old.room s)
@@ -143,7 +143,7 @@ structs_too_large r sizes {i} {s} {p} {old} {made} {h} o in_row b widths large =
     omega (arith, beyond, grown, kept, ap (λ j. length (segment made.words j)) first, ap made.room first, fits, words)) in
     omega (arith, no))
 
--- where the arena has no room for the object itself
+-- The arena has no room for the object itself.
 
 pub no_sections_room : {ws : List ℕ} {r : Reading} {q : ℕ} {least : StructSize} (s : ℕ) (old : View) (b : Form) → SectionsCut b ws r q least → (HasRoom old s (least.data_words + least.pointers) → ⊥) → (us : Trees) (c : ℕ) → count us ≡ q → MeanThere r us c →
     old.room s < length (segment old.words s) + word_count (kept b (Struct ws us))
@@ -162,7 +162,7 @@ no_structs_room r size least i s old b in_row widths full = λ es c len all.
     (let none : (HasOwnRoom old s (1 + i * (least.data_words + least.pointers))) → ⊥ = λ room. full (inl room) in
     omega (arith, none, words_of_kept_list b r size least i es c in_row widths len all))
 
--- what a place means is known by its object
+-- The object of a place determines what the place means.
 
 pub struct_value_too_large : {r : Reading} {levels : ℕ} (b : Form) (used room : ℕ) {m m' : Meter} {size : StructSize} (start : Place) → (0 < r.levels → levels ≡ pred r.levels) → IsObject Value r m m' (ObjectStruct start size) →
     IsTooLargeStruct b (inside r levels start) size used room → ExceedsRoom b (value_original r) used room
@@ -191,7 +191,7 @@ structs_value_too_large {r} {levels} {i} b used room {size = size} start less (a
     let x = means_structs r t a (c, h) (entered_leads o) (z, seven) in
     rw (x.4) (l x.0 x.1 x.2 x.3)))
 
--- a list of numbers, of which so many words find no room
+-- A list of numbers whose words don't fit.
 pub flat_too_large : {r : Reading} {m m' : Meter} {form : Form} {u : Tree} (b : Form) (used room : ℕ) → Reads form r m m' u → (used + word_count (kept b u) ≤ room → ⊥) → ExceedsRoom b (value_original r) used room
 flat_too_large {r} {u = u} b used room one none = value_large b r used room (λ t c h.
     (let is = ap (λ x. word_count (kept b x)) (one_value r.segments r.levels r.levels r.segment r.at t u c one.cost h one.means).0 in

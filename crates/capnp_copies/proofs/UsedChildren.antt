@@ -1,4 +1,4 @@
--- Children and words that are used, as the words of the source tell them; the Nulls behind them.
+-- Children and words that are used, according to the words of the source; and the Nulls after them.
 use Rattle.std.proofs.Common.{◌≡◌, ℕ, zero, suc, ◌+◌, ◌-◌, ◌<◌, ◌≤◌, max, true, nat_eq, List, [], ◌∷◌, length, get_or, take, drop, refl, sym, ap, ap₂, ◌∙◌, subst, arith, eqb-true, get_or-take, get_or-drop}
 use Rattle.capnp_format.specs.Segments.{Segments, segment, word_at, words_at}
 use Rattle.capnp_format.specs.Tree.{Tree, Null, Capability, Struct, Flat, Pointers, Structs, Trees, no_trees, tree, Elements, no_elements, element, count, capabilities_all}
@@ -16,7 +16,7 @@ use Rattle.capnp_objects.specs.Reading.{Reading, behind, segment_read, words_fro
 use Rattle.capnp_objects.specs.Wanted.{canonical}
 use Rattle.capnp_objects.proofs.Shorthands.{MeanThere}
 
--- nothing is used behind the used words
+-- Nothing is used after the used words.
 pub behind_used : (xs : List ℕ) (i : ℕ) → used_words xs ≤ i → get_or xs i 0 ≡ 0
 behind_used [] i l = refl
 behind_used (x ∷ xs) zero l = eqb-true x 0 (used_from-past (nat_eq x 0) (used_words xs) l).0
@@ -28,11 +28,11 @@ word_of S s p n i l = get_or-take n (drop p (segment S s)) i 0 l ∙ get_or-drop
 pub null_behind : (r : Reading) (n i : ℕ) → used_words (words_from r n) ≤ i → i < n → word_at r.segments r.segment (r.at + i) ≡ 0
 null_behind r n i u l = sym (word_of r.segments r.segment r.at n i l) ∙ behind_used (words_from r n) i u
 
--- the children that are used are as many as the used words of the pointers
+-- The number of children that are used is that of the words used among their pointers.
 pub used_children : {q : ℕ} (r : Reading) (ts : Trees) (c : ℕ) → r.at + q ≤ length (segment_read r) → count ts ≡ q → MeanThere r ts c → used_trees ts ≡ used_words (words_from r q)
 used_children r ts c l len all = sym (used_where_meant r ts c (omega (arith, len)) all) ∙ ap (λ i. used_words (words_from r i)) len
 
--- trimming the children first changes no width
+-- Trimming the children first doesn't change a width.
 
 is_null-trim : (t : Tree) → is_null (trim t) ≡ is_null t
 is_null-trim Null = refl
@@ -59,7 +59,7 @@ trim_each-take zero ts = refl
 trim_each-take (suc n) no_trees = refl
 trim_each-take (suc n) (tree t ts) = ap (tree (trim t)) (trim_each-take n ts)
 
--- what is copied of a struct and of a list of structs, by widths that the source's words tell
+-- What is copied of a struct and of a list of structs, with widths from the words of the source.
 pub trim-struct : (ws : List ℕ) (ts : Trees) → trim (Struct ws ts) ≡ Struct (take (used_words ws) ws) (trim_each (take_trees (used_trees ts) ts))
 trim-struct ws ts =
     ap (λ n. Struct (take (used_words ws) ws) (take_trees n (trim_each ts))) (used_trees-trim ts) ∙ ap (Struct (take (used_words ws) ws)) (sym (trim_each-take (used_trees ts) ts))
@@ -70,7 +70,7 @@ trim-structs d q es = ap₂ (λ i j. Structs i j (cut_to i j (trim_elements es))
 pub take_trees-trim : (n : ℕ) (ts : Trees) → take_trees n (trim_each ts) ≡ trim_each (take_trees n ts)
 take_trees-trim n ts = sym (trim_each-take n ts)
 
--- Nulls at the end
+-- Nulls at the end.
 
 null_costs : (r : Reading) (t : Tree) (c : ℕ) → is_null t ≡ true → MeansThere r t c → c ≡ 0
 null_costs r Null c e h = h.1
@@ -86,7 +86,7 @@ nulls_cost r (tree t ts) c l (k, m, one, rest, g) =
     let e = used_from-past (is_null t) (used_trees ts) l in
     omega (arith, null_costs r t k e.0 one, nulls_cost (behind r 1) ts m (omega (arith, e.1)) rest)
 
--- reading the used children alone costs as much as reading them all
+-- Reading only the used children costs as much as reading all of them.
 pub means_taken : (r : Reading) (ts : Trees) (c m : ℕ) → used_trees ts ≤ m → MeanThere r ts c → MeanThere r (take_trees m ts) c
 means_taken r ts c zero l h = nulls_cost r ts c l h
 means_taken r no_trees c (suc m) l h = h
@@ -106,7 +106,8 @@ take_first : (ts us : Trees) → take_trees (count ts) (append_trees ts us) ≡ 
 take_first no_trees us = refl
 take_first (tree t ts) us = ap (tree t) (take_first ts us)
 
--- children of which the first ones are read, at a cost of n words and k pointers, and the others Null
+-- q children: the first ones ts are read, at a cost of n words and k pointers, and the others are
+-- Null.
 pub record Filled (r : Reading) (q : ℕ) (m m' : Meter) (ts : Trees) (n k : ℕ) : Type 0 where
   pub all : Trees
   pub counts : count all ≡ q

@@ -1,4 +1,5 @@
--- What lies within so many words lies within the segment, and its positions fit 32 bits: over plain numbers.
+-- What is inside a row of words is inside the segment, and its positions fit 32 bits: about plain
+-- numbers.
 use Rattle.std.proofs.Common.{◌≡◌, ◌≢◌, ℕ, ◌+◌, ◌*◌, ◌<◌, ◌≤◌, ◌^◌, ap, arith}
 use Rattle.capnp_objects.proofs.Walked.{row_within}
 
@@ -32,7 +33,7 @@ fewer_words less fewer long = omega arith
 pub first_fits : (p d q : ℕ) {f l r : ℕ} → p + (d + q) ≤ l → l ≤ r → r < 2 ^ 29 → f ≡ d → p + f < 2 ^ 32
 first_fits p d q room within small same = omega arith
 
--- and where each row of n rows of w words starts
+-- Where each row of n rows of w words starts.
 pub row_fits : (p w i n : ℕ) {t l b : ℕ} → p + n * w ≤ l → i < n → t ≡ w → b ≡ 8 * l → b < 8 * 2 ^ 32 →
     p + i * t < 2 ^ 32
 row_fits p w i n {t} room less same bytes small =

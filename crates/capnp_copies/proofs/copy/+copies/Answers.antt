@@ -131,7 +131,7 @@ children::copy_children-copy_row-requires g t c κs within =
 pub children::copy_children-returns : goal.children::copy_children-returns
 children::copy_children-returns g t c = c.copy_row.ensures
 
--- What a pointer means, told by its word.
+-- What a pointer means, according to its word.
 
 pub children::copy_child-returns-then-is_null : goal.children::copy_child-returns-then-is_null
 children::copy_child-returns-then-is_null g t c =

@@ -66,7 +66,7 @@ widened-least_pointers-requires-clause-inside c = pointers_inside c.args.start c
 pub widened-least_pointers-requires-clause-within : goal.widened-least_pointers-requires-clause-within
 widened-least_pointers-requires-clause-within c = c.loop-i.invariant.pointers_fit
 
--- All elements are looked at.
+-- All elements are counted.
 
 pub returns-after-loop-i-clause-data_words : goal.returns-after-loop-i-clause-data_words
 returns-after-loop-i-clause-data_words c =

@@ -48,7 +48,7 @@ returns-clause-copied g c =
     flat_whole S M R c.args.to.segment c.args.to.at size n c.in_ok-start.start ns begun (length-digits (2 ^ b) n f) (digits_below (2 ^ b) n f (pow_pos b))
     (ap words_in c.put_elements.ensures ∙ ap (with_words M c.in_ok-start.start.segment c.in_ok-start.start.at) packs)
 
--- Where it fits the list is made near its pointer.
+-- If the list fits, it is made near its pointer.
 pub returns-clause-stands : goal.returns-clause-stands
 returns-clause-stands g c = λ fits.
     (let S : Segments = (g.A.BuilderArena.view c.args.arena.now).words in
