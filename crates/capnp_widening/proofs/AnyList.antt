@@ -1,4 +1,4 @@
--- Any value at a place where a list of structs is wanted.
+-- Any value at a place where a list of structs is requested.
 use Rattle.std.proofs.Common.{◌≡◌, ℕ, length, Option, Some, None, Result, Ok, Err, refl, sym, ap, ◌∙◌, subst, arith}
 use Rattle.capnp_words.specs.declared.error.ErrorKind.{ErrorKind}
 use Rattle.capnp_words.specs.declared.error.ErrorKind.TheVariants.{FoundBitListWhereStructListWasExpected}
@@ -20,13 +20,13 @@ use Rattle.capnp_widening.proofs.PlainLists.{are_numbers}
 use Rattle.capnp_widening.proofs.PointerSteps.{flat_stored, pointers_stored}
 use Rattle.capnp_widening.proofs.Statements.{ListLiesIn, WidensList, LeadsToWiderList, rewriting}
 
--- a list of bits
+-- A list of bits.
 pub bits_refused : (S : Segments) (s p : ℕ) (t : Tree) (l : ExistingList) (d q : ℕ) → size_number l.size ≡ 1 → IsList S s p l t → list_widened d q t ≡ Err FoundBitListWhereStructListWasExpected
 bits_refused S s p t l d q is i =
     let k = are_numbers S s p t l (omega (arith, is)) i in
     ap (list_widened d q) (k.tree_of ∙ ap (λ w. Flat w k.numbers) is)
 
--- no list is found
+-- No list is found.
 
 pub none_is_null : (a : Target) (t : Tree) → list_in a Void t ≡ Ok None → t ≡ Null
 none_is_null a Null e = refl
@@ -58,7 +58,7 @@ null_leads S s p size found = λ t u x e.
     let same : u ≡ Null = sym (same_tree Null u (ap (list_widened size.data_words size.pointers) (sym null) ∙ e)) in
     (ap (list_in (target S s p) Void) same, tt))
 
--- a list is found
+-- A list is found.
 
 pub list_inside : (R : Segments) (s p : ℕ) (u : Tree) (m : ExistingList) → IsStored R s p u → list_in (target R s p) Void u ≡ Ok (Some m) → ListLiesIn R m
 list_inside R s p Null m x e = absurd (no_list m e)

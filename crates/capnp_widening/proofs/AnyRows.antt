@@ -1,4 +1,4 @@
--- Any list whose elements are rows, made one of structs.
+-- Any list whose elements are rows is made one of structs.
 use Rattle.std.proofs.Common.{◌≡◌, ℕ, zero, suc, Some, None, sym, subst, arith}
 use Rattle.capnp_format.specs.Segments.{Segments}
 use Rattle.capnp_format.specs.Tree.{Tree, Null, Capability, Struct, Flat, Pointers, Structs}
@@ -77,7 +77,7 @@ rows_left S T B D P U Z id at old size h s = λ t i. go t i.0 i.1
     go (Flat zero ns) x e = void_left S T B D P U Z id at ns size h x (subst (λ o. ListUndone S T B D P U Z id o size h) (sym (same_rows (void_rows S id at ns) old e)) s)
     go (Pointers ts) x e = pointers_left S T B D P U Z id at ts size h x (subst (λ o. ListUndone S T B D P U Z id o size h) (sym (same_rows (pointer_rows S id at ts) old e)) s)
 
--- the rows of a list that is stored lie in their segment
+-- The rows of a stored list are inside their segment.
 pub rows_inside : (S : Segments) (id at : ℕ) (t : Tree) (old : ElementRows) → StoresRows S id at old t → RowsInside S old
 rows_inside S id at t old h = go t h.0 h.1
   where

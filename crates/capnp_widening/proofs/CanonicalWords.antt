@@ -1,4 +1,4 @@
--- Values that are made wider, at a place or below it, keep their canonical words.
+-- Values that are widened, at a place or below it, keep their canonical words.
 use Rattle.std.proofs.Common.{◌≡◌, ℕ, zero, suc, ◌+◌, ◌*◌, max, Bool, true, false, cond, nat_le, ◌&&◌, Ok, Err, List, [], ◌∷◌, length, refl, sym, ap, ◌∙◌}
 use Rattle.capnp_format.specs.Segments.{Segments}
 use Rattle.capnp_format.specs.Tree.{Tree, Struct, Pointers, Structs, Trees, no_trees, tree, Elements, no_elements, element, element_count}
@@ -25,7 +25,7 @@ granted : (b : Bool) (t u : Tree) (k : ErrorKind) → cond b (Ok t) (Err k) ≡ 
 granted true t u k e = cc
 granted false t u k e = absurd cc
 
--- a list of structs that is wide enough, or is made wider
+-- A list of structs that is wide enough, or is widened.
 one_or_other : (b : Bool) (d q e k n : ℕ) (es : Elements) (u : Tree) → HaveSize e k es → cond b (Ok (Structs e k es)) (limited n (Structs (max e d) (max k q) (fill_elements d q es))) ≡ Ok u → trim u ≡ trim (Structs e k es)
 one_or_other true d q e k n es u v w = let same : Structs e k es ≡ u = cc in ap trim (sym same)
 one_or_other false d q e k n es u v w = ap trim (sym (granted _ (Structs (max e d) (max k q) (fill_elements d q es)) u _ w)) ∙ trim-filled_list d q e k es v
@@ -33,7 +33,7 @@ one_or_other false d q e k n es u v w = ap trim (sym (granted _ (Structs (max e 
 pub wider_list : (d q e k : ℕ) (es : Elements) (u : Tree) → HaveSize e k es → list_widened d q (Structs e k es) ≡ Ok u → SameCanonicalForm (Structs e k es) u
 wider_list d q e k es u v w = same_words (Structs e k es) u (one_or_other (nat_le d e && nat_le q k) d q e k (element_count es * (max e d + max k q)) es u v w)
 
--- the elements of a list that a place means
+-- The elements of a list that a place means have one size.
 sizes_there : (S : Segments) (n s p d q : ℕ) (es : Elements) (c : ℕ) → MeansElements S n s p d q es c → HaveSize d q es
 sizes_there S n s p d q no_elements c m = tt
 sizes_there S n s p d q (element ws ts es) c (k, l, long, many, words, all, others, sum) = (long, many, sizes_there S n s (p + d + q) d q es l others)
@@ -41,7 +41,7 @@ sizes_there S n s p d q (element ws ts es) c (k, l, long, many, words, all, othe
 list_sizes : (S : Segments) (n s p d q : ℕ) (es : Elements) (c : ℕ) → Means S n s p (Structs d q es) c → HaveSize d q es
 list_sizes S n s p d q es c (a, m, k, some, o, claim, tag, fits, all, g) = sizes_there S _ a.segment (a.start + 1) d q es k all
 
--- what stands at the end of a path, put there again
+-- The value at the end of a path is put there again.
 put_tree_same : (ts : Trees) (i : ℕ) → put_tree ts i (tree_at ts i) ≡ ts
 put_tree_same no_trees i = refl
 put_tree_same (tree t ts) zero = refl
@@ -64,11 +64,12 @@ update_same S s p (Structs d w es) (Element i ∷ Child j ∷ path) u q x h =
     ∙ ap (Structs d w) (put_child_same es i j)
 update_same S s p t (step ∷ path) u q x h = absurd h
 
--- another value of the same canonical form there
+-- Another value with the same canonical form is put there.
 same_at : (S : Segments) (s p : ℕ) (t : Tree) (path : List Step) (u q : ℕ) (x y : Tree) → PathLeads S (node s p t) path (node u q x) → trim y ≡ trim x → SameCanonicalForm t (update t path y)
 same_at S s p t path u q x y h e = same_words t (update t path y) (trim-update S s p t path u q x y x h e ∙ ap trim (update_same S s p t path u q x h))
 
--- what it becomes: a struct, and a list of structs, which has elements of one size since it is stored
+-- What it becomes: a struct, and a list of structs, whose elements have one size since it is
+-- stored.
 pub struct_within : (S : Segments) (s p : ℕ) (t : Tree) (path : List Step) (u q : ℕ) (ws : List ℕ) (ts : Trees) (size : StructSize) → PathLeads S (node s p t) path (node u q (Struct ws ts)) → SameCanonicalForm t (update t path (widened size ws ts))
 struct_within S s p t path u q ws ts size h = same_at S s p t path u q (Struct ws ts) (widened size ws ts) h (trim-filled size.data_words size.pointers ws ts)
 

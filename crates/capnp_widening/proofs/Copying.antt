@@ -9,7 +9,7 @@ use Rattle.capnp_making.proofs.MadeWords.{word_put}
 use Rattle.capnp_making.proofs.WordsPut.{words_put}
 use Rattle.capnp_widening.specs.Housed.{AreWordsCopied}
 
--- a word of a part
+-- Word i of a part is the word i places after its start.
 word_in_part : (S : Segments) (s p n i : ℕ) → i < n → get_or (words_at S s p n) i 0 ≡ word_at S s (p + i)
 word_in_part S s p n i l = get_or-take n (drop p (segment S s)) i 0 l ∙ get_or-drop p (segment S s) i 0
 
@@ -26,7 +26,7 @@ copied_at_once S R s p v r n there inside e =
       kept = λ x y h. put.kept x y (subst (λ m. times (row v r m ∷ []) x y ≡ 0) (sym long) h);
     }
 
--- one word by itself
+-- One word is copied by itself.
 pub word_copied : (S R : Segments) (s p v r x n : ℕ) → n ≡ 1 → r + n ≤ length (segment S v) → x ≡ word_at S s p → R ≡ with_word S v r x → AreWordsCopied S R (record { segment = s; at = p }) (record { segment = v; at = r }) n
 word_copied S R s p v r x n one inside read e =
     let put = word_put S R v r x (omega (arith, one, inside)) e in

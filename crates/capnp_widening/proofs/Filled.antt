@@ -25,12 +25,12 @@ greater_trees zero (tree t ts) = wide_trees (max (suc (count ts)) 0) (tree t ts)
 greater_trees (suc k) (tree t ts) =
     ap (λ n. fill_trees n (tree t ts)) (let e : max (suc (count ts)) (suc k) ≡ suc (max (count ts) k) = omega arith in e) ∙ ap (tree t) (greater_trees k ts)
 
--- a struct that is wide enough
+-- A struct that is wide enough.
 pub already_wide : (S : Segments) (s p d k : ℕ) (ws : List ℕ) (ts : Trees) → IsStored S s p (Struct ws ts) → d ≤ length ws → k ≤ count ts → IsReplaced S S s p (Struct ws ts) (Struct (fill_words d ws) (fill_trees k ts))
 already_wide S s p d k ws ts x l m =
     subst (λ t. IsReplaced S S s p (Struct ws ts) t) (ap₂ (λ vs us. Struct vs us) (sym (wide_words d ws l)) (sym (wide_trees k ts m))) (unchanged S s p (Struct ws ts) x)
 
--- one that is made wider by the greater of two sizes
+-- Filling a struct up to the greater of its own size and another is filling it up to the other.
 pub same_wide : (d k e f : ℕ) (ws : List ℕ) (ts : Trees) → e ≡ max (length ws) d → f ≡ max (count ts) k → Struct (fill_words e ws) (fill_trees f ts) ≡ Struct (fill_words d ws) (fill_trees k ts)
 same_wide d k e f ws ts l m = ap₂ (λ vs us. Struct vs us) (ap (λ n. fill_words n ws) l ∙ greater_words d ws) (ap (λ n. fill_trees n ts) m ∙ greater_trees k ts)
 

@@ -1,4 +1,4 @@
--- Filling up with zeros and Nulls does not change the canonical form.
+-- Filling up with zeros and Nulls doesn't change the canonical form.
 use Rattle.std.proofs.Common.{◌≡◌, ℕ, zero, suc, ◌+◌, ◌-◌, ◌*◌, ◌≤◌, max, nat_eq, List, [], ◌∷◌, ◌++◌, length, take, refl, ap, ap₂, ◌∙◌, arith}
 use Rattle.std.proofs.lemmas.List.{take-append-le}
 use Rattle.capnp_format.specs.Tree.{Tree, Null, Struct, Pointers, Structs, Trees, no_trees, tree, Elements, no_elements, element, count}
@@ -95,7 +95,7 @@ put_child-trim no_elements i j u w e = refl
 put_child-trim (element ws ts es) zero j u w e = ap (λ us. element ws us (trim_elements es)) (put_tree-trim ts j u w e)
 put_child-trim (element ws ts es) (suc i) j u w e = ap (element ws (trim_each ts)) (put_child-trim es i j u w e)
 
--- values of one canonical form at a place make one canonical form of the whole
+-- If two values at a place have the same canonical form, so have the whole values with them.
 pub trim-update : (S : Segments) (s p : ℕ) (t : Tree) (path : List Step) (u q : ℕ) (x y z : Tree) → PathLeads S (node s p t) path (node u q x) → trim y ≡ trim z → trim (update t path y) ≡ trim (update t path z)
 trim-update S s p t [] u q x y z h e = e
 trim-update S s p (Struct ws ts) (Child i ∷ path) u q x y z h e =

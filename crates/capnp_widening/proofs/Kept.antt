@@ -1,4 +1,4 @@
--- What a call keeps, and what one call after another does.
+-- What a call keeps, and what one call after another keeps.
 use Rattle.std.proofs.Common.{◌≡◌, inl, ℕ, ◌+◌, ◌*◌, ◌<◌, ◌≤◌, refl, sym, ap, subst, ◌∙◌, le_trans, arith}
 use Rattle.capnp_arena_traits.specs.View.{View, KeepsLimits}
 use Rattle.capnp_format.specs.Segments.{Segments, Grows}
@@ -20,7 +20,7 @@ grows_again S M R first second = record {
   words = λ x. le_trans (first.words x) (second.words x);
 }
 
--- what is taken, step by step
+-- Words allocated in two steps are at most as many as both steps allow.
 pub few_again : (s m r n k : ℕ) → m ≤ s + n → r ≤ m + k → r ≤ s + (n + k)
 few_again s m r n k first second = omega arith
 
@@ -30,7 +30,7 @@ few_before n same more = omega arith
 pub few_after : (s m r n : ℕ) → m ≤ s + n → r ≡ m → r ≤ s + n
 few_after s m r n more same = omega arith
 
--- and row by row, two words for each of k pointers
+-- Words allocated row by row: at most two for each of k pointers in each row.
 pub rows_few : (s m r k i n : ℕ) → m ≤ s + 2 * (i * k) → r ≤ m + 2 * k → i < n → r ≤ s + 2 * (n * k)
 rows_few s m r k i n before row less = omega (arith, element_within k n i less)
 
@@ -49,6 +49,6 @@ few_at_most s r n k more = omega arith
 pub few_none : {s r : ℕ} (n : ℕ) → r ≡ s → r ≤ s + n
 few_none n same = omega arith
 
--- what is only written before and after words are taken
+-- Writes before and after words are allocated make no segment shorter.
 pub grown_between : {s m r q : ℕ} → m ≡ s → m ≤ r → q ≡ r → s ≤ q
 grown_between before more after = omega arith

@@ -1,4 +1,4 @@
--- A list of structs made anew in wider rows, step by step.
+-- A list of structs is remade in wider rows, step by step.
 use Rattle.std.proofs.Common.{[], ◌≡◌, ◌⊎◌, inl, inr, ℕ, zero, suc, pred, ◌+◌, ◌-◌, ◌*◌, ◌<◌, ◌≤◌, max, ◌∷◌, length, sym, ap, ap₂, ◌∙◌, subst, arith}
 use Rattle.std.proofs.lemmas.Bool.{cases_eq, cases_lt}
 use Rattle.capnp_format.specs.Segments.{Segments, segment, word_at, HasWords, Target}
@@ -25,7 +25,7 @@ use Rattle.capnp_widening.proofs.Widenings.{structs_widened, length-fill_words}
 use Rattle.capnp_widening.proofs.NewObjects.{IsRehoused, pads_in_rows, struct_data_words, old_pads, new_pads}
 use Rattle.capnp_widening.proofs.Statements.{HaveValuesInside, row_moves, rows_moves}
 
--- what the elements of a list are, as words
+-- The words of the elements of a list.
 pub element_words : (S : Segments) (n s p d q : ℕ) (es : Elements) (c i : ℕ) → MeansElements S n s p d q es c → i < element_count es → HasWords S s (p + i * (d + q)) (struct_data_words (struct_at es i)) × (length (struct_data_words (struct_at es i)) ≡ d)
 element_words S n s p d q no_elements c i m l = absurd (omega arith)
 element_words S n s p d q (element ws ts es) c zero (a, b, long, len, words, all, rest, g) l =
@@ -34,7 +34,7 @@ element_words S n s p d q (element ws ts es) c (suc i) (a, b, long, len, words, 
     let r = element_words S n s (p + d + q) d q es b i rest (omega arith) in
     (subst (λ z. HasWords S s z (struct_data_words (struct_at es i))) (let e : p + d + q + i * (d + q) ≡ p + suc i * (d + q) = omega arith in e) r.0, r.1)
 
--- rows of one width share no word
+-- Different rows of one width share no word.
 pub same_row : (w i j a b : ℕ) → a < w → b < w → i * w + a ≡ j * w + b → (i ≡ j) × (a ≡ b)
 same_row w i j a b l m e = elim (cases_lt i j) [
   | inl less ↦ absurd (omega (arith, element_within w j i less))
@@ -44,7 +44,7 @@ same_row w i j a b l m e = elim (cases_lt i j) [
   ]
 ]
 
--- where the new pointers of rows stand
+-- Where the new pointers of rows are.
 pub rows_place : (s p w v r z k n x y : ℕ) → 0 < times (new_places (rows_moves s p w v r z k n)) x y → (i : ℕ) × (j : ℕ) × (i < n) × (j < k) × (x ≡ v) × (y ≡ r + i * z + j)
 rows_place s p w v r z k zero x y l = absurd (omega arith)
 rows_place s p w v r z k (suc n) x y l =
@@ -60,7 +60,7 @@ rows_place s p w v r z k (suc n) x y l =
           )
     ]
 
--- no pointer is written beside them
+-- No pointer is written at the other words of a row.
 pub beside_rows : (s p w v r z d k n i j : ℕ) → d + k ≤ z → i < n → j < z → (j < d) ⊎ (d + k ≤ j) → times (new_places (rows_moves s p w v (r + d) z k n)) v (r + i * z + j) ≡ 0
 beside_rows s p w v r z d k n i j fits li lj o = elim (cases_eq (times (new_places (rows_moves s p w v (r + d) z k n)) v (r + i * z + j)) 0) [
   | inl none ↦ none
@@ -71,7 +71,7 @@ beside_rows s p w v r z d k n i j fits li lj o = elim (cases_eq (times (new_plac
       )
 ]
 
--- the words of a list of structs
+-- The words of a list of structs.
 pub record ListParts (S : Segments) (u q d k : ℕ) (es : Elements) (a : Target) : Type 0 where
   pub fits : a.start + (1 + element_count es * (d + k)) ≤ length (segment S a.segment)
   pub element : (i : ℕ) → i < element_count es → HasWords S a.segment (a.start + 1 + i * (d + k)) (struct_data_words (struct_at es i)) × (length (struct_data_words (struct_at es i)) ≡ d)
@@ -86,7 +86,7 @@ list_parts S u q d k es x = at_level x.means.0 x.means.1 x.means.2
           element = λ i h. element_words S (pred n) a.segment (a.start + 1) d k es l i all h;
         })
 
--- the new rows, before pointers are moved
+-- The new rows, before pointers are moved.
 pub record RowsCopied (S D : Segments) (d k n : ℕ) (s p v r wd wk : ℕ) : Type 0 where
   pub data_there : (i j : ℕ) → i < n → j < d → word_at D v (r + i * (wd + wk) + j) ≡ word_at S s (p + i * (d + k) + j)
   pub zero : (i j : ℕ) → i < n → d ≤ j → j < wd + wk → word_at D v (r + i * (wd + wk) + j) ≡ 0
@@ -160,7 +160,7 @@ structs_remade S T D P R Q u q d k es e f b v at pads x c tag h is_list is_size 
               )
         ]
 
--- words are taken for a list, and its tag and the data of its rows are written into them
+-- Words are allocated for a list, and its tag and the data of its rows are written into them.
 pub structs_begun : (S T D : Segments) (u q d k : ℕ) (es : Elements) (e f v at pads : ℕ) → IsStored S u q (Structs d k es) → IsGrown S T v at (pads + (1 + element_count es * (max d e + max k f))) →
     length D ≡ length T → ((x : ℕ) → length (segment D x) ≡ length (segment T x)) → ((x y : ℕ) → times (row v (at + pads) (1 + element_count es * (max d e + max k f)) ∷ []) x y ≡ 0 → word_at D x y ≡ word_at T x y) →
     RowsCopied S D d k (element_count es) (target S u q).segment ((target S u q).start + 1) v (at + pads + 1) (max d e) (max k f) →

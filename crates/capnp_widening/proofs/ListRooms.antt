@@ -31,14 +31,14 @@ use Rattle.capnp_widening.proofs.StructSteps.{nothing_grown}
 use Rattle.capnp_widening.proofs.Widenings.{count-fill_elements}
 use Rattle.capnp_widening.proofs.Statements.{rows_moves}
 
--- what stands in rows, and becomes structs of a size
+-- What is in rows, and becomes structs of a size.
 pub record AreRows (S : Segments) (s p : ℕ) (t : Tree) (rows : ElementRows) (size : StructSize) : Type 0 where
   pub there : (target S s p).segment ≡ rows.segment
   pub words : widened_words (as_structs size t) ≡ structs_words rows.count size
   pub pointers : direct_pointers t ≡ rows.count * rows.size.pointers
   pub near : (to : Start) → near_pointers S (moves_into (start_of (target S s p)) (start_of (target S s p)) t (as_structs size t)) ≡ near_pointers S (element_moves rows to size)
 
--- the pointers of elements, from a place on
+-- The pointers of elements, from a place on.
 near_of_rows : (S : Segments) (a h : Start) (p w k n r z : ℕ) (rows : ElementRows) (size : StructSize) → rows.segment ≡ a.segment → rows.at + rows.tag + rows.size.data_words ≡ p → rows.size.data_words + rows.size.pointers ≡ w → rows.size.pointers ≡ k → rows.count ≡ n →
     near_pointers S (rows_moves a.segment p w a.segment r z k n) ≡ near_pointers S (element_moves rows h size)
 near_of_rows S a h p w k n r z rows size segment at step pointers count =
@@ -81,7 +81,7 @@ are_rows S s p t rows size h = go t h.1
     go (Capability i) e = absurd (no_rows rows e)
     go (Struct ws ts) e = absurd (no_rows rows e)
 
--- the room for what rows become, and the memory that is refused for it
+-- The room for what rows become, and the memory that is refused for it.
 rows_fit : (v : View) (s p : ℕ) (t : Tree) (rows : ElementRows) (size : StructSize) (to : Start) → AreRows v.words s p t rows size → HasRoomFor v s p t (as_structs size t) →
     HasRoomAndPads v s (structs_words rows.count size) rows.segment (near_pointers v.words (element_moves rows to size))
 rows_fit v s p t rows size to r fits =
@@ -99,7 +99,7 @@ rows_refused a b s p rows size k memory full = record {
       subst (λ n. RefusesGrowth a b n (direct_pointers t) k) words (subst (λ n. RefusesGrowth a b (structs_words rows.count size) n k) (sym r.pointers) full));
 }
 
--- what making rows structs says of a list that they are
+-- The clauses of a call that makes rows structs hold of the list that the rows are.
 pub rows_make : (v w : View) (s p : ℕ) (rows : ElementRows) (size : StructSize) (r : Result ExistingList ErrorKind) → RemakesRows r rows size (call_at s p v w) → IfErr r (RefusesGrowth v w (structs_words rows.count size) (rows.count * rows.size.pointers)) →
     ((to : Start) → HasRoomAndPads v s (structs_words rows.count size) rows.segment (near_pointers v.words (element_moves rows to size)) → IsOk r) → MakesListOfStructs r (StoresRows v.words s p rows) size (call_at s p v w)
 rows_make v w s p rows size r m full fits = record {
@@ -109,7 +109,7 @@ rows_make v w s p rows size r m full fits = record {
   few = λ t x. (let are = are_rows v.words s p t rows size x in subst (λ m. GrowsByAtMost v.words w.words m) (sym (ap₂ (λ x y. x + 1 + 2 * y) are.words are.pointers)) m.few);
 }
 
--- numbers have no pointers
+-- Numbers have no pointers.
 numbers_take : (S : Segments) (s p : ℕ) (t : Tree) (l : ExistingList) (size : StructSize) → 2 ≤ size_number l.size → size_number l.size ≤ 5 → IsList S s p l t →
     (widened_words (as_structs size t) ≡ structs_words l.count size) × (direct_pointers t ≡ 0)
 numbers_take S s p t l size two five i =
@@ -134,7 +134,7 @@ numbers_fit v s p m t u (e, none) fits =
     let few = near_few v.words a a t u in
     subst (λ i. HasRoom v s i) (let f : widened_words u + 2 * (near_pointers v.words (moves_into a a t u) - (v.room a.segment - length (segment v.words a.segment))) ≡ m = omega (arith, e, none, few) in f) fits
 
--- what making numbers structs says of a list of them
+-- The clauses of a call that makes numbers structs hold of the list of these numbers.
 pub numbers_make : (v w : View) (s p : ℕ) (l : ExistingList) (size : StructSize) (r : Result ExistingList ErrorKind) → 2 ≤ size_number l.size → size_number l.size ≤ 5 → MakesListAnew r (IsList v.words s p l) size (call_at s p v w) → OnErr r (w.words ≡ v.words) →
     IfErr r (RefusesWords v w (structs_words l.count size)) → GrowsByAtMost v.words w.words (structs_words l.count size + 1) → (HasRoom v s (structs_words l.count size) → IsOk r) → MakesListOfStructs r (IsList v.words s p l) size (call_at s p v w)
 numbers_make v w s p l size r two five made same full few fits = record {
@@ -144,7 +144,7 @@ numbers_make v w s p l size r two five made same full few fits = record {
   few = λ t i. (let words = numbers_take v.words s p t l size two five i in omega (arith, few, words.0, words.1));
 }
 
--- a call that finds no such list is refused
+-- A call that finds no such list is refused.
 pub none_made : (v : View) (s p : ℕ) (Stands : Tree → Type 0) (size : StructSize) (k : ErrorKind) → SpendsMemory v v k → ((t : Tree) → Stands t → ⊥) → MakesListOfStructs (Err k) Stands size (call_at s p v v)
 none_made v s p Stands size k spent none = record {
   made = record { remade = tt; anew = tt; granted = tt; memory = spent; refused = λ t i. nothing_grown v.words _ refl };
@@ -153,11 +153,11 @@ none_made v s p Stands size k spent none = record {
   few = λ t i. absurd (none t i);
 }
 
--- a refused list is none that could be made
+-- If a list is refused, it can't be made.
 pub not_refused : (r : Result Tree ErrorKind) (k : ErrorKind) (u : Tree) → r ≡ Err k → r ≡ Ok u → ⊥
 not_refused r k u e f = cc
 
--- what is found of a value
+-- What is found of a value.
 
 pub null_found : (k : ErrorKind) → ◌≡◌ {A = Result (Option ExistingList) ErrorKind} (Err k) (Ok None) → ⊥
 null_found k e = cc

@@ -1,4 +1,4 @@
--- What the steps of making a list of structs anew leave, as the calls say it.
+-- What the steps of remaking a list of structs leave, in the words of the calls.
 use Rattle.std.proofs.Common.{◌≡◌, ℕ, ◌+◌, ◌*◌, ◌≤◌, max, [], ◌∷◌, ◌++◌, length, List, Option, Some, Result, Ok, refl, sym, ap, ap₂, ◌∙◌, subst, arith}
 use Rattle.capnp_words.specs.declared.error.ErrorKind.{ErrorKind}
 use Rattle.capnp_format.specs.Word.{upper_half}
@@ -35,7 +35,7 @@ use Rattle.capnp_widening.proofs.RowsCopied.{data_copied, tag_copied, list_writt
 use Rattle.capnp_widening.proofs.Widenings.{count-fill_elements}
 use Rattle.capnp_widening.proofs.Statements.{IsSettled, SettlesRoom, rewriting, rows_moves}
 
--- where the first of some structs starts, behind its tag, and the list of them
+-- Where the first of some structs starts, after its tag, and the list of them.
 abbrev pub first_of : Room → Start
 first_of h = record { segment = h.segment; at = h.at + h.pads + 1 }
 
@@ -54,7 +54,7 @@ pub record ListSteps (S T B D P R Z Q : Segments) (id at : ℕ) (old : ElementRo
   pub pads_zeroed : PadsInside Z (word_at S id at) → IsZeroed Z Q (pads_of (word_at S id at))
   pub wider : (old.size.data_words ≤ size.data_words) × (old.size.pointers ≤ size.pointers)
 
--- the object that a place stores, and what is below it
+-- The object that a place stores, and what is below it.
 pub record ObjectStored (S : Segments) (id at : ℕ) (t : Tree) (n : ℕ) (inner : List Interval) : Type 0 where
   pub stored : IsStored S id at t
   pub whole : cover S id at t ≡ pads_of (word_at S id at) ++ object_of (target S id at) n ∷ inner
@@ -90,7 +90,7 @@ object_remade S T D P R Z Q id at t n inner b v p pads wide ms o begun moves set
       inside = λ y w l. x.inside y w (omega (arith, l, covered y w, first y w));
     }
 
--- the list of structs that is found there in the end
+-- The list of structs that is found there in the end.
 pub found_there : (a b : Target) (wd wk m n v p : ℕ) → a ≡ b → b.segment ≡ v → b.start ≡ p → m ≡ n →
     ◌≡◌ {A = Result (Option ExistingList) ErrorKind} (Ok (Some (record { segment = a.segment; start = a.start + 1; size = InlineComposite; struct_size = record { data_words = wd; pointers = wk }; count = m })))
     (Ok (Some (record { segment = v; start = p + 1; size = InlineComposite; struct_size = record { data_words = wd; pointers = wk }; count = n })))
@@ -98,7 +98,7 @@ found_there a b wd wk m n v p e f g h =
     let list : ℕ → ℕ → ℕ → Result (Option ExistingList) ErrorKind = λ s q i. Ok (Some (record { segment = s; start = q + 1; size = InlineComposite; struct_size = record { data_words = wd; pointers = wk }; count = i })) in
     ap (λ c. list c.segment c.start m) e ∙ ap (λ s. list s b.start m) f ∙ ap (λ q. list v q m) g ∙ ap (λ i. list v p i) h
 
--- a list of structs
+-- A list of structs.
 
 abbrev pub struct_rows : Segments → ℕ → ℕ → ℕ → ℕ → Elements → ElementRows
 struct_rows S id at d k es = record { segment = (target S id at).segment; at = (target S id at).start; tag = 1; size = record { data_words = d; pointers = k }; count = element_count es }
@@ -154,13 +154,13 @@ wider_structs S T B D P R Z Q id at d k es e f h x s =
           (count-fill_elements e f es),
     )
 
--- the greater of a size and a larger one
+-- The greater of a size and a larger one.
 pub same_size : (d k : ℕ) (size : StructSize) → d ≤ size.data_words → k ≤ size.pointers → ◌≡◌ {A = StructSize} (record { data_words = max d size.data_words; pointers = max k size.pointers }) size
 same_size d k size l m =
     let one : ℕ → ℕ → StructSize = λ x y. record { data_words = x; pointers = y } in
     ap₂ one (let e : max d size.data_words ≡ size.data_words = omega arith in e) (let e : max k size.pointers ≡ size.pointers = omega arith in e)
 
--- what structs become where the size is known to be as large
+-- What structs become if the size is known to be at least theirs.
 pub structs_become : (S T B D P R Z Q : Segments) (id at d k : ℕ) (es : Elements) (size : StructSize) (h : Room) → IsStored S id at (Structs d k es) →
     ListSteps S T B D P R Z Q id at (struct_rows S id at d k es) size h → BecomesList (rewriting id at S Q) (list_at h size (element_count es)) (Structs d k es) (as_structs size (Structs d k es))
 structs_become S T B D P R Z Q id at d k es size h x s =
@@ -170,7 +170,7 @@ structs_become S T B D P R Z Q id at d k es size h x s =
     subst (λ z. BecomesList (rewriting id at S Q) (list_at h z (element_count es)) (Structs d k es) (Structs z.data_words z.pointers (fill_elements wd wk es))) same
     (wider_structs S T B D P R Z Q id at d k es wd wk h x (subst (λ z. ListSteps S T B D P R Z Q id at (struct_rows S id at d k es) z h) (sym same) s))
 
--- where it stands, and what words were taken for it
+-- The place of the list, and the words allocated for it.
 pub record ListTaken (s b d p q : View) (id : ℕ) (old : ElementRows) (size : StructSize) (h : Room) : Type 0 where
   pub kept : KeepsMemory s b
   pub taken : TakesWords s b id (structs_words old.count size)
@@ -203,7 +203,7 @@ structs_anew s b d p r z q T id at e k es size h x steps t =
     (structs_anew_at s b d p r z q T id at e k es f g h x (subst (λ y. ListSteps s.words T b.words d.words p.words r.words z.words q.words id at (struct_rows s.words id at e k es) y h) (sym same) steps)
     (subst (λ y. ListTaken s b d p q id (struct_rows s.words id at e k es) y h) (sym same) t))
 
--- a growth is refused on the way
+-- A growth is refused on the way.
 pub record ListUndone (S T B D P U Z : Segments) (id : ℕ) (old : ElementRows) (size : StructSize) (h : Room) : Type 0 where
   pub room : IsRoom S T id (1 + old.count * (size.data_words + size.pointers)) h
   pub tagged : IsTagWritten T B (record { segment = h.segment; at = h.at + h.pads }) old.count size

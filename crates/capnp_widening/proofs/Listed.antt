@@ -28,7 +28,7 @@ no_list y e = cc
 pub not_a_list : (k : ErrorKind) (y : ExistingList) → ◌≡◌ {A = Result (Option ExistingList) ErrorKind} (Err k) (Ok (Some y)) → ⊥
 not_a_list k y e = cc
 
--- every list that isn't one of structs is found where elements of no width are expected
+-- If elements without width are expected, each list that isn't one of structs is found.
 pub void_fits : (s : ElementSize) → plain_misfit Void s ≡ None
 void_fits Void = refl
 void_fits Bit = refl
@@ -57,7 +57,7 @@ flat_width S s p w ns x = at_level x.means.0 x.means.1 x.means.2
     at_level : (n c : ℕ) → Means S n s p (Flat w ns) c → w ≤ 5
     at_level n c (a, some, small, o, claim, e, g) = small
 
--- the number of a list's element size
+-- The number of a list's element size.
 abbrev pub tree_size : Tree → ℕ
 tree_size (Flat w ns) = w
 tree_size (Pointers ts) = 6
@@ -72,7 +72,7 @@ listed_size S s p (Flat w ns) l x e = ap (λ (m : ExistingList). size_number m.s
 listed_size S s p (Pointers ts) l x e = ap (λ (m : ExistingList). size_number m.size) (sym (same_list _ l e))
 listed_size S s p (Structs d q es) l x e = ap (λ (m : ExistingList). size_number m.size) (sym (same_list _ l e))
 
--- how many words the structs may take
+-- How many words the structs may take.
 
 pub few_enough : (n : ℕ) (t : Tree) → n < 2 ^ 29 → limited n t ≡ Ok t
 few_enough n t l = ap (λ b. cond b (Ok t) (Err (MessageTooLarge n))) (let e : nat_lt n (2 ^ 29) ≡ true = grind (arith, nat_tests) in e)
@@ -80,7 +80,7 @@ few_enough n t l = ap (λ b. cond b (Ok t) (Err (MessageTooLarge n))) (let e : n
 pub too_many : (n : ℕ) (t : Tree) → 2 ^ 29 ≤ n → limited n t ≡ Err (MessageTooLarge n)
 too_many n t l = ap (λ b. cond b (Ok t) (Err (MessageTooLarge n))) (let e : nat_lt n (2 ^ 29) ≡ false = grind (arith, nat_tests) in e)
 
--- a list of structs
+-- A list of structs.
 
 filled_alike : (S : Segments) (n s p d k : ℕ) (es : Elements) (c e f : ℕ) → MeansElements S n s p d k es c → fill_elements (max d e) (max k f) es ≡ fill_elements e f es
 filled_alike S n s p d k no_elements c e f m = refl
@@ -109,7 +109,7 @@ pub structs_widen : (d q e k : ℕ) (es : Elements) → (d ≤ e → q ≤ k →
 structs_widen d q e k es h =
     ap (λ b. cond b (Ok (Structs e k es)) (limited (element_count es * (max e d + max k q)) (Structs (max e d) (max k q) (fill_elements d q es)))) (narrow_test d e q k h)
 
--- what one clause says of a refusal, and two say together
+-- What one clause states of a refusal, and two state together.
 pub if_err_so : {A E : Type 0} (r : Result A E) (P Q : E → Type 0) → IfErr r P → ((k : E) → P k → Q k) → IfErr r Q
 if_err_so (Ok x) P Q h f = tt
 if_err_so (Err k) P Q h f = f k h

@@ -1,4 +1,4 @@
--- What a list becomes where structs of at least a size are wanted.
+-- What a list becomes if structs of at least a size are wanted.
 use Rattle.std.proofs.Common.{◌≡◌, ℕ, zero, suc, ◌+◌, ◌-◌, ◌*◌, ◌<◌, ◌≤◌, max, List, length, Some, Ok, Err, Result, inl, inr, refl, sym, ap, ap₂, ◌∙◌, subst, arith}
 use Rattle.capnp_words.specs.declared.error.ErrorKind.{ErrorKind}
 use Rattle.capnp_arena_traits.specs.View.{View}
@@ -25,7 +25,8 @@ use Rattle.capnp_widening.proofs.ListRooms.{not_refused}
 use Rattle.capnp_widening.proofs.PlainLists.{first_numbers, first_pointers, numbers_as_structs, numbers_limited}
 use Rattle.capnp_widening.proofs.StructSteps.{nothing_grown}
 
--- a list that isn't one of bits, nor one of large enough structs, and the size of the structs that its elements become
+-- A list that is neither one of bits nor one of large enough structs, and the size of the structs
+-- that its elements become.
 pub record Widens (l : ExistingList) (size wide : StructSize) : Type 0 where
   pub kind : size_number l.size ≡ 1 → ⊥
   pub narrow : size_number l.size ≡ 7 → size.data_words ≤ l.struct_size.data_words → size.pointers ≤ l.struct_size.pointers → ⊥
@@ -96,7 +97,7 @@ becomes S s p t l size wide w i = go t i.0 i.1
         let o = struct_list (target S s p) d k (element_count es) in
         found (Structs d k es) o (same_list o l e) (from_structs S s p d k es size wide x)
 
--- a list of no numbers, by its rows
+-- A list of void, of pointers or of structs, by its rows.
 pub in_rows : (S : Segments) (s p : ℕ) (t : Tree) (l : ExistingList) → (0 < size_number l.size → 6 ≤ size_number l.size) → IsList S s p l t → StoresRows S s p (element_rows l) t
 in_rows S s p t l whole i = (i.0, go t i.0 i.1)
   where
@@ -121,7 +122,7 @@ in_rows S s p t l whole i = (i.0, go t i.0 i.1)
         let same : a.start ≡ a.start + 1 - 1 = omega arith in
         ap (λ y. Some (record { segment = a.segment; at = y; tag = 1; size = record { data_words = d; pointers = k }; count = element_count es })) same ∙ ap (λ o. Some (element_rows o)) (same_list (struct_list a d k (element_count es)) l e)
 
--- a list whose elements are made structs becomes what is wanted
+-- A list whose elements are made structs becomes what is wanted.
 pub widens : (r : Result ExistingList ErrorKind) (Stands : Tree → Type 0) (l : ExistingList) (size wide : StructSize) (c : CallAt) → ((t : Tree) → IsList c.old.words c.segment c.at l t → Stands t) →
     ((t : Tree) → IsList c.old.words c.segment c.at l t → list_widened size.data_words size.pointers t ≡ Ok (as_structs wide t)) → MakesListOfStructs r Stands wide c → WidensList r l size c
 widens r Stands l size wide c stands becomes m = record {
@@ -143,7 +144,7 @@ widens r Stands l size wide c stands becomes m = record {
   };
 }
 
--- a list that becomes none is refused by that name, and nothing is changed
+-- A list that can't be widened is refused with k, and nothing changes.
 pub unwidened : (k : ErrorKind) (l : ExistingList) (size : StructSize) (v : View) (s p : ℕ) → SpendsMemory v v k → ((t : Tree) → IsList v.words s p l t → list_widened size.data_words size.pointers t ≡ Err k) → WidensList (Err k) l size (call_at s p v v)
 unwidened k l size v s p spent refused = record {
   widened = tt;

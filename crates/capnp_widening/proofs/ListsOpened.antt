@@ -17,17 +17,17 @@ use Rattle.capnp_widening.proofs.Listed.{never_refused, same_tree}
 use Rattle.capnp_widening.proofs.Rooms.{not_true}
 use Rattle.capnp_widening.proofs.StructsOpened.{stands_grown}
 
--- null, or structs that are large enough
+-- Null, or structs that are large enough.
 abbrev pub Stays : View → ℕ → ℕ → StructSize → Type 0
 Stays a s p size = IsStored a.words s p Null ⊎ ((d : ℕ) × (q : ℕ) × (es : Elements) × IsStored a.words s p (Structs d q es) × (size.data_words ≤ d) × (size.pointers ≤ q))
 
--- What the call says that makes it one of larger structs.
+-- What a call states that makes a list one of larger structs.
 pub record Widens (a b : View) (s p : ℕ) (size : StructSize) (r : Result (Option ExistingList) ErrorKind) : Type 0 where
   pub widened : IfOk r (λ m. (t : Tree) → IsStored a.words s p t → (u : Tree) × (list_widened size.data_words size.pointers t ≡ Ok u) × IsReplaced a.words b.words s p t u × LeadsToAll b.words s p u m)
   pub wider : MakesListWider r (IsStored a.words s p) size (call_at s p a b)
   pub stays : Stays a s p size → IsOk r × (b ≡ a)
 
--- a list that has sections is one of large enough structs
+-- A list that has these sections is one of large enough structs.
 sections_stay : (a : View) (s p : ℕ) (t u : Tree) (size : StructSize) → IsStored a.words s p t → list_widened size.data_words size.pointers t ≡ Ok u → HasSections size t → Stays a s p size
 sections_stay a s p Null u size stored e h = absurd h
 sections_stay a s p (Capability i) u size stored e h = absurd h
@@ -36,7 +36,7 @@ sections_stay a s p (Flat w ns) u size stored e h = absurd h
 sections_stay a s p (Pointers ts) u size stored e h = absurd h
 sections_stay a s p (Structs d q es) u size stored e h = inr (d, q, es, stored, h.0, h.1)
 
--- a list that isn't null
+-- A list that isn't null.
 opens_some : (a b : View) (s p : ℕ) (t : Tree) (size : StructSize) (r : Result (Option ExistingList) ErrorKind) → IsStored a.words s p t → (t ≡ Null → ⊥) → Widens a b s p size r →
     Opens size LeadsToAll (call_at s p a b) t (list_widened size.data_words size.pointers t) r
 opens_some a b s p t size (Ok m) stored some w =
@@ -63,7 +63,7 @@ opens_some a b s p t size (Err k) stored some w = by_value (list_widened size.da
       }
     ]
 
--- null is opened as none
+-- Null is opened as None.
 null_list : (a b : View) (s p : ℕ) (size : StructSize) (r : Result (Option ExistingList) ErrorKind) → IsStored a.words s p Null → Widens a b s p size r → r ≡ Ok None
 null_list a b s p size (Ok m) stored w =
     let (u, e, made, leads) = w.widened Null stored in

@@ -1,4 +1,5 @@
--- A list of pointers, of numbers or of void made a list of structs: its elements stand anew in a larger object.
+-- A list of pointers, of numbers or of void is made a list of structs: its elements are in a
+-- larger, new object.
 use Rattle.std.proofs.Common.{◌≡◌, ℕ, zero, suc, pred, ◌+◌, ◌*◌, ◌<◌, max, List, [], ◌∷◌, length, get_or, refl, sym, ap, ◌∙◌, subst, le_of_eq, arith}
 use Rattle.std.proofs.lemmas.List.{length-replicate}
 use Rattle.capnp_format.specs.Segments.{Segments, word_at, HasWords, Target}
@@ -23,19 +24,20 @@ use Rattle.capnp_widening.proofs.Rehoused.{Parts, grows_first, grows_last, inner
 use Rattle.capnp_widening.proofs.Widenings.{count-fill_trees, length-fill_words, nulls_mean, filled, moved_at}
 use Rattle.capnp_widening.proofs.NewObjects.{IsRehoused, pads_from, pads_in_rows, struct_data_words}
 
--- elements that stand in M; what their pointers reach is what the old ones reached, but for the pads
+-- M has the elements fs. What their pointers reach is what the old ones reached, except for the
+-- pads.
 pub record RowsStand (M : Segments) (n v r d q : ℕ) (fs : Elements) (inner before after : List Interval) : Type 0 where
   pub cost : ℕ
   pub means : MeansElements M n v r d q fs cost
   pub covers : (x y : ℕ) → times (cover_elements M v r d q fs) x y + times before x y ≡ times inner x y + times after x y
   pub tidy : AreTidyElements M v r d q fs
 
--- the new list's tag, and the pointer to it
+-- The new list's tag, and the pointer to it.
 pub record ListWritten (M Q : Segments) (u q : ℕ) (b : Target) (i d k : ℕ) : Type 0 where
   pub tag : IsTag (word_at M b.segment b.start) i d k
   pub leads_there : ListAt Q u q b 7 (i * (d + k))
 
--- whatever stood there is a list of structs now
+-- The value there, of any kind, is now a list of structs.
 pub list_stands : (S M Q : Segments) (u q : ℕ) (t : Tree) (a : Target) (size : ℕ) (inner : List Interval) (b : Target) (d k : ℕ) (fs : Elements) (before after fresh : List Interval) (n : ℕ) →
     0 < n → IsStored S u q t → Parts S u q t a size inner → IsRehoused S M Q u q a size b (1 + element_count fs * (d + k)) before after fresh →
     RowsStand M (pred n) b.segment (b.start + 1) d k fs inner before after → ListWritten M Q u q b (element_count fs) d k → IsReplaced S Q u q t (Structs d k fs)
@@ -71,7 +73,7 @@ list_stands S M Q u q t a size inner b d k fs before after fresh n some x parts 
       tidy_kept_elements M Q (pred n) b.segment (b.start + 1) d k fs rows.cost then rows_same cover_agree rows.means rows.tidy,
     ))
 
--- pointers, each written anew as the first one of a struct
+-- Each pointer is rewritten as the first one of a struct.
 pub record PointersInRows (M : Segments) (s p v r d k : ℕ) (ts : Trees) : Type 0 where
   pub words : (i : ℕ) → i < count ts → HasWords M v (r + i * (d + max 1 k)) (words_of_zero d)
   pub moved : (i : ℕ) → i < count ts → IsMoved M s (p + i) v (r + i * (d + max 1 k) + d)
@@ -133,7 +135,8 @@ rows_mean M n s p v r d k (tree t ts) c h (a, b, one, rest, g) =
       tidy = λ y. (full.tidy (new.tidy (y.0, tt)), others.tidy y.1);
     }
 
--- a list of pointers made a list of structs: each pointer is the first one of a struct of d words of zero and at least k pointers
+-- A list of pointers is made a list of structs: each pointer is the first one of a struct of d zero
+-- words and at least k pointers.
 pub pointers_widened : (S M Q : Segments) (u q : ℕ) (ts : Trees) (d k : ℕ) (b : Target) (fresh : List Interval) → IsStored S u q (Pointers ts) →
     IsRehoused S M Q u q (target S u q) (count ts) b (1 + count ts * (d + max 1 k)) (pads_from M (target S u q).segment (target S u q).start (count ts)) (pads_in_rows M b.segment (b.start + 1 + d) (d + max 1 k) 1 (count ts)) fresh →
     PointersInRows M (target S u q).segment (target S u q).start b.segment (b.start + 1) d k ts → ListWritten M Q u q b (count ts) d (max 1 k) → IsReplaced S Q u q (Pointers ts) (Structs d (max 1 k) (struct_for_each_tree d k ts))
@@ -169,12 +172,12 @@ pointers_widened S M Q u q ts d k b fresh x r w y =
         (record { cost = new.cost; means = new.means; covers = λ v z. omega (arith, ap (λ is. times is v z) old.1, new.covers v z); tidy = new.tidy old_tidy })
         (subst (λ z. ListWritten M Q u q b z d wk) (sym counts) y)
 
--- every element has d words, and k children, which are Null
+-- Each element has d words, and k children, which are Null.
 abbrev pub AreBlank : ℕ → ℕ → Elements → Type 0
 AreBlank d k no_elements = Unit {0}
 AreBlank d k (element ws ts es) = (length ws ≡ d) × (ts ≡ nulls k) × AreBlank d k es
 
--- elements whose children are Null, as they are written
+-- Elements whose children are Null, and the words that are written for them.
 pub record BlankRows (M : Segments) (v r d k : ℕ) (es : Elements) : Type 0 where
   pub words : (i : ℕ) → i < element_count es → HasWords M v (r + i * (d + k)) (struct_data_words (struct_at es i))
   pub nulls_behind : (i j : ℕ) → i < element_count es → j < k → word_at M v (r + i * (d + k) + d + j) ≡ 0
@@ -212,7 +215,7 @@ blank_mean M n v r d k (element ws ts es) (long, none, blank) h =
       tidy = (subst (λ us. AreTidy M v (r + d) us) (sym none) here.2, others.tidy);
     }
 
--- a list of numbers made a list of structs without children
+-- A list of numbers is made a list of structs without children.
 pub flat_widened : (S M Q : Segments) (u q size : ℕ) (ns : List ℕ) (d k : ℕ) (fs : Elements) (b : Target) (fresh : List Interval) → AreBlank d k fs → IsStored S u q (Flat size ns) →
     IsRehoused S M Q u q (target S u q) (words_for size (length ns)) b (1 + element_count fs * (d + k)) [] [] fresh →
     BlankRows M b.segment (b.start + 1) d k fs → ListWritten M Q u q b (element_count fs) d k → IsReplaced S Q u q (Flat size ns) (Structs d k fs)
@@ -231,7 +234,7 @@ flat_widened S M Q u q size ns d k fs b fresh blank x r w y =
         omega (arith, times-first (word_interval u q) (cover S u q (Flat size ns)) v z, times-object S u q long a (λ w. []) v z o.leads_to.1) in p) in
         list_stands S M Q u q (Flat size ns) a long [] b d k fs [] [] fresh n some x parts h (blank_mean M (pred n) b.segment (b.start + 1) d k fs blank w) y
 
--- a struct for each number, the number in its first word; and structs of zeros
+-- A struct for each number, which is in its first word; and structs of zeros.
 
 blank_numbers : (d k : ℕ) (ns : List ℕ) → AreBlank (max 1 d) k (struct_for_each d k ns)
 blank_numbers d k [] = tt
@@ -255,7 +258,8 @@ struct_of_zeros d k i zero l = absurd (omega arith)
 struct_of_zeros d k zero (suc n) l = refl
 struct_of_zeros d k (suc i) (suc n) l = struct_of_zeros d k i n (omega arith)
 
--- numbers, each written anew in the first word of a struct of at least d words and of k pointers, which are null
+-- Each number is rewritten in the first word of a struct of at least d words and of k pointers,
+-- which are null.
 pub record NumbersInRows (M : Segments) (v r d k : ℕ) (ns : List ℕ) : Type 0 where
   pub words : (i : ℕ) → i < length ns → HasWords M v (r + i * (max 1 d + k)) (fill_words d (get_or ns i 0 ∷ []))
   pub nulls_behind : (i j : ℕ) → i < length ns → j < k → word_at M v (r + i * (max 1 d + k) + max 1 d + j) ≡ 0
@@ -275,7 +279,7 @@ numbers_widened S M Q u q size ns d k b fresh x r w y =
     })
     (subst (λ z. ListWritten M Q u q b z wd k) (sym counts) y)
 
--- as many structs of d words of zero and k null pointers
+-- n structs of d zero words and k null pointers.
 pub record ZerosInRows (M : Segments) (v r d k n : ℕ) : Type 0 where
   pub words : (i : ℕ) → i < n → HasWords M v (r + i * (d + k)) (words_of_zero d)
   pub nulls_behind : (i j : ℕ) → i < n → j < k → word_at M v (r + i * (d + k) + d + j) ≡ 0

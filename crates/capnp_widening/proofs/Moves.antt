@@ -8,14 +8,14 @@ use Rattle.capnp_widening.specs.Moved.{IsMoved}
 use Rattle.capnp_widening.proofs.SameObjects.{near_leads, near_found, copied_far_leads}
 use Rattle.capnp_widening.proofs.Statements.{SameStart}
 
--- a far word copied as it is
+-- A far pointer is copied unchanged.
 pub moved_far : (S : Segments) (s p v r : ℕ) (a : Target) → Leads S s p a → kind (word_at S s p) ≡ 2 → word_at S v r ≡ word_at S s p → IsMoved S s p v r
 moved_far S s p v r a l far e = inr (a, a, l, copied_far_leads S s p v r a e far l, record { same_kind = refl; same_sizes = refl; capability = λ low. low; same_start = inl (refl, refl) })
 
 no_offset : (x : ℕ) → x % 2 ^ 32 ≡ 3 → (kind x ≡ 3) × (offset_bits x ≡ 0)
 no_offset x low = (omega arith, omega arith)
 
--- a capability that is near, copied as it is
+-- A near capability is copied unchanged.
 pub moved_capability : (S : Segments) (s p v r : ℕ) (a : Target) → Leads S s p a → kind (word_at S s p) ≢ 2 → a.word % 2 ^ 32 ≡ 3 → word_at S v r ≡ word_at S s p → r < length (segment S v) → IsMoved S s p v r
 moved_capability S s p v r a l near low e place =
     let n = near_found S s p a near l.1 in
@@ -26,7 +26,7 @@ moved_capability S s p v r a l near low e place =
     let there = near_leads S v r (r + 1) (λ z. l.0 (sym e ∙ z)) (λ z. omega (arith, f.0)) (omega arith) (inl (omega (arith, f.1), omega (arith, f.1))) in
     inr (a, record { word = x; segment = v; start = r + 1; pads = 0 }, l, there, record { same_kind = ap kind same; same_sizes = ap upper_half same; capability = λ z. its; same_start = inr (inr low) })
 
--- later writes elsewhere keep it
+-- Later writes elsewhere leave a moved pointer moved.
 pub moved_kept : (S R : Segments) (s p v r : ℕ) → Grows S R → word_at R s p ≡ word_at S s p → word_at R v r ≡ word_at S v r → Agree S R (pads_of (word_at S s p)) → Agree S R (pads_of (word_at S v r)) → IsMoved S s p v r → IsMoved R s p v r
 moved_kept S R s p v r grows e f here there (inl (y, z)) = inl (e ∙ y, f ∙ z)
 moved_kept S R s p v r grows e f here there (inr (a, b, l, k, same)) =

@@ -19,7 +19,7 @@ use Rattle.capnp_widening.proofs.Single.{old_pads_inside}
 use Rattle.capnp_widening.proofs.NewObjects.{pads_from, old_pads, new_pads, own_pads}
 use Rattle.capnp_widening.proofs.Statements.{old_places, Extends, HaveValuesInside, AllMoved, a_move, row_moves}
 
--- lists of moves, one behind the other
+-- Consecutive lists of moves.
 
 pub new_places-append : (ms ns : List Move) (x y : ℕ) → times (new_places (ms ++ ns)) x y ≡ times (new_places ms) x y + times (new_places ns) x y
 new_places-append [] ns x y = omega arith
@@ -55,7 +55,7 @@ moved_append : (R : Segments) (ms ns : List Move) → AllMoved R ms → AllMoved
 moved_append R [] ns a b = b
 moved_append R (m ∷ ms) ns a b = (a.0, moved_append R ms ns a.1 b)
 
--- the words of each move are the same
+-- The words of each move are the same.
 abbrev pub SameMoves : Segments → Segments → List Move → Type 0
 SameMoves M R [] = Unit {0}
 SameMoves M R (m ∷ ms) = (word_at R m.from.segment m.from.at ≡ word_at M m.from.segment m.from.at) × (word_at R m.to.segment m.to.at ≡ word_at M m.to.segment m.to.at) × SameMoves M R ms
@@ -73,7 +73,7 @@ same_fresh M R [] h = refl
 same_fresh M R (m ∷ ms) (e, f, rest) =
     ap₂ (λ is js. is ++ js) (ap₂ (λ x y. cond (nat_eq (kind x) 2) [] (pads_of y)) e f) (same_fresh M R ms rest)
 
--- what stays of moved pointers: all that B has, all places that were there, and their pads
+-- What stays of moved pointers: all that B has, all places that were there, and their pads.
 pub record StaysMoved (B M R : Segments) (ms : List Move) : Type 0 where
   pub grows : Grows M R
   pub extends : Extends B M
@@ -110,7 +110,7 @@ moved_still B M R (m ∷ ms) a h d = (
   moved_still B M R ms a.1 (stays_next B M R m ms h) d.1,
 )
 
--- the pads of old pointers lie in B
+-- The pads of old pointers are inside B.
 pub all_old_inside : (B M : Segments) (ms : List Move) → Extends B M → HaveValuesInside B ms → (x y : ℕ) → 0 < times (old_pads M ms) x y → y < length (segment B x)
 all_old_inside B M [] e a x y l = absurd (omega arith)
 all_old_inside B M (m ∷ ms) e a x y l = elim (cases_eq (times (pads_of (word_at M m.from.segment m.from.at)) x y) 0) [
@@ -118,7 +118,7 @@ all_old_inside B M (m ∷ ms) e a x y l = elim (cases_eq (times (pads_of (word_a
   | inr some ↦ old_pads_inside B M m.from.segment m.from.at e a.0 x y (omega arith)
 ]
 
--- no pointer is moved
+-- No pointer is moved.
 pub none_moved : (S : Segments) → Moves S S []
 none_moved S = λ B c. record {
   grows = record { segments = omega arith; words = λ x. omega arith };
@@ -130,7 +130,7 @@ none_moved S = λ B c. record {
   zero = λ x y h l. get_or_past (segment S x) y 0 l;
 }
 
--- what CanMove says of the first moves
+-- What CanMove states of the first moves.
 pub can_left : (B S : Segments) (ms ns : List Move) → CanMove B S (ms ++ ns) → CanMove B S ms
 can_left B S ms ns c = record {
   grows = c.grows;
@@ -140,9 +140,9 @@ can_left B S ms ns c = record {
   once = λ x y. omega (arith, new_places-append ms ns x y, c.once x y);
 }
 
--- what it says of the others, once the first are moved
+-- What it states of the others, once the first are moved.
 
--- no new place lies in B
+-- No new place is inside B.
 no_place : (B S : Segments) (os : List Move) (x y : ℕ) → CanMove B S os → y < length (segment B x) → times (new_places os) x y ≡ 0
 no_place B S os x y c l = elim (cases_eq (times (new_places os) x y) 0) [
   | inl e ↦ e
@@ -168,7 +168,7 @@ can_right B S M ms ns c a =
       once = λ x y. omega (arith, split x y, c.once x y);
     }
 
--- some pointers are moved, and then others
+-- Some pointers are moved, and then others.
 pub moves_both : (S M R : Segments) (ms ns : List Move) → Moves S M ms → Moves M R ns → Moves S R (ms ++ ns)
 moves_both S M R ms ns f g = λ B c.
     (let split = new_places-append ms ns in
@@ -227,7 +227,7 @@ moves_both S M R ms ns f g = λ B c.
     not_held_by : (os : List Move) (x y : ℕ) → (0 < times (new_places os) x y → ⊥) → times (new_places os) x y ≡ 0
     not_held_by os x y h = elim (cases_eq (times (new_places os) x y) 0) [ inl e ↦ e | inr e ↦ absurd (h (omega arith)) ]
 
--- rows, from the front on
+-- Rows, from the front on.
 
 pub row_next : (s p v r k : ℕ) → row_moves s p v r (suc k) ≡ row_moves s p v r k ++ a_move s (p + k) v (r + k) ∷ []
 row_next s p v r zero = ap₂ (λ a b. a_move s a v b ∷ []) (let e : p ≡ p + 0 = omega arith in e) (let e : r ≡ r + 0 = omega arith in e)
@@ -243,13 +243,13 @@ row_split s p v r (suc i) k (suc n) e =
     ap (λ ms. a_move s p v r ∷ ms) (row_split s (p + 1) v (r + 1) i k n (omega arith) ∙ ap₂ (λ a b. row_moves s (p + 1) v (r + 1) i ++ row_moves s a v b k)
     (let f : p + 1 + i ≡ p + suc i = omega arith in f) (let f : r + 1 + i ≡ r + suc i = omega arith in f))
 
--- one move more
+-- One more move.
 pub moves_next : (S M R : Segments) (s p v r k : ℕ) → Moves S M (row_moves s p v r k) → Moves M R (a_move s (p + k) v (r + k) ∷ []) → Moves S R (row_moves s p v r (k + 1))
 moves_next S M R s p v r k f g =
     subst (λ n. Moves S R (row_moves s p v r n)) (let e : suc k ≡ k + 1 = omega arith in e)
     (subst (λ ms. Moves S R ms) (sym (row_next s p v r k)) (moves_both S M R (row_moves s p v r k) (a_move s (p + k) v (r + k) ∷ []) f g))
 
--- some of the first of a row
+-- Some of the first pointers of a row.
 pub moves_some : (S M : Segments) (s p v r i k : ℕ) → i ≤ k → Moves S M (row_moves s p v r i) → MovesSome S M (row_moves s p v r k)
 moves_some S M s p v r i k l f =
     let n = k - i in
@@ -260,7 +260,7 @@ moves_some S M s p v r i k l f =
       moves = f;
     }
 
--- children one behind the other that lie in B
+-- Consecutive children that are inside B.
 pub children_stand : (B : Segments) (n s p v r : ℕ) (ts : Trees) (c : ℕ) → MeansAll B n s p ts c → ((x y : ℕ) → 0 < times (row s p (count ts) ∷ cover_all B s p ts) x y → y < length (segment B x)) → HaveValuesInside B (row_moves s p v r (count ts))
 children_stand B n s p v r no_trees c m inside = tt
 children_stand B n s p v r (tree t ts) c (a, b, one, rest, g) inside =
@@ -274,7 +274,7 @@ children_stand B n s p v r (tree t ts) c (a, b, one, rest, g) inside =
     first_word : (s p n x y : ℕ) → times (row s p (suc n) ∷ []) x y ≡ times (word_interval s p ∷ []) x y + times (row s (p + 1) n ∷ []) x y
     first_word s p n x y = grind (arith, nat_tests)
 
--- what a row of moves says of each
+-- What a row of moves states of each.
 
 pub row_moved : (M : Segments) (s p v r k i : ℕ) → AllMoved M (row_moves s p v r k) → i < k → IsMoved M s (p + i) v (r + i)
 row_moved M s p v r zero i h l = absurd (omega arith)
@@ -301,7 +301,7 @@ row_new_places s p v r (suc k) x y = omega (arith, row_new_places s (p + 1) v (r
     first_word : (v r n x y : ℕ) → times (row v r (suc n) ∷ []) x y ≡ times (word_interval v r ∷ []) x y + times (row v (r + 1) n ∷ []) x y
     first_word v r n x y = grind (arith, nat_tests)
 
--- old places lie in B
+-- Old places are inside B.
 pub old_place_inside : (B : Segments) (ms : List Move) → HaveValuesInside B ms → (x y : ℕ) → 0 < times (old_places ms) x y → y < length (segment B x)
 old_place_inside B [] a x y l = absurd (omega arith)
 old_place_inside B (m ∷ ms) a x y l = elim (cases_eq (times (word_interval m.from.segment m.from.at ∷ []) x y) 0) [
@@ -311,7 +311,7 @@ old_place_inside B (m ∷ ms) a x y l = elim (cases_eq (times (word_interval m.f
       omega (arith, old_word_in B m.from.segment m.from.at a.0, ap (λ z. length (segment B z)) i.0))
 ]
 
--- pointers that are not moved yet are null, and have no pads
+-- Pointers that aren't moved yet are null, and have no pads.
 abbrev pub AllNull : Segments → List Move → Type 0
 AllNull P [] = Unit {0}
 AllNull P (m ∷ ms) = (word_at P m.to.segment m.to.at ≡ 0) × AllNull P ms

@@ -1,4 +1,4 @@
--- What stands when an object is made anew in other words, and the landing pads of rows of pointers.
+-- What is there once an object is remade in other words, and the landing pads of rows of pointers.
 use Rattle.std.specs.Prelude.{cond, flat_map, nat_eq, ◌≡◌, ◌≢◌, ℕ, zero, suc, ◌+◌, ◌<◌, ◌≤◌, ◌⊎◌, List, [], ◌∷◌, ◌++◌, length}
 use Rattle.capnp_format.specs.Segments.{Segments, segment, word_at, Target}
 use Rattle.capnp_format.specs.Tree.{Tree, Struct}
@@ -12,7 +12,8 @@ abbrev pub struct_data_words : Tree → List ℕ
 struct_data_words (Struct ws ts) = ws
 struct_data_words t = []
 
--- The landing pads of n pointers from a place on; and of k pointers from a place on, and every w words again, n times.
+-- The landing pads of n consecutive pointers from a place on; and those of n rows of k pointers,
+-- which start every w words.
 abbrev pub pads_from : Segments → ℕ → ℕ → ℕ → List Interval
 pads_from S s p zero = []
 pads_from S s p (suc n) = pads_of (word_at S s p) ++ pads_from S s (p + 1) n
@@ -21,9 +22,10 @@ abbrev pub pads_in_rows : Segments → ℕ → ℕ → ℕ → ℕ → ℕ → L
 pads_in_rows S s p w k zero = []
 pads_in_rows S s p w k (suc n) = pads_from S s p k ++ pads_in_rows S s (p + w) w k n
 
--- An object of size words, where the pointer at (u, q) leads in S, is made anew in wide words: from S to M the new object b and its pads are written
--- into new words; from M to Q the pointer is overwritten, last of all, and the old object and its pads become zero. Its pointers had pads before, and
--- have pads after; fresh are the new words that are used.
+-- An object of `size` words, to which the pointer at (u, q) leads in S, is remade in `wide` words.
+-- From S to M the new object b and its pads are written into new words. From M to Q the pointer is
+-- overwritten, last of all, and the old object and its pads are zeroed. Its pointers had the pads
+-- `before`, and have the pads `after`; `fresh` are the new words that are used.
 pub record IsRehoused (S M Q : Segments) (u q : ℕ) (a : Target) (size : ℕ) (b : Target) (wide : ℕ) (before after fresh : List Interval) : Type 0 where
   pub more_segments : length S ≤ length M
   pub more_words : (x : ℕ) → length (segment S x) ≤ length (segment M x)
@@ -39,7 +41,8 @@ pub record IsRehoused (S M Q : Segments) (u q : ℕ) (a : Target) (size : ℕ) (
   pub only_old : (x y : ℕ) → times (word_interval u q ∷ pads_of (word_at S u q) ++ object_of a size ∷ []) x y ≡ 0 → word_at Q x y ≡ word_at M x y
   pub zero_old : (x y : ℕ) → (x ≢ u) ⊎ (y ≢ q) → 0 < times (pads_of (word_at S u q) ++ object_of a size ∷ []) x y → word_at Q x y ≡ 0
 
--- The landing pads of moved pointers at their old places, and at the new ones; and the own ones of one pointer.
+-- The landing pads of moved pointers at their old places, and at the new ones; and the own landing
+-- pads of one pointer.
 abbrev pub old_pads : Segments → List Move → List Interval
 old_pads R ms = flat_map (λ (m : Move). pads_of (word_at R m.from.segment m.from.at)) ms
 

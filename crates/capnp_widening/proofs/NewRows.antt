@@ -1,4 +1,5 @@
--- Rows of a list of structs that is made anew, step by step: the words that are written there, and the pointers.
+-- Rows of a list of structs that is remade, step by step: the words that are written there, and the
+-- pointers.
 use Rattle.std.proofs.Common.{[], ◌≡◌, ◌⊎◌, inl, inr, ℕ, ◌+◌, ◌*◌, ◌<◌, ◌≤◌, ◌∷◌, ◌++◌, length, zero, suc, refl, sym, ap, ap₂, ◌∙◌, subst, arith, append-nil}
 use Rattle.std.proofs.lemmas.Bool.{cases_eq}
 use Rattle.std.proofs.lemmas.List.{length-replicate}
@@ -19,7 +20,7 @@ use Rattle.capnp_widening.proofs.StructRemade.{words_by_each, zeros_at}
 use Rattle.capnp_widening.proofs.NewObjects.{IsRehoused, pads_from, pads_in_rows, old_pads, new_pads}
 use Rattle.capnp_widening.proofs.Statements.{HaveValuesInside, row_moves, rows_moves}
 
--- words are taken for a list, and its tag and the data of its rows are written into them
+-- Words are allocated for a list, and its tag and the data of its rows are written into them.
 pub list_begun : (S T D : Segments) (s p w k n wd wk v at pads : ℕ) → HaveValuesInside S (rows_moves s p w v (at + pads + 1 + wd) (wd + wk) k n) → k ≤ wk → IsGrown S T v at (pads + (1 + n * (wd + wk))) →
     length D ≡ length T → ((x : ℕ) → length (segment D x) ≡ length (segment T x)) → ((x y : ℕ) → times (row v (at + pads) (1 + n * (wd + wk)) ∷ []) x y ≡ 0 → word_at D x y ≡ word_at T x y) →
     ((i j : ℕ) → i < n → wd ≤ j → j < wd + wk → word_at D v (at + pads + 1 + i * (wd + wk) + j) ≡ 0) →
@@ -50,7 +51,7 @@ list_begun S T D s p w k n wd wk v at pads stand narrow g segments words kept em
           subst (λ u. 0 < times (row v (at + pads) (1 + n * z) ∷ []) u x) (sym ey) (omega (arith, of_row v (at + pads) (1 + n * z) x (omega (arith, ex)) (omega (arith, ex, lj, narrow, element_within z n i li)))));
     }
 
--- what stands in the rows in the end
+-- What is in the rows in the end.
 pub record NewRows (M D : Segments) (s p w k n wd wk v at : ℕ) (b : Target) : Type 0 where
   pub word : (i j : ℕ) → i < n → j < wd + wk → (j < wd) ⊎ (wd + k ≤ j) → word_at M b.segment (b.start + 1 + i * (wd + wk) + j) ≡ word_at D v (at + 1 + i * (wd + wk) + j)
   pub tag : word_at M b.segment b.start ≡ word_at D v at
@@ -100,13 +101,13 @@ module _ (S T D P R Q : Segments) (u q : ℕ) (a : Target) (size : ℕ) (b : Tar
       subst (λ is. IsRehoused S M Q u q a size b wide is (pads_in_rows M b.segment (b.start + 1 + wd) z k n) fresh) before
       (subst (λ is. IsRehoused S M Q u q a size b wide (old_pads P ms) is fresh) after (is_rehoused S T D P R Q u q a size b v at pads wide ms h))
 
--- words of zero
+-- Zero words.
 pub zeros_there : (M : Segments) (s p d : ℕ) → p + d ≤ length (segment M s) → ((j : ℕ) → j < d → word_at M s (p + j) ≡ 0) → HasWords M s p (words_of_zero d)
 zeros_there M s p d fits h =
     let long : length (words_of_zero d) ≡ d = length-replicate {A = ℕ} d 0 in
     words_by_each M s p (words_of_zero d) (omega (arith, fits, long)) (λ j l. h j (omega (arith, l, long)) ∙ sym (zeros_at d j))
 
--- pads of one pointer in each row of one word, and of none
+-- The pads of n pointers, one in each row of one word; and of no pointers.
 pub pads_in_words : (M : Segments) (s p n : ℕ) → pads_in_rows M s p 1 1 n ≡ pads_from M s p n
 pads_in_words M s p zero = refl
 pads_in_words M s p (suc n) = ap₂ (λ is js. is ++ js) (append-nil (pads_of (word_at M s p))) (pads_in_words M s (p + 1) n)
@@ -115,12 +116,12 @@ pub no_pads : (M : Segments) (s p w n : ℕ) → pads_in_rows M s p w 0 n ≡ []
 no_pads M s p w zero = refl
 no_pads M s p w (suc n) = no_pads M s (p + w) w n
 
--- old pointers one behind the other, which are to stand in rows
+-- Consecutive old pointers, which go into rows.
 pub stand_in_rows : (B : Segments) (s p v r x y z n : ℕ) → HaveValuesInside B (row_moves s p v r n) → HaveValuesInside B (rows_moves s p 1 x y z 1 n)
 stand_in_rows B s p v r x y z zero h = tt
 stand_in_rows B s p v r x y z (suc n) h = (h.0, stand_in_rows B s (p + 1) v (r + 1) x (y + z) z n h.1)
 
--- no pointers
+-- No pointers.
 pub none_stand : (B : Segments) (s p w x y z n : ℕ) → HaveValuesInside B (rows_moves s p w x y z 0 n)
 none_stand B s p w x y z zero = tt
 none_stand B s p w x y z (suc n) = none_stand B s (p + w) w x (y + z) z n

@@ -1,4 +1,4 @@
--- What the steps of making a list of numbers one of structs leave, as the calls say it.
+-- What the steps of making a list of numbers one of structs leave, in the words of the calls.
 use Rattle.std.proofs.Common.{◌≡◌, ℕ, ◌+◌, ◌*◌, ◌<◌, ◌≤◌, max, [], ◌∷◌, length, sym, ap, subst, arith}
 use Rattle.capnp_format.specs.Numbers.{element_bits, words_for}
 use Rattle.capnp_format.specs.Segments.{Segments, segment, word_at, IsPlace}
@@ -86,7 +86,7 @@ numbers_made_anew s b d r z q T id at old size h two five some made taken = λ t
     subst (λ y. BecomesAnew (call_at id at s q) (Flat w ns) (Structs y.data_words y.pointers (struct_for_each size.data_words size.pointers ns))) one anew in
     subst (λ u. BecomesAnew (call_at id at s q) u (as_structs size u)) (sym k.tree_of) (subst (λ u. BecomesAnew (call_at id at s q) (Flat w ns) u) (sym (numbers_as_structs size w ns two)) there))
 
--- the numbers of a list that is stored lie in their segment
+-- The numbers of a stored list are inside their segment.
 pub numbers_inside : (S : Segments) (id at : ℕ) (t : Tree) (l : ExistingList) → size_number l.size ≤ 5 → IsList S id at l t → NumbersInside S l
 numbers_inside S id at t l five i =
     let k = are_numbers S id at t l five i in

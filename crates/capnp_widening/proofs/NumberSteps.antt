@@ -1,4 +1,4 @@
--- A list of numbers made one of structs, by the steps that the calls say.
+-- A list of numbers is made one of structs, by the steps that the calls state.
 use Rattle.std.proofs.Common.{◌≡◌, inl, inr, ℕ, ◌+◌, ◌*◌, ◌/◌, ◌%◌, ◌^◌, ◌<◌, ◌≤◌, max, [], ◌∷◌, length, List, get_or, refl, sym, ap, ◌∙◌, subst, arith}
 use Rattle.std.proofs.lemmas.Bool.{cases_eq, cases_lt}
 use Rattle.capnp_format.specs.Numbers.{element_bits, words_for}
@@ -46,7 +46,7 @@ use Rattle.capnp_widening.proofs.Statements.{SettlesRoom, rewriting, rows_moves,
 pub no_numbers_copied : (S : Segments) (s p width v r z : ℕ) → CopiedNumbers S S s p width v r z 0
 no_numbers_copied S s p width v r z = record { segments = refl; words = λ x. refl; here = λ i l. absurd (omega arith); behind = λ i j l m o. refl; kept = λ x y e. refl }
 
--- one number more, where the old ones lie before the new rows
+-- One more number, if the old ones come before the new rows.
 pub numbers_copied_next : (S M R : Segments) (s p width v r z i x : ℕ) → CopiedNumbers S M s p width v r z i → (s ≡ v → (64 * p + width * i) / 64 < r) → 0 < z → r + i * z < length (segment M v) → R ≡ with_word M v (r + i * z) x →
     x ≡ field_in (segment M s) (64 * p + width * i) width → CopiedNumbers S R s p width v r z (i + 1)
 numbers_copied_next S M R s p width v r z i x b apart some place e f =
@@ -80,7 +80,7 @@ pub record NumberSteps (S T B D R Z Q : Segments) (id at width n : ℕ) (size : 
   pub object_zeroed : (target S id at).start + words_for width n ≤ length (segment R (target S id at).segment) → IsZeroed R Z (row (target S id at).segment (target S id at).start (words_for width n) ∷ [])
   pub pads_zeroed : PadsInside Z (word_at S id at) → IsZeroed Z Q (pads_of (word_at S id at))
 
--- what stands in the rows before the pointer is set
+-- What is in the rows before the pointer is set.
 record NumbersStand (S D : Segments) (ns : List ℕ) (v r wd wk : ℕ) : Type 0 where
   first : (i : ℕ) → i < length ns → word_at D v (r + i * (wd + wk)) ≡ get_or ns i 0
   zero : (i j : ℕ) → i < length ns → 0 < j → j < wd + wk → word_at D v (r + i * (wd + wk) + j) ≡ 0
@@ -171,7 +171,7 @@ numbers_become S T B D R Z Q id at width ns d k h x two five s =
       found_there (target Q id at) b wd k (element_count (struct_for_each d k ns)) n v (h.at + h.pads) (ap target_in last.1) segment_of start_of (count-struct_for_each d k ns),
     )
 
--- where it stands, and what words were taken for it
+-- The place of the list, and the words allocated for it.
 pub record NumbersTaken (s b d q : View) (id n : ℕ) (size : StructSize) (h : Room) : Type 0 where
   pub kept : KeepsMemory s b
   pub taken : TakesWords s b id (structs_words n size)

@@ -1,4 +1,4 @@
--- The elements of a list of numbers, as they stand in its words.
+-- The elements of a list of numbers, from its words.
 use Rattle.std.proofs.Common.{◌≡◌, ℕ, zero, suc, ◌+◌, ◌*◌, ◌/◌, ◌%◌, ◌^◌, ◌<◌, ◌≤◌, List, length, get_or, drop, sym, ap, ap₂, ◌∙◌, subst, arith, get_or-take, get_or-drop}
 use Rattle.std.proofs.lemmas.Nat.{pow_pos, shr-shr}
 use Rattle.capnp_format.specs.Numbers.{element_bits, words_for, from_digits}
@@ -16,11 +16,11 @@ use Rattle.capnp_making.specs.Stored.{IsStored}
 use Rattle.capnp_contents.proofs.FieldDigits.{mod_same}
 use Rattle.capnp_contents.proofs.WithBits.{bit_at-mod, bit_at-div}
 
--- some bits of the lowest k
+-- Bits among the lowest k.
 low_bits : (y k o w : ℕ) → o + w ≤ k → y % 2 ^ k / 2 ^ o % 2 ^ w ≡ y / 2 ^ o % 2 ^ w
 low_bits y k o w l = mod_same (y % 2 ^ k / 2 ^ o) (y / 2 ^ o) w (λ i m. bit_at-div (y % 2 ^ k) o i ∙ bit_at-mod y k (o + i) (omega arith) ∙ sym (bit_at-div y o i))
 
--- a digit of w bits, as bits of the word that it lies in
+-- A digit of w bits: bits of the word that holds it.
 digit_of_word : (x w i q o : ℕ) → w * i ≡ 64 * q + o → o + w ≤ 64 → x / (2 ^ 64) ^ q % 2 ^ 64 / 2 ^ o % 2 ^ w ≡ x / (2 ^ w) ^ i % 2 ^ w
 digit_of_word x w i q o e l =
     low_bits (x / (2 ^ 64) ^ q) 64 o w l
@@ -29,7 +29,7 @@ digit_of_word x w i q o e l =
     ∙ ap (λ y. x / 2 ^ y % 2 ^ w) (sym e)
     ∙ ap (λ y. x / y % 2 ^ w) (sym (pow_pow w i))
 
--- no number lies in two words
+-- A number is inside one word.
 pub in_one_word : (size i : ℕ) → 2 ≤ size → size ≤ 5 → element_bits size * i % 64 + element_bits size ≤ 64
 in_one_word (suc (suc zero)) i l m = omega arith
 in_one_word (suc (suc (suc zero))) i l m = omega arith
@@ -39,7 +39,7 @@ in_one_word (suc (suc (suc (suc (suc (suc size)))))) i l m = absurd (omega arith
 in_one_word zero i l m = absurd (omega arith)
 in_one_word (suc zero) i l m = absurd (omega arith)
 
--- a number lies in the words of its list
+-- A number is inside the words of its list.
 pub in_words : (size i n : ℕ) → 2 ≤ size → size ≤ 5 → i < n → element_bits size * i / 64 < words_for size n
 in_words (suc (suc zero)) i n l m h = omega arith
 in_words (suc (suc (suc zero))) i n l m h = omega arith

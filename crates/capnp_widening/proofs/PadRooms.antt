@@ -1,4 +1,4 @@
--- Room for landing pads, where pointers are moved into another segment.
+-- Room for landing pads if pointers are moved into another segment.
 use Rattle.std.proofs.Common.{◌≡◌, ◌≢◌, inl, inr, true, false, ℕ, zero, suc, ◌+◌, ◌-◌, ◌*◌, ◌<◌, ◌≤◌, cond, nat_eq, nat_lt, Result, Ok, Err, IsOk, OnOk, List, [], ◌∷◌, ◌++◌, length, refl, sym, ap, ap₂, ◌∙◌, subst, arith}
 use Rattle.std.proofs.Common.{lt_of_lt_of_le}
 use Rattle.std.proofs.lemmas.Bool.{cases_lt, cases_eq}
@@ -21,7 +21,7 @@ use Rattle.capnp_widening.proofs.Rooms.{HasSomeRoom, not_true}
 use Rattle.capnp_widening.proofs.Rows.{rows_next}
 use Rattle.capnp_widening.proofs.Statements.{a_move, row_moves, rows_moves}
 
--- the landing pads that a pointer needs in another segment
+-- The landing pads that a pointer needs in another segment.
 abbrev near_word : ℕ → ℕ
 near_word x = cond (nat_eq x 0) 0 (cond (nat_lt (kind x) 2) 1 0)
 
@@ -49,7 +49,7 @@ near_copied S s p v r l = near_one S s p v r 0 (copied_word (word_at S s p) l)
 pub near_far : (S : Segments) (s p v r : ℕ) → word_at S s p ≢ 0 → kind (word_at S s p) < 2 → near_pointers S (a_move s p v r ∷ []) ≡ 1
 near_far S s p v r some l = near_one S s p v r 1 (far_word (word_at S s p) some l)
 
--- the landing pads that pointers need one after the other
+-- The landing pads that consecutive pointers need.
 
 near-append : (S : Segments) (ms ns : List Move) → near_pointers S (ms ++ ns) ≡ near_pointers S ms + near_pointers S ns
 near-append S [] ns = omega arith
@@ -67,7 +67,7 @@ near_rows_more S s p w v r z k (suc i) (suc n) l =
     let first = row_moves s p v r k in
     omega (arith, near-append S first (rows_moves s (p + w) w v (r + z) z k i), near-append S first (rows_moves s (p + w) w v (r + z) z k n), near_rows_more S s (p + w) w v (r + z) z k i n (omega arith))
 
--- there are no more landing pads than pointers
+-- There are at most as many landing pads as pointers.
 
 pub near_row_few : (S : Segments) (s p v r k : ℕ) → near_pointers S (row_moves s p v r k) ≤ k
 near_row_few S s p v r zero = omega arith
@@ -86,7 +86,7 @@ near_few S a b (Structs e k es) (Structs d q fs) =
     near_rows_few S a.segment (a.at + 1 + e) (e + k) b.segment (b.at + 1 + d) (d + q) k (element_count es)
 near_few S a b t u = omega arith
 
--- pointers need as many landing pads wherever they go
+-- The number of landing pads that pointers need doesn't depend on where they go.
 
 pub near_same_row : (S R : Segments) (s p v r v' r' k : ℕ) → ((y : ℕ) → y < p + k → word_at R s y ≡ word_at S s y) → near_pointers R (row_moves s p v r k) ≡ near_pointers S (row_moves s p v' r' k)
 near_same_row S R s p v r v' r' zero same = refl
@@ -104,7 +104,7 @@ near_same_rows S R s p w v r z v' r' z' k (suc n) m inside same =
 pub none_elsewhere : (s p n x y : ℕ) → x ≢ s → times (row s p n ∷ []) x y ≡ 0
 none_elsewhere s p n x y other = grind (arith, nat_tests)
 
--- room for pads
+-- Room for pads.
 
 pub fewer_pads : (v : View) (k n m : ℕ) → n ≤ m → HasPadRoom v k m → HasPadRoom v k n
 fewer_pads v k n m l (j, there, other, fits) = (j, there, other, omega (arith, fits))
@@ -123,7 +123,7 @@ next_elsewhere : (v : View) (k z : ℕ) → k < length v.words → v.room k < le
 next_elsewhere v k z there full (inl fit) = λ e. (let fits = subst (λ i. length (segment v.words i) + 2 ≤ v.room i) e fit.1 in omega (arith, full, fits))
 next_elsewhere v k z there full (inr (all, last)) = λ e. omega (arith, there, last, e)
 
--- one pad is taken: one word, or two elsewhere
+-- One pad is allocated: one word, or two elsewhere.
 pub pad_taken : (a b : View) (k n : ℕ) → k < length a.words → KeepsMemory a b → TakesWords a b k 1 → HasPadRoom a k (1 + n) → HasPadRoom b k n
 pad_taken a b k n exists kept taken (j, there, other, fits) = elim (cases_lt (a.room k) (length (segment a.words k) + 1)) [
   | inl full ↦ (let (z, next, long) = taken.far full in
@@ -133,7 +133,8 @@ pad_taken a b k n exists kept taken (j, there, other, fits) = elim (cases_lt (a.
       (j, omega (arith, there, long.segments), other, omega (arith, fits, room, kept.1 j there, kept.1 k exists, long.gained, long.others j other)))
 ]
 
--- x words are taken for an object in segment z, and some segment had room for them and for pads
+-- x words are allocated for an object in segment z, and some segment had room for them and for
+-- pads.
 pub pads_left : (v w : View) (z x k n j : ℕ) → z ≢ k → k < length v.words → n ≤ x → Lengthens v.words w.words z x → SameRoomBelow (length v.words) v.room w.room → length (segment w.words z) ≤ w.room z → j < length v.words →
     length (segment v.words j) + (x + 2 * (n - (v.room k - length (segment v.words k)))) ≤ v.room j → HasPadRoom w k n
 pads_left v w z x k n j apart exists few long room within there fits =
@@ -144,15 +145,15 @@ pads_left v w z x k n j apart exists few long room within there fits =
       | inr other ↦ (j, omega (arith, there, long.segments), other, omega (arith, fits, room j there, room k exists, same, gains v.words w.words z x j long))
     ]
 
--- where no pad is needed
+-- If no pad is needed, room for the words is enough.
 pub no_pads : (v : View) (s m k : ℕ) → HasRoom v s m → HasRoomAndPads v s m k 0
 no_pads v s m k h = subst (λ i. HasRoom v s i) (let e : m ≡ m + 2 * (0 - (v.room k - length (segment v.words k))) = omega arith in e) h
 
--- where segment k is full, two words
+-- If segment k is full, room for a pad is room for two words in some segment.
 pub one_pad : (v : View) (k : ℕ) → v.room k < length (segment v.words k) + 1 → HasPadRoom v k 1 → HasSomeRoom v 2
 one_pad v k full (j, there, other, fits) = (j, there, omega (arith, fits, full))
 
--- pointers moved into another segment, one list after the other
+-- Pointers moved into another segment, one list after the other.
 
 pub record Apart (a b : View) (k : ℕ) (ms : List Move) : Type 0 where
   pub left : (n : ℕ) → HasPadRoom a k (near_pointers a.words ms + n) → HasPadRoom b k n
@@ -174,7 +175,7 @@ apart_both a m b k ms ns longer same f g = record {
   kept = λ y l. g.kept y (lt_of_lt_of_le l (longer.words k)) ∙ f.kept y l;
 }
 
--- one pointer more
+-- One more pointer.
 same_pointer : (a m : View) (s p v r n i : ℕ) → p + n ≤ length (segment a.words s) → i < n → Apart a m s (row_moves s p v r i) → near_pointers m.words (a_move s (p + i) v (r + i) ∷ []) ≡ near_pointers a.words (a_move s (p + i) v (r + i) ∷ [])
 same_pointer a m s p v r n i inside less f = ap (λ x. near_word x + 0) (f.kept (p + i) (omega (arith, inside, less)))
 
@@ -191,7 +192,7 @@ pads_at a m s p v r n i x inside less f h =
     let next = near_pointers m.words (a_move s (p + i) v (r + i) ∷ []) in
     f.left (next + x) (fewer_pads a s (near_pointers a.words (row_moves s p v r i) + (next + x)) (near_pointers a.words (row_moves s p v r n) + x) (omega (arith, same, more, whole)) h)
 
--- one row more
+-- One more row.
 same_row : (a m : View) (s p w v r z k i : ℕ) → p + i * w + k ≤ length (segment a.words s) → Apart a m s (rows_moves s p w v r z k i) → near_pointers m.words (row_moves s (p + i * w) v (r + i * z) k) ≡ near_pointers a.words (row_moves s (p + i * w) v (r + i * z) k)
 same_row a m s p w v r z k i inside f =
     near_same_row a.words m.words s (p + i * w) v (r + i * z) v (r + i * z) k (λ y l. f.kept y (lt_of_lt_of_le l inside))
@@ -209,11 +210,11 @@ row_pads_at a m s p w v r z k n i x inside less f h =
     let next = near_pointers m.words (row_moves s (p + i * w) v (r + i * z) k) in
     f.left (next + x) (fewer_pads a s (near_pointers a.words (rows_moves s p w v r z k i) + (next + x)) (near_pointers a.words (rows_moves s p w v r z k n) + x) (omega (arith, same, more, whole)) h)
 
--- where a call isn't refused, what holds then
+-- What holds if a call isn't refused.
 pub granted_so : {A E : Type 0} (r : Result A E) (P : Type 0) → IsOk r → OnOk r P → P
 granted_so (Ok x) P e h = h
 granted_so (Err k) P e h = absurd (not_true e)
 
--- a refused call has no room
+-- A call that is refused had no room.
 pub refused_apart : {A : Type 0} (a b : View) (k : ℕ) (ms : List Move) (e : ErrorKind) → ((n : ℕ) → HasPadRoom a k (near_pointers a.words ms + n) → false ≡ true) → MovesApart {A = A} (Err e) a b k ms
 refused_apart a b k ms e none = record { fits = λ n h. absurd (not_true (none n h)); kept = tt }

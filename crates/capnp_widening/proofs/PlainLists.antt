@@ -1,4 +1,4 @@
--- A list whose elements are no structs, made one of structs.
+-- A list whose elements aren't structs is made one of structs.
 use Rattle.std.proofs.Common.{◌≡◌, ℕ, zero, suc, ◌+◌, ◌*◌, ◌≤◌, max, List, [], ◌∷◌, length, Some, Ok, refl, sym, ap, ap₂, subst, arith}
 use Rattle.capnp_format.specs.Segments.{Segments}
 use Rattle.capnp_format.specs.Tree.{Tree, Null, Capability, Struct, Flat, Pointers, Structs, Trees, no_trees, tree, element}
@@ -20,7 +20,7 @@ first_pointers d k no_trees = refl
 first_pointers d k (tree t ts) =
     ap₂ (λ us es. element (words_of_zero d) us es) (greater_trees k (tree t no_trees)) (first_pointers d k ts)
 
--- a list of numbers, or of void
+-- A list of numbers, or of void.
 
 pub record AreNumbers (S : Segments) (s p : ℕ) (t : Tree) (l : ExistingList) : Type 0 where
   pub numbers : List ℕ
@@ -47,7 +47,7 @@ pub first_numbers : (d k : ℕ) (ns : List ℕ) → struct_for_each (max 1 d) k 
 first_numbers d k [] = refl
 first_numbers d k (x ∷ xs) = ap₂ (λ ws es. element ws (nulls k) es) (greater_words d (x ∷ [])) (first_numbers d k xs)
 
--- numbers as wide as bytes or wider
+-- Numbers that are as wide as bytes or wider.
 pub numbers_limited : (d q w : ℕ) (ns : List ℕ) → 2 ≤ w → list_widened d q (Flat w ns) ≡ limited (length ns * (max 1 d + q)) (Structs (max 1 d) q (struct_for_each d q ns))
 numbers_limited d q zero ns l = absurd (omega arith)
 numbers_limited d q (suc zero) ns l = absurd (omega arith)

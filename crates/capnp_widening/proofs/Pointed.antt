@@ -21,7 +21,7 @@ use Rattle.capnp_widening.specs.Pointed.{HasPlainPads}
 use Rattle.capnp_widening.proofs.SameObjects.{double_far_leads}
 use Rattle.capnp_widening.proofs.Statements.{IsPointed}
 
--- a near pointer
+-- A near pointer.
 pub pointed_near : (S R : Segments) (s p b x : ℕ) → p < length (segment S s) → b ≤ length (segment S s) → R ≡ with_word S s p x → x ≢ 0 → kind x ≢ 2 → IsOffsetTo p (offset_bits x) b →
     IsPointed S R s p (record { word = x; segment = s; start = b; pads = 0 })
 pointed_near S R s p b x place fits e some near offset =
@@ -36,7 +36,7 @@ pointed_near S R s p b x place fits e some near offset =
       zero = λ v r h l. get_or_past (segment R v) r 0 (omega (arith, put.words v));
     }
 
--- a far pointer to a pad in the object's segment
+-- A far pointer to a pad in the object's segment.
 pub pointed_single : (S T U R : Segments) (s p v q b x f : ℕ) → p < length (segment S s) → b ≤ length (segment S v) → IsGrown S T v q 1 → U ≡ with_word T v q x → R ≡ with_word U s p f → kind x ≢ 2 → IsOffsetTo q (offset_bits x) b →
     kind f ≡ 2 → is_double f ≡ 0 → far_position f ≡ q → upper_half f ≡ v → IsPointed S R s p (record { word = x; segment = v; start = b; pads = 1 })
 pointed_single S T U R s p v q b x f place fits g e h near offset far single at to =
@@ -57,7 +57,7 @@ pointed_single S T U R s p v q b x f place fits g e h near offset far single at 
       zero = λ u r w l. put.kept u r (outside s p u r (λ y z. omega (arith, place, subst (λ k. length (segment S k) ≤ r) y l))) ∙ pad.kept u r (let j = ap (λ js. times js u r) one in omega (arith, j)) ∙ g.zero u r l;
     }
 
--- a far pointer to two pads: where the object starts, and what it is
+-- A far pointer to two pads: where the object starts, and what it is.
 pub pointed_double : (S T U V R : Segments) (s p v b k q f x h : ℕ) → p < length (segment S s) → v < length S → b ≤ length (segment S v) → IsGrown S T k q 2 → U ≡ with_word T k q f → V ≡ with_word U k (q + 1) x → R ≡ with_word V s p h →
     upper_half f ≡ v → far_position f ≡ b → kind x ≢ 2 → kind h ≡ 2 → is_double h ≡ 1 → far_position h ≡ q → upper_half h ≡ k → IsPointed S R s p (record { word = x; segment = v; start = b; pads = 2 })
 pointed_double S T U V R s p v b k q f x h place exists fits g e e' e'' object start near far double at to =
@@ -93,7 +93,7 @@ pointed_double S T U V R s p v b k q f x h place exists fits g e e' e'' object s
       | inr some ↦ (let i = in_row k q 2 u r (omega arith) in absurd (other i.0 i.1))
     ]
 
--- and these two pads stand there
+-- The two pads are there.
 pub pads_stand : (S T U V R : Segments) (s p k q f x h : ℕ) → p < length (segment S s) → IsGrown S T k q 2 → U ≡ with_word T k q f → V ≡ with_word U k (q + 1) x → R ≡ with_word V s p h →
     (word_at R s p ≡ h) × (word_at R k q ≡ f) × (word_at R k (q + 1) ≡ x)
 pads_stand S T U V R s p k q f x h place g e e' e'' =
@@ -106,11 +106,11 @@ pads_stand S T U V R s p k q f x h place g e e' e'' =
       put.kept k (q + 1) (not_there (q + 1) (omega arith)) ∙ second.here,
     )
 
--- a word that is no far pointer, or one to a single pad, has no two pads
+-- A word that isn't a far pointer, or is one to a single pad, doesn't have two pads.
 pub no_two_pads : (R : Segments) (x y : ℕ) → y ≡ x → (kind x ≡ 2 → is_double x ≡ 1 → ⊥) → HasPlainPads R y
 no_two_pads R x y e none = λ far double. absurd (none (ap kind (sym e) ∙ far) (ap is_double (sym e) ∙ double))
 
--- a word that leads to two pads, which are these
+-- A word that leads to two pads, which are these.
 pub two_pads : (R : Segments) (y h k q f x : ℕ) → y ≡ h → upper_half h ≡ k → far_position h ≡ q → word_at R k q ≡ f → word_at R k (q + 1) ≡ x → (kind f ≡ 2) × (is_double f ≡ 0) × (offset_bits x ≡ 0) → HasPlainPads R y
 two_pads R y h k q f x e at to first second plain = λ far double.
     subst (λ z. (kind (word_at R (upper_half z) (far_position z)) ≡ 2) × (is_double (word_at R (upper_half z) (far_position z)) ≡ 0) × (offset_bits (word_at R (upper_half z) (far_position z + 1)) ≡ 0)) (sym e)

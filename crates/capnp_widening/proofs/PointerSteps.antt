@@ -1,4 +1,4 @@
--- A list of pointers, and one of void, made one of structs, by the steps that the calls say.
+-- A list of pointers, and one of void, is made one of structs, by the steps that the calls state.
 use Rattle.std.proofs.Common.{◌≡◌, inl, inr, ℕ, pred, ◌+◌, ◌*◌, ◌≤◌, max, [], ◌∷◌, length, List, refl, sym, ap, ◌∙◌, subst, arith}
 use Rattle.capnp_format.specs.Numbers.{words_for}
 use Rattle.capnp_format.specs.Segments.{Segments, segment, word_at, Target}
@@ -36,7 +36,7 @@ use Rattle.capnp_widening.proofs.Statements.{HaveValuesInside, rewriting, rows_m
 abbrev pub pointer_rows : Segments → ℕ → ℕ → Trees → ElementRows
 pointer_rows S id at ts = record { segment = (target S id at).segment; at = (target S id at).start; tag = 0; size = record { data_words = 0; pointers = 1 }; count = count ts }
 
--- the pointers of a stored list
+-- The pointers of a stored list.
 pub record PointersStored (S : Segments) (id at : ℕ) (ts : Trees) (a : Target) : Type 0 where
   pub leads_to : Leads S id at a
   pub fits : a.start + count ts ≤ length (segment S a.segment)
@@ -178,7 +178,7 @@ pointers_left S T B D P U Z id at ts size h x s =
     undone S T D P U Z v h.at h.pads (1 + n * z) ms begun (subst (λ p. MovesSome D P (rows_moves a.segment p 1 v (first + wd) z 1 n)) from_zero s.some)
     (subst (λ p. Unmoves P U (rows_moves a.segment p 1 v (first + wd) z 1 n)) from_zero s.unmoves) s.zeroed
 
--- a list of void
+-- A list of void.
 
 abbrev pub void_rows : Segments → ℕ → ℕ → List ℕ → ElementRows
 void_rows S id at ns = record { segment = (target S id at).segment; at = (target S id at).start; tag = 0; size = record { data_words = 0; pointers = 0 }; count = length ns }

@@ -1,4 +1,4 @@
--- One pointer written anew: null, as it is, near, or far.
+-- One pointer is rewritten: null, unchanged, near, or far.
 use Rattle.std.proofs.Common.{◌≡◌, ◌≢◌, ◌⊎◌, inl, inr, ℕ, ◌-◌, ◌^◌, ◌<◌, ◌≤◌, [], ◌∷◌, length, refl, sym, ap, ◌∙◌, subst, arith}
 use Rattle.std.proofs.lemmas.Bool.Decides.{nat_tests}
 use Rattle.capnp_format.specs.Word.{kind, is_double, struct_word, upper_half}
@@ -18,7 +18,7 @@ use Rattle.capnp_widening.proofs.TakingWords.{put_writes}
 use Rattle.capnp_widening.proofs.WrittenAnew.{keeps_writes, takes_none, taken_after, writes_nothing, writes_one}
 use Rattle.capnp_widening.proofs.Statements.{WritesPointer, a_move}
 
--- the words of its landing pad
+-- The words of its landing pad.
 
 pad_here : (s v x : ℕ) → s ≡ v → pad_words s v x ≡ 0
 pad_here s v x e = grind (arith, nat_tests)
@@ -32,7 +32,7 @@ pad_copied s v x l = grind (arith, nat_tests)
 pub pad_far : (s v x : ℕ) → s ≢ v → x ≢ 0 → kind x < 2 → pad_words s v x ≡ 1
 pad_far s v x other some l = grind (arith, nat_tests)
 
--- one that is copied
+-- A pointer that is copied.
 form_copied : (s v x : ℕ) → (x ≡ 0) ⊎ (2 ≤ kind x) → IsWrittenAnew s v x x
 form_copied s v x c = record {
   copied = λ d. refl;
@@ -63,12 +63,12 @@ copied_written a b s p u r there within place other e =
       taken = subst (TakesWords a b s) (sym (pad_copied s u x other)) (takes_none a b s there within only);
     })
 
--- the shape of a struct without sections
+-- The shape of a struct without sections.
 empty_shaped : (shape : Shape) (x : ℕ) → IsShape shape x → kind x ≡ 0 → upper_half x ≡ 0 → IsShape shape (struct_word (2 ^ 30 - 1) 0 0)
 empty_shaped (StructShape size) x (a, b, c) k none = (omega arith, omega arith, omega arith)
 empty_shaped (ListShape size n) x (a, b, c) k none = absurd (omega arith)
 
--- near, in the object's segment
+-- Near, in the object's segment.
 pub near_written : (a b : View) (shape : Shape) (s u r y : ℕ) → s ≡ u → s < length a.words → length (segment a.words s) ≤ a.room s → r < length (segment a.words u) → b ≡ record a { words = with_word a.words u r y } →
     IsShape shape y → (IsShape shape (struct_word (2 ^ 30 - 1) 0 0) → y ≡ struct_word (2 ^ 30 - 1) 0 0) → (x : ℕ) → IsShape shape x → x ≢ 0 → WritesPointer s x (call_at u r a b)
 near_written a b shape s u r y here there within place e shaped empty x its some =
@@ -84,7 +84,7 @@ near_written a b shape s u r y here there within place e shaped empty x its some
       taken = subst (TakesWords a b s) (sym (pad_here s u x here)) (takes_none a b s there within (put_writes a b u r y place e));
     }
 
--- far, from another segment
+-- Far, from another segment.
 pub far_written : (a t b : View) (s u r f x : ℕ) → s ≢ u → TakesWords a t s 1 → OnlyWrites t b → word_at b.words u r ≡ f → kind f ≡ 2 → ((is_double f ≡ 0) × (upper_half f ≡ s)) ⊎ (is_double f ≡ 1) →
     x ≢ 0 → kind x < 2 → WritesPointer s x (call_at u r a b)
 far_written a t b s u r f x other taken only here far pads some near = record {

@@ -8,7 +8,8 @@ use Rattle.capnp_making.specs.Memory.{RefusesWords}
 use Rattle.capnp_making.proofs.Memory.{made_refused, words_in}
 use Rattle.capnp_widening.specs.Rooms.{RefusesGrowth, is_allocation_name}
 
--- n words are refused where segment id has no room for them, and no segment has it for one more
+-- n words are refused if segment id has no room for them, and no segment has room for one word
+-- more.
 pub anywhere_refused : (a mid b : View) (id n : ℕ) (k : ErrorKind) → mid ≡ a → (length (segment a.words id) + n ≤ a.room id → ⊥) → IsAllocationRefusal mid b (length mid.words) (n + 1) k → b ≡ record mid { refusals = b.refusals } →
     ((j : ℕ) → IsFirstFit mid (n + 1) j → ⊥) → RefusesWords a b n k
 anywhere_refused a mid b id n k same full named e none =
@@ -16,7 +17,7 @@ anywhere_refused a mid b id n k same full named e none =
     subst (λ v. (length (segment v.words id) + n ≤ v.room id → ⊥) → RefusesWords v b n k) same
     (λ closed. (made_refused mid b id n k (named, all) (ap words_in e) (λ room. elim room [ inl fits ↦ closed fits | inr (j, fit) ↦ none j fit ])).0) full
 
--- by what names they are
+-- The errors with which words are refused.
 words_named : (a b : View) (n : ℕ) (k : ErrorKind) → RefusesWords a b n k → is_allocation_name k ≡ true
 words_named a b n k (inl h, none) = ap is_allocation_name h.0
 words_named a b n k (inr (inl h), none) = ap is_allocation_name h.0

@@ -1,4 +1,4 @@
--- What an object made anew keeps, and what it holds.
+-- What a remade object keeps, and what it holds.
 use Rattle.std.proofs.Common.{◌≡◌, ◌≢◌, ◌⊎◌, inl, inr, ℕ, ◌+◌, ◌≤◌, List, [], ◌∷◌, ◌++◌, length, sym, ◌∙◌, le_trans, le_of_eq, arith}
 use Rattle.std.proofs.lemmas.Bool.{cases_eq}
 use Rattle.std.proofs.lemmas.Bool.Decides.{nat_tests}
@@ -19,7 +19,7 @@ other_word u q x y h = elim (cases_eq x u) [
   | inr other ↦ inl other
 ]
 
--- the old extent in its parts: the place's word, the pads, the object and what its pointers reach
+-- The old extent in its parts: the place's word, the pads, the object, and what its pointers reach.
 abbrev pub Parts : Segments → ℕ → ℕ → Tree → Target → ℕ → List Interval → Type 0
 Parts S u q t a size inner = (y z : ℕ) → times (extent S u q t) y z ≡ times (word_interval u q ∷ []) y z + times (pads_of (word_at S u q)) y z + times (object_of a size ∷ []) y z + times inner y z
 
@@ -40,15 +40,15 @@ module _ (S M Q : Segments) (u q : ℕ) (a : Target) (size : ℕ) (b : Target) (
       | inr f ↦ absurd (omega (arith, x.inside y z (omega arith)))
     ]
 
-    -- S's inner words stand in M
+    -- M has the inner words of S.
     pub inner_agrees : Agree S M inner
     inner_agrees y z v = h.extends y z (x.inside y z (omega (arith, parts y z)))
 
-    -- the new object stands in Q
+    -- Q has the words of the new object in M.
     pub object_stands : SameWords M Q b.segment b.start wide
     object_stands y v w = h.only_old b.segment y (omega (arith, unheld b.segment y (h.object_new y v w), parts b.segment y, changed b.segment y))
 
-    -- what its pointers reach stands in Q
+    -- Q has the words of M that its pointers reach.
     pub reached_stands : (reached : List Interval) → ((y z : ℕ) → times reached y z + times before y z ≡ times inner y z + times after y z) → Agree M Q reached
     reached_stands reached e y z v = elim (cases_eq (times fresh y z) 0) [
       | inl f ↦ h.only_old y z (omega (arith, e y z, h.all_fresh y z, x.apart y z, parts y z, changed y z))

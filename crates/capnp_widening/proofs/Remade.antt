@@ -1,4 +1,5 @@
--- An object made anew, step by step: words are taken, written, pointers moved, the pointer set, and the old object made zero.
+-- An object is remade, step by step: words are allocated and written, pointers are moved, the
+-- pointer is set, and the old object is zeroed.
 use Rattle.std.proofs.Common.{◌≡◌, inl, inr, ℕ, ◌+◌, ◌<◌, ◌≤◌, List, [], ◌∷◌, ◌++◌, length, refl, sym, ap, ap₂, ◌∙◌, subst, arith}
 use Rattle.std.proofs.lemmas.Bool.{cases_eq, cases_lt}
 use Rattle.capnp_format.specs.Segments.{Segments, segment, word_at, Target}
@@ -26,7 +27,8 @@ use Rattle.capnp_widening.proofs.NewObjects.{IsRehoused, old_pads, new_pads}
 use Rattle.capnp_widening.proofs.WrittenAnew.{pads_after, pads_before, written_later}
 use Rattle.capnp_widening.proofs.Statements.{AllMoved, IsSettled}
 
--- Words are taken in segment v from position at on, for pads and an object of wide words, which is then written; its new pointers are to be moved there.
+-- Words are allocated in segment v from position `at` on, for `pads` landing pads and an object of
+-- `wide` words, which is then written. Its new pointers can be moved there.
 pub record IsBegun (S T D : Segments) (v at pads wide : ℕ) (ms : List Move) : Type 0 where
   pub grown : IsGrown S T v at (pads + wide)
   pub segments : length D ≡ length T
@@ -35,7 +37,8 @@ pub record IsBegun (S T D : Segments) (v at pads wide : ℕ) (ms : List Move) : 
   pub can : CanMove S D ms
   pub within : (x y : ℕ) → 0 < times (new_places ms) x y → 0 < times (row v (at + pads) wide ∷ []) x y
 
--- The pointers are moved, the pointer to the object is set, and the old object and its pads become zero.
+-- The pointers are moved, the pointer to the object is set, and the old object and its pads are
+-- zeroed.
 pub record IsRemade (S T D P R Q : Segments) (u q : ℕ) (a : Target) (size : ℕ) (b : Target) (v at pads wide : ℕ) (ms : List Move) : Type 0 where
   pub begun : IsBegun S T D v at pads wide ms
   pub moves : Moves D P ms
@@ -48,7 +51,7 @@ pub record IsRemade (S T D P R Q : Segments) (u q : ℕ) (a : Target) (size : �
   pub inside : (x y : ℕ) → 0 < times (pads_of (word_at S u q) ++ object_of a size ∷ []) x y → y < length (segment S x)
 
 module _ (S T D : Segments) (v at pads wide : ℕ) (ms : List Move) (h : IsBegun S T D v at pads wide ms) where
-  -- old words lie outside all that is taken
+  -- Old words are outside of all that is allocated.
   pub not_taken : (x y : ℕ) → y < length (segment S x) → times (row v at (pads + wide) ∷ []) x y ≡ 0
   not_taken x y l = elim (cases_eq (times (row v at (pads + wide) ∷ []) x y) 0) [
     | inl e ↦ e
@@ -72,7 +75,7 @@ module _ (S T D : Segments) (v at pads wide : ℕ) (ms : List Move) (h : IsBegun
   pub longer : (x : ℕ) → length (segment S x) ≤ length (segment D x)
   longer x = omega (arith, h.grown.grows.words x, h.words x)
 
-  -- old words as they were
+  -- Old words are unchanged.
   pub old_written : (x y : ℕ) → y < length (segment S x) → word_at D x y ≡ word_at S x y
   old_written x y l = h.written x y (omega (arith, not_taken x y l, split x y)) ∙ h.grown.kept x y l
 
@@ -80,7 +83,7 @@ module _ (S T D : Segments) (v at pads wide : ℕ) (ms : List Move) (h : IsBegun
     pub old_moved : (x y : ℕ) → y < length (segment S x) → word_at P x y ≡ word_at S x y
     old_moved x y l = m.kept x y (not_new x y (omega (arith, not_taken x y l, split x y))) (omega (arith, longer x)) ∙ old_written x y l
 
-    -- new words that nothing is written into
+    -- New words that nothing is written into are zero.
     pub zero_moved : (x y : ℕ) → length (segment S x) ≤ y → times (row v (at + pads) wide ∷ []) x y ≡ 0 → times (fresh_pads P ms) x y ≡ 0 → word_at P x y ≡ 0
     zero_moved x y new beside none = elim (cases_lt y (length (segment D x))) [
       | inl l ↦ m.kept x y (not_new x y beside) l ∙ h.written x y beside ∙ h.grown.zero x y new
@@ -88,7 +91,7 @@ module _ (S T D : Segments) (v at pads wide : ℕ) (ms : List Move) (h : IsBegun
     ]
 
 module _ (S T D P R Q : Segments) (u q : ℕ) (a : Target) (size : ℕ) (b : Target) (v at pads wide : ℕ) (ms : List Move) (h : IsRemade S T D P R Q u q a size b v at pads wide ms) where
-  -- the message before its pointer is overwritten
+  -- The message before its pointer is overwritten.
   abbrev pub before_last : Segments
   before_last = with_word R u q (word_at S u q)
 
@@ -101,7 +104,7 @@ module _ (S T D P R Q : Segments) (u q : ℕ) (a : Target) (size : ℕ) (b : Tar
   moved : AreMoved D P ms
   moved = h.moves S h.begun.can
 
-  -- what is written last but one
+  -- The step before the last one writes only the place and the pads.
   pub last_kept : (x y : ℕ) → times (word_interval u q ∷ []) x y ≡ 0 → times (row v at pads ∷ []) x y ≡ 0 → word_at before_last x y ≡ word_at P x y
   last_kept x y e f = put.kept x y e ∙ h.settled.kept x y e f
 
@@ -111,7 +114,7 @@ module _ (S T D P R Q : Segments) (u q : ℕ) (a : Target) (size : ℕ) (b : Tar
     | inr e ↦ (let i = in_row u q 1 x y (omega arith) in let f : y ≡ q = omega (arith, i.1, i.2) in rw (i.0, f) put.here)
   ]
 
-  -- the words beside the place and the pads are those of P
+  -- New words other than the pads are those of P.
   pub last_new : (x y : ℕ) → length (segment S x) ≤ y → times (row v at pads ∷ []) x y ≡ 0 → word_at before_last x y ≡ word_at P x y
   last_new x y new e = last_kept x y (outside u q x y (λ f g. omega (arith, h.place, new, ap (λ z. length (segment S z)) f))) e
 
@@ -163,7 +166,7 @@ module _ (S T D P R Q : Segments) (u q : ℕ) (a : Target) (size : ℕ) (b : Tar
       object_row : (x y : ℕ) → times (object_of b wide ∷ []) x y ≡ times (row v (at + pads) wide ∷ []) x y
       object_row x y = rw (h.segment_of, h.start_of) refl
 
-  -- moved pointers stay so
+  -- Moved pointers stay moved.
   stays : StaysMoved S P before_last ms
   stays =
       let sp = split S T D v at pads wide ms h.begun in
@@ -196,7 +199,7 @@ module _ (S T D P R Q : Segments) (u q : ℕ) (a : Target) (size : ℕ) (b : Tar
   pub moves_same : SameMoves P before_last ms
   moves_same = same_moves S P before_last ms h.begun.can.stand stays
 
-  -- words of the new object that no pointer is written into
+  -- Words of the new object that no pointer is written into.
   pub object_word : (y : ℕ) → at + pads ≤ y → y < at + pads + wide → times (new_places ms) v y ≡ 0 → word_at before_last v y ≡ word_at D v y
   object_word y low high none =
       let one = of_row v (at + pads) wide y low high in
@@ -204,7 +207,7 @@ module _ (S T D P R Q : Segments) (u q : ℕ) (a : Target) (size : ℕ) (b : Tar
       last_new v y (omega (arith, low, h.begun.grown.behind)) (omega (arith, one, sp, once_row v at (pads + wide) v y))
       ∙ moved.kept v y none (omega (arith, high, h.begun.grown.room, h.begun.words v))
 
-  -- the pointer still leads to it in the end
+  -- The pointer still leads to it in the end.
   pub leads_last : Leads Q u q b
   leads_last = leads_agree (record { grows = record { segments = omega (arith, h.zeroed.segments); words = λ x. omega (arith, h.zeroed.words x) }; same = pointer_last })
       (λ x y l. h.zeroed.kept x y (elim (cases_eq (times (pads_of (word_at S u q) ++ object_of a size ∷ []) x y) 0) [
@@ -212,7 +215,7 @@ module _ (S T D P R Q : Segments) (u q : ℕ) (a : Target) (size : ℕ) (b : Tar
         | inr e ↦ absurd (omega (arith, h.inside x y (omega arith), not_taken S T D v at pads wide ms h.begun x y (h.inside x y (omega arith)), split S T D v at pads wide ms h.begun x y, h.settled.pads_there x y))
       ])) h.settled.leads_there
 
-  -- the moved pointers are as they were written
+  -- The moved pointers stay the way they were written.
   pub new_last : (x y : ℕ) → 0 < times (new_places ms) x y → word_at Q x y ≡ word_at P x y
   new_last x y l =
       let new = (h.begun.can.behind x y l).0 in
@@ -223,7 +226,8 @@ module _ (S T D P R Q : Segments) (u q : ℕ) (a : Target) (size : ℕ) (b : Tar
       ∙ h.settled.kept x y (outside u q x y (λ f g. omega (arith, h.place, new, ap (λ z. length (segment S z)) f)))
       (omega (arith, h.begun.within x y l, split S T D v at pads wide ms h.begun x y, once_row v at (pads + wide) x y))
 
--- The object stands anew, where its words and those of its pads were taken; its pointers are moved to where it starts.
+-- The object is new, in the words allocated for it and its pads; its pointers are moved to where it
+-- starts.
 pub object_anew : (s t d p r q : View) (T : Segments) (u i : ℕ) (a : Target) (size : ℕ) (b : Target) (v at pads wide : ℕ) (moves : Start → List Move) →
     IsRemade s.words T d.words p.words r.words q.words u i a size b v at pads wide (moves (record { segment = v; at = at + pads })) → KeepsMemory s t → TakesWords s t u wide → StandsBehind s u wide (record { segment = v; at = at + pads }) → OnlyWrites t d →
     WritesAnew d p (moves (record { segment = v; at = at + pads })) → OnlyWrites p q → StandsAnew (call_at u i s q) wide (moves (start_of (target q.words u i)))
@@ -242,7 +246,7 @@ object_anew s t d p r q T u i a size b v at pads wide moves h kept taken behind 
       pads = pads_before s.words t d q ms first (pads_after s.words d p q ms written.1 last);
     })
 
--- a growth is refused: the pads and the new object are made zero again
+-- A growth is refused: the pads and the new object are zeroed again.
 pub undone : (S T D P U Z : Segments) (v at pads wide : ℕ) (ms : List Move) → IsBegun S T D v at pads wide ms → MovesSome D P ms → Unmoves P U ms → (at + pads + wide ≤ length (segment U v) → IsZeroed U Z (row v (at + pads) wide ∷ [])) → GrowsByZeros S Z
 undone S T D P U Z v at pads wide ms h some f g =
     let done = some.done in

@@ -1,4 +1,4 @@
--- How many words are taken, and what room is left.
+-- How many words are allocated, and what room is left.
 use Rattle.std.proofs.Common.{◌≡◌, ◌⊎◌, true, false, inl, inr, ℕ, zero, suc, ◌+◌, ◌<◌, ◌≤◌, List, [], ◌∷◌, ◌++◌, length, replicate, refl, sym, ap, ◌∙◌, subst, arith}
 use Rattle.std.specs.Prelude.{slice_set, sum_by}
 use Rattle.std.proofs.lemmas.List.{length-append, length-replicate, length-set}
@@ -13,14 +13,14 @@ use Rattle.capnp_making.specs.Memory.{HasRoom, RefusesWords}
 use Rattle.capnp_making.specs.Near.{HasOwnRoom}
 use Rattle.capnp_widening.specs.Rooms.{GrowsByAtMost}
 
--- the words of all segments
+-- The number of words of all segments.
 abbrev pub all_words : Segments → ℕ
 all_words S = sum_by length S
 
 more_words : (ws : List ℕ) (S : Segments) → all_words (ws ∷ S) ≡ length ws + all_words S
 more_words ws S = sum_by-cons length ws S
 
--- all words, where none is taken
+-- If no words are allocated, the number of all words is the same.
 pub same_words : (S R : Segments) → length R ≡ length S → ((x : ℕ) → length (segment R x) ≡ length (segment S x)) → all_words R ≡ all_words S
 same_words [] [] e f = refl
 same_words [] (r ∷ R) e f = absurd (omega arith)
@@ -36,7 +36,7 @@ words_with (ws ∷ S) (suc s) p x = omega (arith, words_with S s p x, more_words
 pub words_put : (S R : Segments) (s p x : ℕ) → R ≡ with_word S s p x → all_words R ≡ all_words S
 words_put S R s p x e = ap all_words e ∙ words_with S s p x
 
--- and where some are
+-- If words are allocated, the number of all words grows by theirs.
 
 pub words_extended : (S : Segments) (s : ℕ) (ws : List ℕ) → s < length S → all_words (extended S s ws) ≡ all_words S + length ws
 words_extended [] s ws l = absurd (omega arith)
@@ -51,7 +51,7 @@ pub words_taken : (S T : Segments) (n s p : ℕ) → IsTaken S T n s p → all_w
 words_taken S T n s p (inl (l, e, f)) = ap all_words f ∙ words_extended S s (replicate n 0) l ∙ ap (λ k. all_words S + k) (length-replicate n 0)
 words_taken S T n s p (inr (l, e, f)) = ap all_words f ∙ words_another S n
 
--- no segment has gained more than were taken
+-- No segment has gained more words than were allocated.
 
 behind : (s r : List ℕ) (S R : Segments) → Grows (s ∷ S) (r ∷ R) → Grows S R
 behind s r S R g = record { segments = omega (arith, g.segments); words = λ x. g.words (suc x) }
@@ -76,11 +76,11 @@ gained (s ∷ S) [] n k g t = absurd (omega (arith, g.segments))
 gained (s ∷ S) (r ∷ R) n zero g t = omega (arith, none_fewer S R (behind s r S R g), more_words s S, more_words r R)
 gained (s ∷ S) (r ∷ R) n (suc k) g t = gained S R n k (behind s r S R g) (omega (arith, g.words 0, more_words s S, more_words r R))
 
--- some segment has room for n words more
+-- Some segment has room for n more words.
 abbrev pub HasSomeRoom : View → ℕ → Type 0
 HasSomeRoom v n = (k : ℕ) × (k < length v.words) × HasOwnRoom v k n
 
--- the room that is left
+-- The room that is left.
 
 pub room_left : (a b : View) (m n : ℕ) → Grows a.words b.words → GrowsByAtMost a.words b.words m → SameRoomBelow (length a.words) a.room b.room → HasSomeRoom a (m + n) → HasSomeRoom b n
 room_left a b m n g t same (k, l, fits) = (k, omega (arith, g.segments), omega (arith, fits, same k l, gained a.words b.words m k g t))
@@ -94,12 +94,12 @@ room_still a b n words room (k, l, fits) = (k, omega (arith, ap length words), o
 pub room_written : (a b : View) (n : ℕ) → KeepsLimits a b → length b.words ≡ length a.words → ((x : ℕ) → length (segment b.words x) ≡ length (segment a.words x)) → HasSomeRoom a n → HasSomeRoom b n
 room_written a b n limits segments words (k, l, fits) = (k, omega (arith, segments), omega (arith, fits, words k, ap (λ (v : View). v.room k) limits))
 
--- the room that an object's segment has, or any other
+-- The room that an object's segment has, or any other segment.
 pub room_some : (v : View) (id n : ℕ) → id < length v.words → HasRoom v id n → HasSomeRoom v n
 room_some v id n l (inl fits) = (id, l, fits)
 room_some v id n l (inr (k, fit)) = (k, fit.0, omega (arith, fit.1))
 
--- where the object's segment has none
+-- The object's segment has no room.
 pub room_elsewhere : (v : View) (id n m : ℕ) → v.room id < length (segment v.words id) + n → HasRoom v id (n + m) → HasSomeRoom v (n + 1 + m)
 room_elsewhere v id n m full (inl fits) = absurd (omega (arith, fits))
 room_elsewhere v id n m full (inr (k, fit)) = (k, fit.0, omega (arith, fit.1))
@@ -110,7 +110,7 @@ not_true e = cc
 pub not_within : (a n : ℕ) → (n ≤ a → ⊥) → a < n
 not_within a n h = elim (cases_lt a n) [ inl l ↦ l | inr l ↦ absurd (h l) ]
 
--- the first segment with room, or none has it
+-- Either some segment is the first with room for n words, or none of the first m has it.
 first_below : (v : View) (n m : ℕ) → m ≤ length v.words → ((k : ℕ) × IsFirstFit v n k) ⊎ ((k : ℕ) → k < m → v.room k < length (segment v.words k) + n)
 first_below v n zero l = inr (λ k less. absurd (omega arith))
 first_below v n (suc m) l = elim (first_below v n m (omega arith)) [
@@ -127,7 +127,7 @@ first_below v n (suc m) l = elim (first_below v n m (omega arith)) [
 first_or_full : (v : View) (n : ℕ) → ((k : ℕ) × IsFirstFit v n k) ⊎ IsFull v n
 first_or_full v n = first_below v n (length v.words) (omega arith)
 
--- where words are refused, none has it
+-- If words are refused, no segment has room for them.
 pub none_refused : (a b : View) (n : ℕ) (k : ErrorKind) → RefusesWords a b n k → HasSomeRoom b (n + 1) → ⊥
 none_refused a b n k (r, none) (j, l, fits) = elim (first_or_full b (n + 1)) [
   | inl (i, fit) ↦ none i fit

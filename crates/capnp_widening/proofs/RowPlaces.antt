@@ -1,4 +1,5 @@
--- Where each of some rows starts that stand one every so many words, and that it lies where they do.
+-- Where each of some rows starts that are `step` words apart, and that it is inside the words of
+-- all rows.
 use Rattle.std.proofs.Common.{◌≡◌, ◌⊎◌, inl, inr, ℕ, ◌+◌, ◌*◌, ◌^◌, ◌<◌, ◌≤◌, ap, ap₂, arith}
 use Rattle.capnp_making.proofs.BelowElements.{element_within, next_place}
 
@@ -8,7 +9,8 @@ first_row at step = omega arith
 pub next_row : (at step i place : ℕ) → place ≡ at + i * step → place + step ≡ at + (i + 1) * step
 next_row at step i place is = omega (arith, is, next_place step i)
 
--- n rows of k words, of which the last may be followed by fewer words than a step
+-- n rows of k words, which start every `step` words; the last one may be followed by fewer words
+-- than a step.
 pub row_inside : (at step k n i place length now : ℕ) → at + n * step + k ≤ length + step → i < n →
     place ≡ at + i * step → length ≤ now → place + k ≤ now
 row_inside at step k n i place length now inside less is more =
@@ -22,7 +24,7 @@ pub row_behind_fits : (at step k n i place length room : ℕ) → at + n * step 
 row_behind_fits at step k n i place length room inside less is within small narrow =
     omega (arith, element_within step n i less)
 
--- n rows of whole steps
+-- n rows of whole steps.
 pub step_inside : (at step k n i place length now : ℕ) → at + n * step ≤ length → k ≤ step → i < n →
     place ≡ at + i * step → length ≤ now → place + k ≤ now
 step_inside at step k n i place length now inside narrow less is more =
@@ -33,7 +35,7 @@ pub step_fits : (at step n i place length room : ℕ) → at + n * step ≤ leng
 step_fits at step n i place length room inside less is within small =
     omega (arith, element_within step n i less)
 
--- each of the n old rows ends before the first of the new ones
+-- Each of the n old rows ends before the first of the new ones.
 pub steps_apart : (at step k n i place to wide other : ℕ) → at + n * step ≤ to → k ≤ step → i < n →
     place ≡ at + i * step → other ≡ to + i * wide → place + k ≤ other
 steps_apart at step k n i place to wide other apart narrow less is beside =
@@ -44,7 +46,7 @@ pub start_inside : (at step n i place length now : ℕ) → at + n * step ≤ le
 start_inside at step n i place length now inside some less is same =
     omega (arith, element_within step n i less)
 
--- new words of a list of structs, and of a landing pad before them
+-- New words of a list of structs, and of a landing pad before them.
 pub tag_inside : (at pads n : ℕ) {t b now : ℕ} → at + (pads + (1 + n)) ≤ t → b ≡ t → b ≤ now → at + pads < now
 tag_inside at pads n room same more = omega arith
 
@@ -56,11 +58,11 @@ pub first_fits : (at pads n : ℕ) {t b most : ℕ} → at + (pads + (1 + n)) �
     most < 2 ^ 29 → at + pads + 1 < 2 ^ 32
 first_fits at pads n room same within small = omega arith
 
--- the words behind the tag lie in the segment
+-- The words after the tag are inside the segment.
 pub rows_fit : (at pads : ℕ) {n t b m : ℕ} → at + (pads + (1 + n)) ≤ t → b ≡ t → m ≡ n → at + pads + 1 + m ≤ b
 rows_fit at pads room same whole = omega arith
 
--- and what stood there before ends before them
+-- What was there before ends before them.
 pub stands_before : {end s t at : ℕ} (pads : ℕ) → end ≤ s → s ≡ t → t ≤ at → end ≤ at + pads + 1
 stands_before pads inside same behind = omega arith
 
@@ -79,7 +81,7 @@ some_total q some = omega arith
 pub some_words : {d : ℕ} (q : ℕ) → 0 < d → d + q ≡ 0 → ⊥
 some_words q some none = omega arith
 
--- the words of old rows, as they are computed
+-- The computed number of words of old rows.
 pub rows_small : (at tag n w : ℕ) {length most : ℕ} → at + (tag + n * w) ≤ length → length ≤ most →
     most < 2 ^ 29 → tag + n * w < 2 ^ 29
 rows_small at tag n w inside within small = omega arith

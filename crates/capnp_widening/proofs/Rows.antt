@@ -15,7 +15,7 @@ use Rattle.capnp_widening.proofs.Unmoving.{unmoves_both}
 use Rattle.capnp_widening.proofs.NewObjects.{pads_in_rows, old_pads, new_pads}
 use Rattle.capnp_widening.proofs.Statements.{HaveValuesInside, AllMoved, row_moves, rows_moves}
 
--- rows, from the front on
+-- Rows, from the front on.
 pub rows_next : (s p w v r z k n : ℕ) → rows_moves s p w v r z k (suc n) ≡ rows_moves s p w v r z k n ++ row_moves s (p + n * w) v (r + n * z) k
 rows_next s p w v r z k zero = append-nil (row_moves s p v r k) ∙ ap₂ (λ a b. row_moves s a v b k) (let e : p ≡ p + 0 * w = omega arith in e) (let e : r ≡ r + 0 * z = omega arith in e)
 rows_next s p w v r z k (suc n) =
@@ -23,7 +23,7 @@ rows_next s p w v r z k (suc n) =
     (let e : p + w + n * w ≡ p + suc n * w = omega arith in e) (let e : r + z + n * z ≡ r + suc n * z = omega arith in e))
     ∙ sym (append_assoc (row_moves s p v r k) (rows_moves s (p + w) w v (r + z) z k n) (row_moves s (p + suc n * w) v (r + suc n * z) k))
 
--- one row more
+-- One more row.
 pub rows_moves_next : (S M R : Segments) (s p w v r z k n : ℕ) → Moves S M (rows_moves s p w v r z k n) → Moves M R (row_moves s (p + n * w) v (r + n * z) k) → Moves S R (rows_moves s p w v r z k (n + 1))
 rows_moves_next S M R s p w v r z k n f g =
     subst (λ i. Moves S R (rows_moves s p w v r z k i)) (let e : suc n ≡ n + 1 = omega arith in e)
@@ -34,7 +34,7 @@ rows_unmoves_next S M R s p w v r z k n f g =
     subst (λ i. Unmoves S R (rows_moves s p w v r z k i)) (let e : suc n ≡ n + 1 = omega arith in e)
     (subst (λ ms. Unmoves S R ms) (sym (rows_next s p w v r z k n)) (unmoves_both S M R (rows_moves s p w v r z k n) (row_moves s (p + n * w) v (r + n * z) k) f g))
 
--- what rows of moves say of each
+-- What rows of moves state of each.
 
 left_moved : (M : Segments) (ms ns : List Move) → AllMoved M (ms ++ ns) → AllMoved M ms
 left_moved M [] ns h = tt
@@ -72,7 +72,7 @@ rows_new_pads M s p w v r z k zero = refl
 rows_new_pads M s p w v r z k (suc n) =
     new_both M (row_moves s p v r k) (rows_moves s (p + w) w v (r + z) z k n) ∙ ap₂ (λ is js. is ++ js) (row_new_pads M s p v r k) (rows_new_pads M s (p + w) w v (r + z) z k n)
 
--- the new places lie in rows of z words
+-- The new places are in rows of z words.
 pub rows_new_places : (s p w v r z k n x y : ℕ) → k ≤ z → times (new_places (rows_moves s p w v r z k n)) x y ≤ times (row v r (n * z) ∷ []) x y
 rows_new_places s p w v r z k zero x y l = omega arith
 rows_new_places s p w v r z k (suc n) x y l =
@@ -89,7 +89,7 @@ rows_new_places s p w v r z k (suc n) x y l =
     shorter : (v r k z x y : ℕ) → k ≤ z → times (row v r k ∷ []) x y ≤ times (row v r z ∷ []) x y
     shorter v r k z x y l = grind (arith, nat_tests)
 
--- the children of elements one behind the other that lie in B
+-- The children of consecutive elements that are inside B.
 
 both_stand : (B : Segments) (ms ns : List Move) → HaveValuesInside B ms → HaveValuesInside B ns → HaveValuesInside B (ms ++ ns)
 both_stand B [] ns a b = b
@@ -112,7 +112,7 @@ elements_stand B n s p d q v r z (element ws ts es) c (a, b, long, len, words, a
     (elements_stand B n s (p + d + q) d q v (r + z) z es b rest
     (λ x y l. inside x y (omega (arith, l, top x y, all_words x y, first x y, second x y, whole x y, times-first (row s (p + d + q) others) (cover_elements B s (p + d + q) d q es) x y)))))
 
--- the first rows, and the others
+-- The first rows, and the others.
 pub rows_split : (s p w v r z k i m n : ℕ) → n ≡ i + m → rows_moves s p w v r z k n ≡ rows_moves s p w v r z k i ++ rows_moves s (p + i * w) w v (r + i * z) z k m
 rows_split s p w v r z k zero m n e =
     ap (rows_moves s p w v r z k) (let f : n ≡ m = omega arith in f) ∙ ap₂ (λ a b. rows_moves s a w v b z k m) (let f : p ≡ p + 0 * w = omega arith in f) (let f : r ≡ r + 0 * z = omega arith in f)
@@ -122,7 +122,7 @@ rows_split s p w v r z k (suc i) m (suc n) e =
     (let f : p + w + i * w ≡ p + suc i * w = omega arith in f) (let f : r + z + i * z ≡ r + suc i * z = omega arith in f))
     ∙ sym (append_assoc (row_moves s p v r k) (rows_moves s (p + w) w v (r + z) z k i) (rows_moves s (p + suc i * w) w v (r + suc i * z) z k m))
 
--- some rows are moved, and some of the first pointers of the next one
+-- Some rows are moved, and some of the first pointers of the next one.
 pub rows_some : (S M R : Segments) (s p w v r z k i n : ℕ) → i < n → Moves S M (rows_moves s p w v r z k i) → MovesSome M R (row_moves s (p + i * w) v (r + i * z) k) → MovesSome S R (rows_moves s p w v r z k n)
 rows_some S M R s p w v r z k i n l f g =
     let ms = rows_moves s p w v r z k i in
@@ -135,7 +135,7 @@ rows_some S M R s p w v r z k i n l f g =
       moves = moves_both S M R ms g.done f g.moves;
     }
 
--- rows without pointers
+-- Rows without pointers.
 pub no_moves : (s p w v r z n : ℕ) → rows_moves s p w v r z 0 n ≡ []
 no_moves s p w v r z zero = refl
 no_moves s p w v r z (suc n) = no_moves s (p + w) w v (r + z) z n

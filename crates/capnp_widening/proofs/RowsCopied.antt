@@ -22,14 +22,14 @@ no_words_copied S s p w v r z n = record { segments = refl; words = λ x. refl; 
 pub no_rows_copied : (S : Segments) (s p w v r z d : ℕ) → CopiedRows S S s p w v r z d 0
 no_rows_copied S s p w v r z d = record { segments = refl; words = λ x. refl; here = λ i j l m. absurd (omega arith); behind = λ i j l m o. refl; kept = λ x y e. refl }
 
--- beside n words from a place on
+-- Words outside of the n words from a place on.
 pub beside_row : (v r n x y : ℕ) → (x ≡ v → r ≤ y → y < r + n → ⊥) → times (row v r n ∷ []) x y ≡ 0
 beside_row v r n x y h = elim (cases_eq (times (row v r n ∷ []) x y) 0) [
   | inl none ↦ none
   | inr some ↦ (let i = in_row v r n x y (omega arith) in absurd (h i.0 i.1 i.2))
 ]
 
--- one row more, where the old rows lie before the new ones
+-- One more row, if the old rows come before the new ones.
 pub rows_copied_next : (S M R : Segments) (s p w v r z d i n : ℕ) → CopiedRows S M s p w v r z d i → (s ≡ v → p + n * w ≤ r) → d ≤ w → d ≤ z → i < n → AreWordsCopied M R (record { segment = s; at = (p + i * w) }) (record { segment = v; at = (r + i * z) }) d →
     CopiedRows S R s p w v r z d (i + 1)
 rows_copied_next S M R s p w v r z d i n b apart narrow narrower l c =
@@ -57,7 +57,7 @@ rows_copied_next S M R s p w v r z d i n b apart narrow narrower l c =
     within : (x y : ℕ) → times (row v r ((i + 1) * z) ∷ []) x y ≡ 0 → x ≡ v → r ≤ y → y < r + (i + 1) * z → ⊥
     within x y e f g h = omega (arith, subst (λ u. times (row v r ((i + 1) * z) ∷ []) u y ≡ 0) f e, of_row v r ((i + 1) * z) y g h)
 
--- what stands in new words behind a tag: copies of rows of S, and zeros
+-- What new words after a tag hold: copies of rows of S, and zeros.
 pub data_copied : (S T B D : Segments) (s p d k n v at pads : ℕ) (size : StructSize) → IsGrown S T v at (pads + (1 + n * (size.data_words + size.pointers))) → IsTagWritten T B (record { segment = v; at = (at + pads) }) n size →
     CopiedRows B D s p (d + k) v (at + pads + 1) (size.data_words + size.pointers) d n → p + n * (d + k) ≤ length (segment S s) → RowsCopied S D d k n s p v (at + pads + 1) size.data_words size.pointers
 data_copied S T B D s p d k n v at pads size g t c fits =

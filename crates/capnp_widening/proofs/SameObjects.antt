@@ -1,4 +1,5 @@
--- A place whose word leads where another one's leads means the same value; and so do pointers one behind the other.
+-- If the word of a place leads to the same object as another one's, it means the same value; and so
+-- do consecutive pointers.
 use Rattle.std.proofs.Common.{◌≡◌, ◌≢◌, inl, inr, ℕ, suc, pred, ◌+◌, ◌*◌, ◌%◌, ◌^◌, ◌<◌, ◌≤◌, cond, nat_eq, nat_lt, List, [], ◌∷◌, ◌++◌, length, Option, Some, None, refl, sym, ap, ap₂, ◌∙◌, subst, arith, eq-eqb, ne_eqb, lt-ltb}
 use Rattle.std.proofs.lemmas.Bool.Decides.{nat_tests}
 use Rattle.capnp_format.specs.Word.{kind, is_double, far_position, upper_half, offset_bits, data_words, pointer_count, element_size, list_count, capability_word}
@@ -14,14 +15,14 @@ use Rattle.capnp_making.proofs.Extents.{times-object}
 use Rattle.capnp_widening.proofs.NewObjects.{pads_from}
 use Rattle.capnp_widening.proofs.Statements.{SameStart}
 
--- where a near word leads, a far word by one pad, and a far word by two
+-- Where a near pointer leads, a far pointer by one pad, and a far pointer by two.
 pub near_leads : (S : Segments) (s p b : ℕ) → word_at S s p ≢ 0 → kind (word_at S s p) ≢ 2 → b ≤ length (segment S s) → IsOffsetTo p (offset_bits (word_at S s p)) b →
     Leads S s p (record { word = word_at S s p; segment = s; start = b; pads = 0 })
 near_leads S s p b some not_far fits o =
     let x = word_at S s p in
     (some, ap (λ y. cond y (far S x (is_double x)) (near S s p x 0)) (ne_eqb (kind x) 2 not_far) ∙ ap (λ z. z >>= λ y. Some (record { word = x; segment = s; start = y; pads = 0 })) (offset_at (length (segment S s)) p (offset_bits x) b fits o))
 
--- what a word leads to that is not far
+-- What a word leads to that isn't a far pointer.
 pub near_found : (S : Segments) (s p : ℕ) (a : Target) → kind (word_at S s p) ≢ 2 → leads S s p ≡ Some a →
     (a.word ≡ word_at S s p) × (a.segment ≡ s) × (a.pads ≡ 0) × (offset_leads (length (segment S s)) p (offset_bits (word_at S s p)) ≡ Some a.start)
 near_found S s p a other e =
@@ -53,13 +54,14 @@ double_far_leads S s p x v r e is_far double to at place not_far there =
     ∙ ap (λ y. given y (record { word = w; segment = upper_half f; start = far_position f; pads = 2 })) (lt-ltb (upper_half f) (length S) there)
     ))
 
--- a far word leads where it led before, wherever it stands
+-- A far pointer leads to the same target from any place.
 pub copied_far_leads : (S : Segments) (s p v r : ℕ) (a : Target) → word_at S v r ≡ word_at S s p → kind (word_at S s p) ≡ 2 → Leads S s p a → Leads S v r a
 copied_far_leads S s p v r a e is_far l =
     let x = word_at S s p in
     far_word S v r x a e is_far (ap (λ y. cond y (far S x (is_double x)) (near S s p x 0)) (sym (eq-eqb (kind x) 2 is_far)) ∙ l.1)
 
--- The place (v, r) means the value that the place (s, p) means, where it costs c; the object is the same, the pads may be others.
+-- The place (v, r) means the value t that the place (s, p) means with cost c. The object is the
+-- same; the pads may differ.
 pub record MeansToo (S : Segments) (n s p v r : ℕ) (t : Tree) (c : ℕ) : Type 0 where
   pub cost : ℕ
   pub means : Means S n v r t cost
@@ -146,7 +148,7 @@ not_empty a b S (inl (e, f)) list = (e, f)
 not_empty a b S (inr (inl (e, f, g))) list = absurd (omega arith)
 not_empty a b S (inr (inr e)) list = absurd (omega arith)
 
--- one target
+-- A place has only one target.
 leads_once : (S : Segments) (s p : ℕ) (a b c : Target) → leads S s p ≡ Some a → leads S s p ≡ Some b → SameObject S a c → SameObject S b c
 leads_once S s p a b c h k same = subst (λ z. SameObject S z c) (let e : a ≡ b = cc in e) same
 
@@ -246,7 +248,7 @@ null_only S n s p (Flat size ns) c e (a, some, small, o, claim, w, g) = absurd (
 null_only S n s p (Pointers ts) c e (a, k, some, o, claim, all, g) = absurd (o.leads_to.0 e)
 null_only S n s p (Structs d q es) c e (a, m, k, some, o, claim, tag, fits, all, g) = absurd (o.leads_to.0 e)
 
--- a moved pointer means what the old one means
+-- A moved pointer means the value of the old one.
 pub moved_means : (S : Segments) (n s p v r : ℕ) (t : Tree) (c : ℕ) → IsMoved S s p v r → Means S n s p t c → MeansToo S n s p v r t c
 moved_means S n s p v r t c (inl (e, f)) m =
     subst (λ z. MeansToo S n s p v r z c) (sym (null_only S n s p t c e m)) (record {
@@ -258,7 +260,7 @@ moved_means S n s p v r t c (inl (e, f)) m =
     })
 moved_means S n s p v r t c (inr (a, b, l, k, same)) m = same_object_means S n s p v r t c a b l k same m
 
--- pointers one behind the other
+-- Consecutive pointers.
 pub record MeanToo (S : Segments) (n s p v r : ℕ) (ts : Trees) : Type 0 where
   pub cost : ℕ
   pub means : MeansAll S n v r ts cost

@@ -1,4 +1,4 @@
--- The pointer set to an object that stands in new words.
+-- The pointer is set to an object in new words.
 use Rattle.std.proofs.Common.{◌≡◌, ◌≢◌, ℕ, ◌+◌, ◌<◌, ◌≤◌, [], ◌∷◌, length, refl, sym, ap, ◌∙◌, subst, arith}
 use Rattle.std.proofs.lemmas.Bool.Decides.{nat_tests}
 use Rattle.capnp_format.specs.Word.{kind, offset_bits, is_double, upper_half, far_position}

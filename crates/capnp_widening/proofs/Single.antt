@@ -1,4 +1,4 @@
--- One pointer moved.
+-- One pointer is moved.
 use Rattle.std.proofs.Common.{◌≡◌, ◌≢◌, ◌⊎◌, inl, inr, ℕ, ◌+◌, ◌*◌, ◌%◌, ◌^◌, ◌<◌, ◌≤◌, cond, [], ◌∷◌, ◌++◌, List, length, Some, None, sym, ap, ◌∙◌, subst, le_of_eq, arith, eq-eqb, ne_eqb}
 use Rattle.std.proofs.lemmas.Bool.{cases_eq}
 use Rattle.std.proofs.lemmas.List.{get_or_past}
@@ -26,14 +26,14 @@ use Rattle.capnp_widening.proofs.Moves.{moved_far, moved_capability}
 use Rattle.capnp_widening.proofs.NewObjects.{own_pads}
 use Rattle.capnp_widening.proofs.Statements.{Extends, IsPointed, points_at, a_move}
 
--- what stands in B stands in what extends it
+-- A value inside B is also in each message R that extends B.
 pub stands_later : (B R : Segments) (s p : ℕ) → Extends B R → HasValueInside B s p → (t : Tree) × (n : ℕ) × (c : ℕ) × Means R n s p t c × (word_at R s p ≡ word_at B s p)
 stands_later B R s p e (t, n, c, m, inside) =
     let whole = times-first (word_interval s p) (cover B s p t) in
     let same : word_at R s p ≡ word_at B s p = e.kept s p (inside s p (omega (arith, whole s p, once_held s p))) in
     (t, n, c, (frame B R n s p t c e.grows same (λ v r l. e.kept v r (inside v r (omega (arith, whole v r)))) m).0, same)
 
--- the landing pads of a pointer that means a value are among what it covers
+-- The landing pads of a pointer that means a value are part of what the value covers.
 pub pads_covered : (S : Segments) (n s p : ℕ) (t : Tree) (c : ℕ) → Means S n s p t c → (x y : ℕ) → times (pads_of (word_at S s p)) x y ≤ times (cover S s p t) x y
 pads_covered S n s p Null c m x y = omega (arith, ap (λ w. times (pads_of w) x y) m.0)
 pads_covered S n s p (Capability i) c m x y = omega arith
@@ -45,13 +45,13 @@ pads_covered S n s p (Pointers ts) c m x y =
 pads_covered S n s p (Structs d q es) c m x y =
     omega (arith, times-append (pads_of (word_at S s p)) (object_of (target S s p) (1 + element_count es * (d + q)) ∷ cover_elements S (target S s p).segment ((target S s p).start + 1) d q es) x y)
 
--- the landing pads of a pointer of B that means a value lie in B
+-- The landing pads of a pointer of B that means a value are inside B.
 pub old_pads_inside : (B S : Segments) (s p : ℕ) → Extends B S → HasValueInside B s p → (x y : ℕ) → 0 < times (pads_of (word_at S s p)) x y → y < length (segment B x)
 old_pads_inside B S s p e (t, n, c, m, inside) x y h =
     let here = inside s p (omega (arith, times-first (word_interval s p) (cover B s p t) s p, once_held s p)) in
     inside x y (omega (arith, times-first (word_interval s p) (cover B s p t) x y, pads_covered B n s p t c m x y, ap (λ w. times (pads_of w) x y) (e.kept s p here)))
 
--- what a pointer leads to that means a value and isn't null
+-- What a pointer leads to that means a value and isn't null.
 pub means_leads : (S : Segments) (n s p : ℕ) (t : Tree) (c : ℕ) → word_at S s p ≢ 0 → Means S n s p t c → (a : Target) × Leads S s p a × ((kind a.word < 2) ⊎ (a.word % 2 ^ 32 ≡ 3))
 means_leads S n s p Null c some m = absurd (some m.0)
 means_leads S n s p (Capability i) c some (a, l, e, g) = (a, l, inr (omega arith))
@@ -60,12 +60,12 @@ means_leads S n s p (Flat size ns) c some (a, levels, small, o, claim, e, g) = (
 means_leads S n s p (Pointers ts) c some (a, k, levels, o, claim, all, g) = (a, o.leads_to, inl (omega (arith, o.is_list)))
 means_leads S n s p (Structs d q es) c some (a, m, k, levels, o, claim, tag, fits, all, g) = (a, o.leads_to, inl (omega (arith, o.is_list)))
 
--- words of one shape are of the same kind and sizes
+-- Words of one shape have the same kind and sizes.
 pub same_shape : (shape : Shape) (x y : ℕ) → IsShape shape x → IsShape shape y → (kind y ≡ kind x) × (upper_half y ≡ upper_half x) × (kind x < 2)
 same_shape (StructShape size) x y (a, b, c) (d, e, f) = (omega arith, omega arith, omega arith)
 same_shape (ListShape size n) x y (a, b, c) (d, e, f) = (omega arith, omega arith, omega arith)
 
--- the pads of one pointer
+-- The pads of one pointer.
 own_of_far : (R : Segments) (s p v r : ℕ) → kind (word_at R s p) ≡ 2 → own_pads R (a_move s p v r) ≡ []
 own_of_far R s p v r far = ap (λ b. cond b [] (pads_of (word_at R v r))) (eq-eqb (kind (word_at R s p)) 2 far)
 
@@ -81,7 +81,7 @@ pads_once x v r = elim (cases_eq (kind x) 2) [
 alone : (is : List Interval) (v r : ℕ) → times (is ++ []) v r ≡ times is v r
 alone is v r = omega (arith, times-append is [] v r)
 
--- the old place lies in B, and the new one doesn't
+-- The old place is inside B, and the new one isn't.
 pub apart_places : (B S : Segments) (s p v r : ℕ) → CanMove B S (a_move s p v r ∷ []) → times (word_interval v r ∷ []) s p ≡ 0
 apart_places B S s p v r c = elim (cases_eq (times (word_interval v r ∷ []) s p) 0) [
   | inl e ↦ e
@@ -94,7 +94,7 @@ place_there B S s p v r c =
     let b = c.behind v r (omega (arith, once_held v r)) in
     (inside s p (omega (arith, times-first (word_interval s p) (cover B s p t) s p, once_held s p)), b.1, b.2)
 
--- a far pointer or a capability, copied as it is
+-- A far pointer or a capability is copied unchanged.
 pub copied_moves : (B S R : Segments) (s p v r : ℕ) → word_at S s p ≢ 0 → 2 ≤ kind (word_at S s p) → R ≡ with_word S v r (word_at S s p) → CanMove B S (a_move s p v r ∷ []) → AreMoved S R (a_move s p v r ∷ [])
 copied_moves B S R s p v r some other e c =
     let x = word_at S s p in
@@ -138,7 +138,7 @@ copied_moves B S R s p v r some other e c =
     pads_inside : (y z : ℕ) → 0 < times (pads_of (word_at S s p)) y z → z < length (segment B y)
     pads_inside y z h = old_pads_inside B S s p (record { grows = c.grows; kept = c.kept }) c.stand.0 y z h
 
--- a near pointer, written anew to where it leads
+-- A near pointer is rewritten to where it leads.
 pub near_moves : (B S R : Segments) (s p v r start : ℕ) (shape : Shape) (h at : Start) → word_at S s p ≢ 0 → IsShape shape (word_at S s p) → offset_leads (length (segment S s)) p (offset_bits (word_at S s p)) ≡ Some start →
     h.segment ≡ s → h.at ≡ start → at.segment ≡ v → at.at ≡ r → PointsTo S R shape h at → CanMove B S (a_move s p v r ∷ []) → AreMoved S R (a_move s p v r ∷ [])
 near_moves B S R s p v r start shape h at some shaped goes hs ha vs rs points c =
@@ -177,7 +177,7 @@ near_moves B S R s p v r start shape h at some shaped goes hs ha vs rs points c 
       zero = λ y z g m. w'.zero y z (omega (arith, all y z)) m;
     }
 
--- a near pointer that leads nowhere means nothing
+-- A near pointer that leads nowhere means nothing.
 pub means_nothing : (B S : Segments) (s p v r : ℕ) → word_at S s p ≢ 0 → kind (word_at S s p) ≢ 2 → offset_leads (length (segment S s)) p (offset_bits (word_at S s p)) ≡ None → CanMove B S (a_move s p v r ∷ []) → ⊥
 means_nothing B S s p v r some near goes c =
     let (t, n, k, m, stays) = stands_later B S s p (record { grows = c.grows; kept = c.kept }) c.stand.0 in

@@ -1,4 +1,4 @@
--- What lemmas take of calls and of moved pointers, by name: parts of what contracts say.
+-- What lemmas require of calls and of moved pointers, with names: parts of what contracts state.
 use Rattle.std.specs.List.{AllByRecursion}
 use Rattle.std.proofs.Common.{◌≡◌, ◌≢◌, ◌⊎◌, ℕ, ◌+◌, ◌*◌, ◌<◌, ◌≤◌, ◌%◌, ◌^◌, true, Option, Ok, List, [], ◌∷◌, map, length}
 use Rattle.capnp_format.specs.Numbers.{element_bits}
@@ -33,11 +33,11 @@ use Rattle.capnp_widening.specs.Rooms.{GrowsByAtMost, widened_words}
 use Rattle.capnp_widening.specs.RowsRemade.{AreNumbersCopied, AreRowsCopied, BecomesList, as_structs}
 use Rattle.capnp_widening.specs.Widened.{GrowsByZeros, HasSections, list_widened, widened}
 
--- a call of which the words alone matter
+-- A call in which only the words matter.
 abbrev pub rewriting : ℕ → ℕ → Segments → Segments → CallAt
 rewriting s p S R = call_at s p (view_of S (λ v. 0) 0 (λ n m. true)) (view_of R (λ v. 0) 0 (λ n m. true))
 
--- a struct made wider
+-- A struct is widened.
 
 abbrev pub WidensStruct : (Tree → Type 0) → StructSize → CallAt → Type 0
 WidensStruct Stands size c = (ws : List ℕ) (ts : Trees) → Stands (Struct ws ts) → IsReplaced c.old.words c.new.words c.segment c.at (Struct ws ts) (widened size ws ts)
@@ -54,7 +54,7 @@ GrowsForStruct S R s p size = (ws : List ℕ) (ts : Trees) → IsStored S s p (S
 abbrev pub LeavesAll : (Tree → Type 0) → Segments → Segments → Type 0
 LeavesAll Stands S R = (t : Tree) → Stands t → GrowsByZeros S R
 
--- a list made wider
+-- A list is widened.
 
 abbrev pub RemakesList : (Tree → Type 0) → StructSize → CallAt → ExistingList → Type 0
 RemakesList Stands size c l = (t : Tree) → Stands t → BecomesList c l t (as_structs size t)
@@ -74,7 +74,7 @@ LeadsToWiderList size c l = (t u : Tree) → IsStored c.old.words c.segment c.at
 abbrev pub ListLiesIn : Segments → ExistingList → Type 0
 ListLiesIn S l = l.start + l.count * (l.struct_size.data_words + l.struct_size.pointers) ≤ length (segment S l.segment)
 
--- a pointer overwritten, which leads to b behind pads from (v, at) on
+-- A pointer is overwritten, which leads to b behind pads from (v, at) on.
 pub record IsSettled (S R : Segments) (u q : ℕ) (b : Target) (v at pads : ℕ) : Type 0 where
   pub segments : length R ≡ length S
   pub words : (x : ℕ) → length (segment R x) ≡ length (segment S x)
@@ -107,7 +107,7 @@ settles_room S R place h shape (b, s, shaped, there, start) = record {
   starts = start;
 }
 
--- a pointer written, which leads to a
+-- A pointer is written, which leads to a.
 pub record IsPointed (S R : Segments) (s p : ℕ) (a : Target) : Type 0 where
   pub grows : Grows S R
   pub leads_there : Leads R s p a
@@ -142,12 +142,12 @@ points_to S R shape h at (a, p, shaped, start) = record {
   starts = start;
 }
 
--- a pointer x, whose object lies in segment s, written anew
+-- The pointer x, whose object is in segment s, is rewritten.
 pub record WritesPointer (s x : ℕ) (c : CallAt) : Type 0 where
   pub form : IsWrittenAnew s c.segment x (word_at c.new.words c.segment c.at)
   pub taken : TakesWords c.old c.new s (pad_words s c.segment x)
 
--- moved pointers
+-- Moved pointers.
 
 abbrev pub SameStart : Segments → Target → Target → Type 0
 SameStart S a b =
@@ -166,7 +166,7 @@ HaveValuesInside B ms = AllByRecursion (λ (m : Move). HasValueInside B m.from.s
 abbrev pub AllMoved : Segments → List Move → Type 0
 AllMoved R ms = AllByRecursion (λ (m : Move). IsMoved R m.from.segment m.from.at m.to.segment m.to.at) ms
 
--- moved pointers, by the numbers of their places
+-- Moved pointers, by the numbers of their places.
 
 abbrev pub a_move : ℕ → ℕ → ℕ → ℕ → Move
 a_move s p v r = record { from = record { segment = s; at = p }; to = record { segment = v; at = r } }
@@ -180,7 +180,7 @@ rows_moves s p w v r z k n = rows_of_moves (record { segment = s; at = p; step =
 abbrev pub CopiedRows : Segments → Segments → ℕ → ℕ → ℕ → ℕ → ℕ → ℕ → ℕ → ℕ → Type 0
 CopiedRows S R s p w v r z d n = AreRowsCopied S R (record { from = record { segment = s; at = p; step = w }; to = record { segment = v; at = r; step = z }; words = d; count = n })
 
--- numbers copied, of which so many are
+-- n numbers are copied.
 pub record CopiedNumbers (S R : Segments) (s p width v r z n : ℕ) : Type 0 where
   pub segments : length R ≡ length S
   pub words : (x : ℕ) → length (segment R x) ≡ length (segment S x)

@@ -1,4 +1,4 @@
--- A list of structs that are too small, made one of larger structs.
+-- A list of structs that are too small is made one of larger structs.
 use Rattle.std.proofs.Common.{◌≡◌, ℕ, ◌≤◌, Some, Ok, refl, sym, ap, ◌∙◌, subst, arith}
 use Rattle.capnp_arena_traits.specs.View.{View}
 use Rattle.capnp_format.specs.Segments.{Segments}
@@ -17,7 +17,7 @@ use Rattle.capnp_widening.specs.Widened.{HasSections, list_widened}
 use Rattle.capnp_widening.proofs.Listed.{same_list, flat_width, listed_size, tree_size, structs_stay}
 use Rattle.capnp_widening.proofs.Statements.{WidensListAnew, rewriting}
 
--- what a list of structs is, by what is found
+-- What a list of structs is, from what is found.
 pub record AreStructs (S : Segments) (s p : ℕ) (t : Tree) (l : ExistingList) : Type 0 where
   pub elements : Elements
   pub tree : t ≡ Structs l.struct_size.data_words l.struct_size.pointers elements
@@ -39,13 +39,13 @@ are_structs S s p t l is (x, e) = go t x e
     go (Capability i) y f = other (Capability i) y f (λ g. omega (arith, g))
     go (Struct ws ts) y f = other (Struct ws ts) y f (λ g. omega (arith, g))
 
--- a list of structs that is wide enough stays
+-- A list of structs that is wide enough stays.
 pub structs_kept : (S : Segments) (s p : ℕ) (l : ExistingList) (size : StructSize) → size_number l.size ≡ 7 → size.data_words ≤ l.struct_size.data_words → size.pointers ≤ l.struct_size.pointers → WidensTo l size (rewriting s p S S) l
 structs_kept S s p l size is wide many = λ t i.
     (let k = are_structs S s p t l is i in
     (t, ap (list_widened size.data_words size.pointers) k.tree ∙ structs_stay size.data_words size.pointers l.struct_size.data_words l.struct_size.pointers k.elements wide many ∙ ap Ok (sym k.tree), (unchanged S s p t i.0, i.1)))
 
--- structs that are large enough aren't made anew
+-- Structs that are large enough aren't remade.
 pub structs_not_anew : (a : View) (s p : ℕ) (l : ExistingList) (size : StructSize) → size_number l.size ≡ 7 → size.data_words ≤ l.struct_size.data_words → size.pointers ≤ l.struct_size.pointers → WidensListAnew (IsList a.words s p l) size (call_at s p a a)
 structs_not_anew a s p l size is wide many = λ t u i some e narrow.
     (let k = are_structs a.words s p t l is i in

@@ -1,4 +1,4 @@
--- A struct made anew in a larger size, step by step.
+-- A struct is remade in a larger size, step by step.
 use Rattle.std.proofs.Common.{◌≡◌, ◌⊎◌, inl, inr, ℕ, zero, suc, pred, ◌+◌, ◌-◌, ◌<◌, ◌≤◌, List, [], ◌∷◌, length, drop, get_or, refl, sym, ap, ap₂, ◌∙◌, subst, arith, length-take, length-drop, get_or-take, get_or-drop}
 use Rattle.std.proofs.lemmas.List.{same_lists, get_or_default, get_or_append_left, get_or-append_right}
 use Rattle.std.proofs.lemmas.Bool.{cases_eq, cases_lt}
@@ -24,7 +24,7 @@ use Rattle.capnp_widening.proofs.Widenings.{struct_widened, length-fill_words, c
 use Rattle.capnp_widening.proofs.NewObjects.{IsRehoused, pads_from, old_pads, new_pads}
 use Rattle.capnp_widening.proofs.Statements.{HaveValuesInside, row_moves}
 
--- words, one by one
+-- Words, one by one.
 
 pub word_of_words : (S : Segments) (s p i : ℕ) (ws : List ℕ) → HasWords S s p ws → i < length ws → word_at S s (p + i) ≡ get_or ws i 0
 word_of_words S s p i ws h l =
@@ -50,7 +50,7 @@ filled_at d i ws l = get_or_append_left ws (words_of_zero (d - length ws)) 0 i l
 pub filled_past : (d i : ℕ) (ws : List ℕ) → length ws ≤ i → get_or (fill_words d ws) i 0 ≡ 0
 filled_past d i ws l = get_or-append_right ws (words_of_zero (d - length ws)) (length ws) i 0 refl l ∙ zeros_at (d - length ws) (i - length ws)
 
--- the parts of a stored struct
+-- The parts of a stored struct.
 pub record StructParts (S : Segments) (u q : ℕ) (ws : List ℕ) (ts : Trees) (a : Target) : Type 0 where
   pub here : target S u q ≡ a
   pub leads_to : Leads S u q a
@@ -80,7 +80,7 @@ struct_parts S u q ws ts x = at_level x.means.0 x.means.1 x.means.2
               )));
         })
 
--- words are taken, and the data section is copied into them
+-- Words are allocated, and the data section is copied into them.
 pub struct_begun : (S T D : Segments) (u q : ℕ) (ws : List ℕ) (ts : Trees) (d k v at pads : ℕ) → IsStored S u q (Struct ws ts) → length ws ≤ d → count ts ≤ k → IsGrown S T v at (pads + (d + k)) →
     AreWordsCopied T D (record { segment = (target S u q).segment; at = (target S u q).start }) (record { segment = v; at = (at + pads) }) (length ws) →
     IsBegun S T D v at pads (d + k) (row_moves (target S u q).segment ((target S u q).start + length ws) v (at + pads + d) (count ts))
@@ -125,7 +125,7 @@ struct_begun S T D u q ws ts d k v at pads x ld lk g c =
       | inr e ↦ (let i = in_row v (at + pads) (length ws) y z (omega arith) in absurd (omega (arith, l, i.1, g.behind, ap (λ w. length (segment S w)) i.0)))
     ]
 
--- and then its place means it filled up
+-- Then its place means the struct filled up.
 pub struct_remade : (S T D P R Q : Segments) (u q : ℕ) (ws : List ℕ) (ts : Trees) (d k : ℕ) (b : Target) (v at pads : ℕ) → IsStored S u q (Struct ws ts) → length ws ≤ d → count ts ≤ k →
     AreWordsCopied T D (record { segment = (target S u q).segment; at = (target S u q).start }) (record { segment = v; at = (at + pads) }) (length ws) →
     IsRemade S T D P R Q u q (target S u q) (length ws + count ts) b v at pads (d + k) (row_moves (target S u q).segment ((target S u q).start + length ws) v (at + pads + d) (count ts)) →

@@ -1,4 +1,4 @@
--- How many words a struct takes that is made wider.
+-- How many words a widened struct takes.
 use Rattle.std.proofs.Common.{◌≡◌, ℕ, ◌+◌, max, List, length, Some, None, arith}
 use Rattle.capnp_format.specs.Tree.{Trees, count}
 use Rattle.capnp_words.specs.declared.wire_pointer.StructSize.{StructSize}

@@ -1,4 +1,4 @@
--- What the steps of widening a struct leave, as the calls say it.
+-- What the steps of widening a struct leave, in the words of the calls.
 use Rattle.std.proofs.Common.{ap, ◌∙◌, ◌≡◌, ℕ, ◌+◌, ◌≤◌, [], ◌∷◌, ◌++◌, length, List, Some, refl, sym, subst, arith}
 use Rattle.std.proofs.lemmas.List.{get_or_past}
 use Rattle.capnp_format.specs.Word.{upper_half}
@@ -41,21 +41,21 @@ pub record StructSteps (S T D P R Z Q : Segments) (id at : ℕ) (old : ExistingS
   pub pads_zeroed : PadsInside Z (word_at S id at) → IsZeroed Z Q (pads_of (word_at S id at))
   pub wider : (old.size.data_words ≤ size.data_words) × (old.size.pointers ≤ size.pointers)
 
--- the struct that a place stores
+-- The struct that a place stores.
 abbrev pub the_struct : Segments → ℕ → ℕ → List ℕ → Trees → ExistingStruct
 the_struct S id at ws ts = record { segment = (target S id at).segment; start = (target S id at).start; size = record { data_words = length ws; pointers = count ts } }
 
 pub same_struct : (x y : ExistingStruct) → Some x ≡ Some y → x ≡ y
 same_struct x y e = cc
 
--- What widening a struct leaves: its place means it filled up, and leads to where it stands.
+-- What widening a struct leaves: its place means it filled up, and leads to its start.
 record IsWidened (S Q : Segments) (id at : ℕ) (ws : List ℕ) (ts : Trees) (size : StructSize) (h : Room) : Type 0 where
   replaced : IsReplaced S Q id at (Struct ws ts) (Struct (fill_words size.data_words ws) (fill_trees size.pointers ts))
   segment_of : h.segment ≡ (target Q id at).segment
   start_of : h.at + h.pads ≡ (target Q id at).start
   claim : h.at + h.pads + (size.data_words + size.pointers) ≤ length (segment Q h.segment)
 
--- the struct is made anew, and the old one is zero
+-- The struct is remade, and the old one is zero.
 record RemadeBy (S T D P R Z Q : Segments) (id at : ℕ) (size : StructSize) (h : Room) (ws : List ℕ) (ts : Trees) : Type 0 where
   object : Target
   shaped : IsShape (StructShape size) object.word
@@ -118,7 +118,7 @@ is_widened S T D P R Z Q id at size h ws ts x s =
       claim = r.claim;
     }
 
--- where it stands, and what words were taken for it
+-- The place of the struct, and the words allocated for it.
 pub record StructTaken (s t d p q : View) (id : ℕ) (old : ExistingStruct) (size : StructSize) (h : Room) : Type 0 where
   pub kept : KeepsMemory s t
   pub taken : TakesWords s t id (size.data_words + size.pointers)
@@ -158,7 +158,7 @@ struct_leads S T D P R Z Q id at old size h s = λ ws ts i.
     (let w = is_widened S T D P R Z Q id at size h ws ts i.0 (subst (λ o. StructSteps S T D P R Z Q id at o size h) (sym (same_struct (the_struct S id at ws ts) old i.1)) s) in
     (w.segment_of, w.start_of, omega (arith, w.claim)))
 
--- a growth is refused on the way
+-- A growth is refused on the way.
 pub record StructUndone (S T D P U Z : Segments) (id : ℕ) (old : ExistingStruct) (size : StructSize) (h : Room) : Type 0 where
   pub room : IsRoom S T id (size.data_words + size.pointers) h
   pub copied : AreWordsCopied T D (record { segment = old.segment; at = old.start }) (record { segment = h.segment; at = (h.at + h.pads) }) old.size.data_words
@@ -186,7 +186,7 @@ struct_left S T D P U Z id at old size h s = λ t i. each t i.0 i.1
     each (Pointers ts) x e = cc
     each (Structs d q es) x e = cc
 
--- nothing is changed
+-- Nothing changes.
 pub nothing_grown : (S R : Segments) → R ≡ S → GrowsByZeros S R
 nothing_grown S R e =
     subst (λ T. GrowsByZeros S T) (sym e) (record { grows = record { segments = omega arith; words = λ x. omega arith }; kept = λ x y l. refl; zero = λ x y l. get_or_past (segment S x) y 0 l })

@@ -35,18 +35,18 @@ use Rattle.capnp_widening.proofs.Widenings.{length-fill_words, count-fill_trees}
 use Rattle.capnp_widening.proofs.WrittenAnew.{writes_nothing}
 use Rattle.capnp_widening.proofs.Statements.{GrowsForStruct, LeadsToWiderStruct, LeavesAll, WidensStruct, WidensStructAnew, rewriting}
 
--- a refusal that spends nothing
+-- A refusal that spends nothing.
 pub nothing_spent : (v : View) (k : ErrorKind) → (k ≡ AllocationFailed → ⊥) → SpendsMemory v v k
 nothing_spent v k other = spends_nothing v v k (not_the_allocator k other) (keeps_itself v)
 
 pub no_truth : (b : Bool) → b ≡ false → b ≡ true → ⊥
 no_truth b x y = cc
 
--- what stood stands where there is nothing but zeros more
+-- What was stored is still stored if only zeros are new.
 pub stands_grown : (S R : Segments) (s p : ℕ) (t : Tree) → IsStored S s p t → GrowsByZeros S R → IsReplaced S R s p t t
 stands_grown S R s p t stored g = grown S R s p t g.grows stored g.kept g.zero
 
--- the sections of a struct lie in their segment
+-- The sections of a struct are inside their segment.
 struct_lies : (S : Segments) (s p : ℕ) (ws : List ℕ) (ts : Trees) → IsStored S s p (Struct ws ts) → StructLiesIn S (the_struct S s p ws ts)
 struct_lies S s p ws ts stored = at_level stored.means.0 stored.means.1 stored.means.2
   where
@@ -54,7 +54,7 @@ struct_lies S s p ws ts stored = at_level stored.means.0 stored.means.1 stored.m
     at_level n c (a, k, some, o, claim, words, all, g) =
         subst (λ (b : Target). b.start + length ws + count ts ≤ length (segment S b.segment)) (sym (ap target_in o.leads_to.1)) (omega (arith, claim))
 
--- a struct that is large enough
+-- A struct that is large enough.
 struct_wide_at : (v : View) (s p : ℕ) (ws : List ℕ) (ts : Trees) (e : ExistingStruct) (size : StructSize) → IsStored v.words s p (Struct ws ts) → the_struct v.words s p ws ts ≡ e →
     size.data_words ≤ e.size.data_words → size.pointers ≤ e.size.pointers → OpensStruct LeadsToOne size (Ok e) (call_at s p v v) (Struct ws ts)
 struct_wide_at v s p ws ts e size stored is l m =
@@ -81,14 +81,14 @@ struct_wide v s p (Flat w ns) e size stored found l m = absurd (no_struct e foun
 struct_wide v s p (Pointers ts) e size stored found l m = absurd (no_struct e found)
 struct_wide v s p (Structs d q es) e size stored found l m = absurd (no_struct e found)
 
--- where a struct stands, of so many data words and pointers
+-- A struct at a place, with its numbers of data words and pointers.
 abbrev struct_at : ℕ → ℕ → ℕ → ℕ → ExistingStruct
 struct_at s p d q = record { segment = s; start = p; size = record { data_words = d; pointers = q } }
 
 same_place : (s p d q t r e k : ℕ) → s ≡ t → p ≡ r → d ≡ e → q ≡ k → struct_at s p d q ≡ struct_at t r e k
 same_place s p d q t r e k a b c f = ap₂ (λ x y. struct_at x y d q) a b ∙ ap₂ (λ x y. struct_at t r x y) c f
 
--- one that is made wider
+-- A struct that is widened.
 pub record Wider (a b : View) (s p : ℕ) (e f : ExistingStruct) (size : StructSize) : Type 0 where
   pub widened : WidensStruct (IsStored a.words s p) size (rewriting s p a.words b.words)
   pub leads : LeadsToWiderStruct (IsStored a.words s p) b.words s p f
@@ -128,7 +128,7 @@ struct_wider a b s p (Flat n ns) e f size greater stored found w l m = absurd (n
 struct_wider a b s p (Pointers ts) e f size greater stored found w l m = absurd (no_struct e found)
 struct_wider a b s p (Structs d q es) e f size greater stored found w l m = absurd (no_struct e found)
 
--- or for which there is no memory
+-- Or there is no memory for it.
 pub struct_unwidened : (a b : View) (s p : ℕ) (e : ExistingStruct) (size : StructSize) (k : ErrorKind) → ((t : Tree) → IsStored a.words s p t → struct_in (target a.words s p) t ≡ Some e) → SpendsMemory a b k →
     RefusesGrowth a b (max e.size.data_words size.data_words + max e.size.pointers size.pointers) e.size.pointers k → RefusesToBecome (IsStored a.words s p) (struct_opened size) a b k
 struct_unwidened a b s p e size k known memory full = record { name = growth_named a b _ _ k full; memory = memory; full = λ t u stored opened. of_value t u (known t stored) opened }
@@ -167,11 +167,11 @@ struct_kept a b s p (Flat n ns) e size k stored found narrow leaves named few = 
 struct_kept a b s p (Pointers ts) e size k stored found narrow leaves named few = absurd (no_struct e found)
 struct_kept a b s p (Structs d q es) e size k stored found narrow leaves named few = absurd (no_struct e found)
 
--- a value that is no struct, and not null
+-- A value that isn't a struct, and isn't null.
 pub some_struct : (e : ExistingStruct) → Some e ≡ None → ⊥
 some_struct e x = cc
 
--- a new struct in place of null
+-- A new struct in place of null.
 zero_count : (n : ℕ) → length (words_of_zero n) ≡ n
 zero_count n = grind (arith, common_steps)
 
@@ -212,7 +212,7 @@ struct_unmade a b s p size k place null same named full =
       full = inl (subst (λ n. RefusesWords a b n k) words refused.0, same);
     }
 
--- a known one made wider, or memory refused
+-- A known struct is widened, or memory is refused.
 pub known_opened : (a b : View) (s p : ℕ) (t : Tree) (old : ExistingStruct) (size : StructSize) (r : Result ExistingStruct ErrorKind) → IsStored a.words s p t → struct_in (target a.words s p) t ≡ Some old →
     ((u : Tree) → IsStored a.words s p u → struct_in (target a.words s p) u ≡ Some old) → (size.data_words ≤ old.size.data_words → size.pointers ≤ old.size.pointers → ⊥) → MakesStructWider r (IsStored a.words s p) size (call_at s p a b) →
     IfOk r (λ e. (e.size.data_words ≡ max old.size.data_words size.data_words) × (e.size.pointers ≡ max old.size.pointers size.pointers)) →

@@ -1,4 +1,4 @@
--- Words that are taken in a segment, or where the arena has room next.
+-- Words that are allocated in a segment, or in the next segment with room.
 use Rattle.std.proofs.Common.{◌≡◌, ℕ, ◌+◌, ◌<◌, ◌≤◌, length, refl, sym, ap, ◌∙◌, subst, arith}
 use Rattle.capnp_format.specs.Segments.{Segments, segment}
 use Rattle.capnp_arena_traits.specs.Taking.{IsFirstFit, IsFull, GrowsSegment, GainsSegment}
@@ -12,17 +12,17 @@ use Rattle.capnp_making.proofs.MadeWords.{word_put}
 use Rattle.capnp_making.proofs.Taken.{anywhere_lengthens, extended_lengthens}
 use Rattle.capnp_widening.specs.Anew.{OnlyWrites}
 
--- a word is put over another
+-- A word is written over another.
 pub put_writes : (a b : View) (s p x : ℕ) → p < length (segment a.words s) → b ≡ record a { words = with_word a.words s p x } → OnlyWrites a b
 put_writes a b s p x place e =
     let put = word_put a.words b.words s p x place (ap words_in e) in
     record { limits = e ∙ ap (λ (S : Segments). record a { words = S }) (sym (ap words_in e)); segments = put.segments; words = put.words }
 
--- words become zero
+-- Words are zeroed.
 pub pruned_writes : (a b : View) → KeepsLimits a b → IsPruned a.words b.words → OnlyWrites a b
 pruned_writes a b limits p = record { limits = limits; segments = p.segments; words = p.words }
 
--- n words are taken in segment id
+-- n words are allocated in segment id.
 pub took_near : (a t : View) (id n p : ℕ) → id < length a.words → length (segment a.words id) + n ≤ a.room id → GrowsSegment a t n id p → TakesWords a t id n
 took_near a t id n p there fits (at, grown) = record {
   near = λ room. subst (λ S. Lengthens a.words S id n) (sym (ap words_in grown)) (extended_lengthens a.words id n there);
@@ -32,7 +32,7 @@ took_near a t id n p there fits (at, grown) = record {
 pub stands_near : (a t : View) (id n p : ℕ) → length (segment a.words id) + n ≤ a.room id → GrowsSegment a t n id p → StandsBehind a id n (record { segment = id; at = p })
 stands_near a t id n p fits (at, grown) = record { near = λ some room. (refl, at); far = λ full. absurd (omega arith) }
 
--- and else elsewhere, with one more
+-- Otherwise they are allocated elsewhere, with one more.
 pub took_far : (a mid t : View) (id n k p : ℕ) → mid ≡ a → (length (segment a.words id) + n ≤ a.room id → ⊥) → ((j : ℕ) → IsFirstFit mid (n + 1) j → (k ≡ j) × GrowsSegment mid t (n + 1) j p) →
     (IsFull mid (n + 1) → GainsSegment mid t (n + 1) k p) → TakesWords a t id n × StandsBehind a id n (record { segment = k; at = p + 1 })
 took_far a mid t id n k p e full first another =

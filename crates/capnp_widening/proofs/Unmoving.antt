@@ -1,4 +1,4 @@
--- The landing pads of moved pointers made zero.
+-- The landing pads of moved pointers are zeroed.
 use Rattle.std.proofs.Common.{◌≡◌, ◌≢◌, ◌⊎◌, inl, inr, ℕ, suc, ◌+◌, ◌<◌, cond, List, [], ◌∷◌, ◌++◌, sym, ap, ◌∙◌, subst, arith, ne_eqb}
 use Rattle.capnp_format.specs.Word.{kind, is_double, far_position, upper_half}
 use Rattle.capnp_format.specs.Segments.{Segments, word_at}
@@ -17,7 +17,7 @@ old_places-append : (ms ns : List Move) (x y : ℕ) → times (old_places (ms ++
 old_places-append [] ns x y = omega arith
 old_places-append (m ∷ ms) ns x y = omega (arith, old_places-append ms ns x y)
 
--- words that a zeroing leaves
+-- Words that zeroing leaves.
 same_left : (S M : Segments) (ms : List Move) → ((x y : ℕ) → (0 < times (old_places ms) x y) ⊎ (0 < times (new_places ms) x y) → word_at M x y ≡ word_at S x y) → SameMoves S M ms
 same_left S M [] h = tt
 same_left S M (m ∷ ms) h = (
@@ -52,7 +52,7 @@ unmoves_next S M R s p v r k f g =
     subst (λ n. Unmoves S R (row_moves s p v r n)) (let e : suc k ≡ k + 1 = omega arith in e)
     (subst (λ ms. Unmoves S R ms) (sym (row_next s p v r k)) (unmoves_both S M R (row_moves s p v r k) (a_move s (p + k) v (r + k) ∷ []) f g))
 
--- the pads of one pointer
+-- The pads of one pointer.
 pub near_unmoved : (S R : Segments) (s p v r : ℕ) → kind (word_at S s p) ≢ 2 → (PadsInside S (word_at S v r) → IsZeroed S R (pads_of (word_at S v r))) → Unmoves S R (a_move s p v r ∷ [])
 near_unmoved S R s p v r near f = λ inside old_apart new_apart.
     (let x = word_at S v r in

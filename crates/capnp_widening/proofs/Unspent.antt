@@ -1,4 +1,4 @@
--- What a refusal spends before memory is asked for.
+-- What a refusal spends before memory is requested.
 use Rattle.std.proofs.Common.{◌≡◌, ℕ, true, refl}
 use Rattle.capnp_words.specs.declared.error.ErrorKind.{ErrorKind}
 use Rattle.capnp_words.specs.declared.error.ErrorKind.TheVariants.{AllocationFailed, FoundBitListWhereStructListWasExpected, MessageContainsOutOfBoundsPointer, MessageTooLarge}
@@ -7,11 +7,12 @@ use Rattle.capnp_contents.specs.Existing.{is_unfound}
 use Rattle.capnp_making.specs.Memory.{refusals_for, SpendsMemory}
 use Rattle.capnp_making.proofs.Memory.{keeps_itself, spends_nothing}
 
--- nothing, where its name isn't the allocator's
+-- Nothing, if its error isn't the allocator's.
 nothing_spent : (a : View) (k : ErrorKind) → ((n : ℕ) → refusals_for k n ≡ n) → SpendsMemory a a k
 nothing_spent a k other = spends_nothing a a k other (keeps_itself a)
 
--- nothing is spent where words are too many, or what is found lies outside the message or is a list of bits
+-- Nothing is spent if there are too many words, or if what is found is outside the message or is a
+-- list of bits.
 pub too_large_spent : (a : View) (n : ℕ) → SpendsMemory a a (MessageTooLarge n)
 too_large_spent a n = nothing_spent a (MessageTooLarge n) (λ n. refl)
 
@@ -21,7 +22,7 @@ outside_spent a = nothing_spent a MessageContainsOutOfBoundsPointer (λ n. refl)
 pub bits_spent : (a : View) → SpendsMemory a a FoundBitListWhereStructListWasExpected
 bits_spent a = nothing_spent a FoundBitListWhereStructListWasExpected (λ n. refl)
 
--- nothing is spent where nothing is found
+-- Nothing is spent if nothing is found.
 pub unfound_spent : (a : View) (k : ErrorKind) → is_unfound k ≡ true → SpendsMemory a a k
 unfound_spent a AllocationFailed e = absurd (cc)
 unfound_spent a k e = nothing_spent a k (λ n. refl)

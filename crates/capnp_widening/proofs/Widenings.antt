@@ -1,4 +1,5 @@
--- A struct, or a list of structs, made wider: its words and pointers stand anew in a larger object, and its place means it filled up with zeros and Nulls.
+-- A struct, or a list of structs, is widened: its words and pointers are in a larger, new object,
+-- and its place means it filled up with zeros and Nulls.
 use Rattle.std.proofs.Common.{◌≡◌, ℕ, zero, suc, pred, ◌+◌, ◌*◌, ◌-◌, ◌<◌, ◌≤◌, max, List, [], ◌∷◌, ◌++◌, length, refl, sym, ap, ◌∙◌, subst, le_trans, le_of_eq, arith, length-append}
 use Rattle.std.proofs.lemmas.List.{length-replicate}
 use Rattle.capnp_format.specs.Segments.{Segments, word_at, HasWords, Target}
@@ -43,7 +44,7 @@ nulls_mean S n s p (suc k) h =
     let rest = nulls_mean S n s (p + 1) k (λ i l. subst (λ z. word_at S s z ≡ 0) (let e : p + suc i ≡ p + 1 + i = omega arith in e) (h (suc i) (omega arith))) in
     ((0, 0, (subst (λ z. word_at S s z ≡ 0) (let e : p + 0 ≡ p = omega arith in e) (h 0 (omega arith)), refl), rest.0, refl), rest.1, (tt, rest.2))
 
--- pointers with null words behind them
+-- Pointers with null words after them.
 pub filled : (S : Segments) (n s p k : ℕ) (ts : Trees) (c : ℕ) → MeansAll S n s p ts c → ((i : ℕ) → count ts ≤ i → i < count (fill_trees k ts) → word_at S s (p + i) ≡ 0) → Filled S n s p k ts c
 filled S n s p k no_trees c m h =
     let r = nulls_mean S n s p k (λ i l. h i (omega arith) (omega (arith, count-nulls k))) in
@@ -53,7 +54,7 @@ filled S n s p (suc k) (tree t ts) c (a, b, one, rest, g) h =
     let r = filled S n s (p + 1) k ts b rest (λ i l m. subst (λ z. word_at S s z ≡ 0) (let e : p + suc i ≡ p + 1 + i = omega arith in e) (h (suc i) (omega arith) (omega arith))) in
     record { means = (a, b, one, r.means, g); covers = ap (λ is. cover S s p t ++ is) r.covers; tidy = λ y. (y.0, r.tidy y.1) }
 
--- the new object of a struct, as it is written
+-- The new object of a struct, once it is written.
 pub record StructWritten (M Q : Segments) (u q : ℕ) (a : Target) (ws vs : List ℕ) (ts : Trees) (k : ℕ) (b : Target) : Type 0 where
   pub words : HasWords M b.segment b.start vs
   pub moved : (i : ℕ) → i < count ts → IsMoved M a.segment (a.start + length ws + i) b.segment (b.start + length vs + i)
@@ -117,7 +118,7 @@ struct_widened S M Q u q ws vs ts k b fresh x r w =
         (tidy_kept_all M Q (pred n) b.segment to us new.cost then pointers_same cover_agree full.means
         (full.tidy (new.tidy (tidy_kept_all S M (pred n) a.segment from ts l first old_same old_agree all (subst (λ t. AreTidy S t.segment (t.start + length ws) ts) here x.tidy))))))
 
--- rows of a list of structs, written anew in wider rows
+-- Rows of a list of structs, rewritten in wider rows.
 pub record RowsWritten (M : Segments) (s p d q v r e k : ℕ) (es : Elements) : Type 0 where
   pub words : (i : ℕ) → i < element_count es → HasWords M v (r + i * (max d e + max q k)) (fill_words e (struct_data_words (struct_at es i)))
   pub moved : (i j : ℕ) → i < element_count es → j < q → IsMoved M s (p + i * (d + q) + d + j) v (r + i * (max d e + max q k) + max d e + j)
@@ -182,7 +183,7 @@ rows_mean S n s p d q v r e k (element ws ts es) c h (a, b, long, len, words, al
       tidy = λ y. (full.tidy (new.tidy y.0), others.tidy y.1);
     }
 
--- the new object of a list of structs, as it is written
+-- The new object of a list of structs, once it is written.
 pub record StructsWritten (M Q : Segments) (u q : ℕ) (a : Target) (d k : ℕ) (es : Elements) (e f : ℕ) (b : Target) : Type 0 where
   pub rows : RowsWritten M a.segment (a.start + 1) d k b.segment (b.start + 1) e f es
   pub tag : IsTag (word_at M b.segment b.start) (element_count es) (max d e) (max k f)

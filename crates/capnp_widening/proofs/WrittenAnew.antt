@@ -1,4 +1,4 @@
--- Pointers written anew one after the other, and the words that their landing pads take.
+-- Pointers rewritten one after the other, and the words that their landing pads take.
 use Rattle.std.proofs.Common.{◌≡◌, inl, inr, ℕ, suc, ◌+◌, ◌*◌, ◌<◌, ◌≤◌, max, List, [], ◌∷◌, ◌++◌, length, refl, sym, ap, ◌∙◌, subst, arith}
 use Rattle.capnp_format.specs.Segments.{Segments, segment, word_at}
 use Rattle.capnp_format.specs.Forest.{times}
@@ -14,7 +14,7 @@ use Rattle.capnp_widening.proofs.Rows.{rows_next}
 use Rattle.capnp_widening.proofs.Single.{place_there}
 use Rattle.capnp_widening.proofs.Statements.{WritesPointer, a_move, row_moves, rows_moves}
 
--- nothing is written, and one write after another
+-- Nothing is written, and one write after another.
 
 pub writes_nothing : (v : View) → OnlyWrites v v
 writes_nothing v = record { limits = refl; segments = refl; words = λ x. refl }
@@ -32,7 +32,7 @@ room_kept a b x j = ap (λ (v : View). v.room j) x.limits
 pub keeps_writes : (a b : View) → OnlyWrites a b → KeepsMemory a b
 keeps_writes a b x = subst (KeepsMemory a) (sym x.limits) (refl, λ k l. refl)
 
--- words are taken before a write, and after one
+-- Words are allocated before a write, and after one.
 
 lengthened_before : (a b c : View) (k n : ℕ) → OnlyWrites a b → Lengthens b.words c.words k n → Lengthens a.words c.words k n
 lengthened_before a b c k n w x = record {
@@ -70,14 +70,14 @@ taken_after a b c id n x w = record {
   far = λ full. (let (k, next, long) = x.far full in (k, next, lengthened_after a b c k (n + 1) long w));
 }
 
--- no words are taken
+-- No words are allocated.
 pub takes_none : (a b : View) (id : ℕ) → id < length a.words → length (segment a.words id) ≤ a.room id → OnlyWrites a b → TakesWords a b id 0
 takes_none a b id there within w = record {
   near = λ fits. record { segments = omega (arith, w.segments); gained = omega (arith, w.words id); others = λ v other. w.words v };
   far = λ full. absurd (omega arith);
 }
 
--- pads of pointers in turn
+-- Pads of pointers in turn.
 
 pub pads_after : (S : Segments) (a b c : View) (ms : List Move) → TakesPadsInTurn S a b ms → OnlyWrites b c → TakesPadsInTurn S a c ms
 pads_after S a b c [] x w = writes_both a b c x w
@@ -96,7 +96,7 @@ pads_both : (S : Segments) (a b c : View) (ms ns : List Move) → TakesPadsInTur
 pads_both S a b c [] ns w y = pads_before S a b c ns w y
 pads_both S a b c (m ∷ ms) ns (next, kept, taken, rest) y = (next, kept, taken, pads_both S next b c ms ns rest y)
 
--- words that stay as they were written stand in the same forms
+-- Words that stay the way they were written have the same forms.
 
 pub written_later : (S M R : Segments) (ms : List Move) → ((x y : ℕ) → 0 < times (new_places ms) x y → word_at R x y ≡ word_at M x y) → AreWrittenAnew S M ms → AreWrittenAnew S R ms
 written_later S M R [] same h = tt
@@ -109,7 +109,7 @@ written_append : (S R : Segments) (ms ns : List Move) → AreWrittenAnew S R ms 
 written_append S R [] ns a b = b
 written_append S R (m ∷ ms) ns a b = (a.0, written_append S R ms ns a.1 b)
 
--- some pointers are written, and then others
+-- Some pointers are written, and then others.
 pub writes_more : (a b c : View) (ms ns : List Move) → Moves a.words b.words ms → Moves b.words c.words ns → WritesAnew a b ms → WritesAnew b c ns → WritesAnew a c (ms ++ ns)
 writes_more a b c ms ns f g v w = λ S k.
     (let first = can_left S a.words ms ns k in
@@ -127,7 +127,7 @@ writes_more a b c ms ns f g v w = λ S k.
 pub writes_none : (v : View) → WritesAnew v v []
 writes_none v = λ S k. (tt, writes_nothing v)
 
--- one pointer
+-- One pointer.
 pub writes_one : (a b : View) (s p v r : ℕ) → KeepsMemory a b → (word_at a.words v r ≡ 0 → WritesPointer s (word_at a.words s p) (call_at v r a b)) → WritesAnew a b (a_move s p v r ∷ [])
 writes_one a b s p v r kept w = λ S k.
     (let here = place_there S a.words s p v r k in
@@ -135,7 +135,7 @@ writes_one a b s p v r kept w = λ S k.
     let one = subst (λ x. WritesPointer s x (call_at v r a b)) old (w here.2) in
     ((one.form, tt), (b, kept, one.taken, writes_nothing b)))
 
--- a row of pointers, and rows of them
+-- A row of pointers, and rows of them.
 
 pub writes_next : (a b c : View) (s p v r k : ℕ) → Moves a.words b.words (row_moves s p v r k) → Moves b.words c.words (a_move s (p + k) v (r + k) ∷ []) → WritesAnew a b (row_moves s p v r k) →
     WritesAnew b c (a_move s (p + k) v (r + k) ∷ []) → WritesAnew a c (row_moves s p v r (k + 1))

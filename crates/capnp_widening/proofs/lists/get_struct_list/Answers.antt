@@ -41,7 +41,7 @@ returns-in-None-clause-widened g c =
     (let (u, e, same) = null_stays S c.args.id c.args.at c.args.size found t x in
     (u, e, same, null_leads S c.args.id c.args.at c.args.size found t u x e))
 
--- One is found, and made anew or given as it stands.
+-- A list is found, and remade or returned unchanged.
 pub returns-in_ok-list-in-Some-clause-widened : goal.returns-in_ok-list-in-Some-clause-widened
 returns-in_ok-list-in-Some-clause-widened g c =
     let S : Segments = (g.A.BuilderArena.view c.args.arena.now).words in
@@ -52,7 +52,7 @@ returns-in_ok-list-in-Some-clause-widened g c =
     (let (u, e, made) = list_widens S R c.args.id c.args.at c.args.size c.in-Some.old c.in_ok-list-in-Some.list found widens t x in
     (u, e, made, list_leads S R c.args.id c.args.at c.args.size c.in-Some.old c.in_ok-list-in-Some.list found widens t u x e))
 
--- One of large enough structs is given as it stands.
+-- A list of large enough structs is returned unchanged.
 pub returns-then-is_wide_list-clause-widened : goal.returns-then-is_wide_list-clause-widened
 returns-then-is_wide_list-clause-widened g c =
     let S : Segments = (g.A.BuilderArena.view c.args.arena.now).words in
@@ -101,7 +101,7 @@ returns-in_err-old-clause-wider g c =
       few = λ t u x becomes. omega arith;
     })
 
--- Null is, and stays.
+-- The place has Null, which stays.
 pub returns-in-None-clause-wider : goal.returns-in-None-clause-wider
 returns-in-None-clause-wider g c =
     let v : View = g.A.BuilderArena.view c.args.arena.now in
@@ -118,7 +118,7 @@ returns-in-None-clause-wider g c =
       few = λ t u x e. omega arith;
     }
 
--- A list is found, and made anew or given as it stands.
+-- A list is found, and remade or returned unchanged.
 pub returns-in_ok-list-in-Some-clause-wider : goal.returns-in_ok-list-in-Some-clause-wider
 returns-in_ok-list-in-Some-clause-wider g c =
     let e = c.in_ok-list-in-Some.ensures.wider in
@@ -155,7 +155,7 @@ returns-in_err-list-in-Some-clause-wider g c =
       few = λ t u x becomes. e.few t u (x, sym (sym (ap Ok c.in-Some.is) ∙ c.in_ok-old.ensures.found t x)) becomes;
     })
 
--- Null and structs are found.
+-- Null and structs are found, so this case can't occur.
 pub returns-in_err-old-clause-stays : goal.returns-in_err-old-clause-stays
 returns-in_err-old-clause-stays g c =
     let p = err_from_is_err_and c.from_residual.result c.from_residual.ensures.1 in rw p.1 (λ h. absurd (elim h [
@@ -163,7 +163,7 @@ returns-in_err-old-clause-stays g c =
       | inr (d, q, es, x, l, m) ↦ not_a_list _ _ (c.in_err-old.ensures.found (Structs d q es) x)
     ]))
 
--- A list whose structs are large enough is given as it is.
+-- A list whose structs are large enough is returned unchanged.
 wide_stays : (S : Segments) (s p : ℕ) (l : ExistingList) (size : StructSize) → ((t : Tree) → IsStored S s p t → Ok (Some l) ≡ list_in (target S s p) Void t) → ((l.size ≡ InlineComposite) × (size.data_words ≤ l.struct_size.data_words) × (size.pointers ≤ l.struct_size.pointers) → ⊥) →
     IsStored S s p Null ⊎ ((d : ℕ) × (q : ℕ) × (es : Elements) × IsStored S s p (Structs d q es) × (size.data_words ≤ d) × (size.pointers ≤ q)) → ⊥
 wide_stays S s p l size found narrow (inl x) = found_none l (found Null x)

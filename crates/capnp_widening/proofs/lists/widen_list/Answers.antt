@@ -25,7 +25,7 @@ is_bit EightBytes e = absurd (omega arith)
 is_bit Pointer e = absurd (omega arith)
 is_bit InlineComposite e = absurd (omega arith)
 
--- elements that are no numbers are whole words, or nothing
+-- Elements that aren't numbers are whole words, or nothing.
 is_whole : (size : ElementSize) → (size ≡ Bit → ⊥) → (size ≡ Byte → ⊥) → (size ≡ TwoBytes → ⊥) → (size ≡ FourBytes → ⊥) → (size ≡ EightBytes → ⊥) → 0 < size_number size → 6 ≤ size_number size
 is_whole Void n1 n2 n3 n4 n5 some = absurd (omega arith)
 is_whole Bit n1 n2 n3 n4 n5 some = absurd (n1 refl)
@@ -36,7 +36,7 @@ is_whole EightBytes n1 n2 n3 n4 n5 some = absurd (n5 refl)
 is_whole Pointer n1 n2 n3 n4 n5 some = omega arith
 is_whole InlineComposite n1 n2 n3 n4 n5 some = omega arith
 
--- the size of the structs that it becomes
+-- The size of the structs that it becomes.
 is_wider : (l : ExistingList) (size element wide : StructSize) → (l.size ≡ Bit → ⊥) → (size_number l.size ≡ 7 → size.data_words ≤ l.struct_size.data_words → size.pointers ≤ l.struct_size.pointers → ⊥) → element ≡ struct_for l.size l.struct_size →
     wide.data_words ≡ max element.data_words size.data_words → wide.pointers ≡ max element.pointers size.pointers → Widens l size wide
 is_wider l size element wide no_bit narrow same wd wp = record {
@@ -53,7 +53,7 @@ returns-then-eq g c =
     unwidened _ c.args.old c.args.size v c.args.id c.args.at (bits_spent v)
     (λ t i. bits_refused v.words c.args.id c.args.at t c.args.old c.args.size.data_words c.args.size.pointers (ap size_number bit) i)
 
--- Structs that take too many words are refused by their number.
+-- Structs that take too many words are refused with the number of these words.
 pub returns-then-words-ge536870912 : goal.returns-then-words-ge536870912
 returns-then-words-ge536870912 g c =
     let v : View = g.A.BuilderArena.view c.args.arena.now in

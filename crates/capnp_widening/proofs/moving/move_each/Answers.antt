@@ -16,7 +16,7 @@ loop-i-init g c =
     let S : Segments = (g.A.BuilderArena.view c.args.arena.now).words in
     record { moves = none_moved S; written = writes_none (g.A.BuilderArena.view c.args.arena.now); longer = record { segments = omega arith; words = λ x. omega arith }; few = omega arith; memory = keeps_itself (g.A.BuilderArena.view c.args.arena.now); apart = λ other. apart_none (g.A.BuilderArena.view c.args.arena.now) c.args.from.segment }
 
--- One pointer more.
+-- One more pointer.
 pub loop-i-preserved : goal.loop-i-preserved
 loop-i-preserved g c =
     let S : Segments = (g.A.BuilderArena.view c.args.arena.now).words in

@@ -24,7 +24,7 @@ use Rattle.capnp_widening.proofs.Single.{copied_moves, near_moves, means_nothing
 use Rattle.capnp_widening.proofs.Statements.{WritesPointer, a_move}
 use Rattle.capnp_widening.proofs.moving.move_pointer.Goals as goal
 
--- A far pointer or a capability is copied as it is.
+-- A far pointer or a capability is copied unchanged.
 pub returns-then-not-is_positional-clause-moved : goal.returns-then-not-is_positional-clause-moved
 returns-then-not-is_positional-clause-moved g c =
     let S : Segments = (g.A.BuilderArena.view c.args.arena.now).words in
@@ -39,7 +39,7 @@ returns-then-not-is_positional-clause-moved g c =
     not_less : (a b : ℕ) → (a < b → ⊥) → b ≤ a
     not_less a b h = elim (cases_lt a b) [ inl l ↦ absurd (h l) | inr l ↦ l ]
 
--- A near pointer is written anew to where it leads.
+-- A near pointer is rewritten to where it leads.
 pub returns-in-Some-clause-moved : goal.returns-in-Some-clause-moved
 returns-in-Some-clause-moved g c =
     let S : Segments = (g.A.BuilderArena.view c.args.arena.now).words in
@@ -53,7 +53,7 @@ returns-in-Some-clause-moved g c =
     on_made_so c.point_to.result _ _ c.point_to.ensures.points
     (λ w. λ B k. near_moves B S R c.args.from.segment c.args.from.at c.args.to.segment c.args.to.at c.in-Some.start c.shape_of.result (record { segment = c.args.from.segment; at = c.in-Some.start }) c.args.to (λ e. some (is ∙ e)) shaped goes refl refl refl refl w k)
 
--- One that leads nowhere means nothing.
+-- A pointer that leads nowhere means nothing.
 pub returns-in-None-clause-moved : goal.returns-in-None-clause-moved
 returns-in-None-clause-moved g c =
     let S : Segments = (g.A.BuilderArena.view c.args.arena.now).words in
@@ -102,7 +102,7 @@ returns-then-not-is_positional-clause-written g c =
     not_less : (a b : ℕ) → (a < b → ⊥) → b ≤ a
     not_less a b h = elim (cases_lt a b) [ inl l ↦ absurd (h l) | inr l ↦ l ]
 
--- A near one is written anew as its object's segment says.
+-- A near pointer is rewritten as its object's segment requires.
 pub returns-in-Some-clause-written : goal.returns-in-Some-clause-written
 returns-in-Some-clause-written g c =
     let a : View = g.A.BuilderArena.view c.args.arena.now in
@@ -115,7 +115,7 @@ returns-in-Some-clause-written g c =
     (on_both_so c.point_to.result _ _ _ c.point_to.ensures.written c.point_to.ensures.taken (λ form taken. λ y its none. record { form = form y its none; taken = taken y its none })) c.point_to.ensures.memory.granted
     (λ w kept. writes_one a b c.args.from.segment c.args.from.at c.args.to.segment c.args.to.at kept (λ none. subst (λ y. WritesPointer c.args.from.segment y (call_at c.args.to.segment c.args.to.at a b)) is (w x (c.shape_of.ensures.shape near) some)))
 
--- One that leads nowhere means nothing.
+-- A pointer that leads nowhere means nothing.
 pub returns-in-None-clause-written : goal.returns-in-None-clause-written
 returns-in-None-clause-written g c =
     let S : Segments = (g.A.BuilderArena.view c.args.arena.now).words in
@@ -126,7 +126,8 @@ returns-in-None-clause-written g c =
     let goes = rw (is, c.length_of.ensures) at (sym c.target.ensures ∙ c.in-None.is) in
     λ B k. absurd (means_nothing B S c.args.from.segment c.args.from.at c.args.to.segment c.args.to.at (λ e. some (is ∙ e)) (λ e. omega (arith, near, ap kind is)) goes k)
 
--- Room for the landing pad of a near pointer is enough in another segment, and one pad is taken then at most.
+-- Room for the landing pad of a near pointer is enough in another segment, and then at most one pad
+-- is allocated.
 pub returns-then-is_null-clause-apart : goal.returns-then-is_null-clause-apart
 returns-then-is_null-clause-apart g c =
     let v : View = g.A.BuilderArena.view c.args.arena.now in

@@ -15,7 +15,7 @@ use Rattle.capnp_widening.proofs.WrittenAnew.{writes_none, rows_writes_next}
 use Rattle.capnp_widening.proofs.Statements.{rows_moves}
 use Rattle.capnp_widening.proofs.moving.move_rows.Goals as goal
 
--- A row starts within the words of its segment, and the next one a step behind it.
+-- A row starts within the words of its segment, and the next one a step after it.
 pub overflow_add-source : goal.overflow_add-source
 overflow_add-source g c =
     let now = c.args.arena.now in
@@ -38,7 +38,7 @@ overflow_add-place g c =
           c.requires.small.1;
     }
 
--- One row of all lies where these do.
+-- One of the rows is inside the words of all.
 pub move_row-requires : goal.move_row-requires
 move_row-requires g c = record {
   from = (row_inside c.args.from.at c.args.from.step c.args.pointers c.args.count c.loop-i.i c.loop-i.source _ _
@@ -63,7 +63,7 @@ loop-i-init g c =
       apart = λ other. apart_none v c.args.from.segment;
     }
 
--- One row more.
+-- One more row.
 pub loop-i-preserved : goal.loop-i-preserved
 loop-i-preserved g c =
     let S : Segments = (g.A.BuilderArena.view c.args.arena.now).words in
@@ -104,7 +104,7 @@ returns-clause-moves g c =
       few = subst (λ n. GrowsByAtMost a.words b.words (2 * (n * c.args.pointers))) all c.loop-i.invariant.few;
     }
 
--- Each row before has taken two words for a pointer at most.
+-- Each row before has taken at most two words for a pointer.
 pub returns-in_err-move_row-clause-moves : goal.returns-in_err-move_row-clause-moves
 returns-in_err-move_row-clause-moves g c =
     let p = err_from_is_err_and c.from_residual.result c.from_residual.ensures.1 in
@@ -130,7 +130,7 @@ returns-in_err-move_row-clause-moves g c =
       few = rows_few _ _ _ c.args.pointers c.loop-i.i c.args.count before.few e.few less;
     })
 
--- Where there is room for all pads, it is there for those of the next row.
+-- If there is room for all pads, there is room for those of the next row.
 pub returns-in_err-move_row-clause-apart : goal.returns-in_err-move_row-clause-apart
 returns-in_err-move_row-clause-apart g c =
     let p = err_from_is_err_and c.from_residual.result c.from_residual.ensures.1 in

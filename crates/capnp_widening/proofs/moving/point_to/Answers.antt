@@ -53,7 +53,7 @@ returns-then-object-to-clause-points g c =
       )
     ]
 
--- A far pointer to a pad behind the words of the object's segment.
+-- A far pointer to a pad at the end of the object's segment.
 pub returns-in-Some-clause-points : goal.returns-in-Some-clause-points
 returns-in-Some-clause-points g c =
     let S : Segments = (g.A.BuilderArena.view c.args.arena.now).words in
@@ -78,7 +78,7 @@ returns-in-Some-clause-points g c =
       inl (refl, refl),
     )
 
--- A far pointer to two pads, in words that the arena gave.
+-- A far pointer to two pads, in words that the arena granted.
 pub set_word-requires-in-None : goal.set_word-requires-in-None
 set_word-requires-in-None g c =
     let S : Segments = (g.A.BuilderArena.view c.args.arena.now).words in
@@ -176,7 +176,7 @@ returns-in_ok-segment-in-None-clause-memory g c = record {
       omega (arith, two, first, second, third));
 }
 
--- No segment has room for two words more.
+-- No segment has room for two more words.
 pub returns-in_err-segment-in-None-clause-memory : goal.returns-in_err-segment-in-None-clause-memory
 returns-in_err-segment-in-None-clause-memory g c = record {
   granted = search rules;
@@ -192,7 +192,7 @@ returns-in_err-segment-in-None-clause-memory g c = record {
   few = (omega (arith, ap all_words (ap words_in c.in_err-segment-in-None.ensures.refused ∙ ap words_in (c.in-None.ensures.none refl))));
 }
 
--- No words are taken for a near pointer, one for a pad, or two.
+-- No words are allocated for a near pointer; otherwise one for a pad, or two.
 pub returns-then-object-to-clause-memory : goal.returns-then-object-to-clause-memory
 returns-then-object-to-clause-memory g c = record {
   granted = (let old : View = g.A.BuilderArena.view c.args.arena.now in
@@ -238,7 +238,7 @@ returns-in-Some-clause-memory g c = record {
       omega (arith, ap all_words taken, one, first, second));
 }
 
--- Where words are refused, no segment has room for two.
+-- If words are refused, no segment has room for two.
 pub returns-in_err-segment-in-None-clause-fits : goal.returns-in_err-segment-in-None-clause-fits
 returns-in_err-segment-in-None-clause-fits g c = λ h.
     (let a : View = g.A.BuilderArena.view c.args.arena.now in
@@ -263,7 +263,7 @@ returns-then-object-to-clause-taken g c =
     λ x its some. (near_written (g.A.BuilderArena.view c.args.arena.now) (g.A.BuilderArena.view c.set_word.new.self) c.args.shape c.args.object.segment c.args.to.segment c.args.to.at c.near_word-word.result.0 here c.requires.there
     (g.met.A.BuilderArena.within c.args.arena.now c.args.object.segment) c.requires.to c.set_word.ensures c.near_word-word.ensures.shape c.near_word-word.ensures.empty x its some).taken
 
--- By a pad behind the words of that segment.
+-- By a pad at the end of that segment.
 pub returns-in-Some-clause-written : goal.returns-in-Some-clause-written
 returns-in-Some-clause-written g c = λ x its some.
     (let a : View = g.A.BuilderArena.view c.args.arena.now in
@@ -298,7 +298,7 @@ returns-in-Some-clause-taken g c = λ x its some.
     far_written a t b v c.args.to.segment c.args.to.at c.new_far-far.result.0 x other (took_near a t v 1 c.in-Some.pad c.requires.there (c.in-Some.ensures.exactly.0 refl) c.in-Some.ensures.taken) (writes_both t u b first second) put.here
     c.new_far-far.ensures.kind_of (inl (c.new_far-far.ensures.pads, c.new_far-far.ensures.segment_of)) some (same_shape c.args.shape x x its its).2).taken
 
--- By two.
+-- By two pads.
 pub returns-in_ok-segment-in-None-clause-written : goal.returns-in_ok-segment-in-None-clause-written
 returns-in_ok-segment-in-None-clause-written g c = λ x its some.
     (let a : View = g.A.BuilderArena.view c.args.arena.now in

@@ -8,7 +8,7 @@ use Rattle.capnp_widening.proofs.Rows.{rows_unmoves_next}
 use Rattle.capnp_widening.proofs.Statements.{rows_moves}
 use Rattle.capnp_widening.proofs.moving.unmove_rows.Goals as goal
 
--- A row starts within the words of its segment, and the next one a step behind it.
+-- A row starts within the words of its segment, and the next one a step after it.
 pub overflow_add-source : goal.overflow_add-source
 overflow_add-source g c =
     let now = c.args.arena.now in
@@ -31,7 +31,7 @@ overflow_add-place g c =
           c.requires.small.1;
     }
 
--- One row of all lies where these do.
+-- One of the rows is inside the words of all.
 pub unmove_row-requires : goal.unmove_row-requires
 unmove_row-requires g c = record {
   from = (row_inside c.args.from.at c.args.from.step c.args.pointers c.args.count c.loop-i.i c.loop-i.source _ _
@@ -54,7 +54,7 @@ loop-i-init g c =
       limits = refl;
     }
 
--- One row more.
+-- One more row.
 pub loop-i-preserved : goal.loop-i-preserved
 loop-i-preserved g c =
     let S : Segments = (g.A.BuilderArena.view c.args.arena.now).words in

@@ -10,7 +10,7 @@ use Rattle.capnp_widening.proofs.RowPlaces.{first_row, next_row, start_inside, s
 use Rattle.capnp_widening.proofs.Statements.{CopiedNumbers, numbers_copied}
 use Rattle.capnp_widening.proofs.numbers.copy_numbers.Goals as goal
 
--- A row starts within the words of its segment, and the next one a step behind it.
+-- A row starts within the words of its segment, and the next one a step after it.
 pub overflow_add-place : goal.overflow_add-place
 overflow_add-place g c =
     let now = c.args.arena.now in
@@ -21,7 +21,7 @@ overflow_add-place g c =
           (g.met.A.BuilderArena.small now c.args.to.segment);
     }
 
--- One row of all lies where these do.
+-- One of the rows is inside the words of all.
 pub set_word-requires : goal.set_word-requires
 set_word-requires g c =
     start_inside c.args.to.at c.args.step c.args.old.count c.loop-i.i c.loop-i.place _ _ c.requires.to
@@ -36,7 +36,7 @@ loop-i-init g c =
       limits = refl;
     }
 
--- One number more.
+-- One more number.
 pub loop-i-preserved : goal.loop-i-preserved
 loop-i-preserved g c =
     let S : Segments = (g.A.BuilderArena.view c.args.arena.now).words in

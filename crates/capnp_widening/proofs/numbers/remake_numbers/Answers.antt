@@ -18,7 +18,7 @@ use Rattle.capnp_widening.proofs.WrittenAnew.{keeps_writes, writes_both}
 use Rattle.capnp_widening.proofs.Statements.{copied_numbers, settled_room}
 use Rattle.capnp_widening.proofs.numbers.remake_numbers.Goals as goal
 
--- The room lies in its segment, which has fewer than 2^29 words.
+-- The room is inside its segment, which has fewer than 2^29 words.
 pub overflow_add-first : goal.overflow_add-first
 overflow_add-first g c =
     let (T, room, tagged) = c.in_ok-room.ensures.begun in
@@ -43,7 +43,7 @@ overflow_add-first-2 g c =
           (g.met.A.BuilderArena.small now v);
     }
 
--- The old segments have no word fewer than before.
+-- The old segments have no fewer words than before.
 pub begin_list-requires-clause-there : goal.begin_list-requires-clause-there
 begin_list-requires-clause-there g c =
     there (g.A.BuilderArena.view c.args.arena.now).words c.args.id c.args.at c.requires.place
@@ -77,7 +77,7 @@ pub copy_numbers-requires-clause-some : goal.copy_numbers-requires-clause-some
 copy_numbers-requires-clause-some g c = subst (λ n. 0 < n) (sym c.total.ensures)
     (some_total c.args.size.pointers c.requires.data)
 
--- The new words are behind the pointer, if in its segment.
+-- The new words come after the pointer, if they are in its segment.
 pub settle-requires-clause-place : goal.settle-requires-clause-place
 settle-requires-clause-place g c =
     let (T, room, tagged) = c.in_ok-room.ensures.begun in
@@ -107,7 +107,7 @@ pub settle-requires-clause-few : goal.settle-requires-clause-few
 settle-requires-clause-few g c =
     subst (λ n. c.args.old.count * n < 2 ^ 29) (sym c.total-2.ensures) c.requires.small
 
--- A refusal is that of the words.
+-- The refusal is that of the allocation.
 pub returns-in_err-room-clause-refused : goal.returns-in_err-room-clause-refused
 returns-in_err-room-clause-refused g c =
     let p = err_from_is_err_and c.from_residual.result c.from_residual.ensures.1 in rw p.1
@@ -172,7 +172,7 @@ returns-in_err-room-clause-made g c =
       refused = λ t i. nothing_grown (g.A.BuilderArena.view c.args.arena.now).words (g.A.BuilderArena.view c.begin_list.new.arena).words e.refused;
     })
 
--- The words of the list are taken, and a pad at most.
+-- The words of the list are allocated, and at most one pad.
 pub returns-clause-few : goal.returns-clause-few
 returns-clause-few g c =
     let B : Segments = (g.A.BuilderArena.view c.begin_list.new.arena).words in

@@ -13,7 +13,7 @@ returns g c =
     let e = c.remake_numbers.ensures in
     numbers_make a b c.args.id c.args.at c.args.old c.args.size c.remake_numbers.result c.requires.kind.0 c.requires.kind.1 e.made e.refused e.full e.few e.fits
 
--- What a place stores lies in its segment.
+-- What a place stores is inside its segment.
 pub returns-then-not-are_numbers_inside : goal.returns-then-not-are_numbers_inside
 returns-then-not-are_numbers_inside g c =
     let v : View = g.A.BuilderArena.view c.args.arena.now in

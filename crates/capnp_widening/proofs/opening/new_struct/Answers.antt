@@ -17,7 +17,7 @@ returns-clause-opened g c =
     struct_made a b c.args.id c.args.at c.args.size c.in_ok-start.start c.in_ok-start.ensures.made c.in_ok-start.ensures.memory.granted
     c.in_ok-start.ensures.memory.taken (returns-clause-behind g c) c.in_ok-start.ensures.start.leads
 
--- The struct fits nowhere.
+-- The struct doesn't fit anywhere.
 pub returns-in_err-start-clause-opened : goal.returns-in_err-start-clause-opened
 returns-in_err-start-clause-opened g c =
     let p = err_from_is_err_and c.from_residual.result c.from_residual.ensures.1 in rw (p.1, p.2) (struct_unmade (g.A.BuilderArena.view c.args.arena.now) (g.A.BuilderArena.view c.make_struct.new.arena) c.args.id c.args.at c.args.size _ c.requires.place c.requires.null

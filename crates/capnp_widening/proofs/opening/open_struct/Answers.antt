@@ -18,7 +18,7 @@ returns-else-is_wide-clause-fits g c = λ h. elim h [
   | inr fits ↦ c.open_narrow_struct.ensures.fits fits
 ]
 
--- None is found, and the pointer isn't null.
+-- No struct is found, and the pointer isn't null.
 pub returns-then-not-is_null-clause-fits : goal.returns-then-not-is_null-clause-fits
 returns-then-not-is_null-clause-fits g c = λ h. absurd (elim h [
   | inl (null, room) ↦ no_truth c.is_null.result (search rules) (c.is_null.ensures.1 (c.word_of.ensures ∙ null))
@@ -32,7 +32,7 @@ returns-else-not-is_null-clause-fits g c = λ h. elim h [
   | inr (ws, ts, x, room) ↦ absurd (no_struct _ (c.in-None.ensures.found (Struct ws ts) x))
 ]
 
--- No struct is found where the pointer is null.
+-- If the pointer is null, no struct is found.
 pub returns-then-is_wide-clause-taken : goal.returns-then-is_wide-clause-taken
 returns-then-is_wide-clause-taken g c = λ null. absurd (some_struct _ (c.in-Some.ensures.found Null (null_stored (g.A.BuilderArena.view c.args.arena.now).words c.args.id c.args.at c.requires.place null)))
 

@@ -40,7 +40,7 @@ returns-in_err-room-clause-room g c = record {
       absurd (not_true (c.in_err-room.ensures.room.fits k n (subst (λ m. HasRoomAndPads (g.A.BuilderArena.view c.args.arena.now) c.args.id (1 + c.args.count * m) k n) (sym c.total.ensures) h)).0));
 }
 
--- The words of the list are taken, and a pad at most.
+-- The words of the list are allocated, and at most one pad.
 pub returns-clause-room : goal.returns-clause-room
 returns-clause-room g c = record {
   words = (let S : View = g.A.BuilderArena.view c.args.arena.now in

@@ -13,7 +13,7 @@ returns-then-words-eq0-clause-copied g c =
     subst (λ d. CopiedRows S S c.args.from.segment c.args.from.at c.args.from.step c.args.to.segment c.args.to.at c.args.to.step d c.args.count) (sym none)
     (no_words_copied S c.args.from.segment c.args.from.at c.args.from.step c.args.to.segment c.args.to.at c.args.to.step c.args.count)
 
--- A row starts within the words of its segment, and the next one a step behind it.
+-- A row starts within the words of its segment, and the next one a step after it.
 pub overflow_add-source : goal.overflow_add-source
 overflow_add-source g c =
     let now = c.args.arena.now in
@@ -34,7 +34,7 @@ overflow_add-place g c =
           (g.met.A.BuilderArena.small now c.args.to.segment);
     }
 
--- One row of all lies where these do.
+-- One of the rows is inside the words of all.
 pub copy_words-requires-clause-inside : goal.copy_words-requires-clause-inside
 copy_words-requires-clause-inside g c = record {
   from = (step_inside c.args.from.at c.args.from.step c.args.words c.args.count c.loop-i.i c.loop-i.source _ _
@@ -62,7 +62,7 @@ loop-i-init g c =
       limits = refl;
     }
 
--- One row more.
+-- One more row.
 pub loop-i-preserved : goal.loop-i-preserved
 loop-i-preserved g c =
     let S : Segments = (g.A.BuilderArena.view c.args.arena.now).words in

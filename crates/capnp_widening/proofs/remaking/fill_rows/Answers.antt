@@ -57,7 +57,7 @@ returns-in-Err-clause-full g c =
     let moved = words_refused_after S D P 1 k (keeps_written S D D.words c.copy_rows.ensures.limits) refused in
     (rw c.from-pointers.ensures at some, words_refused_before S P R 1 k moved c.unmove_rows.ensures.limits c.unmove_rows.ensures.pruned)
 
--- Two words for a pointer are taken at most.
+-- At most two words are allocated for a pointer.
 pub returns-then-pointers-eq0-clause-few : goal.returns-then-pointers-eq0-clause-few
 returns-then-pointers-eq0-clause-few g c =
     few_none _
@@ -78,7 +78,7 @@ returns-in-Err-clause-few g c =
     let undone = same_words (g.A.BuilderArena.view c.move_rows.new.arena).words (g.A.BuilderArena.view c.unmove_rows.new.arena).words c.unmove_rows.ensures.pruned.segments c.unmove_rows.ensures.pruned.words in
     few_after _ _ _ _ (few_before _ copied moved) undone
 
--- The pointers stand in another segment as they did.
+-- The pointers in another segment are the same as before.
 pub returns-in-Err-clause-fits : goal.returns-in-Err-clause-fits
 returns-in-Err-clause-fits g c = λ other h.
     (let S : View = g.A.BuilderArena.view c.args.arena.now in

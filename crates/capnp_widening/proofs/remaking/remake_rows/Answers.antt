@@ -26,7 +26,7 @@ use Rattle.capnp_widening.proofs.WrittenAnew.{keeps_writes, writes_both}
 use Rattle.capnp_widening.proofs.Statements.{settled_room}
 use Rattle.capnp_widening.proofs.remaking.remake_rows.Goals as goal
 
--- The room lies in its segment, which has fewer than 2^29 words.
+-- The room is inside its segment, which has fewer than 2^29 words.
 pub overflow_add-tag : goal.overflow_add-tag
 overflow_add-tag g c =
     let (T, room, tagged) = c.in_ok-room.ensures.begun in
@@ -75,7 +75,7 @@ pub begin_list-requires-clause-there : goal.begin_list-requires-clause-there
 begin_list-requires-clause-there g c =
     there (g.A.BuilderArena.view c.args.arena.now).words c.args.id c.args.at c.requires.place
 
--- The old rows stand as they did, before the new ones.
+-- The old rows are unchanged, before the new ones.
 pub fill_rows-requires-clause-from : goal.fill_rows-requires-clause-from
 fill_rows-requires-clause-from g c =
     let (T, room, tagged) = c.in_ok-room.ensures.begun in
@@ -94,7 +94,7 @@ fill_rows-requires-clause-apart g c = λ e.
     let S : Segments = (g.A.BuilderArena.view c.args.arena.now).words in
     stands_before c.in_ok-room.room.pads c.requires.inside (ap (λ s. length (segment S s)) e) room.0.behind)
 
--- The new words are behind the pointer, if in its segment.
+-- The new words come after the pointer, if they are in its segment.
 pub settle-requires-clause-apart : goal.settle-requires-clause-apart
 settle-requires-clause-apart g c = λ e.
     (let (T, room, tagged) = c.in_ok-room.ensures.begun in
@@ -256,7 +256,8 @@ returns-in-Err-clause-full g c =
     let (some, refused) = c.in-Err.ensures.full in
     inr (some, words_refused_before S U Z 1 k (words_refused_after S B U 1 k c.in_ok-room.ensures.room.granted refused) c.zero_part-in-Err.ensures.limits c.zero_part-in-Err.ensures.pruned)
 
--- Where there is room for the list and for the landing pads that its pointers need, nothing is refused.
+-- If there is room for the list and for the landing pads that its pointers need, nothing is
+-- refused.
 pub returns-in_err-room-clause-fits : goal.returns-in_err-room-clause-fits
 returns-in_err-room-clause-fits g c =
     let p = err_from_is_err_and c.from_residual.result c.from_residual.ensures.1 in

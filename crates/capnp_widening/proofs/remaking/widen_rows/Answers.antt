@@ -13,7 +13,7 @@ returns g c =
     let e = c.remake_rows.ensures in
     rows_make a b c.args.id c.args.at c.args.old c.args.size c.remake_rows.result e.remakes e.full e.fits
 
--- What a place stores lies in its segment.
+-- What a place stores is inside its segment.
 pub returns-then-not-are_inside : goal.returns-then-not-are_inside
 returns-then-not-are_inside g c =
     let v : View = g.A.BuilderArena.view c.args.arena.now in

@@ -16,7 +16,7 @@ use Rattle.capnp_making.proofs.Memory.{words_in}
 use Rattle.capnp_widening.proofs.TakingWords.{took_near, took_far, stands_near}
 use Rattle.capnp_widening.proofs.widening.take.Goals as goal
 
--- A word more is taken, for a landing pad.
+-- One more word is allocated, for a landing pad.
 pub returns-in_ok-segment-in-None-clause-taken : goal.returns-in_ok-segment-in-None-clause-taken
 returns-in_ok-segment-in-None-clause-taken g c =
     let S : Segments = (g.A.BuilderArena.view c.args.arena.now).words in
@@ -54,7 +54,7 @@ returns-in_err-segment-in-None-clause-room g c = record {
       absurd (none_refused a b m _ refused (room_still a b (m + 1) words room (less_room a (m + 1 + pads) (m + 1) (omega arith) some)))));
 }
 
--- Words are taken in the segment of the pointer.
+-- Words are allocated in the segment of the pointer.
 pub returns-in-Some-clause-room : goal.returns-in-Some-clause-room
 returns-in-Some-clause-room g c = record {
   words = (took_near (g.A.BuilderArena.view c.args.arena.now) (g.A.BuilderArena.view c.allocate.new.self) c.args.id c.args.amount c.in-Some.at c.requires.there (c.in-Some.ensures.exactly.0 refl) c.in-Some.ensures.taken);
@@ -82,7 +82,7 @@ returns-in-Some-clause-room g c = record {
       )));
 }
 
--- Words and a pad are taken elsewhere.
+-- Words and a pad are allocated elsewhere.
 pub returns-in_ok-segment-in-None-clause-room : goal.returns-in_ok-segment-in-None-clause-room
 returns-in_ok-segment-in-None-clause-room g c = record {
   words = ((took_far (g.A.BuilderArena.view c.args.arena.now) (g.A.BuilderArena.view c.allocate.new.self) (g.A.BuilderArena.view c.allocate_anywhere.new.self) c.args.id c.args.amount c.in_ok-segment-in-None.segment c.in_ok-segment-in-None.at (c.in-None.ensures.none refl)

@@ -31,7 +31,7 @@ sections_fit : (start d q : ℕ) {length most : ℕ} → start + d + q ≤ lengt
     d + q < 2 ^ 63
 sections_fit start d q inside within small = omega arith
 
--- A room for n words holds the sections that these are, and smaller ones.
+-- A room for n words holds sections of n words, and smaller ones.
 start_inside : (at pads d q : ℕ) {n t : ℕ} → at + (pads + n) ≤ t → n ≡ d + q → 0 < d + q → at + pads < t
 start_inside at pads d q room same some = omega arith
 
@@ -49,7 +49,7 @@ old_before_new : (start d q pads : ℕ) {s t at : ℕ} → start + d + q ≤ s �
     start + d ≤ at + pads
 old_before_new start d q pads inside same behind = omega arith
 
--- Old words stay where they are, and the new ones are behind them.
+-- Old words stay in their places, and the new ones come after them.
 pub take-requires-clause-there : goal.take-requires-clause-there
 take-requires-clause-there g c =
     there (g.A.BuilderArena.view c.args.arena.now).words c.args.id c.args.at c.requires.place
@@ -263,7 +263,7 @@ returns-in-Err-clause-full g c =
     let undone = words_refused_before old P U 1 k (words_refused_after old D P 1 k keeps refused) c.unmove_row.ensures.limits c.unmove_row.ensures.pruned in
     inr (rw c.from-count.ensures at some, words_refused_before old U Z 1 k undone c.zero_part-in-Err.ensures.limits c.zero_part-in-Err.ensures.pruned)
 
--- Words are taken for the struct, and then two for a pointer at most.
+-- Words are allocated for the struct, and then at most two for a pointer.
 pub returns-in-Ok-clause-few : goal.returns-in-Ok-clause-few
 returns-in-Ok-clause-few g c =
     let T : Segments = (g.A.BuilderArena.view c.take.new.arena).words in
@@ -301,7 +301,8 @@ pub returns-in_err-room-clause-few : goal.returns-in_err-room-clause-few
 returns-in_err-room-clause-few g c = let taken = rw c.total.ensures at c.take.ensures.room.few in few_at_most _ _
     (c.args.size.data_words + c.args.size.pointers + 1) _ taken
 
--- Where there is room for the struct and for the landing pads that its pointers need, neither is refused.
+-- If there is room for the struct and for the landing pads that its pointers need, neither is
+-- refused.
 pub returns-in_err-room-clause-fits : goal.returns-in_err-room-clause-fits
 returns-in_err-room-clause-fits g c =
     let v : View = g.A.BuilderArena.view c.args.arena.now in
