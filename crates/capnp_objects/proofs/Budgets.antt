@@ -1,5 +1,5 @@
--- Budgets, step after step.
--- Lemmas on `Means` name all its arguments: it is defined by recursion on the value, and the checker finds none of them from a premise.
+-- Budgets, step by step. Lemmas on `Means` name all its arguments: it is defined by recursion on
+-- the value, so the checker can't find any of them from a premise.
 use Rattle.std.proofs.Common.{◌≡◌, ℕ, suc, pred, ◌+◌, ◌*◌, ◌<◌, ◌≤◌, Bool, true, false, Option, Some, None, refl, ap, ap₂, ◌∙◌, arith}
 use Rattle.capnp_format.specs.Segments.{Segments, Target}
 use Rattle.capnp_format.specs.Tree.{Tree, Null, Capability, Struct, Flat, Pointers, Structs, Trees, no_trees, tree, Elements, no_elements, element, count, element_count}
@@ -40,7 +40,7 @@ fits_rest : (o : Option ℕ) (g h c : ℕ) → g + h ≤ c → FitsIn o c → Fi
 fits_rest None g h c le a = tt
 fits_rest (Some x) g h c le a = omega arith
 
--- after g words were granted, h more are
+-- if g words were granted and h more can be, the limiter m affords g + h
 pub affords_both : {charging : Bool} {m m' : Meter} {g r : ℕ} (h : ℕ) → Paid charging m m' g r → Affords charging m' h → Affords charging m (g + h)
 affords_both {charging = true} {m} {m'} {g} {r} h a b = fits_both m.left g h a.covers (let e : m'.left ≡ less m.left g = ap (λ y. y.left) a.spent in rw e at b)
 affords_both {charging = false} h a b = tt
@@ -51,7 +51,7 @@ paid_both {charging} {m} {m'} {m''} {g} {r} {h} {k} a b = record {
   spent = b.spent ∙ ap (λ x. after charging x h k) a.spent ∙ after_after charging m g r h k;
 }
 
--- what is covered as a whole is covered in its parts
+-- a limiter that affords c words affords h of them after g were granted, if g + h is at most c
 pub affords_rest : {charging : Bool} {m m' : Meter} {g r : ℕ} (h c : ℕ) → Paid charging m m' g r → g + h ≤ c → Affords charging m c → Affords charging m' h
 affords_rest {charging = true} {m} {m'} {g} {r} h c a le whole = let e : m'.left ≡ less m.left g = ap (λ y. y.left) a.spent in rw e (fits_rest m.left g h c le whole)
 affords_rest {charging = false} h c a le whole = tt
@@ -64,7 +64,7 @@ affords_none true m = go m.left
     go (Some x) = omega arith
 affords_none false m = tt
 
--- what a reading paid
+-- what a reading of the object a paid: a's own words, and one pointer
 pub paid_own : {r : Reading} {m m' : Meter} {a : Target} → Entered Value r m m' a → Paid r.charging m m' (own Value r.segments a) 1
 paid_own o = record { covers = o.covers; spent = o.spent }
 
@@ -77,11 +77,11 @@ paid_all x = record { covers = x.covers; spent = x.spent }
 pub paid_elements : {form : Form} {r : Reading} {size : StructSize} {m m' : Meter} {es : Elements} (x : ReadsElements form r size m m' es) → Paid r.charging m m' x.cost (pointers_in_elements es)
 paid_elements x = record { covers = x.covers; spent = x.spent }
 
--- a place, of which it doesn't matter whether reading is charged
+-- the place with these segments, levels and position; whether reading is charged doesn't matter
 abbrev place : Segments → ℕ → ℕ → ℕ → Reading
 place S n s p = record { segments = S; charging = false; of_default = false; levels = n; segment = s; at = p }
 
--- each pointer but the first is a word that is paid for
+-- each pointer except the first is a word that is paid for
 mutual
   pub pointers_within : (S : Segments) (n s p : ℕ) (t : Tree) (x : (c : ℕ) × Means S n s p t c) → pointers_in t ≤ x.0 + 1
   pointers_within S n s p Null (c, h) = omega arith
@@ -107,7 +107,8 @@ mutual
     pointers_within_elements (place r.segments r.levels r.segment _) size es l rest,
   )
 
--- pointers of elements are among their words, and those of a further element among those of all
+-- the pointers of j elements are among their words, and those of one more element are among those
+-- of all
 pub fewer_than_words : (j d q : ℕ) → j * q ≤ j * (d + q)
 fewer_than_words j d q = grind arith
 

@@ -1,5 +1,6 @@
--- One child read after another, and where reading stops.
--- Lemmas on `Means` name all its arguments: it is defined by recursion on the value, and the checker finds none of them from a premise.
+-- Children that are read one after another, and where the reading stops. Lemmas on `Means` name all
+-- its arguments: it is defined by recursion on the value, so the checker can't find any of them
+-- from a premise.
 use Rattle.std.proofs.Common.{◌≡◌, ℕ, suc, ◌+◌, ◌*◌, ◌<◌, ◌≤◌, Bool, List, length, refl, sym, ap, ◌∙◌, subst, arith}
 use Rattle.capnp_words.specs.declared.error.ErrorKind.{ErrorKind}
 use Rattle.capnp_format.specs.Segments.{segment, words_at, HasWords}
@@ -26,11 +27,11 @@ pub pointers_in-with_last : (ts : Trees) (u : Tree) → pointers_in_all (with_la
 pointers_in-with_last no_trees u = omega arith
 pointers_in-with_last (tree t ts) u = omega (arith, pointers_in-with_last ts u)
 
--- nothing yet
+-- no child is read yet
 unfoldable pub read_none : (form : Form) (r : Reading) (m : Meter) → ReadsAll form r m m no_trees
 read_none form r m = record { cost = 0; means = refl; takes = λ e. refl; covers = affords_none r.charging m; spent = sym (after_none r.charging m) }
 
--- one child more
+-- one child more is read
 unfoldable pub read_more : {form : Form} {r : Reading} {m m' m'' : Meter} {ts : Trees} {u : Tree} → ReadsAll form r m m' ts → Reads form (behind r (count ts)) m' m'' u → ReadsAll form r m m'' (with_last ts u)
 read_more {form} {r} {m} {m'} {m''} {ts} {u} all one = record {
   cost = all.cost + one.cost;
@@ -40,7 +41,7 @@ read_more {form} {r} {m} {m'} {m''} {ts} {u} all one = record {
   spent = (paid_both (paid_all all) (paid_one one)).spent ∙ ap (after r.charging m (all.cost + one.cost)) (sym (pointers_in-with_last ts u));
 }
 
--- what children or elements cost
+-- the cost of the children or elements at a place
 abbrev CostAll : Reading → Trees → Type 0
 CostAll r ts = (k : ℕ) × MeanThere r ts k
 
@@ -50,7 +51,7 @@ CostElements r size es = (k : ℕ) × ElementsMean r size es k
 abbrev SomeElements : Reading → StructSize → Type 0
 SomeElements r size = (es : Elements) × (k : ℕ) × ElementsMean r size es k
 
--- the child behind the first ones, in any longer meaning of the same place
+-- the child after the first ones ts, in any longer meaning us of the same place
 next_child : (r : Reading) (ts us : Trees) (x : CostAll r ts) (y : CostAll r us) → count ts < count us →
     (u : Tree) × (e : ℕ) × MeansThere (behind r (count ts)) u e × (x.0 + e ≤ y.0) × (capabilities u ≤ capabilities_all us)
 next_child r ts no_trees x y lt = absurd (omega arith)
@@ -72,7 +73,7 @@ spends_on {charging} {m} {m'} {m''} {c} {r0} i l first few le (g, r, covers', e'
     let paid = paid_both first then in
     (c + g, r0 + r, paid.covers, paid.spent, omega arith)
 
--- the next child is refused
+-- the reading of the next child is refused
 pub read_stop : {form : Form} {r : Reading} {m m' m'' : Meter} {ts : Trees} {k : ErrorKind} (i : ℕ) → ReadsAll form r m m' ts → count ts < i → Unreadable form (behind r (count ts)) m' m'' k → UnreadableAll form r i m m'' k
 read_stop {form} {r} {m} {m'} {m''} {ts} i all lt refused = record {
   named = (r.at + count ts, omega arith, omega arith, refused.named);
@@ -100,7 +101,7 @@ pub pointers_in-with_last_element : (es : Elements) (ws : List ℕ) (ts : Trees)
 pointers_in-with_last_element no_elements ws ts = omega arith
 pointers_in-with_last_element (element vs us es) ws ts = omega (arith, pointers_in-with_last_element es ws ts)
 
--- the element number j of elements of a size: its words, and what its children cost
+-- the element number j of the elements of this size: its words, and the cost of its children
 pub record ElementAt (r : Reading) (size : StructSize) (j : ℕ) (ws : List ℕ) (ts : Trees) : Type 0 where
   pub long : length ws ≡ size.data_words
   pub len : count ts ≡ size.pointers
@@ -133,11 +134,11 @@ elements_more {r} {size} {ws} {ts} (element vs us es) k last (a, b, long, len, h
     } in
     (a, b + last.cost, long, len, has, first, elements_more {r = behind (behind r d) q} {size = size} {ws = ws} {ts = ts} es b last' rest, omega arith)
 
--- no element yet
+-- no element is read yet
 unfoldable pub read_no_element : (form : Form) (r : Reading) (size : StructSize) (m : Meter) → ReadsElements form r size m m no_elements
 read_no_element form r size m = record { cost = 0; means = refl; takes = λ e. refl; covers = affords_none r.charging m; spent = sym (after_none r.charging m) }
 
--- one element more, its children being read
+-- one element more, after its children are read
 unfoldable pub read_element : {form : Form} {r : Reading} {size : StructSize} {m m' m'' : Meter} {es : Elements} {ts : Trees} → ReadsElements form r size m m' es →
     r.at + element_count es * (size.data_words + size.pointers) + size.data_words ≤ length (segment r.segments r.segment) → count ts ≡ size.pointers → ReadsAll form (pointers_of r size (element_count es)) m' m'' ts →
     ReadsElements form r size m m'' (with_last_element es (words_at r.segments r.segment (r.at + element_count es * (size.data_words + size.pointers)) size.data_words) ts)
@@ -162,7 +163,7 @@ one_value_all r (tree t ts) no_trees x y len = absurd (omega arith)
 one_value_all r (tree t ts) (tree u us) (k, (x, y, first, others, f)) (c, (a, b, one, rest, g)) len =
     omega (arith, (one_value r.segments r.levels r.levels r.segment r.at t u x a first one).1, one_value_all (behind r 1) ts us (y, others) (b, rest) (omega arith))
 
--- the children of the element behind the first ones, in any longer meaning of the same place
+-- the children of the element after the first ones, in any longer meaning of the same place
 abbrev NextElement : Reading → StructSize → ℕ → ℕ → Elements → ℕ → Type 0
 NextElement r size j k us c =
     (ts : Trees) × (e : ℕ) × (count ts ≡ size.pointers) × MeanThere (pointers_of r size j) ts e × (k + e ≤ c) × (capabilities_all ts ≤ capabilities_elements us)
@@ -187,7 +188,7 @@ next_element r size (element vs ts es) (k, (x, y, long', len', has', first, othe
       omega (arith, z.5),
     )
 
--- a child of the next element is refused
+-- the reading of a child of the next element is refused
 pub read_element_stop : {form : Form} {r : Reading} {size : StructSize} {m m' m'' : Meter} {es : Elements} {k : ErrorKind} (i : ℕ) → ReadsElements form r size m m' es → element_count es < i →
     UnreadableAll form (pointers_of r size (element_count es)) size.pointers m' m'' k → UnreadableElements form r size i m m'' k
 read_element_stop {form} {r} {size} {m} {m'} {m''} {es} i all lt refused =

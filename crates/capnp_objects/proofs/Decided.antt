@@ -1,4 +1,5 @@
--- A place means a value that a copy takes, or some reached place breaks a demand.
+-- A place either means a value that a copy takes, or some place that is reached from it breaks a
+-- demand.
 use Rattle.std.proofs.Common.{◌≡◌, ◌≢◌, ◌⊎◌, inl, inr, ℕ, zero, suc, pred, ◌+◌, ◌*◌, ◌%◌, ◌^◌, ◌<◌, ◌≤◌, Bool, true, false, nat_eq, Ok, Err, Result, length, refl, sym, ap, ◌∙◌, subst, arith, eqb-true}
 use Rattle.std.proofs.lemmas.Bool.{eqb-false}
 use Rattle.capnp_words.specs.declared.error.ErrorKind.{ErrorKind}
@@ -48,7 +49,7 @@ FoundAll form r m = (ts : Trees) × (c : ℕ) × (count ts ≡ m) × MeanThere r
 abbrev FoundElements : Form → Reading → StructSize → ℕ → Type 0
 FoundElements form r size m = (es : Elements) × (c : ℕ) × (element_count es ≡ m) × ElementsMean r size es c × AllowsCapabilities form (capabilities_elements es)
 
--- every place of a segment
+-- the choice for each place of a segment
 abbrev Everywhere : Form → Reading → Type 0
 Everywhere form r = (q : ℕ) → Choice form (record r { at = q })
 
@@ -79,13 +80,13 @@ choose_elements form r h size (suc m) fits = elim (choose_all form (behind r siz
   | inr f ↦ inr (f.0, (0, omega arith, (f.1.0, omega (arith, f.1.1), omega (arith, f.1.2), f.1.3)))
 ]
 
--- the place leads to an object with a level left, whose words lie in their segment
+-- the place r leads to the object a, with a level left, and the words of a are inside their segment
 record IsWhole (r : Reading) (a : Target) : Type 0 where
   leads_to : LeadsTo r a
   levels : 0 < r.levels
   claims : Claims r.segments a (claim a.word)
 
--- what the children of an object are
+-- the choice for each place of an object's segment, with one level less: its children are there
 abbrev Below : Form → Reading → Target → Type 0
 Below form r a = Everywhere form (child_at r a (pred r.levels) a.start)
 

@@ -1,10 +1,10 @@
--- The segments of a default: all that a far pointer can name are empty.
+-- The segments of a default: all segments that a far pointer can name are empty.
 use Rattle.std.proofs.Common.{◌≡◌, ℕ, zero, suc, ◌^◌, ◌<◌, List, [], ◌∷◌, ◌++◌, replicate, length, refl, ap, ◌∙◌, arith}
 use Rattle.capnp_format.specs.Bytes.{words_of}
 use Rattle.capnp_format.specs.Segments.{Segments, segment}
 use Rattle.capnp_objects.specs.Source.{default_segment, default_segments}
 
--- n empty segments, and behind them one of these bytes
+-- n empty segments, and after them one with these bytes
 unfoldable behind_empty : ℕ → List ℕ → Segments
 behind_empty n bytes = replicate n [] ++ words_of bytes ∷ []
 

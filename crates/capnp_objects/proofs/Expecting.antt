@@ -1,4 +1,4 @@
--- From the steps of a reading that expects an object of a kind to its outcome.
+-- From the steps of a reading that expects an object of some kind to its outcome.
 use Rattle.std.proofs.Common.{◌≡◌, ◌↔◌, inl, inr, ℕ, zero, suc, ◌+◌, ◌-◌, ◌*◌, ◌/◌, ◌%◌, ◌^◌, ◌<◌, ◌≤◌, Bool, true, false, ◌||◌, cond, nat_eq, Some, None, Result, Ok, Err, IsOk, IfOk, IfErr, refl, sym, ap, ap₂, ◌⊎◌, ◌∙◌, subst, arith, eqb-true}
 use Rattle.capnp_words.specs.declared.error.ErrorKind.{ErrorKind}
 use Rattle.capnp_words.specs.Meter.{Meter}
@@ -31,11 +31,11 @@ use Rattle.capnp_objects.proofs.Followed.{entered_leads}
 use Rattle.capnp_objects.proofs.Landings.{IsCounted, reached, entered, object_refused, arrived}
 use Rattle.capnp_objects.proofs.Refusals.{not_stopped}
 
--- a place with one level, which is asked for apart
+-- the place with one level, because the level is checked separately
 abbrev pub one_level : Reading → Reading
 one_level r = record r { levels = 1 }
 
--- what the kind is where it isn't another
+-- if no error is named for another kind, the kind is the expected one
 not_another : (k : ErrorKind) (b : Bool) → cond b None (Some k) ≡ None → b ≡ true
 not_another k true e = refl
 not_another k false e = absurd (cc e)
@@ -73,7 +73,7 @@ is_byte EightBytes e = absurd (omega arith)
 is_byte Pointer e = absurd (omega arith)
 is_byte InlineComposite e = absurd (omega arith)
 
--- An object of the kind is entered, from m to m'.
+-- The object has the expected kind and is entered as x, from m to m'.
 pub record IsEnteredAs (expected : Expected) (o : Arrival) (m m' : Meter) (x : Object) : Type 0 where
   pub of_kind : (expectation expected).another_kind o.target.word ≡ None
   pub opened : IsOpened Value o m m' x
@@ -89,7 +89,7 @@ entered_object (ObjectFlat start size count) h = h.opened.0
 entered_object (ObjectPointers start count) h = h.opened.0
 entered_object (ObjectStructs start size count) h = h.opened.0
 
--- what makes the object none that was expected, by its words
+-- why the object isn't what was expected, by its words
 same_sections : (S : Segments) (a : Target) (sections : StructSize) → sections.data_words ≡ data_words (tag S a) → sections.pointers ≡ pointer_count (tag S a) → sections ≡ tag_size S a
 same_sections S a sections d q = ap₂ (λ x y. record { data_words = x; pointers = y }) d q
 
@@ -190,7 +190,7 @@ given {expected = List size} {o = o} x n level fits h = given_list x (some_level
 given {expected = Text} {o = o} x n level fits h = given_text n x (given_bytes x (kind_of_text o.target.word h.of_kind) h) fits
 given {expected = Data} {o = o} x n level fits h = given_data n x (given_bytes x (kind_of_data o.target.word h.of_kind) h)
 
--- the pointer was counted and followed, and the object looked at: the outcome of the call
+-- the outcome of the call after the pointer was counted and followed, and the object was examined
 pub level_counted : {r : Reading} {m m' : Meter} → IsCounted r m m' → IsCounted (one_level r) m m'
 level_counted o = record { some = o.some; by_one = o.by_one }
 
@@ -232,7 +232,7 @@ not_withheld_null null (of_another_kind b level f e paid) = f.0 null
 not_withheld_null {r = r} {m} null (stopped level of_kind h) = not_stopped (null_can_be_read (one_level r) m null) h
 not_withheld_null null (misfits b level e o fits) = o.follows.0 null
 
--- An object of the kind that is entered is as expected.
+-- The object a has the expected kind, was entered, and is as expected.
 record IsAsExpected (expected : Expectation) (r : Reading) (m m' : Meter) (a : Target) : Type 0 where
   level : expected.too_deep r.levels ≡ None
   of_kind : expected.another_kind a.word ≡ None
@@ -252,7 +252,7 @@ not_withheld expected r m m' k (null_pointer null) h = not_withheld_null null h
 not_withheld expected r m m' k (fitting a level of_kind o fits) h =
     not_withheld_there a (record { level = level; of_kind = of_kind; entered = o; fits = fits }) (can_be_read expected r m (fitting a level of_kind o fits)) h
 
--- a call is answered exactly where it can be
+-- a call is answered exactly if it can be
 pub given_exactly : (expected : Expectation) (r : Reading) (m m' : Meter) (result : Result Object ErrorKind) → IfOk result (λ x. CanBeGiven expected r m) → IfErr result (Withheld expected r m m') → IsOk result ↔ CanBeGiven expected r m
 given_exactly expected r m m' (Ok x) good bad = ((λ e. good), (λ can. refl))
 given_exactly expected r m m' (Err k) good bad = ((λ e. absurd (cc e)), (λ can. absurd (not_withheld expected r m m' k can bad)))
@@ -260,18 +260,18 @@ given_exactly expected r m m' (Err k) good bad = ((λ e. absurd (cc e)), (λ can
 pub null_given : (expected : Expectation) (r : Reading) (m : Meter) → word_of r ≡ 0 → CanBeGiven expected r m
 null_given expected r m null = null_pointer null
 
--- what two clauses say of a result
+-- two clauses on the same result
 pub if_both : {A E : Type 0} (r : Result A E) (P Q R : A → Type 0) → ((x : A) → P x → Q x → R x) → IfOk r P → IfOk r Q → IfOk r R
 if_both (Ok x) P Q R f h k = f x h k
 if_both (Err e) P Q R f h k = tt
 
--- what was entered is of the kind and fits
+-- what was entered has the expected kind and fits
 pub fits_kind : (expected : Expected) (w : ℕ) (r : Result Object ErrorKind) → (IsOk r → (expectation expected).another_kind w ≡ None) → IfOk r (λ x. object_misfit expected x ≡ None) →
     IfOk r (λ x. ((expectation expected).another_kind w ≡ None) × (object_misfit expected x ≡ None))
 fits_kind expected w (Ok x) of_kind fits = (of_kind refl, fits)
 fits_kind expected w (Err k) of_kind fits = tt
 
--- one's own levels, of which there is one
+-- a reading with one level is one with r's own levels, if r has any
 own_level : {r : Reading} {m m' : Meter} {a : Target} → 0 < r.levels → Entered Value (one_level r) m m' a → Entered Value r m m' a
 own_level level o = record {
   follows = o.follows;
@@ -280,11 +280,11 @@ own_level level o = record {
   spent = o.spent;
 }
 
--- An object was read with one level, from m to m'.
+-- The object x was read with one level, from m to m'.
 pub record IsReadAt (r : Reading) (m m' : Meter) (x : Object) : Type 0 where
   pub object : IsObject Value (one_level r) m m' x
 
--- a struct or a list that is given was read within the levels of its place
+-- a struct or a list that was returned was read within the levels of its place
 pub struct_given : {r : Reading} {m m' : Meter} (x : Object) → IsGiven Struct r.levels x → IsReadAt r m m' x → IsObject Value r m m' x
 struct_given ObjectNull level h = h.object
 struct_given (ObjectCapability i) level h = absurd level
@@ -301,7 +301,7 @@ list_given size (ObjectFlat start found count) level h = let o = h.object in (o.
 list_given size (ObjectPointers start count) level h = let o = h.object in (o.0, own_level level.0 o.1, o.2, o.3, o.4, o.5)
 list_given size (ObjectStructs start sections count) level h = let o = h.object in (o.0, own_level level.0 o.1, o.2, o.3, o.4, o.5, o.6, o.7)
 
--- what is given is null, or an object of the kind
+-- the answer is null, or the place leads to an object of kind k
 abbrev LeadsToKind : Reading → Meter → Meter → ℕ → Type 0
 LeadsToKind r m m' k = ((word_of r ≡ 0) × (m' ≡ m)) ⊎ ((a : Target) × LeadsTo r a × (kind a.word ≡ k))
 
@@ -321,7 +321,7 @@ list_or_null size (ObjectFlat start found count) level h = let o = h.object in i
 list_or_null size (ObjectPointers start count) level h = let o = h.object in inr (o.0, entered_leads o.1, o.2)
 list_or_null size (ObjectStructs start sections count) level h = let o = h.object in inr (o.0, entered_leads o.1, o.2)
 
--- a text or data that is given and is no list of bytes is null
+-- if the answer for a text or data isn't a list of bytes, it is null
 pub no_text : (n : ℕ) {r : Reading} {m m' : Meter} (x : Object) → IsGiven Text n x → IsReadAt r m m' x → ((start : Place) (size : ElementSize) (count : ℕ) → x ≡ ObjectFlat start size count → ⊥) → (word_of r ≡ 0) × (m' ≡ m)
 no_text n ObjectNull given h other = h.object
 no_text n (ObjectCapability i) given h other = absurd given
@@ -338,7 +338,7 @@ no_data n (ObjectFlat start size count) given h other = absurd (other start size
 no_data n (ObjectPointers start count) given h other = absurd given
 no_data n (ObjectStructs start size count) given h other = absurd given
 
--- what was given fits
+-- what was returned fits
 pub given_fits : (expected : Expectation) (r : Reading) (m : Meter) (a : Target) → CanBeGiven expected r m → LeadsTo r a → expected.misfit r.segments a ≡ None
 given_fits expected r m a (null_pointer null) l = absurd (l.0 null)
 given_fits expected r m a (fitting b level of_kind o fits) l = (let same : b ≡ a = same_target r.segments r.segment r.at (entered_leads o).1 l.1 in rw (← same) fits)

@@ -1,4 +1,5 @@
--- Where a place means a value that a copy takes, no reached place breaks a demand; else some reached place does.
+-- If a place means a value that a copy takes, no place that is reached breaks a demand; otherwise
+-- some place that is reached does.
 use Rattle.std.proofs.Common.{◌≡◌, ◌≢◌, inl, inr, ℕ, pred, ◌%◌, ◌^◌, Some, sym, ap, ◌∙◌, arith}
 use Rattle.capnp_words.specs.declared.error.ErrorKind.{ErrorKind}
 use Rattle.capnp_words.specs.declared.error.ErrorKind.TheVariants.{CannotCreateACanonicalMessageWithACapability, CantHandleNonStructInlineComposite, InlineCompositeListsElementsOverrunItsWordCount, InlineCompositeListsOfNonStructTypeAreNotSupported, MalformedDoubleFarPointer, MessageContainsOutOfBoundsPointer, MessageIsTooDeeplyNestedOrContainsCycles, UnknownPointerType}
@@ -14,7 +15,7 @@ use Rattle.capnp_objects.specs.declared.object.Purpose.TheVariants.{Value, Size}
 use Rattle.capnp_objects.proofs.Followed.{leads_to}
 use Rattle.capnp_objects.proofs.Parts.{Meant, Parts, is_null, is_capability, is_inner, means_parts}
 
--- a copy in canonical form has no capability, and no more has one of a default
+-- forms that refuse a capability: canonical form, and the form of a default
 
 canonical_refuses : (form : Form) → form ≡ canonical → form ≢ plain
 canonical_refuses form e other = cc (e, other)

@@ -1,4 +1,4 @@
--- A pointer leads somewhere exactly where following it does, to no far word.
+-- A pointer leads somewhere exactly if following it succeeds, and not to a far word.
 use Rattle.std.proofs.Common.{◌≡◌, ◌≢◌, ℕ, zero, suc, ◌+◌, ◌<◌, ◌≤◌, Bool, true, false, ◌&&◌, cond, nat_eq, nat_lt, Option, Some, None, Result, Ok, Err, [], length, get_or, refl, sym, ap, ◌∙◌, arith, eqb-true}
 use Rattle.std.specs.Prelude.{ok_or}
 use Rattle.std.specs.Result.{result_ok}
@@ -18,15 +18,16 @@ use Rattle.capnp_words.specs.Meter.{Meter}
 use Rattle.capnp_objects.specs.Wanted.{follow_at, FollowsTo}
 use Rattle.capnp_objects.specs.Outcomes.{Entered}
 
--- what is not there is refused by a name
+-- an option as a result: what isn't there is refused with the given error
 abbrev pub or_named : {A : Type 0} → ErrorKind → Option A → Result A ErrorKind
 or_named k o = ok_or o k
 
--- a far pointer of a default, which leads nowhere, has a name of its own
+-- the result of following a far pointer of a default, which leads nowhere: it has an error of its
+-- own
 abbrev pub far_named : Bool → Result Target ErrorKind → Result Target ErrorKind
 far_named b result = cond b (ok_or (result_ok result) TriedToReadFromNullArena) result
 
--- segment u has to exist
+-- the result x, if segment u exists
 abbrev pub existing : {A : Type 0} → Segments → ℕ → A → Result A ErrorKind
 existing S u x = cond (nat_lt u (length S)) (Ok x) (Err (InvalidSegmentId u))
 
@@ -48,7 +49,8 @@ pub followed_far : (S : Segments) (x double : ℕ) → follow_far S x double ≡
 followed_far S x zero = first_there (nat_lt (upper_half x) (length S)) x (InvalidSegmentId (upper_half x)) _
 followed_far S x (suc d) = first_there (nat_lt (upper_half x) (length S)) x (InvalidSegmentId (upper_half x)) _
 
--- the word at a place that is not zero leads to an object, whose describing word may be of any kind; or the first of the refusals
+-- where the word at a place leads, if it isn't zero: to an object, whose describing word may have
+-- any kind; or the first of the refusals
 abbrev pub follow : Segments → ℕ → ℕ → Result Target ErrorKind
 follow S s p = let x = word_at S s p in cond (nat_eq (kind x) 2) (far_steps S x (is_double x)) (or_named MessageContainsOutOfBoundsPointer (near S s p x 0))
 
@@ -68,7 +70,7 @@ followed_at r =
     go false true far there = refl
     go false false far there = refl
 
--- an option and a result that agree on every target whose word is of no far kind
+-- the option o and the result r agree on every target whose word isn't far
 record Agrees (o : Option Target) (r : Result Target ErrorKind) : Type 0 where
   there : (a : Target) → o ≡ Some a → (r ≡ Ok a) × (kind a.word ≢ 2)
   back : (a : Target) → r ≡ Ok a → kind a.word ≢ 2 → o ≡ Some a
@@ -146,7 +148,8 @@ leads_follows S s p a (some, l) = let r = (leads_agrees S s p).there a l in ((so
 pub follows_leads : (S : Segments) (s p : ℕ) (a : Target) → Follows S s p a → kind a.word ≢ 2 → Leads S s p a
 follows_leads S s p a (some, f) other = (some, (leads_agrees S s p).back a f other)
 
--- a place that is read is followed to a target, where far pointers have a name of their own in a default
+-- a place that is read is followed to a target; in a default, far pointers have an error of their
+-- own
 named_ok : {a : Target} (b : Bool) (result : Result Target ErrorKind) → result ≡ Ok a → far_named b result ≡ Ok a
 named_ok true (Ok x) e = e
 named_ok false (Ok x) e = e
@@ -165,7 +168,7 @@ leads_to r a l = let f = (leads_follows r.segments r.segment r.at a l).0 in (f.0
 pub leads_there : (r : Reading) (a : Target) → FollowsTo r a → kind a.word ≢ 2 → LeadsTo r a
 leads_there r a (some, f) other = follows_leads r.segments r.segment r.at a (some, unnamed_ok (is_named r) (follow r.segments r.segment r.at) (sym (followed_at r) ∙ f)) other
 
--- the word of an object that is entered, or that is as a call expects, is followed to it
+-- the word of an object that was entered, or that is as a call expects, is followed to this object
 pub entered_leads : {purpose : Purpose} {r : Reading} {m m' : Meter} {a : Target} → Entered purpose r m m' a → LeadsTo r a
 entered_leads {r = r} {a = a} o = leads_there r a o.follows (λ f. let i = o.meets.is_object in omega (arith, f, i))
 

@@ -1,5 +1,6 @@
--- From the steps of a reading to its outcome: pointers that are followed, objects that are entered, and the refusals of both.
--- `double_absent`, `double_followed` and `default_refused` take eight or nine arguments: each is a fact that the one answer which cites it has at hand.
+-- From the steps of a reading to its outcome: pointers that are followed, objects that are entered,
+-- and the refusals of both. `double_absent`, `double_followed` and `default_refused` take eight or
+-- nine arguments: each is a fact that the only answer that cites it already has.
 use Rattle.std.proofs.Common.{◌≡◌, ◌≢◌, ◌⊎◌, inl, inr, ℕ, ℤ, zero, suc, ◌+◌, ◌^◌, ◌<◌, ◌≤◌, Bool, true, false, ◌&&◌, cond, nat_eq, nat_lt, is_some, Some, None, Result, Ok, Err, OnOk, IfOk, IfErr, List, [], ◌∷◌, length, get_or, refl, sym, ap, ap₂, ◌∙◌, subst, arith, lt-ltb, eq-eqb}
 use Rattle.std.proofs.lemmas.Bool.{ne_eqb, false≢true}
 use Rattle.std.proofs.lemmas.List.{get_or_past}
@@ -43,7 +44,7 @@ use Rattle.capnp_objects.proofs.Followed.{or_named, far_named, follow, followed_
 use Rattle.capnp_objects.proofs.Stops.{Reached}
 use Rattle.capnp_objects.proofs.Defaults.{default_before, length-default}
 
--- what a place leads to that was followed to a target
+-- the arrival at the target a that the place r was followed to
 abbrev pub arrived : Reading → Target → Arrival
 arrived r a = record { segments = r.segments; charging = r.charging; levels = r.levels; target = a }
 
@@ -68,7 +69,7 @@ pub refuses_at_once : {purpose : Purpose} {o : Arrival} {m : Meter} {k : ErrorKi
 refuses_at_once {o = o} {m = m} h none =
     broken h (subst (Affords o.charging m) (sym none) (affords_none o.charging m)) (sym (charged_none o.charging m) ∙ ap (charged o.charging m) (sym none))
 
--- an object that is not entered
+-- an object that isn't entered
 pub not_opened : {purpose : Purpose} {o : Arrival} {m m' : Meter} {k : ErrorKind} → NotEntered purpose o m m' k → Enters purpose o m m' (Err k)
 not_opened h = record { object = tt; few = tt; refused = h }
 
@@ -76,12 +77,12 @@ leads_nowhere : {f : Following} {m : Meter} {k : ErrorKind} → f.gives ≡ Err 
 leads_nowhere {f} {m} {k} h none =
     nowhere h (subst (Affords f.charging m) (sym none) (affords_none f.charging m)) (sym (charged_none f.charging m) ∙ ap (charged f.charging m) (sym none))
 
--- an unknown number, where there are segments
+-- an unknown segment number, if there are segments
 pub known : {B : List (List ℕ)} {id : ℕ} {k : ErrorKind} → 0 < length (message B) → IsUnknown B id k → k ≡ InvalidSegmentId id
 known {B} {id} {k} some (inl named) = named
 known {B} {id} {k} some (inr (none, named)) = absurd (omega (arith, length-message B, ap length none))
 
--- a number beyond the segments
+-- a number that isn't below the number of segments
 pub beyond : (B : List (List ℕ)) (id : ℕ) → (id < length B → false ≡ true) → length (message B) ≤ id
 beyond B id h = elim (within_or_not (length B) id) [ inl le ↦ omega (arith, length-message B, le) | inr lt ↦ absurd (false≢true (h lt)) ]
 
@@ -113,7 +114,7 @@ target_there S u a h = ap (λ b. cond b (Ok a) (Err (InvalidSegmentId u))) (lt-l
 target_absent : (S : Segments) (u : ℕ) (a : Target) → length S ≤ u → existing S u a ≡ Err (InvalidSegmentId u)
 target_absent S u a h = ap (λ b. cond b (Ok a) (Err (InvalidSegmentId u))) (let e : nat_lt u (length S) ≡ false = grind (arith, nat_tests) in e)
 
--- a landing pad
+-- a landing pad that is there
 pub pad_there : (S : Segments) (x n : ℕ) → far_position x + n < length (segment S (upper_half x)) → pad S x n ≡ Some (word_at S (upper_half x) (far_position x))
 pad_there S x n h = ap (λ b. given b (word_at S (upper_half x) (far_position x))) (lt-ltb (far_position x + n) (length (segment S (upper_half x))) h)
 
@@ -163,7 +164,8 @@ pub near_nowhere : {w : ℕ} {m : Meter} (r : Reading) → w ≡ word_of r → k
 near_nowhere {w} {m} r e other h =
     leads_nowhere (near_named r w e other ∙ follow_near r.segments r.segment r.at w e other ∙ ap (or_named MessageContainsOutOfBoundsPointer) (near_none r.segments r.segment r.at w 0 h)) (no_pads_near r.segments (word_of r) (rw e at other))
 
--- a far pointer whose pad is in no segment, or out of it, or isn't covered
+-- a far pointer whose pad is in no segment, or outside of its segment, or isn't within the read
+-- limit
 pub pad_absent : {S : Segments} {charging : Bool} {x u : ℕ} {m : Meter} {k : ErrorKind} → u ≡ upper_half x → length S ≤ u → k ≡ InvalidSegmentId u → NotFollowed (following_far S charging x) m m k
 pad_absent {S} {charging} {x} {u} {m} {k} e h named =
     leads_nowhere (followed_far S x (is_double x) ∙ far_absent S x (is_double x) (omega (arith, h, e)) ∙ ap (λ i. Err (InvalidSegmentId i)) (sym e) ∙ ap Err (sym named)) (no_pads S x (absent_pad S x (is_double x) (omega (arith, h, e))))
@@ -177,7 +179,7 @@ pub pad_exceeds : {S : Segments} {charging : Bool} {x : ℕ} {m m' : Meter} {k :
 pad_exceeds {S} {charging} {x} {m} is_far inside short same named =
     pads_exceed (λ h. short (subst (Affords charging m) (pads_there S x is_far (pad_there S x (is_double x) inside)) h)) same named
 
--- the word that stands where a pad is
+-- word i of the segment that has the pad
 abbrev At : Place → ℕ → ℕ
 At q i = get_or (words_of q.bytes.now) i 0
 
@@ -229,7 +231,7 @@ single_nowhere {S} {charging} {x} {m} {m'} {q} w is_far o z e h =
     let pads = pads_paid is_far o in
     nowhere (followed_far S x (is_double x) ∙ single w o z e ∙ ap (or_named MessageContainsOutOfBoundsPointer) (near_none S q.segment q.at w 1 (rw o.held.0 at h))) (subst (Affords charging m) (sym pads) o.covers) (o.paid ∙ ap (charged charging m) (sym pads))
 
--- a far pointer with two pads, of which the first names a segment that is there
+-- a far pointer with two pads, if the first names a segment that is there
 pub double_followed : {S : Segments} {charging : Bool} {x : ℕ} {m m' : Meter} {q here : Place} {w : WirePointer} (f : ℕ) → IsPad (following_far S charging x) m m' q → is_double x ≡ 1 → f ≡ At q q.at → w.0 ≡ At q (q.at + 1) → IsHeld S here → here.segment ≡ upper_half f → here.at ≡ far_position f → upper_half f < length S →
     IsFollowed (following_far S charging x) m m' (record { word = w; start = here; pads = 2 })
 double_followed {S} {charging} {x} {m} {m'} {q} {here} {w} f o one e tag held segment_of position_of there =
@@ -246,7 +248,7 @@ double_followed {S} {charging} {x} {m} {m'} {q} {here} {w} f o one e tag held se
       paid = o.paid ∙ ap (charged charging m) two;
     }
 
--- a far pointer with two pads, of which the first names a segment that isn't there
+-- a far pointer with two pads, if the first names a segment that isn't there
 pub double_absent : {S : Segments} {charging : Bool} {x : ℕ} {m m' : Meter} {q : Place} {u : ℕ} {k : ErrorKind} (f : ℕ) → kind x ≡ 2 → IsPad (following_far S charging x) m m' q → is_double x ≡ 1 → f ≡ At q q.at → u ≡ upper_half f → length S ≤ u → k ≡ InvalidSegmentId u →
     NotFollowed (following_far S charging x) m m' k
 double_absent {S} {charging} {x} {m} {m'} {q} {u} {k} f is_far o one e named h fault =
@@ -272,7 +274,7 @@ default_far {m} r bytes segments default is_far small =
     let name : (r.of_default && nat_eq (kind x) 2) ≡ true = ap₂ (λ b c. b && c) default (eq-eqb (kind x) 2 is_far) in
     leads_nowhere (followed_at r ∙ ap₂ far_named name (far ∙ out)) (no_pads S x (pad_out S x (is_double x) (omega (arith, z))))
 
--- a word that isn't null stands in some segment
+-- if the word at a place isn't null, there are segments
 some_segments : (S : Segments) (s p : ℕ) → word_at S s p ≢ 0 → 0 < length S
 some_segments [] s p some = absurd (some (ap (λ (ws : List ℕ). get_or ws p 0) (get_or_past [] s [] (omega arith)) ∙ get_or_past [] p 0 (omega arith)))
 some_segments (ws ∷ S) s p some = omega arith
@@ -355,13 +357,13 @@ pub object_refused : {purpose : Purpose} {r : Reading} {m m₁ m₂ m₃ : Meter
     NotEntered purpose (arrived r (found_target l)) m₂ m₃ k → Stopped purpose plain r m m₃ k
 object_refused o f h = stops_entering (reached o f) h
 
--- what asking for the words that an object claims gives
+-- what charging the words that an object claims shows
 pub claim_charged : {A : Type 0} (o : Arrival) {m m' : Meter} (n : ℕ) (result : Result A ErrorKind) → n ≡ claim o.target.word → 0 < o.levels → kind o.target.word < 2 → Claims o.segments o.target (claim o.target.word) → ChargesFor n o.charging m m' result →
     OnOk result (IsClaimed o m m') × IfErr result (λ k. (purpose : Purpose) → (IsVoidList o.target.word → purpose ≡ Value) → NotEntered purpose o m m' k)
 claim_charged o n (Ok x) words levels is_object claims charge = (record { levels = levels; claims = claims; covers = rw words at (charge.exactly.0 refl); paid = rw words at charge.granted }, tt)
 claim_charged o n (Err k) words levels is_object claims charge = (tt, λ purpose sought. claim_exceeds levels is_object claims (λ h. absurd (false≢true (charge.exactly.1 (rw words h)))) charge.refused charge.named)
 
--- the words that an object claims are charged, and for its elements g more
+-- after the words that an object claims, g more are charged for its elements
 pub entered_with : {purpose : Purpose} {o : Arrival} {m m' m'' : Meter} (g : ℕ) → IsClaimed o m m' → Meets purpose o.segments o.levels o.target → amplified purpose o.segments o.target ≡ g → Affords o.charging m' g → m'' ≡ charged o.charging m' g →
     IsEntered purpose o m m''
 entered_with {purpose} {o} {m} {m'} {m''} g claimed meets extra covers paid =
@@ -373,11 +375,11 @@ entered_with {purpose} {o} {m} {m'} {m''} g claimed meets extra covers paid =
       paid = all.spent ∙ sym (charged_after o.charging m (words + g)) ∙ ap (λ i. charged o.charging m (words + i)) (sym extra);
     }
 
--- and for its elements nothing more
+-- the same, with nothing more for its elements
 pub entered_free : {purpose : Purpose} {o : Arrival} {m m' : Meter} → IsClaimed o m m' → Meets purpose o.segments o.levels o.target → amplified purpose o.segments o.target ≡ 0 → IsEntered purpose o m m'
 entered_free {o = o} {m' = m'} claimed meets extra = entered_with 0 claimed meets extra (affords_none o.charging m') (sym (charged_none o.charging m'))
 
--- a list of void is entered for its size at no charge, wherever it lies
+-- when only the size is wanted, a list of void is entered without a charge, wherever it points
 pub void_entered : {o : Arrival} {m : Meter} → 0 < o.levels → IsVoidList o.target.word → IsEntered Size o m m
 void_entered {o} {m} level void =
     let a : Target = o.target in
@@ -388,12 +390,13 @@ void_entered {o} {m} level void =
       paid = sym (charged_none o.charging m) ∙ ap (charged o.charging m) (sym free);
     }
 
--- words that lie in their segment lie there for each purpose
+-- if the words of an object are inside their segment, they are so for each purpose
 pub lies : (purpose : Purpose) (S : Segments) (a : Target) → Claims S a (claim a.word) → LiesThere purpose S a
 lies Value S a h = h
 lies Size S a h = λ _. h
 
--- words that don't lie in their segment don't lie there for a purpose that looks for them
+-- if the words of an object aren't inside their segment, they aren't so for a purpose that checks
+-- them
 pub outside : (purpose : Purpose) (S : Segments) (a : Target) → (IsVoidList a.word → purpose ≡ Value) → length (segment S a.segment) < a.start + claim a.word → LiesThere purpose S a → ⊥
 outside Value S a sought h lies = omega (arith, h, lies)
 outside Size S a sought h lies = omega (arith, h, lies (λ void. let e = sought void in absurd (cc e)))
@@ -404,7 +407,7 @@ pub untagged : (purpose : Purpose) {a : Arrival} {m m' : Meter} {k : ErrorKind} 
 untagged Value value size o t other = rw (value refl) (broken (o.levels, t, o.claims, other) o.covers o.paid)
 untagged Size value size o t other = rw (size refl) (broken (o.levels, t, o.claims, other) o.covers o.paid)
 
--- what is true of a result is true of it in other words
+-- what follows from P for every x follows from P of a result
 pub if_ok : {A E : Type 0} (r : Result A E) (P Q : A → Type 0) → ((x : A) → P x → Q x) → IfOk r P → IfOk r Q
 if_ok (Ok x) P Q f h = f x h
 if_ok (Err k) P Q f h = tt

@@ -1,4 +1,5 @@
--- By what names a reading is refused: following names a place that is not there, so the read limit is a charge's name alone, and want of room is no name of a reading.
+-- The errors with which a reading is refused. Following a pointer refuses with a place that isn't
+-- there, so only a charge refuses with the read limit, and no reading refuses for lack of room.
 use Rattle.std.proofs.Common.{◌≡◌, ◌⊎◌, inl, inr, ℕ, zero, suc, Bool, true, false, cond, nat_eq, nat_lt, Option, Some, None, Result, Ok, Err, IfErr, length, refl, sym, ◌∙◌, subst}
 use Rattle.capnp_words.specs.declared.error.ErrorKind.{ErrorKind}
 use Rattle.capnp_words.specs.declared.error.ErrorKind.TheVariants.{AllocationFailed, InvalidSegmentId, MessageContainsOutOfBoundsPointer, MessageTooLarge, NoSuchPlace, ReadLimitExceeded, TriedToReadFromNullArena}
@@ -16,7 +17,7 @@ use Rattle.capnp_objects.specs.declared.object.Purpose.TheVariants.{Value}
 use Rattle.capnp_objects.proofs.Truths.{named_truly}
 use Rattle.capnp_objects.proofs.Followed.{or_named, far_named, follow, is_named, followed_at, existing, far_steps}
 
--- the names by which a pointer is not followed
+-- the errors with which a pointer isn't followed
 abbrev IsNowhere : ErrorKind → Type 0
 IsNowhere k = (k ≡ MessageContainsOutOfBoundsPointer) ⊎ (k ≡ TriedToReadFromNullArena) ⊎ ((u : ℕ) × (k ≡ InvalidSegmentId u))
 
@@ -55,31 +56,32 @@ nowhere_named_far false (Ok x) h = tt
 nowhere_named_far true (Err k) h = inr (inl refl)
 nowhere_named_far false (Err k) h = h
 
--- a name that is none of these, and by which no object breaks a demand, is no fault's
+-- k isn't a fault's error, if it isn't one of these, and no object breaks a demand with it
 no_fault : (form : Form) (k : ErrorKind) {r : Reading} → (IsNowhere k → ⊥) → ((S : Segments) (n : ℕ) (a : Target) → BreaksObject Value form S n a k → ⊥) → HasFault form r k → ⊥
 no_fault form k {r} other none (here (some, inl f)) = other (subst Nowhere (sym (followed_at r) ∙ f) (nowhere_named_far (is_named r) (follow r.segments r.segment r.at) (nowhere_follow r.segments r.segment r.at)))
 no_fault form k other none (here (some, inr (a, f, h))) = none _ _ a h
 no_fault form k other none (below a q l o i rest) = no_fault form k other none rest
 
--- the read limit is named only where some reached place charges more than is left
+-- a reading is refused with the read limit only if some place that is reached charges more than is
+-- left
 pub limit_named : {form : Form} {r : Reading} {m m' : Meter} → Unreadable form r m m' ReadLimitExceeded → Somewhere (Exceeds m') r
 limit_named {form} refused = elim (named_truly refused) [ inl f ↦ absurd (no_fault form ReadLimitExceeded (λ n. elim n [ inl e ↦ cc | inr (inl e) ↦ cc | inr (inr (u, e)) ↦ cc ]) (λ S n a h. h) f) | inr f ↦ f.1 ]
 
--- a reading is refused neither by the name of want of memory
+-- a reading is never refused with AllocationFailed
 pub not_for_memory : {form : Form} {r : Reading} {m m' : Meter} → Refused form r m m' AllocationFailed → ⊥
 not_for_memory {form} refused = elim (named_truly (unreadable refused)) [
   | inl f ↦ no_fault form AllocationFailed (λ n. elim n [ inl e ↦ cc | inr (inl e) ↦ cc | inr (inr (u, e)) ↦ cc ]) (λ S n a h. h) f
   | inr f ↦ let e = f.0 in cc
 ]
 
--- nor by that of too many words
+-- nor with MessageTooLarge
 pub not_for_size : {form : Form} {r : Reading} {m m' : Meter} (w : ℕ) → Refused form r m m' (MessageTooLarge w) → ⊥
 not_for_size {form} w refused = elim (named_truly (unreadable refused)) [
   | inl f ↦ no_fault form (MessageTooLarge w) (λ n. elim n [ inl e ↦ cc | inr (inl e) ↦ cc | inr (inr (u, e)) ↦ cc ]) (λ S n a h. h) f
   | inr f ↦ let e = f.0 in cc
 ]
 
--- nor by that of a place that an edit doesn't find
+-- nor with NoSuchPlace, which is for a place that an edit doesn't find
 pub not_for_place : {form : Form} {r : Reading} {m m' : Meter} → Refused form r m m' NoSuchPlace → ⊥
 not_for_place {form} refused = elim (named_truly (unreadable refused)) [
   | inl f ↦ no_fault form NoSuchPlace (λ n. elim n [ inl e ↦ cc | inr (inl e) ↦ cc | inr (inr (u, e)) ↦ cc ]) (λ S n a h. h) f

@@ -1,5 +1,5 @@
--- One object that is read for its size: the words that it pays, what a near pointer leads to, and that an object is read so
--- exactly where it can be.
+-- One object that is read for its size: the words that it pays, and what a near pointer leads to.
+-- An object is read for its size exactly if it can be.
 use Rattle.std.proofs.Common.{◌≡◌, ◌↔◌, inl, inr, ◌+◌, ◌<◌, Result, Ok, Err, IsOk, IfOk, IfErr, refl, ap, ◌∙◌, subst, arith}
 use Rattle.capnp_words.specs.declared.error.ErrorKind.{ErrorKind}
 use Rattle.capnp_words.specs.Meter.{Meter, Affords}
@@ -23,7 +23,7 @@ use Rattle.capnp_objects.proofs.Landings.{IsCounted, reached, entered, entered_f
 use Rattle.capnp_objects.proofs.Parts.{charge_of_size}
 use Rattle.capnp_objects.proofs.Refusals.{could_be_read, not_stopped}
 
--- the tally with the words that an object counts, once it is measured
+-- the tally after the object a is measured, with the words that it counts
 abbrev pub with_object_counted : Tally → Target → Segments → Meter → Tally
 with_object_counted from a S m = tally (from.words + counted_words S a) from.caps m
 

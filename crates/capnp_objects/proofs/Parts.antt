@@ -1,5 +1,6 @@
--- What a place's meaning says of the object there and of its pointers, the same for every kind.
--- Lemmas on `Means` name all its arguments: it is defined by recursion on the value, and the checker finds none of them from a premise.
+-- What a place's meaning states about the object there and its pointers, the same for every kind.
+-- Lemmas on `Means` name all its arguments: it is defined by recursion on the value, so the checker
+-- can't find any of them from a premise.
 use Rattle.std.proofs.Common.{◌≡◌, ◌⊎◌, inl, inr, ℕ, zero, suc, pred, ◌+◌, ◌%◌, ◌^◌, ◌<◌, ◌≤◌, Bool, true, false, cond, nat_eq, length, refl, sym, ap, ◌∙◌, subst, arith}
 use Rattle.std.proofs.lemmas.Bool.{ne_eqb}
 use Rattle.capnp_format.specs.Word.{kind, offset_bits, data_words, pointer_count, element_size, list_count}
@@ -35,7 +36,7 @@ claim_flat (suc (suc (suc (suc zero)))) n h = refl
 claim_flat (suc (suc (suc (suc (suc zero))))) n h = refl
 claim_flat (suc (suc (suc (suc (suc (suc k)))))) n h = absurd (omega arith)
 
--- what elements of no bits cost, by the kind and the size
+-- the cost of elements without bits, by the kind and the element size
 abbrev extra : Purpose → Segments → Target → ℕ → ℕ → ℕ
 extra purpose S a k size = cond (nat_eq k 0) 0 (cond (nat_eq size 7) (count_charge purpose (data_words (tag S a) + pointer_count (tag S a)) (offset_bits (tag S a))) (count_charge purpose size (list_count a.word)))
 
@@ -60,12 +61,12 @@ extra_flat purpose S a (suc (suc (suc (suc zero)))) h = refl
 extra_flat purpose S a (suc (suc (suc (suc (suc zero))))) h = refl
 extra_flat purpose S a (suc (suc (suc (suc (suc (suc k)))))) h = absurd (omega arith)
 
--- elements of some width are free
+-- elements whose width isn't 0 are free
 pub charge_some : (purpose : Purpose) (width n : ℕ) → 0 < width → count_charge purpose width n ≡ 0
 charge_some Value width n some = ap (λ b. cond b n 0) (ne_eqb width 0 (λ e. omega (arith, e, some)))
 charge_some Size width n some = refl
 
--- the elements of an object that is neither a list of structs nor one of void are free
+-- the elements of an object are free if it is neither a list of structs nor one of void
 pub charge_near : (purpose : Purpose) (S : Segments) (a : Target) → kind a.word < 2 → (IsVoidList a.word → ⊥) → (IsStructList a.word → ⊥) → amplified purpose S a ≡ 0
 charge_near Size S a near some untagged = refl
 charge_near Value S a near some untagged = go (kind a.word) (element_size a.word) near some untagged
@@ -78,15 +79,15 @@ charge_near Value S a near some untagged = go (kind a.word) (element_size a.word
         ∙ charge_some Value (suc m) (list_count a.word) (omega arith)
     go (suc (suc k)) size near some untagged = absurd (omega arith)
 
--- for the size all are
+-- when only the size is wanted, all elements are free
 pub charge_of_size : (S : Segments) (a : Target) → amplified Size S a ≡ 0
 charge_of_size S a = refl
 
--- some value stands at a place, with at most m capabilities
+-- the place means some value with at most m capabilities
 abbrev pub Meant : Reading → ℕ → Type 0
 Meant r m = (u : Tree) × (k : ℕ) × MeansThere r u k × (capabilities u ≤ m)
 
--- the position q is one of the n from a place on, or one of the pointers of n elements
+-- the position q is one of the n from the place on
 abbrev pub IsAmong : Reading → ℕ → ℕ → Type 0
 IsAmong r n q = (r.at ≤ q) × (q < r.at + n)
 
@@ -113,13 +114,15 @@ element_means r size (element ws ts es) q (c, (k, l, long, len, e, all, rest, g)
 element_means r size (element ws ts es) q (c, (k, l, long, len, e, all, rest, g)) (suc j, inside, (low, high)) =
     let x = element_means (behind (behind r size.data_words) size.pointers) size es q (l, rest) (j, omega arith, (omega arith, omega arith)) in (x.0, x.1, x.2, omega (arith, x.3))
 
--- an object that meets its demands, what it costs by itself, and its children
+-- the object a meets its demands; its own cost is at most c; each of its children means a value
+-- with at most m capabilities
 pub record Inner (r : Reading) (a : Target) (m c : ℕ) : Type 0 where
   pub meets : Meets Value r.segments r.levels a
   pub cost : own Value r.segments a ≤ c
   pub children : (q : ℕ) → IsPointer r.segments a q → Meant (child_at r a (pred r.levels) q) m
 
--- a place with at most m capabilities, whose value costs c: it is null, or leads to a capability or to an object
+-- a place with at most m capabilities, whose value costs c: it is null, or leads to a capability or
+-- to an object
 pub data Parts (r : Reading) (m c : ℕ) : Type 0 where
   is_null : word_of r ≡ 0 → Parts r m c
   is_capability : (a : Target) → LeadsTo r a → a.word % 2 ^ 32 ≡ 3 → 1 ≤ m → c ≡ a.pads → Parts r m c

@@ -74,7 +74,7 @@ stopped_below {form} {r} {m} {first} {mid} {m'} {q} {a} {k} o (in_pointers ts z 
 stopped_below {form} {r} {m} {first} {mid} {m'} {q} {a} {k} o (in_element es ts between (z, seven) fewer less e rows all) child =
     stopped_structs o z seven (read_element_stop _ rows fewer (read_stop _ all less (subst (λ y. Unreadable form (child_at r a (pred r.levels) y) mid m' k) e child)))
 
--- where the reading of one of an object's pointers stops, so does that of the object
+-- if the reading of one of an object's pointers stops, so does that of the object
 unfoldable pub stops_struct : {form : Form} {P : Reading → Meter → Meter → Type 0} {r : Reading} {m m' m'' : Meter} {a : Target} → Entered Value r m m' a → kind a.word ≡ 0 →
     StopsAmong form P (child_at r a (pred r.levels) (a.start + data_words a.word)) (pointer_count a.word) m' m'' → StopsWithin form P r m m''
 stops_struct {a = a} o z h = below a (a.start + data_words a.word + count h.first) o (in_struct h.first z h.fewer refl h.are_read) h.stops
@@ -93,7 +93,7 @@ pub unreadable : {form : Form} {k : ErrorKind} {r : Reading} {m m' : Meter} → 
 unreadable (here stopped) = stopped_here stopped
 unreadable (below a q o before rest) = stopped_below o before (unreadable rest)
 
--- what is spent where the reading of a value is broken off
+-- what was spent when the reading of a value stops below the object a
 spends_below : {form : Form} {r : Reading} {m first mid m' : Meter} {q : ℕ} {a : Target} → Entered Value r m first a → ReadsBefore form r a q first mid → Spends r.charging mid m' 1 → Spends r.charging m m' 1
 spends_below {r = r} {a = a} o (in_struct ts z fewer e all) rest =
     object_spends (pointer_count a.word) (paid_own o) (omega (arith, own_struct r.segments a z)) (spends_on (count ts) 1 (paid_all all) (pointers_within_all (child_at r a (pred r.levels) (a.start + data_words a.word)) ts all.cost all.means) (omega (arith, fewer)) rest)
@@ -113,7 +113,7 @@ breaks_off_spends (here (inl stopped)) = stopped_spends stopped.1
 breaks_off_spends (here (inr (a, o))) = spends_once (paid_own o)
 breaks_off_spends (below a q o before rest) = spends_below o before (breaks_off_spends rest)
 
--- what is covered as a whole is covered in a part
+-- a limiter that affords c words affords h of them
 pub affords_less : (charging : Bool) (m : Meter) (h c : ℕ) → h ≤ c → Affords charging m c → Affords charging m h
 affords_less false m h c le covers = tt
 affords_less true m h c le covers = go m.left covers
@@ -122,19 +122,19 @@ affords_less true m h c le covers = go m.left covers
     go None f = tt
     go (Some x) f = omega (arith, le, f)
 
--- landing pads that are granted cover the words of landing pads
+-- if landing pads are granted, the limiter affords their words
 landing_covered : (r : Reading) (m : Meter) (b : Target) → LeadsTo r b → Affords r.charging m b.pads → Affords r.charging m (landing_words r.segments (word_of r))
 landing_covered r m b l pads = elim (landing_cases r.segments (word_of r)) [
   | inl none ↦ subst (Affords r.charging m) (sym none) (affords_none r.charging m)
   | inr (two, f, there, words) ↦ subst (Affords r.charging m) (leads_pads r.segments r.segment r.at b l.1 two ∙ sym words) pads
 ]
 
--- where a pointer can be followed, it is
+-- if a pointer can be followed, it isn't refused
 pub not_unfollowed : {r : Reading} {m m' : Meter} {k : ErrorKind} (b : Target) → LeadsTo r b → Affords r.charging m b.pads → Unfollowed r m m' k → ⊥
 not_unfollowed {r} {m} b l pads (exceeding some short paid named) = short (landing_covered r m b l pads)
 not_unfollowed {r} b l pads (leading_nowhere some h paid) = absurd (let f = (leads_to r b l).1 in cc (f, h))
 
--- where an object can be read, its reading isn't stopped
+-- if an object can be read, its reading isn't stopped
 abbrev IsSound : Purpose → Reading → Meter → Target → Type 0
 IsSound purpose r m a = LeadsTo r a × Sound purpose plain r a × Affords r.charging m a.pads × (kind a.word < 2 → Affords r.charging m (own purpose r.segments a))
 
@@ -159,7 +159,7 @@ not_stopped_null z (broken a f h paid) = f.0 z
 not_stopped_null z (claim_exceeds a f level object claims short paid named) = f.0 z
 not_stopped_null z (count_exceeds a f meets short paid named) = f.0 z
 
--- a reading for the size leads where one for the value does
+-- a reading for the size leads to the same target as one for the value
 pub led_there : (purpose : Purpose) (r : Reading) (a : Target) → FollowsFor purpose r a → FollowsTo r a
 led_there Value r a l = l
 led_there Size r a l = l.0

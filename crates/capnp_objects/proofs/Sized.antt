@@ -1,4 +1,4 @@
--- What the walk of sizes goes over is determined, and is the value where there is one.
+-- What the walk of sizes goes over is determined, and is the value if there is one.
 use Rattle.std.proofs.Common.{◌≡◌, ◌≢◌, ℕ, suc, pred, ◌+◌, ◌<◌, ◌≤◌, cond, nat_eq, List, length, refl, sym, ap, ap₂, ◌∙◌, subst, arith}
 use Rattle.std.proofs.lemmas.Bool.Decides.{nat_tests}
 use Rattle.capnp_words.specs.declared.wire_pointer.StructSize.{StructSize}
@@ -14,11 +14,11 @@ use Rattle.capnp_objects.specs.Sizing.{SizedAll, SizedElements, SizedThere}
 use Rattle.capnp_objects.proofs.Faultless.{same_target}
 use Rattle.capnp_objects.proofs.Shorthands.{MeanThere, ElementsMean, SizedAllThere}
 
--- the walk over the pointers of elements of a size, from a place on
+-- the walk over the pointers of the elements es of this size, from a place on
 abbrev pub ElementsSized : Reading → StructSize → Elements → ℕ → Type 0
 ElementsSized r size es c = SizedElements r.segments r.levels r.segment r.at size.data_words size.pointers es c
 
--- which kind of value there is at a place, by its word
+-- which kind of value a place has, by its word
 abbrev pub form : Tree → ℕ
 form Null = 0
 form (Capability i) = 1
@@ -71,7 +71,7 @@ one_target r a b l m = same_target r.segments r.segment r.at l.1 m.1
 same_words : (r : Reading) (ws vs : List ℕ) → length ws ≡ length vs → HasWords r.segments r.segment r.at ws → HasWords r.segments r.segment r.at vs → ws ≡ vs
 same_words r ws vs f h k = sym h ∙ ap (λ j. words_at r.segments r.segment r.at j) f ∙ k
 
--- what is walked over, at its cost: of some value, children or elements, or of these
+-- what is walked over, at its cost: some value, children or elements, or the given ones
 abbrev pub SizedAs : Reading → Tree → Type 0
 SizedAs r t = (c : ℕ) × SizedThere r t c
 
@@ -90,11 +90,11 @@ SomeSizedAll r = (ts : Trees) × (c : ℕ) × SizedAllThere r ts c
 abbrev pub SomeElementsSized : Reading → StructSize → Type 0
 SomeElementsSized r size = (es : Elements) × (c : ℕ) × ElementsSized r size es c
 
--- a place with m levels
+-- the place with m levels
 abbrev pub at_levels : Reading → ℕ → Reading
 at_levels r m = record r { levels = m }
 
--- one value at a place, at one cost, whatever the levels
+-- a place has one value at one cost, with any levels
 mutual
   pub one_sized : (r : Reading) (m : ℕ) (t : Tree) (x : SizedAs r t) (y : SomeSized (at_levels r m)) → (t ≡ y.0) × (x.0 ≡ y.1)
   one_sized r m Null (c, h) (Null, e, k) = (refl, h.1 ∙ sym k.1)
@@ -159,7 +159,7 @@ mutual
   one_sized_elements r size m no_elements (c, h) (element vs us fs, e, k) len = absurd (omega arith)
   one_sized_elements r size m (element ws ts es) (c, h) (no_elements, e, k) len = absurd (omega arith)
 
--- what is meant is walked over within more levels than its depth, at no greater cost
+-- a value that a place means is walked over with more levels than its depth, at no greater cost
 abbrev pub SizedWithin : Reading → Tree → ℕ → Type 0
 SizedWithin r t c = (k : ℕ) × (k ≤ c) × SizedThere r t k
 
@@ -192,7 +192,7 @@ mutual
       let others = means_sized_elements (behind (behind r size.data_words) size.pointers) size m es (b, rest) (omega arith) in
       (first.0 + others.0, omega (arith, first.1, others.1), (first.0, others.0, long, len, words, first.2, others.2, refl))
 
--- where the walk answers at a place that means a value, it went over this value, at no greater cost
+-- if the walk answers at a place that means a value, it went over this value, at no greater cost
 pub sized_is_meant : (r : Reading) (m : ℕ) (t u : Tree) (x : SizedAs r t) (y : (c : ℕ) × MeansThere (at_levels r m) u c) → (t ≡ u) × (x.0 ≤ y.0)
 sized_is_meant r m t u x y =
     let z = means_sized (at_levels r m) (suc (depth u)) u y (omega arith) in

@@ -1,5 +1,6 @@
 -- From a refused child to the object that it belongs to, and the refusals at the place itself.
--- Lemmas on `Means` name all its arguments: it is defined by recursion on the value, and the checker finds none of them from a premise.
+-- Lemmas on `Means` name all its arguments: it is defined by recursion on the value, so the checker
+-- can't find any of them from a premise.
 use Rattle.std.proofs.Common.{◌≡◌, inl, inr, ℕ, zero, suc, pred, ◌+◌, ◌*◌, ◌<◌, ◌≤◌, Bool, true, false, cond, nat_eq, nat_lt, Option, Some, None, IfSome, length, refl, sym, ap, ◌∙◌, subst, arith, eq-eqb}
 use Rattle.capnp_words.specs.declared.error.ErrorKind.{ErrorKind}
 use Rattle.capnp_words.specs.declared.error.ErrorKind.TheVariants.{ReadLimitExceeded}
@@ -26,7 +27,8 @@ use Rattle.capnp_objects.proofs.Budgets.{fewer_than_words, paid_both, paid_own, 
 use Rattle.capnp_objects.proofs.Sized.{one_target}
 use Rattle.capnp_objects.proofs.Shorthands.{MeanThere, ElementsMean}
 
--- The word at a place is followed to a, and its pads are paid, from m to m', the pointer counted.
+-- The word at a place is followed to a, the pointer is counted, and its pads are paid, from m to
+-- m'.
 pub record Reached (r : Reading) (m m' : Meter) (a : Target) : Type 0 where
   pub follows : FollowsTo r a
   pub paid : Paid r.charging m m' a.pads 1
@@ -83,7 +85,7 @@ in_structs r {a} (Structs d q es) c l (b, m, k, some, o, claims, t, fits, all, g
       rw (own_structs r.segments b o.is_list o.is_size, t.data_of, t.pointers, t.counts, o.counts) (omega (arith, g)),
     )
 
--- an object's own words, then at most as many pointers as it has
+-- what an object spends: its own words first, then at most as many pointers as it has
 pub object_spends : {charging : Bool} {m m' m'' : Meter} {g : ℕ} (i : ℕ) → Paid charging m m' g 1 → i ≤ g → Spends charging m' m'' i → Spends charging m m'' 1
 object_spends {charging} {m} {m'} {m''} {g} i first le (x, r, covers', e', few) =
     let then : Paid charging m' m'' x r = record { covers = covers'; spent = e' } in
@@ -133,7 +135,7 @@ refused_here {form} {r} m m' {k} b spent = record {
   spent = spent;
 }
 
--- a charge of the place itself, after g words, is not covered
+-- a charge of the place itself exceeds what is left after g words
 refused_charge : {form : Form} {r : Reading} {m m' : Meter} {x g : ℕ} → Charges r x → Paid r.charging m m' g 1 → (Affords r.charging m' x → ⊥) → ((t : Tree) (c : ℕ) → MeansThere r t c → g + x ≤ c) →
     Unreadable form r m m' ReadLimitExceeded
 refused_charge {form} {r} {m} {m'} {x} {g} h paid short least = record {
@@ -142,7 +144,7 @@ refused_charge {form} {r} {m} {m'} {x} {g} h paid short least = record {
   spent = (g, 1, paid.covers, paid.spent, omega arith);
 }
 
--- what a place means costs at least the pads and the object's own words
+-- the value that a place means costs at least its pads and the object's own words
 own_within : (r : Reading) {a : Target} (t : Tree) (c : ℕ) → LeadsTo r a → kind a.word < 2 → MeansThere r t c → own Value r.segments a ≤ c
 own_within r {a} t c l object h = elim (means_parts r t c h) [
   | is_null z ↦ absurd (l.0 z)
@@ -150,14 +152,14 @@ own_within r {a} t c l object h = elim (means_parts r t c h) [
   | is_inner b m i ↦ let e : own Value r.segments b ≡ own Value r.segments a = ap (own Value r.segments) (one_target r b a m l) in omega (arith, i.cost, e)
 ]
 
--- the object's claim is not covered
+-- the object's claim exceeds the read limit
 pub refused_claim : {form : Form} {r : Reading} {m m' : Meter} {a : Target} → Reached r m m' a → 0 < r.levels → kind a.word < 2 → Claims r.segments a (claim a.word) → (Affords r.charging m' (claim a.word) → ⊥) →
     Unreadable form r m m' ReadLimitExceeded
 refused_claim {form} {r} {m} {m'} {a} o some object claims short =
     let l = leads_there r a o.follows (λ e. omega (arith, object)) in
     refused_charge (of_object a l some object claims refl) o.paid short (λ t c h. omega (arith, own_within r {a = a} t c l object h))
 
--- the count of elements of no bits is not covered
+-- the charge for elements without bits exceeds the read limit
 pub refused_elements : {form : Form} {r : Reading} {m m' : Meter} {a : Target} → LeadsTo r a → Meets Value r.segments r.levels a → Paid r.charging m m' (a.pads + claim a.word) 1 → (Affords r.charging m' (amplified Value r.segments a) → ⊥) →
     Unreadable form r m m' ReadLimitExceeded
 refused_elements {form} {r} {m} {m'} {a} l o paid short = refused_charge (of_elements a l o refl) paid short (λ t c h. own_within r {a = a} t c l o.is_object h)
@@ -186,7 +188,7 @@ leads_pads S s p a l two =
     let e : leads S s p ≡ far S x (is_double x) = ap (λ b. cond b (far S x (is_double x)) (near S s p x 0)) (eq-eqb (kind x) 2 two) in
     at_some (λ b. b.pads ≡ 1 + is_double x) (far S x (is_double x)) a (sym e ∙ l) (far_pads S x (is_double x) (omega arith))
 
--- the pads are not covered
+-- the landing pads exceed the read limit
 pub refused_pads : {form : Form} {r : Reading} {m m' : Meter} {f : ℕ} → kind (word_of r) ≡ 2 → pad r.segments (word_of r) (is_double (word_of r)) ≡ Some f → Paid r.charging m m' 0 1 →
     (Affords r.charging m' (1 + is_double (word_of r)) → ⊥) → Unreadable form r m m' ReadLimitExceeded
 refused_pads {form} {r} {m} {m'} {f} two there paid short =

@@ -12,7 +12,7 @@ use Rattle.capnp_objects.specs.Wanted.{Form}
 use Rattle.capnp_objects.specs.Reading.{Reading}
 use Rattle.capnp_objects.proofs.Budgets.{pointers_within}
 
--- a refusal names a fault that stands, or a charge that exceeds what is left
+-- a refusal's error is that of a fault, or of a charge that exceeds what is left
 named_so : (form : Form) (m : Meter) (k : ErrorKind) {r : Reading} → Somewhere (Fails form m k) r → HasFault form r k ⊎ ((k ≡ ReadLimitExceeded) × Somewhere (Exceeds m) r)
 named_so form m k (here (inl b)) = inl (here b)
 named_so form m k (here (inr x)) = inr (x.0, here x.1)
@@ -24,7 +24,7 @@ named_so form m k (below a q l o i rest) = elim (named_so form m k rest) [
 pub named_truly : {form : Form} {r : Reading} {m m' : Meter} {k : ErrorKind} → Unreadable form r m m' k → HasFault form r k ⊎ ((k ≡ ReadLimitExceeded) × Somewhere (Exceeds m') r)
 named_truly {form} {r} {m} {m'} {k} refused = named_so form m' k refused.named
 
--- every charge is covered: there is no limit, or nothing is charged
+-- every charge is within the limit: there is no limit, or nothing is charged
 abbrev IsUnlimited : Bool → Meter → Type 0
 IsUnlimited charging m = (x : ℕ) → Affords charging m x
 
@@ -40,7 +40,7 @@ unlimited_after true m g r free x = go m.left (λ y. free y)
     go (Some l) f = absurd (omega (arith, f (l + 1)))
 unlimited_after false m g r free x = tt
 
--- without a limit each refusal names a fault
+-- without a limit, the error of each refusal is that of a fault
 pub unlimited_refusal : {form : Form} {r : Reading} {m m' : Meter} {k : ErrorKind} → IsUnlimited r.charging m → Unreadable form r m m' k → HasFault form r k
 unlimited_refusal {form} {r} {m} {m'} free refused =
     let (g, x, covers, e, few) = refused.spent in
@@ -49,7 +49,7 @@ unlimited_refusal {form} {r} {m} {m'} free refused =
       | inr f ↦ absurd (never_exceeds m' f.1 (subst (IsUnlimited r.charging) (sym e) (unlimited_after r.charging m g x free)))
     ]
 
--- under a budget of x words at most x + 1 pointers are followed
+-- with a budget of x words, at most x + 1 pointers are followed
 pub few_followed : (m m' : Meter) (x : ℕ) → m.left ≡ Some x → Spends true m m' 1 → m'.followed ≤ m.followed + (x + 1)
 few_followed m m' x e (g, r, covers, f, few) =
     let paid : g ≤ x = rw e at covers in

@@ -1,4 +1,4 @@
--- From the steps of asking for the type of a pointer to the outcome.
+-- From the steps of reading the type of a pointer to the outcome.
 use Rattle.std.proofs.Common.{◌≡◌, ◌≢◌, ◌↔◌, ℕ, inl, inr, Result, Ok, Err, IsOk, IfOk, IfErr, refl}
 use Rattle.capnp_words.specs.declared.error.ErrorKind.{ErrorKind}
 use Rattle.capnp_words.specs.declared.error.ErrorKind.TheVariants.{UnexpectedFarPointer}
@@ -24,11 +24,11 @@ HasType r m = (t : PointerType) × (m' : Meter) × IsOfType r m m' t
 pub null_has_type : (r : Reading) (m : Meter) → word_of r ≡ 0 → HasType r m
 null_has_type r m null = (Null, m, inl (null, refl, refl))
 
--- a word that describes something is not far
+-- a word that describes something isn't far
 not_far : (w : ℕ) (t : PointerType) → type_of w ≡ Ok t → kind w ≢ 2
 not_far w t e two = absurd (let f : type_of w ≡ Err UnexpectedFarPointer = (rw two refl) in cc (e, f))
 
--- the outcome once the pointer is followed
+-- the outcome after the pointer is followed
 pub has_type : {r : Reading} {m m₁ m₂ : Meter} {l : Found} (t : PointerType) → IsCounted r m m₁ → IsFollowed (following r) m₁ m₂ l → type_of (found_target l).word ≡ Ok t → HasType r m
 has_type {m₂ = m₂} {l = l} t o f e = let there = reached o f in (t, m₂, inr (found_target l, there.follows, e, there.paid))
 
@@ -52,7 +52,7 @@ pub typed_exactly : (r : Reading) (m m' : Meter) (result : Result PointerType Er
 typed_exactly r m m' (Ok t) good bad = ((λ e. good), (λ has. refl))
 typed_exactly r m m' (Err k) good bad = ((λ e. absurd (cc e)), (λ has. absurd (not_untyped r m m' k has bad)))
 
--- a result by what it is
+-- a result, by what it is
 pub ok_by : {A E : Type 0} (x result : Result A E) (P : A → Type 0) → x ≡ result → ((y : A) → result ≡ Ok y → P y) → IfOk x P
 ok_by x (Ok y) P e f = rw e (f y refl)
 ok_by x (Err k) P e f = rw e tt

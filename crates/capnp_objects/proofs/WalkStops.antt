@@ -1,4 +1,4 @@
--- Where a walk of sizes stops, and that there is no walk then whose sums fit.
+-- Where a walk of sizes stops; and that no walk has sums that fit then.
 use Rattle.std.proofs.Common.{◌≡◌, inl, inr, ℕ, suc, pred, ◌+◌, ◌*◌, ◌-◌, ◌%◌, ◌^◌, ◌<◌, ◌≤◌, Bool, length, refl, sym, ap, ap₂, ◌∙◌, subst, arith}
 use Rattle.capnp_words.specs.declared.error.ErrorKind.{ErrorKind}
 use Rattle.capnp_words.specs.declared.error.ErrorKind.TheVariants.{MessageTooLarge}
@@ -85,7 +85,7 @@ structs_stop {r} {from} {m'} {m''} {k} start size i (a, o, z, seven, (held, seg,
     (subst (λ y. RowsStop (child_at r a (pred r.levels) (a.start + 1)) (rows_sized y i) (tally (from.words + (1 + i * (size.data_words + size.pointers))) from.caps m') m'' k) of_size
     (subst (λ x. RowsStop x (rows_sized size i) (tally (from.words + (1 + i * (size.data_words + size.pointers))) from.caps m') m'' k) there h))))
 
--- sums that are too much at the object itself
+-- sums that become too large at the object itself
 
 pub beyond_at : {r : Reading} {from : Tally} {m' : Meter} {a : Target} (w : ℕ) → FitSize from.words from.caps → Entered Size r from.meter m' a → w ≡ counted_words r.segments a → (from.words + w < 2 ^ 64 → ⊥) → SizeStops (MessageTooLarge (2 ^ 64 - 1)) r from m'
 beyond_at {a = a} w fits o counted over = here fits (too_large a o (omega (arith, over, counted)) refl)
@@ -110,7 +110,7 @@ structs_beyond {r} start size i fits (a, o, z, seven, there, many, wide, pointer
     let of_size : size ≡ tag_size r.segments a = same_size r.segments a wide pointers in
     beyond_at (1 + i * (size.data_words + size.pointers)) fits o (ap₂ (λ x y. 1 + x * (y.data_words + y.pointers)) many of_size ∙ sym (counted_structs r.segments a z seven)) over
 
--- what a place that is walked over shows at once
+-- what a place that is walked over shows immediately
 
 can_be : (r : Reading) (m : Meter) (t : Tree) (c : ℕ) → SizedThere r t c → Affords r.charging m c → CanBeRead Size r m
 unfolding CanBeRead
@@ -163,7 +163,7 @@ capability_within r {a} (Flat size ns) c (b, some, small, o, claims, e, g) l low
 capability_within r {a} (Pointers ts) c (b, k, some, o, claims, all, g) l low = absurd (omega (arith, same_word r b a o.leads_to l, o.is_list, low))
 capability_within r {a} (Structs d q es) c (b, i, k, some, o, claims, t, fits, all, g) l low = absurd (omega (arith, same_word r b a o.leads_to l, o.is_list, low))
 
--- there is no walk within both limits
+-- no walk is within both limits
 abbrev pub Never : Reading → Tally → Type 0
 Never r from = (t : Tree) (c : ℕ) → SizedThere r t c → FitSize (from.words + word_count t) (from.caps + capabilities t) → Affords r.charging from.meter c → ⊥
 
@@ -180,7 +180,7 @@ never_here {r} {from} (unmeasured h) t c sized fits covers = can_not (can_be r f
 never_here {r} (too_large a o over named) t c sized fits covers = omega (arith, counted_within r {a = a} t c sized (entered_leads o) o.meets.is_object, over, fits.0)
 never_here {r} (too_many a l level low paid over named) t c sized fits covers = omega (arith, capability_within r {a = a} t c sized l low, over, fits.1)
 
--- the child behind the first ones, in any longer walk from the same place
+-- the child after the first ones ts, in any longer walk from the same place
 record NextSized (r : Reading) (ts : Trees) (k : ℕ) (y : SomeSizedAll r) : Type 0 where
   child : Tree
   cost : ℕ
@@ -213,7 +213,7 @@ never_all {r} {from} {mid} {ts} i all lt never us c len others fits covers =
     let x = z.caps in
     never z.child z.cost z.is_sized (omega (arith, fits.0, all.words_are), omega (arith, fits.1, all.caps_are)) (affords_rest z.cost c all.paid z.within covers)
 
--- the children of the element behind the first ones, in any longer walk from the same place
+-- the children of the element after the first ones es, in any longer walk from the same place
 record NextRow (r : Reading) (size : StructSize) (es : Elements) (k : ℕ) (y : SomeElementsSized r size) : Type 0 where
   children : Trees
   cost : ℕ
@@ -260,7 +260,7 @@ never_rows {r} {size} {from} {mid} {es} i all lt never us c len others fits cove
     let x = z.caps in
     never z.children z.cost z.counts z.is_sized (omega (arith, fits.0, all.words_are), omega (arith, fits.1, all.caps_are)) (affords_rest z.cost c all.paid z.within covers)
 
--- what an object is walked over as
+-- the parts that an object is walked over as
 
 abbrev InStruct : Reading → Target → Tree → ℕ → Type 0
 InStruct r a t c =
@@ -321,7 +321,7 @@ stops_never {from = from} (below a q o before rest) = never_below from o before 
 pub stop_never : {r : Reading} {i : ℕ} {from : Tally} {m' : Meter} {k : ErrorKind} → SizesStop r i from m' k → NeverAll r i from
 stop_never {i = i} h = never_all i h.are_walked h.fewer (stops_never h.stops)
 
--- a walk over nothing changes no tally
+-- a walk without cost leaves the limiter unchanged
 unspent : {charging : Bool} {m m' : Meter} {c : ℕ} → c ≡ 0 → Paid charging m m' c 0 → m' ≡ m
 unspent {charging} {m} {m'} {c} z paid = paid.spent ∙ ap (λ i. after charging m i 0) z ∙ after_none charging m
 

@@ -69,7 +69,7 @@ counted_structs S a z seven = counted_list a 7 (1 + element_words (tag S a)) (cl
 pub paid_none : (r : Reading) (m : Meter) → Paid r.charging m m 0 0
 paid_none r m = record { covers = affords_none r.charging m; spent = sym (after_none r.charging m) }
 
--- pointers one behind the other
+-- consecutive pointers
 sized_more : (r : Reading) (ts : Trees) (u : Tree) (x : (k : ℕ) × SizedAllThere r ts k) (y : (c : ℕ) × SizedThere (behind r (count ts)) u c) → SizedAllThere r (with_last ts u) (x.0 + y.0)
 sized_more r no_trees u (k, h) (c, m) = (c, 0, subst (λ q. Sized r.segments r.levels r.segment q u c) (let e : r.at + 0 ≡ r.at = omega arith in e) m, refl, omega arith)
 sized_more r (tree t ts) u (k, (a, b, one, rest, g)) (c, m) =
@@ -92,7 +92,7 @@ pointer_walked {r} {i} {from} {mid} {to} (ts, len, all) one =
     let last : WalksPlace (behind r (count ts)) mid to = subst (λ j. WalksPlace (behind r j) mid to) (sym len) one in
     (with_last ts last.tree, omega (arith, count-with_last ts last.tree, len), walks_more all last)
 
--- elements one behind the other
+-- consecutive elements
 record ElementAt (r : Reading) (size : StructSize) (j : ℕ) (ws : List ℕ) (ts : Trees) : Type 0 where
   long : length ws ≡ size.data_words
   len : count ts ≡ size.pointers
@@ -216,7 +216,7 @@ pub flat_walked : {r : Reading} {from : Tally} {m' : Meter} (start : Place) (siz
     WalksPlace r from (tally (from.words + words_for (size_number size) i) from.caps m')
 flat_walked {r} {from} {m'} start size i (a, o, z, small, there, width, len) = rw (width, len) (flat_at {r = r} {from = from} o z small)
 
--- The pointers of an object, so many words behind its start.
+-- The pointers of an object, i words after its start.
 abbrev pub inside : Reading → Place → ℕ → Reading
 inside r start i = record r { levels = pred r.levels; segment = start.segment; at = start.at + i }
 
@@ -361,7 +361,7 @@ one_row {r} {size} {from} {to} (es, one, walk) = go es one walk
           },
         )
 
--- The first word of an object, as its pointers are read.
+-- The first word of an object, as the place of its pointers.
 abbrev pub beginning : Reading → Place → Reading
 beginning r start = record r { levels = pred r.levels; segment = start.segment; at = start.at }
 
