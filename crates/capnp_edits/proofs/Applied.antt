@@ -52,14 +52,15 @@ use Rattle.capnp_edits.proofs.Taken.{KeepsLengths, writes}
 use Rattle.capnp_edits.proofs.Ways.{as_it_stands, is_allocated, is_denied, is_done, is_not_allocated, leads_nowhere, leads_to, struct_changed, takes}
 use Rattle.capnp_edits.proofs.Walks.{found-append, update-append}
 
--- What is done where a task is, at a pointer, whatever that means; and what an edit's task makes, if its numbers are in range.
+-- From S to R the task is done at a pointer, with outcome r, for each value t that the pointer
+-- means; then what an edit's task makes, if its numbers are in range.
 abbrev pub Does : Segments → Segments → PointerPlace → Task → Option ErrorKind → Type 0
 Does S R place task r = (t : Tree) → IsStored S place.segment place.word t → DoesAt S R place (made_at task (PointerTo t)) t r
 
 abbrev pub made : Option Task → EndValue → Making
 made task end_value = option_map_or (λ (x : Task). made_at x end_value) task (denied NoSuchPlace)
 
--- a refusal for words is one for want of memory, or of room
+-- the error of a refused allocation is that of memory or of room
 pub of_allocation : (old new : View) (segments amount : ℕ) (k : ErrorKind) → IsAllocationRefusal old new segments amount k → is_allocation_name k ≡ true
 of_allocation old new segments amount k why = elim why [
   | inl h ↦ ap is_allocation_name h.0
@@ -70,16 +71,16 @@ of_allocation old new segments amount k why = elim why [
 pub of_memory : (old new : View) (n : ℕ) (k : ErrorKind) → IsRefusedFor old new n k → is_allocation_name k ≡ true
 of_memory old new n k (why, same) = of_allocation old new (length old.words) (n + 1) k why
 
--- a refusal for words is not that a place is missing
+-- the error of a refused allocation isn't NoSuchPlace
 pub of_no_place : (k : ErrorKind) → is_allocation_name k ≡ true → k ≡ NoSuchPlace → ⊥
 of_no_place k h e = absurd (let f : false ≡ true = sym (ap is_allocation_name e) ∙ h in cc)
 
--- a call that is refused for what a path leads to, and changes nothing then
+-- a call that can only be refused for what a path leads to, and then changes nothing
 pub refused_there : {A : Type 0} (result : Result A ErrorKind) (old new : View) (Q : ErrorKind → Type 0) (k : ErrorKind) → IfErr result (λ k. is_of_path k ≡ true) → OnErr result (new ≡ old) → refusal_of result ≡ Some k → ((is_of_path k ≡ true) × (new ≡ old)) ⊎ Q k
 refused_there (Ok x) old new Q k named kept e = absurd (cc)
 refused_there (Err j) old new Q k named kept e = inl (subst (λ x. is_of_path x ≡ true) (same_some j k e) named, kept)
 
--- by a name of what a path leads to
+-- a refusal with NoSuchPlace is one for what a path leads to
 pub of_place : {A : Type 0} (result : Result A ErrorKind) → IfErr result (λ k. k ≡ NoSuchPlace) → IfErr result (λ k. is_of_path k ≡ true)
 of_place (Ok x) named = tt
 of_place (Err k) named = ap is_of_path named
@@ -96,12 +97,12 @@ pub never_refused : {A : Type 0} (result : Result A ErrorKind) → IsOk result �
 never_refused (Ok x) done = tt
 never_refused (Err k) done = absurd (cc)
 
--- a call that changes nothing where it is refused
+-- a call that changes nothing if it is refused
 pub kept_nowhere : {A : Type 0} (result : Result A ErrorKind) (old new : View) → OnErr result (new ≡ old) → refusal_of result ≡ Some NoSuchPlace → new ≡ old
 kept_nowhere (Ok x) old new kept e = absurd (cc)
 kept_nowhere (Err k) old new kept e = kept
 
--- and is counted where it is the allocator's
+-- a refusal of the allocator is counted
 pub counted : (old new : View) (n : ℕ) (k : ErrorKind) → IsRefusedFor old new n k → new.refusals ≡ refusals_after (Some k) old.refusals
 counted old new n k (why, same) = elim why [
   | inl h ↦ h.3 ∙ sym (ap (λ x. refusals_after (Some x) old.refusals) h.0)
@@ -109,12 +110,12 @@ counted old new n k (why, same) = elim why [
   | inr (inr h) ↦ h.2 ∙ sym (ap (λ x. refusals_after (Some x) old.refusals) h.0)
 ]
 
--- the name of a refusal
+-- what holds for the error of a refusal holds for k
 pub named_refusal : {A : Type 0} (result : Result A ErrorKind) (P : ErrorKind → Type 0) (k : ErrorKind) → IfErr result P → refusal_of result ≡ Some k → P k
 named_refusal (Ok x) P k why e = absurd (cc)
 named_refusal (Err j) P k why e = subst P (same_some j k e) why
 
--- the words of an object that is made are those of its value
+-- the words of a new object are those of its value
 none_below : (n : ℕ) → word_count_all (nulls n) ≡ 0
 none_below zero = refl
 none_below (suc n) = omega (arith, none_below n)
@@ -139,12 +140,12 @@ structs_words_are n size =
     let q = size.pointers in
     ap (λ m. 1 + m * (d + q)) (sym (count-zero_elements d q n)) ∙ (let e : 1 + element_count (zero_elements d q n) * (d + q) ≡ 1 + element_count (zero_elements d q n) * (d + q) + word_count_elements (zero_elements d q n) = omega (arith, none_in d q n) in e)
 
--- where an object leads that has no words
+-- where a new struct without words leads
 pub struct_leads : {A : Type 0} (result : Result A ErrorKind) (c : CallAt) (size : StructSize) → (size.data_words + size.pointers ≡ 0 → OnOk result (word_at c.new.words c.segment c.at ≡ struct_word (2 ^ 30 - 1) 0 0)) → OnOk result (LeadsThere c (ZeroStruct size))
 struct_leads (Ok x) c size h = h
 struct_leads (Err k) c size h = tt
 
--- and one that has some
+-- where a new object with words leads
 pub leads_behind : {A : Type 0} (result : Result A ErrorKind) (c : CallAt) (n : ℕ) → 0 < n → OnOk result (StandsBehind c.old c.segment n (start_of (target c.new.words c.segment c.at))) → OnOk result (LeadsToEnd c n)
 leads_behind (Ok x) c n some h = λ room. h.near some room
 leads_behind (Err k) c n some h = tt
@@ -177,7 +178,7 @@ object_made result old new place object n is made leads =
           taken = λ some. made.only;
         }
 
--- a call that makes none
+-- a call that makes no object
 pub pointed : (old new : View) (place : PointerPlace) (i : Option ℕ) (u : Tree) → ((t : Tree) → made_at (Point i) (PointerTo t) ≡ becomes u) → Puts old.words new.words place.segment place.word u → KeepsLimits old new → KeepsLengths old.words new.words →
     IsDoneAt old new (AtPointer place) (Point i) None
 pointed old new place i u makes puts limits lengths = record {
@@ -201,14 +202,14 @@ part_done result old new place part does lengths limits named kept = record {
   taken = λ some. writes old new limits lengths;
 }
 
--- what is made stands at its place
+-- what is made replaces the value at its place
 pub done_at : {S R : Segments} {place : PointerPlace} {making : Making} {t : Tree} {r : Option ErrorKind} (u : Tree) → making ≡ becomes u → r ≡ None → IsReplaced S R place.segment place.word t u → DoesAt S R place making t r
 done_at u makes done stands = record { left = Some u; leaves = as_it_stands (is_done u makes done refl); stands = stands }
 
 pub denied_at : {S R : Segments} {place : PointerPlace} {making : Making} {t : Tree} {r : Option ErrorKind} (k : ErrorKind) → making ≡ denied k → r ≡ Some k → R ≡ S → DoesAt S R place making t r
 denied_at k denies named same = record { left = None; leaves = as_it_stands (is_denied k denies named refl); stands = same }
 
--- a field that is there, or not
+-- a field that the struct has, or doesn't have
 field_there : (n : Number) (ws : List ℕ) (ts : Trees) → (bits_of n).start + (bits_of n).bits ≤ 64 * length ws → struct_changed (Bits n) (Struct ws ts) ≡ becomes (struct_with (bits_of n) (Struct ws ts))
 field_there n ws ts l = ap (λ b. cond b (becomes (struct_with (bits_of n) (Struct ws ts))) (denied NoSuchPlace)) (within ((bits_of n).start + (bits_of n).bits) (64 * length ws) l)
   where
@@ -240,7 +241,7 @@ written_at S R place n r e (Flat size ns) is_e w stored = absurd (cc)
 written_at S R place n r e (Pointers ts) is_e w stored = absurd (cc)
 written_at S R place n r e (Structs d q es) is_e w stored = absurd (cc)
 
--- what is no struct isn't changed
+-- a value that isn't a struct isn't changed
 pub no_struct : (a : Target) (change : StructChange) (t : Tree) → None ≡ struct_in a t → struct_changed change t ≡ denied NoSuchPlace
 no_struct a change (Struct ws ts) none = absurd (cc)
 no_struct a (Bits n) Null none = refl
@@ -254,7 +255,7 @@ no_struct a (Content source) (Flat size ns) none = refl
 no_struct a (Content source) (Pointers ts) none = refl
 no_struct a (Content source) (Structs d q es) none = refl
 
--- at a pointer
+-- an edit at a pointer
 at_pointer : (S R : Segments) (e : Edit) (place : PointerPlace) (making : Making) (r : Option ErrorKind) (t x : Tree) → made (task_of e.op) (PointerTo x) ≡ making → PathLeads S (node 0 0 t) (map step_of e.path.now) (node place.segment place.word x) →
     found t (map step_of e.path.now) ≡ Some (PointerTo x) → IsForest S t → DoesAt S R place making x r → (u : Tree) × IsForest R u × Takes e r t u
 at_pointer S R e place making r t x makes leads end_value forest does = stands does.left (subst (λ m. Leaves m r does.left) (sym makes) does.leaves) does.stands
@@ -277,7 +278,7 @@ element_struct no_elements i l = absurd (omega arith)
 element_struct (element ws ts es) zero l = (ws, ts, refl)
 element_struct (element ws ts es) (suc i) l = element_struct es i (omega arith)
 
--- with as many data words as the list says
+-- the element has as many data words as the list says
 element_width : (S : Segments) (n s p d q : ℕ) (es : Elements) (c i : ℕ) (ws : List ℕ) (ts : Trees) → Means S n s p (Structs d q es) c → i < element_count es → struct_at es i ≡ Struct ws ts → length ws ≡ d
 element_width S n s p d q es c i ws ts (b, m, k, some, o, claim, tag, fits, all, g) l is = (element_has_words S (pred n) b.segment (b.start + 1) d q es k i ws ts all l is).0
 
@@ -308,7 +309,7 @@ at_element S R e s n r t f ws ts is wide stored end_value forest makes (are_outs
     let past : 64 * length ws < g.start + g.bits = rw wide far in
     (t, subst (λ Q. IsForest Q t) (sym same) forest, takes e r t (leads_to (ElementOf (Struct ws ts)) None end_value (as_it_stands (is_denied NoSuchPlace (makes ∙ field_past n ws ts past) named refl)) refl))
 
--- what a path leads to that leads to an element
+-- what is at the end of a path that leads to an element
 pub element_end : (S : Segments) (e : Edit) (s : ExistingStruct) (t : Tree) (f : IsElementFound S 0 0 t (map step_of e.path.now) s) (ws : List ℕ) (ts : Trees) → struct_at f.elements f.index ≡ Struct ws ts → found t (map step_of e.path.now) ≡ Some (ElementOf (Struct ws ts))
 element_end S e s t f ws ts is =
     ap (found t) f.path_is ∙ found-append t f.front (Element f.index ∷ []) (Structs s.size.data_words s.size.pointers f.elements) f.end_value ∙ first f.index (element_count f.elements) _ _ f.counts ∙ ap (λ x. Some (ElementOf x)) is
@@ -326,7 +327,7 @@ applied_bits S R e s n r is_task leads w t forest =
     let wide = element_width S means.0 f.list_segment f.list_at s.size.data_words s.size.pointers f.elements means.1 f.index ws ts means.2 f.counts is in
     at_element S R e s n r t f ws ts is wide there (element_end S e s t f ws ts is) forest (ap (λ o. made o (ElementOf (Struct ws ts))) is_task) w
 
--- any other task is for no element
+-- any other task makes nothing of an element
 none_made : (task : Task) (t : Tree) → ((change : StructChange) → task ≡ InStruct change → ⊥) → made_at task (ElementOf t) ≡ denied NoSuchPlace
 none_made (InStruct change) t other = absurd (other change refl)
 none_made (Make object) t other = refl
@@ -338,7 +339,7 @@ none_made (Write (DataByte i b)) t other = refl
 none_made (Search sought default) t other = refl
 none_made (CopyRoot c) t other = refl
 
--- an element of a list keeps its words but where it is changed
+-- a task that changes no struct leaves an element of a list unchanged
 pub element_kept : (S : Segments) (s : ExistingStruct) (task : Task) (r : Option ErrorKind) → ((change : StructChange) → task ≡ InStruct change → ⊥) → DoesThere S S (AtElement s) task r
 element_kept S s (InStruct change) r other = absurd (other change refl)
 element_kept S s (Make object) r other = refl
@@ -355,7 +356,7 @@ none_applied S e s task is_task other leads t forest =
     let x : Tree = Struct ws ts in
     (t, forest, takes e (Some NoSuchPlace) t (leads_to (ElementOf x) None (element_end S e s t f ws ts is) (as_it_stands (is_denied NoSuchPlace (ap (λ o. made o (ElementOf x)) is_task ∙ none_made task x other) refl refl)) refl))
 
--- numbers that are out of range
+-- an edit whose numbers are out of range
 pub out_applied : (S : Segments) (e : Edit) → task_of e.op ≡ None → IsApplied (Takes e (Some NoSuchPlace)) S S
 out_applied S e out t forest = (t, forest, end (found t (map step_of e.path.now)) refl)
   where
@@ -363,7 +364,7 @@ out_applied S e out t forest = (t, forest, end (found t (map step_of e.path.now)
     end (Some end_value) is = takes e (Some NoSuchPlace) t (leads_to end_value None is (as_it_stands (is_denied NoSuchPlace (ap (λ x. made x end_value) out) refl refl)) refl)
     end None is = takes e (Some NoSuchPlace) t (leads_nowhere is refl refl)
 
--- nowhere
+-- an edit whose path leads nowhere
 pub applied_nowhere : (S : Segments) (e : Edit) → ((t : Tree) → IsStored S 0 0 t → IsPathFound S (record { segment = 0; word = 0 }) t (map step_of e.path.now) None) → IsApplied (Takes e (Some NoSuchPlace)) S S
 applied_nowhere S e none t forest =
     (t, forest, takes e (Some NoSuchPlace) t (leads_nowhere (ap (found t) (sym (append-nil (map step_of e.path.now))) ∙ none t (forest_stored S t forest) []) refl refl))

@@ -34,20 +34,21 @@ use Rattle.capnp_edits.proofs.Applied.{Does, done_at, denied_at, element_struct,
 use Rattle.capnp_edits.proofs.Ways.{part_written}
 use Rattle.capnp_edits.proofs.Fields.{number_parts}
 
--- How many are in what is found, as elements or bytes: none in a null pointer.
+-- The number of elements or bytes of what a search found: none if it found a null pointer.
 abbrev count_of : {A : Type 0} → (A → ℕ) → Result (Option A) ErrorKind → Result ℕ ErrorKind
 count_of number (Ok (Some x)) = Ok (number x)
 count_of number (Ok None) = Ok 0
 count_of number (Err k) = Err k
 
--- How many elements of a list are found, and how many bytes.
+-- The number of elements of the list that a search found; then the number of bytes.
 abbrev elements_in : Result (Option ExistingList) ErrorKind → Result ℕ ErrorKind
 elements_in looked = count_of (λ l. l.count) looked
 
 abbrev length_in : Result (Option ExistingBytes) ErrorKind → Result ℕ ErrorKind
 length_in looked = count_of (λ b. b.length) looked
 
--- wherever a list, a text or data is, what counts its elements alone says the same of it
+-- if f depends only on the number of elements of a list, its result is the same for the list
+-- anywhere
 list_fits : {B : Type 0} (f : Result (Option ExistingList) ErrorKind → B) → ((l k : ExistingList) → l.count ≡ k.count → f (Ok (Some l)) ≡ f (Ok (Some k))) → (m : Option ErrorKind) (l k : ExistingList) → l.count ≡ k.count → f (unless m l) ≡ f (unless m k)
 list_fits f alike None l k e = alike l k e
 list_fits f alike (Some x) l k e = refl
@@ -92,7 +93,7 @@ same_count n m e = cc
 same_err_count : (k l : ErrorKind) → ◌≡◌ {A = Result ℕ ErrorKind} (Err k) (Err l) → k ≡ l
 same_err_count k l e = cc
 
--- an element that is reached, or not
+-- the result of writing element i of the n that a search found
 reached : {A : Type 0} (number : A → ℕ) (u : Tree) (i n : ℕ) (q : Result (Option A) ErrorKind) → count_of number q ≡ Ok n → if_reached number i u q ≡ cond (nat_lt i n) (becomes u) (denied NoSuchPlace)
 reached number u i n (Ok (Some x)) is_n = ap (λ m. cond (nat_lt i m) (becomes u) (denied NoSuchPlace)) (same_count (number x) n is_n)
 reached number u i n (Ok None) is_n = sym (second i n (becomes u) (denied NoSuchPlace) (omega (arith, same_count 0 n is_n)))
@@ -112,7 +113,7 @@ not_reached number u i k (Err l) is_k = ap denied (same_err_count l k is_k)
 reached_denied : {A : Type 0} (number : A → ℕ) (S : Segments) (place : PointerPlace) (t u : Tree) (i : ℕ) (k : ErrorKind) (q : Result (Option A) ErrorKind) → count_of number q ≡ Err k → DoesAt S S place (if_reached number i u q) t (Some k)
 reached_denied number S place t u i k q is_k = denied_at k (not_reached number u i k q is_k) refl refl
 
--- elements that are no structs, where numbers or bits are expected: they are at least as wide
+-- elements that aren't structs are at least as wide as the numbers or bits that are expected
 plain_wide : (expected found : ElementSize) → plain_misfit expected found ≡ None → element_bits (size_number expected) ≤ element_bits (size_number found)
 plain_wide expected found e = wide (nat_le (element_bits (size_number expected)) (element_bits (size_number found))) (nat_le (pointers_per_element expected) (pointers_per_element found)) refl e
   where
@@ -130,7 +131,7 @@ some_bits EightBytes l m = (omega arith, omega arith)
 some_bits Pointer l m = absurd (omega arith)
 some_bits InlineComposite l m = absurd (omega arith)
 
--- structs, where numbers are expected: they have data words
+-- structs have data words if numbers are expected
 struct_words : (size : ElementSize) (d q : ℕ) → 1 ≤ size_number size → size_number size ≤ 5 → structs_misfit size d q ≡ None → 0 < d
 struct_words Void d q l m e = absurd (omega arith)
 struct_words Bit d q l m e = absurd (cc)
@@ -160,7 +161,7 @@ flat_bits (suc (suc (suc (suc zero)))) l = record { step = refl; number = refl; 
 flat_bits (suc (suc (suc (suc (suc zero))))) l = record { step = refl; number = refl; sized = refl }
 flat_bits (suc (suc (suc (suc (suc (suc k)))))) l = absurd (omega arith)
 
--- a list that is found is as wide as the elements that are expected
+-- the elements of a list that is found are at least as wide as those that are expected
 pub found_wide : (S : Segments) (s p : ℕ) (size : ElementSize) (t : Tree) (l : ExistingList) → 1 ≤ size_number size → size_number size ≤ 5 → Ok (Some l) ≡ list_in (target S s p) size t → IsStored S s p t →
     element_bits (size_number size) ≤ data_bits l.size l.struct_size
 found_wide S s p size Null l least most is_l stored = absurd (cc)
@@ -179,7 +180,7 @@ found_wide S s p size (Structs d q es) l least most is_l stored =
     let (fit, same) = chosen (structs_misfit size d q) (struct_list (target S s p) d q (element_count es)) l is_l in
     subst (λ x. element_bits (size_number size) ≤ data_bits x.size x.struct_size) (sym same) (omega (arith, struct_words size d q least most fit, (some_bits size least most).1))
 
--- the lowest bits of an element, whatever list a pointer leads to
+-- writing the lowest bits of an element of any list that a pointer leads to
 pub list_written : (S R : Segments) (s p : ℕ) (size : ElementSize) (t : Tree) (l : ExistingList) (i v : ℕ) → 1 ≤ size_number size → size_number size ≤ 5 → v < 2 ^ element_bits (size_number size) → Ok (Some l) ≡ list_in (target S s p) size t → IsStored S s p t →
     i < l.count → R ≡ with_field S l.segment (8 * (8 * l.start) + i * step_bits l.size l.struct_size) (element_bits (size_number size)) v → IsReplaced S R s p t (with_lowest i (element_bits (size_number size)) v t)
 list_written S R s p size Null l i v least most small is_l stored less written = absurd (cc)
@@ -216,7 +217,7 @@ list_written S R s p size (Structs d q es) l i v least most small is_l stored le
     (subst (λ x. R ≡ with_field S x.segment (8 * (8 * x.start) + i * step_bits x.size x.struct_size) (element_bits (size_number size)) v) same written
     ∙ ap (λ y. with_field S a.segment y (element_bits (size_number size)) v) (let e : 8 * (8 * (a.start + 1)) + i * (64 * (d + q)) ≡ 64 * (a.start + 1 + i * (d + q)) + 0 = grind arith in e)))
 
--- a byte of a list of bytes, of which one is there
+-- writing byte i of a list of bytes, which has that byte
 byte_written : (S R : Segments) (s p : ℕ) (z : ℕ) (ns : List ℕ) (i v : ℕ) → z ≡ 2 → i < length ns → v < 256 → IsStored S s p (Flat z ns) → R ≡ with_field S (target S s p).segment (8 * (8 * (target S s p).start + i)) 8 v → IsReplaced S R s p (Flat z ns) (with_lowest i 8 v (Flat z ns))
 byte_written S R s p z ns i v two l small stored written =
     let wide : element_bits z ≡ 8 = ap element_bits two in
@@ -279,7 +280,7 @@ element_does S R place n r looked inside range is_found puts t stored = does (is
     does found (list_denied k is_k named kept) = rw (named, kept) (
         reached_denied (λ (l : ExistingList). l.count) S place t (with_lowest n.index w n.value t) n.index k (list_in nowhere n.size t) (counted found ∙ ap elements_in is_k))
 
--- where bytes are looked for, and how a byte of them is written
+-- what a search for bytes shows, and how byte i of them is written
 record Looks (look : Target → Tree → Result (Option ExistingBytes) ErrorKind) (i v : ℕ) : Type 0 where
   long : (a b : Target) (t : Tree) → length_in (look a t) ≡ length_in (look b t)
   inside : (S : Segments) (s p : ℕ) (t : Tree) (b : ExistingBytes) → s < length S → IsStored S s p t → look (target S s p) t ≡ Ok (Some b) → BytesLieIn S b
@@ -317,6 +318,6 @@ data_does S R place i v r looked inside small is_found puts t stored =
     byte_does S R place i v data_in r looked t inside
     (record { long = data_anywhere length_in (λ b c e. ap Ok e); inside = data_inside; written = λ S R s p t b is_b stored less written. data_written_at S R s p t b i v is_b stored less small written }) stored (is_found t stored) puts
 
--- what was looked for, and is there
+-- a search that was done and found something
 pub is_found : {A : Type 0} (r : Result (Option A) ErrorKind) (o : Option A) (x : A) → r ≡ Ok o → o ≡ Some x → r ≡ Ok (Some x)
 is_found r o x e f = e ∙ ap Ok f

@@ -60,11 +60,12 @@ use Rattle.capnp_edits.proofs.Ways.{as_it_stands, is_copied, is_not_copied, is_u
 use Rattle.capnp_making.specs.Near.{HasOwnRoom}
 use Rattle.capnp_widening.specs.Rooms.{is_allocation_name}
 
--- A reader is at the root, whose word is charged.
+-- The reader is at the source's root, and the root's word is charged.
 abbrev pub IsRootReader : {A : Type 0} (g : Ghosts A) → Source → PointerReader A g → Meter → Type 0
 IsRootReader g source from m = HasRoot source × (read_by g from ≡ root_of source) × (m ≡ once_at_root source)
 
--- What a copy from another message leaves at a place: it is there; or null, the copy being refused; or there is nothing to be copied.
+-- What a copy from another message leaves at a place: the copy; null, if it is refused; or the
+-- place unchanged, if there is nothing to copy.
 root_copied : {S R : Segments} {place : PointerPlace} {c : Copying} {r : Option ErrorKind} (u : Tree) → Copies c u → r ≡ None → Puts S R place.segment place.word u → Does S R place (CopyRoot c) r
 root_copied {c = c} u copied done puts t stored = record { left = Some u; leaves = as_it_stands (is_copied c u refl copied done refl); stands = puts t stored }
 
@@ -74,7 +75,7 @@ root_not_copied {c = c} k why named puts t stored = record { left = Some Null; l
 pub root_unread : {S R : Segments} {place : PointerPlace} {c : Copying} {r : Option ErrorKind} (k : ErrorKind) → HasNothingToCopy c.source c.wanted k → r ≡ Some k → R ≡ S → Does S R place (CopyRoot c) r
 root_unread {c = c} k why named same t stored = record { left = None; leaves = as_it_stands (is_unread c k refl why named refl); stands = same }
 
--- The root means a value that fits behind segment id.
+-- The root means a value whose copy fits after the words of segment id.
 abbrev pub FitsBehind : View → ℕ → Copying → Type 0
 FitsBehind v id c = (u : Tree) × Copies c u × (c.wanted ≡ AList → AreWords (root_of c.source).segments) × HasOwnRoom v id (word_count u)
 
@@ -92,13 +93,14 @@ can_be_copied v id c (u, copies, words, room) =
       fits = subst (λ t. length (segment v.words id) + word_count t ≤ v.room id) copies.is_kept room;
     }
 
--- What a copy leaves that is done.
+-- What a copy that is done leaves.
 abbrev IsDone : Copying → Meter → Segments → Segments → PointerPlace → Type 0
 IsDone c after S R place =
     (t : Tree) × (w : Tree) × Reads (form_of c.canonicalize) (root_of c.source) (once_at_root c.source) after t × (as_wanted c.wanted t ≡ Some w)
     × Puts S R place.segment place.word (kept (form_of c.canonicalize) w)
 
--- A copy is refused for want of memory, or its value can't be read; and never for a place.
+-- A copy is refused for lack of memory, or because its value can't be read; and never with
+-- NoSuchPlace.
 
 value_refused : (b : Bool) (id at : ℕ) (old new : View) (r : Reading) (m m' : Meter) (k : ErrorKind) → RefusesToCopy (value_original r) (change (form_of b) (call_at id at old new) m m') k → (is_allocation_name k ≡ true) ⊎ Refused (form_of b) r m m' k
 value_refused b id at old new r m m' k (inl (lacks, large)) =
@@ -129,7 +131,7 @@ copy_fits_as Value c id at old new r m m' k is small can (inr (inr none)) = none
 copy_fits_as AStruct c id at old new r m m' k is small can (s, leads, refuses) = struct_fits c r m m' s id at old new k is leads can refuses
 copy_fits_as AList c id at old new r m m' k is small can (l, n, leads, refuses) = list_fits c r m n m' l id at old new k is leads (list_small r m n l (small is) leads) can refuses
 
--- What a copy takes, and why it is refused, by its outcome.
+-- What a copy takes, and why it is refused, by its outcome r.
 abbrev pub Says : Option ErrorKind → Original Tree → Change → Type 0
 Says r o d = TakesAtMost (result_of r) o d × MatchOption r (PutsCopy o d) (RefusesToCopy o d)
 
@@ -137,14 +139,14 @@ says : {A : Type 0} (result : Result A ErrorKind) (o : Original Tree) (d : Chang
 says (Ok x) o d done taken refused = (taken, done)
 says (Err k) o d done taken refused = (taken, refused.why)
 
--- A copy that was tried: what it leaves where result is Ok, and why it is refused where it isn't.
+-- A copy that was tried: what it leaves if the result is Ok, and why it is refused otherwise.
 pub record Tried {A : Type 0} (result : Result A ErrorKind) (c : Copying) (old new : View) (place : PointerPlace) : Type 0 where
   pub root : HasRoot c.source
   pub after : Meter
   pub done : IfOk result (λ x. IsDone c after old.words new.words place)
   pub copies : OfWanted c.wanted (root_of c.source) (change (form_of c.canonicalize) (call_at place.segment place.word old new) (once_at_root c.source) after) (Says (refusal_of result))
 
--- what follows for each original and call follows for what is wanted at a place
+-- if Q follows from P for each original and call, it does so for what is wanted at a place
 wanted_so : (w : Wanted) (r : Reading) (c : Change) (P Q : Original Tree → Change → Type 0) → ((o : Original Tree) (d : Change) → P o d → Q o d) → OfWanted w r c P → OfWanted w r c Q
 wanted_so Value r c P Q so h = so _ _ h
 wanted_so AStruct r c P Q so (s, leads, h) = (s, leads, so _ _ h)
@@ -176,7 +178,7 @@ pub tried_fits : {A : Type 0} (result : Result A ErrorKind) (c : Copying) (old n
 tried_fits (Ok x) c old new place tried fits = refl
 tried_fits (Err k) c old new place tried fits = absurd (copy_fits_as c.wanted c place.segment place.word old new (root_of c.source) (once_at_root c.source) tried.after k refl fits.2 (can_be_copied old place.segment c fits) (tried_refused k c old new place tried))
 
--- of what the root means
+-- the copy of what the root means
 pub value_tried : {A : Type 0} (result : Result A ErrorKind) (c : Copying) (r : Reading) (m m' : Meter) (old new : View) (place : PointerPlace) → c.wanted ≡ Value → r ≡ root_of c.source → m ≡ once_at_root c.source → HasRoot c.source →
     IfOk result (λ x. PutsCopy (value_original r) (change (form_of c.canonicalize) (call_at place.segment place.word old new) m m')) → IfErr result (LeavesCleared (value_original r) (change (form_of c.canonicalize) (call_at place.segment place.word old new) m m')) →
     TakesAtMost result (value_original r) (change (form_of c.canonicalize) (call_at place.segment place.word old new) m m') → Tried result c old new place
@@ -193,7 +195,7 @@ value_tried result c r m m' old new place is is_r is_m has done refused taken = 
         subst (λ w. OfWanted w (root_of c.source) (ch (once_at_root c.source)) (Says (refusal_of result))) (sym is)
         (subst (λ y. Says (refusal_of result) (value_original (root_of c.source)) (ch y)) is_m (subst (λ y. Says (refusal_of result) (value_original y) (ch m)) is_r (says result (value_original r) (ch m) done taken refused)))
 
--- of the struct that it leads to
+-- the copy of the struct that the root leads to
 struct_tried : {A : Type 0} (result : Result A ErrorKind) (c : Copying) (s : Sections) (m' : Meter) (old new : View) (place : PointerPlace) → c.wanted ≡ AStruct → HasRoot c.source → LeadsToStruct (root_of c.source) (once_at_root c.source) s →
     IfOk result (λ x. PutsCopy (sections_original s.words s.first s.pointers) (change (form_of c.canonicalize) (call_at place.segment place.word old new) s.limiter m')) →
     IfErr result (LeavesCleared (sections_original s.words s.first s.pointers) (change (form_of c.canonicalize) (call_at place.segment place.word old new) s.limiter m')) →
@@ -210,7 +212,7 @@ struct_tried result c s m' old new place is has leads done refused taken = recor
     copies : OfWanted c.wanted (root_of c.source) (change (form_of c.canonicalize) (call_at place.segment place.word old new) (once_at_root c.source) m') (Says (refusal_of result))
     copies = subst (λ w. OfWanted w (root_of c.source) (change (form_of c.canonicalize) (call_at place.segment place.word old new) (once_at_root c.source) m') (Says (refusal_of result))) (sym is) (s, leads, says result (sections_original s.words s.first s.pointers) (change (form_of c.canonicalize) (call_at place.segment place.word old new) s.limiter m') done taken refused)
 
--- of the list
+-- the copy of the list that the root leads to
 list_tried : {A : Type 0} (result : Result A ErrorKind) (c : Copying) (l : ListElements) (m m' : Meter) (old new : View) (place : PointerPlace) → c.wanted ≡ AList → HasRoot c.source →
     LeadsToList (root_of c.source) (once_at_root c.source) m l → IfOk result (λ x. PutsCopy (list_original l.size l.sections l.count l.first) (change (form_of c.canonicalize) (call_at place.segment place.word old new) m m')) →
     IfErr result (LeavesCleared (list_original l.size l.sections l.count l.first) (change (form_of c.canonicalize) (call_at place.segment place.word old new) m m')) → TakesAtMost result (list_original l.size l.sections l.count l.first) (change (form_of c.canonicalize) (call_at place.segment place.word old new) m m') → Tried result c old new place
@@ -290,7 +292,7 @@ list_found g c from m v id is here fits =
     let given = list_given c (root_of c.source) (once_at_root c.source) (length (segment v.words id)) (v.room id) is (can_be_copied v id c fits) in
     answered g (list_expected Void) from m (subst (λ y. CanBeGiven (list_expected Void) (read_by g from) y) (sym here.2) (subst (λ r. CanBeGiven (list_expected Void) r (once_at_root c.source)) (sym here.1) given))
 
--- The names by which a source isn't read: none of them is a call's own.
+-- The errors of a call itself, with which a source is never refused.
 abbrev is_of_call : ErrorKind → Bool
 is_of_call AllocationFailed = true
 is_of_call NoSuchPlace = true
@@ -338,7 +340,7 @@ other_unwanted AStruct r m m' k h = other_withheld struct_expected r m m' k (λ 
 other_unwanted AList r m m' k h =
     other_withheld (list_expected Void) r m m' k (λ n. other_of (nat_eq n 0) (Some NestingLimitExceeded) None refl tt) other_list (λ S a. other_of (nat_eq (element_size a.word) 7) None (narrow_elements Void (element_size a.word)) tt (other_narrow (element_size a.word))) h
 
--- what can be copied is neither unread nor unreadable
+-- what can be copied is neither missing nor unreadable
 wanted_there : (w : Wanted) (c : Copying) (r : Reading) (m m' : Meter) (used room : ℕ) (k : ErrorKind) → c.wanted ≡ w → CanBeCopiedAs c r m used room → IsWithheld w r m m' k → ⊥
 wanted_there Value c r m m' used room k is can h = h
 wanted_there AStruct c r m m' used room k is can h = not_withheld struct_expected r m m' k (struct_given c r m used room is can) h
@@ -391,7 +393,7 @@ other_unread source wanted k (inr (has, (m, withheld))) = other_unwanted wanted 
 pub unread_counted : (source : Source) (wanted : Wanted) (k : ErrorKind) (n : ℕ) → HasNothingToCopy source wanted k → n ≡ refusals_after (Some k) n
 unread_counted source wanted k n unread = sym (not_the_allocator k (λ e. false≢true (sym (other_unread source wanted k unread) ∙ ap is_of_call e)) n)
 
--- a copy is never refused for a place
+-- a copy that is refused with NoSuchPlace changes nothing
 pub copy_nowhere : (r : Option ErrorKind) (call : CallAt) (c : Copying) → CopiesWhole call c r → r ≡ Some NoSuchPlace → call.new ≡ call.old
 copy_nowhere None call c copies e = absurd (cc)
 copy_nowhere (Some k) call c (inl h) e = h.1

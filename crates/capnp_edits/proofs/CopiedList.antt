@@ -87,7 +87,7 @@ pub list_at : {A : Type 0} (g : Ghosts A) (p : PointerReader A g) (m m' : Meter)
 list_at g p m m' v (inl (null, same, nothing, void, none, nesting)) = no_list null void none same
 list_at g p m m' v (inr ((a, o, z, is, source, nesting), wide)) = list_there g p m m' v a o z source nesting v.element_size refl (λ bits. absurd (omega (arith, wide.2 bits))) is
 
--- reading it, and then what its elements lead to, is reading the value
+-- reading the list, and then what its elements lead to, is reading the value
 abbrev Numbers : Reading → ℕ → ℕ → Tree
 Numbers x size n = Flat size (unpacked size n (words_from x (words_for size n)))
 
@@ -129,7 +129,7 @@ list_reads form r m n m' l (Structs d q es) (a_struct_list a o z s sections firs
       ap₂ (λ i j. Some (Structs i j es)) (sym (words ∙ ap (λ (y : StructSize). y.data_words) sections)) (sym (slots ∙ ap (λ (y : StructSize). y.pointers) sections)),
     )
 
--- where that is refused, so is the value
+-- if that is refused, so is reading the value
 list_stops : (form : Form) (r : Reading) (m n m' : Meter) (l : ListElements) (k : ErrorKind) → LeadsToList r m n l → RefusedList form l n m' k → Refused form r m m' k
 list_stops form r m n m' l k (no_list null void none same) (inl (is, refused)) = absurd (omega (arith, ap size_number (sym void ∙ is)))
 list_stops form r m n m' l k (no_list null void none same) (inr (is, refused)) = absurd (omega (arith, ap size_number (sym void ∙ is)))
@@ -142,7 +142,7 @@ list_stops form r m n m' l k (a_struct_list a o z s sections first counts) (inr 
     let there : RefusedElements form x l.sections l.count n m' k = subst (λ y. RefusedElements form y l.sections l.count n m' k) first refused in
     stops_structs o z.0 z.1 (subst (λ i. RefusedElements form x (tag_size r.segments a) i n m' k) counts (subst (λ y. RefusedElements form x y l.count n m' k) sections there))
 
--- or there is no room
+-- the copy of a list is refused for room, or because its value can't be read
 pub list_refused : (b : Bool) (id at : ℕ) (old new : View) (r : Reading) (m n m' : Meter) (l : ListElements) (k : ErrorKind) → LeadsToList r m n l →
     RefusesToCopy (list_original l.size l.sections l.count l.first) (change (form_of b) (call_at id at old new) n m') k → (is_allocation_name k ≡ true) ⊎ Refused (form_of b) r m m' k
 list_refused b id at old new r m n m' l k leads (inl (lacks, exceeds)) =
@@ -172,7 +172,7 @@ wide_enough (suc (suc (suc (suc (suc (suc zero)))))) le other = refl
 wide_enough (suc (suc (suc (suc (suc (suc (suc zero))))))) le other = refl
 wide_enough (suc (suc (suc (suc (suc (suc (suc (suc n)))))))) le other = absurd (omega arith)
 
--- the numbers of a list of bits aren't as wanted
+-- a list of bits isn't as wanted
 not_bits : (b : Bool) (t copied : Tree) → cond b None (Some t) ≡ Some copied → (b ≡ false) × (copied ≡ t)
 not_bits true t copied e = absurd (cc)
 not_bits false t copied e = (refl, cc)
@@ -266,7 +266,7 @@ list_suited r m (Structs d q es) c copied means covers e = given_there r m c (st
 pub list_given : (c : Copying) (r : Reading) (m : Meter) (used room : ℕ) → c.wanted ≡ AList → CanBeCopiedAs c r m used room → CanBeGiven (list_expected Void) r m
 list_given c r m used room is can = list_suited r m can.value can.cost can.copied can.means can.covers (subst (λ w. as_wanted w can.value ≡ Some can.copied) is can.is_wanted)
 
--- and then what its elements lead to can be read, too
+-- then what its elements lead to can be read, too
 abbrev ListMatches : Form → ListElements → Meter → Tree → Type 0
 ListMatches form l n copied = (end : Meter) × ReadsList form l n end copied
 
@@ -352,7 +352,7 @@ list_matches form r m n l (Pointers ts) c copied leads means takes covers e =
 list_matches form r m n l (Structs d q es) c copied leads means takes covers e =
     subst (ListMatches form l n) (same_some (Structs d q es) copied e) (structs_match form r m n l d q es c leads means takes covers)
 
--- a pointer can say how many elements it leads to, where words are of 64 bits
+-- a list pointer can hold the number n of elements
 few_elements : (size : ElementSize) (n width : ℕ) → size_number size ≤ 6 → n < 2 ^ 29 → FitsListPointer size n width
 few_elements Void n width le few = few
 few_elements Bit n width le few = few
@@ -378,7 +378,7 @@ list_small r m n l words (a_struct_list a o z s sections first counts) =
     let wide : l.sections.data_words + l.sections.pointers ≡ data_words (tag r.segments a) + pointer_count (tag r.segments a) = ap (λ (x : StructSize). x.data_words + x.pointers) sections in
     rw (s, counts, wide) (few, omega (arith, fits, small))
 
--- the copy of a list isn't refused where it can be made
+-- the copy of a list isn't refused if it can be made
 pub list_fits : (c : Copying) (r : Reading) (m n m' : Meter) (l : ListElements) (id at : ℕ) (old new : View) (k : ErrorKind) → c.wanted ≡ AList → LeadsToList r m n l →
     FitsListPointer l.size l.count (l.sections.data_words + l.sections.pointers) → CanBeCopiedAs c r m (length (segment old.words id)) (old.room id) →
     RefusesToCopy (list_original l.size l.sections l.count l.first) (change (form_of c.canonicalize) (call_at id at old new) n m') k → ⊥

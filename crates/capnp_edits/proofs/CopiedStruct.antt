@@ -54,7 +54,9 @@ use Rattle.capnp_objects.proofs.Followed.{leads_to, entered_leads}
 use Rattle.capnp_objects.proofs.Shorthands.{RefusedAll}
 use Rattle.capnp_making.specs.Makes.{call_at}
 
--- A place means a value that is as wanted, in canonical form one without capabilities, at a cost that the limiter covers, and the words to be kept of it fit behind so many words of a segment with this room.
+-- The place r means a value that is as wanted, and without capabilities if the copy is canonical,
+-- at a cost within the limiter m. The words that the copy keeps of it fit after `used` words of a
+-- segment with this room.
 pub record CanBeCopiedAs (c : Copying) (r : Reading) (m : Meter) (used room : ℕ) : Type 0 where
   pub value : Tree
   pub cost : ℕ
@@ -65,7 +67,7 @@ pub record CanBeCopiedAs (c : Copying) (r : Reading) (m : Meter) (used room : �
   pub is_wanted : as_wanted c.wanted value ≡ Some copied
   pub fits : used + word_count (kept (form_of c.canonicalize) copied) ≤ room
 
--- one level less, as a nesting limit says it
+-- one level less, for a nesting limit z
 pub level_less : (z : ℤ) → 0 < levels z → levels (z -ℤ pos 1) ≡ pred (levels z)
 level_less (pos zero) some = absurd (omega arith)
 level_less (pos (suc n)) some = let e : (pos (suc n) -ℤ pos 1) ≡ pos n = omega (arith, ints) in ap levels e
@@ -81,7 +83,7 @@ struct_at g p m m' v long (inr (a, o, z, shows, source, nesting)) =
     let level : levels v.nesting_limit ≡ pred (levels p.nesting_limit) = ap levels nesting ∙ level_less p.nesting_limit o.meets.levels in
     a_struct a o z (rw bits (whole_section (data_words a.word) v.content.now whole ∙ shows.words_are)) (rw (source, shows.segment_is, shows.pointers_start, level) refl) shows.pointers_are
 
--- the struct that get_struct gave has whole words
+-- the struct that `get_struct` returned has whole words
 pub whole_words : (bytes : List ℕ) (bits : ℕ) → length bytes ≡ bytes_for bits → bits % 64 ≡ 0 → (section_words bits bytes ≡ words_of bytes) × (bits ≡ 64 * length (words_of bytes))
 whole_words bytes bits long whole =
     let d : ℕ = bits / 64 in
@@ -94,7 +96,7 @@ pub whole_bits : {A : Type 0} (g : Ghosts A) (p : PointerReader A g) (m n : Mete
 whole_bits g p m n v (inl (null, same, nothing, no_bits, none, nesting)) = omega (arith, no_bits)
 whole_bits g p m n v (inr (a, o, z, shows, source, nesting)) = omega (arith, shows.bits_are)
 
--- reading it, and then its pointers, is reading the value
+-- reading the struct, and then its pointers, is reading the value
 no_children : (ts : Trees) → count ts ≡ 0 → ts ≡ no_trees
 no_children no_trees e = refl
 no_children (tree t ts) e = absurd (omega arith)
@@ -112,13 +114,13 @@ struct_reads form r m m' s ts (no_struct null ws none same) counts all =
 struct_reads form r m m' s ts (a_struct a o z ws first q) counts all =
     (Struct (words_at r.segments a.segment a.start (data_words a.word)) ts, read_struct o z (counts ∙ q) (subst (λ x. ReadsAll form x s.limiter m' ts) first all), ap (λ w. Some (Struct w ts)) (sym ws))
 
--- where that is refused, so is the value
+-- if that is refused, so is reading the value
 struct_stops : (form : Form) (r : Reading) (m m' : Meter) (s : Sections) (k : ErrorKind) → LeadsToStruct r m s → RefusedAll form s.first s.pointers s.limiter m' k → Refused form r m m' k
 struct_stops form r m m' s k (no_struct null ws none same) refused = absurd (omega (arith, refused.fewer, none))
 struct_stops form r m m' s k (a_struct a o z ws first q) refused =
     stops_struct o z (subst (λ i. RefusedAll form (child_at r a (pred r.levels) (a.start + data_words a.word)) i s.limiter m' k) q (subst (λ x. RefusedAll form x s.pointers s.limiter m' k) first refused))
 
--- or there is no room
+-- the copy of a struct is refused for room, or because its value can't be read
 pub struct_refused : (b : Bool) (id at : ℕ) (old new : View) (r : Reading) (m m' : Meter) (s : Sections) (k : ErrorKind) → LeadsToStruct r m s → RefusesToCopy (sections_original s.words s.first s.pointers) (change (form_of b) (call_at id at old new) s.limiter m') k →
     (is_allocation_name k ≡ true) ⊎ Refused (form_of b) r m m' k
 struct_refused b id at old new r m m' s k leads (inl (lacks, exceeds)) =
@@ -160,7 +162,7 @@ struct_suited r m (Structs d q es) c copied means covers e = absurd (cc)
 pub struct_given : (c : Copying) (r : Reading) (m : Meter) (used room : ℕ) → c.wanted ≡ AStruct → CanBeCopiedAs c r m used room → CanBeGiven struct_expected r m
 struct_given c r m used room is can = struct_suited r m can.value can.cost can.copied can.means can.covers (subst (λ w. as_wanted w can.value ≡ Some can.copied) is can.is_wanted)
 
--- and then its pointers can be read, too
+-- then its pointers can be read, too
 record SectionsMatch (form : Form) (s : Sections) (copied : Tree) : Type 0 where
   children : Trees
   counts : count children ≡ s.pointers
@@ -201,7 +203,7 @@ struct_matches form r m s (Flat size ns) c copied leads means takes covers e = a
 struct_matches form r m s (Pointers ts) c copied leads means takes covers e = absurd (cc)
 struct_matches form r m s (Structs d q es) c copied leads means takes covers e = absurd (cc)
 
--- the copy of a struct isn't refused where it can be made
+-- the copy of a struct isn't refused if it can be made
 pub struct_fits : (c : Copying) (r : Reading) (m m' : Meter) (s : Sections) (id at : ℕ) (old new : View) (k : ErrorKind) → c.wanted ≡ AStruct → LeadsToStruct r m s → CanBeCopiedAs c r m (length (segment old.words id)) (old.room id) →
     RefusesToCopy (sections_original s.words s.first s.pointers) (change (form_of c.canonicalize) (call_at id at old new) s.limiter m') k → ⊥
 struct_fits c r m m' s id at old new k is leads can refuses =

@@ -1,4 +1,5 @@
--- Content of another message's struct that is copied over a struct, which a pointer leads to or which is an element of a list.
+-- Content of another message's struct, copied over a struct that a pointer leads to or that is an
+-- element of a list.
 use Rattle.std.proofs.Common.{◌≡◌, ◌⊎◌, inl, inr, ℕ, zero, suc, pred, min, ◌+◌, ◌*◌, ◌/◌, ◌<◌, List, [], ◌∷◌, length, Option, Some, None, IsSomeAnd, Result, Ok, Err, IsOk, IfOk, IfErr, OnErr, true, refl, sym, ap, ap₂, ◌∙◌, subst, arith, map}
 use Rattle.std.specs.Prelude.{MatchOption, ⊤}
 use Rattle.capnp_words.specs.Meter.{Meter}
@@ -72,11 +73,12 @@ use Rattle.capnp_edits.proofs.Walks.{update-append}
 use Rattle.capnp_edits.proofs.Ways.{as_it_stands, is_filled, is_half_filled, is_not_filled, leads_to, struct_changed, takes}
 use Rattle.capnp_objects.proofs.Followed.{entered_leads}
 
--- Content isn't copied over a struct, or not all of it; and the words that are taken for it.
+-- Why content isn't copied over a struct, or not all of it; and the words that it takes.
 abbrev pub IsContentRefused : View → View → StructPlace → Source → ErrorKind → Type 0
 IsContentRefused old new place source k = (HasNothingToCopy source AStruct k × (new ≡ old)) ⊎ StopsFilling old new place source k
 
--- The pointers can be read that a source's struct and one of q pointers in segment id both have, and the words of what they mean fit behind those of that segment.
+-- The pointers that the source's struct and a struct of q pointers in segment id both have can be
+-- read, and the words of what they mean fit after those of that segment.
 abbrev pub ContentFitsBehind : View → ℕ → Source → ℕ → Type 0
 ContentFitsBehind v id source q = (all : ContentRead source) × (count all.children ≡ min q all.from.pointers) × HasOwnRoom v id (word_count_all all.children)
 
@@ -86,7 +88,7 @@ TakesForContentFrom old new place source r =
     ((s : Sections) × (m : Meter) × LeadsToStruct (root_of source) (once_at_root source) s × TakesAtMost (result_of r) (children_original s.first (min place.pointers s.pointers)) (pointers_copied place old new s.limiter m) ×
     MatchOption r (0 < place.bits + place.pointers → FillsThere old new place s m) (λ k. ⊤))
 
--- as the sections of a source's struct
+-- the reader v has the sections of the source's struct
 record SourceStruct {A : Type 0} (g : Ghosts A) (source : Source) (v : StructReader A g) (n : Meter) : Type 0 where
   leads : LeadsToStruct (root_of source) (once_at_root source) (record { words = words_of v.content.now; first = pointers_read g v; pointers = v.pointer_count; limiter = n })
   bits : v.bits ≡ 64 * length (words_of v.content.now)
@@ -185,12 +187,12 @@ fill_taken result g source from v m n m' old new place opened long read taken co
         λ some. record { bytes = v.content.now; are_words = refl; taken = mid; limits = taking.limits; takes = rw (← s.bits) taking.cleared; copies = copies }
     filled_there (Err k) none = tt
 
--- at the struct itself
+-- why it is refused at the struct itself
 pub refused_there_too : {A : Type 0} (result : Result A ErrorKind) (old new : View) (e : ExistingStruct) (source : Source) → IfErr result (IsContentRefused old new (struct_place e) source) → IfErr result (λ k. IsRefusedAt old new (InStruct (Content source)) k (AtElement e))
 refused_there_too (Ok x) old new e source why = tt
 refused_there_too (Err k) old new e source why = (e, refl, why)
 
--- never for a missing place
+-- a refusal with NoSuchPlace changes nothing
 pub fill_nowhere : {A : Type 0} (result : Result A ErrorKind) (old new : View) (e : ExistingStruct) (source : Source) → IfErr result (λ k. IsRefusedAt old new (InStruct (Content source)) k (AtElement e)) → refusal_of result ≡ Some NoSuchPlace → new ≡ old
 fill_nowhere (Ok x) old new e source why n = absurd (cc)
 fill_nowhere (Err k) old new e source (x, is, inl h) n = h.1
@@ -207,7 +209,7 @@ sections_aligned e some =
     let eight : min 8 (64 * e.size.data_words / 8) ≡ 8 = omega (arith, some) in
     (rw eight refl, rw eight (omega arith))
 
--- a struct of no words takes nothing
+-- copying content over a struct without words changes nothing
 pub fill_nothing : {A : Type 0} (g : Ghosts A) (source : Source) (from : PointerReader A g) (v : StructReader A g) (m n : Meter) (S : Segments) (e : ExistingStruct) → IsRootReader g source from m → length v.content.now ≡ bytes_for v.bits →
     WhereRead g (record { from = from; expected = struct_expected; default = None }) (λ p. IsStructRead g p m n v) → e.size.data_words + e.size.pointers ≡ 0 → FillsAt S S (struct_place e) source None
 fill_nothing g source from v m n S e opened long read empty =
@@ -304,7 +306,7 @@ changed_at : (S R : Segments) (place : PointerPlace) (change : StructChange) (r 
 changed_at S R place (Bits n) r e t is_e h stored = written_at S R place n r e t is_e h stored
 changed_at S R place (Content source) r e t is_e h stored = filled_value S R place source r e t is_e h stored
 
--- what a change of it is refused for, and takes, and the room for it
+-- what a change of that struct is refused for, what it takes, and the room for it
 refused_at : (old new : View) (place : PointerPlace) (change : StructChange) (k : ErrorKind) (e : ExistingStruct) → IsStructAt old.words (AtPointer place) e → IsRefusedAt old new (InStruct change) k (AtElement e) → IsRefusedAt old new (InStruct change) k (AtPointer place)
 refused_at old new place (Bits n) k e there h = h
 refused_at old new place (Content source) k e there (x, is, h) = (e, there, subst (λ y. IsContentRefused old new (struct_place y) source k) is h)
@@ -327,7 +329,7 @@ change_done old new place change r e there changed = record {
   taken = λ some. takes_at old new place change r e there (changed.taken some);
 }
 
--- and where none is
+-- a change of a struct that isn't there
 pub nothing_changed : (v : View) (place : PointerPlace) (change : StructChange) → ((t : Tree) → IsStored v.words place.segment place.word t → None ≡ struct_in (target v.words place.segment place.word) t) → IsDoneAt v v (AtPointer place) (InStruct change) (Some NoSuchPlace)
 nothing_changed v place change none = record {
   done = λ t stored. denied_at NoSuchPlace (is_none (target v.words place.segment place.word) change t (none t stored)) refl refl;
@@ -399,7 +401,7 @@ pub element_applied : (S R : Segments) (e : Edit) (s : ExistingStruct) (change :
 element_applied S R e s (Bits n) r is leads h = applied_bits S R e s n r is leads h
 element_applied S R e s (Content source) r is leads h = filled_element S R e s source r is leads h
 
--- a place leads to one struct
+-- a place leads to at most one struct
 same_struct : {r : Reading} {m : Meter} {s z : Sections} → LeadsToStruct r m s → LeadsToStruct r m z → 0 < s.pointers → (s.first ≡ z.first) × (s.limiter ≡ z.limiter) × (s.pointers ≡ z.pointers)
 same_struct (no_struct null ws none same) other some = absurd (omega (arith, none, some))
 same_struct (a_struct a o k ws start n) (no_struct null us none same) some = absurd (o.follows.0 null)
@@ -410,7 +412,7 @@ same_struct {r} {m} (a_struct a o k ws start n) (a_struct b i l us at c) some =
       n ∙ ap (λ (x : Target). pointer_count x.word) e ∙ sym c,
     )
 
--- and it can be given
+-- a struct that a place leads to can be returned
 there_given : {r : Reading} {m : Meter} {s : Sections} → LeadsToStruct r m s → CanBeGiven struct_expected r m
 there_given (no_struct null ws none same) = null_pointer null
 there_given {r} {m} (a_struct a o z ws start n) = struct_suits r m a (entered_leads o) z o.meets.levels o.meets.claims o.covers
@@ -427,7 +429,7 @@ filled_or_refused source q k whole counts (inr (part, fewer, (m, refused))) =
     subst (λ y. ReadsAll plain part.from.first y whole.after whole.children) (sym limiter) (subst (λ f. ReadsAll plain f whole.from.limiter whole.after whole.children) (sym place) x) in
     (read_stop (min q part.from.pointers) part.are_read fewer (unreadable refused)).only whole.children moved.cost (counts ∙ ap (min q) (sym pointers)) moved.means moved.takes moved.covers
 
--- content that can be read, and has room, is not refused
+-- content that can be read, and has room, isn't refused
 pub fill_unread : (v : View) (id : ℕ) (source : Source) (q : ℕ) (k : ErrorKind) → HasNothingToCopy source AStruct k → ContentFitsBehind v id source q → ⊥
 fill_unread v id source q k unread (all, counts, room) = filled_or_refused source q k all counts (inl unread)
 

@@ -1,4 +1,4 @@
--- Edits whose words fit the first segment.
+-- Edits whose words fit in the first segment.
 use Rattle.std.proofs.Common.{◌≡◌, ◌⊎◌, inl, inr, ℕ, ◌+◌, ◌<◌, ◌≤◌, true, [], ◌∷◌, length, Option, Some, None, IfSome, IsSomeAnd, refl, sym, ap, ◌∙◌, subst, arith, map, All, List}
 use Rattle.std.proofs.lemmas.Bool.{cases_eq}
 use Rattle.std.specs.List.{sum_by}
@@ -33,7 +33,8 @@ use Rattle.capnp_edits.specs.Steps.{AreSteps, FitsAt, IsRefusedAt, IsStep, Takes
 use Rattle.capnp_edits.specs.Tasks.{task_of}
 use Rattle.capnp_edits.proofs.Applied.{of_memory}
 
--- What edits leave in the first segment that ask for n words together: no more are taken, all stand there, it has as much room as before, and the allocator has refused nothing.
+-- What edits leave in the first segment if they request n words in all: no more are allocated, all
+-- words are there, it has as much room as before, and the allocator has refused nothing.
 record StaysInFirst (old new : View) (n : ℕ) : Type 0 where
   words : length (segment new.words 0) ≤ length (segment old.words 0) + n
   first : AreInFirst new.words
@@ -47,7 +48,7 @@ held_first S u q x first stored = elim (cases_eq u 0) [
   | inr other ↦ absurd (omega (arith, first u other, stored.inside u q (omega (arith, times-first (word_interval u q) (cover S u q x) u q, once_held u q))))
 ]
 
--- a name of memory is none of a path
+-- an error of memory isn't an error of a path
 not_of_path : (k : ErrorKind) → is_allocation_name k ≡ true → is_of_path k ≡ true → ⊥
 not_of_path AllocationFailed h e = absurd (cc)
 not_of_path (MessageTooLarge n) h e = absurd (cc)
@@ -57,7 +58,7 @@ not_of_path k h e = absurd (cc)
 same_first : (old new : View) (n : ℕ) → AreInFirst old.words → new ≡ old → StaysInFirst old new n
 same_first old new n first same = subst (λ (v : View). StaysInFirst old v n) (sym same) (record { words = omega arith; first = first; room = refl; refusals = refl })
 
--- no words are taken
+-- no words are allocated
 kept_first : (old new : View) (n : ℕ) → AreInFirst old.words → OnlyWrites old new → StaysInFirst old new n
 kept_first old new n first x = record {
   words = omega (arith, x.words 0);
@@ -66,7 +67,7 @@ kept_first old new n first x = record {
   refusals = ap (λ (v : View). v.refusals) x.limits;
 }
 
--- or those of an object
+-- the words of an object are allocated
 made_first : (old new : View) (place : PointerPlace) (n : ℕ) → 0 < length old.words → AreInFirst old.words → place.segment ≡ 0 → length (segment old.words 0) + n ≤ old.room 0 → TakesWords old new place.segment n → KeepsMemory old new → StaysInFirst old new n
 made_first old new place n there first here fits takes keeps =
     let near = takes.near (subst (λ s. length (segment old.words s) + n ≤ old.room s) (sym here) fits) in
@@ -84,7 +85,7 @@ record Fact (old new : View) (there : PathEnd) (task : Task) (r : Option ErrorKi
   named : (k : ErrorKind) → r ≡ Some k → ((is_of_path k ≡ true) × (new ≡ old)) ⊎ IsRefusedAt old new task k there
   taken : (r ≡ Some NoSuchPlace → ⊥) → TakesAt old new task r there
 
--- an edit is refused for its path, and nothing is changed; or it is done
+-- an edit is refused for its path, and changes nothing; or it is done
 by_outcome : (old new : View) (n : ℕ) (r : Option ErrorKind) → AreInFirst old.words → IsNoneOfMemory r → ((k : ErrorKind) → r ≡ Some k → new ≡ old) → (r ≡ None → StaysInFirst old new n) → IsNoneOfMemory r × StaysInFirst old new n
 by_outcome old new n None first none kept done = (none, done refl)
 by_outcome old new n (Some k) first none kept done = (none, same_first old new n first (kept k refl))
@@ -96,7 +97,7 @@ unrefused : (old new : View) (k : ErrorKind) → ((is_of_path k ≡ true) × (ne
 unrefused old new k (inl h) = h.1
 unrefused old new k (inr none) = absurd none
 
--- a task that takes no words leaves all in the first segment
+-- a task that takes no words leaves all words in the first segment
 without_words : (old new : View) (n : ℕ) (r : Option ErrorKind) → AreInFirst old.words → IsNoneOfMemory r → ((k : ErrorKind) → r ≡ Some k → new ≡ old) → ((r ≡ Some NoSuchPlace → ⊥) → OnlyWrites old new) → IsNoneOfMemory r × StaysInFirst old new n
 without_words old new n r first none kept taken = by_outcome old new n r first none kept (λ e. kept_first old new n first (taken (not_missing r e)))
 
@@ -164,7 +165,7 @@ one_fits old new edit r t forest first asks fits s = by_task s.path_end (task_of
         place_first place f =
             held_first old.words place.segment place.word f.0 first (stored_within old.words 0 0 t (map step_of edit.path.now) place.segment place.word f.0 f.1 (forest_stored old.words t forest))
 
--- and edits
+-- several edits
 abbrev all_asked : List Edit → ℕ
 all_asked edits = sum_by (λ e. words_asked (task_of e.op)) edits
 

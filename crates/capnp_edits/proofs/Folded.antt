@@ -1,4 +1,4 @@
--- Edits one behind the other.
+-- Edits one after another.
 use Rattle.std.proofs.Common.{◌≡◌, ℕ, ◌+◌, ◌<◌, List, [], ◌∷◌, ◌++◌, length, take, get_or, set, Option, refl, sym, subst}
 use Rattle.std.proofs.lemmas.List.{take_more, take_more_set}
 use Rattle.capnp_words.specs.declared.error.ErrorKind.{ErrorKind}

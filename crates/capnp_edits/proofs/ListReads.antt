@@ -1,4 +1,4 @@
--- What is read of a list that is copied, by the value that it has.
+-- What is read of a list that is copied, by its value.
 use Rattle.std.proofs.Common.{◌≡◌, inl, inr, ◌⊎◌, ◌≤◌, refl, sym, ap, ◌∙◌, subst, arith}
 use Rattle.capnp_words.specs.declared.error.ErrorKind.{ErrorKind}
 use Rattle.capnp_words.specs.declared.wire_pointer.ElementSize.{ElementSize}
@@ -16,7 +16,8 @@ use Rattle.capnp_copies.specs.Originals.{numbers_original, list_original}
 use Rattle.capnp_edits.specs.Sources.{ListElements}
 use Rattle.capnp_objects.proofs.Shorthands.{RefusedAll, RefusedElements}
 
--- The value of the list is t, and reading what its elements lead to takes the meter from m to m'; numbers take nothing.
+-- The list has this value, and reading what its elements lead to takes the limiter from m to m';
+-- reading numbers takes nothing.
 abbrev pub ReadsList : Form → ListElements → Meter → Meter → Tree → Type 0
 ReadsList form list m m' (Flat size ns) =
     (size_number list.size ≤ 5) × (size ≡ size_number list.size) × (ns ≡ unpacked size list.count (words_from list.first (words_for size list.count))) × (m' ≡ m)
@@ -26,7 +27,7 @@ ReadsList form list m m' (Structs d q es) =
     × ReadsElements form list.first list.sections m m' es
 ReadsList form list m m' t = ⊥
 
--- Reading what its elements lead to is refused by the name k.
+-- Reading what its elements lead to is refused with k.
 abbrev pub RefusedList : Form → ListElements → Meter → Meter → ErrorKind → Type 0
 RefusedList form list m m' k =
     ((list.size ≡ Pointer) × RefusedAll form list.first list.count m m' k)

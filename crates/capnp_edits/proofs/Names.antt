@@ -1,4 +1,5 @@
--- The names by which a search, or the copy of its default, is refused: none of them is that of a missing place.
+-- The errors with which a search, or the copy of its default, is refused: none of them is
+-- NoSuchPlace.
 use Rattle.std.proofs.Common.{◌-◌, ◌≡◌, inl, inr, ℕ, zero, suc, ◌^◌, Bool, true, false, cond, ◌&&◌, nat_eq, nat_le, nat_lt, length, Option, Some, None, Result, Ok, Err, refl, sym, ap, ◌∙◌}
 use Rattle.capnp_words.specs.declared.error.ErrorKind.{ErrorKind}
 use Rattle.capnp_words.specs.declared.error.ErrorKind.TheVariants.{ExistingListPointerIsNotByteSized, ExistingListValueIsIncompatibleWithExpectedType, InvalidSegmentId, MessageContainsOutOfBoundsPointer, MessageTooLarge, NoSuchPlace, TextBlobMissingNULTerminator}
@@ -18,13 +19,13 @@ use Rattle.capnp_objects.proofs.Followed.{or_named, far_named, follow, is_named,
 use Rattle.capnp_widening.specs.Opening.{struct_opened}
 use Rattle.capnp_widening.specs.Widened.{limited, list_widened}
 
--- Whether a refusal is that of a missing place.
+-- Whether a result is the refusal NoSuchPlace.
 abbrev pub is_nowhere : {A : Type 0} → Result A ErrorKind → Bool
 is_nowhere (Ok x) = false
 is_nowhere (Err NoSuchPlace) = true
 is_nowhere (Err k) = false
 
--- a refusal that isn't has another name
+-- a refusal that isn't has another error
 pub elsewhere : {A : Type 0} (q : Result A ErrorKind) (k : ErrorKind) → is_nowhere q ≡ false → q ≡ Err k → k ≡ NoSuchPlace → ⊥
 elsewhere {A} q k e is place = absurd (let f : true ≡ false = sym (ap is_nowhere is ∙ ap (λ x. is_nowhere {A = A} (Err x)) place) ∙ e in cc)
 
@@ -52,7 +53,7 @@ structs_elsewhere d q (Flat (suc (suc n)) ns) = few_elsewhere _ _
 structs_elsewhere d q (Pointers ts) = few_elsewhere _ _
 structs_elsewhere d q (Structs e k es) = either (nat_le d e && nat_le q k) (Ok (Structs e k es)) _ refl (few_elsewhere _ _)
 
--- a list, data and a text aren't found by one of these names
+-- whether a result is a success, or an error with which a list, data or a text isn't found
 abbrev pub is_unfound_at : {A : Type 0} → Result A ErrorKind → Bool
 is_unfound_at (Ok x) = true
 is_unfound_at (Err k) = is_unfound k
@@ -113,7 +114,7 @@ text_unfound a (Flat s ns) = unfound_either (nat_eq s 2) (cond (ends_in_zero ns)
 text_unfound a (Pointers ts) = refl
 text_unfound a (Structs d q es) = refl
 
--- none of which is that of a missing place
+-- none of these errors is NoSuchPlace
 from_unfound : {A : Type 0} (q : Result A ErrorKind) → is_unfound_at q ≡ true → is_nowhere q ≡ false
 from_unfound (Ok x) e = refl
 from_unfound (Err NoSuchPlace) e = absurd (cc)
@@ -160,7 +161,7 @@ default_far_elsewhere false (Ok x) e = refl
 default_far_elsewhere true (Err k) e = refl
 default_far_elsewhere false (Err k) e = e
 
--- no fault of a default has that name
+-- no fault of a default has that error
 pub fault_elsewhere : (form : Form) {r : Reading} → HasFault form r NoSuchPlace → ⊥
 fault_elsewhere form {r} (here (some, inl f)) =
     elsewhere _ NoSuchPlace (default_far_elsewhere (is_named r) (follow r.segments r.segment r.at) (follow_elsewhere r.segments r.segment r.at)) (sym (followed_at r) ∙ f) refl

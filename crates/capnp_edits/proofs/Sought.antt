@@ -72,24 +72,25 @@ few_words (Some d) e = few (length d.now / 8) e
     few : (n : ℕ) → nat_lt n (2 ^ 32) ≡ true → n < 2 ^ 32
     few n e = grind (arith, nat_tests)
 
--- where a call is made
+-- the place where a call is made
 abbrev pub place_in : CallAt → PointerPlace
 place_in c = record { segment = c.segment; word = c.at }
 
 same_words : {a b : View} → a ≡ b → a.words ≡ b.words
 same_words e = ap (λ (v : View). v.words) e
 
--- what a call leaves that makes this of a value that stands
+-- From S to R a call with outcome r does what this makes of the value t: what it leaves replaces t,
+-- if anything is changed.
 record DoesAs (S R : Segments) (place : PointerPlace) (making : Making) (t : Tree) (r : Option ErrorKind) : Type 0 where
   left : Option Tree
   yields : Way making r left
   stands : MatchOption left (R ≡ S) (IsReplaced S R place.segment place.word t)
 
--- by what a call does with a value
+-- the same for each call and value that satisfy P
 abbrev DoesSo : {B : Type 0} → (CallAt → Tree → Type 0) → (Tree → Making) → Result B ErrorKind → Type 0
 DoesSo P made_of result = (c : CallAt) (t : Tree) → IsStored c.old.words c.segment c.at t → P c t → DoesAs c.old.words c.new.words (place_in c) (made_of t) t (refusal_of result)
 
--- what is opened stands in the stead of what stood, or that stays
+-- what is opened replaces the value that was there, or that stays
 opened_so : {B : Type 0} (result : Result B ErrorKind) (size : StructSize) (Given : Segments → ℕ → ℕ → Tree → B → Type 0) (c : CallAt) (t : Tree) (q : Result Tree ErrorKind) → Opens size Given c t q result →
     DoesAs c.old.words c.new.words (place_in c) (made_of_found (allocates t) q) t (refusal_of result)
 opened_so (Ok b) size Given c t (Ok u) h = record { left = Some u; yields = is_allocated t u refl refl refl; stands = h.replaced }
@@ -100,7 +101,7 @@ opened_so result size Given c t (Err k) h = record { left = None; yields = is_de
 struct_so : (result : Result StructPlace ErrorKind) (size : StructSize) → DoesSo (OpensStruct IsStructGiven size result) (looked_for (ForStruct size)) result
 struct_so result size c t stored h = opened_so result size IsStructGiven c t (struct_opened size t) h
 
--- what is looked for stays
+-- a value that is only looked for stays
 kept_so : {A B : Type 0} (q : Result (Option A) ErrorKind) (result : Result B ErrorKind) (c : CallAt) (t : Tree) → IsStored c.old.words c.segment c.at t → refusal_of result ≡ refusal_of q → c.new ≡ c.old →
     DoesAs c.old.words c.new.words (place_in c) (made_of_found (λ x. becomes t) q) t (refusal_of result)
 kept_so (Ok x) result c t stored e same =
@@ -149,11 +150,11 @@ data_so result c t stored h = kept_so (data_in nowhere t) result c t stored (dat
 text_so : (result : Result ExistingBytes ErrorKind) → DoesSo (GivesFoundBytes text_in result) (looked_for ForText) result
 text_so result c t stored h = kept_so (text_in nowhere t) result c t stored (text_named result c t h) h.1
 
--- what stands is done with as it is
+-- what is done with the value that is there
 as_stands : (S R : Segments) (place : PointerPlace) (m : Making) (t : Tree) (r : Option ErrorKind) → DoesAs S R place m t r → DoesAt S R place m t r
 as_stands S R place m t r d = record { left = d.left; leaves = as_it_stands d.yields; stands = d.stands }
 
--- or a default's value that is put in place of null first
+-- what is done with a default's value, which first replaces null
 replaced_if : (S M R : Segments) (place : PointerPlace) (d : Tree) (left : Option Tree) → IsReplaced S M place.segment place.word Null d → MatchOption left (R ≡ M) (IsReplaced M R place.segment place.word d) → IsReplaced S R place.segment place.word Null (unwrap_or left d)
 replaced_if S M R place d (Some u) put next = replaced_again S M R place.segment place.word Null d u put next
 replaced_if S M R place d None put same = subst (λ Q. IsReplaced S Q place.segment place.word Null d) (sym same) put
@@ -179,7 +180,7 @@ null_does (Err k) (is_copied_from bytes) made_of P c stored does (inr drops) =
     record { left = Some Null; leaves = default_dropped bytes made_of k (dropped_name bytes c.segment c.at c.old c.new k drops.named); stands = drops.replaced }
 null_does (Ok x) (is_copied_from bytes) made_of P c stored does (inr drops) = absurd drops
 
--- a default is used for null alone
+-- a default is used only for null
 null_or_ignored : (of_null : DefaultUse) (default : Option (Bor (List ℕ))) (t : Tree) → (t ≡ Null) ⊎ (default_use of_null default t ≡ ignored)
 null_or_ignored of_null None t = inr refl
 null_or_ignored of_null (Some d) Null = inl refl
@@ -196,7 +197,8 @@ with_does result of_null default made_of P c t stored does h = elim (null_or_ign
       (as_stands c.old.words c.new.words (place_in c) (made_of t) t (refusal_of result) (does c t stored (subst (λ u. WithDefault u c t P result) plain h)))
 ]
 
--- Why a value isn't opened or found: by its name, which is no missing place, and all is as it was; or memory is refused.
+-- Why a value isn't opened or found: it is refused with its error, which isn't NoSuchPlace, and
+-- nothing is changed; or memory is refused.
 abbrev IsGrowthRefused : Sought → CallAt → ErrorKind → Type 0
 IsGrowthRefused (ForStruct size) c k = RefusesToBecome (IsStored c.old.words c.segment c.at) (struct_opened size) c.old c.new k
 IsGrowthRefused (ForStructs size) c k = RefusesToBecome (IsStored c.old.words c.segment c.at) (list_widened size.data_words size.pointers) c.old c.new k
@@ -214,7 +216,7 @@ same_err j k e = cc
 same_ok : (t u : Tree) → ◌≡◌ {A = Result Tree ErrorKind} (Ok t) (Ok u) → t ≡ u
 same_ok t u e = cc
 
--- memory for what becomes of the one value that stands
+-- memory is refused for what the value t at the place becomes
 not_become : (becomes_of : Tree → Result Tree ErrorKind) (c : CallAt) (t u : Tree) (k : ErrorKind) → IsStored c.old.words c.segment c.at t → becomes_of t ≡ Ok u → SpendsMemory c.old c.new k →
     RefusesGrowth c.old c.new (widened_words u) (direct_pointers t) k → RefusesToBecome (IsStored c.old.words c.segment c.at) becomes_of c.old c.new k
 not_become becomes_of c t u k stored e memory full = record {
@@ -258,7 +260,8 @@ data_why k c t stored h = inl (elsewhere (data_in (target c.old.words c.segment 
 text_why : (k : ErrorKind) → WhySo ForText (GivesFoundBytes text_in (Err k)) k
 text_why k c t stored h = inl (elsewhere (text_in (target c.old.words c.segment c.at) t) k (text_elsewhere (target c.old.words c.segment c.at) t) (bytes_err c.segment (text_in (target c.old.words c.segment c.at) t) k h.0), h.1)
 
--- Why a search is refused: as what stands is; or as the value of its default is, which is put first; or as the copy of that is.
+-- Why a search is refused: for the value that is there; for the value of its default, which is
+-- copied first; or because the copy of the default is refused.
 data Why (sought : Sought) (c : CallAt) (default : Option (Bor (List ℕ))) (k : ErrorKind) : Type 0 where
   as_found : IsOpeningRefused sought c k → Why sought c default k
   as_default : (d : Bor (List ℕ)) (mid : View) → default ≡ Some d → KeepsMemory c.old mid → IsWhy sought (record c { old = mid }) k → Why sought c default k
@@ -275,7 +278,7 @@ plainly (ForStruct size) c k (inr h) = inr h
 plainly (ForStructs size) c k (inr h) = inr h
 plainly sought c k (inr h) = absurd h
 
--- a default that is copied is one of these bytes
+-- if a default is copied, it has these bytes
 abbrev IsOf : List ℕ → DefaultUse → Type 0
 IsOf bytes ignored = Unit {0}
 IsOf bytes (is_denied_by k) = Unit {0}
@@ -301,7 +304,7 @@ why_null : (B : Type 0) (k : ErrorKind) (of_null : DefaultUse) (default : Option
 why_null B k of_null None sought P c stored plain why h = as_found (plainly sought c k (why c Null stored h))
 why_null B k of_null (Some d) sought P c stored plain why h = why_used B k (use_of_words of_null d.now (words_of d.now)) d sought P c stored (use_is of_null d.now (words_of d.now) (plain d.now)) why h
 
--- a place that is null stores null; of any other one the call says why
+-- a place that is null stores null; for any other place the call says why it is refused
 why_refused : (B : Type 0) (k : ErrorKind) (of_null : DefaultUse) (default : Option (Bor (List ℕ))) (sought : Sought) (P : CallAt → Tree → Type 0) (c : CallAt) → IsPlace c.old.words c.segment c.at → ((bytes : List ℕ) → IsOf bytes of_null) → WhySo sought P k →
     ((t : Tree) → IsStored c.old.words c.segment c.at t → WithDefault {B = B} (default_use of_null default t) c t P (Err k)) → ((word_at c.old.words c.segment c.at ≡ 0 → ⊥) → IsOpeningRefused sought c k) → Why sought c default k
 why_refused B k of_null default sought P c there plain why found set = elim (cases_lt 0 (word_at c.old.words c.segment c.at)) [
@@ -326,7 +329,7 @@ refused_so sought c (Some e) k (as_copy d is spent named) =
     same_default : (d e : Bor (List ℕ)) → Some d ≡ Some e → d ≡ e
     same_default d e h = cc
 
--- for no missing place, unless all is as it was
+-- a search is refused with NoSuchPlace only if nothing is changed
 grown_nowhere : (sought : Sought) (c : CallAt) (k : ErrorKind) → IsGrowthRefused sought c k → k ≡ NoSuchPlace → ⊥
 grown_nowhere (ForStruct size) c k h e = (let same = sym h.name ∙ ap is_allocation_name e in cc)
 grown_nowhere (ForStructs size) c k h e = (let same = sym h.name ∙ ap is_allocation_name e in cc)
@@ -345,7 +348,7 @@ never_nowhere sought c default k (as_copy d is spent named) e = absurd (elim (dr
   | inr fault ↦ fault_elsewhere of_default (subst (HasFault of_default (default_root d.now)) e fault)
 ])
 
--- A search finds what is sought, by its outcome.
+-- A search finds what is sought, by its outcome r.
 abbrev FindsThere : Sought → Option (Bor (List ℕ)) → Option ErrorKind → CallAt → Tree → Type 0
 FindsThere sought default r c t = WithDefault (default_for sought default t) c t (FindsSought sought r) (result_of r)
 
@@ -384,7 +387,7 @@ text_found result c t h =
     let (o, yields) = yields_so (text_in nowhere t) (refusal_of result) t (text_named result c t h) in
     (o, yields, h.1)
 
--- Room for what is opened is what the call asks for: of null that for a new struct.
+-- The room for what is opened is what the call requires: for null, the room for a new struct.
 fits_with : (used : DefaultUse) (v : View) (s p : ℕ) (P Q : View → Type 0) → ((m : View) → P m → Q m) → FitsWithDefault used v s p P → FitsWithDefault used v s p Q
 fits_with ignored v s p P Q so h = so v h
 fits_with (is_denied_by k) v s p P Q so h = h
@@ -410,13 +413,13 @@ struct_room : (size : StructSize) (default : Option (Bor (List ℕ))) (v : View)
 struct_room size default v place (t, stored, fits) =
     (t, stored, fits_with (object_default default t) v place.segment place.word _ (λ m. OpeningFits m place.segment place.word size) (λ m h. opened_fits m place.segment place.word size h.0 h.1 h.2 h.3 h.4) fits)
 
--- a struct of no words that is opened in place of null
+-- a struct without words replaces null
 opens_there : {B : Type 0} (result : Result B ErrorKind) (c : CallAt) (size : StructSize) (default : Option (Bor (List ℕ))) →
     (word_at c.old.words c.segment c.at ≡ 0 → IsIgnoredDefault default → size.data_words + size.pointers ≡ 0 → OnOk result (word_at c.new.words c.segment c.at ≡ struct_word (2 ^ 30 - 1) 0 0)) → OpensThere c (ForStruct size) default (refusal_of result)
 opens_there (Ok x) c size default empty = λ null none nothing e. empty null none nothing
 opens_there (Err k) c size default empty = λ null none nothing e. absurd (cc)
 
--- what a call leaves that is refused, or isn't
+-- what a call leaves, refused or not
 search_done : {B : Type 0} (result : Result B ErrorKind) (sought : Sought) (default : Option (Bor (List ℕ))) (c : CallAt) → Does c.old.words c.new.words (place_in c) (Search sought default) (refusal_of result) → OnOk result (KeepsMemory c.old c.new) →
     IfErr result (SpendsMemory c.old c.new) → IfErr result (Why sought c default) → (FitsAt c.old (Search sought default) (AtPointer (place_in c)) → IfErr result (λ k. is_of_path k ≡ true)) →
     ((t : Tree) → IsStored c.old.words c.segment c.at t → FindsThere sought default (refusal_of result) c t) → OpensThere c sought default (refusal_of result) → IsDoneAt c.old c.new (AtPointer (place_in c)) (Search sought default) (refusal_of result)
@@ -437,7 +440,7 @@ search_done (Err k) sought default c does granted memory why fits finds opens = 
   taken = λ some. (opens, finds);
 }
 
--- Where a default's value has no fault and fits, only what is found is refused.
+-- If a default's value has no fault and fits, the search is refused only for what is found.
 abbrev NamedSo : (CallAt → Tree → Type 0) → ErrorKind → Type 0
 NamedSo P k = (c : CallAt) (t : Tree) → P c t → is_unfound k ≡ true
 
@@ -457,7 +460,7 @@ unfound_place NoSuchPlace e = refl
 unfound_place UnknownPointerType e = refl
 unfound_place k e = e
 
--- the copy of a default isn't refused where it can be made
+-- the copy of a default isn't refused if it can be made
 never_dropped : (bytes : List ℕ) (id at : ℕ) (old new : View) (k : ErrorKind) → CanBeCopied (value_original (default_root bytes)) of_default (unused None) old id → RefusesDefault bytes (call_at id at old new) k → ⊥
 never_dropped bytes id at old new k can (inl fault) = no_fault of_default k fault (capabilities can.value) can.is_read.takes (can.value, can.is_read.cost, can.is_read.means, omega arith)
 never_dropped bytes id at old new k can (inr (lacks, large)) = let more = large of_default (unused None) can.after can.value can.is_read in omega (arith, more, can.room)
@@ -492,14 +495,14 @@ found_fits {B} (Err k) of_null default P c there plain name found set room = eli
     at_null None fits h = unfound_place k (name k c Null h)
     at_null (Some d) fits h = used_fits B k of_null d.now (words_of d.now) (P (Err k)) c (plain d.now) (name k) fits.1 h
 
--- of any call
+-- why any call is refused
 why_if : {B : Type 0} (result : Result B ErrorKind) (of_null : DefaultUse) (default : Option (Bor (List ℕ))) (sought : Sought) (P : Result B ErrorKind → CallAt → Tree → Type 0) (c : CallAt) → IsPlace c.old.words c.segment c.at → ((bytes : List ℕ) → IsOf bytes of_null) →
     ((k : ErrorKind) → WhySo sought (P (Err k)) k) → ((t : Tree) → IsStored c.old.words c.segment c.at t → WithDefault (default_use of_null default t) c t (P result) result) →
     ((word_at c.old.words c.segment c.at ≡ 0 → ⊥) → IfErr result (IsOpeningRefused sought c)) → IfErr result (Why sought c default)
 why_if (Ok x) of_null default sought P c there plain why found set = tt
 why_if {B} (Err k) of_null default sought P c there plain why found set = why_refused B k of_null default sought (P (Err k)) c there plain (why k) found set
 
--- of a place that isn't null
+-- why a call is refused at a place that isn't null
 set_struct : {B : Type 0} (result : Result B ErrorKind) (c : CallAt) (size : StructSize) → IfErr result (IsNoWider size c) → IfErr result (IsOpeningRefused (ForStruct size) c)
 set_struct (Ok x) c size h = tt
 set_struct (Err k) c size (inl h) = inl h.1
@@ -569,7 +572,7 @@ text_sought result default c there found set granted memory =
     (λ room. found_fits result of_null default (GivesFoundBytes text_in) c there (λ b. refl) text_name found (λ some. (set some).1) room)
     (λ t stored. by_outcome result (blob_default default t) (GivesFoundBytes text_in result) (FindsSought ForText (refusal_of result)) c t (text_found result) (found t stored)) tt
 
--- the numbers of a list that is looked for
+-- the ranges of the numbers of a search for a list
 pub list_range : (size : ElementSize) (default : Option (Bor (List ℕ))) → is_in_range (Search (ForList size) default) ≡ true → (size_number size ≤ 6) × (is_small_default default ≡ true)
 list_range size default e = both (nat_le (size_number size) 6) (is_small_default default) refl e
   where

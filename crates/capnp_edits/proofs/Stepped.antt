@@ -1,4 +1,4 @@
--- Steps: one edit at its place, and edits one behind the other.
+-- Steps: one edit at its place, and edits one after another.
 use Rattle.std.proofs.Common.{◌≡◌, ◌⊎◌, inl, inr, ℕ, ◌+◌, ◌*◌, ◌<◌, ◌≤◌, true, ◌&&◌, cond, List, [], ◌∷◌, ◌++◌, length, take, get_or, set, Option, Some, None, IfSome, IsSomeAnd, refl, sym, ap, ap₂, ◌∙◌, subst, arith, lt-ltb, map}
 use Rattle.std.proofs.lemmas.List.{append-nil, take_more, take_more_set}
 use Rattle.capnp_words.specs.declared.error.ErrorKind.{ErrorKind}
@@ -67,7 +67,7 @@ nothing_done v edit place applied leads done = record {
   taken = λ other. absurd (other refl);
 }
 
--- what is stored at the root has a word
+-- the root of a stored value has a word
 root_held : (S : Segments) (t : Tree) → IsStored S 0 0 t → 1 ≤ length (segment S 0)
 root_held S t stored = omega (arith, stored.inside 0 0 (omega (arith, times-first (word_interval 0 0) (cover S 0 0 t) 0 0, once_held 0 0)))
 
@@ -101,7 +101,7 @@ same_end S s p (Structs d w es) (Element i ∷ Child j ∷ path) u q x v r y h k
     same_end S (target S s p).segment ((target S s p).start + 1 + i * (d + w) + d + j) (next (struct_at es i) (Child j)) path u q x v r y h.2 k.2
 same_end S s p t (step ∷ path) u q x v r y h k = absurd h
 
--- to a pointer
+-- a path that leads to a pointer
 leads_value : (S : Segments) (s p : ℕ) (t : Tree) (path : List Step) (u q : ℕ) (x : Tree) → PathLeads S (node s p t) path (node u q x) → found t path ≡ Some (PointerTo x)
 leads_value S s p t [] u q x h = ap (λ y. Some (PointerTo y)) (same_node h).2
 leads_value S s p (Struct ws ts) (Child i ∷ path) u q x h =

@@ -24,7 +24,7 @@ use Rattle.capnp_edits.specs.Paths.{step_of, found, IsElementFound, IsPathFound,
 use Rattle.capnp_edits.proofs.Walks.{leads_further, found-append}
 use Rattle.capnp_widening.proofs.Listed.{same_list}
 
--- a place of a value lies in the message
+-- the place of a value is inside the message
 pub place_inside : (S : Segments) (s p : ℕ) (t : Tree) (path : List Step) (u q : ℕ) (x : Tree) → PathLeads S (node s p t) path (node u q x) → IsStored S s p t → IsPlace S u q
 place_inside S s p t path u q x l stored =
     (stored_within S s p t path u q x l stored).inside u q (omega (arith, times-first (word_interval u q) (cover S u q x) u q, once_held u q))
@@ -41,7 +41,8 @@ second i n x y l = ap (λ b. cond b x y) (past i n l)
 pub same_some : {A : Type 0} (x y : A) → Some x ≡ Some y → x ≡ y
 same_some x y h = cc
 
--- where a child of a struct is that starts at b of segment u
+-- the struct with d data words and q pointers that starts at b in segment u; then where its
+-- children are
 abbrev pub struct_of : ℕ → ℕ → ℕ → ℕ → ExistingStruct
 struct_of u b d q = record { segment = u; start = b; size = record { data_words = d; pointers = q } }
 
@@ -76,12 +77,12 @@ no_struct S s p i (Flat size ns) e = λ more. refl
 no_struct S s p i (Pointers ts) e = λ more. refl
 no_struct S s p i (Structs d q es) e = λ more. refl
 
--- what was found, with nothing wrong
+-- the list that was found, without an error
 pub chosen : (m : Option ErrorKind) (l k : ExistingList) → Ok (Some k) ≡ unless m l → (m ≡ None) × (k ≡ l)
 chosen None l k e = (refl, cc)
 chosen (Some x) l k e = absurd (cc)
 
--- the elements of a list of numbers are no places
+-- the elements of a list of numbers aren't places
 flat_element : (u b size n i : ℕ) → size ≤ 5 → element_in (record { segment = u; start = b; size = size_of size; struct_size = record { data_words = 0; pointers = 0 }; count = n }) i ≡ None
 flat_element u b zero n i l = refl
 flat_element u b (suc zero) n i l = refl
@@ -142,7 +143,7 @@ list_element S s p i (Structs d q es) l r is_l stored few exactly =
       start_is = refl;
     })
 
--- what isn't a list
+-- a value that isn't a list
 pub null_list : (S : Segments) (s p i : ℕ) (t : Tree) → Ok None ≡ list_in (target S s p) Void t → IsPathFound S (record { segment = s; word = p }) t (Element i ∷ []) None
 null_list S s p i Null e = λ more. refl
 null_list S s p i (Capability j) e = λ more. refl
@@ -184,12 +185,12 @@ pointer_further S s p t path u q step None f stored then =
     let g = then f.0 (stored_within S s p t path u q f.0 f.1 stored) in
     λ more. ap (found t) (append_assoc path (step ∷ []) more) ∙ found-append t path (step ∷ more) f.0 f.2 ∙ g more
 
--- what a longer path finds behind an element of a list
+-- what a longer path finds after an element of a list
 behind_element : (d q : ℕ) (es : Elements) (i j : ℕ) (more : List Step) → i < element_count es →
     found (Structs d q es) (Element i ∷ Child j ∷ more) ≡ cond (nat_lt j q) (found (next (struct_at es i) (Child j)) more) None
 behind_element d q es i j more l = ap (λ b. cond (b && nat_lt j q) (found (next (struct_at es i) (Child j)) more) None) (lt-ltb i (element_count es) l)
 
--- and from an element
+-- one step more, from an element
 pub element_child : (S : Segments) (s p : ℕ) (t : Tree) (path : List Step) (e : ExistingStruct) (j : ℕ) (r : Option PathEnd) → IsElementFound S s p t path e → IsStored S s p t →
     (IfSome (child_in e j) (EndLiesIn S) → r ≡ child_in e j) → IsPathFound S (record { segment = s; word = p }) t (path ++ Child j ∷ []) r
 element_child S s p t path e j r f stored exactly =
@@ -223,7 +224,7 @@ element_element S s p t path e j f more =
     ap (found t) (append_assoc path (Element j ∷ []) more ∙ ap (λ x. x ++ Element j ∷ more) f.path_is ∙ append_assoc f.front (Element f.index ∷ []) (Element j ∷ more))
     ∙ found-append t f.front (Element f.index ∷ Element j ∷ more) list f.end_value
 
--- whatever the place
+-- one step more, from any end of a path
 pub step_further : (S : Segments) (s p : ℕ) (t : Tree) (path : List Step) (here : PathEnd) (step : Step) (r : Option PathEnd) → IsPathFound S (record { segment = s; word = p }) t path (Some here) → IsStored S s p t → Steps S here step r →
     IsPathFound S (record { segment = s; word = p }) t (path ++ step ∷ []) r
 step_further S s p t path (AtPointer place) step r f stored h = pointer_further S s p t path place.segment place.word step r f stored h
@@ -234,14 +235,14 @@ steps-append : (xs ys : List EditStep) → map step_of (xs ++ ys) ≡ map step_o
 steps-append [] ys = refl
 steps-append (x ∷ xs) ys = ap (λ p. step_of x ∷ p) (steps-append xs ys)
 
--- step number i of a path is taken
+-- a path is followed by its step number i
 pub step_taken : (S : Segments) (s p : ℕ) (t : Tree) (i : ℕ) (path : List EditStep) (here next : PathEnd) → i < length path → IsPathFound S (record { segment = s; word = p }) t (map step_of (take i path)) (Some here) → IsStored S s p t → (d : EditStep) →
     Steps S here (step_of (get_or path i d)) (Some next) → IsPathFound S (record { segment = s; word = p }) t (map step_of (take (i + 1) path)) (Some next)
 step_taken S s p t i path here next l f stored d h =
     let same : map step_of (take (i + 1) path) ≡ map step_of (take i path) ++ step_of (get_or path i d) ∷ [] = ap (map step_of) (take_more path i d l) ∙ steps-append (take i path) (get_or path i d ∷ []) in
     subst (λ x. IsPathFound S (record { segment = s; word = p }) t x (Some next)) (sym same) (step_further S s p t (map step_of (take i path)) here (step_of (get_or path i d)) (Some next) f stored h)
 
--- or leads nowhere, and so does the path
+-- step number i of a path leads nowhere, and so does the path
 pub step_nowhere : (S : Segments) (s p : ℕ) (t : Tree) (i : ℕ) (path : List EditStep) (here : PathEnd) → i < length path → IsPathFound S (record { segment = s; word = p }) t (map step_of (take i path)) (Some here) → IsStored S s p t → (d : EditStep) →
     Steps S here (step_of (get_or path i d)) None → IsPathFound S (record { segment = s; word = p }) t (map step_of path) None
 step_nowhere S s p t i path here l f stored d h =

@@ -26,7 +26,7 @@ KeepsLengths S R = (length R ≡ length S) × ((v : ℕ) → length (segment R v
 pub writes : (old new : View) → KeepsLimits old new → KeepsLengths old.words new.words → OnlyWrites old new
 writes old new limits lengths = record { limits = limits; segments = lengths.0; words = lengths.1 }
 
--- bits that are written take no words
+-- writing bits takes no words
 same_lengths : (S R : Segments) → R ≡ S → KeepsLengths S R
 same_lengths S R e = (ap length e, λ v. ap (λ Q. length (segment Q v)) e)
 

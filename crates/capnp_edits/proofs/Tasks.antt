@@ -1,4 +1,4 @@
--- What an operation does is in range.
+-- The task of an operation is in range.
 use Rattle.std.proofs.Common.{◌≡◌, ℕ, Bool, true, false, cond, if◌then◌else◌, Option, Some, None, refl, subst}
 use Rattle.capnp_words.specs.declared.wire_pointer.ElementSize.TheVariants.{Bit, Byte}
 use Rattle.capnp_edits.specs.declared.edit.Op.{Op}

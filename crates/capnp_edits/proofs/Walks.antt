@@ -1,4 +1,4 @@
--- Paths one behind the other.
+-- Paths one after another.
 use Rattle.std.proofs.Common.{◌≡◌, ℕ, ◌+◌, ◌*◌, Bool, true, false, ◌&&◌, cond, nat_lt, List, [], ◌∷◌, ◌++◌, length, Option, Some, None, ap}
 use Rattle.capnp_format.specs.Segments.{Segments}
 use Rattle.capnp_format.specs.Tree.{Tree, Null, Capability, Struct, Flat, Pointers, Structs, count, element_count}
@@ -18,7 +18,7 @@ leads_further S s p (Structs d w es) (Element i ∷ Child j ∷ path) more u q x
     (h.0, h.1, leads_further S (target S s p).segment ((target S s p).start + 1 + i * (d + w) + d + j) (next (struct_at es i) (Child j)) path more u q x v r y h.2 k)
 leads_further S s p t (step ∷ path) more u q x v r y h k = absurd h
 
--- a choice that is something is the first
+-- if the choice between o and None is something, it is o
 taken : (b : Bool) (o r : Option EndValue) (y : EndValue) (z : Option EndValue) → cond b o None ≡ Some y → (o ≡ Some y → r ≡ z) → cond b r None ≡ z
 taken true o r y z h k = k h
 taken false o r y z h k = absurd (cc)

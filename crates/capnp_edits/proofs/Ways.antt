@@ -1,4 +1,4 @@
--- The ways in which an edit ends, one by one; and what an operation makes, by the task that it is.
+-- The ways in which an edit ends, one by one; and what an operation makes, by its task.
 use Rattle.std.proofs.Common.{◌≡◌, ◌⊎◌, inl, inr, Bool, ℕ, true, false, ◌+◌, ◌*◌, ◌^◌, ◌<◌, ◌&&◌, if◌then◌else◌, min, nat_le, nat_lt, List, length, Option, Some, None, unwrap_or, refl, sym, ap, ◌∙◌, subst, map}
 use Rattle.std.specs.Borrow.{Bor}
 use Rattle.std.specs.Option.{option_map_or}
@@ -36,11 +36,12 @@ use Rattle.capnp_edits.specs.Sources.{Copies, ContentRead, HasNothingToCopy, IsN
 use Rattle.capnp_edits.specs.Tasks.{is_in_range, is_number, is_small_default, task_of}
 use Rattle.capnp_edits.specs.Edits.{Leaves, Making, Takes, Yields, allocates, becomes, copies, default_for, defaults, denied, fills, looked_for, made_at, making_of, searched, where_in_range, with_default}
 
--- Content stands in the stead of that of a struct of d data words and q pointers, which is u then.
+-- u is a struct of d data words and q pointers after the content c was copied over it.
 abbrev pub Fills : (source : Source) → ContentRead source → ℕ → ℕ → Tree → Type 0
 Fills source c d q u = (section : List ℕ) × HoldContent section d (64 * length c.from.words) c.bytes × (u ≡ Struct section (up_to q c.children))
 
--- What an operation leaves where it makes this, way by way.
+-- What an operation that makes this leaves, with outcome r, way by way. o replaces the value, if
+-- anything is changed.
 pub data Way (making : Making) (r : Option ErrorKind) (o : Option Tree) : Type 0 where
   is_done : (u : Tree) → making ≡ becomes u → r ≡ None → o ≡ Some u → Way making r o
   is_denied : (k : ErrorKind) → making ≡ denied k → r ≡ Some k → o ≡ None → Way making r o
@@ -69,7 +70,7 @@ yielded {making} {r} {o} (is_filled source d q u is h done left) = subst (λ m. 
 yielded {making} {r} {o} (is_half_filled source d q k u is h named left) = subst (λ m. Yields m r o) (sym is) (inl (h.0, u, h.1.0, h.1.1, h.1.2, inr (h.2, (k, h.3, named, left))))
 yielded {making} {r} {o} (is_not_filled source d q k is unread named left) = subst (λ m. Yields m r o) (sym is) (inr (k, unread, named, left))
 
--- what is left of what stands
+-- what is left of the value that is there
 left_of : (making : Making) (r : Option ErrorKind) (o : Option Tree) → Yields making r o → Leaves making r o
 unfolding Yields Leaves
 left_of (becomes u) r o y = y
@@ -92,7 +93,7 @@ pub default_dropped : (bytes : List ℕ) (made_of : Tree → Making) (k : ErrorK
 unfolding Leaves
 default_dropped bytes made_of k why = inr (k, why, refl, refl)
 
--- What is made where a task is in range.
+-- What is made if a task is in range.
 in_range : (b : Bool) (task : Task) (there : EndValue) → option_map_or (λ (x : Task). made_at x there) (if b then Some task else None) (denied NoSuchPlace) ≡ where_in_range b (made_at task there)
 in_range true task there = refl
 in_range false task there = refl
@@ -105,12 +106,12 @@ both : (a b : Bool) (m : Making) → where_in_range (a && b) m ≡ where_in_rang
 both true b m = refl
 both false b m = refl
 
--- what is done at a pointer makes nothing of an element
+-- a task for a pointer makes nothing of an element
 no_element : (task : Task) (t : Tree) → made_at task (ElementOf t) ≡ denied NoSuchPlace →
     option_map_or (λ (x : Task). made_at x (ElementOf t)) (if is_in_range task then Some task else None) (denied NoSuchPlace) ≡ denied NoSuchPlace
 no_element task t none = in_range (is_in_range task) task (ElementOf t) ∙ ap (where_in_range (is_in_range task)) none ∙ never (is_in_range task)
 
--- What is made of a struct that is changed, and where a part of a list, a text or data is written.
+-- What is made of a struct that is changed; and if a part of a list, a text or data is written.
 abbrev pub struct_changed : StructChange → Tree → Making
 struct_changed change t = made_at (InStruct change) (PointerTo t)
 
@@ -175,7 +176,7 @@ making_is (SetStruct source b) (ElementOf t) = refl
 making_is (SetList source b) (PointerTo t) = refl
 making_is (SetList source b) (ElementOf t) = refl
 
--- Where an edit's path leads, and what is left there; or nowhere.
+-- Where an edit's path leads, and what is left there; or that it leads nowhere.
 pub data Reaches (e : Edit) (r : Option ErrorKind) (t u : Tree) : Type 0 where
   leads_to : (there : EndValue) (o : Option Tree) → found t (map step_of e.path.now) ≡ Some there →
       Leaves (option_map_or (λ (x : Task). made_at x there) (task_of e.op) (denied NoSuchPlace)) r o →

@@ -15,7 +15,7 @@ returns-in-Some-clause-put g c =
     (rw c.list_place-place.ensures at (ap (λ (v : View). v.words) c.put_element.ensures.written)) in
     subst (λ (a : g.row.A.Denot). PutsElement old (view a).words c.args.found c.args.number None) (search rules) put
 
--- A list of a value lies in the message, and is as wide.
+-- The list of a value is inside the message, and its elements are wide enough.
 pub returns-in_default-clause-put : goal.returns-in_default-clause-put
 returns-in_default-clause-put g c =
     element_past c.in-Some.list (is_found c.args.found c.in_ok-list.field-0 c.in-Some.list c.in_ok-list.was c.in-Some.is)

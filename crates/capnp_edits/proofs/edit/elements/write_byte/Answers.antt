@@ -10,7 +10,7 @@ returns-in-Some-clause-put g c =
     byte_put c.in-Some.bytes (is_found c.args.found c.in_ok-bytes.field-0 c.in-Some.bytes c.in_ok-bytes.was c.in-Some.is) c.if-index-bytes.true refl
     (rw (c.from.ensures, c.from-in-Some.ensures) at (ap (λ (v : View). v.words) c.set_number.ensures.written))
 
--- Bytes of a value lie in the message.
+-- The bytes of a value are inside the message.
 pub returns-in_default-clause-put : goal.returns-in_default-clause-put
 returns-in_default-clause-put g c =
     byte_past c.in-Some.bytes (is_found c.args.found c.in_ok-bytes.field-0 c.in-Some.bytes c.in_ok-bytes.was c.in-Some.is)

@@ -22,7 +22,7 @@ returns-in-FourBytes-clause-put g c =
     let small : c.args.number.value < 4294967296 = number_small c.args.number.size c.args.number.value 32 wide c.requires.range in
     number_put _ _ c.args.parent c.args.number 4 _ _ wide (omega (arith, small)) c.put_number-in-FourBytes.ensures.put
 
--- No other size has numbers but 8 bytes.
+-- The only other size of a number is 8 bytes.
 pub returns-in_default : goal.returns-in_default
 returns-in_default g c =
     let wide = eight_bytes c.args.number.size c.args.number.value c.requires.range c.in_default.not-Bit c.in_default.not-Byte c.in_default.not-TwoBytes c.in_default.not-FourBytes in

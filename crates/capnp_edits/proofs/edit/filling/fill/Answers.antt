@@ -88,7 +88,7 @@ returns-in-Some-clause-taken g c =
     ) in
     subst (λ (a : g.row.A.Denot). TakesAt old (g.A.BuilderArena.view a) (InStruct (Content c.args.source)) (refusal_of c.copy_content_from.result) (AtElement c.args.parent)) (search rules) taken
 
--- Nothing is taken by a struct of no words.
+-- Copying over a struct without words changes nothing.
 pub returns-in-None-clause-filled : goal.returns-in-None-clause-filled
 returns-in-None-clause-filled g c =
     let value = c.in_ok-value.value in

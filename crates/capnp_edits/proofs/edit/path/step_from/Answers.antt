@@ -2,7 +2,7 @@ use Rattle.std.proofs.Common.{Ok, sym, ap, ◌∙◌}
 use Rattle.capnp_edits.proofs.Steps.{struct_child, list_element}
 use Rattle.capnp_edits.proofs.edit.path.step_from.Goals as goal
 
--- From the struct, or the list, that the pointer leads to.
+-- The step leads on from the struct, or the list, that the pointer leads to.
 pub returns-in-Some-clause-steps : goal.returns-in-Some-clause-steps
 returns-in-Some-clause-steps g c =
     let S = (g.A.BuilderArena.view c.args.arena.now).words in
