@@ -1,4 +1,5 @@
--- The bounds of an arena's rows: rows written over, filled, put behind, and a bound lowered.
+-- The bounds of an arena's rows: rows that are overwritten, filled or added at the end, and a bound
+-- that is lowered.
 use Rattle.std.proofs.Common.{◌≡◌, ℕ, Bool, true, false, IsTrue, zero, suc, inl, inr, ◌+◌, ◌-◌, ◌<◌, ◌≤◌, List, [], ◌∷◌, ◌++◌, length, get_or, set, refl, sym, ap, ◌∙◌, arith, subst}
 use Rattle.std.proofs.lemmas.Bool.{cases_lt}
 use Rattle.std.proofs.lemmas.List.{length-map, length-set, map-append, map-set}
@@ -16,7 +17,7 @@ use Rattle.capnp_arena.proofs.RangeLemmas.{bounded_less, bounded_more, bounded_a
 use Rattle.capnp_arena.proofs.RowsLemmas.{row_words, row_over, row_written, segment_row, room_row, room_same}
 
 module _ {S : Type 0} (g : Ghosts S) where
-  -- a row that has no more room than before, and the same bound
+  -- a row with no more room than before, and the same bound
   room_less : (rows : List (Row S g)) (i : ℕ) (old new : Row S g) → old ≡ get_or rows i old → room g new ≤ room g old → (k : ℕ) → get_or (rooms g (set rows i new)) k 0 ≤ get_or (rooms g rows) k 0
   room_less [] i old new e less k = omega arith
   room_less (q ∷ rows) zero old new e less zero = omega (arith, less, ap (room g) e)
@@ -33,15 +34,15 @@ module _ {S : Type 0} (g : Ghosts S) where
       subst (IsBounded (rooms g (set rows i new))) (sym (each_same g (λ (q : Row S g). q.bound) rows i old new e same))
       (bounded_less (rooms g rows) (rooms g (set rows i new)) (bounds g rows) h shorter (room_less rows i old new e less))
 
-  -- a row written over
+  -- an overwritten row
   pub bounded_same : (rows : List (Row S g)) (i : ℕ) (old new : Row S g) → old ≡ get_or rows i old → capacity g new ≡ capacity g old → new.used ≡ old.used → new.bound ≡ old.bound → HasBounds g rows → HasBounds g (set rows i new)
   bounded_same rows i old new e size used same h = bounded_set rows i old new e (omega (arith, size, used)) same h
 
-  -- words taken in a row
+  -- words allocated in a row
   pub bounded_taken : (rows : List (Row S g)) (i amount : ℕ) (old new : Row S g) → old ≡ get_or rows i old → capacity g new ≡ capacity g old → new.used ≡ old.used + amount → new.bound ≡ old.bound → HasBounds g rows → HasBounds g (set rows i new)
   bounded_taken rows i amount old new e size used same h = bounded_set rows i old new e (omega (arith, size, used)) same h
 
-  -- another row in place of the row with number i, as large and with as many words taken
+  -- another row in place of the row number i, of the same size and with as many words allocated
   pub bounded_over : (rows : List (Row S g)) (i : ℕ) (old new : Row S g) → old ≡ get_or rows i old → capacity g new ≡ capacity g (get_or rows i old) → new.used ≡ (get_or rows i old).used → new.bound ≡ (get_or rows i old).bound →
       HasBounds g rows → HasBounds g (set rows i new)
   bounded_over rows i old new e size used same h =
@@ -52,7 +53,7 @@ module _ {S : Type 0} (g : Ghosts S) where
   bounded_grown rows i amount old new e size used same h =
       bounded_taken rows i amount old new e (size ∙ ap (capacity g) (sym e)) (used ∙ ap (λ (q : Row S g). q.used + amount) (sym e)) (same ∙ ap (λ (q : Row S g). q.bound) (sym e)) h
 
-  -- a row rewritten, which is known by its number
+  -- a rewritten row, by its number
   pub list_over : (f : List ℕ → List ℕ) (rows : List (Row S g)) (i : ℕ) (old new : Row S g) → i < length rows → old ≡ get_or rows i old → RewritesRow g (get_or rows i old) new (f (words_of (allocated g (get_or rows i old)))) →
       RewritesList g rows (set rows i new) (with_segment (message (shown g rows)) i (f (segment (message (shown g rows)) i)))
   list_over f rows i old new l e h = record {
@@ -64,12 +65,12 @@ module _ {S : Type 0} (g : Ghosts S) where
     };
   }
 
-  -- a row rewritten, which was lent
+  -- a rewritten row that was lent
   pub rows_rewritten : (f : List ℕ → List ℕ) (rows : List (Row S g)) (i : ℕ) (old new : Row S g) → i < length rows → old ≡ get_or rows i old → RewritesRow g old new (f (words_of (allocated g old))) →
       RewritesRows g rows (set rows i new) (with_segment (message (shown g rows)) i (f (segment (message (shown g rows)) i)))
   rows_rewritten f rows i old new l e h = record { words = row_written g f rows i old new l e h.words; room = room_same g rows i old new e h.capacity }
 
-  -- a row behind the others
+  -- a row after the others
   rooms_small : (rows : List (Row S g)) (k : ℕ) → get_or (rooms g rows) k 0 ≤ max_segment_words
   rooms_small [] k = omega arith
   rooms_small (r ∷ rows) zero = omega (arith, r.clear.1)
@@ -84,7 +85,7 @@ module _ {S : Type 0} (g : Ghosts S) where
       subst (IsBounded (rooms g (rows ++ r ∷ []))) (sym more_bounds)
       (subst (λ xs. IsBounded xs (bounds g rows ++ r.bound ∷ [])) (sym more_rooms) (bounded_more (rooms g rows) (bounds g rows) (room g r) r.bound h many great))
 
-  -- the bound of a row changed alone
+  -- a row with only its bound changed
   pub bounded_lowered : (rows : List (Row S g)) (i : ℕ) (old new : Row S g) → i < length rows → old ≡ get_or rows i old → room g new ≡ room g old →
       IsBoundAt (rooms g rows) i new.bound → HasBounds g rows → HasBounds g (set rows i new)
   bounded_lowered rows i old new there e same great h =
@@ -115,11 +116,11 @@ module _ {S : Type 0} (g : Ghosts S) where
   room_left (r ∷ rows) zero = ap (λ n. capacity g r - n) (sym (row_words g r))
   room_left (r ∷ rows) (suc i) = room_left rows i
 
-  -- a row without room for so many words more
+  -- row k has no room for `amount` more words
   abbrev pub IsTooFull : List (Row S g) → ℕ → ℕ → Type 0
   IsTooFull rows amount k = capacity_at g rows k < length (segment (message (shown g rows)) k) + amount
 
-  -- rows before and behind `from` without room
+  -- rows before and after `from` without room
   pub passed_on : (rows old : List (Row S g)) (from at amount : ℕ) → shown g rows ≡ shown g old → capacity_at g rows ≡ capacity_at g old → ((k : ℕ) → k < from → IsTooFull old amount k) →
       HaveNoRoom (rooms g rows) from at amount → (k : ℕ) → k < at → IsTooFull old amount k
   passed_on rows old from at amount same size before behind k l =
@@ -129,7 +130,7 @@ module _ {S : Type 0} (g : Ghosts S) where
             omega (arith, behind k above l, room_left rows k, ap (λ (f : ℕ → ℕ). f k) size, ap (λ B. length (segment (message B) k)) same)
       ]
 
-  -- what a row of them says of its room holds of the rows as they were
+  -- what one of the rows says about its room holds for the rows before the call
   pub room_as_before : (rows old : List (Row S g)) (i : ℕ) (d : Row S g) → shown g rows ≡ shown g old → capacity_at g rows ≡ capacity_at g old → i < length rows →
       (length (segment (message (shown g old)) i) ≡ (get_or rows i d).used) × (capacity_at g old i ≡ capacity g (get_or rows i d))
   room_as_before rows old i d same size there = (

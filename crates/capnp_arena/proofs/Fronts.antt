@@ -40,7 +40,7 @@ module _ {M : Type 1} {𝓤 : Ura M} (𝓛 : Logic 𝓤) (κ : Lft) (q : Share) 
   pub long : length first ≡ n
   long = length-take-le n xs le
 
-  -- the first bytes under a new name, the token, and what the slice ends as
+  -- the first bytes with a new ghost name, the token, and what the slice ends as
   abbrev pub FrontLent : GName → SProp 𝓤
   FrontLent δ = sep 𝓤 (sem 𝓛 ((MutSlice (named 0) κ u8).own_val (bytes δ first) (slice_val (b, o) (length first) ∷ []))) (sep 𝓤 (A.lft κ q) (sem 𝓛 (follows (Array u8 0) (Array u8 0) γ δ (with_front n xs))))
 

@@ -1,4 +1,4 @@
--- A row that is put behind others is one row more of them.
+-- A row that is added after others is one more of them.
 use Rattle.std.proofs.Common.{◌≡◌, ℕ, Bool, true, false, List, [], ◌∷◌, ◌++◌, ◌/◌, length, ap, ◌∙◌}
 use Rattle.std.proofs.lemmas.Bool.{false≢true}
 use Rattle.capnp_arena.specs.Row.{GainsRow, allocated, capacity_at, shown, with_first}
@@ -14,7 +14,7 @@ module _ {S : Type 0} (g : Ghosts S) where
     room_below = λ k below. ap (λ rows. capacity_at g rows k) is ∙ room_below g old row k below;
   }
 
-  -- behind the others, where there is a first
+  -- a row after the others, if there is a first row
   pub gained_behind : (t : Bool) (first row : Row S g) (old new : List (Row S g)) (segment : S) → t ≡ true → new ≡ old ++ row ∷ [] → allocated g row ≡ [] → row.segment ≡ segment → GainsRow g (with_first g t first old) (with_first g t first new) segment
   gained_behind false first row old new segment e is none of = absurd (false≢true e)
   gained_behind true first row old new segment e is none of = gained (first ∷ old) (first ∷ new) row segment (ap (λ rows. first ∷ rows) is) none of

@@ -1,4 +1,4 @@
--- Rows in a list that were lent as a slice: what is so of the slice is so of the list.
+-- Rows in a list that were lent as a slice: what holds for the slice holds for the list.
 use Rattle.std.proofs.Common.{◌≡◌, Bool, true, false, ◌∷◌, List, length, refl, sym, ap, ◌∙◌, arith, subst}
 use Rattle.std.specs.Global.{Vec}
 use Rattle.std.specs.Vec.{with_items}
@@ -14,7 +14,7 @@ module _ {S : Type 0} (g : Ghosts S) where
       subst (λ rows. P rows (with_items v new).items) is
       (subst (P old) (sym (with_items_is v new (omega (arith, v.ok.0, many, ap length is)))) p)
 
-  -- as many rows show as many segments
+  -- rows that show the same segments are as many
   pub as_many_shown : (old new : List (Row S g)) → shown g new ≡ shown g old → length new ≡ length old
   as_many_shown old new e = sym (length_shown g new) ∙ ap length e ∙ length_shown g old
 

@@ -1,4 +1,4 @@
--- The rows that an arena keeps, where it is known how.
+-- The rows that an arena keeps, if it is known in which way.
 use Rattle.std.proofs.Common.{◌≡◌, ℕ, Bool, true, false, Option, Some, None, IfSome, List, [], ◌≤◌, length, replicate, refl, sym}
 use Rattle.std.proofs.lemmas.Bool.{false≢true}
 use Rattle.capnp_format.specs.Bytes.{message}
@@ -29,7 +29,7 @@ module _ {S : Type 0} (g : Ghosts S) where
   kept_none false v b e h = e
   kept_none true v b e h = h
 
-  -- what is so of all rows of the arena, where they stand apart or in a list
+  -- what holds for all rows of the arena, if it keeps them apart or in a list
   pub of_apart : (P : List (Row S g) → Type 0) (f : Bool) (v : Listed S g) (b : Rows S g) → f ≡ true → P (arena_rows g f v b) → P (all g b)
   of_apart P false v b e p = absurd (false≢true e)
   of_apart P true v b e p = p
@@ -38,7 +38,7 @@ module _ {S : Type 0} (g : Ghosts S) where
   of_listed P false v b e p = p
   of_listed P true v b e p = absurd (false≢true (sym e))
 
-  -- what is so of rows of either kind and of these afterwards is so of the arena's
+  -- what holds for rows of either way, before and after, holds for the arena's
   pub over_apart : (P : List (Row S g) → List (Row S g) → Type 0) (f : Bool) (v : Listed S g) (old new : Rows S g) → f ≡ true → P (all g old) (all g new) → P (arena_rows g f v old) (arena_rows g f v new)
   over_apart P false v old new e p = absurd (false≢true e)
   over_apart P true v old new e p = p
@@ -47,12 +47,12 @@ module _ {S : Type 0} (g : Ghosts S) where
   over_listed P false old new b e p = p
   over_listed P true old new b e p = absurd (false≢true (sym e))
 
-  -- how many rows there are at most
+  -- an upper limit of the number of rows
   pub kept_few : (f : Bool) (v : Listed S g) (b : Rows S g) → length (arena_rows g f v b) ≤ max_segments
   kept_few false v b = v.few
   kept_few true v b = listed_few g b.there b.first b.others.items b.few
 
-  -- words written in rows of either kind are written in the arena's view
+  -- words written in rows of either way are written in the arena's view
   pub written_apart : (W : Segments → Segments) {refusals : ℕ} {offers : ℕ → ℕ → Bool} (f : Bool) (v : Listed S g) (old new : Rows S g) → f ≡ true →
       message (shown g (all g new)) ≡ W (message (shown g (all g old))) → capacity_at g (all g new) ≡ capacity_at g (all g old) →
       view_of (message (shown g (arena_rows g f v new))) (capacity_at g (arena_rows g f v new)) refusals offers
@@ -68,7 +68,7 @@ module _ {S : Type 0} (g : Ghosts S) where
   written_listed W true old new b e words room = absurd (false≢true (sym e))
 
 module _ {S : Type 0} (g : Ghosts S) where
-  -- words taken in rows of either kind, where there is room, are taken in the arena's view
+  -- words allocated in rows of either way, if there is room, are allocated in the arena's view
   pub grown_apart : (r : Option ℕ) (id amount refusals : ℕ) (offers : ℕ → ℕ → Bool) (f : Bool) (v : Listed S g) (old new : Rows S g) → f ≡ true →
       IfSome r (λ at. (at ≡ length (segment (message (shown g (all g old))) id)) × (message (shown g (all g new)) ≡ extended (message (shown g (all g old))) id (replicate amount 0))) → capacity_at g (all g new) ≡ capacity_at g (all g old) →
       IfSome r (GrowsSegment (view_of (message (shown g (arena_rows g f v old))) (capacity_at g (arena_rows g f v old)) refusals offers) (view_of (message (shown g (arena_rows g f v new))) (capacity_at g (arena_rows g f v new)) refusals offers) amount id)

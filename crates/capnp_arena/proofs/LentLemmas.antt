@@ -1,4 +1,4 @@
--- An arena's rows when one of them was lent to be written.
+-- An arena's rows after one of them was lent to be written.
 use Rattle.std.proofs.Common.{◌≡◌, ℕ, ◌-◌, ◌<◌, ◌≤◌, List, [], ◌∷◌, zero, suc, length, get_or, refl, sym, ap, ◌∙◌, arith, slice_get, Some, subst}
 use Rattle.std.proofs.Math.Bridge.{le_prop}
 use Rattle.std.specs.Global.{Vec}
@@ -25,12 +25,12 @@ module _ {S : Type 0} (g : Ghosts S) where
   lent_row : (rows : Vec (Row S g)) (i : ℕ) (r : Row S g) (ws : List ℕ) → i < length rows.items → r ≡ get_or rows.items i r → with_item rows i (with_allocated g r ws) ≡ with_row g rows i ws
   lent_row rows i r ws l e = ap (with_found g rows i ws) (ap Some e ∙ sym (row_at rows.items i r l))
 
-  -- rows of which the first was lent
+  -- rows, if the first was lent
   pub lent_first : (b : Rows S g) (r : Row S g) (few : length b.others.items ≤ most_others b.there) (bounded : HasBounds g b.others.items) → (let B : Type 0 = Rows S g in
       ◌≡◌ {A = B} (record { first = r; there = b.there; others = b.others; few = few; bounded = bounded }) (record { first = r; there = b.there; others = b.others; few = b.few; bounded = b.bounded }))
   lent_first b r few bounded = λ i. record { first = r; there = b.there; others = b.others; few = le_prop few b.few i; bounded = bounded_once (rooms g b.others.items) (bounds g b.others.items) bounded b.bounded i }
 
-  -- rows of which another was lent
+  -- rows, if another was lent
   lent_at : (b : Rows S g) (k : ℕ) {r : Row S g} (ws : List ℕ) → k < length b.others.items → r ≡ get_or b.others.items k r → (few : length (with_item b.others k (with_allocated g r ws)).items ≤ most_others b.there) →
       (bounded : HasBounds g (with_item b.others k (with_allocated g r ws)).items) → (let B : Type 0 = Rows S g in
       ◌≡◌ {A = B} (record { first = b.first; there = b.there; others = with_item b.others k (with_allocated g r ws); few = few; bounded = bounded }) (with_bytes_apart g b (suc k) ws))
@@ -54,7 +54,7 @@ module _ {S : Type 0} (g : Ghosts S) where
       (let same : k ≡ suc k - 1 = omega arith in same)
       (λ l e n h. lent_at b k ws l e n h) l e few bounded
 
-  -- rows in a list, of which one was lent
+  -- rows in a list, if one was lent
   pub lent_in_list : (b : Listed S g) (k : ℕ) {r : Row S g} (ws : List ℕ) → k < length b.rows.items → r ≡ get_or b.rows.items k r → (few : length (with_item b.rows k (with_allocated g r ws)).items ≤ max_segments) →
       (bounded : HasBounds g (with_item b.rows k (with_allocated g r ws)).items) → (let B : Type 0 = Listed S g in
       ◌≡◌ {A = B} (record { rows = with_item b.rows k (with_allocated g r ws); few = few; bounded = bounded }) (with_bytes_listed g b k ws))

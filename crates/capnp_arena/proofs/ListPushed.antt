@@ -1,4 +1,4 @@
--- Rows in a list, behind which one was put, or not.
+-- Rows in a list, and whether a row was added after them.
 use Rattle.std.proofs.Common.{◌≡◌, ◌<◌, ◌≤◌, List, [], ◌∷◌, length, Option, Some, None, IsNone, IfSome, ◌++◌, refl, sym, ap, arith, subst}
 use Rattle.std.proofs.lemmas.List.{length-append}
 use Rattle.capnp_arena_traits.specs.Allocations.{max_segments, max_segment_words}

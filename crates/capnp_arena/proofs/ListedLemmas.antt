@@ -1,4 +1,4 @@
--- All rows, of which the first stands apart: the first changed, or one of the others.
+-- All rows, if the first is kept apart: the first changed, or one of the others.
 use Rattle.std.proofs.Common.{◌≡◌, ℕ, Bool, true, false, zero, suc, ◌+◌, ◌-◌, ◌<◌, ◌≤◌, List, [], ◌∷◌, length, replicate, slice_get, Option, Some, None, IsNone, IfSome, ◌++◌, refl, sym, ap, ◌∙◌, arith, subst}
 use Rattle.capnp_format.specs.Bytes.{words_of, message}
 use Rattle.capnp_format.specs.Segments.{segment}
@@ -50,11 +50,11 @@ module _ {S : Type 0} (g : Ghosts S) where
   first_written f t old new others id e l h =
       first_changed t old new others id e ∙ ap (with_segment (message (shown g (with_first g t old others))) id) (h ∙ ap f (sym (first_words t old others id e l)))
 
-  -- what is within segment 0 is within the first row
+  -- what is inside segment 0 is inside the first row
   pub first_inside : (t : Bool) (first : Row S g) (others : List (Row S g)) (id n : ℕ) → id ≡ 0 → id < length (with_first g t first others) → n ≤ length (segment (message (shown g (with_first g t first others))) id) → n ≤ first.used
   first_inside t first others id n e l h = subst (λ m. n ≤ m) (first_used t first others id e l) h
 
-  -- what is asked of another row, which is one less far among the others
+  -- another row is there; its number among the others is one less
   pub other_there : (t : Bool) (first : Row S g) (others : List (Row S g)) (id : ℕ) → 0 < id → id < length (with_first g t first others) → id - 1 < length others
   other_there false first others id some l = absurd (omega arith)
   other_there true first others id some l = omega arith
@@ -92,7 +92,7 @@ module _ {S : Type 0} (g : Ghosts S) where
   others_kept t first v old new is many e =
       other_kept g t first v.items (with_items v new).items (ap (capacity_at g) (with_items_is v new (omega (arith, v.ok.0, many, ap length is))) ∙ e ∙ ap (capacity_at g) is)
 
-  -- another row written over
+  -- another row is overwritten
   pub others_written : (t : Bool) (first : Row S g) (v : Vec (Row S g)) (old new : List (Row S g)) (id : ℕ) (f : List ℕ → List ℕ) → length v.items ≤ most_others t → old ≡ v.items → length new ≡ length old → 0 < id →
       message (shown g new) ≡ with_segment (message (shown g old)) (id - 1) (f (segment (message (shown g old)) (id - 1))) →
       message (shown g (with_first g t first (with_items v new).items)) ≡ with_segment (message (shown g (with_first g t first v.items))) id (f (segment (message (shown g (with_first g t first v.items))) id))
@@ -102,7 +102,7 @@ module _ {S : Type 0} (g : Ghosts S) where
       (ap (λ xs. message (shown g xs)) items ∙ e ∙ ap (λ xs. with_segment (message (shown g xs)) (id - 1) (f (segment (message (shown g xs)) (id - 1)))) is)
       ∙ ap (λ ws. with_segment (message (shown g (with_first g t first v.items))) id (f ws)) (sym (other_words t first v.items id few some))
 
-  -- the first row rewritten, or another
+  -- the first row is rewritten, or another
   pub first_rewritten : (f : List ℕ → List ℕ) (t : Bool) (old new : Row S g) (others : List (Row S g)) (id : ℕ) → id ≡ 0 → id < length (with_first g t old others) → RewritesRow g old new (f (words_of (allocated g old))) →
       RewritesRows g (with_first g t old others) (with_first g t new others) (with_segment (message (shown g (with_first g t old others))) id (f (segment (message (shown g (with_first g t old others))) id)))
   first_rewritten f t old new others id e l h = record { words = first_written f t old new others id e l h.words; room = first_kept g t old new others h.capacity }
@@ -112,7 +112,7 @@ module _ {S : Type 0} (g : Ghosts S) where
       RewritesRows g (with_first g t first v.items) (with_first g t first (with_items v new).items) (with_segment (message (shown g (with_first g t first v.items))) id (f (segment (message (shown g (with_first g t first v.items))) id)))
   others_rewritten t first v old new id f few is some h = record { words = others_written t first v old new id f few is h.kept.many some h.words; room = others_kept t first v old new is h.kept.many h.kept.room }
 
-  -- the bounds of others that are written over
+  -- the bounds of others that are overwritten
   pub others_bounded : (v : Vec (Row S g)) (old new : List (Row S g)) → old ≡ v.items → length new ≡ length old → (HasBounds g old → HasBounds g new) → HasBounds g v.items → HasBounds g (with_items v new).items
   others_bounded v old new is many kept h =
       subst (HasBounds g) (sym (with_items_is v new (omega (arith, v.ok.0, many, ap length is)))) (kept (subst (HasBounds g) (sym is) h))
@@ -120,7 +120,7 @@ module _ {S : Type 0} (g : Ghosts S) where
   pub others_few : (v : Vec (Row S g)) (old new : List (Row S g)) (most : ℕ) → old ≡ v.items → length new ≡ length old → length v.items ≤ most → length (with_items v new).items ≤ most
   others_few v old new most is many few = omega (arith, ap length (with_items_is v new (omega (arith, v.ok.0, many, ap length is))), many, ap length is, few)
 
-  -- words taken in another row, where it has room
+  -- words allocated in another row, if it has room
   pub others_allocated : (t : Bool) (first : Row S g) (v : Vec (Row S g)) (old new : List (Row S g)) (id amount : ℕ) (at : Option ℕ) → length v.items ≤ most_others t → old ≡ v.items → length new ≡ length old → 0 < id →
       IfSome at (λ p. (p ≡ length (segment (message (shown g old)) (id - 1))) × (message (shown g new) ≡ extended (message (shown g old)) (id - 1) (replicate amount 0))) →
       IfSome at (λ p. (p ≡ length (segment (message (shown g (with_first g t first v.items))) id)) × (message (shown g (with_first g t first (with_items v new).items)) ≡ extended (message (shown g (with_first g t first v.items))) id (replicate amount 0)))
@@ -154,17 +154,17 @@ module _ {S : Type 0} (g : Ghosts S) where
   full_others true first others amount none full zero l = let less : capacity g first < first.used + amount = omega (arith, none) in omega (arith, less, row_words g first)
   full_others true first others amount none full (suc k) l = full k (omega (arith, l))
 
-  -- where there is no first row there is none
+  -- if there is no first row, there is no row
   pub full_none : (t : Bool) (first : Row S g) (others : List (Row S g)) (amount : ℕ) → t ≡ false → IsFull (view_of_rows g (with_first g t first others)) amount
   full_none false first others amount e k l = absurd (omega (arith, l))
   full_none true first others amount e k l = cc
 
-  -- how many rows there are
+  -- an upper limit of the number of rows
   pub listed_few : (t : Bool) (first : Row S g) (others : List (Row S g)) → length others ≤ most_others t → length (with_first g t first others) ≤ max_segments
   listed_few false first others few = omega arith
   listed_few true first others few = omega (arith, few)
 
-  -- a row kept behind the others, or given back
+  -- a row is kept after the others, or returned
   pub others_pushed : (t : Bool) (first row : Row S g) (old new : List (Row S g)) (back : Option (Row S g)) {P : Type 0} (Q : Row S g → Type 0) → t ≡ true → length (with_first g t first old) < max_segments →
       (IsNone back → (new ≡ old ++ row ∷ []) × P) → IfSome back (λ r. (r ≡ row) × (new ≡ old) × Q r) → row.bound ≡ max_segment_words → length old ≤ most_others t → HasBounds g old → (length new ≤ most_others t) × HasBounds g new
   others_pushed false first row old new back Q e many kept given bound few h = cc

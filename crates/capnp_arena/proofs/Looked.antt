@@ -1,4 +1,4 @@
--- What a list of segments answers by number, where the list was asked.
+-- What a list of segments answers by number, when the list was asked.
 use Rattle.std.proofs.Common.{◌≡◌, ◌∙◌, ℕ, ◌<◌, ◌≤◌, List, length, map, get_or, slice_get, Some, refl, sym, ap, subst, arith}
 use Rattle.std.proofs.lemmas.List.{length-map}
 use Rattle.std.proofs.lemmas.Option.{slice_get-map, slice_get_read}
@@ -22,6 +22,6 @@ looked_there B id there = subst (λ n. id < n) (sym (length-map B (λ (b : Bor (
 pub looked_beyond : (B : List (Bor (List ℕ))) (id : ℕ) → length B ≤ id → id < length (bytes_of B) → ⊥
 looked_beyond B id beyond there = omega (arith, length-map B (λ (b : Bor (List ℕ)). b.now))
 
--- the same of what goes out of an arena, where it is a list
+-- the same for an arena's output, if that is a list
 pub of_output : (P : List (List ℕ) → Type 0) (o : OutputSegments) (v : Vec (Bor (List ℕ))) (B : List (Bor (List ℕ))) → o ≡ MultiSegment v → B ≡ v.items → P (bytes_of B) → P (output_bytes o)
 of_output P o v B is same p = subst (λ q. P (output_bytes q)) (sym is) (subst (λ items. P (bytes_of items)) same p)

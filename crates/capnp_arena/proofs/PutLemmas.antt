@@ -1,4 +1,4 @@
--- What an arena says of a segment that was put behind its others, or refused.
+-- What an arena states about a segment that was added after its others, or refused.
 use Rattle.std.proofs.Common.{◌≡◌, ℕ, false, arith, ◌+◌, ◌/◌, ◌<◌, ◌≤◌, List, [], ◌∷◌, ◌++◌, length, inl, inr, refl, sym, ap, ◌∙◌, subst}
 use Rattle.std.proofs.lemmas.Bool.{cases_lt}
 use Rattle.std.proofs.lemmas.List.{length-append}
@@ -15,11 +15,11 @@ use Rattle.capnp_arena.specs.declared.arena.allocator.Segment.{Ghosts}
 use Rattle.capnp_arena.specs.declared.arena.row.Row.{Row}
 use Rattle.capnp_arena.proofs.RowsLemmas.{length_shown}
 
--- an arena that has refused memory so often
+-- an arena that has refused memory n times
 abbrev pub refusing : ℕ → View
 refusing n = view_of [] (λ _. 0) n (λ _ _. false)
 
--- an allocator's refusal, where there may be more segments
+-- an allocator's refusal, if there may be more segments
 pub refused_by : {T : Type 0} {e : ErrorKind} {old new : ℕ} (n min : ℕ) → n < max_segments →
     (max_segment_words < min → (◌≡◌ {A = Result T ErrorKind} (Err e) (Err (MessageTooLarge min))) × (new ≡ old)) →
     (min ≤ max_segment_words → (e ≡ AllocationFailed) × (new ≡ one_more old)) → IsAllocationRefusal (refusing old) (refusing new) n min e
@@ -34,7 +34,7 @@ module _ {S : Type 0} (g : Ghosts S) {T : Type 0} where
   put_made (Ok v) old new segment h = h.shown_more
   put_made (Err e) old new segment h = tt
 
-  -- what is so of the segment's words is so of the room of the last row
+  -- what holds for the segment's words holds for the room of the last row
   pub put_room : (P : ℕ → Type 0) (r : Result T ErrorKind) (old new : List (Row S g)) (segment : S) → P (length (g.content segment) / 8) → OnOk r (GainsRow g old new segment) → OnOk r (P (capacity_at g new (length (shown g old))))
   put_room P (Ok v) old new segment p h = subst P (sym (ap (capacity_at g new) (length_shown g old) ∙ h.room_there)) p
   put_room P (Err e) old new segment p h = tt
@@ -52,7 +52,7 @@ pub put_named : {T : Type 0} (r : Result T ErrorKind) (n min : ℕ) {old mid : �
 put_named (Ok v) n min new few small same named counted = tt
 put_named (Err e) n min new few small same named counted = inl (named, small, few, counted ∙ ap one_more same)
 
--- a segment without any words is behind those of B
+-- a segment without words is after those of B
 behind_none : (B : List (List ℕ)) → length (segment (message (B ++ [] ∷ [])) (length B)) ≡ 0
 behind_none [] = refl
 behind_none (b ∷ B) = behind_none B
@@ -60,7 +60,7 @@ behind_none (b ∷ B) = behind_none B
 pub behind_there : (B : List (List ℕ)) {C : List (List ℕ)} {id : ℕ} → C ≡ B ++ [] ∷ [] → id ≡ length B → id < length C
 behind_there B made same = omega (arith, ap length made, length-append B ([] ∷ []), same)
 
--- and has room for the words that it was asked for
+-- and has room for the words that were requested
 pub behind_fits : (B : List (List ℕ)) (room : ℕ → ℕ) (amount : ℕ) {C : List (List ℕ)} {id : ℕ} → C ≡ B ++ [] ∷ [] → id ≡ length B → amount ≤ room (length B) → length (segment (message C) id) + amount ≤ room id
 behind_fits B room amount {C} made same least =
     let none = ap (λ D. length (segment (message D) (length B))) made ∙ behind_none B in

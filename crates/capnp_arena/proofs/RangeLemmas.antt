@@ -1,4 +1,4 @@
--- Ranges of rows and their bounds, as numbers alone.
+-- Ranges of rows and their bounds, only as numbers.
 use Rattle.std.proofs.Common.{◌≡◌, ℕ, zero, suc, ◌+◌, ◌-◌, ◌*◌, ◌/◌, ◌%◌, ◌^◌, ◌<◌, ◌≤◌, inl, inr, List, [], ◌∷◌, ◌++◌, length, get_or, set, refl, sym, ap, ◌∙◌, arith, subst}
 use Rattle.std.proofs.Math.Nat.{pow-suc}
 use Rattle.std.proofs.Math.Bridge.{le_prop}
@@ -21,7 +21,7 @@ power_one = (0, refl)
 pub power_twice : (n : ℕ) → IsPowerOfTwo n → IsPowerOfTwo (n * 2)
 power_twice n p = (suc p.0, omega (arith, p.1, pow-suc 2 p.0))
 
--- a power of two above 1 is twice its half, which is one too
+-- a power of two above 1 is twice its half, which is also a power of two
 pub power_half : (n : ℕ) → IsPowerOfTwo n → 1 < n → IsPowerOfTwo (n / 2) × (n ≡ n / 2 * 2)
 power_half n p l = go p.0 p.1
   where
@@ -41,7 +41,7 @@ multiple_half at n twice m = (2 * m.0, m.1 ∙ ap (λ k. m.0 * k) twice ∙ omeg
 pub multiple_next : (at n : ℕ) → IsMultipleOf n at → IsMultipleOf n (at + n)
 multiple_next at n m = (suc m.0, omega (arith, m.1))
 
--- A range that ends behind the first rest * n rows is no wider than n, where `rest` is odd.
+-- A range that ends after the first rest * 2 ^ d rows has at most 2 ^ d rows, if `rest` is odd.
 power_below : (e d a rest : ℕ) → (a * 2 + 1) * 2 ^ e ≡ rest * 2 ^ d → rest % 2 ≡ 1 → 2 ^ e ≤ 2 ^ d
 power_below zero d a rest same odd = omega (arith, pow_pos d)
 power_below (suc e) zero a rest same odd = absurd (omega (arith, pow-suc 2 e, same, odd))
@@ -61,7 +61,7 @@ range_below from width n rest r p same odd =
     ends : (e d a : ℕ) → width ≡ 2 ^ e → n ≡ 2 ^ d → from ≡ a * (2 * width) → (a * 2 + 1) * 2 ^ e ≡ rest * 2 ^ d
     ends e d a wide is begins = subst (λ k. (a * 2 + 1) * k ≡ rest * 2 ^ d) wide (subst (λ k. (a * 2 + 1) * width ≡ rest * k) is (omega (arith, begins, same)))
 
--- The n rows before the last n of the first `end` are a range, where 2 * n divides `end`.
+-- The n rows before the last n of the first `end` are a range, if 2 * n divides `end`.
 pub range_before : (end n rest : ℕ) → IsPowerOfTwo n → rest * n ≡ end → rest % 2 ≡ 0 → 0 < rest → IsRange (end - 2 * n) n
 range_before end n rest p same even some =
     let a = rest / 2 - 1 in
@@ -87,7 +87,7 @@ pub bounded_less : (xs ys bs : List ℕ) → IsBounded xs bs → length ys ≡ l
 bounded_less xs ys bs h same less =
     record { within = λ from width k range begins ends inside. omega (arith, less k, h.within from width k range begins ends (omega (arith, inside, same))) }
 
--- another room and its bound, behind the others
+-- one more room and its bound, after the others
 pub bounded_more : (xs bs : List ℕ) (x b : ℕ) → IsBounded xs bs → length xs ≡ length bs → ((k : ℕ) → get_or (xs ++ x ∷ []) k 0 ≤ b) → IsBounded (xs ++ x ∷ []) (bs ++ b ∷ [])
 bounded_more xs bs x b h same great = record { within = go }
   where
@@ -106,7 +106,7 @@ bounded_more xs bs x b h same great = record { within = go }
               )
         ]
 
--- another bound for the ranges that end with row i
+-- a new bound for the ranges that end with row i
 pub bounded_again : (xs bs : List ℕ) (i b : ℕ) → IsBounded xs bs → length xs ≡ length bs → i < length xs → IsBoundAt xs i b → IsBounded xs (set bs i b)
 bounded_again xs bs i b h same there great = record { within = go }
   where
@@ -119,6 +119,6 @@ bounded_again xs bs i b h same there great = record { within = go }
           | inr other ↦ omega (arith, h.within from width k range begins ends inside, get_or-set_other bs i (from + width - 1) b 0 other)
         ]
 
--- bounds say one thing at most
+-- there is at most one proof that rooms are bounded
 pub bounded_once : (xs bs : List ℕ) (h k : IsBounded xs bs) → h ≡ k
 bounded_once xs bs h k = λ i. record { within = λ from width n range begins ends inside. le_prop (h.within from width n range begins ends inside) (k.within from width n range begins ends inside) i }

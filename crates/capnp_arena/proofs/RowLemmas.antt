@@ -1,4 +1,4 @@
--- A row's allocated words: written over, and more of them taken.
+-- A row's allocated words: overwritten, and more of them allocated.
 use Rattle.std.proofs.Common.{◌≡◌, ℕ, ◌+◌, ◌-◌, ◌*◌, ◌≤◌, List, ◌++◌, length, take, drop, replicate, [], ◌/◌, refl, sym, ap, ◌∙◌, arith, take-add, take_at, drop-drop, length-take, length-drop, subst}
 use Rattle.std.proofs.Math.Bridge.{le_prop}
 use Rattle.std.proofs.Math.Nat.{ℕ_set}
@@ -16,7 +16,7 @@ use Rattle.capnp_arena.specs.Front.{RewritesFront}
 use Rattle.capnp_arena.specs.Rewritten.{RewritesRow}
 use Rattle.capnp_arena.specs.declared.arena.allocator.Segment.{Ghosts}
 
--- the first words with others of that length in their place
+-- the first words, after others of the same length replaced them
 pub kept_part : (used : ℕ) (bytes new : List ℕ) → length new ≡ 8 * used → take (8 * used) (new ++ drop (8 * used) bytes) ≡ new
 kept_part used bytes new e = take_at new (drop (8 * used) bytes) (8 * used) e
 
@@ -26,7 +26,7 @@ zeros_over xs at n = ap (λ k. take at xs ++ (replicate n 0 ++ drop k (drop at x
 pub length_part : (xs : List ℕ) (from n : ℕ) → from + n ≤ length xs → length (take n (drop from xs)) ≡ n
 length_part xs from n l = omega (arith, length-take n (drop from xs), length-drop from xs)
 
--- words copied over others of the same
+-- words copied over others of the same row
 pub moved_over : (xs : List ℕ) (from to n : ℕ) → from + n ≤ length xs → put_mid to n xs (take n (drop from xs)) ≡ with_copied xs to xs from n
 moved_over xs from to n l = ap (λ k. take to xs ++ (take n (drop from xs) ++ drop k (drop to xs))) (sym (length_part xs from n l))
 
@@ -36,7 +36,7 @@ same_row used long bytes new row l e = (omega (arith, row.0, l), omega (arith, r
 kept_rest : (n : ℕ) (bytes new : List ℕ) → length new ≡ n → drop n (new ++ drop n bytes) ≡ drop n bytes
 kept_rest n bytes new e = drop-append-drop n bytes new n (omega arith) e
 
--- words written over the first ones
+-- words that overwrite the first ones
 pub front_rewritten : (end : ℕ) (bytes new : List ℕ) {ws : List ℕ} → 8 * end ≤ length bytes → length new ≡ length (take (8 * end) bytes) → words_of new ≡ ws → RewritesFront end bytes (new ++ drop (8 * end) bytes) ws
 front_rewritten end bytes new room same e =
     let long : length new ≡ 8 * end = omega (arith, room, same, length-take (8 * end) bytes) in
@@ -70,13 +70,13 @@ words_more used more bytes clear fits =
 with_more : (u : ℕ) (bytes : List ℕ) (n : ℕ) → u ≤ length bytes → length (bytes ++ replicate n 0) - u ≡ length bytes - u + n
 with_more u bytes n within = omega (arith, within, length-append bytes (replicate {A = ℕ} n 0), length-replicate {A = ℕ} n 0)
 
--- the words from used on are zero in a segment where they are in its bytes that are ready
+-- the words of a segment from u on are zero if they are zero in its bytes that are ready
 clear_with : (u : ℕ) (bytes : List ℕ) (n : ℕ) → u ≤ length bytes → drop u bytes ≡ replicate (length bytes - u) 0 → drop u (bytes ++ replicate n 0) ≡ replicate (length (bytes ++ replicate n 0) - u) 0
 clear_with u bytes n within clear =
     drop-append-le u bytes (replicate n 0) within ∙ ap (λ xs. xs ++ replicate n 0) clear
     ∙ replicate-append-replicate (length bytes - u) n 0 ∙ ap (λ k. replicate k 0) (sym (with_more u bytes n within))
 
--- and in its bytes that are ready where they are in the segment
+-- and they are zero in its bytes that are ready if they are zero in the segment
 clear_without : (u : ℕ) (bytes : List ℕ) (n : ℕ) → u ≤ length bytes → drop u (bytes ++ replicate n 0) ≡ replicate (length (bytes ++ replicate n 0) - u) 0 → drop u bytes ≡ replicate (length bytes - u) 0
 clear_without u bytes n within clear =
     let long : length (drop u bytes) ≡ length bytes - u = length-drop u bytes in
@@ -85,7 +85,7 @@ clear_without u bytes n within clear =
     ∙ take-replicate {X = ℕ} (length bytes - u) (length (bytes ++ replicate n 0) - u) 0 (omega (arith, with_more u bytes n within))
 
 module _ {S : Type 0} (g : Ghosts S) where
-  -- all bytes of a segment are zero from used on
+  -- all bytes of a segment are zero from word `used` on
   pub segment_clear : (s : S) (used : ℕ) → IsRow used (g.ready s) (length (g.content s)) → IsClearFrom used (g.content s)
   segment_clear s used row =
       subst (λ xs. drop (8 * used) xs ≡ replicate (length xs - 8 * used) 0) (sym (g.zeros_behind s))
@@ -103,7 +103,7 @@ module _ {S : Type 0} (g : Ghosts S) where
   ready_front : (s : S) (n : ℕ) → n ≤ length (g.ready s) → take n (g.content s) ≡ take n (g.ready s)
   ready_front s n within = ap (take n) (g.zeros_behind s) ∙ take-append-le n (g.ready s) (replicate (length (g.content s) - length (g.ready s)) 0) within
 
-  -- a segment of which more words are ready
+  -- a segment with more words ready
   pub more_row : (old new : S) (used more : ℕ) → IsRow used (g.ready old) (length (g.content old)) → g.content new ≡ g.content old → 8 * (used + more) ≤ length (g.ready new) → IsRow (used + more) (g.ready new) (length (g.content new))
   more_row old new used more row same fits = (
     fits,
@@ -133,7 +133,7 @@ module _ {S : Type 0} (g : Ghosts S) where
   pub long_is : (s : S) (bytes new : List ℕ) → bytes ≡ g.ready s → length new ≡ length bytes → length (g.content (g.with_ready s new)) ≡ length (g.content s)
   long_is s bytes new same l = g.as_long s new (l ∙ ap length same)
 
-  -- a row whose first words were written over
+  -- a row whose first words were overwritten
   pub row_rewritten : (r : Row S g) (bytes new : List ℕ) (f : List ℕ → List ℕ) {clear : IsRow r.used (g.ready (g.with_ready r.segment new)) (length (g.content (g.with_ready r.segment new)))} → bytes ≡ g.ready r.segment → length new ≡ length bytes →
       RewritesFront r.used bytes new (f bytes) → RewritesRow g r (record { segment = g.with_ready r.segment new; used = r.used; bound = r.bound; clear = clear }) (f (g.ready r.segment))
   row_rewritten r bytes new f same l h = record {
@@ -158,7 +158,7 @@ pub ruleset fresh_rows = (fresh_row, empty_row)
 
 pub ruleset written = (same_row, kept_part, content_row, content_is, long_is)
 
--- that a row is clear has one proof at most
+-- there is at most one proof that a row is clear
 row_once : (used : ℕ) (bytes : List ℕ) (long : ℕ) (x y : IsRow used bytes long) → x ≡ y
 row_once used bytes long x y = λ i. (le_prop x.0 y.0 i, le_prop x.1 y.1 i, le_prop x.2 y.2 i, is_set ℕ_set (drop (8 * used) bytes) (replicate (length bytes - 8 * used) 0) x.3 y.3 i)
 

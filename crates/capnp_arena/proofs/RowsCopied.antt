@@ -1,4 +1,4 @@
--- Words of one row copied over those of another, where the rows are cut in two between them.
+-- Words of one row copied over those of another, if the rows are split in two between them.
 use Rattle.std.proofs.Common.{◌≡◌, ℕ, zero, suc, ◌-◌, ◌<◌, ◌≤◌, List, [], ◌∷◌, ◌++◌, length, get_or, set, refl, sym, ap, ap₂, ◌∙◌, arith, subst}
 use Rattle.std.proofs.lemmas.List.{get_or_append_left, get_or-append_right, length-append, length-set}
 use Rattle.capnp_format.specs.Bytes.{words_of, message}
@@ -21,7 +21,7 @@ set_back : {A : Type 0} (front back : List A) (x : A) → front ++ set back 0 x 
 set_back [] back x = refl
 set_back (y ∷ front) back x = ap (λ ys. y ∷ ys) (set_back front back x)
 
--- Rows are cut in two before the one at j.
+-- The rows are split in two before the row at j.
 pub record IsCut {R : Type 0} (rows front back : List R) (j : ℕ) : Type 0 where
   pub parts : rows ≡ front ++ back
   pub long : length front ≡ j
@@ -45,14 +45,14 @@ module _ {S : Type 0} (g : Ghosts S) where
   pub room_back : (rows front back : List (Row S g)) (j k : ℕ) (r : Row S g) → IsCut rows front back j → r ≡ get_or back 0 r → k ≤ length (segment (message (shown g rows)) j) → k ≤ (get_or back 0 r).used
   room_back rows front back j k r cut e m = omega (arith, m, row_old g rows j r cut.there (in_back r cut e), ap (λ (q : Row S g). q.used) e)
 
-  -- the row at i is copied from, that at j is another afterwards
+  -- words are copied from the row at i, and the row at j is another one after that
   copied_row : (rows : List (Row S g)) (i j : ℕ) (q r new : Row S g) (p at n : ℕ) → i < length rows → j < length rows → q ≡ get_or rows i q → r ≡ get_or rows j r →
       words_of (allocated g new) ≡ with_copied (words_of (allocated g r)) at (words_of (allocated g q)) p n → message (shown g (set rows j new)) ≡ with_words (message (shown g rows)) j at (words_at (message (shown g rows)) i p n)
   copied_row rows i j q r new p at n l m e f h =
       row_changed g rows j new
       ∙ ap (with_segment (message (shown g rows)) j) (h ∙ ap₂ (λ xs ys. with_copied xs at ys p n) (sym (row_is g rows j r m f)) (sym (row_is g rows i q l e)))
 
-  -- from a row of the front to the first behind it
+  -- from a row of the front to the first row after it
   pub copied_back : (rows front back : List (Row S g)) (i j : ℕ) (q r new : Row S g) (p at n : ℕ) → IsCut rows front back j → i < j → q ≡ get_or front i q → r ≡ get_or back 0 r →
       words_of (allocated g new) ≡ with_copied (words_of (allocated g (get_or back 0 r))) at (words_of (allocated g (get_or front i q))) p n →
       message (shown g (front ++ set back 0 new)) ≡ with_words (message (shown g rows)) j at (words_at (message (shown g rows)) i p n)
@@ -66,7 +66,7 @@ module _ {S : Type 0} (g : Ghosts S) where
   kept_back rows front back j r new cut f h =
       ap (capacity_at g) (set_back front back new ∙ ap₂ (λ xs k. set xs k new) (sym cut.parts) cut.long) ∙ room_same g rows j r new (in_back r cut f) (h ∙ ap (capacity g) (sym f))
 
-  -- from the first row behind the front to one of it
+  -- from the first row after the front to a row of the front
   pub copied_front : (rows front back : List (Row S g)) (i j : ℕ) (q r new : Row S g) (p at n : ℕ) → IsCut rows front back i → j < i → q ≡ get_or back 0 q → r ≡ get_or front j r →
       words_of (allocated g new) ≡ with_copied (words_of (allocated g (get_or front j r))) at (words_of (allocated g (get_or back 0 q))) p n →
       message (shown g (set front j new ++ back)) ≡ with_words (message (shown g rows)) j at (words_at (message (shown g rows)) i p n)
@@ -93,7 +93,7 @@ module _ {S : Type 0} (g : Ghosts S) where
       subst (HasBounds g) (sym (set_front front back j new (omega (arith, cut.long)) ∙ ap (λ xs. set xs j new) (sym cut.parts)))
       (bounded_same g rows j r new (in_front j r cut l f) (h ∙ ap (capacity g) (sym f)) (used ∙ ap (λ (q : Row S g). q.used) (sym f)) (bound ∙ ap (λ (q : Row S g). q.bound) (sym f)) b)
 
-  -- and as many
+  -- and the number of rows stays
   pub many_back : (rows front back : List (Row S g)) (j : ℕ) (new : Row S g) → IsCut rows front back j → length (front ++ set back 0 new) ≡ length rows
   many_back rows front back j new cut = ap length (set_back front back new ∙ ap₂ (λ xs k. set xs k new) (sym cut.parts) cut.long) ∙ length-set rows j new
 

@@ -1,4 +1,4 @@
--- The rows of a builder arena: one read, one changed, one more.
+-- The rows of a builder arena: one read, one changed, one added.
 use Rattle.std.proofs.Common.{◌≡◌, ℕ, ◌+◌, ◌*◌, ◌/◌, ◌<◌, ◌≤◌, List, [], ◌∷◌, zero, suc, ◌++◌, length, get_or, set, take, refl, sym, ap, ◌∙◌, arith, slice_get, Some, ◌^◌}
 use Rattle.capnp_format.specs.Bytes.{words_of, message}
 use Rattle.capnp_format.specs.Segments.{segment}
@@ -50,7 +50,7 @@ module _ {S : Type 0} (g : Ghosts S) where
   pub row_old : (rows : List (Row S g)) (i : ℕ) (r : Row S g) → i < length rows → r ≡ get_or rows i r → length (segment (message (shown g rows)) i) ≡ r.used
   row_old rows i r l e = ap length (row_is rows i r l e) ∙ row_words r
 
-  -- the words of one row written over, where it is known by its number, and where it was lent
+  -- the words of one row overwritten, if it is known by its number, and if it was lent
   pub row_over : (f : List ℕ → List ℕ) (rows : List (Row S g)) (i : ℕ) (old new : Row S g) → i < length rows → words_of (allocated g new) ≡ f (words_of (allocated g (get_or rows i old))) →
       message (shown g (set rows i new)) ≡ with_segment (message (shown g rows)) i (f (segment (message (shown g rows)) i))
   row_over f rows i old new l e = row_changed rows i new ∙ ap (with_segment (message (shown g rows)) i) (e ∙ ap f (sym (segment_row rows i old l)))
@@ -73,7 +73,7 @@ module _ {S : Type 0} (g : Ghosts S) where
   shown_at (r ∷ rows) zero d l = refl
   shown_at (r ∷ rows) (suc i) d l = shown_at rows i d (omega arith)
 
-  -- the words of one row more
+  -- the number of words with one row more
   pub total_rows : (rows : List (Row S g)) (i : ℕ) (r : Row S g) → i < length rows → r ≡ get_or rows i r → total_words (take (i + 1) (shown g rows)) ≡ total_words (take i (shown g rows)) + r.used
   total_rows rows i r l e =
       total-more (shown g rows) i (allocated g (get_or rows i r)) (shown_at rows i r l)
@@ -83,7 +83,7 @@ module _ {S : Type 0} (g : Ghosts S) where
   pub row_small : (r : Row S g) → r.used < 2 ^ 29
   row_small r = omega (arith, r.clear.0, r.clear.1)
 
-  -- one row more goes out
+  -- one row more is output
   pub shown_more : (rows : List (Row S g)) (i : ℕ) {r : Row S g} → i < length rows → r ≡ get_or rows i r → take (i + 1) (shown g rows) ≡ take i (shown g rows) ++ allocated g r ∷ []
   shown_more rows i {r} l e =
       ap (λ n. take n (shown g rows)) (let next : i + 1 ≡ suc i = omega arith in next)
@@ -95,7 +95,7 @@ module _ {S : Type 0} (g : Ghosts S) where
       step (r ∷ rows) zero d l = refl
       step (r ∷ rows) (suc i) d l = ap (λ B. allocated g r ∷ B) (step rows i d (omega arith))
 
-  -- the segments of rows keep a reader's limits
+  -- the segments of rows are within a reader's limits
   pub shown_small : (rows : List (Row S g)) → length rows ≤ max_segments → IsSmall (shown g rows)
   shown_small rows few = (omega (arith, length_shown rows), go rows)
     where

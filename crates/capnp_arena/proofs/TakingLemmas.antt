@@ -1,4 +1,4 @@
--- Words taken in a message: the first segment with room, and a segment behind the others.
+-- Words allocated in a message: in the first segment with room, or in a segment after the others.
 use Rattle.std.proofs.Common.{◌≡◌, ℕ, Bool, IsTrue, Result, Ok, Err, zero, suc, ◌<◌, ◌≤◌, ◌-◌, ◌^◌, inl, inr, List, [], ◌∷◌, ◌++◌, length, replicate, refl, sym, ap, ◌∙◌, arith, subst}
 use Rattle.std.proofs.lemmas.Bool.{cases_lt}
 use Rattle.capnp_format.specs.Bytes.{words_of, message}
@@ -15,7 +15,7 @@ use Rattle.capnp_arena_traits.specs.Written.{extended, with_more}
 use Rattle.capnp_arena.specs.declared.arena.allocator.Segment.{Ghosts}
 use Rattle.capnp_arena.specs.declared.arena.row.Row.{Row}
 
--- there is one first fit at most
+-- there is at most one first fit
 pub fit_unique : (v : View) (amount j k : ℕ) → IsFirstFit v amount j → IsFirstFit v amount k → j ≡ k
 fit_unique v amount j k a b =
     elim (cases_lt j k) [
@@ -26,7 +26,7 @@ fit_unique v amount j k a b =
 pub fit_not_full : (v : View) (amount k : ℕ) → IsFirstFit v amount k → IsFull v amount → ⊥
 fit_not_full v amount k fit full = omega (arith, fit.1, full k fit.0)
 
--- The first segment with room grows, where looking for it has left the view as it was.
+-- The first segment with room grows, if the search for it left the view unchanged.
 module _ {old mid new : View} (k amount : ℕ) {p : ℕ} (same : mid ≡ old) (fit : IsFirstFit old amount k) (at : p ≡ length (segment mid.words k)) (taken : new ≡ with_more mid k (replicate amount 0)) where
   pub fit_grows : GrowsSegment old new amount k p
   fit_grows = (at ∙ ap (λ (v : View). length (segment v.words k)) same, taken ∙ ap (λ (v : View). with_more v k (replicate amount 0)) same)
@@ -45,7 +45,7 @@ module _ {old mid new : View} (k amount : ℕ) {p : ℕ} (same : mid ≡ old) (f
   pub fit_granted : new ≡ record old { words = new.words; room = new.room }
   fit_granted = λ i. view_of new.words new.room (ap (λ (v : View). v.refusals) fit_grows.1 i) (ap (λ (v : View). v.offers) fit_grows.1 i)
 
--- words taken in a segment without any, behind the others
+-- words allocated in an empty segment after the others
 pub extended_another : (S : Segments) (ws : List ℕ) → extended (S ++ [] ∷ []) (length S) ws ≡ S ++ ws ∷ []
 extended_another [] ws = refl
 extended_another (s ∷ S) ws = ap (λ T. s ∷ T) (extended_another S ws)
@@ -70,14 +70,14 @@ message-append (b ∷ B) C = ap (λ M. words_of b ∷ M) (message-append B C)
 
 pub ruleset pushed = (shown_pushed, room_pushed, room_below)
 
--- words taken in the segment that was put behind the others
+-- words allocated in the segment that was added after the others
 pub taken_another : (B : List (List ℕ)) {C : List (List ℕ)} {T : Segments} {n : ℕ} (amount : ℕ) → C ≡ B ++ [] ∷ [] → n ≡ length B → T ≡ extended (message C) n (replicate amount 0) → T ≡ with_another (message B) amount
 taken_another B {n = n} amount pushed e taken =
     taken ∙ ap (λ M. extended M n (replicate amount 0)) (ap message pushed ∙ message-append B ([] ∷ []))
     ∙ ap (λ i. extended (message B ++ [] ∷ []) i (replicate amount 0)) (e ∙ sym (length-message B))
     ∙ extended_another (message B) (replicate amount 0)
 
--- words taken in the segment that was put behind those of B, or a refusal of that segment
+-- words allocated in the segment that was added after those of B, or a refusal of that segment
 module _ (B : List (List ℕ)) {C : List (List ℕ)} {room room' : ℕ → ℕ} {refusals refusals' : ℕ} {offers offers' : ℕ → ℕ → Bool} (amount : ℕ) where
   pub another_taken : {new : View} {id : ℕ} → C ≡ B ++ [] ∷ [] → id ≡ length B → new ≡ with_more (view_of (message C) room' refusals' offers') id (replicate amount 0) → amount ≤ room' (length B) → IsTrue (offers amount (room' (length B))) → refusals' ≡ refusals →
       SameRoomBelow (length B) room room' → offers' ≡ offers → (length B ≡ max_segments → ⊥) → (length B < max_segments → max_segment_words < amount → ⊥) →
@@ -110,7 +110,7 @@ module _ (B : List (List ℕ)) {C : List (List ℕ)} {room room' : ℕ → ℕ} 
     refused = λ i. view_of (message (same i)) (kept i) refusals' (offered i);
   }
 
--- looking for a segment with room leaves the view as it was
+-- a search for a segment with room leaves the view unchanged
 pub another_as_before : {old mid new : View} {amount : ℕ} {r : Result ℕ ErrorKind} → mid ≡ old → TakesAnother mid new amount r → TakesAnother old new amount r
 another_as_before {new = new} {amount = amount} {r = r} same h = subst (λ (v : View). TakesAnother v new amount r) same h
 

@@ -1,4 +1,4 @@
--- The words of a message by the bytes of its segments, and the refusal of a place outside.
+-- The words of a message by the bytes of its segments, and the refusal of a place outside of them.
 use Rattle.std.proofs.Common.{◌≡◌, ℕ, zero, suc, ◌+◌, ◌*◌, ◌/◌, ◌<◌, ◌≤◌, List, [], ◌∷◌, length, map, take, slice_get, Some, refl, sym, ap, ◌∙◌, arith, length-take}
 use Rattle.std.proofs.lemmas.Grind.{common_steps}
 use Rattle.std.proofs.lemmas.List.Sums.{sum_by-cons}
@@ -35,7 +35,7 @@ words_of-whole bs =
     take-past : (n : ℕ) (xs : List ℕ) → length xs ≤ n → take n xs ≡ xs
     take-past n xs h = grind (arith, common_steps)
 
--- the words of a message are the words of the whole words of its segments
+-- the words of a message are those of the whole words of its segments
 pub message_wholes : (B : List (List ℕ)) → message (map whole B) ≡ message B
 message_wholes [] = refl
 message_wholes (b ∷ B) = ap (λ ws. ws ∷ message (map whole B)) (words_of-whole b) ∙ ap (λ M. words_of b ∷ M) (message_wholes B)
@@ -43,7 +43,7 @@ message_wholes (b ∷ B) = ap (λ ws. ws ∷ message (map whole B)) (words_of-wh
 pub length-whole : (bs : List ℕ) → length (whole bs) ≡ 8 * (length bs / 8)
 length-whole bs = omega (arith, length-take (8 * (length bs / 8)) bs)
 
--- the segments of whole words
+-- the words of a segment that is cut to whole words
 pub words-wholes : (B : List (List ℕ)) (id : ℕ) (s : List ℕ) → slice_get B id ≡ Some s → words_of (whole s) ≡ segment (message (map whole B)) id
 words-wholes [] id s e = cc
 words-wholes (b ∷ B) zero s e = let same : s ≡ b = cc in ap (λ x. words_of (whole x)) same

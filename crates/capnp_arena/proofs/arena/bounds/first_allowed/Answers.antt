@@ -10,7 +10,7 @@ widen-preserved g c = record {
   aligned = rest_half c.args.from c.widen.width c.widen.rest c.widen.invariant.aligned (omega arith);
 }
 
--- The range is passed over: its bound is below `amount`.
+-- The range is skipped: its bound is below `amount`.
 pub narrow-preserved-then-rows-at : goal.narrow-preserved-then-rows-at
 narrow-preserved-then-rows-at g c =
     let wide : 1 < c.narrow.width = omega arith in
@@ -45,6 +45,6 @@ narrow-preserved g c =
 pub returns-then-at-rows-clause-passed : goal.returns-then-at-rows-clause-passed
 returns-then-at-rows-clause-passed g c = c.narrow.invariant.passed
 
--- `at` is the number of rows then.
+-- `at` is the number of rows here.
 pub returns-else-at-rows-clause-none : goal.returns-else-at-rows-clause-none
 returns-else-at-rows-clause-none g c _ k after before = c.narrow.invariant.passed k after (omega arith)

@@ -41,7 +41,7 @@ returns-then-has_room-clause-found g c =
       capacity = h.capacity;
     }
 
--- The row that was looked at has no room either.
+-- The row that was checked has no room either.
 pub loop-at-preserved : goal.loop-at-preserved
 loop-at-preserved g c =
     let seg = g.S.Segment in

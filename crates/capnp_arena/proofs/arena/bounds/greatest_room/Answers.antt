@@ -40,7 +40,7 @@ overflow_sub-at g c =
     let even : c.widen.rest % 2 ≡ 0 = omega arith in
     omega (arith, twice_inside (c.args.at + 1) c.widen.width c.widen.rest c.widen.invariant.aligned even c.widen.invariant.some)
 
--- Each range that ends with the row begins behind those that are not covered.
+-- Each range that ends with the row begins after those that aren't covered.
 pub returns : goal.returns
 returns g c from width k range ends begins before =
     let odd : c.widen.rest % 2 ≡ 1 = omega arith in

@@ -1,4 +1,5 @@
--- A segment lends its bytes, and of these the first are lent on: a walk of the function's MIR by hand.
+-- A segment lends its bytes, and the first of these are lent in turn: a walk of the function's MIR
+-- by hand.
 use Rattle.std.proofs.Common.{◌≡◌, ℕ, ◌^◌, ◌<◌, ◌≤◌, List, [], ◌∷◌, length, take, refl, sym, ap, subst, arith, w64, MutBor}
 use Rattle.std.proofs.raw_atomic.Walks.{proved}
 use base.Logic.{emp, id⊢}

@@ -2,7 +2,7 @@ use Rattle.std.proofs.Common.{◌<◌, arith}
 use Rattle.capnp_arena.proofs.RowsCopied.{IsCut, room_front, room_back, copied_back, kept_back, bounded_back, copied_front, kept_front, bounded_front, many_back, many_front, back_there}
 use Rattle.capnp_arena.proofs.arena.rows.copy_across_in.Goals as goal
 
--- The row that is copied stands before the other one: the rows are cut before that.
+-- The row that is copied comes before the other one: the rows are split before that one.
 pub copy_from-requires-clause-there : goal.copy_from-requires-clause-there
 copy_from-requires-clause-there g c =
     let rows = c.args.rows.now in
@@ -19,7 +19,8 @@ copy_from-requires-clause-inside g c =
     let cut : IsCut rows front back c.args.to.row = record { parts = c.split_at_mut-front.ensures.value; long = c.split_at_mut-front.ensures.front_len; there = c.requires.rows.1 } in
     room_back g.S.Segment rows front back c.args.to.row _ c.index-back-0.result cut c.index-back-0.is c.requires.inside
 
--- The row that is copied stands behind the other one: the rows are cut before it.
+-- The row that is copied comes after the other one: the rows are split before the row that is
+-- copied.
 pub copy_from-requires-else-from-to-clause-there : goal.copy_from-requires-else-from-to-clause-there
 copy_from-requires-else-from-to-clause-there g c =
     let rows = c.args.rows.now in

@@ -13,7 +13,7 @@ use Rattle.capnp_arena.proofs.arena.builder_arena_impl.BuilderArenaImplBuilderAr
 no_fit : {old mid : View} (amount k : ℕ) → mid ≡ old → IsFirstFit old amount k → IsFull old amount → ⊥
 no_fit {old} amount k same fit full = fit_not_full old amount k fit full
 
--- Looking for a segment with room leaves the view as it is.
+-- A search for a segment with room leaves the view unchanged.
 pub take-at-requires-clause-there : goal.take-at-requires-clause-there
 take-at-requires-clause-there g c =
     let found = shown g.A.Segment.Segment (arena_rows g.A.Segment.Segment g.A.Allocator.first_in_arena c.first_fit.new.self.listed c.first_fit.new.self.apart) in

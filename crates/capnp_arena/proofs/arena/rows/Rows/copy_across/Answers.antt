@@ -8,7 +8,7 @@ use Rattle.capnp_arena.proofs.RowsLemmas.{row_is, row_old}
 use Rattle.capnp_arena.proofs.ListedLemmas.{first_words, first_changed, other_there, other_words, others_bounded, others_few, others_kept, others_written, first_kept, first_inside, other_inside}
 use Rattle.capnp_arena.proofs.arena.rows.Rows.copy_across.Goals as goal
 
--- the row that is read stands behind the first
+-- the row that is read comes after the first
 pub copy_from-requires-clause-there : goal.copy_from-requires-clause-there
 copy_from-requires-clause-there g c =
     let seg = g.S.Segment in

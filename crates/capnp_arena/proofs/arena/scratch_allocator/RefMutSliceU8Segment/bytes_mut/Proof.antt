@@ -1,4 +1,5 @@
--- A slice behind a `&mut` is lent for the time of the outer `&mut`: a walk of the function's MIR by hand.
+-- A slice behind a `&mut` is lent for the time of the outer `&mut`: a walk of the function's MIR by
+-- hand.
 use Rattle.std.proofs.Common.{ℕ, ◌*◌, ◌^◌, List, [], ◌∷◌, length, refl}
 use Rattle.std.proofs.raw_atomic.Walks.{proved}
 use base.Fraction.{full_share}
@@ -57,7 +58,8 @@ bytes_mut_spec {M} 𝓤 𝓛 𝓜 𝓡 wired =
     fsplit3 ! $ fsplit3 ! $ feq_l ! (λ is. flt_l ! (λ fits. flt_l ! (λ small.
     rewrite ! 2 (λ (vs : List Val). ‵ (cell_at full_share S.mir vs b o)) is refl $ move ! (2 ∷ []) $
     use1 𝓛 (‵ (fat full_share written b o (slice_val h.ref_ptr n))) (𝓛.laws.raw_at full_share written b o (slice_val h.ref_ptr n)) $
-    -- [the slice's cell; its name; its borrow; the outer borrow, open, in three entries; the token of the slice's lifetime]
+    -- [the slice's cell; its name; its borrow; the outer borrow, open, in three entries; the token
+    -- of the slice's lifetime]
     sets ! (of_opd ! (load ! (through ! refl (fld ! refl (stop !))) (look_in ! 0 (sub ! 1 refl (whole !))))) refl (tt, record { fits = fits }) $
     sets ! (addr ! (through ! refl (fld ! refl (hop ! (look_in ! 0 (sub ! 0 refl (whole !))) (stop !))))) refl (tt, tt) $
     sets ! (agg ! (and_then ! (get ! refl) (and_then ! (get ! refl) (no_more !)))) refl (tt, (tt, (record { fits = fits }, tt))) $

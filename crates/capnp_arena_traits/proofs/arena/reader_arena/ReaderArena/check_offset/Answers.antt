@@ -1,4 +1,5 @@
--- Each arm says of the place what the segment says: one lemma an arm, in place of a search in all facts.
+-- Each arm states about the place what the segment states: one lemma for each arm, instead of a
+-- search among all facts.
 use Rattle.std.proofs.Common.{◌∙◌, true, rules, refl, sym, ap, pos, ◌+ℤ◌}
 use Rattle.std.proofs.Math.Facts.{to_z-of_z}
 use Rattle.std.proofs.lemmas.Bool.{false≢true}

@@ -36,7 +36,7 @@ holds_within S id n start size b there h e t = (there, subst (λ m. start + size
 holds_not : (S : Segments) (id n start size : ℕ) (b : Bool) → (IsTrue b ↔ (start + size ≤ n)) → n ≡ length (segment S id) → b ≡ false → Holds S id start size → ⊥
 holds_not S id n start size b h e f holds = false≢true (sym f ∙ h.1 (subst (λ m. start + size ≤ m) (sym e) holds.1))
 
--- a place inside is refused for want of words alone
+-- a place inside is refused only for lack of words
 never : {A : Type 0} (P : Type 0) (r : Result A ErrorKind) (m : ErrorKind) → P → IfErr r (λ e. (P → ⊥) → e ≡ m)
 never P (Ok _) m p = tt
 never P (Err e) m p = λ none. absurd (none p)
